@@ -1,0 +1,14 @@
+//! Lists, lines and words: what every text of the clock tree synthesizer is made of.
+#![tactic(auto)]
+
+mod line_walk;
+mod listed;
+mod no_memory;
+mod text;
+mod word_walk;
+
+pub use line_walk::{Line, Lines};
+pub use listed::Listed;
+pub use no_memory::NoMemory;
+pub use text::{before_comment, lines, words};
+pub use word_walk::Words;
