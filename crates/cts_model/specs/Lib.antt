@@ -1,0 +1,12 @@
+pub mod Kinds
+pub mod Names
+pub mod Tokens
+pub mod Statements
+pub mod Circuits
+pub mod Netlists
+pub mod Tables
+pub mod PlainTable
+pub mod Paths
+pub mod Delays
+pub mod Timing
+pub mod EqualArrivals

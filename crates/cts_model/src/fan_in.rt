@@ -1,0 +1,59 @@
+ghost use Rattle.std.specs.Prelude.{◌≡◌, ◌≤◌, ◌↔◌, ◌==◌, List, ℕ, [], ◌∷◌, ◌++◌, length, slice_get, OnOk, OnErr, IsNone};
+ghost use Rattle.std.specs.Option.{option_copied};
+
+use cts_base::NoMemory;
+use smallvec::SmallVec;
+use std::alloc::Global;
+use std::marker::Model;
+
+/// The numbers of the signals that a signal reads, in order. Up to four stand in the value itself.
+#[derive(Debug, Drop)]
+pub struct FanIn {
+    signals: SmallVec<u32, 4>,
+}
+
+impl Model for FanIn {
+    ghost Value = { List ℕ };
+
+    ghost view = { λ fan_in. fan_in.signals.items };
+}
+
+impl FanIn {
+    /// No signals. It takes no memory.
+    pub fn new(alloc: Global) -> FanIn
+        ensures { result ≡ [] }
+    {
+        FanIn {
+            signals: SmallVec::new(alloc),
+        }
+    }
+
+    /// Puts a signal last.
+    pub fn push(&mut self, item: u32) -> Result<(), NoMemory>
+        ensures ok { OnOk result (self.new ≡ self.old ++ item ∷ []) }
+        ensures err { OnErr result (self.new ≡ self.old) }
+    {
+        self.signals.push(item)?;
+        Ok(())
+    }
+
+    pub fn len(&self) -> usize
+        ensures { result ≡ length self.now }
+    {
+        self.signals.len()
+    }
+
+    pub fn is_empty(&self) -> bool
+        ensures { result ≡ (length self.now == 0) }
+    {
+        self.signals.is_empty()
+    }
+
+    /// The signal at a place, counted from 0.
+    pub fn get(&self, at: usize) -> Option<&u32>
+        ensures value { option_copied result ≡ slice_get self.now at }
+        ensures none { IsNone result ↔ (length self.now ≤ at) }
+    {
+        self.signals.as_slice().get(at)
+    }
+}

@@ -1,0 +1,16 @@
+//! The circuit, the delay table and the definitions of timing that every layer speaks of.
+#![tactic(auto)]
+
+mod circuit;
+mod fan_in;
+mod kind;
+mod signal;
+mod tech;
+mod timing;
+
+pub use circuit::Circuit;
+pub use fan_in::FanIn;
+pub use kind::Kind;
+pub use signal::Signal;
+pub use tech::{GateDelay, Tech};
+pub use timing::{PairDelay, ZeroSkew};

@@ -1,0 +1,12 @@
+use crate::{FanIn, Kind};
+use cts_base::Listed;
+
+/// A signal of a netlist, as the line that defines it says.
+#[derive(Debug, Drop)]
+pub struct Signal {
+    /// The bytes of its name.
+    pub name: Listed<u8>,
+    pub kind: Kind,
+    /// The numbers of the signals that it reads, in the order of the line.
+    pub fan_in: FanIn,
+}
