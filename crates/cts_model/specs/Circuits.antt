@@ -6,9 +6,13 @@ use Rattle.cts_model.specs.declared.signal.Signal.{Signal}
 use Rattle.cts_model.specs.Kinds.{is_register, is_gate, is_lawful}
 use Rattle.cts_model.specs.Names.{is_name, is_short}
 
+-- the number of a signal, if it is a register
+abbrev pub register_number : ℕ × Signal → Option ℕ
+register_number numbered = if is_register numbered.1.kind then Some numbered.0 else None
+
 -- the numbers of the signals that are registers, in order
 abbrev pub registers_of : List Signal → List ℕ
-registers_of signals = filter_map (λ numbered. if is_register numbered.1.kind then Some numbered.0 else None) (enumerate_from 0 signals)
+registers_of signals = filter_map register_number (enumerate_from 0 signals)
 
 -- how many inputs a signal has as a gate
 abbrev pub gate_inputs : Signal → ℕ

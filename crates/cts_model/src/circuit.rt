@@ -14,3 +14,18 @@ pub struct Circuit {
     pub outputs: Listed<u32>,
     pub ghost valid: { IsCircuit signals registers outputs },
 }
+
+impl Circuit {
+    ghost use Rattle.std.specs.Prelude.{◌≡◌, ◌<◌, length, Some};
+    ghost use Rattle.cts_model.specs.Paths.{data_input};
+
+    /// The number of the signal that a register captures.
+    pub fn data_input(&self, register: usize) -> u32
+        requires { register < length self.now.registers }
+        ensures { data_input self.now register ≡ Some result }
+    {
+        let number = self.registers.as_slice()[register];
+        let signal = &self.signals.as_slice()[number as usize];
+        signal.fan_in.as_slice()[0]
+    }
+}

@@ -49,6 +49,12 @@ impl FanIn {
         self.signals.is_empty()
     }
 
+    pub fn as_slice(&self) -> &[u32]
+        ensures { result.now ≡ self.now }
+    {
+        self.signals.as_slice()
+    }
+
     /// The signal at a place, counted from 0.
     pub fn get(&self, at: usize) -> Option<&u32>
         ensures value { option_copied result ≡ slice_get self.now at }
