@@ -10,7 +10,7 @@ use Rattle.cts_model.specs.declared.signal.Signal.{Signal}
 use Rattle.cts_model.specs.declared.circuit.Circuit.{Circuit}
 use Rattle.cts_model.specs.Kinds.{is_register, is_lawful}
 use Rattle.cts_model.specs.Circuits.{register_number, registers_of}
-use Rattle.cts_model.specs.Paths.{data_input}
+use Rattle.cts_model.specs.Paths.{register_signal}
 
 -- the signal of this number is a register
 pub record IsRegisterAt (signals : List Signal) (number : ℕ) : Type 0 where
@@ -66,12 +66,10 @@ captures circuit register number listed =
 pub captured : (circuit : Circuit) (register : ℕ) → register < length circuit.registers → Captures circuit register (get_or circuit.registers register 0)
 captured circuit register within = captures circuit register (get_or circuit.registers register 0) (slice_get-get_or circuit.registers register 0 within)
 
--- the number of the signal that a register captures, where its signal was read from the lists
-pub data_input_is : (circuit : Circuit) (register : ℕ) → register < length circuit.registers → (signal : Signal) → signal ≡ get_or circuit.signals (get_or circuit.registers register 0) signal
-    → (length signal.fan_in ≡ 1) × (data_input circuit register ≡ Some (get_or signal.fan_in 0 0))
-data_input_is circuit register within signal read =
+-- the signal that was read from the lists is the register's
+pub register_signal_is : (circuit : Circuit) (register : ℕ) → register < length circuit.registers → (signal : Signal) → signal ≡ get_or circuit.signals (get_or circuit.registers register 0) signal
+    → (register_signal circuit register ≡ Some signal) × (length signal.fan_in ≡ 1)
+register_signal_is circuit register within signal read =
     let at = captured circuit register within in
     let same : at.signal ≡ signal = sym (read ∙ get_or_from_slice_get circuit.signals (get_or circuit.registers register 0) at.signal signal at.here) in
-    let here : slice_get circuit.signals (get_or circuit.registers register 0) ≡ Some signal = at.here ∙ ap (λ s. Some s) same in
-    let one : length signal.fan_in ≡ 1 = subst (λ (s : Signal). length s.fan_in ≡ 1) same at.one_input in
-    (one, rw (at.listed, here) (slice_get-get_or signal.fan_in 0 0 (omega arith)))
+    (rw (at.listed, at.here) (ap (λ s. Some s) same), subst (λ (s : Signal). length s.fan_in ≡ 1) same at.one_input)
