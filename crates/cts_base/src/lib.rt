@@ -8,7 +8,7 @@ mod text;
 mod word_walk;
 
 pub use line_walk::{Line, Lines};
-pub use listed::Listed;
+pub use listed::{Listed, Name};
 pub use no_memory::NoMemory;
 pub use text::{before_comment, lines, words};
 pub use word_walk::Words;

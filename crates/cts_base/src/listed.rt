@@ -5,6 +5,9 @@ use crate::NoMemory;
 use std::alloc::Global;
 use std::marker::Model;
 
+/// A name: one or more bytes.
+pub type Name = Listed<u8>;
+
 /// A list in memory that contracts see as the plain list of its items.
 #[derive(Debug, Drop)]
 pub struct Listed<T> {
