@@ -1,2 +1,5 @@
 pub mod Plain
+pub mod PlainLines
+pub mod Refusals
+pub mod Taken
 pub mod View

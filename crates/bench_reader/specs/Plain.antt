@@ -1,8 +1,9 @@
 -- The netlists that are read so far: those of primary inputs, primary outputs and registers, without gates.
-use Rattle.std.specs.Prelude.{◌≡◌, ℕ, Bool, true, false, IsTrue, List, [], ◌∷◌, All, Option, Some, None}
+use Rattle.std.specs.Prelude.{◌≡◌, ℕ, Bool, true, false, IsTrue, IsFalse, List, [], ◌∷◌, All, Option, Some, None}
 use Rattle.cts_base.specs.Lines.{lines_of}
 use Rattle.cts_model.specs.declared.kind.Kind.{Kind}
-use Rattle.cts_model.specs.Kinds.{is_register, kind_of}
+use Rattle.cts_model.specs.declared.circuit.Circuit.{Circuit}
+use Rattle.cts_model.specs.Kinds.{is_gate, is_register, kind_of}
 use Rattle.cts_model.specs.Statements.{Statement, Blank, Input, Output, Assign}
 use Rattle.cts_model.specs.Netlists.{IsNetlist, statements_in}
 
@@ -20,3 +21,7 @@ is_plain _ = true
 pub record IsPlainNetlist (text : List ℕ) : Type 0 where
   pub netlist : IsNetlist text
   pub plain : All (λ statement. IsTrue (is_plain statement)) (statements_in (lines_of text))
+
+-- a circuit without gates
+abbrev pub HasNoGates : Circuit → Type 0
+HasNoGates circuit = All (λ signal. IsFalse (is_gate signal.kind)) circuit.signals

@@ -1,0 +1,63 @@
+-- Lists that grow at their end.
+use Rattle.std.proofs.Common.{◌≡◌, ℕ, zero, suc, ◌+◌, ◌*◌, get_or, AllPairs, IsSome, ◌<◌, ◌≤◌, List, [], ◌∷◌, ◌++◌, length, ◌⊎◌, inl, inr, Option, Some, None, IfSome, All, Contains, refl, sym, ap, ◌∙◌, subst, arith, append_assoc, map}
+use Rattle.std.specs.List.{filter_map, cons_option}
+use Rattle.std.proofs.lemmas.List.Elements.{All-nil, All-cons, All-head, All-tail, All-append, filter_map-append, Contains-append_right}
+use Rattle.std.proofs.lemmas.List.{length_push, length-map, get_or-map}
+
+-- a place in a list with one more item is that item's, or stands in the list before
+pub split_push : {X : Type 0} (xs : List X) (x : X) (earlier : List X) (y : X) (later : List X) → xs ++ x ∷ [] ≡ earlier ++ y ∷ later → ((xs ≡ earlier) × (x ≡ y)) ⊎ ((between : List X) × (xs ≡ earlier ++ y ∷ between))
+split_push [] x [] y later e = inl (refl, cc)
+split_push [] x (z ∷ earlier) y [] e = absurd (let n = ap length e in let m = length_push earlier y in omega arith)
+split_push [] x (z ∷ earlier) y (w ∷ later) e = absurd (some_left earlier y (w ∷ later) cc)
+  where
+    some_left : {X : Type 0} (earlier : List X) (y : X) (later : List X) → [] ≡ earlier ++ y ∷ later → ⊥
+    some_left [] y later e = cc
+    some_left (z ∷ earlier) y later e = cc
+split_push (w ∷ xs) x [] y later e = inr (xs, ap (λ v. v ∷ xs) cc)
+split_push (w ∷ xs) x (z ∷ earlier) y later e = elim (split_push xs x earlier y later cc) [
+  | inl same ↦ inl (let head : w ≡ z = cc in let tail = same.0 in cc, same.1)
+  | inr inside ↦ inr (inside.0, let head : w ≡ z = cc in let tail = inside.1 in cc)
+]
+
+module _ {X Y : Type 0} (pick : X → Option Y) where
+  -- an item at the end from which nothing is picked
+  pub filter_map_push_none : (xs : List X) (x : X) → pick x ≡ None → filter_map pick (xs ++ x ∷ []) ≡ filter_map pick xs
+  filter_map_push_none [] x none = rw none refl
+  filter_map_push_none (w ∷ xs) x none = ap (cons_option (pick w)) (filter_map_push_none xs x none)
+
+  -- and one from which something is
+  pub filter_map_push_some : (xs : List X) (x : X) (y : Y) → pick x ≡ Some y → filter_map pick (xs ++ x ∷ []) ≡ filter_map pick xs ++ y ∷ []
+  filter_map_push_some xs x y some = filter_map-append pick xs (x ∷ []) ∙ ap (λ o. filter_map pick xs ++ cons_option o []) some
+
+  -- what is picked from the items has P, where it has from each
+  pub All-filter_map : (Q : X → Type 0) (P : Y → Type 0) → ((x : X) → Q x → IfSome (pick x) P) → (xs : List X) → All Q xs → All P (filter_map pick xs)
+  All-filter_map Q P gives [] all = All-nil P
+  All-filter_map Q P gives (x ∷ xs) all = at (pick x) (gives x (All-head Q x xs all)) (All-filter_map Q P gives xs (All-tail Q x xs all))
+    where
+      at : (o : Option Y) → IfSome o P → All P (filter_map pick xs) → All P (cons_option o (filter_map pick xs))
+      at None some rest = rest
+      at (Some y) some rest = All-cons P y _ some rest
+
+-- how many are picked, where each item gives something
+pub length-filter_map : {X Y : Type 0} (pick : X → Option Y) (xs : List X) → All (λ x. IsSome (pick x)) xs → length (filter_map pick xs) ≡ length xs
+length-filter_map pick [] all = refl
+length-filter_map {X} {Y} pick (x ∷ xs) all = at (pick x) (All-head (λ y. IsSome (pick y)) x xs all) (length-filter_map pick xs (All-tail (λ y. IsSome (pick y)) x xs all))
+  where
+    at : (o : Option Y) → IsSome o → length (filter_map pick xs) ≡ length xs → length (cons_option o (filter_map pick xs)) ≡ suc (length xs)
+    at None some rest = cc
+    at (Some y) some rest = ap suc rest
+
+-- pairs of items that a function made
+pub AllPairs-map : {X Y : Type 0} (R : Y → Y → Type 0) (f : X → Y) (xs : List X) → AllPairs (λ a b. R (f a) (f b)) xs → AllPairs R (map f xs)
+AllPairs-map R f [] pairs = λ i j d before within. absurd (omega arith)
+AllPairs-map R f (x ∷ xs) pairs = λ i j d before within.
+    let at_i : get_or (map f (x ∷ xs)) i d ≡ f (get_or (x ∷ xs) i x) = get_or-map f (x ∷ xs) i x d (omega (arith, length-map (x ∷ xs) f)) in
+    let at_j : get_or (map f (x ∷ xs)) j d ≡ f (get_or (x ∷ xs) j x) = get_or-map f (x ∷ xs) j x d (omega (arith, length-map (x ∷ xs) f)) in
+    subst (λ y. R y (get_or (map f (x ∷ xs)) j d)) (sym at_i) (subst (R (f (get_or (x ∷ xs) i x))) (sym at_j) (pairs i j x before (omega (arith, length-map (x ∷ xs) f))))
+
+-- pairs with one more item in front
+pub AllPairs-cons : {X : Type 0} (R : X → X → Type 0) (x : X) (xs : List X) → All (R x) xs → AllPairs R xs → AllPairs R (x ∷ xs)
+AllPairs-cons R x xs front pairs zero zero d before within = absurd (omega arith)
+AllPairs-cons R x xs front pairs zero (suc j) d before within = front j d (omega arith)
+AllPairs-cons R x xs front pairs (suc i) zero d before within = absurd (omega arith)
+AllPairs-cons R x xs front pairs (suc i) (suc j) d before within = pairs i j d (omega arith) (omega arith)

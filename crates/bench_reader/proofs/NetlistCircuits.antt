@@ -1,0 +1,119 @@
+-- The circuit that a netlist tells keeps what a circuit is to keep.
+use Rattle.std.proofs.Common.{◌≡◌, ◌≢◌, ℕ, zero, suc, ◌+◌, ◌<◌, ◌≤◌, Bool, true, false, not, cond, if◌then◌else◌, ◌&&◌, ◌==◌, nat_eq, List, [], ◌∷◌, ◌++◌, length, map, filter, Option, Some, None, IfSome, IsSome, All, AllPairs, IsTrue, position, get_or, refl, sym, ap, ◌∙◌, subst, arith}
+use Rattle.std.specs.List.{filter_map, cons_option, enumerate_from, sum_by, count_by}
+use Rattle.std.specs.Option.{option_map}
+use Rattle.std.specs.Str.{bytes_eq}
+use Rattle.std.proofs.lemmas.Bool.Decides.{nat_tests}
+use Rattle.std.proofs.lemmas.Option.{same_Some}
+use Rattle.std.proofs.lemmas.List.{length-map}
+use Rattle.std.proofs.lemmas.List.Sums.{sum_by-cons}
+use Rattle.std.proofs.lemmas.List.Elements.{All-nil, All-cons, All-head, All-tail, All-map, All-filter, All-weaker, filter_passes}
+use Rattle.std.proofs.lemmas.List.Quantifiers.{position-Some}
+use Rattle.std.proofs.lemmas.List.Kept.{AllPairs-filter}
+use Rattle.cts_base.specs.Lines.{lines_of}
+use Rattle.cts_model.specs.declared.kind.Kind.{Kind}
+use Rattle.cts_model.specs.declared.signal.Signal.{Signal}
+use Rattle.cts_model.specs.Names.{is_name, is_short}
+use Rattle.cts_model.specs.Kinds.{is_register, is_gate, is_lawful, kind_of}
+use Rattle.cts_model.specs.Circuits.{IsCircuit, registers_of, gate_inputs}
+use Rattle.cts_model.specs.Statements.{Statement, Blank, Input, Output, Assign, Definition, definition_of, mention_of}
+use Rattle.cts_model.specs.Netlists.{IsNetlist, UsesDefined, statements_in, definitions_in, defined_names, register_count, gate_inputs_of, number_of, signal_of, signals_of, outputs_of, first_mentions}
+use Rattle.bench_reader.proofs.Lists.{All-filter_map, length-filter_map, AllPairs-map, AllPairs-cons}
+use Rattle.bench_reader.proofs.LawfulDefinitions.{AreLawful, HasName, lawful_lines}
+
+-- a name's number is below the count of the names
+number_within : (names : List (List ℕ)) (name : List ℕ) → IfSome (number_of names name) (λ number. number < length names)
+number_within names name = at (number_of names name) refl
+  where
+    at : (o : Option ℕ) → number_of names name ≡ o → IfSome o (λ number. number < length names)
+    at None none = tt
+    at (Some number) some = (position-Some (bytes_eq name) names number [] some).0
+
+-- the numbers of names are
+pub numbers_within : (names used : List (List ℕ)) → All (λ number. number < length names) (filter_map (number_of names) used)
+numbers_within names used = All-filter_map (number_of names) (λ _. Unit {0}) (λ number. number < length names) (λ name _. number_within names name) used (λ k d within. tt)
+
+abbrev HasDefinedInputs : List (List ℕ) → Definition → Type 0
+HasDefinedInputs names definition = All (λ name. IsSome (number_of names name)) definition.inputs
+
+-- a definition reads what its statement uses
+inputs_defined : (names : List (List ℕ)) (statement : Statement) → UsesDefined names statement → IfSome (definition_of statement) (HasDefinedInputs names)
+inputs_defined names Blank uses = tt
+inputs_defined names (Input name) uses = All-nil _
+inputs_defined names (Output name) uses = tt
+inputs_defined names (Assign name word inputs) uses = at (kind_of word)
+  where
+    at : (o : Option Kind) → IfSome (option_map (λ kind. record { name = name; kind = kind; inputs = inputs }) o) (HasDefinedInputs names)
+    at None = tt
+    at (Some kind) = uses
+
+-- as many registers are among the signals as are defined
+register_places : (names : List (List ℕ)) (n : ℕ) (definitions : List Definition)
+    → length (filter_map (λ numbered. if is_register numbered.1.kind then Some numbered.0 else None) (enumerate_from n (map (signal_of names) definitions))) ≡ register_count definitions
+register_places names n [] = refl
+register_places names n (definition ∷ definitions) = at (is_register definition.kind) refl (register_places names (n + 1) definitions)
+  where
+    at : (b : Bool) → is_register definition.kind ≡ b
+        → length (filter_map (λ numbered. if is_register numbered.1.kind then Some numbered.0 else None) (enumerate_from (n + 1) (map (signal_of names) definitions))) ≡ register_count definitions
+        → length (filter_map (λ numbered. if is_register numbered.1.kind then Some numbered.0 else None) (enumerate_from n (map (signal_of names) (definition ∷ definitions)))) ≡ register_count (definition ∷ definitions)
+    at true register rest =
+        let counted : cond {A = ℕ} (is_register definition.kind) 1 0 ≡ 1 = rw register refl in
+        let more : register_count (definition ∷ definitions) ≡ 1 + register_count definitions = sum_by-cons (λ d. cond (is_register d.kind) 1 0) definition definitions ∙ ap (λ n. n + register_count definitions) counted in
+        rw (more, register) (omega (arith, rest))
+    at false other rest =
+        let counted : cond {A = ℕ} (is_register definition.kind) 1 0 ≡ 0 = rw other refl in
+        let more : register_count (definition ∷ definitions) ≡ 0 + register_count definitions = sum_by-cons (λ d. cond (is_register d.kind) 1 0) definition definitions ∙ ap (λ n. n + register_count definitions) counted in
+        rw (more, other) (omega (arith, rest))
+
+pub length-registers_of : (names : List (List ℕ)) (definitions : List Definition) → length (registers_of (map (signal_of names) definitions)) ≡ register_count definitions
+length-registers_of names definitions = register_places names 0 definitions
+
+-- the gates have as many inputs as are given
+gate_inputs_same : (names : List (List ℕ)) (definitions : List Definition) → All (HasDefinedInputs names) definitions → sum_by gate_inputs (map (signal_of names) definitions) ≡ sum_by gate_inputs_of definitions
+gate_inputs_same names [] all = refl
+gate_inputs_same names (definition ∷ definitions) all =
+    let here : gate_inputs (signal_of names definition) ≡ gate_inputs_of definition = ap (λ n. if is_gate definition.kind then n else 0) (length-filter_map (number_of names) definition.inputs (All-head (HasDefinedInputs names) definition definitions all)) in
+    let rest = gate_inputs_same names definitions (All-tail (HasDefinedInputs names) definition definitions all) in
+    omega (arith, here, rest, sum_by-cons gate_inputs (signal_of names definition) (map (signal_of names) definitions), sum_by-cons gate_inputs_of definition definitions)
+
+-- first mentions are mentions
+All-first_mentions : (P : ℕ → Type 0) (numbers : List ℕ) → All P numbers → All P (first_mentions numbers)
+All-first_mentions P [] all = all
+All-first_mentions P (number ∷ numbers) all =
+    All-cons P number _ (All-head P number numbers all) (All-filter (λ other. not (other == number)) P (first_mentions numbers) (All-first_mentions P numbers (All-tail P number numbers all)))
+
+-- and each stands once
+once_first_mentions : (numbers : List ℕ) → AllPairs (λ first second. first ≢ second) (first_mentions numbers)
+once_first_mentions [] = λ i j d before within. absurd (omega arith)
+once_first_mentions (number ∷ numbers) =
+    AllPairs-cons (λ first second. first ≢ second) number _
+    (All-weaker (λ other. not (other == number) ≡ true) (λ other. number ≢ other) (λ other passes same. grind (arith, nat_tests)) _ (filter_passes (λ other. not (other == number)) (first_mentions numbers)))
+    (AllPairs-filter (λ first second. first ≢ second) (λ other. not (other == number)) (first_mentions numbers) (once_first_mentions numbers))
+
+-- definitions that are lawful, and that read each other alone, make a circuit
+circuit_from : (definitions : List Definition) (mentioned : List (List ℕ)) → AreLawful definitions → All (HasDefinedInputs (defined_names definitions)) definitions → 0 < register_count definitions
+    → IsCircuit (map (signal_of (defined_names definitions)) definitions) (registers_of (map (signal_of (defined_names definitions)) definitions)) (first_mentions (filter_map (number_of (defined_names definitions)) mentioned))
+circuit_from definitions mentioned lawful defined some =
+    let same_length : length (defined_names definitions) ≡ length (map (signal_of (defined_names definitions)) definitions) = length-map definitions (λ d. d.name) ∙ sym (length-map definitions (signal_of (defined_names definitions))) in
+    record {
+      names = All-map (λ signal. HasName signal.name) (signal_of (defined_names definitions)) definitions lawful.names;
+      distinct = AllPairs-map (λ first second. first.name ≢ second.name) (signal_of (defined_names definitions)) definitions lawful.distinct;
+      lawful = All-map (λ s. IsTrue (is_lawful s.kind (length s.fan_in))) (signal_of (defined_names definitions)) definitions
+          (λ k d within. rw (length-filter_map (number_of (defined_names definitions)) (get_or definitions k d).inputs (defined k d within)) (lawful.lawful k d within));
+      read = All-map (λ s. All (λ number. number < length (map (signal_of (defined_names definitions)) definitions)) s.fan_in) (signal_of (defined_names definitions)) definitions
+          (λ k d within. rw (← same_length) (numbers_within (defined_names definitions) (get_or definitions k d).inputs));
+      registers_are = refl;
+      some_register = omega (arith, some, length-registers_of (defined_names definitions) definitions);
+      outputs_are = rw (← same_length) (All-first_mentions (λ number. number < length (defined_names definitions)) _ (numbers_within (defined_names definitions) mentioned));
+      outputs_once = once_first_mentions _;
+      few_signals = omega (arith, length-map definitions (signal_of (defined_names definitions)), lawful.few_signals);
+      few_registers = omega (arith, lawful.few_registers, length-registers_of (defined_names definitions) definitions);
+      few_inputs = omega (arith, lawful.few_inputs, gate_inputs_same (defined_names definitions) definitions defined);
+    }
+
+-- so do those of a netlist
+pub circuit_of : (text : List ℕ) → IsNetlist text → IsCircuit (signals_of text) (registers_of (signals_of text)) (outputs_of text)
+circuit_of text netlist =
+    circuit_from (definitions_in (lines_of text)) (filter_map mention_of (statements_in (lines_of text))) (lawful_lines (lines_of text) netlist.lines)
+    (All-filter_map definition_of (UsesDefined (defined_names (definitions_in (lines_of text)))) (HasDefinedInputs (defined_names (definitions_in (lines_of text)))) (inputs_defined _) (statements_in (lines_of text)) netlist.defined)
+    netlist.some_register
