@@ -1,0 +1,4 @@
+pub mod Plain
+pub mod Texts
+pub mod Run
+pub mod Failures

@@ -1,0 +1,31 @@
+//! The clock tree synthesizer `cts`.
+#![tactic(auto)]
+
+mod failure;
+mod run;
+#[cfg(test)]
+mod tests;
+mod zero;
+mod zero_skew;
+mod zero_text;
+
+use cts_io::{HostInputs, HostSink};
+use run::run;
+use std::process::ExitCode;
+use std::rt::Env;
+use std::{env, io};
+
+fn main(rt: HostRuntime) -> ExitCode {
+    let alloc = rt.alloc();
+    // Words that can't be had are wrong words.
+    let words = words(&rt).unwrap_or(Vec::new(alloc));
+    let mut inputs = HostInputs::new(&rt);
+    let mut out = HostSink::new(rt.stdout());
+    let mut err = HostSink::new(rt.stderr());
+    ExitCode::from(run(alloc, &words, &mut inputs, &mut out, &mut err))
+}
+
+// The words behind the program's name.
+fn words(rt: &(impl Env + AllocGlobal)) -> io::Result<Vec<String>> {
+    Ok(env::args(rt)?.skip(1).collect(rt.alloc())?)
+}
