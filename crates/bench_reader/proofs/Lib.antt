@@ -15,3 +15,4 @@ pub mod PlainLineLemmas
 pub mod PlainNetlists
 pub mod PlainStatements
 pub mod StatementNames
+pub mod OneFault

@@ -17,7 +17,7 @@ use Rattle.bench_reader.specs.declared.fault.BenchFault.TheVariants as faults
 use Rattle.bench_reader.specs.declared.circuit_parts.CircuitParts.{CircuitParts}
 use Rattle.bench_reader.specs.Plain.{IsPlainNetlist, is_plain}
 use Rattle.bench_reader.specs.PlainLines.{IsPlainLine, ArePlainLines, IsFirstNotPlain, IsFirstUndefined}
-use Rattle.bench_reader.specs.Refusals.{RefusesLine, RefusesUse}
+use Rattle.bench_reader.specs.Refusals.{RefusesLine, RefusesUse, Refuses, HasNoRegisters}
 use Rattle.bench_reader.specs.Taken.{HasParts}
 use Rattle.bench_reader.proofs.LineStatements.{statement_at}
 use Rattle.bench_reader.proofs.PlainLineLemmas.{plain_statements, no_gates}
@@ -107,19 +107,19 @@ module _ (text : List ℕ) (names : List (List ℕ)) (told : CircuitParts) (plai
     outputs_are = has_here.outputs_are;
   }
 
-  -- a netlist has a register
-  pub none_refused : length told.registers ≡ 0 → IsNetlist text → ⊥
-  none_refused none netlist = absurd (omega (arith, registers_counted, netlist.some_register))
+  -- without a register they are no netlist
+  pub no_registers : length told.registers ≡ 0 → HasNoRegisters text
+  no_registers none = record { plain = plain; defined = has_here.defined; none = omega (arith, registers_counted) }
 
--- a netlist without gates is refused for want of memory alone
-pub line_fault : (text : List ℕ) (fault : BenchFault) → RefusesLine text fault → IsPlainNetlist text → fault ≡ faults.NoMemory
-line_fault text (faults.NotYet number) first netlist = absurd (line_of_plain text number netlist first)
-line_fault text faults.NoMemory first netlist = refl
-line_fault text (faults.Undefined number) first netlist = absurd first
-line_fault text faults.NoRegisters first netlist = absurd first
+-- what a pass refuses, the text has as its fault
+pub line_refused : (text : List ℕ) (fault : BenchFault) → RefusesLine text fault → Refuses text fault
+line_refused text (faults.NotYet number) first = first
+line_refused text faults.NoMemory first = tt
+line_refused text (faults.Undefined number) first = absurd first
+line_refused text faults.NoRegisters first = absurd first
 
-pub use_fault : (text : List ℕ) (fault : BenchFault) → RefusesUse text fault → IsPlainNetlist text → fault ≡ faults.NoMemory
-use_fault text (faults.Undefined number) first netlist = absurd (use_of_netlist text number netlist.netlist first)
-use_fault text faults.NoMemory first netlist = refl
-use_fault text (faults.NotYet number) first netlist = absurd first
-use_fault text faults.NoRegisters first netlist = absurd first
+pub use_refused : (text : List ℕ) (fault : BenchFault) → ArePlainLines (lines_of text) → RefusesUse text fault → Refuses text fault
+use_refused text (faults.Undefined number) plain first = record { plain = plain; first = first }
+use_refused text faults.NoMemory plain first = tt
+use_refused text (faults.NotYet number) plain first = absurd first
+use_refused text faults.NoRegisters plain first = absurd first

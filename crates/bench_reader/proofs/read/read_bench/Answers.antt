@@ -1,49 +1,8 @@
-use Rattle.std.proofs.Common.{◌≡◌, ◌<◌, ◌∙◌, length, refl, arith}
-use Rattle.std.proofs.lemmas.Bool.Decides.{nat_tests}
-use Rattle.std.proofs.lemmas.Result.{err_from_is_err_and}
-use Rattle.bench_reader.proofs.PlainNetlists.{told_netlist, told_circuit, told_accepts, none_refused, line_fault, use_fault, told_gateless}
+use Rattle.bench_reader.proofs.OneFault.{accepts_each, names_each}
 use Rattle.bench_reader.proofs.read.read_bench.Goals as goal
 
-pub returns-in_err-names-clause-accepted : goal.returns-in_err-names-clause-accepted
-returns-in_err-names-clause-accepted c =
-    let p = err_from_is_err_and c.from_residual.result c.from_residual.ensures.1 in
-    rw (p.1, p.2) (line_fault _ _ c.in_err-names.ensures.refused)
+pub returns-clause-accepted : goal.returns-clause-accepted
+returns-clause-accepted c = accepts_each c.args.bytes.now c.circuit_told.result c.circuit_told.ensures.refused
 
-pub returns-in_err-signals-clause-accepted : goal.returns-in_err-signals-clause-accepted
-returns-in_err-signals-clause-accepted c =
-    let p = err_from_is_err_and c.from_residual-in_err-signals.result c.from_residual-in_err-signals.ensures.1 in
-    rw (p.1, p.2) (use_fault _ _ c.in_err-signals.ensures.refused)
-
-pub returns-then-is_empty-clause-accepted : goal.returns-then-is_empty-clause-accepted
-returns-then-is_empty-clause-accepted c =
-    let none : length c.in_ok-signals.field-0.registers ≡ 0 = grind (arith, nat_tests) in
-    λ plain. absurd (none_refused c.args.bytes.now _ c.in_ok-signals.field-0 c.in_ok-names.ensures.plain c.in_ok-names.ensures.names c.in_ok-signals.ensures.told none plain.netlist)
-
-pub returns-in_err-from_slice-clause-accepted : goal.returns-in_err-from_slice-clause-accepted
-returns-in_err-from_slice-clause-accepted c =
-    let p = err_from_is_err_and c.from_residual-in_err-from_slice.result c.from_residual-in_err-from_slice.ensures.1 in
-    λ plain. rw (p.1, p.2) refl
-
-pub invariant_of-result : goal.invariant_of-result
-invariant_of-result c =
-    let some : 0 < length c.in_ok-signals.field-0.registers = grind (arith, nat_tests) in
-    let told = told_netlist c.args.bytes.now _ c.in_ok-signals.field-0 c.in_ok-names.ensures.plain c.in_ok-names.ensures.names c.in_ok-signals.ensures.told some in
-    record { valid = told_circuit c.args.bytes.now c.in_ok-signals.field-0 c.from_vec-outputs.result told (c.from_vec-outputs.ensures ∙ c.in_ok-from_slice.ensures.items ∙ c.as_slice.ensures.keys) }
-
-pub returns-clause-ok : goal.returns-clause-ok
-returns-clause-ok c =
-    let some : 0 < length c.in_ok-signals.field-0.registers = grind (arith, nat_tests) in
-    let told = told_netlist c.args.bytes.now _ c.in_ok-signals.field-0 c.in_ok-names.ensures.plain c.in_ok-names.ensures.names c.in_ok-signals.ensures.told some in
-    told_accepts c.args.bytes.now c.in_ok-signals.field-0 _ told refl refl (c.from_vec-outputs.ensures ∙ c.in_ok-from_slice.ensures.items ∙ c.as_slice.ensures.keys)
-
-pub returns-clause-plain : goal.returns-clause-plain
-returns-clause-plain c =
-    let some : 0 < length c.in_ok-signals.field-0.registers = grind (arith, nat_tests) in
-    let told = told_netlist c.args.bytes.now _ c.in_ok-signals.field-0 c.in_ok-names.ensures.plain c.in_ok-names.ensures.names c.in_ok-signals.ensures.told some in
-    told.plain_text
-
-pub returns-clause-gateless : goal.returns-clause-gateless
-returns-clause-gateless c =
-    let some : 0 < length c.in_ok-signals.field-0.registers = grind (arith, nat_tests) in
-    let told = told_netlist c.args.bytes.now _ c.in_ok-signals.field-0 c.in_ok-names.ensures.plain c.in_ok-names.ensures.names c.in_ok-signals.ensures.told some in
-    rw told.signals_are (told_gateless c.args.bytes.now c.in_ok-names.ensures.plain)
+pub returns-clause-faulty : goal.returns-clause-faulty
+returns-clause-faulty c = names_each c.args.bytes.now c.circuit_told.result c.circuit_told.ensures.plain c.circuit_told.ensures.refused
