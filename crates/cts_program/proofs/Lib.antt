@@ -5,3 +5,5 @@ mod PairRegisters
 mod OneText
 mod OneAnswer
 mod CommandLemmas
+mod PieceLemmas
+mod RunLemmas

@@ -14,7 +14,7 @@ use Rattle.cts_model.specs.Tables.{IsTable}
 use Rattle.cts_model.specs.PlainTable.{IsPlainTable}
 use Rattle.cts_model.specs.Netlists.{AcceptsNetlist}
 use Rattle.cts_program.specs.Texts.{text_of, zero_lines, IsZeroText}
-use Rattle.cts_program.specs.Run.{IsZeroAnswer, Answers, IsUnfinished}
+use Rattle.cts_program.specs.Run.{IsZeroAnswer, Answers, AnswersInPart}
 use Rattle.cts_program.proofs.OneText.{one_text}
 
 -- a circuit of its lists
@@ -93,17 +93,21 @@ as_long before text other same =
     let lengths : length (before ++ text) ≡ length (before ++ other) = ap length joined in
     omega (arith, length-append before text, length-append before other)
 
--- what is unfinished isn't the whole text
-pub unfinished_lacks : (bytes before : List ℕ) (old new : Option (List ℕ)) → old ≡ Some before → IsUnfinished bytes old new → Answers bytes old new → ⊥
-unfinished_lacks bytes before old new told (inl same) answers =
+-- where nothing was written, the text isn't there
+pub kept_lacks : (bytes before : List ℕ) (old new : Option (List ℕ)) → old ≡ Some before → new ≡ old → Answers bytes old new → ⊥
+kept_lacks bytes before old new told same answers =
     let whole : new ≡ Some (before ++ answers.text) = rw told at answers.whole in
     let none : 0 ≡ length answers.text = as_long before [] answers.text (ap (λ b. Some b) (append-nil before) ∙ (sym told ∙ (sym same ∙ whole))) in
     let some = answer_some bytes answers.text answers.answer in
     omega arith
-unfinished_lacks bytes before old new told (inr (text, answer, prefix)) answers =
+
+-- and a front of the text isn't the text
+pub part_lacks : (bytes before : List ℕ) (old new : Option (List ℕ)) → old ≡ Some before → AnswersInPart bytes old new → Answers bytes old new → ⊥
+part_lacks bytes before old new told in_part answers =
+    let count = in_part.front.count in
     let whole : new ≡ Some (before ++ answers.text) = rw told at answers.whole in
-    let part : new ≡ Some (before ++ take prefix.count text) = rw told at prefix.written in
-    let lengths : length answers.text ≡ length (take prefix.count text) = as_long before answers.text (take prefix.count text) (sym whole ∙ part) in
-    let one : length text ≡ length answers.text = ap length (one_answer bytes text answers.text answer answers.answer) in
-    let short = prefix.short in
-    omega (arith, length-take prefix.count text)
+    let part : new ≡ Some (before ++ take count in_part.text) = rw told at in_part.front.written in
+    let lengths : length answers.text ≡ length (take count in_part.text) = as_long before answers.text (take count in_part.text) (sym whole ∙ part) in
+    let one : length in_part.text ≡ length answers.text = ap length (one_answer bytes in_part.text answers.text in_part.answer answers.answer) in
+    let short = in_part.front.short in
+    omega (arith, length-take count in_part.text)

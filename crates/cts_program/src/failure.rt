@@ -1,11 +1,12 @@
 //! Why a command isn't done, and the line that says so.
 
-ghost use Rattle.std.specs.Prelude.{◌≡◌, ◌≢◌};
+ghost use Rattle.std.specs.Prelude.{◌≡◌, ◌++◌, decimal};
+ghost use Rattle.std.specs.List.{flat_map};
 ghost use Rattle.cts_program.specs.declared.failure.Failure.TheVariants.{NoMemory};
-ghost use Rattle.cts_program.specs.Failures.{read_failure_of, bench_failure_of};
+ghost use Rattle.cts_program.specs.Failures.{read_failure_of, bench_failure_of, status_of, ended, bench_line, failure_line, Reports};
 
 use bench_reader::BenchFault;
-use cts_io::{Failed, ReadWhole, Sink, write_whole};
+use cts_io::{ReadWhole, Sink, write_whole};
 use itoa::Buffer;
 
 /// Why a command isn't done.
@@ -26,12 +27,12 @@ pub enum Failure {
 }
 
 const USAGE: &[u8] =
-    b"usage: cts zero --bench F [--tech F] | cts period --bench F --tech F | cts schedule --bench F --tech F | cts synth --bench F --tech F --pl F | cts check --bench F --tech F --pl F --report F | cts demo --registers N --seed S\n";
+    b"usage: cts zero --bench F [--tech F] | cts period --bench F --tech F | cts schedule --bench F --tech F | cts synth --bench F --tech F --pl F | cts check --bench F --tech F --pl F --report F | cts demo --registers N --seed S";
 
 impl Failure {
     /// The program's exit status.
     pub fn status(self) -> u8
-        ensures { result ≢ 0 }
+        ensures { result ≡ status_of self }
     {
         match self {
             Failure::Usage => 2,
@@ -42,39 +43,50 @@ impl Failure {
         }
     }
 
-    /// Writes the line that says why, piece by piece and without memory. Where the sink fails,
-    /// the front of the line is written.
-    pub fn report<E: Sink>(self, err: &mut E) -> Result<(), Failed> {
+    /// Writes the line that says why, piece by piece and without memory. A sink that fails ends it.
+    pub fn report<E: Sink>(self, err: &mut E)
+        ensures { Reports (failure_line self) (E.written err.old) (E.faults err.old) (E.written err.new) (E.faults err.new) }
+    {
         match self {
-            Failure::Usage => write_whole(err, USAGE),
-            Failure::TooLong => write_whole(err, b"refused bench long\n"),
-            Failure::Bench(BenchFault::NotYet(line)) => report_line(
-                err,
-                b"refused bench 10 line ",
-                line,
-            ),
-            Failure::Bench(BenchFault::Undefined(line)) => report_line(
-                err,
-                b"refused bench 6 line ",
-                line,
-            ),
-            Failure::Bench(BenchFault::NoRegisters) => write_whole(err, b"refused bench 8\n"),
-            Failure::ReadFault => write_whole(err, b"read fault bench\n"),
-            Failure::WriteFault => write_whole(err, b"write fault\n"),
-            Failure::NoMemory | Failure::Bench(BenchFault::NoMemory) => write_whole(
-                err,
-                b"no memory\n",
-            ),
+            Failure::Usage => write_pieces(err, &[USAGE, b"\n"]),
+            Failure::TooLong => write_pieces(err, &[b"refused bench long\n"]),
+            Failure::Bench(fault) => report_netlist(fault, err),
+            Failure::ReadFault => write_pieces(err, &[b"read fault bench\n"]),
+            Failure::WriteFault => write_pieces(err, &[b"write fault\n"]),
+            Failure::NoMemory => write_pieces(err, &[b"no memory\n"]),
         }
     }
 }
 
-// Writes a refusal that ends with the number of a line.
-fn report_line<E: Sink>(err: &mut E, refusal: &[u8], line: u32) -> Result<(), Failed> {
+fn report_netlist<E: Sink>(fault: BenchFault, err: &mut E)
+    ensures { Reports (bench_line fault) (E.written err.old) (E.faults err.old) (E.written err.new) (E.faults err.new) }
+{
+    match fault {
+        BenchFault::NotYet(line) => report_line(b"refused bench 10 line ", line, err),
+        BenchFault::Undefined(line) => report_line(b"refused bench 6 line ", line, err),
+        BenchFault::NoRegisters => write_pieces(err, &[b"refused bench 8\n"]),
+        BenchFault::NoMemory => write_pieces(err, &[b"no memory\n"]),
+    }
+}
+
+fn report_line<E: Sink>(refusal: &[u8], line: u32, err: &mut E)
+    ensures { Reports (ended (refusal.now ++ decimal line)) (E.written err.old) (E.faults err.old) (E.written err.new) (E.faults err.new) }
+{
     let mut buffer = Buffer::new();
-    write_whole(err, refusal)?;
-    write_whole(err, buffer.format(line).as_bytes())?;
-    write_whole(err, b"\n")
+    let line = buffer.format(line).as_bytes();
+    write_pieces(err, &[refusal, line, b"\n"]);
+}
+
+// Writes the pieces in order. A sink that fails ends it: there is nowhere else to tell of that.
+fn write_pieces<S: Sink>(sink: &mut S, pieces: &[&[u8]])
+    ensures { Reports (flat_map (λ piece. piece.now) pieces.now)
+        (S.written sink.old) (S.faults sink.old) (S.written sink.new) (S.faults sink.new) }
+{
+    for piece in pieces {
+        if let Err(_) = write_whole(sink, piece) {
+            return;
+        }
+    }
 }
 
 impl From<ReadWhole> for Failure {

@@ -1,7 +1,7 @@
 //! The command `zero`: the least period at equal arrivals.
 
-ghost use Rattle.std.specs.Prelude.{◌≡◌, ◌≤◌, ℕ, List, length, map, Some, string_bytes, OnOk, OnErr, IfOk, IfSome, IsNone, MatchOption};
-ghost use Rattle.cts_program.specs.Run.{is_value, IsZeroCommand, IsZeroAnswer, Answers, IsUnfinished};
+ghost use Rattle.std.specs.Prelude.{◌≡◌, ◌≢◌, ℕ, List, map, Some, string_bytes, OnOk, IfOk, IfErr, IsErrOf, IfSome, IsNone};
+ghost use Rattle.cts_program.specs.Run.{is_value, IsZeroCommand, IsShortFile, IsZeroAnswer, Answers, AnswersInPart, FailsNetlist, FailsFile, Fails};
 
 use crate::failure::Failure;
 use crate::zero_skew::zero_skew;
@@ -23,8 +23,11 @@ pub fn zero<I: Inputs, O: Sink>(
 ) -> Result<(), Failure>
     ensures done { OnOk result ((file : List ℕ) × IsZeroCommand (map string_bytes words.now) file
         × ((bytes : List ℕ) → I.holds inputs.old file ≡ Some bytes → Answers bytes (O.written out.old) (O.written out.new))) }
-    ensures unfinished { OnErr result ((file bytes : List ℕ) → IsZeroCommand (map string_bytes words.now) file
-        → I.holds inputs.old file ≡ Some bytes → IsUnfinished bytes (O.written out.old) (O.written out.new)) }
+    ensures cause { IfErr result (Fails (map string_bytes words.now) (I.holds inputs.old)
+        (I.faults inputs.old) (I.faults inputs.new) (O.faults out.old) (O.faults out.new)) }
+    ensures kept { IfErr result (λ failure. failure ≢ Failure.WriteFault → O.written out.new ≡ O.written out.old) }
+    ensures part { IsErrOf result Failure.WriteFault → (file bytes : List ℕ) → IsZeroCommand (map string_bytes words.now) file
+        → I.holds inputs.old file ≡ Some bytes → AnswersInPart bytes (O.written out.old) (O.written out.new) }
 {
     let Some(file) = netlist_file(words) else {
         return Err(Failure::Usage);
@@ -63,17 +66,19 @@ fn is_value(word: &str) -> bool
 
 // The text for the netlist in a file.
 fn zero_answer<I: Inputs>(alloc: Global, inputs: &mut I, file: &str) -> Result<Vec<u8>, Failure>
-    ensures { IfOk result (λ text. (bytes : List ℕ) → I.holds inputs.old file.now ≡ Some bytes
-        → (length bytes ≤ 16777216) × IsZeroAnswer bytes text.items) }
+    ensures ok { IfOk result (λ text. (bytes : List ℕ) → I.holds inputs.old file.now ≡ Some bytes
+        → IsShortFile bytes × IsZeroAnswer bytes text.items) }
+    ensures cause { IfErr result (FailsFile (I.holds inputs.old file.now) (I.faults inputs.old file.now) (I.faults inputs.new file.now)) }
 {
     let bytes = read_whole(alloc, inputs, file, FILE_LIMIT)?;
-    answer_of(alloc, &bytes)
+    netlist_answer(alloc, &bytes)
 }
 
 // The text for a netlist.
-fn answer_of(alloc: Global, bytes: &[u8]) -> Result<Vec<u8>, Failure>
-    requires { length bytes.now ≤ 16777216 }
-    ensures { IfOk result (λ text. IsZeroAnswer bytes.now text.items) }
+fn netlist_answer(alloc: Global, bytes: &[u8]) -> Result<Vec<u8>, Failure>
+    requires { IsShortFile bytes.now }
+    ensures ok { IfOk result (λ text. IsZeroAnswer bytes.now text.items) }
+    ensures cause { IfErr result (FailsNetlist bytes.now) }
 {
     let circuit = read_bench(alloc, bytes)?;
     let tech = Tech::plain(alloc);
