@@ -1,9 +1,9 @@
 -- The first word of a line, and the words of what follows it.
-use Rattle.std.proofs.Common.{ℕ, ◌≡◌, ◌<◌, ◌≤◌, ◌+◌, ◌-◌, Bool, true, false, not, Option, Some, None, List, [], ◌∷◌, length, take, drop, refl, ap, ◌∙◌, sym, arith, cond, subst, get_or}
+use Rattle.std.proofs.Common.{ℕ, ◌≡◌, ◌<◌, ◌+◌, Bool, true, false, Some, None, List, [], ◌∷◌, length, take, drop, refl, ap, ◌∙◌, sym, arith, subst, get_or}
 use Rattle.std.proofs.lemmas.List.{length-take-le}
 use Rattle.std.proofs.lemmas.List.Sums.{passes_at_first}
 use Rattle.std.proofs.lemmas.Bool.Decides.{nat_tests}
-use Rattle.std.specs.List.{filter, slice_split, position_or_len, before_first, after_first, position}
+use Rattle.std.specs.List.{filter, position_or_len, position}
 use Rattle.cts_base.specs.Words.{is_blank, is_not_blank, is_not_empty, words_of}
 use Rattle.cts_base.proofs.Places.{place_of_Some, place_of_None, slice_split-cut, slice_split-whole, drop-one_more, drop-cons_then}
 use Rattle.std.proofs.Math.ListN.{drop_of_length-le}

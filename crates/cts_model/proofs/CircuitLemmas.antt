@@ -1,15 +1,14 @@
 -- What a circuit's registers are: signals of kind DFF, with one input each.
-use Rattle.std.proofs.Common.{ℕ, zero, suc, ◌≡◌, ◌<◌, ◌+◌, Bool, true, false, List, [], ◌∷◌, length, Option, Some, None, refl, ap, sym, ◌∙◌, subst, arith, get_or}
-use Rattle.std.specs.List.{filter_map, enumerate_from, slice_get, All}
-use Rattle.std.specs.Option.{option_and_then}
+use Rattle.std.proofs.Common.{ℕ, zero, suc, ◌≡◌, ◌<◌, ◌+◌, Bool, true, false, List, [], ◌∷◌, length, Some, refl, ap, sym, ◌∙◌, subst, arith, get_or}
+use Rattle.std.specs.List.{filter_map, enumerate_from, slice_get}
 use Rattle.std.proofs.lemmas.Option.{slice_get_within, slice_get-get_or, get_or_from_slice_get}
 use Rattle.std.proofs.lemmas.Bool.Decides.{nat_tests}
 use Rattle.cts_model.specs.declared.kind.Kind.{Kind}
-use Rattle.cts_model.specs.declared.kind.Kind.TheVariants.{And, Nand, Or, Nor, Not, Xor, Xnor, Buff, Input, Dff}
+use Rattle.cts_model.specs.declared.kind.Kind.TheVariants.{Dff}
 use Rattle.cts_model.specs.declared.signal.Signal.{Signal}
 use Rattle.cts_model.specs.declared.circuit.Circuit.{Circuit}
-use Rattle.cts_model.specs.Kinds.{is_register, is_lawful}
-use Rattle.cts_model.specs.Circuits.{register_number, registers_of}
+use Rattle.cts_model.specs.Kinds.{is_register}
+use Rattle.cts_model.specs.Circuits.{register_number}
 use Rattle.cts_model.specs.Paths.{register_signal}
 
 -- the signal of this number is a register

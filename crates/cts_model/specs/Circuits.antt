@@ -1,7 +1,6 @@
 -- What a circuit keeps, whoever made it: the facts of a sequential netlist, within this project's limits.
-use Rattle.std.specs.Prelude.{◌≡◌, ◌≢◌, ◌<◌, ◌≤◌, ℕ, Bool, true, IsTrue, ◌&&◌, List, length, All, AllPairs, Option, Some, None, if◌then◌else◌}
+use Rattle.std.specs.Prelude.{◌≡◌, ◌≢◌, ◌<◌, ◌≤◌, ℕ, IsTrue, ◌&&◌, List, length, All, AllPairs, Option, Some, None, if◌then◌else◌}
 use Rattle.std.specs.List.{enumerate_from, filter_map, sum_by}
-use Rattle.cts_model.specs.declared.kind.Kind.{Kind}
 use Rattle.cts_model.specs.declared.signal.Signal.{Signal}
 use Rattle.cts_model.specs.Kinds.{is_register, is_gate, is_lawful}
 use Rattle.cts_model.specs.Names.{is_name, is_short}

@@ -1,5 +1,5 @@
 -- The least and the greatest delay of a path, in ticks: two sums, each over its own numbers.
-use Rattle.std.specs.Prelude.{ℕ, ◌-◌, ℤ, pos, ◌+ℤ◌, ◌*ℤ◌, false, List, [], ◌∷◌, length, slice_get, slice_index_or, MatchOption, Option, Some, None}
+use Rattle.std.specs.Prelude.{ℕ, ◌-◌, ℤ, pos, ◌+ℤ◌, ◌*ℤ◌, false, List, [], ◌∷◌, length, slice_get, slice_index_or, Option, Some, None}
 use Rattle.cts_model.specs.declared.kind.Kind.{Kind}
 use Rattle.cts_model.specs.declared.kind.Kind.TheVariants.{And, Nand, Or, Nor, Not, Xor, Xnor, Buff, Input, Dff}
 use Rattle.cts_model.specs.declared.signal.Signal.{Signal}

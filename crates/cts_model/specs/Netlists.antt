@@ -1,5 +1,5 @@
 -- Accepted netlists of the ISCAS'89 .bench format, and the circuit that each tells.
-use Rattle.std.specs.Prelude.{◌≡◌, ◌==◌, ◌<◌, ◌≤◌, ◌+◌, ℕ, Bool, true, not, IsTrue, List, [], ◌∷◌, ◌++◌, length, map, filter, All, Contains, Option, Some, None, IsSome, IfSome, is_some, if◌then◌else◌, position, count_by}
+use Rattle.std.specs.Prelude.{◌≡◌, ◌==◌, ◌<◌, ◌≤◌, ℕ, Bool, true, not, IsTrue, List, [], ◌∷◌, ◌++◌, length, map, filter, All, Contains, Option, Some, IsSome, IfSome, is_some, if◌then◌else◌, position, count_by}
 use Rattle.std.specs.List.{filter_map, sum_by}
 use Rattle.std.specs.Str.{bytes_eq}
 use Rattle.cts_base.specs.Lines.{lines_of}

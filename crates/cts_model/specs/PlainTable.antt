@@ -1,5 +1,5 @@
 -- The built-in delay table, in ticks: it is meant for a first look at a netlist.
-use Rattle.std.specs.Prelude.{◌≡◌, ℤ, pos, true, List, [], replicate}
+use Rattle.std.specs.Prelude.{◌≡◌, pos, true, [], replicate}
 use Rattle.cts_model.specs.declared.tech.GateDelay.{GateDelay}
 use Rattle.cts_model.specs.declared.tech.Tech.{Tech}
 

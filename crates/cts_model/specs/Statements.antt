@@ -1,12 +1,12 @@
 -- The statements of the ISCAS'89 .bench format: `INPUT(name)`, `OUTPUT(name)` and `name = KIND(names)`.
-use Rattle.std.specs.Prelude.{ℕ, Bool, List, [], ◌∷◌, Option, Some, None, if◌then◌else◌, codes}
-use Rattle.std.specs.Option.{option_map, option_and_then}
+use Rattle.std.specs.Prelude.{ℕ, List, [], ◌∷◌, Option, Some, None, if◌then◌else◌, codes}
+use Rattle.std.specs.Option.{option_map}
 use Rattle.std.specs.Str.{str_eq_ignore_ascii_case}
 use Rattle.cts_base.specs.Words.{before_hash}
 use Rattle.cts_model.specs.declared.kind.Kind.{Kind}
 use Rattle.cts_model.specs.declared.kind.Kind.TheVariants as kinds
 use Rattle.cts_model.specs.Kinds.{kind_of}
-use Rattle.cts_model.specs.Tokens.{Token, Word, Open, Close, Comma, Equals, Stray, tokens_of}
+use Rattle.cts_model.specs.Tokens.{Token, Word, Open, Close, Comma, Equals, tokens_of}
 
 -- what a line says
 pub data Statement : Type 0 where

@@ -1,5 +1,5 @@
 -- What a delay table keeps: the ranges of its numbers, in ticks, and no least delay above its greatest.
-use Rattle.std.specs.Prelude.{◌≡◌, ℕ, ℤ, pos, ◌≤ℤ◌, ◌^◌, Bool, false, List, All, nat_abs}
+use Rattle.std.specs.Prelude.{◌≡◌, ℕ, ℤ, pos, ◌≤ℤ◌, false, List, All, nat_abs}
 use Rattle.std.specs.Int.{IsGcd}
 use Rattle.cts_model.specs.declared.tech.GateDelay.{GateDelay}
 

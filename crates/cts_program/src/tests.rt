@@ -2,12 +2,13 @@ use crate::run::run;
 use cts_base::{Listed, NoMemory};
 use cts_io::{HeldFile, MemoryInputs, MemorySink};
 use std::alloc::{AllocError, Global};
+use std::process::Abort;
 use std::test::Fail;
 
-const USAGE: &[u8] =
-    b"usage: cts zero --bench F [--tech F] | cts period --bench F --tech F | cts schedule --bench F --tech F | cts synth --bench F --tech F --pl F | cts check --bench F --tech F --pl F --report F | cts demo --registers N --seed S\n";
+const USAGE: &str =
+    "usage: cts zero --bench F [--tech F] | cts period --bench F --tech F | cts schedule --bench F --tech F | cts synth --bench F --tech F --pl F | cts check --bench F --tech F --pl F --report F | cts demo --registers N --seed S\n";
 
-const NO_PATH: &[u8] = b"INPUT(x)\na = DFF(x)\n";
+const NO_PATH: &str = "INPUT(x)\na = DFF(x)\n";
 
 /// What a run leaves.
 #[derive(Drop)]
@@ -15,6 +16,14 @@ struct Seen {
     status: u8,
     out: MemorySink,
     err: MemorySink,
+}
+
+impl Seen {
+    fn expect(&self, rt: &impl Abort, status: u8, out: &str, err: &str, row: &str) {
+        assert_eq!(rt; self.status, status, "for {row}");
+        assert_eq!(rt; self.out.bytes(), out.as_bytes(), "for {row}");
+        assert_eq!(rt; self.err.bytes(), err.as_bytes(), "for {row}");
+    }
 }
 
 // The words of a command line.
@@ -26,136 +35,143 @@ fn words(alloc: Global, words: &[&str]) -> Result<Vec<String>, AllocError> {
     Ok(all)
 }
 
-// The file `F` with these bytes, whose calls of these numbers fail.
+// The file `F`, whose calls of these numbers fail, in takes of at most `piece` bytes.
 fn file_f(
     alloc: Global,
-    bytes: &[u8],
+    text: &[u8],
     fails: &[u64],
     piece: usize,
 ) -> Result<MemoryInputs, NoMemory> {
     let mut files = Listed::new(alloc);
     files.push(HeldFile {
         name: Listed::from_vec(Vec::from_slice(alloc, b"F")?),
-        bytes: Listed::from_vec(Vec::from_slice(alloc, bytes)?),
+        bytes: Listed::from_vec(Vec::from_slice(alloc, text)?),
     })?;
     let fails = Vec::from_slice(alloc, fails)?;
     Ok(MemoryInputs::new(files, fails, piece.max(1)))
 }
 
-fn ample_sink(alloc: Global) -> Result<MemorySink, NoMemory> {
-    MemorySink::new(alloc, 1000, Vec::new(alloc), 1000)
+// A sink with room for so many bytes, whose writes of these numbers fail, in pieces of 4 bytes.
+fn sink(alloc: Global, room: usize, fails: &[u64]) -> Result<MemorySink, NoMemory> {
+    let fails = Vec::from_slice(alloc, fails)?;
+    MemorySink::new(alloc, room, fails, 4)
 }
 
-// What these words leave where F holds these bytes.
-fn seen_of(alloc: Global, command: &[&str], bytes: &[u8]) -> Result<Seen, NoMemory> {
-    let mut inputs = file_f(alloc, bytes, &[], 100_000)?;
-    let mut out = ample_sink(alloc)?;
-    let mut err = ample_sink(alloc)?;
+// What the words leave over these devices.
+fn run_over(
+    alloc: Global,
+    command: &[&str],
+    inputs: MemoryInputs,
+    out: MemorySink,
+    err: MemorySink,
+) -> Result<Seen, NoMemory> {
     let command = words(alloc, command)?;
+    let mut inputs = inputs;
+    let mut out = out;
+    let mut err = err;
     let status = run(alloc, &command, &mut inputs, &mut out, &mut err);
     Ok(Seen { status, out, err })
 }
 
+// What `zero --bench F` leaves where F holds this text, and no device fails.
+fn zero_of(alloc: Global, text: &[u8]) -> Result<Seen, NoMemory> {
+    let inputs = file_f(alloc, text, &[], 100_000)?;
+    run_over(
+        alloc,
+        &["zero", "--bench", "F"],
+        inputs,
+        sink(alloc, 1000, &[])?,
+        sink(alloc, 1000, &[])?,
+    )
+}
+
 #[test]
 fn prints_the_least_period_at_equal_arrivals(rt: HostRuntime) -> Result<(), Fail> {
-    let rows: [(&[u8], &[u8]); 6] = [
+    for (netlist, text) in [
         // Mixed line ends and cases, an output that is mentioned twice, and no last line end.
         (
-            b"input( x )\r\nOUTPUT(b)\noutput(b)\na=dff(x)\nb = Dff ( a )",
-            b"zero 5\nsetup a b 5\n",
+            "input( x )\r\nOUTPUT(b)\noutput(b)\na=dff(x)\nb = Dff ( a )",
+            "zero 5\nsetup a b 5\n",
         ),
         // No path at all.
-        (NO_PATH, b"zero 0\nfloor\n"),
-        (b"a = DFF(a)\n", b"zero 5\nsetup a a 5\n"),
+        (NO_PATH, FLOOR),
+        ("a = DFF(a)\n", "zero 5\nsetup a a 5\n"),
         // Three pairs need the period: the register that launches decides which is the first.
         (
-            b"c = DFF(b)\nb = DFF(a)\na = DFF(a)\nd = DFF(b)\n",
-            b"zero 5\nsetup b c 5\n",
+            "c = DFF(b)\nb = DFF(a)\na = DFF(a)\nd = DFF(b)\n",
+            "zero 5\nsetup b c 5\n",
         ),
         // Comments, blank lines, a name in UTF-8, spaces and tabs.
         (
-            b"# top\n\n \t \nq2 = DFF(q1) # late\nINPUT(\xc3\xa9)\nq1=DFF(q0)\n  q0\t=\tdff ( \xc3\xa9 )\nOUTPUT(q2)#x\n",
-            b"zero 5\nsetup q1 q2 5\n",
+            "# top\n\n \t \nq2 = DFF(q1) # late\nINPUT(é)\nq1=DFF(q0)\n  q0\t=\tdff ( é )\nOUTPUT(q2)#x\n",
+            "zero 5\nsetup q1 q2 5\n",
         ),
         // Keywords as names.
-        (
-            b"OUTPUT = DFF(INPUT)\nINPUT(INPUT)\nOUTPUT(OUTPUT)\n",
-            b"zero 0\nfloor\n",
-        ),
-    ];
-    for (netlist, text) in rows {
-        let seen = seen_of(rt.alloc(), &["zero", "--bench", "F"], netlist)?;
-        assert_eq!(rt; seen.status, 0, "for {netlist:?}");
-        assert_eq!(rt; seen.out.bytes(), text, "for {netlist:?}");
-        assert_eq!(rt; seen.err.bytes(), b"".as_slice(), "for {netlist:?}");
+        ("OUTPUT = DFF(INPUT)\nINPUT(INPUT)\nOUTPUT(OUTPUT)\n", FLOOR),
+    ] {
+        zero_of(rt.alloc(), netlist.as_bytes())?.expect(&rt, 0, text, "", netlist);
     }
     Ok(())
 }
 
 #[test]
 fn refuses_netlists(rt: HostRuntime) -> Result<(), Fail> {
-    let rows: [(&[u8], &[u8]); 9] = [
+    for (netlist, line) in [
         (
-            b"INPUT(x)\na = DFF(x)\ng = NOT(x)\n",
-            b"refused bench 10 line 3\n",
+            "INPUT(x)\na = DFF(x)\ng = NOT(x)\n",
+            "refused bench 10 line 3\n",
         ),
         (
-            b"INPUT(x)\na = DFF(g)\ng = NOT(x)\n",
-            b"refused bench 10 line 3\n",
+            "INPUT(x)\na = DFF(g)\ng = NOT(x)\n",
+            "refused bench 10 line 3\n",
         ),
-        (b"a = DFF(y)\n", b"refused bench 6 line 1\n"),
-        (b"a = DFF(a)\nOUTPUT(q)\n", b"refused bench 6 line 2\n"),
-        (b"", b"refused bench 8\n"),
-        (b"# none\nINPUT(x)\nINPUT(y)\n", b"refused bench 8\n"),
-        (b"INPUT(x)\na = DFF(x", b"refused bench 10 line 2\n"),
-        (b"INPUT(x)\nINPUT(x)\n", b"refused bench 10 line 2\n"),
+        ("a = DFF(y)\n", "refused bench 6 line 1\n"),
+        ("a = DFF(a)\nOUTPUT(q)\n", "refused bench 6 line 2\n"),
+        ("", "refused bench 8\n"),
+        ("# none\nINPUT(x)\nINPUT(y)\n", "refused bench 8\n"),
+        ("INPUT(x)\na = DFF(x", "refused bench 10 line 2\n"),
+        ("INPUT(x)\nINPUT(x)\n", "refused bench 10 line 2\n"),
         // Every line is judged by itself before names are looked up.
-        (b"a = DFF(y)\nb = DFF\n", b"refused bench 10 line 2\n"),
-    ];
-    for (netlist, line) in rows {
-        let seen = seen_of(rt.alloc(), &["zero", "--bench", "F"], netlist)?;
-        assert_eq!(rt; seen.status, 3, "for {netlist:?}");
-        assert_eq!(rt; seen.out.bytes(), b"".as_slice(), "for {netlist:?}");
-        assert_eq!(rt; seen.err.bytes(), line, "for {netlist:?}");
+        ("a = DFF(y)\nb = DFF\n", "refused bench 10 line 2\n"),
+    ] {
+        zero_of(rt.alloc(), netlist.as_bytes())?.expect(&rt, 3, "", line, netlist);
     }
+    Ok(())
+}
+
+// A start would fail here, and the status would say so.
+fn expect_usage(rt: &impl Abort, alloc: Global, command: &[&str]) -> Result<(), NoMemory> {
+    let inputs = file_f(alloc, NO_PATH.as_bytes(), &[1], 100)?;
+    let seen = run_over(
+        alloc,
+        command,
+        inputs,
+        sink(alloc, 1000, &[])?,
+        sink(alloc, 1000, &[])?,
+    )?;
+    seen.expect(rt, 2, "", USAGE, "words");
     Ok(())
 }
 
 #[test]
 fn refuses_words(rt: HostRuntime) -> Result<(), Fail> {
-    let rows: [&[&str]; 15] = [
-        &[],
-        &["zero"],
-        &["zero", "--bench"],
-        &["zero", "--bench", "a", "--bench", "b"],
-        &["zero", "F", "--bench"],
-        &["--bench", "F", "zero"],
-        &["zero", "--bench=F"],
-        &["zero", "--bench", "F", "extra"],
-        &["Zero", "--bench", "F"],
-        &["", "--bench", "F"],
-        &["zero", "", "F"],
-        &["zero", "--bench", ""],
-        // A value doesn't begin with `-`.
-        &["zero", "--bench", "-F"],
-        &["--help"],
-        &["period", "--bench", "F"],
-    ];
     let alloc = rt.alloc();
-    for command in rows {
-        // A call that started a file would fail, and its status would say so.
-        let mut inputs = file_f(alloc, NO_PATH, &[1], 100)?;
-        let mut out = ample_sink(alloc)?;
-        let mut err = ample_sink(alloc)?;
-        let list = words(alloc, command)?;
-        assert_eq!(rt;
-            run(alloc, &list, &mut inputs, &mut out, &mut err),
-            2,
-            "for {command:?}"
-        );
-        assert_eq!(rt; out.bytes(), b"".as_slice(), "for {command:?}");
-        assert_eq!(rt; err.bytes(), USAGE, "for {command:?}");
-    }
+    expect_usage(&rt, alloc, &[])?;
+    expect_usage(&rt, alloc, &["zero"])?;
+    expect_usage(&rt, alloc, &["zero", "--bench"])?;
+    expect_usage(&rt, alloc, &["zero", "--bench", "a", "--bench", "b"])?;
+    expect_usage(&rt, alloc, &["zero", "F", "--bench"])?;
+    expect_usage(&rt, alloc, &["--bench", "F", "zero"])?;
+    expect_usage(&rt, alloc, &["zero", "--bench=F"])?;
+    expect_usage(&rt, alloc, &["zero", "--bench", "F", "extra"])?;
+    expect_usage(&rt, alloc, &["Zero", "--bench", "F"])?;
+    expect_usage(&rt, alloc, &["", "--bench", "F"])?;
+    expect_usage(&rt, alloc, &["zero", "", "F"])?;
+    expect_usage(&rt, alloc, &["zero", "--bench", ""])?;
+    // A value doesn't begin with `-`.
+    expect_usage(&rt, alloc, &["zero", "--bench", "-F"])?;
+    expect_usage(&rt, alloc, &["--help"])?;
+    expect_usage(&rt, alloc, &["period", "--bench", "F"])?;
     Ok(())
 }
 
@@ -171,131 +187,138 @@ fn wide_netlist(alloc: Global, inputs: u32, registers: u32) -> Result<Vec<u8>, A
     Ok(netlist)
 }
 
+// A netlist that fills up so many bytes by a comment.
+fn filled_netlist(alloc: Global, length: usize) -> Result<Vec<u8>, AllocError> {
+    let mut netlist = Vec::from_slice(alloc, NO_PATH.as_bytes())?;
+    let comment = vec![in alloc; b'#'; length.saturating_sub(netlist.len())]?;
+    netlist.extend_from_slice(&comment)?;
+    Ok(netlist)
+}
+
+// A netlist whose first name has so many bytes.
+fn long_name(alloc: Global, length: usize) -> Result<Vec<u8>, AllocError> {
+    let mut netlist = Vec::from_slice(alloc, b"INPUT(")?;
+    netlist.extend_from_slice(&vec![in alloc; b'x'; length]?)?;
+    netlist.extend_from_slice(b")\na = DFF(a)\n")?;
+    Ok(netlist)
+}
+
+const FLOOR: &str = "zero 0\nfloor\n";
+
 #[test]
-fn keeps_the_limits(rt: HostRuntime) -> Result<(), Fail> {
+fn counts_signals(rt: HostRuntime) -> Result<(), Fail> {
     let alloc = rt.alloc();
-    for (inputs, registers, status, line) in [
-        (65_535, 1, 0, ""),
-        (65_536, 1, 3, "refused bench 10 line 65537\n"),
-        (1, 4096, 0, ""),
-        (1, 4097, 3, "refused bench 10 line 4098\n"),
-    ] {
-        let netlist = wide_netlist(alloc, inputs, registers)?;
-        let seen = seen_of(alloc, &["zero", "--bench", "F"], &netlist)?;
-        assert_eq!(rt;
-            seen.status,
-            status,
-            "{inputs} inputs and {registers} registers"
-        );
-        assert_eq!(rt;
-            seen.err.bytes(),
-            line.as_bytes(),
-            "{inputs} inputs and {registers} registers"
-        );
-    }
-    for (length, status, line) in [(255, 0, ""), (256, 3, "refused bench 10 line 1\n")] {
-        let mut netlist = Vec::from_slice(alloc, b"INPUT(")?;
-        netlist.extend_from_slice(&vec![in alloc; b'x'; length]?)?;
-        netlist.extend_from_slice(b")\na = DFF(a)\n")?;
-        let seen = seen_of(alloc, &["zero", "--bench", "F"], &netlist)?;
-        assert_eq!(rt; seen.status, status, "a name of {length} bytes");
-        assert_eq!(rt;
-            seen.err.bytes(),
-            line.as_bytes(),
-            "a name of {length} bytes"
-        );
-    }
+    let most = wide_netlist(alloc, 65_535, 1)?;
+    zero_of(alloc, &most)?.expect(&rt, 0, FLOOR, "", "65,536 signals");
+    let more = wide_netlist(alloc, 65_536, 1)?;
+    let line = "refused bench 10 line 65537\n";
+    zero_of(alloc, &more)?.expect(&rt, 3, "", line, "65,537 signals");
     Ok(())
 }
 
 #[test]
-fn reads_files_of_up_to_16_mebibytes(rt: HostRuntime) -> Result<(), Fail> {
+fn counts_registers(rt: HostRuntime) -> Result<(), Fail> {
     let alloc = rt.alloc();
-    for (length, status, text, line) in [
-        (16_777_216, 0, "zero 0\nfloor\n", ""),
-        (16_777_217, 3, "", "refused bench long\n"),
-    ] {
-        let mut netlist = Vec::from_slice(alloc, NO_PATH)?;
-        assert!(rt; netlist.len() <= length);
-        let comment = vec![in alloc; b'#'; length - netlist.len()]?;
-        netlist.extend_from_slice(&comment)?;
-        let seen = seen_of(alloc, &["zero", "--bench", "F"], &netlist)?;
-        assert_eq!(rt; seen.status, status, "{length} bytes");
-        assert_eq!(rt; seen.out.bytes(), text.as_bytes(), "{length} bytes");
-        assert_eq!(rt; seen.err.bytes(), line.as_bytes(), "{length} bytes");
-    }
+    let most = wide_netlist(alloc, 1, 4096)?;
+    zero_of(alloc, &most)?.expect(&rt, 0, FLOOR, "", "4,096 registers");
+    let more = wide_netlist(alloc, 1, 4097)?;
+    let line = "refused bench 10 line 4098\n";
+    zero_of(alloc, &more)?.expect(&rt, 3, "", line, "4,097 registers");
     Ok(())
+}
+
+#[test]
+fn counts_the_bytes_of_a_name(rt: HostRuntime) -> Result<(), Fail> {
+    let alloc = rt.alloc();
+    let most = long_name(alloc, 255)?;
+    zero_of(alloc, &most)?.expect(&rt, 0, "zero 5\nsetup a a 5\n", "", "a name of 255 bytes");
+    let more = long_name(alloc, 256)?;
+    let line = "refused bench 10 line 1\n";
+    zero_of(alloc, &more)?.expect(&rt, 3, "", line, "a name of 256 bytes");
+    Ok(())
+}
+
+#[test]
+fn counts_the_bytes_of_a_file(rt: HostRuntime) -> Result<(), Fail> {
+    let alloc = rt.alloc();
+    let most = filled_netlist(alloc, 16_777_216)?;
+    zero_of(alloc, &most)?.expect(&rt, 0, FLOOR, "", "16 MiB");
+    let more = filled_netlist(alloc, 16_777_217)?;
+    zero_of(alloc, &more)?.expect(&rt, 3, "", "refused bench long\n", "a byte more");
+    Ok(())
+}
+
+// What `zero --bench NAME` leaves where call number `call` on the file F fails, in takes of `piece` bytes.
+fn read_failing(alloc: Global, name: &str, call: u64, piece: usize) -> Result<Seen, NoMemory> {
+    let inputs = file_f(alloc, NO_PATH.as_bytes(), &[call], piece)?;
+    run_over(
+        alloc,
+        &["zero", "--bench", name],
+        inputs,
+        sink(alloc, 1000, &[])?,
+        sink(alloc, 1000, &[])?,
+    )
 }
 
 // In pieces of 4 the 20 bytes of the file take a start, five takes, and one that finds its end.
 #[test]
 fn blames_the_file_that_fails(rt: HostRuntime) -> Result<(), Fail> {
     let alloc = rt.alloc();
-    let command = words(alloc, &["zero", "--bench", "F"])?;
-    for call in 1..=8 {
-        let mut inputs = file_f(alloc, NO_PATH, &[call], 4)?;
-        let mut out = ample_sink(alloc)?;
-        let mut err = ample_sink(alloc)?;
-        let status = run(alloc, &command, &mut inputs, &mut out, &mut err);
-        let (want, text, line) = if call <= 7 {
-            (4, "", "read fault bench\n")
-        } else {
-            (0, "zero 0\nfloor\n", "")
-        };
-        assert_eq!(rt; status, want, "at call {call}");
-        assert_eq!(rt; out.bytes(), text.as_bytes(), "at call {call}");
-        assert_eq!(rt; err.bytes(), line.as_bytes(), "at call {call}");
+    for call in 1..8 {
+        read_failing(alloc, "F", call, 4)?.expect(
+            &rt,
+            4,
+            "",
+            "read fault bench\n",
+            "a failing call",
+        );
     }
-    // A name that isn't there.
-    let seen = seen_of(alloc, &["zero", "--bench", "G"], NO_PATH)?;
-    assert_eq!(rt; seen.status, 4);
-    assert_eq!(rt; seen.err.bytes(), b"read fault bench\n".as_slice());
-    // Takes of one byte give the text of whole takes.
-    let mut inputs = file_f(alloc, b"c = DFF(b)\nb = DFF(a)\na = DFF(a)\n", &[], 1)?;
-    let mut out = ample_sink(alloc)?;
-    let mut err = ample_sink(alloc)?;
-    assert_eq!(rt; run(alloc, &command, &mut inputs, &mut out, &mut err), 0);
-    assert_eq!(rt; out.bytes(), b"zero 5\nsetup b c 5\n".as_slice());
+    read_failing(alloc, "F", 8, 4)?.expect(&rt, 0, FLOOR, "", "no call that fails");
+    read_failing(alloc, "F", 100, 1)?.expect(&rt, 0, FLOOR, "", "takes of one byte");
+    read_failing(alloc, "G", 100, 4)?.expect(&rt, 4, "", "read fault bench\n", "a missing file");
     Ok(())
 }
 
+// What `zero --bench F` leaves over an output with so much room whose write number `write` fails.
+fn write_failing(alloc: Global, room: usize, write: u64) -> Result<Seen, NoMemory> {
+    let inputs = file_f(alloc, NO_PATH.as_bytes(), &[], 100)?;
+    run_over(
+        alloc,
+        &["zero", "--bench", "F"],
+        inputs,
+        sink(alloc, room, &[write])?,
+        sink(alloc, 1000, &[])?,
+    )
+}
+
+// The 13 bytes of the text take four writes of at most 4 bytes.
 #[test]
 fn blames_the_output_that_fails(rt: HostRuntime) -> Result<(), Fail> {
     let alloc = rt.alloc();
-    let command = words(alloc, &["zero", "--bench", "F"])?;
-    // The 13 bytes of the text take four writes of at most 4 bytes.
-    for (room, call, status, text) in [
-        (100, 1, 5, ""),
-        (100, 2, 5, "zero"),
-        (100, 3, 5, "zero 0\nf"),
-        (100, 4, 5, "zero 0\nfloor"),
-        (100, 5, 0, "zero 0\nfloor\n"),
-        (6, 9, 5, "zero 0"),
+    for (room, write, text) in [
+        (100, 1, ""),
+        (100, 2, "zero"),
+        (100, 3, "zero 0\nf"),
+        (100, 4, "zero 0\nfloor"),
+        (6, 9, "zero 0"),
     ] {
-        let mut inputs = file_f(alloc, NO_PATH, &[], 100)?;
-        let fails = Vec::from_slice(alloc, &[call])?;
-        let mut out = MemorySink::new(alloc, room, fails, 4)?;
-        let mut err = ample_sink(alloc)?;
-        let line = if status == 5 { "write fault\n" } else { "" };
-        assert_eq!(rt;
-            run(alloc, &command, &mut inputs, &mut out, &mut err),
-            status,
-            "at write {call}"
-        );
-        assert_eq!(rt; out.bytes(), text.as_bytes(), "at write {call}");
-        assert_eq!(rt; err.bytes(), line.as_bytes(), "at write {call}");
+        write_failing(alloc, room, write)?.expect(&rt, 5, text, "write fault\n", text);
     }
+    write_failing(alloc, 100, 5)?.expect(&rt, 0, FLOOR, "", "no write that fails");
     Ok(())
 }
 
 #[test]
 fn keeps_its_status_where_err_fails(rt: HostRuntime) -> Result<(), Fail> {
     let alloc = rt.alloc();
-    let mut inputs = file_f(alloc, NO_PATH, &[], 100)?;
-    let mut out = ample_sink(alloc)?;
-    let mut err = MemorySink::new(alloc, 100, Vec::from_slice(alloc, &[1])?, 100)?;
-    let none = words(alloc, &[])?;
-    assert_eq!(rt; run(alloc, &none, &mut inputs, &mut out, &mut err), 2);
-    assert_eq!(rt; err.bytes(), b"".as_slice());
+    let inputs = file_f(alloc, NO_PATH.as_bytes(), &[], 100)?;
+    let seen = run_over(
+        alloc,
+        &[],
+        inputs,
+        sink(alloc, 1000, &[])?,
+        sink(alloc, 1000, &[1])?,
+    )?;
+    seen.expect(&rt, 2, "", "", "an err that fails at its first write");
     Ok(())
 }

@@ -1,4 +1,4 @@
-use Rattle.std.proofs.Common.{◌≡◌, ◌∷◌, sym, refl}
+use Rattle.std.proofs.Common.{sym, refl}
 use Rattle.cts_base.proofs.LineLemmas.{lines_of-cut, lines_of-whole}
 use Rattle.cts_base.proofs.line_walk.first_line.Goals as goal
 

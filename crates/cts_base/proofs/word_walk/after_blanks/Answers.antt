@@ -1,4 +1,4 @@
-use Rattle.std.proofs.Common.{◌≡◌, ◌∷◌, sym, refl}
+use Rattle.std.proofs.Common.{sym}
 use Rattle.cts_base.proofs.WordLemmas.{words_of-blanks, words_of-all_blank, begins-after_blanks}
 use Rattle.cts_base.proofs.word_walk.after_blanks.Goals as goal
 

@@ -1,4 +1,4 @@
-use Rattle.std.proofs.Common.{◌≡◌, ◌∷◌, sym, refl}
+use Rattle.std.proofs.Common.{sym, refl}
 use Rattle.cts_base.proofs.WordLemmas.{words_of-cut, words_of-whole}
 use Rattle.cts_base.proofs.word_walk.first_word.Goals as goal
 

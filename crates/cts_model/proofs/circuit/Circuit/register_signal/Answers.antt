@@ -1,5 +1,4 @@
 -- The numbers of registers are those of signals.
-use Rattle.std.proofs.Common.{◌≡◌, ◌<◌, ℕ, length, Some}
 use Rattle.std.proofs.lemmas.Option.{slice_get_within}
 use Rattle.cts_model.proofs.CircuitLemmas.{captured, register_signal_is}
 use Rattle.cts_model.proofs.circuit.Circuit.register_signal.Goals as goal
