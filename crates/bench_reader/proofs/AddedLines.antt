@@ -1,14 +1,13 @@
 -- What is taken in from a line that was read, for each kind of line.
-use Rattle.std.proofs.Common.{◌≡◌, ℕ, ◌+◌, ◌<◌, ◌≤◌, Bool, true, false, cond, List, [], ◌∷◌, ◌++◌, length, Option, Some, None, All, IsTrue, MatchBool, Result, IfOk, Ok, Err, Bor, refl, sym, ap, ◌∙◌, subst, arith}
+use Rattle.std.proofs.Common.{◌≡◌, ℕ, ◌+◌, ◌<◌, ◌≤◌, Bool, true, false, List, [], ◌∷◌, ◌++◌, Some, IsTrue, MatchBool, Result, IfOk, Ok, Err, Bor, refl, ap, ◌∙◌, subst, arith}
 use Rattle.cts_model.specs.declared.kind.Kind.TheVariants as kinds
-use Rattle.cts_model.specs.Kinds.{kind_of}
-use Rattle.cts_model.specs.Statements.{Statement, Blank, Input, Output, Assign, Definition, statement_of, definition_of}
-use Rattle.cts_model.specs.Netlists.{definitions_in, has_kind}
+use Rattle.cts_model.specs.Statements.{Statement, Blank, Input, Output, Assign, statement_of, definition_of}
+use Rattle.cts_model.specs.Netlists.{has_kind}
 use Rattle.bench_reader.specs.declared.definitions.Definitions.{Definitions}
 use Rattle.bench_reader.specs.declared.plain_line.PlainLine.{PlainLine}
 use Rattle.bench_reader.specs.declared.plain_line.PlainLine.TheVariants as plain
 use Rattle.bench_reader.specs.Plain.{is_plain}
-use Rattle.bench_reader.specs.PlainLines.{MayDefine, IsPlainLine, ArePlainLines}
+use Rattle.bench_reader.specs.PlainLines.{MayDefine, ArePlainLines}
 use Rattle.bench_reader.specs.Taken.{HasDefinitions}
 use Rattle.bench_reader.specs.View.{Says}
 use Rattle.bench_reader.proofs.DefinitionWalk.{AddsLine}

@@ -1,17 +1,16 @@
 -- What is taken in from a line whose names are all defined, and what is missing from another.
-use Rattle.std.proofs.Common.{◌≡◌, ℕ, ◌+◌, ◌<◌, ◌≤◌, Bool, true, false, nat_eq, List, [], ◌∷◌, ◌++◌, length, map, Option, Some, None, IfSome, IsSome, is_some, All, IsTrue, MatchBool, Bor, refl, sym, ap, ◌∙◌, subst, arith}
-use Rattle.std.specs.List.{filter_map, cons_option}
+use Rattle.std.proofs.Common.{◌≡◌, ℕ, Bool, true, false, nat_eq, List, [], ◌∷◌, ◌++◌, length, map, Option, Some, None, IfSome, IsSome, is_some, All, IsTrue, MatchBool, Bor, refl, sym, ap, ◌∙◌, subst}
+use Rattle.std.specs.List.{filter_map}
 use Rattle.std.proofs.lemmas.List.{map_push}
 use Rattle.std.proofs.lemmas.List.Elements.{All-nil, All-cons, All-head, All-push}
 use Rattle.cts_model.specs.declared.kind.Kind.TheVariants as kinds
 use Rattle.cts_model.specs.declared.signal.Signal.{Signal}
-use Rattle.cts_model.specs.Kinds.{kind_of, is_register}
+use Rattle.cts_model.specs.Kinds.{is_register}
 use Rattle.cts_model.specs.Circuits.{registers_of}
-use Rattle.cts_model.specs.Statements.{Statement, Blank, Input, Output, Assign, Definition, statement_of, definition_of, uses_of, mention_of}
+use Rattle.cts_model.specs.Statements.{Statement, Blank, Input, Output, Assign, Definition, statement_of, definition_of, mention_of}
 use Rattle.cts_model.specs.Netlists.{UsesDefined, statements_in, definitions_in, signal_of, number_of, first_mentions}
 use Rattle.indexmap.specs.IndexSet.{insert_key}
 use Rattle.bench_reader.specs.declared.circuit_parts.CircuitParts.{CircuitParts}
-use Rattle.bench_reader.specs.declared.plain_line.PlainLine.{PlainLine}
 use Rattle.bench_reader.specs.declared.plain_line.PlainLine.TheVariants as plain
 use Rattle.bench_reader.specs.PlainLines.{UsesUndefined}
 use Rattle.bench_reader.specs.Taken.{HasParts}

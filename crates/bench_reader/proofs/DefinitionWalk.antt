@@ -1,5 +1,5 @@
 -- The walk that takes in what each line defines.
-use Rattle.std.proofs.Common.{◌≡◌, ℕ, Bool, true, false, List, [], ◌∷◌, ◌++◌, MatchBool, refl, sym, subst}
+use Rattle.std.proofs.Common.{◌≡◌, ℕ, Bool, true, List, [], ◌∷◌, ◌++◌, MatchBool, subst}
 use Rattle.cts_base.specs.Lines.{lines_of, numbered_lines}
 use Rattle.cts_model.specs.Netlists.{definitions_in, defined_names}
 use Rattle.bench_reader.specs.declared.definitions.Definitions.{Definitions}

@@ -1,13 +1,12 @@
 -- What the definitions of a netlist's lines keep.
-use Rattle.std.proofs.Common.{◌≡◌, ◌≢◌, ℕ, ◌+◌, ◌<◌, ◌≤◌, Bool, true, ◌&&◌, List, [], ◌∷◌, ◌++◌, length, map, Option, Some, None, IfSome, All, AllPairs, Contains, IsTrue, get_or, refl, sym, ap, ◌∙◌, subst, arith, append_assoc, append-nil}
+use Rattle.std.proofs.Common.{◌≡◌, ◌≢◌, ℕ, ◌≤◌, ◌&&◌, List, [], ◌∷◌, ◌++◌, length, Option, Some, None, IfSome, All, AllPairs, Contains, IsTrue, refl, sym, ◌∙◌, subst, arith, append_assoc, append-nil}
 use Rattle.std.specs.List.{sum_by}
-use Rattle.std.proofs.lemmas.Option.{same_Some}
 use Rattle.std.proofs.lemmas.List.{length_push, length-map, get_or-map}
 use Rattle.std.proofs.lemmas.List.Elements.{All-nil, All-push, Contains-get_or}
 use Rattle.std.proofs.lemmas.List.Quantifiers.{all_pairs_push}
 use Rattle.cts_model.specs.Names.{is_name, is_short}
 use Rattle.cts_model.specs.Kinds.{is_lawful}
-use Rattle.cts_model.specs.Statements.{Statement, Blank, Input, Output, Assign, Definition, statement_of, definition_of, names_of}
+use Rattle.cts_model.specs.Statements.{Definition, definition_of}
 use Rattle.cts_model.specs.Netlists.{IsNetlistLine, IsLawfulDefinition, definitions_in, defined_names, register_count, gate_inputs_of}
 use Rattle.bench_reader.proofs.LineStatements.{definitions_push_some, definitions_push_none}
 use Rattle.bench_reader.proofs.StatementNames.{defined_name}

@@ -1,7 +1,6 @@
 -- The statements and definitions of lines, and how one more line adds to them.
-use Rattle.std.proofs.Common.{◌≡◌, ℕ, ◌+◌, ◌<◌, ◌≤◌, List, [], ◌∷◌, ◌++◌, length, Option, Some, None, IfSome, All, Contains, IsTrue, refl, sym, ap, ◌∙◌, subst, arith, append_assoc, map}
-use Rattle.std.specs.List.{filter_map, cons_option, sum_by}
-use Rattle.std.proofs.lemmas.Option.{same_Some}
+use Rattle.std.proofs.Common.{◌≡◌, ℕ, List, [], ◌∷◌, ◌++◌, Some, None, All, refl, sym, ap, ◌∙◌, arith, append_assoc}
+use Rattle.std.specs.List.{filter_map, cons_option}
 use Rattle.std.proofs.lemmas.List.Elements.{All-nil, All-cons, All-contains, filter_map-append, Contains-append_right, Contains-get_or}
 use Rattle.cts_model.specs.Statements.{Statement, Definition, statement_of, definition_of}
 use Rattle.cts_model.specs.Netlists.{statements_in, definitions_in}

@@ -1,10 +1,9 @@
 -- The circuit that a netlist tells keeps what a circuit is to keep.
-use Rattle.std.proofs.Common.{◌≡◌, ◌≢◌, ℕ, zero, suc, ◌+◌, ◌<◌, ◌≤◌, Bool, true, false, not, cond, if◌then◌else◌, ◌&&◌, ◌==◌, nat_eq, List, [], ◌∷◌, ◌++◌, length, map, filter, Option, Some, None, IfSome, IsSome, All, AllPairs, IsTrue, position, get_or, refl, sym, ap, ◌∙◌, subst, arith}
-use Rattle.std.specs.List.{filter_map, cons_option, enumerate_from, sum_by, count_by}
+use Rattle.std.proofs.Common.{◌≡◌, ◌≢◌, ℕ, ◌+◌, ◌<◌, Bool, true, false, not, cond, if◌then◌else◌, ◌==◌, List, [], ◌∷◌, length, map, Option, Some, None, IfSome, IsSome, All, AllPairs, IsTrue, get_or, refl, sym, ap, ◌∙◌, arith}
+use Rattle.std.specs.List.{filter_map, enumerate_from, sum_by}
 use Rattle.std.specs.Option.{option_map}
 use Rattle.std.specs.Str.{bytes_eq}
 use Rattle.std.proofs.lemmas.Bool.Decides.{nat_tests}
-use Rattle.std.proofs.lemmas.Option.{same_Some}
 use Rattle.std.proofs.lemmas.List.{length-map}
 use Rattle.std.proofs.lemmas.List.Sums.{sum_by-cons}
 use Rattle.std.proofs.lemmas.List.Elements.{All-nil, All-cons, All-head, All-tail, All-map, All-filter, All-weaker, filter_passes}
@@ -12,8 +11,6 @@ use Rattle.std.proofs.lemmas.List.Quantifiers.{position-Some}
 use Rattle.std.proofs.lemmas.List.Kept.{AllPairs-filter}
 use Rattle.cts_base.specs.Lines.{lines_of}
 use Rattle.cts_model.specs.declared.kind.Kind.{Kind}
-use Rattle.cts_model.specs.declared.signal.Signal.{Signal}
-use Rattle.cts_model.specs.Names.{is_name, is_short}
 use Rattle.cts_model.specs.Kinds.{is_register, is_gate, is_lawful, kind_of}
 use Rattle.cts_model.specs.Circuits.{IsCircuit, registers_of, gate_inputs}
 use Rattle.cts_model.specs.Statements.{Statement, Blank, Input, Output, Assign, Definition, definition_of, mention_of}

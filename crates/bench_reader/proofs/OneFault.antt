@@ -1,15 +1,15 @@
 -- A text has one fault at the most, and a netlist has none.
-use Rattle.std.proofs.Common.{◌≡◌, ◌≢◌, ◌<◌, ◌⊎◌, inl, inr, ℕ, ◌+◌, List, [], ◌∷◌, ◌++◌, length, Result, Ok, Err, IfOk, IfErr, IsErrOf, IsOkUnless, refl, sym, ap, ◌∙◌, arith, subst, append_assoc, length-append}
+use Rattle.std.proofs.Common.{◌≡◌, ◌≢◌, ◌<◌, ◌⊎◌, inl, inr, ℕ, List, [], ◌∷◌, ◌++◌, length, Result, Ok, Err, IfOk, IfErr, IsErrOf, IsOkUnless, refl, sym, ap, ◌∙◌, arith, subst}
 use Rattle.std.proofs.lemmas.Bool.{cases_lt}
 use Rattle.std.specs.List.{All}
 use Rattle.cts_base.specs.Lines.{lines_of}
 use Rattle.cts_model.specs.declared.circuit.Circuit.{Circuit}
-use Rattle.cts_model.specs.Netlists.{UsesDefined, definitions_in, defined_names, register_count, statements_in}
+use Rattle.cts_model.specs.Netlists.{UsesDefined, definitions_in, defined_names, statements_in}
 use Rattle.bench_reader.specs.declared.fault.BenchFault.{BenchFault}
 use Rattle.bench_reader.specs.declared.fault.BenchFault.TheVariants.{NotYet, Undefined, NoRegisters, NoMemory}
 use Rattle.bench_reader.specs.Plain.{IsPlainNetlist}
-use Rattle.bench_reader.specs.PlainLines.{ArePlainLines, IsPlainLine, IsLine, IsFirstNotPlain, IsFirstUndefined, UsesUndefined}
-use Rattle.bench_reader.specs.Refusals.{Refuses, IsUndefinedUse, HasNoRegisters}
+use Rattle.bench_reader.specs.PlainLines.{ArePlainLines, IsFirstNotPlain, IsFirstUndefined}
+use Rattle.bench_reader.specs.Refusals.{Refuses}
 use Rattle.bench_reader.proofs.LineStatements.{statement_at}
 use Rattle.bench_reader.proofs.PlainNetlists.{line_of_plain, use_of_netlist}
 

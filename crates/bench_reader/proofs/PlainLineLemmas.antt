@@ -1,21 +1,15 @@
 -- What a plain line does to the definitions so far, and when a line isn't plain.
-use Rattle.std.proofs.Common.{◌≡◌, ℕ, ◌+◌, ◌*◌, ◌<◌, ◌≤◌, Bool, true, false, not, cond, List, [], ◌∷◌, ◌++◌, length, map, ◌⊎◌, inl, inr, Option, Some, None, IfSome, All, Contains, IsTrue, MatchBool, refl, sym, ap, ◌∙◌, subst, arith, append_assoc}
-use Rattle.std.specs.List.{filter_map, sum_by, count_by}
+use Rattle.std.proofs.Common.{◌≡◌, ℕ, false, List, [], ◌∷◌, ◌++◌, inl, inr, Option, Some, None, IfSome, All, IsTrue, refl, subst}
 use Rattle.std.specs.Option.{option_map}
-use Rattle.std.proofs.lemmas.Option.{same_Some}
-use Rattle.std.proofs.lemmas.List.{length-map, length_push, map_push}
-use Rattle.std.proofs.lemmas.List.Sums.{sum_by_push, count_by-le-length}
-use Rattle.std.proofs.lemmas.Bool.Decides.{nat_tests}
 use Rattle.cts_model.specs.declared.kind.Kind.{Kind}
 use Rattle.cts_model.specs.declared.kind.Kind.TheVariants as kinds
-use Rattle.cts_model.specs.Names.{is_short}
-use Rattle.cts_model.specs.Kinds.{kind_of, is_register, is_gate, is_lawful}
-use Rattle.cts_model.specs.Statements.{Statement, Blank, Input, Output, Assign, Definition, statement_of, definition_of, names_of}
-use Rattle.cts_model.specs.Netlists.{IsNetlistLine, IsLawfulDefinition, statements_in, definitions_in, defined_names, register_count, gate_inputs_of, has_kind}
+use Rattle.cts_model.specs.Kinds.{kind_of, is_gate}
+use Rattle.cts_model.specs.Statements.{Statement, Blank, Input, Output, Assign, Definition, definition_of}
+use Rattle.cts_model.specs.Netlists.{statements_in, definitions_in}
 use Rattle.bench_reader.specs.Plain.{is_plain, names_register}
-use Rattle.bench_reader.specs.PlainLines.{MayDefine, IsPlainLine, ArePlainLines}
+use Rattle.bench_reader.specs.PlainLines.{IsPlainLine, ArePlainLines}
 use Rattle.bench_reader.proofs.Lists.{split_push, All-filter_map}
-use Rattle.bench_reader.proofs.LineStatements.{each_statement, definitions_push_some, definitions_push_none}
+use Rattle.bench_reader.proofs.LineStatements.{each_statement}
 
 -- what a plain statement defines isn't a gate
 abbrev pub GivesNoGate : Definition → Type 0

@@ -1,5 +1,5 @@
 -- When a text is a netlist without gates, and that no netlist is refused.
-use Rattle.std.proofs.Common.{◌≡◌, ℕ, ◌<◌, ◌≤◌, Bool, true, false, List, [], ◌∷◌, ◌++◌, length, map, Option, Some, None, All, IsTrue, get_or, Contains, refl, sym, ap, ◌∙◌, subst, arith, true≢false}
+use Rattle.std.proofs.Common.{◌≡◌, ℕ, ◌<◌, false, List, [], ◌∷◌, length, map, Option, Some, None, All, IsTrue, get_or, Contains, refl, sym, ap, ◌∙◌, subst, arith, true≢false}
 use Rattle.std.specs.Option.{IsSomeAnd}
 use Rattle.std.specs.List.{slice_get}
 use Rattle.std.proofs.lemmas.Option.{get_or_from_slice_get, slice_get_within}
@@ -9,14 +9,13 @@ use Rattle.cts_model.specs.declared.signal.Signal.{Signal}
 use Rattle.cts_model.specs.declared.circuit.Circuit.{Circuit}
 use Rattle.cts_model.specs.Kinds.{is_gate}
 use Rattle.cts_model.specs.Circuits.{IsCircuit, registers_of}
-use Rattle.cts_model.specs.Paths.{Reads, Follows, IsLoop}
-use Rattle.cts_model.specs.Statements.{statement_of}
+use Rattle.cts_model.specs.Paths.{Reads, IsLoop}
 use Rattle.cts_model.specs.Netlists.{IsNetlist, AcceptsNetlist, UsesDefined, statements_in, definitions_in, defined_names, register_count, signal_of, signals_of, outputs_of}
 use Rattle.bench_reader.specs.declared.fault.BenchFault.{BenchFault}
 use Rattle.bench_reader.specs.declared.fault.BenchFault.TheVariants as faults
 use Rattle.bench_reader.specs.declared.circuit_parts.CircuitParts.{CircuitParts}
 use Rattle.bench_reader.specs.Plain.{IsPlainNetlist, is_plain}
-use Rattle.bench_reader.specs.PlainLines.{IsPlainLine, ArePlainLines, IsFirstNotPlain, IsFirstUndefined}
+use Rattle.bench_reader.specs.PlainLines.{ArePlainLines, IsFirstNotPlain, IsFirstUndefined}
 use Rattle.bench_reader.specs.Refusals.{RefusesLine, RefusesUse, Refuses, HasNoRegisters}
 use Rattle.bench_reader.specs.Taken.{HasParts}
 use Rattle.bench_reader.proofs.LineStatements.{statement_at}

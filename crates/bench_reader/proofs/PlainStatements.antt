@@ -1,21 +1,18 @@
 -- What each kind of plain line adds to the definitions so far.
-use Rattle.std.proofs.Common.{◌≡◌, ℕ, ◌+◌, ◌*◌, ◌<◌, ◌≤◌, Bool, true, false, not, cond, List, [], ◌∷◌, ◌++◌, length, map, Option, Some, None, IfSome, All, Contains, IsTrue, MatchBool, refl, sym, ap, ◌∙◌, subst, arith, append_assoc}
-use Rattle.std.specs.List.{filter_map, sum_by, count_by}
-use Rattle.std.specs.Option.{option_map}
+use Rattle.std.proofs.Common.{◌≡◌, ℕ, ◌+◌, ◌≤◌, cond, List, [], ◌∷◌, ◌++◌, length, Some, None, IfSome, All, IsTrue, sym, ap, ◌∙◌, subst, arith}
 use Rattle.std.proofs.lemmas.Option.{same_Some}
-use Rattle.std.proofs.lemmas.List.{length-map, length_push, map_push}
+use Rattle.std.proofs.lemmas.List.{length-map, map_push}
 use Rattle.std.proofs.lemmas.List.Sums.{sum_by_push}
-use Rattle.cts_model.specs.declared.kind.Kind.TheVariants as kinds
 use Rattle.cts_model.specs.Names.{is_short}
-use Rattle.cts_model.specs.Kinds.{kind_of, is_register, is_gate, is_lawful}
-use Rattle.cts_model.specs.Statements.{Statement, Blank, Input, Output, Assign, Definition, statement_of, definition_of, names_of}
-use Rattle.cts_model.specs.Netlists.{IsNetlistLine, IsLawfulDefinition, statements_in, definitions_in, defined_names, register_count, gate_inputs_of, has_kind}
+use Rattle.cts_model.specs.Kinds.{is_register, is_lawful}
+use Rattle.cts_model.specs.Statements.{Statement, Definition, statement_of, definition_of, names_of}
+use Rattle.cts_model.specs.Netlists.{IsNetlistLine, IsLawfulDefinition, definitions_in, defined_names, register_count, gate_inputs_of, has_kind}
 use Rattle.bench_reader.specs.declared.definitions.Definitions.{Definitions}
-use Rattle.bench_reader.specs.Plain.{is_plain, names_register}
+use Rattle.bench_reader.specs.Plain.{is_plain}
 use Rattle.bench_reader.specs.PlainLines.{MayDefine, IsPlainLine, ArePlainLines}
 use Rattle.bench_reader.specs.Taken.{HasDefinitions}
 use Rattle.bench_reader.proofs.LineStatements.{definitions_push_some, definitions_push_none}
-use Rattle.bench_reader.proofs.LawfulDefinitions.{AreLawful, lawful_lines}
+use Rattle.bench_reader.proofs.LawfulDefinitions.{lawful_lines}
 
 abbrev pub HasShortNames : Statement → Type 0
 HasShortNames statement = All (λ name. IsTrue (is_short name)) (names_of statement)

@@ -1,10 +1,10 @@
 -- The netlists that are read so far: those of primary inputs, primary outputs and registers, without gates.
-use Rattle.std.specs.Prelude.{◌≡◌, ℕ, Bool, true, false, IsTrue, IsFalse, List, [], ◌∷◌, All, Option, Some, None}
+use Rattle.std.specs.Prelude.{ℕ, Bool, true, false, IsTrue, IsFalse, List, [], ◌∷◌, All, Option, Some, None}
 use Rattle.cts_base.specs.Lines.{lines_of}
 use Rattle.cts_model.specs.declared.kind.Kind.{Kind}
 use Rattle.cts_model.specs.declared.circuit.Circuit.{Circuit}
 use Rattle.cts_model.specs.Kinds.{is_gate, is_register, kind_of}
-use Rattle.cts_model.specs.Statements.{Statement, Blank, Input, Output, Assign}
+use Rattle.cts_model.specs.Statements.{Statement, Assign}
 use Rattle.cts_model.specs.Netlists.{IsNetlist, statements_in}
 
 abbrev pub names_register : Option Kind → Bool

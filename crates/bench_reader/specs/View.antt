@@ -1,5 +1,5 @@
 -- What the reader's tokens and lines are in the terms of the format.
-use Rattle.std.specs.Prelude.{◌≡◌, ℕ, List, [], ◌∷◌, Option, Some}
+use Rattle.std.specs.Prelude.{◌≡◌, ℕ, List, [], ◌∷◌, Some}
 use Rattle.bench_reader.specs.declared.token.Token.{Token}
 use Rattle.bench_reader.specs.declared.token.Token.TheVariants as read
 use Rattle.bench_reader.specs.declared.plain_line.PlainLine.{PlainLine}
