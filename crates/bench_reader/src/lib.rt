@@ -1,4 +1,4 @@
-//! Reads netlists in the ISCAS'89 `.bench` format.
+//! Reads netlists in the ISCAS'89 `.bench` format, so far those without gates.
 #![tactic(auto)]
 
 mod circuit_parts;

@@ -26,6 +26,7 @@ impl Model for Names {
 }
 
 impl Names {
+    /// No names. It takes no memory.
     pub(crate) fn new(alloc: Global) -> Names
         ensures { result ≡ [] }
     {
