@@ -14,16 +14,18 @@ use Rattle.bench_reader.specs.declared.circuit_parts.CircuitParts.{CircuitParts}
 use Rattle.bench_reader.specs.declared.plain_line.PlainLine.TheVariants as plain
 use Rattle.bench_reader.specs.PlainLines.{UsesUndefined}
 use Rattle.bench_reader.specs.Taken.{HasParts}
-use Rattle.bench_reader.proofs.AddedLines.{IsReadAs}
+use Rattle.bench_reader.specs.View.{IsReadAs}
 use Rattle.bench_reader.proofs.Lists.{filter_map_push_none, filter_map_push_some}
 use Rattle.bench_reader.proofs.LineStatements.{statements_push, definitions_push_some, definitions_push_none}
 use Rattle.bench_reader.proofs.PartLists.{registers_push_none, registers_push_some, mentions_push}
 
 module _ (names : List (List ℕ)) (line : List ℕ) (old new : CircuitParts) (earlier : List (List ℕ)) (has : HasParts names old earlier) where
+  -- the lines with the next one
   abbrev Next : List (List ℕ)
   Next = earlier ++ line ∷ []
 
   module _ (statement : Statement) (form : statement_of line ≡ Some statement) where
+    -- the line uses defined names as those before it do
     defined_push : UsesDefined names statement → All (UsesDefined names) (statements_in Next)
     defined_push uses = rw (statements_push earlier line form) (All-push (UsesDefined names) (statements_in earlier) statement has.defined uses)
 
@@ -43,15 +45,19 @@ module _ (names : List (List ℕ)) (line : List ℕ) (old new : CircuitParts) (e
         let defined : definitions_in Next ≡ definitions_in earlier ++ definition ∷ [] = definitions_push_some earlier line form some in
         grown ∙ ap (λ l. l ++ signal_of names definition ∷ []) has.signals_are ∙ sym (ap (map (signal_of names)) defined ∙ map_push (signal_of names) (definitions_in earlier) definition)
 
+  -- no more signals
   registers_stay : new.signals ≡ old.signals → new.registers ≡ old.registers → new.registers ≡ registers_of new.signals
   registers_stay same_signals same = rw same_signals (same ∙ has.registers_are)
 
+  -- one that is no register
   registers_after : (signal : Signal) → is_register signal.kind ≡ false → new.signals ≡ old.signals ++ signal ∷ [] → new.registers ≡ old.registers → new.registers ≡ registers_of new.signals
   registers_after signal other grown same = rw (grown, registers_push_none old.signals signal other) (same ∙ has.registers_are)
 
+  -- a register
   registers_grow : (signal : Signal) → is_register signal.kind ≡ true → new.signals ≡ old.signals ++ signal ∷ [] → new.registers ≡ old.registers ++ length old.signals ∷ [] → new.registers ≡ registers_of new.signals
   registers_grow signal register grown more = rw (grown, registers_push_some old.signals signal register) (more ∙ ap (λ l. l ++ length old.signals ∷ []) has.registers_are)
 
+  -- a primary input
   pub input_told : (name : Bor (List ℕ)) → IsReadAs line (plain.Input name) → new.signals ≡ old.signals ++ record { name = name.now; kind = kinds.Input; fan_in = [] } ∷ [] → new.registers ≡ old.registers → new.outputs.keys ≡ old.outputs.keys → HasParts names new Next
   input_told name (statement, form, says, short) grown same outputs =
       let form_here : statement_of line ≡ Some (Input name.now) = form ∙ ap Some says in
@@ -62,6 +68,7 @@ module _ (names : List (List ℕ)) (line : List ℕ) (old new : CircuitParts) (e
         defined = defined_push (Input name.now) form_here (All-nil _);
       }
 
+  -- a primary output, if its name is defined
   pub output_told : (name : Bor (List ℕ)) → IsReadAs line (plain.Output name) → (added : Bool) → added ≡ is_some (number_of names name.now) → new.signals ≡ old.signals → new.registers ≡ old.registers
       → IfSome (number_of names name.now) (λ number. new.outputs.keys ≡ insert_key nat_eq old.outputs.keys number) → MatchBool added (HasParts names new Next) (UsesUndefined names line)
   output_told name (statement, form, says, short) added answer signals registers outputs = rw answer (at (number_of names name.now) refl outputs)
@@ -81,6 +88,7 @@ module _ (names : List (List ℕ)) (line : List ℕ) (old new : CircuitParts) (e
             defined = defined_push (Output name.now) form_here (All-cons (λ n. IsSome (number_of names n)) name.now [] (rw some refl) (All-nil _));
           }
 
+  -- a register, if its input is defined
   pub register_told : (name input : Bor (List ℕ)) → IsReadAs line (plain.Register name input) → (added : Bool) → added ≡ is_some (number_of names input.now)
       → IfSome (number_of names input.now) (λ number. new.signals ≡ old.signals ++ record { name = name.now; kind = kinds.Dff; fan_in = number ∷ [] } ∷ [])
       → (IsTrue added → new.registers ≡ old.registers ++ length old.signals ∷ []) → new.outputs.keys ≡ old.outputs.keys → MatchBool added (HasParts names new Next) (UsesUndefined names line)

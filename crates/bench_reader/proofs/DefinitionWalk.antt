@@ -20,6 +20,7 @@ abbrev pub AddsLine : Bool → List ℕ → Definitions → Definitions → Type
 AddsLine added line old new = (earlier : List (List ℕ)) → ArePlainLines earlier → HasDefinitions old earlier
     → MatchBool added (IsPlainLine earlier line × HasDefinitions new (earlier ++ line ∷ [])) (IsPlainLine earlier line → ⊥)
 
+-- at the start
 pub defines_none : {text : List ℕ} {left : List (ℕ × List ℕ)} {definitions : Definitions} → left ≡ numbered_lines text → HasDefinitions definitions [] → DefinesPassed text left definitions
 defines_none {text} {left} all has = record { passed = []; walk = none_passed text left all; plain = no_plain_lines; has = has }
 
@@ -41,5 +42,6 @@ module _ {text : List ℕ} {left : List (ℕ × List ℕ)} {definitions : Defini
   pub all_plain : DefinesPassed text left definitions → left ≡ [] → ArePlainLines (lines_of text)
   all_plain before none = subst ArePlainLines (all_passed before.walk none) before.plain
 
+  -- and all names are known
   pub all_defined : DefinesPassed text left definitions → left ≡ [] → definitions.names ≡ defined_names (definitions_in (lines_of text))
   all_defined before none = subst (λ lines. definitions.names ≡ defined_names (definitions_in lines)) (all_passed before.walk none) before.has.names

@@ -10,6 +10,7 @@ use Rattle.cts_model.specs.Netlists.{number_of}
 use Rattle.bench_reader.specs.PlainLines.{MayDefine}
 
 module _ {X Y : Type 0} (f : X → Y) (test : Y → Bool) where
+  -- so many items before the first that passes
   position_or_len-map : (xs : List X) → position_or_len test (map f xs) ≡ position_or_len (λ x. test (f x)) xs
   position_or_len-map [] = refl
   position_or_len-map (x ∷ xs) = ap (λ n. cond (not (test (f x))) (1 + n) 0) (position_or_len-map xs)
@@ -18,6 +19,7 @@ module _ {X Y : Type 0} (f : X → Y) (test : Y → Bool) where
   position-map : (xs : List X) → position test (map f xs) ≡ position (λ x. test (f x)) xs
   position-map xs = rw (position_or_len-map xs, length-map xs f) refl
 
+  -- an item passes where it did before
   pub list_any-map : (xs : List X) → list_any test (map f xs) ≡ list_any (λ x. test (f x)) xs
   list_any-map [] = refl
   list_any-map (x ∷ xs) = ap (λ b. test (f x) || b) (list_any-map xs)

@@ -7,6 +7,7 @@ use Rattle.cts_model.specs.Netlists.{statements_in, definitions_in}
 use Rattle.bench_reader.proofs.Lists.{filter_map_push_none, filter_map_push_some}
 
 module _ (earlier : List (List ℕ)) (line : List ℕ) {statement : Statement} where
+  -- one more line, with its statement
   pub statements_push : statement_of line ≡ Some statement → statements_in (earlier ++ line ∷ []) ≡ statements_in earlier ++ statement ∷ []
   statements_push form = filter_map_push_some statement_of earlier line statement form
 

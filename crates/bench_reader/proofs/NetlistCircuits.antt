@@ -12,7 +12,7 @@ use Rattle.std.proofs.lemmas.List.Kept.{AllPairs-filter}
 use Rattle.cts_base.specs.Lines.{lines_of}
 use Rattle.cts_model.specs.declared.kind.Kind.{Kind}
 use Rattle.cts_model.specs.Kinds.{is_register, is_gate, is_lawful, kind_of}
-use Rattle.cts_model.specs.Circuits.{IsCircuit, registers_of, gate_inputs}
+use Rattle.cts_model.specs.Circuits.{IsCircuit, register_number, registers_of, gate_inputs}
 use Rattle.cts_model.specs.Statements.{Statement, Blank, Input, Output, Assign, Definition, definition_of, mention_of}
 use Rattle.cts_model.specs.Netlists.{IsNetlist, UsesDefined, statements_in, definitions_in, defined_names, register_count, gate_inputs_of, number_of, signal_of, signals_of, outputs_of, first_mentions}
 use Rattle.bench_reader.proofs.Lists.{All-filter_map, length-filter_map, AllPairs-map, AllPairs-cons}
@@ -30,6 +30,7 @@ number_within names name = at (number_of names name) refl
 pub numbers_within : (names used : List (List ℕ)) → All (λ number. number < length names) (filter_map (number_of names) used)
 numbers_within names used = All-filter_map (number_of names) (λ _. Unit {0}) (λ number. number < length names) (λ name _. number_within names name) used (λ k d within. tt)
 
+-- what a definition reads is defined
 abbrev HasDefinedInputs : List (List ℕ) → Definition → Type 0
 HasDefinedInputs names definition = All (λ name. IsSome (number_of names name)) definition.inputs
 
@@ -44,15 +45,15 @@ inputs_defined names (Assign name word inputs) uses = at (kind_of word)
     at None = tt
     at (Some kind) = uses
 
--- as many registers are among the signals as are defined
+-- as many registers are among the signals as are defined, from whatever number on they count
 register_places : (names : List (List ℕ)) (n : ℕ) (definitions : List Definition)
-    → length (filter_map (λ numbered. if is_register numbered.1.kind then Some numbered.0 else None) (enumerate_from n (map (signal_of names) definitions))) ≡ register_count definitions
+    → length (filter_map register_number (enumerate_from n (map (signal_of names) definitions))) ≡ register_count definitions
 register_places names n [] = refl
 register_places names n (definition ∷ definitions) = at (is_register definition.kind) refl (register_places names (n + 1) definitions)
   where
     at : (b : Bool) → is_register definition.kind ≡ b
-        → length (filter_map (λ numbered. if is_register numbered.1.kind then Some numbered.0 else None) (enumerate_from (n + 1) (map (signal_of names) definitions))) ≡ register_count definitions
-        → length (filter_map (λ numbered. if is_register numbered.1.kind then Some numbered.0 else None) (enumerate_from n (map (signal_of names) (definition ∷ definitions)))) ≡ register_count (definition ∷ definitions)
+        → length (filter_map register_number (enumerate_from (n + 1) (map (signal_of names) definitions))) ≡ register_count definitions
+        → length (filter_map register_number (enumerate_from n (map (signal_of names) (definition ∷ definitions)))) ≡ register_count (definition ∷ definitions)
     at true register rest =
         let counted : cond {A = ℕ} (is_register definition.kind) 1 0 ≡ 1 = rw register refl in
         let more : register_count (definition ∷ definitions) ≡ 1 + register_count definitions = sum_by-cons (λ d. cond (is_register d.kind) 1 0) definition definitions ∙ ap (λ n. n + register_count definitions) counted in
@@ -62,6 +63,7 @@ register_places names n (definition ∷ definitions) = at (is_register definitio
         let more : register_count (definition ∷ definitions) ≡ 0 + register_count definitions = sum_by-cons (λ d. cond (is_register d.kind) 1 0) definition definitions ∙ ap (λ n. n + register_count definitions) counted in
         rw (more, other) (omega (arith, rest))
 
+-- so they are from the first on
 pub length-registers_of : (names : List (List ℕ)) (definitions : List Definition) → length (registers_of (map (signal_of names) definitions)) ≡ register_count definitions
 length-registers_of names definitions = register_places names 0 definitions
 

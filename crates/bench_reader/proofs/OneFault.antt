@@ -11,13 +11,14 @@ use Rattle.bench_reader.specs.Plain.{IsPlainNetlist}
 use Rattle.bench_reader.specs.PlainLines.{ArePlainLines, IsFirstNotPlain, IsFirstUndefined}
 use Rattle.bench_reader.specs.Refusals.{Refuses}
 use Rattle.bench_reader.proofs.LineStatements.{statement_at}
-use Rattle.bench_reader.proofs.PlainNetlists.{line_of_plain, use_of_netlist}
+use Rattle.bench_reader.proofs.PlainNetlists.{plain_lines_of}
 
 -- of two places in a list, the one further on has the other among the items before it
 pub record IsBehind {X : Type 0} (front further : List X) (item : X) : Type 0 where
   pub between : List X
   pub split : further ≡ front ++ item ∷ between
 
+-- the place with fewer items before it
 behind : {X : Type 0} (front : List X) (item : X) (rest : List X) (further : List X) (other : X) (others : List X) → front ++ item ∷ rest ≡ further ++ other ∷ others → length front < length further → IsBehind front further item
 behind [] item rest [] other others same shorter = absurd (omega arith)
 behind [] item rest (x ∷ further) other others same shorter = record { between = further; split = ap (λ y. y ∷ further) (cc same) }
@@ -28,40 +29,44 @@ behind (y ∷ front) item rest (x ∷ further) other others same shorter =
     let found = behind front item rest further other others tails (omega arith) in
     record { between = found.between; split = λ i. sym heads i ∷ found.split i }
 
--- two lines that are the first of a kind are one
-same_number : (text : List ℕ) (number other : ℕ) → IsFirstNotPlain text number → IsFirstNotPlain text other → number ≡ other
-same_number text number other first first' = elim (cases_lt (length first.earlier) (length first'.earlier)) [
-  | inl before ↦
-      let found = behind first.earlier first.line first.place.later first'.earlier first'.line first'.place.later (sym first.place.split ∙ first'.place.split) before in
-      absurd (first.refused (first'.plain.each first.earlier first.line found.between found.split))
-  | inr not_before ↦ elim (cases_lt (length first'.earlier) (length first.earlier)) [
-    | inl after ↦
-        let found = behind first'.earlier first'.line first'.place.later first.earlier first.line first.place.later (sym first'.place.split ∙ first.place.split) after in
-        absurd (first'.refused (first.plain.each first'.earlier first'.line found.between found.split))
-    | inr not_after ↦ omega (arith, first.place.number_is, first'.place.number_is)
+-- two places of which neither is behind the other are one
+same_place : {X : Type 0} (front : List X) (item : X) (rest : List X) (further : List X) (other : X) (others : List X) → front ++ item ∷ rest ≡ further ++ other ∷ others
+    → (IsBehind front further item → ⊥) → (IsBehind further front other → ⊥) → length front ≡ length further
+same_place front item rest further other others same not_behind not_before = elim (cases_lt (length front) (length further)) [
+  | inl before ↦ absurd (not_behind (behind front item rest further other others same before))
+  | inr not_less ↦ elim (cases_lt (length further) (length front)) [
+    | inl after ↦ absurd (not_before (behind further other others front item rest (sym same) after))
+    | inr not_more ↦ omega arith
   ]
 ]
+
+-- the first line that isn't plain has one number
+same_number : (text : List ℕ) (number other : ℕ) → IsFirstNotPlain text number → IsFirstNotPlain text other → number ≡ other
+same_number text number other first first' =
+    let place = same_place first.earlier first.line first.place.later first'.earlier first'.line first'.place.later (sym first.place.split ∙ first'.place.split)
+        (λ found. first.refused (first'.plain.each first.earlier first.line found.between found.split))
+        (λ found. first'.refused (first.plain.each first'.earlier first'.line found.between found.split)) in
+    omega (arith, place, first.place.number_is, first'.place.number_is)
 
 -- a line that isn't plain isn't among plain lines
 not_among : (text : List ℕ) (number : ℕ) → IsFirstNotPlain text number → ArePlainLines (lines_of text) → ⊥
 not_among text number first plain = first.refused (plain.each first.earlier first.line first.place.later first.place.split)
 
--- the statement of a line among others that use defined names uses them too
+-- a line that uses an undefined name isn't among lines that use defined ones
 among : (text : List ℕ) (number : ℕ) (first : IsFirstUndefined text number) (further : List (List ℕ)) → IsBehind first.earlier further first.line → All (UsesDefined (defined_names (definitions_in (lines_of text)))) (statements_in further) → ⊥
 among text number first further found defined =
     first.refused.undefined (statement_at (UsesDefined (defined_names (definitions_in (lines_of text)))) first.earlier first.line found.between first.refused.statement first.refused.form
     (subst (λ lines. All (UsesDefined (defined_names (definitions_in (lines_of text)))) (statements_in lines)) found.split defined))
 
+-- the first line that uses a name which no line defines has one number
 same_use : (text : List ℕ) (number other : ℕ) → IsFirstUndefined text number → IsFirstUndefined text other → number ≡ other
-same_use text number other first first' = elim (cases_lt (length first.earlier) (length first'.earlier)) [
-  | inl before ↦ absurd (among text number first first'.earlier (behind first.earlier first.line first.place.later first'.earlier first'.line first'.place.later (sym first.place.split ∙ first'.place.split) before) first'.defined)
-  | inr not_before ↦ elim (cases_lt (length first'.earlier) (length first.earlier)) [
-    | inl after ↦ absurd (among text other first' first.earlier (behind first'.earlier first'.line first'.place.later first.earlier first.line first.place.later (sym first'.place.split ∙ first.place.split) after) first.defined)
-    | inr not_after ↦ omega (arith, first.place.number_is, first'.place.number_is)
-  ]
-]
+same_use text number other first first' =
+    let place = same_place first.earlier first.line first.place.later first'.earlier first'.line first'.place.later (sym first.place.split ∙ first'.place.split)
+        (λ found. among text number first first'.earlier found first'.defined)
+        (λ found. among text other first' first.earlier found first.defined) in
+    omega (arith, place, first.place.number_is, first'.place.number_is)
 
--- a line with an undefined name isn't among lines that use defined ones
+-- so it isn't in a text whose lines all do
 not_defined : (text : List ℕ) (number : ℕ) → IsFirstUndefined text number → All (UsesDefined (defined_names (definitions_in (lines_of text)))) (statements_in (lines_of text)) → ⊥
 not_defined text number first defined = among text number first (lines_of text) (record { between = first.place.later; split = first.place.split }) defined
 
@@ -82,8 +87,8 @@ one_fault text NoRegisters NoRegisters named none none' = inl refl
 -- a netlist without gates has none
 pub no_fault : (text : List ℕ) (fault : BenchFault) → IsPlainNetlist text → Refuses text fault → fault ≡ NoMemory
 no_fault text NoMemory netlist cause = refl
-no_fault text (NotYet number) netlist first = absurd (line_of_plain text number netlist first)
-no_fault text (Undefined number) netlist undefined = absurd (use_of_netlist text number netlist.netlist undefined.first)
+no_fault text (NotYet number) netlist first = absurd (not_among text number first (plain_lines_of text netlist))
+no_fault text (Undefined number) netlist undefined = absurd (not_defined text number undefined.first netlist.netlist.defined)
 no_fault text NoRegisters netlist none = let some = netlist.netlist.some_register in absurd (omega (arith, none.none))
 
 -- an answer that accepts only netlists and names only faults that are there accepts each

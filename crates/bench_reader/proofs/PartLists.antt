@@ -1,25 +1,24 @@
 -- The registers and the first mentions, where one more comes.
-use Rattle.std.proofs.Common.{◌≡◌, ℕ, suc, ◌+◌, Bool, true, false, not, if◌then◌else◌, ◌||◌, ◌==◌, nat_eq, List, [], ◌∷◌, ◌++◌, length, filter, Option, Some, None, refl, ap, ◌∙◌, arith, append-nil}
+use Rattle.std.proofs.Common.{◌≡◌, ℕ, suc, ◌+◌, Bool, true, false, not, if◌then◌else◌, ◌||◌, ◌==◌, nat_eq, List, [], ◌∷◌, ◌++◌, length, filter, refl, ap, ◌∙◌, arith, append-nil}
 use Rattle.std.specs.List.{filter_map, enumerate_from, list_any}
 use Rattle.std.proofs.lemmas.Bool.Decides.{nat_tests}
 use Rattle.std.proofs.lemmas.List.Elements.{filter-append}
 use Rattle.cts_model.specs.declared.signal.Signal.{Signal}
 use Rattle.cts_model.specs.Kinds.{is_register}
-use Rattle.cts_model.specs.Circuits.{registers_of}
+use Rattle.cts_model.specs.Circuits.{register_number, registers_of}
 use Rattle.cts_model.specs.Netlists.{first_mentions}
 use Rattle.indexmap.specs.IndexSet.{insert_key}
 use Rattle.bench_reader.proofs.Lists.{filter_map_push_none, filter_map_push_some}
 
+-- the items with their numbers
 enumerate_push : {X : Type 0} (n : ℕ) (xs : List X) (x : X) → enumerate_from n (xs ++ x ∷ []) ≡ enumerate_from n xs ++ (n + length xs, x) ∷ []
 enumerate_push n [] x = let here : n ≡ n + 0 = omega arith in ap (λ m. (m, x) ∷ []) here
 enumerate_push n (y ∷ xs) x =
     let place : n + 1 + length xs ≡ n + suc (length xs) = omega arith in
     ap (λ l. (n, y) ∷ l) (enumerate_push (n + 1) xs x ∙ ap (λ m. enumerate_from (n + 1) xs ++ (m, x) ∷ []) place)
 
-abbrev register_number : ℕ × Signal → Option ℕ
-register_number numbered = if is_register numbered.1.kind then Some numbered.0 else None
-
 module _ (signals : List Signal) (signal : Signal) where
+  -- the signals with their numbers
   numbered_push : registers_of (signals ++ signal ∷ []) ≡ filter_map register_number (enumerate_from 0 signals ++ (length signals, signal) ∷ [])
   numbered_push = ap (filter_map register_number) (enumerate_push 0 signals signal ∙ ap (λ m. enumerate_from 0 signals ++ (m, signal) ∷ []) (omega arith))
 
@@ -31,11 +30,9 @@ module _ (signals : List Signal) (signal : Signal) where
   pub registers_push_some : is_register signal.kind ≡ true → registers_of (signals ++ signal ∷ []) ≡ registers_of signals ++ length signals ∷ []
   registers_push_some register = numbered_push ∙ filter_map_push_some register_number (enumerate_from 0 signals) (length signals, signal) (length signals) (rw register refl)
 
+-- what a first mention keeps behind it
 abbrev differs : ℕ → ℕ → Bool
 differs number other = not (other == number)
-
-same_number : (m n : ℕ) → nat_eq m n ≡ true → m ≡ n
-same_number m n e = grind (arith, nat_tests)
 
 -- a number that is kept away is found no more, and any other is found as before
 any_differs : (number last : ℕ) → nat_eq last number ≡ false → (numbers : List ℕ) → list_any (nat_eq last) (filter (differs number) numbers) ≡ list_any (nat_eq last) numbers

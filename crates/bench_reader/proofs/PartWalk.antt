@@ -10,33 +10,34 @@ use Rattle.bench_reader.specs.declared.circuit_parts.CircuitParts.{CircuitParts}
 use Rattle.bench_reader.specs.PlainLines.{IsPlainLine, ArePlainLines, UsesUndefined, IsFirstUndefined}
 use Rattle.bench_reader.specs.Taken.{HasParts}
 use Rattle.bench_reader.proofs.LineSplits.{IsPassed, none_passed, all_passed, next_line}
-use Rattle.bench_reader.proofs.LawfulDefinitions.{lawful_lines}
+use Rattle.bench_reader.proofs.LawfulDefinitions.{plain_lawful}
 
 -- this is what the lines so far tell
-pub record TellsPassed (text : List ℕ) (left : List (ℕ × List ℕ)) (names : List (List ℕ)) (signals : CircuitParts) : Type 0 where
+pub record TellsPassed (text : List ℕ) (left : List (ℕ × List ℕ)) (names : List (List ℕ)) (parts : CircuitParts) : Type 0 where
   pub passed : List (List ℕ)
   pub walk : IsPassed text left passed
-  pub has : HasParts names signals passed
+  pub has : HasParts names parts passed
 
 -- what `add_line` says of a line
 abbrev pub TellsLine : Bool → List (List ℕ) → List ℕ → CircuitParts → CircuitParts → Type 0
 TellsLine added names line old new = (earlier : List (List ℕ)) → HasParts names old earlier → MatchBool added (HasParts names new (earlier ++ line ∷ [])) (UsesUndefined names line)
 
-pub tells_none : {text : List ℕ} {left : List (ℕ × List ℕ)} {names : List (List ℕ)} {signals : CircuitParts} → left ≡ numbered_lines text → HasParts names signals [] → TellsPassed text left names signals
+-- at the start
+pub tells_none : {text : List ℕ} {left : List (ℕ × List ℕ)} {names : List (List ℕ)} {parts : CircuitParts} → left ≡ numbered_lines text → HasParts names parts [] → TellsPassed text left names parts
 tells_none {text} {left} all has = record { passed = []; walk = none_passed text left all; has = has }
 
 -- the lines so far define no more than all lines
 definitions_before : (passed later : List (List ℕ)) → length (definitions_in passed) ≤ length (definitions_in (passed ++ later))
 definitions_before passed later =
-    let parts : definitions_in (passed ++ later) ≡ definitions_in passed ++ definitions_in later = ap (filter_map definition_of) (filter_map-append statement_of passed later) ∙ filter_map-append definition_of (statements_in passed) (statements_in later) in
-    rw parts (omega (arith, length-append (definitions_in passed) (definitions_in later)))
+    let joined : definitions_in (passed ++ later) ≡ definitions_in passed ++ definitions_in later = ap (filter_map definition_of) (filter_map-append statement_of passed later) ∙ filter_map-append definition_of (statements_in passed) (statements_in later) in
+    rw joined (omega (arith, length-append (definitions_in passed) (definitions_in later)))
 
 -- so there is room for one more
-pub few_so_far : {text : List ℕ} {left : List (ℕ × List ℕ)} {names : List (List ℕ)} {signals : CircuitParts} → ArePlainLines (lines_of text) → TellsPassed text left names signals → length signals.signals ≤ 65536
-few_so_far {text} {left} {names} {signals} plain before =
-    let all = (lawful_lines (lines_of text) (λ earlier line later split. (plain.each earlier line later split).lawful)).few_signals in
+pub few_so_far : {text : List ℕ} {left : List (ℕ × List ℕ)} {names : List (List ℕ)} {parts : CircuitParts} → ArePlainLines (lines_of text) → TellsPassed text left names parts → length parts.signals ≤ 65536
+few_so_far {text} {left} {names} {parts} plain before =
+    let all = (plain_lawful (lines_of text) plain).few_signals in
     let all_here : length (definitions_in (before.passed ++ before.walk.later)) ≤ 65536 = rw (← before.walk.split) all in
-    let count : length signals.signals ≡ length (definitions_in before.passed) = ap length before.has.signals_are ∙ length-map (definitions_in before.passed) (signal_of names) in
+    let count : length parts.signals ≡ length (definitions_in before.passed) = ap length before.has.signals_are ∙ length-map (definitions_in before.passed) (signal_of names) in
     omega (arith, count, definitions_before before.passed before.walk.later)
 
 module _ {text : List ℕ} {left more : List (ℕ × List ℕ)} {number : ℕ} {line : List ℕ} {names : List (List ℕ)} {old : CircuitParts} where
@@ -59,5 +60,5 @@ module _ {text : List ℕ} {left more : List (ℕ × List ℕ)} {number : ℕ} {
   }
 
 -- at the end
-pub all_told : {text : List ℕ} {left : List (ℕ × List ℕ)} {names : List (List ℕ)} {signals : CircuitParts} → TellsPassed text left names signals → left ≡ [] → HasParts names signals (lines_of text)
-all_told {text} {left} {names} {signals} before none = subst (HasParts names signals) (all_passed before.walk none) before.has
+pub all_told : {text : List ℕ} {left : List (ℕ × List ℕ)} {names : List (List ℕ)} {parts : CircuitParts} → TellsPassed text left names parts → left ≡ [] → HasParts names parts (lines_of text)
+all_told {text} {left} {names} {parts} before none = subst (HasParts names parts) (all_passed before.walk none) before.has

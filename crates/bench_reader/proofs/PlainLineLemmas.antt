@@ -1,4 +1,4 @@
--- What a plain line does to the definitions so far, and when a line isn't plain.
+-- Plain lines, one after the other: their statements, and that they define no gate.
 use Rattle.std.proofs.Common.{◌≡◌, ℕ, false, List, [], ◌∷◌, ◌++◌, inl, inr, Option, Some, None, IfSome, All, IsTrue, refl, subst}
 use Rattle.std.specs.Option.{option_map}
 use Rattle.cts_model.specs.declared.kind.Kind.{Kind}
@@ -8,13 +8,14 @@ use Rattle.cts_model.specs.Statements.{Statement, Blank, Input, Output, Assign, 
 use Rattle.cts_model.specs.Netlists.{statements_in, definitions_in}
 use Rattle.bench_reader.specs.Plain.{is_plain, names_register}
 use Rattle.bench_reader.specs.PlainLines.{IsPlainLine, ArePlainLines}
-use Rattle.bench_reader.proofs.Lists.{split_push, All-filter_map}
+use Rattle.bench_reader.proofs.Lists.{nothing_before, split_push, All-filter_map}
 use Rattle.bench_reader.proofs.LineStatements.{each_statement}
 
--- what a plain statement defines isn't a gate
+-- a definition that isn't a gate's
 abbrev pub GivesNoGate : Definition → Type 0
 GivesNoGate definition = is_gate definition.kind ≡ false
 
+-- what a plain statement defines is none
 plain_gives_no_gate : (statement : Statement) → IsTrue (is_plain statement) → IfSome (definition_of statement) GivesNoGate
 plain_gives_no_gate Blank plain = tt
 plain_gives_no_gate (Input name) plain = refl
@@ -38,11 +39,7 @@ no_gates lines plain = All-filter_map definition_of (λ statement. IsTrue (is_pl
 
 -- no line is plain where none stands
 pub no_plain_lines : ArePlainLines []
-no_plain_lines = record { each = λ earlier line later split. absurd (none earlier line later split) }
-  where
-    none : (earlier : List (List ℕ)) (line : List ℕ) (later : List (List ℕ)) → [] ≡ earlier ++ line ∷ later → ⊥
-    none [] line later split = cc
-    none (first ∷ earlier) line later split = cc
+no_plain_lines = record { each = λ earlier line later split. absurd (nothing_before earlier line later split) }
 
 -- one more plain line
 pub plain_lines_push : (lines : List (List ℕ)) (line : List ℕ) → ArePlainLines lines → IsPlainLine lines line → ArePlainLines (lines ++ line ∷ [])

@@ -1,4 +1,4 @@
--- When a text is a netlist without gates, and that no netlist is refused.
+-- When a text is a netlist without gates, and the circuit that it tells.
 use Rattle.std.proofs.Common.{◌≡◌, ℕ, ◌<◌, false, List, [], ◌∷◌, length, map, Option, Some, None, All, IsTrue, get_or, Contains, refl, sym, ap, ◌∙◌, subst, arith, true≢false}
 use Rattle.std.specs.Option.{IsSomeAnd}
 use Rattle.std.specs.List.{slice_get}
@@ -10,12 +10,12 @@ use Rattle.cts_model.specs.declared.circuit.Circuit.{Circuit}
 use Rattle.cts_model.specs.Kinds.{is_gate}
 use Rattle.cts_model.specs.Circuits.{IsCircuit, registers_of}
 use Rattle.cts_model.specs.Paths.{Reads, IsLoop}
-use Rattle.cts_model.specs.Netlists.{IsNetlist, AcceptsNetlist, UsesDefined, statements_in, definitions_in, defined_names, register_count, signal_of, signals_of, outputs_of}
+use Rattle.cts_model.specs.Netlists.{AcceptsNetlist, UsesDefined, statements_in, definitions_in, defined_names, register_count, signal_of, signals_of, outputs_of}
 use Rattle.bench_reader.specs.declared.fault.BenchFault.{BenchFault}
 use Rattle.bench_reader.specs.declared.fault.BenchFault.TheVariants as faults
 use Rattle.bench_reader.specs.declared.circuit_parts.CircuitParts.{CircuitParts}
 use Rattle.bench_reader.specs.Plain.{IsPlainNetlist, is_plain}
-use Rattle.bench_reader.specs.PlainLines.{ArePlainLines, IsFirstNotPlain, IsFirstUndefined}
+use Rattle.bench_reader.specs.PlainLines.{ArePlainLines}
 use Rattle.bench_reader.specs.Refusals.{RefusesLine, RefusesUse, Refuses, HasNoRegisters}
 use Rattle.bench_reader.specs.Taken.{HasParts}
 use Rattle.bench_reader.proofs.LineStatements.{statement_at}
@@ -54,20 +54,16 @@ plain_netlist text plain defined some = record {
   plain = plain_statements (lines_of text) plain;
 }
 
--- each line of a plain netlist is plain
-pub line_of_plain : (text : List ℕ) (number : ℕ) → IsPlainNetlist text → IsFirstNotPlain text number → ⊥
-line_of_plain text number is_plain_text first =
-    let lawful = is_plain_text.netlist.lines first.earlier first.line first.place.later first.place.split in
-    first.refused (record {
-      lawful = lawful;
-      plain = statement_at (λ statement. IsTrue (is_plain statement)) first.earlier first.line first.place.later lawful.statement lawful.form (subst (λ lines. All (λ statement. IsTrue (is_plain statement)) (statements_in lines)) first.place.split is_plain_text.plain);
-    })
-
--- and uses only names that are defined
-pub use_of_netlist : (text : List ℕ) (number : ℕ) → IsNetlist text → IsFirstUndefined text number → ⊥
-use_of_netlist text number netlist first =
-    first.refused.undefined (statement_at (UsesDefined (defined_names (definitions_in (lines_of text)))) first.earlier first.line first.place.later first.refused.statement first.refused.form
-    (subst (λ lines. All (UsesDefined (defined_names (definitions_in (lines_of text)))) (statements_in lines)) first.place.split netlist.defined))
+-- each line of a netlist without gates is plain
+pub plain_lines_of : (text : List ℕ) → IsPlainNetlist text → ArePlainLines (lines_of text)
+plain_lines_of text plain_text = record {
+  each = λ earlier line later split.
+      let lawful = plain_text.netlist.lines earlier line later split in
+      record {
+        lawful = lawful;
+        plain = statement_at (λ statement. IsTrue (is_plain statement)) earlier line later lawful.statement lawful.form (subst (λ lines. All (λ statement. IsTrue (is_plain statement)) (statements_in lines)) split plain_text.plain);
+      };
+}
 
 -- what is known where all lines are taken in
 pub record IsTold (text : List ℕ) (told : CircuitParts) : Type 0 where

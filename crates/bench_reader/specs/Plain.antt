@@ -4,9 +4,11 @@ use Rattle.cts_base.specs.Lines.{lines_of}
 use Rattle.cts_model.specs.declared.kind.Kind.{Kind}
 use Rattle.cts_model.specs.declared.circuit.Circuit.{Circuit}
 use Rattle.cts_model.specs.Kinds.{is_gate, is_register, kind_of}
-use Rattle.cts_model.specs.Statements.{Statement, Assign}
+use Rattle.cts_model.specs.Names.{is_short}
+use Rattle.cts_model.specs.Statements.{Statement, Assign, names_of}
 use Rattle.cts_model.specs.Netlists.{IsNetlist, statements_in}
 
+-- the word of a register
 abbrev pub names_register : Option Kind → Bool
 names_register None = false
 names_register (Some kind) = is_register kind
@@ -16,6 +18,10 @@ abbrev pub is_plain : Statement → Bool
 is_plain (Assign name word (input ∷ [])) = names_register (kind_of word)
 is_plain (Assign name word inputs) = false
 is_plain _ = true
+
+-- no name on a line is too long
+abbrev pub HasShortNames : Statement → Type 0
+HasShortNames statement = All (λ name. IsTrue (is_short name)) (names_of statement)
 
 -- a netlist without gates
 pub record IsPlainNetlist (text : List ℕ) : Type 0 where

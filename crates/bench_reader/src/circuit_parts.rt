@@ -1,4 +1,4 @@
-ghost use Rattle.std.specs.Prelude.{◌≡◌, ◌≤◌, ◌<◌, ◌+◌, List, ℕ, [], ◌∷◌, ◌++◌, length, map, All, IfOk, IfErr, MatchBool, OnOk, IfSome, is_some, nat_eq, IsTrue};
+ghost use Rattle.std.specs.Prelude.{◌≡◌, ◌≤◌, ◌<◌, ◌+◌, List, ℕ, [], ◌∷◌, ◌++◌, length, IfOk, IfErr, MatchBool, OnOk, IfSome, is_some, nat_eq, IsTrue};
 ghost use Rattle.cts_base.specs.Lines.{lines_of};
 ghost use Rattle.cts_model.specs.declared.kind.Kind.TheVariants.{Dff, Input};
 ghost use Rattle.cts_model.specs.Netlists.{definitions_in, defined_names, number_of};
@@ -115,7 +115,7 @@ fn signal(alloc: Global, name: &[u8], kind: Kind, fan_in: FanIn) -> Result<Signa
     Ok(Signal { name, kind, fan_in })
 }
 
-/// The signals that the lines of a netlist without gates tell, where the names that they define are known.
+/// What the lines of a netlist without gates tell, where the names that they define are known.
 pub(crate) fn read_parts(
     alloc: Global,
     names: &Names,
@@ -124,14 +124,14 @@ pub(crate) fn read_parts(
     requires short { length bytes.now ≤ 16777216 }
     requires plain { ArePlainLines (lines_of bytes.now) }
     requires names { names.now ≡ defined_names (definitions_in (lines_of bytes.now)) }
-    ensures told { IfOk result (λ signals. HasParts names.now signals (lines_of bytes.now)) }
+    ensures told { IfOk result (λ parts. HasParts names.now parts (lines_of bytes.now)) }
     ensures refused { IfErr result (RefusesUse bytes.now) }
 {
-    let mut signals = CircuitParts::new(alloc);
+    let mut parts = CircuitParts::new(alloc);
     for line in lines(bytes) {
-        if !signals.add_line(alloc, names, line.text)? {
+        if !parts.add_line(alloc, names, line.text)? {
             return Err(BenchFault::Undefined(line.number));
         }
     }
-    Ok(signals)
+    Ok(parts)
 }

@@ -1,17 +1,20 @@
-ghost use Rattle.std.specs.Prelude.{◌≡◌, ◌≢◌, ◌↔◌, ℕ, IsTrue, All, List, [], ◌∷◌, Some, IfSome, IsNone, None};
+ghost use Rattle.std.specs.Prelude.{◌≡◌, ◌≢◌, ◌↔◌, ℕ, IsTrue, List, [], ◌∷◌, Some, IfSome, IsNone, None};
 ghost use Rattle.std.specs.Str.{str_eq_ignore_ascii_case};
 ghost use Rattle.cts_model.specs.Names.{is_short};
-ghost use Rattle.cts_model.specs.Statements.{Statement, Assign, statement_of, form_of, declaration_of, names_of};
+ghost use Rattle.cts_model.specs.Statements.{Statement, statement_of, form_of, declaration_of};
 ghost use Rattle.cts_model.specs.Tokens.{Word, Open, Close, Equals};
-ghost use Rattle.bench_reader.specs.Plain.{is_plain};
-ghost use Rattle.bench_reader.specs.View.{Says};
+ghost use Rattle.bench_reader.specs.Plain.{is_plain, HasShortNames};
+ghost use Rattle.bench_reader.specs.View.{Says, IsReadAs};
 
 use crate::token::{Token, Tokens};
 use cts_base::before_comment;
 
+// The longest that a name may be.
+const MAX_NAME_BYTES: usize = 255;
+
 /// A line of a netlist without gates.
 #[derive(Clone, Copy, Debug, PartialEq, Eq)]
-pub enum PlainLine<'a> {
+pub(crate) enum PlainLine<'a> {
     /// Nothing but spaces, tabs and a comment.
     Blank,
     /// A primary input.
@@ -23,11 +26,10 @@ pub enum PlainLine<'a> {
 }
 
 /// Reads a line. `None` says that it isn't one of a netlist without gates, or has too long a name.
-pub fn plain_line<'a>(line: &'a [u8]) -> Option<PlainLine<'a>>
-    ensures some { IfSome result (λ plain. (statement : Statement) × (statement_of line.now ≡ Some statement)
-        × Says plain statement × All (λ name. IsTrue (is_short name)) (names_of statement)) }
+pub(crate) fn plain_line<'a>(line: &'a [u8]) -> Option<PlainLine<'a>>
+    ensures some { IfSome result (IsReadAs line.now) }
     ensures none { IsNone result → (statement : Statement) → statement_of line.now ≡ Some statement
-        → IsTrue (is_plain statement) → All (λ name. IsTrue (is_short name)) (names_of statement) → ⊥ }
+        → IsTrue (is_plain statement) → HasShortNames statement → ⊥ }
 {
     form(line).filter(has_short_names)
 }
@@ -110,7 +112,7 @@ fn same_word(word: &[u8], other: &[u8]) -> bool
 // Whether no name on a line is too long.
 fn has_short_names(plain: &PlainLine) -> bool
     ensures { (statement : Statement) → Says plain.now statement
-        → IsTrue result ↔ All (λ name. IsTrue (is_short name)) (names_of statement) }
+        → IsTrue result ↔ HasShortNames statement }
 {
     match *plain {
         PlainLine::Blank => true,
@@ -122,7 +124,7 @@ fn has_short_names(plain: &PlainLine) -> bool
 fn is_short(name: &[u8]) -> bool
     ensures { result ≡ is_short name.now }
 {
-    name.len() <= 255
+    name.len() <= MAX_NAME_BYTES
 }
 
 #[cfg(test)]

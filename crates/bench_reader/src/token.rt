@@ -11,12 +11,16 @@ use std::marker::Model;
 
 /// A token of a netlist's line.
 #[derive(Clone, Copy, Debug, PartialEq, Eq)]
-pub enum Token<'a> {
+pub(crate) enum Token<'a> {
     /// A name or a word: a longest run of a name's bytes.
     Word(&'a [u8]),
+    /// `(`.
     Open,
+    /// `)`.
     Close,
+    /// `,`.
     Comma,
+    /// `=`.
     Equals,
     /// A byte that belongs nowhere.
     Stray,
@@ -24,7 +28,7 @@ pub enum Token<'a> {
 
 /// The tokens of a line that are left, in order.
 #[derive(Drop)]
-pub struct Tokens<'a> {
+pub(crate) struct Tokens<'a> {
     rest: &'a [u8],
 }
 
@@ -36,7 +40,7 @@ impl<'a> Model for Tokens<'a> {
 
 impl<'a> Tokens<'a> {
     /// All tokens of a line.
-    pub fn of(line: &'a [u8]) -> Tokens<'a>
+    pub(crate) fn of(line: &'a [u8]) -> Tokens<'a>
         ensures { result ≡ tokens_of line.now }
     {
         Tokens { rest: line }

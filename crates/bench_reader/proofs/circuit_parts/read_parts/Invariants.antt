@@ -5,4 +5,4 @@ abbrev pub invariant-loop-line : goal.invariant-loop-line
 invariant-loop-line l =
     (goal.iterator-loop-line).can_next l.line-iterator ×
     (goal.iterator-loop-line).is_finite l.line-iterator ×
-    TellsPassed l.bytes l.line-iterator l.names l.signals
+    TellsPassed l.bytes l.line-iterator l.names l.parts

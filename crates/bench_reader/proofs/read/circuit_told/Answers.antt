@@ -30,20 +30,13 @@ invariant_of-result c =
     let told = told_netlist c.args.bytes.now _ c.in_ok-signals.field-0 c.in_ok-names.ensures.plain c.in_ok-names.ensures.names c.in_ok-signals.ensures.told some in
     record { valid = told_circuit c.args.bytes.now c.in_ok-signals.field-0 c.from_vec-outputs.result told (c.from_vec-outputs.ensures ∙ c.in_ok-from_slice.ensures.items ∙ c.as_slice.ensures.keys) }
 
-pub returns-clause-ok : goal.returns-clause-ok
-returns-clause-ok c =
+pub returns : goal.returns
+returns c =
     let some : 0 < length c.in_ok-signals.field-0.registers = grind (arith, nat_tests) in
     let told = told_netlist c.args.bytes.now _ c.in_ok-signals.field-0 c.in_ok-names.ensures.plain c.in_ok-names.ensures.names c.in_ok-signals.ensures.told some in
-    told_accepts c.args.bytes.now c.in_ok-signals.field-0 _ told refl refl (c.from_vec-outputs.ensures ∙ c.in_ok-from_slice.ensures.items ∙ c.as_slice.ensures.keys)
-
-pub returns-clause-plain : goal.returns-clause-plain
-returns-clause-plain c =
-    let some : 0 < length c.in_ok-signals.field-0.registers = grind (arith, nat_tests) in
-    let told = told_netlist c.args.bytes.now _ c.in_ok-signals.field-0 c.in_ok-names.ensures.plain c.in_ok-names.ensures.names c.in_ok-signals.ensures.told some in
-    told.plain_text
-
-pub returns-clause-gateless : goal.returns-clause-gateless
-returns-clause-gateless c =
-    let some : 0 < length c.in_ok-signals.field-0.registers = grind (arith, nat_tests) in
-    let told = told_netlist c.args.bytes.now _ c.in_ok-signals.field-0 c.in_ok-names.ensures.plain c.in_ok-names.ensures.names c.in_ok-signals.ensures.told some in
-    rw told.signals_are (told_gateless c.args.bytes.now c.in_ok-names.ensures.plain)
+    record {
+      ok = told_accepts c.args.bytes.now c.in_ok-signals.field-0 _ told refl refl (c.from_vec-outputs.ensures ∙ c.in_ok-from_slice.ensures.items ∙ c.as_slice.ensures.keys);
+      plain = told.plain_text;
+      gateless = rw told.signals_are (told_gateless c.args.bytes.now c.in_ok-names.ensures.plain);
+      refused = tt;
+    }
