@@ -44,8 +44,8 @@ same_place front item rest further other others same not_behind not_before = eli
 same_number : (text : List ℕ) (number other : ℕ) → IsFirstNotPlain text number → IsFirstNotPlain text other → number ≡ other
 same_number text number other first first' =
     let place = same_place first.earlier first.line first.place.later first'.earlier first'.line first'.place.later (sym first.place.split ∙ first'.place.split)
-        (λ found. first.refused (first'.plain.each first.earlier first.line found.between found.split))
-        (λ found. first'.refused (first.plain.each first'.earlier first'.line found.between found.split)) in
+    (λ found. first.refused (first'.plain.each first.earlier first.line found.between found.split))
+    (λ found. first'.refused (first.plain.each first'.earlier first'.line found.between found.split)) in
     omega (arith, place, first.place.number_is, first'.place.number_is)
 
 -- a line that isn't plain isn't among plain lines
@@ -62,8 +62,8 @@ among text number first further found defined =
 same_use : (text : List ℕ) (number other : ℕ) → IsFirstUndefined text number → IsFirstUndefined text other → number ≡ other
 same_use text number other first first' =
     let place = same_place first.earlier first.line first.place.later first'.earlier first'.line first'.place.later (sym first.place.split ∙ first'.place.split)
-        (λ found. among text number first first'.earlier found first'.defined)
-        (λ found. among text other first' first.earlier found first.defined) in
+    (λ found. among text number first first'.earlier found first'.defined)
+    (λ found. among text other first' first.earlier found first.defined) in
     omega (arith, place, first.place.number_is, first'.place.number_is)
 
 -- so it isn't in a text whose lines all do

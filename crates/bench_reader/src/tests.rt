@@ -77,17 +77,19 @@ fn refuses_the_first_fault(rt: HostRuntime) {
     for (text, fault) in [
         ("", BenchFault::NoRegisters),
         ("# nothing\n\n", BenchFault::NoRegisters),
+        ("# two\nINPUT(x)\n\nINPUT(y) # y", BenchFault::NoRegisters),
         ("INPUT(x)\nOUTPUT(x)", BenchFault::NoRegisters),
         ("a = DFF(y)", BenchFault::Undefined(1)),
+        ("OUTPUT(y)", BenchFault::Undefined(1)),
+        ("a = DFF(a)\nOUTPUT(q)", BenchFault::Undefined(2)),
         (
             "a = DFF(a)\nOUTPUT(y)\nb = DFF(z)",
             BenchFault::Undefined(2),
         ),
-        ("OUTPUT(y)", BenchFault::Undefined(1)),
-        ("a = DFF(a)\ng = NOT(a)", BenchFault::NotYet(2)),
-        ("OUTPUT(y)\nINPUT(x)\nINPUT(x)", BenchFault::NotYet(3)),
-        ("INPUT(x)\n\nx = DFF(x)", BenchFault::NotYet(3)),
         ("a = DFF(a) b", BenchFault::NotYet(1)),
+        ("INPUT(x)\na = DFF(x", BenchFault::NotYet(2)),
+        ("INPUT(x)\na = DFF(x)\ng = NOT(x)", BenchFault::NotYet(3)),
+        ("INPUT(x)\na = DFF(x)\ng = BUFF(x)", BenchFault::NotYet(3)),
     ] {
         assert_eq!(rt;
             read(&rt, rt.alloc(), text).err(),
@@ -95,4 +97,50 @@ fn refuses_the_first_fault(rt: HostRuntime) {
             "at {text:?}"
         );
     }
+}
+
+#[test]
+fn refuses_a_second_definition(rt: HostRuntime) {
+    for (text, line) in [
+        ("INPUT(x)\nINPUT(x)", 2),
+        ("INPUT(x)\nx = DFF(x)", 2),
+        ("a = DFF(a)\n\na = DFF(a)", 3),
+        ("x = DFF(x)\nINPUT(x)", 2),
+    ] {
+        assert_eq!(rt;
+            read(&rt, rt.alloc(), text).err(),
+            Some(BenchFault::NotYet(line)),
+            "at {text:?}"
+        );
+    }
+}
+
+#[test]
+fn judges_all_forms_before_any_use(rt: HostRuntime) {
+    for text in [
+        "a = DFF(y)\nb = DFF(a)\ng = NOT(a)",
+        "OUTPUT(y)\nINPUT(x)\nINPUT(x)",
+        "OUTPUT(y)\n# x\nINPUT(x",
+    ] {
+        assert_eq!(rt;
+            read(&rt, rt.alloc(), text).err(),
+            Some(BenchFault::NotYet(3)),
+            "at {text:?}"
+        );
+    }
+}
+
+#[test]
+fn takes_names_of_255_bytes(rt: HostRuntime) -> Result<(), Fail> {
+    let mut text = [b'n'; 272];
+    text[..15].copy_from_slice(b"a=DFF(a)\nINPUT(");
+    text[271] = b')';
+    assert_eq!(rt;
+        read_bench(rt.alloc(), &text).err(),
+        Some(BenchFault::NotYet(2))
+    );
+    text[270] = b' ';
+    let circuit = read_bench(rt.alloc(), &text)?;
+    assert_eq!(rt; circuit.signals.get(1).ok_or("a signal")?.name.len(), 255);
+    Ok(())
 }

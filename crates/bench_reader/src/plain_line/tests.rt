@@ -57,6 +57,7 @@ fn refuses_other_lines(rt: HostRuntime) {
         "a DFF(x)",
         "a = DFF(x) = b",
         "g = NOT(x)",
+        "g = BUFF(x)",
         "g = AND(x, y)",
         "a = FOO(x)",
         "a = DFFX(x)",
