@@ -11,6 +11,7 @@ use Rattle.bench_reader.specs.Taken.{HasDefinitions}
 use Rattle.bench_reader.specs.View.{IsReadAs}
 use Rattle.bench_reader.proofs.DefinitionWalk.{AddsLine}
 use Rattle.bench_reader.proofs.LawfulDefinitions.{plain_lawful}
+use Rattle.bench_reader.proofs.RegisterLemmas.{register_defines}
 use Rattle.bench_reader.proofs.PlainStatements.{silent_plain, silent_keeps, defining_may, defining_plain, defining_has}
 
 -- two facts of a success give another
@@ -73,7 +74,7 @@ module _ (line : List ℕ) where
       form_here = form ∙ ap Some says
 
       some : definition_of (Assign name.now word (input.now ∷ [])) ≡ Some (record { name = name.now; kind = kinds.Dff; inputs = input.now ∷ [] })
-      some = rw kind refl
+      some = register_defines name.now word input.now kind
 
       known : IsTrue (has_kind (Assign name.now word (input.now ∷ [])))
       known = rw kind refl

@@ -17,6 +17,7 @@ use Rattle.bench_reader.specs.Taken.{HasParts}
 use Rattle.bench_reader.specs.View.{IsReadAs}
 use Rattle.bench_reader.proofs.Lists.{filter_map_push_none, filter_map_push_some}
 use Rattle.bench_reader.proofs.LineStatements.{statements_push, definitions_push_some, definitions_push_none}
+use Rattle.bench_reader.proofs.RegisterLemmas.{register_defines}
 use Rattle.bench_reader.proofs.PartLists.{registers_push_none, registers_push_some, mentions_push}
 
 module _ (names : List (List ℕ)) (line : List ℕ) (old new : CircuitParts) (earlier : List (List ℕ)) (has : HasParts names old earlier) where
@@ -97,16 +98,13 @@ module _ (names : List (List ℕ)) (line : List ℕ) (old new : CircuitParts) (e
       form_here : statement_of line ≡ Some (Assign name.now word (input.now ∷ []))
       form_here = form ∙ ap Some says
 
-      definition_here : definition_of (Assign name.now word (input.now ∷ [])) ≡ Some (record { name = name.now; kind = kinds.Dff; inputs = input.now ∷ [] })
-      definition_here = rw kind refl
-
       at : (o : Option ℕ) → number_of names input.now ≡ o → IfSome o (λ number. new.signals ≡ old.signals ++ record { name = name.now; kind = kinds.Dff; fan_in = number ∷ [] } ∷ [])
           → (IsTrue (is_some o) → new.registers ≡ old.registers ++ length old.signals ∷ []) → MatchBool (is_some o) (HasParts names new Next) (UsesUndefined names line)
       at None none grown more = record { statement = Assign name.now word (input.now ∷ []); form = form_here; undefined = λ uses. let some = All-head (λ n. IsSome (number_of names n)) input.now [] uses in cc }
       at (Some number) some grown more =
           let fan_in : filter_map (number_of names) (input.now ∷ []) ≡ number ∷ [] = rw some refl in
           record {
-            signals_are = signals_grow _ form_here _ definition_here (grown ∙ ap (λ reads. old.signals ++ record { name = name.now; kind = kinds.Dff; fan_in = reads } ∷ []) (sym fan_in));
+            signals_are = signals_grow _ form_here _ (register_defines name.now word input.now kind) (grown ∙ ap (λ reads. old.signals ++ record { name = name.now; kind = kinds.Dff; fan_in = reads } ∷ []) (sym fan_in));
             registers_are = registers_grow (record { name = name.now; kind = kinds.Dff; fan_in = number ∷ [] }) refl grown (more refl);
             outputs_are = outputs_stay _ form_here refl outputs;
             defined = defined_push _ form_here (All-cons (λ n. IsSome (number_of names n)) input.now [] (rw some refl) (All-nil _));

@@ -28,6 +28,7 @@ pub record IsNext (text : List ℕ) (left : List (ℕ × List ℕ)) (passed : Li
   pub place : IsLine text number passed line
   pub passed_next : IsPassed text left (passed ++ line ∷ [])
 
+-- where a line is left, it is the next one
 pub next_line : {text : List ℕ} {left : List (ℕ × List ℕ)} {passed : List (List ℕ)} (number : ℕ) (line : List ℕ) (more : List (ℕ × List ℕ)) → IsPassed text left passed → left ≡ (number, line) ∷ more → IsNext text more passed number line
 next_line {text} {left} {passed} number line more walk some = at walk.later (sym walk.left_is ∙ some) walk.split
   where

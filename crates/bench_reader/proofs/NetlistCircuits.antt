@@ -51,17 +51,15 @@ register_places : (names : List (List ℕ)) (n : ℕ) (definitions : List Defini
 register_places names n [] = refl
 register_places names n (definition ∷ definitions) = at (is_register definition.kind) refl (register_places names (n + 1) definitions)
   where
+    -- the first counts if it is one
+    more : register_count (definition ∷ definitions) ≡ cond (is_register definition.kind) 1 0 + register_count definitions
+    more = sum_by-cons (λ d. cond (is_register d.kind) 1 0) definition definitions
+
     at : (b : Bool) → is_register definition.kind ≡ b
         → length (filter_map register_number (enumerate_from (n + 1) (map (signal_of names) definitions))) ≡ register_count definitions
         → length (filter_map register_number (enumerate_from n (map (signal_of names) (definition ∷ definitions)))) ≡ register_count (definition ∷ definitions)
-    at true register rest =
-        let counted : cond {A = ℕ} (is_register definition.kind) 1 0 ≡ 1 = rw register refl in
-        let more : register_count (definition ∷ definitions) ≡ 1 + register_count definitions = sum_by-cons (λ d. cond (is_register d.kind) 1 0) definition definitions ∙ ap (λ n. n + register_count definitions) counted in
-        rw (more, register) (omega (arith, rest))
-    at false other rest =
-        let counted : cond {A = ℕ} (is_register definition.kind) 1 0 ≡ 0 = rw other refl in
-        let more : register_count (definition ∷ definitions) ≡ 0 + register_count definitions = sum_by-cons (λ d. cond (is_register d.kind) 1 0) definition definitions ∙ ap (λ n. n + register_count definitions) counted in
-        rw (more, other) (omega (arith, rest))
+    at true register rest = rw (more, register) (omega (arith, rest))
+    at false other rest = rw (more, other) (omega (arith, rest))
 
 -- so they are from the first on
 pub length-registers_of : (names : List (List ℕ)) (definitions : List Definition) → length (registers_of (map (signal_of names) definitions)) ≡ register_count definitions

@@ -48,11 +48,13 @@ pub mentions_push : (numbers : List ℕ) (last : ℕ) → first_mentions (number
 mentions_push [] last = refl
 mentions_push (number ∷ numbers) last = ap (λ l. number ∷ filter (differs number) l) (mentions_push numbers last) ∙ at (nat_eq last number) refl
   where
+    -- a new number is put last on both sides, or found on both
     put : (found : Bool) → list_any (nat_eq last) (first_mentions numbers) ≡ found → nat_eq last number ≡ false
         → number ∷ filter (differs number) (if found then (first_mentions numbers) else (first_mentions numbers) ++ last ∷ []) ≡ (if found then number ∷ filter (differs number) (first_mentions numbers) else (number ∷ filter (differs number) (first_mentions numbers)) ++ last ∷ [])
     put true some other = refl
     put false none other = ap (λ l. number ∷ l) (filter-append (differs number) (first_mentions numbers) (last ∷ []) ∙ rw other refl)
 
+    -- the first number again is kept away
     gone : (found : Bool) → nat_eq last number ≡ true → number ∷ filter (differs number) (if found then (first_mentions numbers) else (first_mentions numbers) ++ last ∷ []) ≡ number ∷ filter (differs number) (first_mentions numbers)
     gone true same = refl
     gone false same = ap (λ l. number ∷ l) (filter-append (differs number) (first_mentions numbers) (last ∷ []) ∙ rw same (append-nil (filter (differs number) (first_mentions numbers))))

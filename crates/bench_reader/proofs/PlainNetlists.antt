@@ -86,14 +86,17 @@ told_accepts text told circuit is_told signals registers outputs = record {
 }
 
 module _ (text : List ℕ) (names : List (List ℕ)) (told : CircuitParts) (plain : ArePlainLines (lines_of text)) (known : names ≡ defined_names (definitions_in (lines_of text))) (has : HasParts names told (lines_of text)) where
+  -- the parts, by the names that the text defines
   has_here : HasParts (defined_names (definitions_in (lines_of text))) told (lines_of text)
   has_here = subst (λ n. HasParts n told (lines_of text)) known has
 
+  -- as many registers are told as are defined
   registers_counted : length told.registers ≡ register_count (definitions_in (lines_of text))
   registers_counted =
       let registers : told.registers ≡ registers_of (map (signal_of (defined_names (definitions_in (lines_of text)))) (definitions_in (lines_of text))) = has_here.registers_are ∙ ap registers_of has_here.signals_are in
       ap length registers ∙ length-registers_of _ (definitions_in (lines_of text))
 
+  -- with a register the lines are a netlist
   pub told_netlist : 0 < length told.registers → IsTold text told
   told_netlist some = record {
     plain_text = plain_netlist text plain has_here.defined (omega (arith, registers_counted));
@@ -102,17 +105,18 @@ module _ (text : List ℕ) (names : List (List ℕ)) (told : CircuitParts) (plai
     outputs_are = has_here.outputs_are;
   }
 
-  -- without a register they are no netlist
+  -- and without one that is their fault
   pub no_registers : length told.registers ≡ 0 → HasNoRegisters text
   no_registers none = record { plain = plain; defined = has_here.defined; none = omega (arith, registers_counted) }
 
--- what a pass refuses, the text has as its fault
+-- what the first pass refuses is the fault of the text
 pub line_refused : (text : List ℕ) (fault : BenchFault) → RefusesLine text fault → Refuses text fault
 line_refused text (faults.NotYet number) first = first
 line_refused text faults.NoMemory first = tt
 line_refused text (faults.Undefined number) first = absurd first
 line_refused text faults.NoRegisters first = absurd first
 
+-- and so is what the second pass refuses
 pub use_refused : (text : List ℕ) (fault : BenchFault) → ArePlainLines (lines_of text) → RefusesUse text fault → Refuses text fault
 use_refused text (faults.Undefined number) plain first = record { plain = plain; first = first }
 use_refused text faults.NoMemory plain first = tt

@@ -104,9 +104,11 @@ defined_name line statement definition form some short =
     let named : AreNames (names_of statement) = subst (λ o. IfSome o (λ s. AreNames (names_of s))) form names in
     at statement some named short
   where
+    -- a name that is short
     both : (name : List ℕ) → IsTrue (is_name name) → IsTrue (is_short name) → IsTrue (is_name name && is_short name)
     both name named short = rw (named, short) refl
 
+    -- whatever its kind, an assignment defines its first name
     kinded : (name : List ℕ) (inputs : List (List ℕ)) (o : Option Kind) → option_map (λ kind. record { name = name; kind = kind; inputs = inputs }) o ≡ Some definition → name ≡ definition.name
     kinded name inputs None some = cc
     kinded name inputs (Some kind) some = ap (λ d. d.name) (same_Some _ definition some)

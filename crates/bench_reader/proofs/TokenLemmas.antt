@@ -50,7 +50,9 @@ pub tokens_of-word : (line : List ℕ) → begins_with_name_byte line ≡ true �
 tokens_of-word [] begins = cc
 tokens_of-word (byte ∷ line) begins = at (tokens_of-word line) (begins_with_name_byte line) refl
   where
-    at : (begins_with_name_byte line ≡ true → tokens_of line ≡ Word (take (prefix_len is_name_byte line) line) ∷ tokens_of (drop (prefix_len is_name_byte line) line)) → (b : Bool) → begins_with_name_byte line ≡ b → tokens_of (byte ∷ line) ≡ Word (take (prefix_len is_name_byte (byte ∷ line)) (byte ∷ line)) ∷ tokens_of (drop (prefix_len is_name_byte (byte ∷ line)) (byte ∷ line))
+    at : (begins_with_name_byte line ≡ true → tokens_of line ≡ Word (take (prefix_len is_name_byte line) line) ∷ tokens_of (drop (prefix_len is_name_byte line) line))
+        → (b : Bool) → begins_with_name_byte line ≡ b
+        → tokens_of (byte ∷ line) ≡ Word (take (prefix_len is_name_byte (byte ∷ line)) (byte ∷ line)) ∷ tokens_of (drop (prefix_len is_name_byte (byte ∷ line)) (byte ∷ line))
     at rest true goes_on = let name : is_name_byte byte ≡ true = begins in rw (name, goes_on, rest goes_on, take-one_more, drop-one_more) refl
     at rest false ends = let name : is_name_byte byte ≡ true = begins in rw (name, ends, run_ended line ends) refl
 
