@@ -14,3 +14,6 @@ pub use kind::Kind;
 pub use signal::Signal;
 pub use tech::{GateDelay, Tech};
 pub use timing::{PairDelay, ZeroSkew};
+
+#[cfg(test)]
+mod tests;
