@@ -95,9 +95,3 @@ fn keeps_a_list(rt: HostRuntime) -> Result<(), Fail> {
     assert_eq!(rt; again.as_slice(), [5, 9, 7].as_slice());
     Ok(())
 }
-
-#[test]
-fn says_that_memory_was_refused(rt: HostRuntime) -> Result<(), Fail> {
-    assert_eq!(rt; format!(in rt.alloc(); "{NoMemory}")?.as_str(), "no memory");
-    Ok(())
-}
