@@ -5,7 +5,7 @@ use crate::NoMemory;
 use std::alloc::Global;
 use std::marker::Model;
 
-/// A name: one or more bytes.
+/// The bytes of a name.
 pub type Name = Listed<u8>;
 
 /// A list in memory that contracts see as the plain list of its items.
@@ -41,12 +41,14 @@ impl<T> Listed<T> {
         Ok(())
     }
 
+    /// How many items it has.
     pub fn len(&self) -> usize
         ensures { result ≡ length self.now }
     {
         self.items.len()
     }
 
+    /// Whether it has no items.
     pub fn is_empty(&self) -> bool
         ensures { result ≡ (length self.now == 0) }
     {
@@ -75,6 +77,7 @@ impl<T> Listed<T> {
         self.items
     }
 
+    /// Its items in order, where they stand. It takes no memory.
     pub fn as_slice(&self) -> &[T]
         ensures { result.now ≡ self.now }
     {

@@ -5,7 +5,7 @@ ghost use Rattle.cts_base.specs.Words.{is_hash, words_of, before_hash};
 use crate::line_walk::Lines;
 use crate::word_walk::Words;
 
-/// Walks the lines of a text of at most 16 MiB.
+/// Walks the lines of a text of at most 16 MiB. It takes no memory.
 pub fn lines<'a>(text: &'a [u8]) -> Lines<'a>
     requires { length text.now ≤ 16777216 }
     ensures { result ≡ numbered_lines text.now }
@@ -13,7 +13,7 @@ pub fn lines<'a>(text: &'a [u8]) -> Lines<'a>
     Lines::of(text)
 }
 
-/// Walks the words of a line.
+/// Walks the words of a line. It takes no memory.
 pub fn words<'a>(line: &'a [u8]) -> Words<'a>
     ensures { result ≡ words_of line.now }
 {

@@ -7,10 +7,11 @@ use cts_base::Listed;
 /// and registers from 0 in the order of theirs.
 #[derive(Debug, Drop)]
 pub struct Circuit {
+    /// The signals by their numbers.
     pub signals: Listed<Signal>,
     /// The signal number of each register.
     pub registers: Listed<u32>,
-    /// The signal number of each primary output, where it is first mentioned.
+    /// The signal number of each primary output, in the order of the first mentions.
     pub outputs: Listed<u32>,
     pub ghost valid: { IsCircuit signals registers outputs },
 }

@@ -28,7 +28,7 @@ impl FanIn {
         }
     }
 
-    /// Puts a signal last.
+    /// Puts a signal last. The first four take no memory.
     pub fn push(&mut self, item: u32) -> Result<(), NoMemory>
         ensures ok { OnOk result (self.new ≡ self.old ++ item ∷ []) }
         ensures err { OnErr result (self.new ≡ self.old) }
@@ -37,25 +37,28 @@ impl FanIn {
         Ok(())
     }
 
+    /// How many signals are read, each as often as it is listed.
     pub fn len(&self) -> usize
         ensures { result ≡ length self.now }
     {
         self.signals.len()
     }
 
+    /// Whether no signal is read.
     pub fn is_empty(&self) -> bool
         ensures { result ≡ (length self.now == 0) }
     {
         self.signals.is_empty()
     }
 
+    /// The numbers in order, where they stand. It takes no memory.
     pub fn as_slice(&self) -> &[u32]
         ensures { result.now ≡ self.now }
     {
         self.signals.as_slice()
     }
 
-    /// The signal at a place, counted from 0.
+    /// The number at a place, counted from 0.
     pub fn get(&self, at: usize) -> Option<&u32>
         ensures value { option_copied result ≡ slice_get self.now at }
         ensures none { IsNone result ↔ (length self.now ≤ at) }

@@ -6,6 +6,7 @@ use cts_base::Listed;
 pub struct Signal {
     /// The bytes of its name.
     pub name: Listed<u8>,
+    /// What defines it.
     pub kind: Kind,
     /// The numbers of the signals that it reads, in the order of the line.
     pub fan_in: FanIn,

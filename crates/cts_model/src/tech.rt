@@ -8,7 +8,9 @@ use std::alloc::Global;
 pub struct GateDelay {
     /// Whether the table gives this kind. If not, the four numbers are 0.
     pub given: bool,
+    /// The least delay at one input.
     pub least: i128,
+    /// The greatest delay at one input.
     pub greatest: i128,
     /// What each input after the first adds to the least delay.
     pub least_per_input: i128,
@@ -21,8 +23,9 @@ pub struct GateDelay {
 pub struct Tech {
     /// The wire's delay per length unit is this fraction of ticks, in lowest terms.
     pub wire_num: i128,
+    /// The denominator of that fraction.
     pub wire_den: i128,
-    /// The name of the node where the clock comes from.
+    /// The name of the node where the clock comes from, empty if the table gives none.
     pub source: Listed<u8>,
     /// How long before the capturing edge a register's input must stand still.
     pub setup: i128,

@@ -11,13 +11,13 @@ pub struct PairDelay {
     pub greatest: i128,
 }
 
-/// The least clock period where the clock reaches all registers at once.
+/// The least clock period where the clock reaches all registers at once, in ticks.
 #[derive(Clone, Copy, Debug, PartialEq, Eq)]
 pub enum ZeroSkew {
     /// No period will do: this is the first pair whose least delay is below the hold time.
     Fails { pair: PairDelay },
     /// No pair needs more than the floor of the table.
     Floor { value: i128 },
-    /// The greatest delay and the setup time, and the first pair that needs them.
+    /// The greatest delay plus the setup time, and the first pair that needs so much.
     Setup { value: i128, pair: PairDelay },
 }
