@@ -1,5 +1,5 @@
 -- Without gates each path is one signal, so all delays are the register's own.
-use Rattle.std.proofs.Common.{ℕ, ◌≡◌, ◌<◌, Bool, true, false, not, IsTrue, List, [], ◌∷◌, length, Option, Some, None, IsSomeAnd, refl, ap, sym, ◌∙◌, subst, arith, get_or, ℤ, pos, ◌+ℤ◌, ◌≤ℤ◌, ◌<ℤ◌}
+use Rattle.std.proofs.Common.{ℕ, ◌≡◌, false, IsTrue, List, [], ◌∷◌, Option, Some, None, IsSomeAnd, refl, ap, sym, ◌∙◌, arith, ℤ, ◌+ℤ◌, ◌≤ℤ◌, ◌<ℤ◌}
 use Rattle.std.specs.List.{slice_get, Contains}
 use Rattle.std.proofs.lemmas.Int.{ints}
 use Rattle.std.proofs.lemmas.Option.{slice_get_within, get_or_from_slice_get}
@@ -8,9 +8,9 @@ use Rattle.cts_model.specs.declared.circuit.Circuit.{Circuit}
 use Rattle.cts_model.specs.declared.tech.Tech.{Tech}
 use Rattle.cts_model.specs.declared.timing.PairDelay.{PairDelay}
 use Rattle.cts_model.specs.Kinds.{is_gate}
-use Rattle.cts_model.specs.Paths.{Reads, IsPath, data_input}
+use Rattle.cts_model.specs.Paths.{Reads, IsPath}
 use Rattle.cts_model.specs.Delays.{least_delay, greatest_delay}
-use Rattle.cts_model.specs.EqualArrivals.{need_of, IsPairDelay, IsFirstPair, FailsHold, NeedsPeriod, IsEnough, IsFailing, IsFloor, IsSetup}
+use Rattle.cts_model.specs.EqualArrivals.{IsPairDelay, IsFirstPair, IsEnough, IsFailing, IsFloor, IsSetup}
 use Rattle.bench_reader.specs.Plain.{HasNoGates}
 use Rattle.cts_program.specs.Plain.{IsJoined}
 

@@ -1,11 +1,11 @@
 -- The search for the first joined pair: by the register that launches, and then by the one that captures.
-use Rattle.std.proofs.Common.{ℕ, ◌≡◌, ◌<◌, ◌≤◌, ◌+◌, List, length, Some, ap, sym, ◌∙◌, subst, arith, ⊎_elim, inl, inr}
+use Rattle.std.proofs.Common.{ℕ, ◌≡◌, ◌<◌, ◌≤◌, ◌+◌, length, Some, sym, ◌∙◌, subst, arith, ⊎_elim, inl, inr}
 use Rattle.std.proofs.lemmas.Bool.{cases_lt}
 use Rattle.std.specs.List.{slice_get}
 use Rattle.std.proofs.lemmas.Option.{slice_get_within}
 use Rattle.cts_model.specs.declared.circuit.Circuit.{Circuit}
 use Rattle.cts_model.specs.Paths.{data_input}
-use Rattle.cts_model.specs.EqualArrivals.{IsFirstPair, ComesBefore}
+use Rattle.cts_model.specs.EqualArrivals.{IsFirstPair}
 use Rattle.cts_program.specs.Plain.{IsJoined}
 
 -- no register before this one launches to any

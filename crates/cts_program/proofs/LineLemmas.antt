@@ -1,5 +1,5 @@
 -- A line's words, one after the other.
-use Rattle.std.proofs.Common.{ℕ, ◌≡◌, List, [], ◌∷◌, ◌++◌, map, refl, ap, sym, ◌∙◌, append-nil, ℤ, ◌+ℤ◌, ◌-ℤ◌, codes}
+use Rattle.std.proofs.Common.{ℕ, ◌≡◌, List, [], ◌∷◌, ◌++◌, map, ap, sym, ◌∙◌, append-nil, ℤ, ◌+ℤ◌, ◌-ℤ◌, codes}
 use Rattle.std.specs.Fmt.{signed_decimal}
 use Rattle.cts_model.specs.declared.circuit.Circuit.{Circuit}
 use Rattle.cts_model.specs.declared.tech.Tech.{Tech}

@@ -1,8 +1,7 @@
 -- The bytes of a netlist have one text, so a part of it isn't the whole.
-use Rattle.std.proofs.Common.{ℕ, ◌≡◌, ◌<◌, ◌≤◌, ◌+◌, ◌⊎◌, inl, inr, List, [], ◌∷◌, ◌++◌, length, take, Option, Some, None, refl, ap, sym, ◌∙◌, subst, arith, ℤ, length-append, append-nil}
+use Rattle.std.proofs.Common.{ℕ, ◌≡◌, ◌<◌, List, [], ◌++◌, length, take, Option, Some, ap, sym, ◌∙◌, subst, arith, ℤ, length-append, append-nil}
 use Rattle.std.proofs.Props.{props}
 use Rattle.std.proofs.lemmas.List.{length-take}
-use Rattle.cts_io.specs.Device.{appended, WritesPrefix}
 use Rattle.cts_model.specs.declared.signal.Signal.{Signal}
 use Rattle.cts_model.specs.declared.circuit.Circuit.{Circuit}
 use Rattle.cts_model.specs.declared.tech.GateDelay.{GateDelay}
@@ -12,7 +11,6 @@ use Rattle.cts_model.specs.declared.timing.ZeroSkew.TheVariants.{Fails, Floor, S
 use Rattle.cts_model.specs.Circuits.{IsCircuit}
 use Rattle.cts_model.specs.Tables.{IsTable}
 use Rattle.cts_model.specs.PlainTable.{IsPlainTable}
-use Rattle.cts_model.specs.Netlists.{AcceptsNetlist}
 use Rattle.cts_program.specs.Texts.{text_of, zero_lines, IsZeroText}
 use Rattle.cts_program.specs.Run.{IsZeroAnswer, Answers, AnswersInPart}
 use Rattle.cts_program.proofs.OneText.{one_text}

@@ -1,5 +1,5 @@
 -- A circuit and a table have one text: the least period is one, and so is the first pair that shows it.
-use Rattle.std.proofs.Common.{ℕ, ◌≡◌, ◌<◌, ◌≤◌, ◌⊎◌, inl, inr, List, refl, ap, sym, ◌∙◌, subst, arith, ℤ, ◌≤ℤ◌, ◌<ℤ◌}
+use Rattle.std.proofs.Common.{ℕ, ◌≡◌, inl, inr, List, ap, sym, ◌∙◌, subst, arith, ℤ, ◌≤ℤ◌}
 use Rattle.std.proofs.lemmas.Bool.{cases_lt}
 use Rattle.std.proofs.lemmas.Int.{ints}
 use Rattle.cts_model.specs.declared.circuit.Circuit.{Circuit}
@@ -8,7 +8,6 @@ use Rattle.cts_model.specs.declared.timing.PairDelay.{PairDelay}
 use Rattle.cts_model.specs.declared.timing.ZeroSkew.{ZeroSkew}
 use Rattle.cts_model.specs.declared.timing.ZeroSkew.TheVariants.{Fails, Floor, Setup}
 use Rattle.cts_model.specs.Paths.{IsPath}
-use Rattle.cts_model.specs.Delays.{least_delay, greatest_delay}
 use Rattle.cts_model.specs.EqualArrivals.{IsPairDelay, IsFirstPair, NeedsPeriod, IsEnough, IsFailing, IsFloor, IsSetup, IsZeroSkew}
 use Rattle.cts_program.specs.Texts.{text_of, zero_lines, IsZeroText}
 

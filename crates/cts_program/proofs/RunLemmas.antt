@@ -1,5 +1,5 @@
 -- What the causes of failures leave of the exit status.
-use Rattle.std.proofs.Common.{ℕ, ◌≡◌, ◌≢◌, ◌⊎◌, inl, inr, List, Option, Some, refl, ap, sym, ◌∙◌, subst}
+use Rattle.std.proofs.Common.{ℕ, ◌≡◌, ◌≢◌, ◌⊎◌, inl, inr, List, Option, Some, refl, subst}
 use Rattle.cts_io.specs.Device.{Rose}
 use Rattle.bench_reader.specs.Plain.{IsPlainNetlist}
 use Rattle.bench_reader.proofs.OneFault.{no_fault}

@@ -1,4 +1,4 @@
-use Rattle.std.proofs.Common.{◌≡◌, ◌∙◌, sym, ap, Err}
+use Rattle.std.proofs.Common.{◌∙◌, sym, ap, Err}
 use Rattle.cts_program.proofs.RunLemmas.{done_not_refused, fails_without_text, writes_at_five, refused_status, complete_status}
 use Rattle.cts_program.proofs.run.run.Goals as goal
 

@@ -1,4 +1,4 @@
-use Rattle.std.proofs.Common.{◌≡◌, string_bytes}
+use Rattle.std.proofs.Common.{string_bytes}
 use Rattle.cts_program.proofs.CommandLemmas.{zero_command}
 use Rattle.cts_program.proofs.zero.netlist_file.Goals as goal
 

@@ -1,5 +1,3 @@
-use Rattle.std.proofs.Common.{◌≡◌, ◌≤◌, ◌<◌, ℕ, Some, length, arith, ap, get_or}
-use Rattle.std.specs.List.{slice_get}
 use Rattle.std.proofs.lemmas.Option.{slice_get-get_or}
 use Rattle.cts_program.proofs.JoinedPairs.{first_pair, none_further, none_left}
 use Rattle.cts_program.proofs.zero_skew.first_joined.Goals as goal

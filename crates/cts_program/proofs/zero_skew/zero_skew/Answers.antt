@@ -1,5 +1,5 @@
 -- The table's numbers are small, so the code's are the same.
-use Rattle.std.proofs.Common.{◌≡◌, ℕ, arith, ◌≤ℤ◌, ◌<ℤ◌, ◌+ℤ◌}
+use Rattle.std.proofs.Common.{arith, ◌≤ℤ◌, ◌<ℤ◌, ◌+ℤ◌}
 use Rattle.std.proofs.lemmas.Int.{ints}
 use Rattle.cts_program.proofs.DirectPaths.{fails, floor_enough, floor_alone, needs}
 use Rattle.cts_program.proofs.zero_skew.zero_skew.Goals as goal

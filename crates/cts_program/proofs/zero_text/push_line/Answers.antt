@@ -1,4 +1,4 @@
-use Rattle.std.proofs.Common.{◌≡◌, ◌++◌, ◌∷◌, take, map, ◌∙◌, append_assoc, refl}
+use Rattle.std.proofs.Common.{◌∙◌, append_assoc}
 use Rattle.std.proofs.lemmas.List.{take_all}
 use Rattle.cts_program.proofs.LineLemmas.{join_with_byte-map}
 use Rattle.cts_program.proofs.zero_text.push_line.Goals as goal
