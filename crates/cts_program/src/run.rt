@@ -3,7 +3,7 @@ ghost use Rattle.bench_reader.specs.Plain.{IsPlainNetlist};
 ghost use Rattle.cts_io.specs.Device.{Rose};
 ghost use Rattle.cts_program.specs.declared.failure.Failure.{Failure};
 ghost use Rattle.cts_program.specs.Failures.{status_of, failure_line, Reports};
-ghost use Rattle.cts_program.specs.Run.{IsZeroCommand, IsNoCommand, IsShortFile, IsRefused, Answers, AnswersInPart};
+ghost use Rattle.cts_program.specs.Run.{IsZeroCommand, IsNoCommand, IsShortFile, IsRefused, Answers, AnswersInPart, Fails};
 
 use crate::zero::zero;
 use cts_io::{Inputs, Sink};
@@ -25,8 +25,9 @@ pub fn run<I: Inputs, O: Sink, E: Sink>(
         → I.holds inputs.old file ≡ Some bytes → O.written out.old ≡ Some before
         → Answers bytes (O.written out.old) (O.written out.new) → result ≡ 0 }
 
-    // 2: exactly where the words are no command.
+    // 2: exactly where the words are no command. No file is touched then.
     ensures usage { (result ≡ 2) ↔ IsNoCommand (map string_bytes words.now) }
+    ensures untouched { result ≡ 2 → inputs.new ≡ inputs.old }
 
     // 3: exactly where the file is too long or its netlist has a fault, unless it can't be read or
     // memory runs out.
@@ -46,14 +47,16 @@ pub fn run<I: Inputs, O: Sink, E: Sink>(
         → (Rose (I.faults inputs.old file) (I.faults inputs.new file) → ⊥)
         → (Rose (O.faults out.old) (O.faults out.new) → ⊥) → (result ≡ 0) ⊎ (result ≡ 6) }
 
-    // The output keeps what it had, but for status 0 and, with a front of the text, status 5.
+    // Files hold what they held. The output keeps what it had, but for status 0 and, with a front of the text, status 5.
+    ensures files { (file : List ℕ) → I.holds inputs.new file ≡ I.holds inputs.old file }
     ensures kept { result ≢ 0 → result ≢ 5 → O.written out.new ≡ O.written out.old }
     ensures part { result ≡ 5 → (file bytes : List ℕ) → IsZeroCommand (map string_bytes words.now) file
         → I.holds inputs.old file ≡ Some bytes → AnswersInPart bytes (O.written out.old) (O.written out.new) }
 
-    // Every other status is that of a failure whose line stands on `err`.
+    // Every other status is that of a failure that has its cause, and whose line stands on `err`.
     ensures quiet { result ≡ 0 → E.written err.new ≡ E.written err.old }
     ensures told { result ≢ 0 → (failure : Failure) × (result ≡ status_of failure)
+        × Fails (map string_bytes words.now) (I.holds inputs.old) (I.faults inputs.old) (I.faults inputs.new) (O.faults out.old) (O.faults out.new) failure
         × Reports (failure_line failure) (E.written err.old) (E.faults err.old) (E.written err.new) (E.faults err.new) }
 {
     match zero(alloc, words, inputs, out) {

@@ -1,6 +1,6 @@
 use crate::run::run;
 use cts_base::{Listed, NoMemory};
-use cts_io::{HeldFile, MemoryInputs, MemorySink};
+use cts_io::{HeldFile, Inputs, MemoryInputs, MemorySink};
 use std::alloc::{AllocError, Global};
 use std::process::Abort;
 use std::test::Fail;
@@ -10,10 +10,13 @@ const USAGE: &str =
 
 const NO_PATH: &str = "INPUT(x)\na = DFF(x)\n";
 
+const FLOOR: &str = "zero 0\nfloor\n";
+
 /// What a run leaves.
 #[derive(Drop)]
 struct Seen {
     status: u8,
+    inputs: MemoryInputs,
     out: MemorySink,
     err: MemorySink,
 }
@@ -70,7 +73,12 @@ fn run_over(
     let mut out = out;
     let mut err = err;
     let status = run(alloc, &command, &mut inputs, &mut out, &mut err);
-    Ok(Seen { status, out, err })
+    Ok(Seen {
+        status,
+        inputs,
+        out,
+        err,
+    })
 }
 
 // What `zero --bench F` leaves where F holds this text, and no device fails.
@@ -139,10 +147,10 @@ fn refuses_netlists(rt: HostRuntime) -> Result<(), Fail> {
     Ok(())
 }
 
-// A start would fail here, and the status would say so.
+// The first call on the inputs fails, and it is still to come: no file was started.
 fn expect_usage(rt: &impl Abort, alloc: Global, command: &[&str]) -> Result<(), NoMemory> {
     let inputs = file_f(alloc, NO_PATH.as_bytes(), &[1], 100)?;
-    let seen = run_over(
+    let mut seen = run_over(
         alloc,
         command,
         inputs,
@@ -150,6 +158,7 @@ fn expect_usage(rt: &impl Abort, alloc: Global, command: &[&str]) -> Result<(), 
         sink(alloc, 1000, &[])?,
     )?;
     seen.expect(rt, 2, "", USAGE, "words");
+    assert!(rt; seen.inputs.start("F").is_err(), "a file was started");
     Ok(())
 }
 
@@ -202,8 +211,6 @@ fn long_name(alloc: Global, length: usize) -> Result<Vec<u8>, AllocError> {
     netlist.extend_from_slice(b")\na = DFF(a)\n")?;
     Ok(netlist)
 }
-
-const FLOOR: &str = "zero 0\nfloor\n";
 
 #[test]
 fn counts_signals(rt: HostRuntime) -> Result<(), Fail> {

@@ -25,6 +25,8 @@ pub fn zero<I: Inputs, O: Sink>(
         × ((bytes : List ℕ) → I.holds inputs.old file ≡ Some bytes → Answers bytes (O.written out.old) (O.written out.new))) }
     ensures cause { IfErr result (Fails (map string_bytes words.now) (I.holds inputs.old)
         (I.faults inputs.old) (I.faults inputs.new) (O.faults out.old) (O.faults out.new)) }
+    ensures files { (file : List ℕ) → I.holds inputs.new file ≡ I.holds inputs.old file }
+    ensures untouched { IsErrOf result Failure.Usage → inputs.new ≡ inputs.old }
     ensures kept { IfErr result (λ failure. failure ≢ Failure.WriteFault → O.written out.new ≡ O.written out.old) }
     ensures part { IsErrOf result Failure.WriteFault → (file bytes : List ℕ) → IsZeroCommand (map string_bytes words.now) file
         → I.holds inputs.old file ≡ Some bytes → AnswersInPart bytes (O.written out.old) (O.written out.new) }
@@ -69,6 +71,7 @@ fn zero_answer<I: Inputs>(alloc: Global, inputs: &mut I, file: &str) -> Result<V
     ensures ok { IfOk result (λ text. (bytes : List ℕ) → I.holds inputs.old file.now ≡ Some bytes
         → IsShortFile bytes × IsZeroAnswer bytes text.items) }
     ensures cause { IfErr result (FailsFile (I.holds inputs.old file.now) (I.faults inputs.old file.now) (I.faults inputs.new file.now)) }
+    ensures files { (other : List ℕ) → I.holds inputs.new other ≡ I.holds inputs.old other }
 {
     let bytes = read_whole(alloc, inputs, file, FILE_LIMIT)?;
     netlist_answer(alloc, &bytes)
