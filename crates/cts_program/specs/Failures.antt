@@ -8,11 +8,13 @@ use Rattle.bench_reader.specs.declared.fault.BenchFault.TheVariants as bench
 use Rattle.cts_program.specs.declared.failure.Failure.{Failure}
 use Rattle.cts_program.specs.declared.failure.Failure.TheVariants.{Usage, TooLong, Bench, ReadFault, WriteFault, NoMemory}
 
+-- the failure where the netlist's file isn't read whole
 abbrev pub read_failure_of : ReadWhole → Failure
 read_failure_of read.Failed = ReadFault
 read_failure_of read.TooLong = TooLong
 read_failure_of read.NoMemory = NoMemory
 
+-- the failure where the netlist isn't read
 abbrev pub bench_failure_of : BenchFault → Failure
 bench_failure_of bench.NoMemory = NoMemory
 bench_failure_of fault = Bench fault
@@ -26,9 +28,11 @@ status_of ReadFault = 4
 status_of WriteFault = 5
 status_of NoMemory = 6
 
+-- a line with the line feed that ends it
 abbrev pub ended : List ℕ → List ℕ
 ended line = line ++ 10 ∷ []
 
+-- the line for a fault of a netlist, with the number of the fault and of the line
 abbrev pub bench_line : BenchFault → List ℕ
 bench_line (bench.NotYet line) = ended (codes "refused bench 10 line " ++ decimal line)
 bench_line (bench.Undefined line) = ended (codes "refused bench 6 line " ++ decimal line)

@@ -18,6 +18,7 @@ pub record IsSmallPair (pair : PairDelay) : Type 0 where
   pub least : IsWithin 0 66000000000 pair.least
   pub greatest : IsWithin 0 66000000000 pair.greatest
 
+-- the pair that an outcome names, if any, has such delays
 abbrev pub HasSmallDelays : ZeroSkew → Type 0
 HasSmallDelays (Fails pair) = IsSmallPair pair
 HasSmallDelays (Floor value) = Unit {0}
