@@ -30,8 +30,11 @@ expect order 0 $'zero 5\nsetup b c 5' '' "$top/cts" zero --bench "$top/examples/
 expect comments 0 $'zero 5\nsetup q1 q2 5' '' "$top/cts" zero --bench "$top/examples/comments.bench"
 expect keywords 0 $'zero 0\nfloor' '' "$top/cts" zero --bench "$top/examples/keywords.bench"
 
+expect 's27' 3 '' 'refused bench 10' "$top/cts" zero --bench "$top/examples/s27.bench"
+expect 'a ring of gates' 3 '' 'refused bench 7 g h' "$top/cts" zero --bench "$top/examples/ring_of_gates.bench"
+
 printf 'INPUT(x)\na = DFF(x' >"$work/cut.bench"
-expect 'a cut netlist' 3 '' 'refused bench 10 line 2' "$top/cts" zero --bench "$work/cut.bench"
+expect 'a cut netlist' 3 '' 'refused bench 1 line 2' "$top/cts" zero --bench "$work/cut.bench"
 expect 'a missing file' 4 '' 'read fault bench' "$top/cts" zero --bench "$work/missing.bench"
 expect 'a folder as the file' 4 '' 'read fault bench' "$top/cts" zero --bench "$work"
 

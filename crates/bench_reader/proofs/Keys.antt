@@ -1,13 +1,12 @@
 -- Names as the keys of a set: looking them up by their bytes.
-use Rattle.std.proofs.Common.{◌≡◌, ℕ, ◌+◌, ◌<◌, Bool, true, false, not, cond, ◌||◌, List, [], ◌∷◌, length, map, Contains, position, MatchBool, refl, ap, arith}
+use Rattle.std.proofs.Common.{◌≡◌, ℕ, ◌+◌, Bool, false, not, cond, ◌||◌, List, [], ◌∷◌, ◌++◌, map, Contains, position, refl, sym, ap, ◌∙◌, arith}
 use Rattle.std.specs.Str.{bytes_eq}
 use Rattle.std.specs.List.{list_any, position_or_len}
-use Rattle.std.specs.Cmp.Lexicographic.{bytes_decides, nat_list_eq_equiv}
-use Rattle.std.proofs.lemmas.List.{length-map}
+use Rattle.std.specs.Cmp.Lexicographic.{nat_list_eq_equiv}
+use Rattle.std.proofs.lemmas.List.{length-map, map_push}
 use Rattle.std.proofs.lemmas.Map.Views.{list_any-from_Contains}
-use Rattle.indexmap.proofs.CallerLemmas.{Contains-list_any}
+use Rattle.indexmap.specs.IndexSet.{insert_key}
 use Rattle.cts_model.specs.Netlists.{number_of}
-use Rattle.bench_reader.specs.PlainLines.{MayDefine}
 
 module _ {X Y : Type 0} (f : X → Y) (test : Y → Bool) where
   -- so many items before the first that passes
@@ -28,18 +27,13 @@ module _ {X Y : Type 0} (f : X → Y) (test : Y → Bool) where
 pub absent_from_any : (names : List (List ℕ)) (name : List ℕ) → list_any (bytes_eq name) names ≡ false → Contains names name → ⊥
 absent_from_any names name none there = let found = list_any-from_Contains nat_list_eq_equiv name names there in grind (arith, found)
 
--- and one that a key equals is
-pub present_from_any : (names : List (List ℕ)) (name : List ℕ) → list_any (bytes_eq name) names ≡ true → Contains names name
-present_from_any names name some = Contains-list_any bytes_eq (λ a b same. (bytes_decides a b).0 same) names name some
-
--- what a set answers where a name is put into it
-pub may_define : (names : List (List ℕ)) (name key : List ℕ) (added : Bool) → length names < 65536 → key ≡ name → added ≡ not (list_any (bytes_eq key) names) → MatchBool added (MayDefine names name) (MayDefine names name → ⊥)
-may_define names name key added few same answer = rw (answer, same) (at (list_any (bytes_eq name) names) refl)
-  where
-    at : (found : Bool) → list_any (bytes_eq name) names ≡ found → MatchBool (not found) (MayDefine names name) (MayDefine names name → ⊥)
-    at true some = λ may. may.once (present_from_any names name some)
-    at false none = record { few = few; once = absent_from_any names name none }
-
 -- the number of a name among names that keys hold
 pub number_of-keys : {X : Type 0} (keys : List X) (bytes : X → List ℕ) (name : List ℕ) → number_of (map bytes keys) name ≡ position (λ key. bytes_eq name (bytes key)) keys
 number_of-keys keys bytes name = position-map bytes (bytes_eq name) keys
+
+-- a name that no key has comes last
+pub insert_key-new : {X : Type 0} (bytes : X → List ℕ) (keys new : List X) (key : X) (name : List ℕ) → bytes key ≡ name → list_any (bytes_eq name) (map bytes keys) ≡ false
+    → new ≡ insert_key (λ first second. bytes_eq (bytes first) (bytes second)) keys key → map bytes new ≡ map bytes keys ++ name ∷ []
+insert_key-new bytes keys new key name same absent inserted =
+    let none : list_any (λ other. bytes_eq (bytes key) (bytes other)) keys ≡ false = sym (list_any-map bytes (bytes_eq (bytes key)) keys) ∙ ap (λ n. list_any (bytes_eq n) (map bytes keys)) same ∙ absent in
+    rw (inserted, none) (map_push bytes keys key ∙ ap (λ n. map bytes keys ++ n ∷ []) same)

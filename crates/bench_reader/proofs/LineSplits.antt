@@ -3,7 +3,7 @@ use Rattle.std.proofs.Common.{◌≡◌, ℕ, ◌+◌, List, [], ◌∷◌, ◌+
 use Rattle.std.proofs.lemmas.List.{length_push}
 use Rattle.std.specs.List.{enumerate_from}
 use Rattle.cts_base.specs.Lines.{lines_of, numbered_lines}
-use Rattle.bench_reader.specs.PlainLines.{IsLine}
+use Rattle.bench_reader.specs.Lines.{IsLine}
 
 -- these lines are passed, and those that are left have their numbers
 pub record IsPassed (text : List ℕ) (left : List (ℕ × List ℕ)) (passed : List (List ℕ)) : Type 0 where

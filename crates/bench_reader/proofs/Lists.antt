@@ -1,7 +1,7 @@
 -- Lists that grow at their end.
-use Rattle.std.proofs.Common.{◌≡◌, zero, suc, get_or, AllPairs, IsSome, List, [], ◌∷◌, ◌++◌, length, ◌⊎◌, inl, inr, Option, Some, None, IfSome, All, refl, sym, ap, ◌∙◌, subst, arith, map}
+use Rattle.std.proofs.Common.{◌≡◌, zero, suc, get_or, AllPairs, IsSome, List, [], ◌∷◌, ◌++◌, length, ◌⊎◌, inl, inr, Option, Some, None, IfSome, All, refl, sym, ap, subst, arith, map}
 use Rattle.std.specs.List.{filter_map, cons_option}
-use Rattle.std.proofs.lemmas.List.Elements.{All-nil, All-cons, All-head, All-tail, filter_map-append}
+use Rattle.std.proofs.lemmas.List.Elements.{All-nil, All-cons, All-head, All-tail}
 use Rattle.std.proofs.lemmas.List.{length-map, get_or-map}
 
 -- no item has a place in the empty list
@@ -20,15 +20,6 @@ split_push (w ∷ xs) x (z ∷ earlier) y later e = elim (split_push xs x earlie
 ]
 
 module _ {X Y : Type 0} (pick : X → Option Y) where
-  -- an item at the end from which nothing is picked
-  pub filter_map_push_none : (xs : List X) (x : X) → pick x ≡ None → filter_map pick (xs ++ x ∷ []) ≡ filter_map pick xs
-  filter_map_push_none [] x none = rw none refl
-  filter_map_push_none (w ∷ xs) x none = ap (cons_option (pick w)) (filter_map_push_none xs x none)
-
-  -- and one from which something is
-  pub filter_map_push_some : (xs : List X) (x : X) (y : Y) → pick x ≡ Some y → filter_map pick (xs ++ x ∷ []) ≡ filter_map pick xs ++ y ∷ []
-  filter_map_push_some xs x y some = filter_map-append pick xs (x ∷ []) ∙ ap (λ o. filter_map pick xs ++ cons_option o []) some
-
   -- what is picked from the items has P, where it has from each
   pub All-filter_map : (Q : X → Type 0) (P : Y → Type 0) → ((x : X) → Q x → IfSome (pick x) P) → (xs : List X) → All Q xs → All P (filter_map pick xs)
   All-filter_map Q P gives [] all = All-nil P

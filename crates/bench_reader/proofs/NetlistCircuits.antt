@@ -9,14 +9,15 @@ use Rattle.std.proofs.lemmas.List.Sums.{sum_by-cons}
 use Rattle.std.proofs.lemmas.List.Elements.{All-nil, All-cons, All-head, All-tail, All-map, All-filter, All-weaker, filter_passes}
 use Rattle.std.proofs.lemmas.List.Quantifiers.{position-Some}
 use Rattle.std.proofs.lemmas.List.Kept.{AllPairs-filter}
-use Rattle.cts_base.specs.Lines.{lines_of}
 use Rattle.cts_model.specs.declared.kind.Kind.{Kind}
-use Rattle.cts_model.specs.Kinds.{is_register, is_gate, is_lawful, kind_of}
-use Rattle.cts_model.specs.Circuits.{IsCircuit, register_number, registers_of, gate_inputs}
-use Rattle.cts_model.specs.Statements.{Statement, Blank, Input, Output, Assign, Definition, definition_of, mention_of}
-use Rattle.cts_model.specs.Netlists.{IsNetlist, UsesDefined, statements_in, definitions_in, defined_names, register_count, gate_inputs_of, number_of, signal_of, signals_of, outputs_of, first_mentions}
+use Rattle.cts_model.specs.Kinds.{is_register, is_gate, is_host, is_lawful, kind_of}
+use Rattle.cts_model.specs.Circuits.{IsCircuit, is_named, register_number, registers_of, gate_inputs}
+use Rattle.cts_model.specs.Statements.{Statement, Blank, Input, Output, Assign, Definition, definition_of}
+use Rattle.cts_model.specs.Flaws.{defined_names, register_count, gate_inputs_of, gate_input_count}
+use Rattle.cts_model.specs.Netlists.{UsesDefined, number_of, signal_of, first_mentions}
 use Rattle.bench_reader.proofs.Lists.{All-filter_map, length-filter_map, AllPairs-map, AllPairs-cons}
-use Rattle.bench_reader.proofs.LawfulDefinitions.{AreLawful, HasName, lawful_lines}
+use Rattle.bench_reader.proofs.LawfulDefinitions.{AreLawful}
+use Rattle.bench_reader.proofs.Hostless.{IsHostless, no_host}
 
 -- a name's number is below the count of the names
 number_within : (names : List (List ℕ)) (name : List ℕ) → IfSome (number_of names name) (λ number. number < length names)
@@ -31,11 +32,11 @@ pub numbers_within : (names used : List (List ℕ)) → All (λ number. number <
 numbers_within names used = All-filter_map (number_of names) (λ _. Unit {0}) (λ number. number < length names) (λ name _. number_within names name) used (λ k d within. tt)
 
 -- what a definition reads is defined
-abbrev HasDefinedInputs : List (List ℕ) → Definition → Type 0
+abbrev pub HasDefinedInputs : List (List ℕ) → Definition → Type 0
 HasDefinedInputs names definition = All (λ name. IsSome (number_of names name)) definition.inputs
 
 -- a definition reads what its statement uses
-inputs_defined : (names : List (List ℕ)) (statement : Statement) → UsesDefined names statement → IfSome (definition_of statement) (HasDefinedInputs names)
+pub inputs_defined : (names : List (List ℕ)) (statement : Statement) → UsesDefined names statement → IfSome (definition_of statement) (HasDefinedInputs names)
 inputs_defined names Blank uses = tt
 inputs_defined names (Input name) uses = All-nil _
 inputs_defined names (Output name) uses = tt
@@ -66,7 +67,7 @@ pub length-registers_of : (names : List (List ℕ)) (definitions : List Definiti
 length-registers_of names definitions = register_places names 0 definitions
 
 -- the gates have as many inputs as are given
-gate_inputs_same : (names : List (List ℕ)) (definitions : List Definition) → All (HasDefinedInputs names) definitions → sum_by gate_inputs (map (signal_of names) definitions) ≡ sum_by gate_inputs_of definitions
+gate_inputs_same : (names : List (List ℕ)) (definitions : List Definition) → All (HasDefinedInputs names) definitions → sum_by gate_inputs (map (signal_of names) definitions) ≡ gate_input_count definitions
 gate_inputs_same names [] all = refl
 gate_inputs_same names (definition ∷ definitions) all =
     let here : gate_inputs (signal_of names definition) ≡ gate_inputs_of definition = ap (λ n. if is_gate definition.kind then n else 0) (length-filter_map (number_of names) definition.inputs (All-head (HasDefinedInputs names) definition definitions all)) in
@@ -88,17 +89,18 @@ once_first_mentions (number ∷ numbers) =
     (AllPairs-filter (λ first second. first ≢ second) (λ other. not (other == number)) (first_mentions numbers) (once_first_mentions numbers))
 
 -- definitions that are lawful, and that read each other alone, make a circuit
-circuit_from : (definitions : List Definition) (mentioned : List (List ℕ)) → AreLawful definitions → All (HasDefinedInputs (defined_names definitions)) definitions → 0 < register_count definitions
+pub circuit_from : (definitions : List Definition) (mentioned : List (List ℕ)) → AreLawful definitions → All IsHostless definitions → All (HasDefinedInputs (defined_names definitions)) definitions → 0 < register_count definitions
     → IsCircuit (map (signal_of (defined_names definitions)) definitions) (registers_of (map (signal_of (defined_names definitions)) definitions)) (first_mentions (filter_map (number_of (defined_names definitions)) mentioned))
-circuit_from definitions mentioned lawful defined some =
+circuit_from definitions mentioned lawful hostless defined some =
     let same_length : length (defined_names definitions) ≡ length (map (signal_of (defined_names definitions)) definitions) = length-map definitions (λ d. d.name) ∙ sym (length-map definitions (signal_of (defined_names definitions))) in
     record {
-      names = All-map (λ signal. HasName signal.name) (signal_of (defined_names definitions)) definitions lawful.names;
+      names = All-map (λ signal. IsTrue (is_named signal)) (signal_of (defined_names definitions)) definitions (λ k d within. rw (hostless k d within) (lawful.names k d within));
       distinct = AllPairs-map (λ first second. first.name ≢ second.name) (signal_of (defined_names definitions)) definitions lawful.distinct;
       lawful = All-map (λ s. IsTrue (is_lawful s.kind (length s.fan_in))) (signal_of (defined_names definitions)) definitions
           (λ k d within. rw (length-filter_map (number_of (defined_names definitions)) (get_or definitions k d).inputs (defined k d within)) (lawful.lawful k d within));
       read = All-map (λ s. All (λ number. number < length (map (signal_of (defined_names definitions)) definitions)) s.fan_in) (signal_of (defined_names definitions)) definitions
           (λ k d within. rw (← same_length) (numbers_within (defined_names definitions) (get_or definitions k d).inputs));
+      host = λ number signal here is. absurd (no_host (map (signal_of (defined_names definitions)) definitions) number signal (All-map (λ s. is_host s.kind ≡ false) (signal_of (defined_names definitions)) definitions hostless) here is);
       registers_are = refl;
       some_register = omega (arith, some, length-registers_of (defined_names definitions) definitions);
       outputs_are = rw (← same_length) (All-first_mentions (λ number. number < length (defined_names definitions)) _ (numbers_within (defined_names definitions) mentioned));
@@ -107,10 +109,3 @@ circuit_from definitions mentioned lawful defined some =
       few_registers = omega (arith, lawful.few_registers, length-registers_of (defined_names definitions) definitions);
       few_inputs = omega (arith, lawful.few_inputs, gate_inputs_same (defined_names definitions) definitions defined);
     }
-
--- so do those of a netlist
-pub circuit_of : (text : List ℕ) → IsNetlist text → IsCircuit (signals_of text) (registers_of (signals_of text)) (outputs_of text)
-circuit_of text netlist =
-    circuit_from (definitions_in (lines_of text)) (filter_map mention_of (statements_in (lines_of text))) (lawful_lines (lines_of text) netlist.lines)
-    (All-filter_map definition_of (UsesDefined (defined_names (definitions_in (lines_of text)))) (HasDefinedInputs (defined_names (definitions_in (lines_of text)))) (inputs_defined _) (statements_in (lines_of text)) netlist.defined)
-    netlist.some_register

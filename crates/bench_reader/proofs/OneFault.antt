@@ -1,106 +1,184 @@
--- A text has one fault at the most, and a netlist has none.
-use Rattle.std.proofs.Common.{◌≡◌, ◌≢◌, ◌<◌, ◌⊎◌, inl, inr, ℕ, List, [], ◌∷◌, ◌++◌, length, Result, Ok, Err, IfOk, IfErr, IsErrOf, IsOkUnless, refl, sym, ap, ◌∙◌, arith, subst}
-use Rattle.std.proofs.lemmas.Bool.{cases_lt}
-use Rattle.std.specs.List.{All}
+-- A text has one fault at the most, but for which ring of gates is named, and a netlist has none.
+use Rattle.std.proofs.Common.{◌≡◌, ◌≢◌, ◌⊎◌, inl, inr, ℕ, List, length, None, Result, Ok, Err, IfOk, IfErr, IsErrAnd, IsOkUnless, refl, sym, ap, ◌∙◌, arith, subst}
+use Rattle.std.proofs.lemmas.Option.{same_Some}
 use Rattle.cts_base.specs.Lines.{lines_of}
 use Rattle.cts_model.specs.declared.circuit.Circuit.{Circuit}
-use Rattle.cts_model.specs.Netlists.{UsesDefined, definitions_in, defined_names, statements_in}
+use Rattle.cts_model.specs.Flaws.{Limit, Flaw, flaw_of}
+use Rattle.cts_model.specs.Flaws as flaws
+use Rattle.cts_model.specs.Netlists.{AreFlawless, AreDefined, UsesDefined, AcceptsNetlist, IsNetlist, names_in}
+use Rattle.bench_reader.specs.declared.fault.Which.{Which}
+use Rattle.bench_reader.specs.declared.fault.Which.TheVariants.{Name, Signals, Registers, Inputs}
 use Rattle.bench_reader.specs.declared.fault.BenchFault.{BenchFault}
-use Rattle.bench_reader.specs.declared.fault.BenchFault.TheVariants.{NotYet, Undefined, NoRegisters, NoMemory}
-use Rattle.bench_reader.specs.Plain.{IsPlainNetlist}
-use Rattle.bench_reader.specs.PlainLines.{ArePlainLines, IsFirstNotPlain, IsFirstUndefined}
-use Rattle.bench_reader.specs.Refusals.{Refuses}
+use Rattle.bench_reader.specs.declared.fault.BenchFault.TheVariants.{BadLine, UnknownKind, WrongInputs, SignalTwice, TooLarge, Undefined, CombLoop, NoRegisters, NoMemory}
+use Rattle.bench_reader.specs.Lines.{IsFirstFlawed, IsFirstUndefined}
+use Rattle.bench_reader.specs.Refusals.{Refuses, IsSameFault, limit_of}
 use Rattle.bench_reader.proofs.LineStatements.{statement_at}
-use Rattle.bench_reader.proofs.PlainNetlists.{plain_lines_of}
+use Rattle.bench_reader.proofs.Places.{IsBehind, same_place, same_parts}
 
--- of two places in a list, the one further on has the other among the items before it
-pub record IsBehind {X : Type 0} (front further : List X) (item : X) : Type 0 where
-  pub between : List X
-  pub split : further ≡ front ++ item ∷ between
+-- a line with a flaw isn't among lines without one
+not_among : (text : List ℕ) (number : ℕ) (flaw : Flaw) → IsFirstFlawed text number flaw → AreFlawless (lines_of text) → ⊥
+not_among text number flaw first flawless =
+    let none : flaw_of first.earlier first.line ≡ None = flawless.each first.earlier first.line first.place.later first.place.split in
+    let some = first.flawed in
+    cc
 
--- the place with fewer items before it
-behind : {X : Type 0} (front : List X) (item : X) (rest : List X) (further : List X) (other : X) (others : List X) → front ++ item ∷ rest ≡ further ++ other ∷ others → length front < length further → IsBehind front further item
-behind [] item rest [] other others same shorter = absurd (omega arith)
-behind [] item rest (x ∷ further) other others same shorter = record { between = further; split = ap (λ y. y ∷ further) (cc same) }
-behind (y ∷ front) item rest [] other others same shorter = absurd (omega arith)
-behind (y ∷ front) item rest (x ∷ further) other others same shorter =
-    let heads : y ≡ x = cc same in
-    let tails : front ++ item ∷ rest ≡ further ++ other ∷ others = cc same in
-    let found = behind front item rest further other others tails (omega arith) in
-    record { between = found.between; split = λ i. sym heads i ∷ found.split i }
+-- a first flawed line isn't behind another
+not_behind : (text : List ℕ) (number other : ℕ) (flaw other_flaw : Flaw) (first : IsFirstFlawed text number flaw) (second : IsFirstFlawed text other other_flaw) → IsBehind first.earlier second.earlier first.line → ⊥
+not_behind text number other flaw other_flaw first second found =
+    let none : flaw_of first.earlier first.line ≡ None = second.flawless.each first.earlier first.line found.between found.split in
+    let some = first.flawed in
+    cc
 
--- two places of which neither is behind the other are one
-same_place : {X : Type 0} (front : List X) (item : X) (rest : List X) (further : List X) (other : X) (others : List X) → front ++ item ∷ rest ≡ further ++ other ∷ others
-    → (IsBehind front further item → ⊥) → (IsBehind further front other → ⊥) → length front ≡ length further
-same_place front item rest further other others same not_behind not_before = elim (cases_lt (length front) (length further)) [
-  | inl before ↦ absurd (not_behind (behind front item rest further other others same before))
-  | inr not_less ↦ elim (cases_lt (length further) (length front)) [
-    | inl after ↦ absurd (not_before (behind further other others front item rest (sym same) after))
-    | inr not_more ↦ omega arith
-  ]
-]
+module _ (text : List ℕ) (number other : ℕ) (flaw other_flaw : Flaw) (first : IsFirstFlawed text number flaw) (second : IsFirstFlawed text other other_flaw) where
+  -- two first flawed lines have as many lines before them
+  place : length first.earlier ≡ length second.earlier
+  place = same_place first.earlier first.line first.place.later second.earlier second.line second.place.later (sym first.place.split ∙ second.place.split)
+      (not_behind text number other flaw other_flaw first second) (not_behind text other number other_flaw flaw second first)
 
--- the first line that isn't plain has one number
-same_number : (text : List ℕ) (number other : ℕ) → IsFirstNotPlain text number → IsFirstNotPlain text other → number ≡ other
-same_number text number other first first' =
-    let place = same_place first.earlier first.line first.place.later first'.earlier first'.line first'.place.later (sym first.place.split ∙ first'.place.split)
-    (λ found. first.refused (first'.plain.each first.earlier first.line found.between found.split))
-    (λ found. first'.refused (first.plain.each first'.earlier first'.line found.between found.split)) in
-    omega (arith, place, first.place.number_is, first'.place.number_is)
+  -- so they have one number
+  same_number : number ≡ other
+  same_number = omega (arith, place, first.place.number_is, second.place.number_is)
 
--- a line that isn't plain isn't among plain lines
-not_among : (text : List ℕ) (number : ℕ) → IsFirstNotPlain text number → ArePlainLines (lines_of text) → ⊥
-not_among text number first plain = first.refused (plain.each first.earlier first.line first.place.later first.place.split)
+  -- and one flaw
+  same_flaw : flaw ≡ other_flaw
+  same_flaw =
+      let parts = same_parts first.earlier first.line first.place.later second.earlier second.line second.place.later (sym first.place.split ∙ second.place.split) place in
+      same_Some flaw other_flaw (sym first.flawed ∙ (λ i. flaw_of (parts.same_front i) (parts.same_item i)) ∙ second.flawed)
+
+-- the limit that a flaw names, as a refusal names it
+abbrev which_of : Limit → Which
+which_of flaws.Name = Name
+which_of flaws.Signals = Signals
+which_of flaws.Registers = Registers
+which_of flaws.Inputs = Inputs
+
+-- the refusal of a line with a flaw
+abbrev fault_at : ℕ → Flaw → BenchFault
+fault_at number flaws.BadLine = BadLine number
+fault_at number flaws.UnknownKind = UnknownKind number
+fault_at number flaws.WrongInputs = WrongInputs number
+fault_at number flaws.SignalTwice = SignalTwice number
+fault_at number (flaws.TooLarge limit) = TooLarge number (which_of limit)
+
+-- a refusal names the limit that it was told
+which_of-limit_of : (which : Which) → which_of (limit_of which) ≡ which
+which_of-limit_of Name = refl
+which_of-limit_of Signals = refl
+which_of-limit_of Registers = refl
+which_of-limit_of Inputs = refl
+
+-- a line with a flaw is the fault
+record IsLineFlaw (text : List ℕ) (fault : BenchFault) : Type 0 where
+  number : ℕ
+  flaw : Flaw
+  first : IsFirstFlawed text number flaw
+  fault_is : fault_at number flaw ≡ fault
+
+-- a fault is one of a line, or no line has a flaw
+flawed_or_not : (text : List ℕ) (fault : BenchFault) → fault ≢ NoMemory → Refuses text fault → IsLineFlaw text fault ⊎ AreFlawless (lines_of text)
+flawed_or_not text (BadLine number) named first = inl (record { number = number; flaw = flaws.BadLine; first = first; fault_is = refl })
+flawed_or_not text (UnknownKind number) named first = inl (record { number = number; flaw = flaws.UnknownKind; first = first; fault_is = refl })
+flawed_or_not text (WrongInputs number) named first = inl (record { number = number; flaw = flaws.WrongInputs; first = first; fault_is = refl })
+flawed_or_not text (SignalTwice number) named first = inl (record { number = number; flaw = flaws.SignalTwice; first = first; fault_is = refl })
+flawed_or_not text (TooLarge number which) named first = inl (record { number = number; flaw = flaws.TooLarge (limit_of which); first = first; fault_is = ap (TooLarge number) (which_of-limit_of which) })
+flawed_or_not text (Undefined number) named undefined = inr undefined.flawless
+flawed_or_not text NoRegisters named none = inr none.flawless
+flawed_or_not text (CombLoop names) named looped = inr looped.flawless
+flawed_or_not text NoMemory named free = absurd (named refl)
 
 -- a line that uses an undefined name isn't among lines that use defined ones
-among : (text : List ℕ) (number : ℕ) (first : IsFirstUndefined text number) (further : List (List ℕ)) → IsBehind first.earlier further first.line → All (UsesDefined (defined_names (definitions_in (lines_of text)))) (statements_in further) → ⊥
+among : (text : List ℕ) (number : ℕ) (first : IsFirstUndefined text number) (further : List (List ℕ)) → IsBehind first.earlier further first.line → AreDefined (names_in text) further → ⊥
 among text number first further found defined =
-    first.refused.undefined (statement_at (UsesDefined (defined_names (definitions_in (lines_of text)))) first.earlier first.line found.between first.refused.statement first.refused.form
-    (subst (λ lines. All (UsesDefined (defined_names (definitions_in (lines_of text)))) (statements_in lines)) found.split defined))
+    first.refused.undefined (statement_at (UsesDefined (names_in text)) first.earlier first.line found.between first.refused.statement first.refused.form (subst (AreDefined (names_in text)) found.split defined))
 
 -- the first line that uses a name which no line defines has one number
 same_use : (text : List ℕ) (number other : ℕ) → IsFirstUndefined text number → IsFirstUndefined text other → number ≡ other
-same_use text number other first first' =
-    let place = same_place first.earlier first.line first.place.later first'.earlier first'.line first'.place.later (sym first.place.split ∙ first'.place.split)
-    (λ found. among text number first first'.earlier found first'.defined)
-    (λ found. among text other first' first.earlier found first.defined) in
-    omega (arith, place, first.place.number_is, first'.place.number_is)
+same_use text number other first second =
+    let place = same_place first.earlier first.line first.place.later second.earlier second.line second.place.later (sym first.place.split ∙ second.place.split)
+    (λ found. among text number first second.earlier found second.defined)
+    (λ found. among text other second first.earlier found first.defined) in
+    omega (arith, place, first.place.number_is, second.place.number_is)
 
 -- so it isn't in a text whose lines all do
-not_defined : (text : List ℕ) (number : ℕ) → IsFirstUndefined text number → All (UsesDefined (defined_names (definitions_in (lines_of text)))) (statements_in (lines_of text)) → ⊥
+not_defined : (text : List ℕ) (number : ℕ) → IsFirstUndefined text number → AreDefined (names_in text) (lines_of text) → ⊥
 not_defined text number first defined = among text number first (lines_of text) (record { between = first.place.later; split = first.place.split }) defined
 
+-- a fault is the same as itself
+same_as_itself : (fault : BenchFault) → IsSameFault fault fault
+same_as_itself (CombLoop names) = tt
+same_as_itself (BadLine number) = refl
+same_as_itself (UnknownKind number) = refl
+same_as_itself (WrongInputs number) = refl
+same_as_itself (SignalTwice number) = refl
+same_as_itself (TooLarge number which) = refl
+same_as_itself (Undefined number) = refl
+same_as_itself NoRegisters = refl
+same_as_itself NoMemory = refl
+
+-- where no line has a flaw there is one fault
+one_later_fault : (text : List ℕ) (fault other : BenchFault) → AreFlawless (lines_of text) → Refuses text fault → Refuses text other → fault ≢ NoMemory → other ≢ NoMemory → IsSameFault fault other
+one_later_fault text (BadLine number) other flawless first cause named named' = absurd (not_among text number _ first flawless)
+one_later_fault text (UnknownKind number) other flawless first cause named named' = absurd (not_among text number _ first flawless)
+one_later_fault text (WrongInputs number) other flawless first cause named named' = absurd (not_among text number _ first flawless)
+one_later_fault text (SignalTwice number) other flawless first cause named named' = absurd (not_among text number _ first flawless)
+one_later_fault text (TooLarge number which) other flawless first cause named named' = absurd (not_among text number _ first flawless)
+one_later_fault text NoMemory other flawless free cause named named' = absurd (named refl)
+one_later_fault text fault (BadLine number) flawless cause first named named' = absurd (not_among text number _ first flawless)
+one_later_fault text fault (UnknownKind number) flawless cause first named named' = absurd (not_among text number _ first flawless)
+one_later_fault text fault (WrongInputs number) flawless cause first named named' = absurd (not_among text number _ first flawless)
+one_later_fault text fault (SignalTwice number) flawless cause first named named' = absurd (not_among text number _ first flawless)
+one_later_fault text fault (TooLarge number which) flawless cause first named named' = absurd (not_among text number _ first flawless)
+one_later_fault text fault NoMemory flawless cause free named named' = absurd (named' refl)
+one_later_fault text (Undefined number) (Undefined other) flawless undefined undefined' named named' = ap Undefined (same_use text number other undefined.first undefined'.first)
+one_later_fault text (Undefined number) NoRegisters flawless undefined none named named' = absurd (not_defined text number undefined.first none.defined)
+one_later_fault text (Undefined number) (CombLoop names) flawless undefined looped named named' = absurd (not_defined text number undefined.first looped.defined)
+one_later_fault text NoRegisters (Undefined number) flawless none undefined named named' = absurd (not_defined text number undefined.first none.defined)
+one_later_fault text NoRegisters NoRegisters flawless none none' named named' = refl
+one_later_fault text NoRegisters (CombLoop names) flawless none looped named named' = let some = looped.some_register in absurd (omega (arith, none.none))
+one_later_fault text (CombLoop names) (Undefined number) flawless looped undefined named named' = absurd (not_defined text number undefined.first looped.defined)
+one_later_fault text (CombLoop names) NoRegisters flawless looped none named named' = let some = looped.some_register in absurd (omega (arith, none.none))
+one_later_fault text (CombLoop names) (CombLoop others) flawless looped looped' named named' = tt
+
 -- a text has one fault
-one_fault : (text : List ℕ) (fault other : BenchFault) → fault ≢ NoMemory → Refuses text fault → Refuses text other → (other ≡ fault) ⊎ (other ≡ NoMemory)
-one_fault text fault NoMemory named cause cause' = inr refl
-one_fault text NoMemory other named cause cause' = absurd (named refl)
-one_fault text (NotYet number) (NotYet other) named first first' = inl (ap (λ n. NotYet n) (same_number text other number first' first))
-one_fault text (NotYet number) (Undefined other) named first undefined = absurd (not_among text number first undefined.plain)
-one_fault text (NotYet number) NoRegisters named first none = absurd (not_among text number first none.plain)
-one_fault text (Undefined number) (NotYet other) named undefined first = absurd (not_among text other first undefined.plain)
-one_fault text (Undefined number) (Undefined other) named undefined undefined' = inl (ap (λ n. Undefined n) (same_use text other number undefined'.first undefined.first))
-one_fault text (Undefined number) NoRegisters named undefined none = absurd (not_defined text number undefined.first none.defined)
-one_fault text NoRegisters (NotYet other) named none first = absurd (not_among text other first none.plain)
-one_fault text NoRegisters (Undefined other) named none undefined = absurd (not_defined text other undefined.first none.defined)
-one_fault text NoRegisters NoRegisters named none none' = inl refl
+one_fault : (text : List ℕ) (fault other : BenchFault) → fault ≢ NoMemory → other ≢ NoMemory → Refuses text fault → Refuses text other → IsSameFault fault other
+one_fault text fault other named named' cause cause' = elim (flawed_or_not text fault named cause) [
+  | inr flawless ↦ one_later_fault text fault other flawless cause cause' named named'
+  | inl line ↦ elim (flawed_or_not text other named' cause') [
+    | inr flawless ↦ absurd (not_among text line.number line.flaw line.first flawless)
+    | inl line' ↦
+        let numbers = same_number text line.number line'.number line.flaw line'.flaw line.first line'.first in
+        let flaws = same_flaw text line.number line'.number line.flaw line'.flaw line.first line'.first in
+        subst (IsSameFault fault) (sym line.fault_is ∙ (λ i. fault_at (numbers i) (flaws i)) ∙ line'.fault_is) (same_as_itself fault)
+  ]
+]
 
--- a netlist without gates has none
-pub no_fault : (text : List ℕ) (fault : BenchFault) → IsPlainNetlist text → Refuses text fault → fault ≡ NoMemory
-no_fault text NoMemory netlist cause = refl
-no_fault text (NotYet number) netlist first = absurd (not_among text number first (plain_lines_of text netlist))
-no_fault text (Undefined number) netlist undefined = absurd (not_defined text number undefined.first netlist.netlist.defined)
-no_fault text NoRegisters netlist none = let some = netlist.netlist.some_register in absurd (omega (arith, none.none))
+-- a netlist has none
+pub no_fault : (text : List ℕ) (fault : BenchFault) → IsNetlist text → Refuses text fault → fault ≡ NoMemory
+no_fault text (BadLine number) netlist first = absurd (not_among text number _ first netlist.flawless)
+no_fault text (UnknownKind number) netlist first = absurd (not_among text number _ first netlist.flawless)
+no_fault text (WrongInputs number) netlist first = absurd (not_among text number _ first netlist.flawless)
+no_fault text (SignalTwice number) netlist first = absurd (not_among text number _ first netlist.flawless)
+no_fault text (TooLarge number which) netlist first = absurd (not_among text number _ first netlist.flawless)
+no_fault text (Undefined number) netlist undefined = absurd (not_defined text number undefined.first netlist.defined)
+no_fault text NoRegisters netlist none = let some = netlist.some_register in absurd (omega (arith, none.none))
+no_fault text (CombLoop names) netlist looped = absurd (netlist.no_loop looped.loop looped.named.ring)
+no_fault text NoMemory netlist free = refl
 
--- an answer that accepts only netlists and names only faults that are there accepts each
-pub accepts_each : (text : List ℕ) (result : Result Circuit BenchFault) → IfErr result (Refuses text) → IsPlainNetlist text → IsOkUnless result NoMemory
+-- an answer that names only faults that are there accepts each netlist
+pub accepts_each : (text : List ℕ) (result : Result Circuit BenchFault) → IfErr result (Refuses text) → IsNetlist text → IsOkUnless result NoMemory
 accepts_each text (Ok circuit) cause netlist = tt
 accepts_each text (Err fault) cause netlist = no_fault text fault netlist cause
 
--- and names each fault
-pub names_each : (text : List ℕ) (result : Result Circuit BenchFault) → IfOk result (λ _. IsPlainNetlist text) → IfErr result (Refuses text)
-    → (fault : BenchFault) → fault ≢ NoMemory → Refuses text fault → IsErrOf result fault ⊎ IsErrOf result NoMemory
-names_each text (Ok circuit) netlist cause fault named refuses = absurd (named (no_fault text fault netlist refuses))
-names_each text (Err found) netlist cause fault named refuses = elim (one_fault text fault found named refuses cause) [
-  | inl same ↦ inl (ap (λ f. Err f) same)
-  | inr memory ↦ inr (ap (λ f. Err f) memory)
+-- the fault is memory's or another
+memory_or_not : (fault : BenchFault) → (fault ≡ NoMemory) ⊎ (fault ≢ NoMemory)
+memory_or_not NoMemory = inl refl
+memory_or_not _ = inr (λ same. cc)
+
+-- and one that accepts only netlists names each fault
+pub names_each : (text : List ℕ) (result : Result Circuit BenchFault) → IfOk result (AcceptsNetlist text) → IfErr result (Refuses text)
+    → (fault : BenchFault) → fault ≢ NoMemory → Refuses text fault → IsErrAnd result (λ found. IsSameFault fault found ⊎ (found ≡ NoMemory))
+names_each text (Ok circuit) accepts cause fault named refuses = absurd (named (no_fault text fault accepts.netlist refuses))
+names_each text (Err found) accepts cause fault named refuses = elim (memory_or_not found) [
+  | inl memory ↦ inr memory
+  | inr other ↦ inl (one_fault text fault found named other refuses cause)
 ]

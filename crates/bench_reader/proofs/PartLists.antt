@@ -1,34 +1,23 @@
 -- The registers and the first mentions, where one more comes.
-use Rattle.std.proofs.Common.{◌≡◌, ℕ, suc, ◌+◌, Bool, true, false, not, if◌then◌else◌, ◌||◌, ◌==◌, nat_eq, List, [], ◌∷◌, ◌++◌, length, filter, refl, ap, ◌∙◌, arith, append-nil}
-use Rattle.std.specs.List.{filter_map, enumerate_from, list_any}
+use Rattle.std.proofs.Common.{◌≡◌, ℕ, Bool, true, false, not, if◌then◌else◌, ◌||◌, ◌==◌, nat_eq, List, [], ◌∷◌, ◌++◌, length, filter, refl, sym, ap, ◌∙◌, arith, append-nil}
+use Rattle.std.specs.List.{list_any}
 use Rattle.std.proofs.lemmas.Bool.Decides.{nat_tests}
 use Rattle.std.proofs.lemmas.List.Elements.{filter-append}
 use Rattle.cts_model.specs.declared.signal.Signal.{Signal}
 use Rattle.cts_model.specs.Kinds.{is_register}
-use Rattle.cts_model.specs.Circuits.{register_number, registers_of}
+use Rattle.cts_model.specs.Circuits.{registers_of}
 use Rattle.cts_model.specs.Netlists.{first_mentions}
+use Rattle.cts_model.proofs.RegisterLists.{registers_push_none, registers_push_some}
 use Rattle.indexmap.specs.IndexSet.{insert_key}
-use Rattle.bench_reader.proofs.Lists.{filter_map_push_none, filter_map_push_some}
 
--- the items with their numbers
-enumerate_push : {X : Type 0} (n : ℕ) (xs : List X) (x : X) → enumerate_from n (xs ++ x ∷ []) ≡ enumerate_from n xs ++ (n + length xs, x) ∷ []
-enumerate_push n [] x = let here : n ≡ n + 0 = omega arith in ap (λ m. (m, x) ∷ []) here
-enumerate_push n (y ∷ xs) x =
-    let place : n + 1 + length xs ≡ n + suc (length xs) = omega arith in
-    ap (λ l. (n, y) ∷ l) (enumerate_push (n + 1) xs x ∙ ap (λ m. enumerate_from (n + 1) xs ++ (m, x) ∷ []) place)
+module _ (old : List Signal) {new : List Signal} (signal : Signal) {registers : List ℕ} (grown : new ≡ old ++ signal ∷ []) (are : registers ≡ registers_of old) where
+  -- a signal that is no register leaves them as they are
+  pub registers_stay : is_register signal.kind ≡ false → registers ≡ registers_of new
+  registers_stay other = are ∙ sym (registers_push_none old signal other) ∙ ap registers_of (sym grown)
 
-module _ (signals : List Signal) (signal : Signal) where
-  -- the signals with their numbers
-  numbered_push : registers_of (signals ++ signal ∷ []) ≡ filter_map register_number (enumerate_from 0 signals ++ (length signals, signal) ∷ [])
-  numbered_push = ap (filter_map register_number) (enumerate_push 0 signals signal ∙ ap (λ m. enumerate_from 0 signals ++ (m, signal) ∷ []) (omega arith))
-
-  -- a signal that is no register
-  pub registers_push_none : is_register signal.kind ≡ false → registers_of (signals ++ signal ∷ []) ≡ registers_of signals
-  registers_push_none other = numbered_push ∙ filter_map_push_none register_number (enumerate_from 0 signals) (length signals, signal) (rw other refl)
-
-  -- a register
-  pub registers_push_some : is_register signal.kind ≡ true → registers_of (signals ++ signal ∷ []) ≡ registers_of signals ++ length signals ∷ []
-  registers_push_some register = numbered_push ∙ filter_map_push_some register_number (enumerate_from 0 signals) (length signals, signal) (length signals) (rw register refl)
+  -- a register comes behind them
+  pub registers_grow : {more : List ℕ} → is_register signal.kind ≡ true → more ≡ registers ++ length old ∷ [] → more ≡ registers_of new
+  registers_grow register put = put ∙ ap (λ l. l ++ length old ∷ []) are ∙ sym (registers_push_some old signal register) ∙ ap registers_of (sym grown)
 
 -- what a first mention keeps behind it
 abbrev differs : ℕ → ℕ → Bool

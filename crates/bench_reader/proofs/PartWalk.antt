@@ -1,26 +1,23 @@
 -- The walk that takes in what each line tells, where the names of all lines are known.
-use Rattle.std.proofs.Common.{◌≡◌, ℕ, ◌≤◌, Bool, true, List, [], ◌∷◌, ◌++◌, length, All, MatchBool, ap, ◌∙◌, subst, arith, length-append}
+use Rattle.std.proofs.Common.{◌≡◌, ℕ, ◌≤◌, List, [], ◌∷◌, ◌++◌, length, None, ap, ◌∙◌, subst, arith, length-append}
 use Rattle.std.specs.List.{filter_map}
 use Rattle.std.proofs.lemmas.List.{length-map}
 use Rattle.std.proofs.lemmas.List.Elements.{filter_map-append}
 use Rattle.cts_base.specs.Lines.{lines_of, numbered_lines}
 use Rattle.cts_model.specs.Statements.{statement_of, definition_of}
-use Rattle.cts_model.specs.Netlists.{UsesDefined, statements_in, definitions_in, defined_names, signal_of}
+use Rattle.cts_model.specs.Flaws.{statements_in, definitions_in, flaw_of}
+use Rattle.cts_model.specs.Netlists.{AreFlawless, AreDefined, names_in, signal_of}
 use Rattle.bench_reader.specs.declared.circuit_parts.CircuitParts.{CircuitParts}
-use Rattle.bench_reader.specs.PlainLines.{IsPlainLine, ArePlainLines, UsesUndefined, IsFirstUndefined}
+use Rattle.bench_reader.specs.Lines.{UsesUndefined, IsFirstUndefined}
 use Rattle.bench_reader.specs.Taken.{HasParts}
 use Rattle.bench_reader.proofs.LineSplits.{IsPassed, none_passed, all_passed, next_line}
-use Rattle.bench_reader.proofs.LawfulDefinitions.{plain_lawful}
+use Rattle.bench_reader.proofs.LawfulDefinitions.{lawful_lines}
 
 -- this is what the lines so far tell
 pub record TellsPassed (text : List ℕ) (left : List (ℕ × List ℕ)) (names : List (List ℕ)) (parts : CircuitParts) : Type 0 where
   pub passed : List (List ℕ)
   pub walk : IsPassed text left passed
   pub has : HasParts names parts passed
-
--- what `add_line` says of a line
-abbrev pub TellsLine : Bool → List (List ℕ) → List ℕ → CircuitParts → CircuitParts → Type 0
-TellsLine added names line old new = (earlier : List (List ℕ)) → HasParts names old earlier → MatchBool added (HasParts names new (earlier ++ line ∷ [])) (UsesUndefined names line)
 
 -- at the start
 pub tells_none : {text : List ℕ} {left : List (ℕ × List ℕ)} {names : List (List ℕ)} {parts : CircuitParts} → left ≡ numbered_lines text → HasParts names parts [] → TellsPassed text left names parts
@@ -33,30 +30,30 @@ definitions_before passed later =
     rw joined (omega (arith, length-append (definitions_in passed) (definitions_in later)))
 
 -- so there is room for one more
-pub few_so_far : {text : List ℕ} {left : List (ℕ × List ℕ)} {names : List (List ℕ)} {parts : CircuitParts} → ArePlainLines (lines_of text) → TellsPassed text left names parts → length parts.signals ≤ 65536
-few_so_far {text} {left} {names} {parts} plain before =
-    let all = (plain_lawful (lines_of text) plain).few_signals in
+pub few_so_far : {text : List ℕ} {left : List (ℕ × List ℕ)} {names : List (List ℕ)} {parts : CircuitParts} → AreFlawless (lines_of text) → TellsPassed text left names parts → length parts.signals ≤ 65536
+few_so_far {text} {left} {names} {parts} flawless before =
+    let all = (lawful_lines (lines_of text) flawless).few_signals in
     let all_here : length (definitions_in (before.passed ++ before.walk.later)) ≤ 65536 = rw (← before.walk.split) all in
     let count : length parts.signals ≡ length (definitions_in before.passed) = ap length before.has.signals_are ∙ length-map (definitions_in before.passed) (signal_of names) in
     omega (arith, count, definitions_before before.passed before.walk.later)
 
 module _ {text : List ℕ} {left more : List (ℕ × List ℕ)} {number : ℕ} {line : List ℕ} {names : List (List ℕ)} {old : CircuitParts} where
-  -- the next line is plain
-  pub plain_next : ArePlainLines (lines_of text) → TellsPassed text left names old → left ≡ (number, line) ∷ more → (earlier : List (List ℕ)) × IsPlainLine earlier line
-  plain_next plain before some = let place = (next_line number line more before.walk some).place in (before.passed, plain.each before.passed line place.later place.split)
+  -- the next line has no flaw
+  pub flawless_next : AreFlawless (lines_of text) → TellsPassed text left names old → left ≡ (number, line) ∷ more → (earlier : List (List ℕ)) × (flaw_of earlier line ≡ None)
+  flawless_next flawless before some = let place = (next_line number line more before.walk some).place in (before.passed, flawless.each before.passed line place.later place.split)
 
   -- a turn
-  pub tells_next : {new : CircuitParts} → TellsPassed text left names old → left ≡ (number, line) ∷ more → TellsLine true names line old new → TellsPassed text more names new
+  pub tells_next : {new : CircuitParts} → TellsPassed text left names old → left ≡ (number, line) ∷ more → ((earlier : List (List ℕ)) → HasParts names old earlier → HasParts names new (earlier ++ line ∷ [])) → TellsPassed text more names new
   tells_next before some tells = record { passed = before.passed ++ line ∷ []; walk = (next_line number line more before.walk some).passed_next; has = tells before.passed before.has }
 
   -- a refusal
-  pub undefined_next : names ≡ defined_names (definitions_in (lines_of text)) → TellsPassed text left names old → left ≡ (number, line) ∷ more → ((earlier : List (List ℕ)) → HasParts names old earlier → UsesUndefined names line) → IsFirstUndefined text number
+  pub undefined_next : names ≡ names_in text → TellsPassed text left names old → left ≡ (number, line) ∷ more → UsesUndefined names line → IsFirstUndefined text number
   undefined_next known before some refuses = record {
     earlier = before.passed;
     line = line;
     place = (next_line number line more before.walk some).place;
-    defined = subst (λ n. All (UsesDefined n) (statements_in before.passed)) known before.has.defined;
-    refused = subst (λ n. UsesUndefined n line) known (refuses before.passed before.has);
+    defined = subst (λ n. AreDefined n before.passed) known before.has.defined;
+    refused = subst (λ n. UsesUndefined n line) known refuses;
   }
 
 -- at the end

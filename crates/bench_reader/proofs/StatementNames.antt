@@ -1,17 +1,16 @@
 -- The names of a statement are names: one or more of a name's bytes.
 use Rattle.std.proofs.Common.{◌≡◌, ℕ, nat_eq, if◌then◌else◌, codes, Bool, true, false, ◌&&◌, List, [], ◌∷◌, Option, Some, None, IfSome, IsTrue, refl, ap, subst, arith}
+use Rattle.std.specs.List.{list_all}
 use Rattle.std.specs.Option.{option_map}
 use Rattle.std.specs.Str.{str_eq_ignore_ascii_case}
 use Rattle.std.proofs.lemmas.Option.{same_Some}
 use Rattle.std.proofs.lemmas.Bool.Decides.{nat_tests}
-use Rattle.std.proofs.lemmas.List.Elements.{All-head}
 use Rattle.cts_base.specs.Words.{is_blank, before_hash}
 use Rattle.cts_model.specs.declared.kind.Kind.{Kind}
 use Rattle.cts_model.specs.Kinds.{kind_of}
 use Rattle.cts_model.specs.Names.{is_name_byte, is_name, is_short}
 use Rattle.cts_model.specs.Tokens.{Token, Word, Open, Close, Comma, Equals, Stray, tokens_of, mark_of, onto_word, begins_with_name_byte}
 use Rattle.cts_model.specs.Statements.{Statement, Blank, Input, Output, Assign, Definition, statement_of, form_of, inputs_of, more_inputs_of, declaration_of, definition_of, names_of}
-use Rattle.bench_reader.specs.Plain.{HasShortNames}
 
 -- each of these is a name
 abbrev AreNames : List (List ℕ) → Type 0
@@ -98,7 +97,7 @@ form_names _ names = tt
 
 -- the name that a line defines is one, and is short
 pub defined_name : (line : List ℕ) (statement : Statement) (definition : Definition) → statement_of line ≡ Some statement → definition_of statement ≡ Some definition
-    → HasShortNames (statement) → IsTrue (is_name definition.name && is_short definition.name)
+    → list_all is_short (names_of statement) ≡ true → IsTrue (is_name definition.name && is_short definition.name)
 defined_name line statement definition form some short =
     let names : IfSome (statement_of line) (λ s. AreNames (names_of s)) = form_names (tokens_of (before_hash line)) (tokens_names (before_hash line)) in
     let named : AreNames (names_of statement) = subst (λ o. IfSome o (λ s. AreNames (names_of s))) form names in
@@ -108,13 +107,17 @@ defined_name line statement definition form some short =
     both : (name : List ℕ) → IsTrue (is_name name) → IsTrue (is_short name) → IsTrue (is_name name && is_short name)
     both name named short = rw (named, short) refl
 
+    -- the first of short names is short
+    first : (name : List ℕ) (names : List (List ℕ)) → list_all is_short (name ∷ names) ≡ true → IsTrue (is_short name)
+    first name names short = grind (arith, nat_tests)
+
     -- whatever its kind, an assignment defines its first name
     kinded : (name : List ℕ) (inputs : List (List ℕ)) (o : Option Kind) → option_map (λ kind. record { name = name; kind = kind; inputs = inputs }) o ≡ Some definition → name ≡ definition.name
     kinded name inputs None some = cc
     kinded name inputs (Some kind) some = ap (λ d. d.name) (same_Some _ definition some)
 
-    at : (s : Statement) → definition_of s ≡ Some definition → AreNames (names_of s) → HasShortNames (s) → IsTrue (is_name definition.name && is_short definition.name)
+    at : (s : Statement) → definition_of s ≡ Some definition → AreNames (names_of s) → list_all is_short (names_of s) ≡ true → IsTrue (is_name definition.name && is_short definition.name)
     at Blank some named short = cc
     at (Output name) some named short = cc
-    at (Input name) some named short = subst (λ n. IsTrue (is_name n && is_short n)) (ap (λ d. d.name) (same_Some _ definition some)) (both name named.0 (All-head (λ n. IsTrue (is_short n)) name [] short))
-    at (Assign name word inputs) some named short = subst (λ n. IsTrue (is_name n && is_short n)) (kinded name inputs (kind_of word) some) (both name named.0 (All-head (λ n. IsTrue (is_short n)) name inputs short))
+    at (Input name) some named short = subst (λ n. IsTrue (is_name n && is_short n)) (ap (λ d. d.name) (same_Some _ definition some)) (both name named.0 (first name [] short))
+    at (Assign name word inputs) some named short = subst (λ n. IsTrue (is_name n && is_short n)) (kinded name inputs (kind_of word) some) (both name named.0 (first name inputs short))

@@ -1,5 +1,6 @@
-pub mod Plain
-pub mod PlainLines
+pub mod Inputs
+pub mod LineFaults
+pub mod Lines
 pub mod Refusals
 pub mod Taken
 pub mod View

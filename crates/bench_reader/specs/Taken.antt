@@ -1,9 +1,16 @@
 -- What the reader has taken in from the lines so far.
-use Rattle.std.specs.Prelude.{◌≡◌, ℕ, List, map, All}
-use Rattle.std.specs.List.{filter_map}
+use Rattle.std.specs.Prelude.{◌≡◌, ◌<◌, ◌+◌, ℕ, Bool, nat_le, nat_lt, if◌then◌else◌, List, [], ◌∷◌, ◌++◌, length, map, Option, Some, None}
+use Rattle.std.specs.Option.{option_map}
+use Rattle.std.specs.List.{filter_map, list_any}
+use Rattle.std.specs.Str.{bytes_eq}
+use Rattle.cts_base.specs.Lines.{lines_of}
+use Rattle.cts_model.specs.declared.kind.Kind.{Kind}
+use Rattle.cts_model.specs.declared.circuit.Circuit.{Circuit}
+use Rattle.cts_model.specs.Kinds.{is_register, is_gate}
 use Rattle.cts_model.specs.Circuits.{registers_of}
 use Rattle.cts_model.specs.Statements.{mention_of}
-use Rattle.cts_model.specs.Netlists.{UsesDefined, definitions_in, defined_names, register_count, statements_in, signal_of, number_of, first_mentions}
+use Rattle.cts_model.specs.Flaws.{Limit, Name, Signals, Registers, Inputs, Flaw, SignalTwice, TooLarge, definitions_in, defined_names, register_count, gate_input_count, statements_in}
+use Rattle.cts_model.specs.Netlists.{AreFlawless, AreDefined, names_in, signal_of, signals_of, outputs_of, number_of, first_mentions}
 use Rattle.bench_reader.specs.declared.definitions.Definitions.{Definitions}
 use Rattle.bench_reader.specs.declared.circuit_parts.CircuitParts.{CircuitParts}
 
@@ -11,10 +18,45 @@ use Rattle.bench_reader.specs.declared.circuit_parts.CircuitParts.{CircuitParts}
 pub record HasDefinitions (definitions : Definitions) (lines : List (List ℕ)) : Type 0 where
   pub names : definitions.names ≡ defined_names (definitions_in lines)
   pub registers : definitions.registers ≡ register_count (definitions_in lines)
+  pub gate_inputs : definitions.gate_inputs ≡ gate_input_count (definitions_in lines)
+
+-- a definition of this name, kind and number of inputs is added
+pub record Adds (old new : Definitions) (name : List ℕ) (kind : Kind) (inputs : ℕ) : Type 0 where
+  pub names : new.names ≡ old.names ++ name ∷ []
+  pub registers : new.registers ≡ old.registers + (if is_register kind then 1 else 0)
+  pub gate_inputs : new.gate_inputs ≡ old.gate_inputs + (if is_gate kind then inputs else 0)
+
+-- the first limit that one more definition passes, its names aside
+abbrev pub excess_behind : Definitions → Kind → ℕ → Option Limit
+excess_behind definitions kind inputs =
+    let registers = definitions.registers + (if is_register kind then 1 else 0) in
+    let gate_inputs = definitions.gate_inputs + (if is_gate kind then inputs else 0) in
+    if nat_le 65536 (length definitions.names) then Some Signals
+    else if nat_lt 4096 registers then Some Registers
+    else if nat_lt 262144 gate_inputs then Some Inputs
+    else None
+
+-- what is wrong with one more definition that has a number of inputs which its kind may have
+abbrev pub flaw_behind : Definitions → List ℕ → Kind → ℕ → Bool → Option Flaw
+flaw_behind definitions name kind inputs short =
+    if list_any (bytes_eq name) definitions.names then Some SignalTwice
+    else option_map TooLarge (if short then excess_behind definitions kind inputs else Some Name)
 
 -- these are the parts that the lines tell, where the names that all lines define are known
-pub record HasParts (names : List (List ℕ)) (parts : CircuitParts) (lines : List (List ℕ)) : Type 0 where
+pub record HasParts (names : List (List ℕ)) (parts : CircuitParts) (lines : List (List ℕ))
+    : Type 0 where
   pub signals_are : parts.signals ≡ map (signal_of names) (definitions_in lines)
   pub registers_are : parts.registers ≡ registers_of parts.signals
-  pub outputs_are : parts.outputs.keys ≡ first_mentions (filter_map (number_of names) (filter_map mention_of (statements_in lines)))
-  pub defined : All (UsesDefined names) (statements_in lines)
+  pub outputs_are : parts.outputs.keys
+      ≡ first_mentions (filter_map (number_of names) (filter_map mention_of (statements_in lines)))
+  pub defined : AreDefined names lines
+
+-- no line has a flaw and all use only defined names, a register among them, and this is the circuit
+-- that they tell; some of its gates may read one another in a ring
+pub record TellsCircuit (text : List ℕ) (circuit : Circuit) : Type 0 where
+  pub flawless : AreFlawless (lines_of text)
+  pub defined : AreDefined (names_in text) (lines_of text)
+  pub some_register : 0 < register_count (definitions_in (lines_of text))
+  pub signals : circuit.signals ≡ signals_of text
+  pub registers : circuit.registers ≡ registers_of (signals_of text)
+  pub outputs : circuit.outputs ≡ outputs_of text

@@ -1,15 +1,19 @@
-ghost use Rattle.std.specs.Prelude.{◌≡◌, ◌≤◌, ◌<◌, ◌+◌, List, ℕ, [], ◌∷◌, ◌++◌, length, IfOk, IfErr, MatchBool, OnOk, IfSome, is_some, nat_eq, IsTrue};
+ghost use Rattle.std.specs.Prelude.{◌≡◌, ◌≤◌, List, ℕ, None, [], ◌∷◌, ◌++◌, length, IfOk, IfErr, OnOk, IsSome, IsSomeAnd, All, nat_eq};
+ghost use Rattle.std.specs.List.{filter_map};
 ghost use Rattle.cts_base.specs.Lines.{lines_of};
-ghost use Rattle.cts_model.specs.declared.kind.Kind.TheVariants.{Dff, Input};
-ghost use Rattle.cts_model.specs.Netlists.{definitions_in, defined_names, number_of};
+ghost use Rattle.cts_model.specs.Circuits.{registers_of};
+ghost use Rattle.cts_model.specs.Flaws.{flaw_of};
+ghost use Rattle.cts_model.specs.Netlists.{AreFlawless, names_in, number_of};
 ghost use Rattle.indexmap.specs.IndexSet.{insert_key};
-ghost use Rattle.bench_reader.specs.PlainLines.{IsPlainLine, ArePlainLines, UsesUndefined};
+ghost use Rattle.bench_reader.specs.LineFaults.{MissesName, IsUseFault, RefusesUse};
 ghost use Rattle.bench_reader.specs.Taken.{HasParts};
-ghost use Rattle.bench_reader.specs.Refusals.{RefusesUse};
 
 use crate::BenchFault;
+use crate::input_list::InputList;
+use crate::kinds::kind_of;
 use crate::names::Names;
-use crate::plain_line::{PlainLine, plain_line};
+use crate::statement::Statement;
+use crate::use_fault::UseFault;
 use cts_base::{Listed, NoMemory, lines};
 use cts_model::{FanIn, Kind, Signal};
 use indexmap::IndexSet;
@@ -36,101 +40,107 @@ impl CircuitParts {
         }
     }
 
-    // Takes in the next line. `false` says that it uses a name that isn't defined.
-    fn add_line(&mut self, alloc: Global, names: &Names, line: &[u8]) -> Result<bool, NoMemory>
-        requires plain { (earlier : List (List ℕ)) × IsPlainLine earlier line.now }
+    // Takes in the next line.
+    fn add_line(&mut self, alloc: Global, names: &Names, line: &[u8]) -> Result<(), UseFault>
+        requires flawless { (earlier : List (List ℕ)) × (flaw_of earlier line.now ≡ None) }
         requires few { length self.old.signals ≤ 65536 }
-        ensures { IfOk result (λ added. (earlier : List (List ℕ)) → HasParts names.now self.old earlier
-            → MatchBool added (HasParts names.now self.new (earlier ++ line.now ∷ [])) (UsesUndefined names.now line.now)) }
+        ensures told { OnOk result ((earlier : List (List ℕ)) → HasParts names.now self.old earlier
+            → HasParts names.now self.new (earlier ++ line.now ∷ [])) }
+        ensures refused { IfErr result (IsUseFault names.now line.now) }
     {
-        match plain_line(line) {
-            None => unreachable!(),
-            Some(PlainLine::Blank) => Ok(true),
-            Some(PlainLine::Input(name)) => {
-                self.add_input(alloc, name)?;
-                Ok(true)
+        match Statement::of(line).unwrap() {
+            Statement::Blank => Ok(()),
+            Statement::Input(name) => {
+                self.add_signal(alloc, name, Kind::Input, FanIn::new(alloc))?;
+                Ok(())
             }
-            Some(PlainLine::Output(name)) => self.add_output(names, name),
-            Some(PlainLine::Register { name, input }) => self.add_register(
-                alloc, names, name, input,
-            ),
+            Statement::Output(name) => {
+                self.add_output(names, name)?;
+                Ok(())
+            }
+            Statement::Assign { name, word, inputs } => {
+                let fan_in = fan_in(alloc, names, &inputs)?;
+                self.add_signal(alloc, name, kind_of(word).unwrap(), fan_in)?;
+                Ok(())
+            }
         }
     }
 
-    fn add_input(&mut self, alloc: Global, name: &[u8]) -> Result<(), NoMemory>
-        ensures signals { OnOk result (self.new.signals ≡ self.old.signals ++ record { name = name.now; kind = Input; fan_in = [] } ∷ []) }
-        ensures registers { OnOk result (self.new.registers ≡ self.old.registers) }
-        ensures outputs { OnOk result (self.new.outputs.keys ≡ self.old.outputs.keys) }
-    {
-        let input = signal(alloc, name, Kind::Input, FanIn::new(alloc))?;
-        self.signals.push(input)
-    }
-
-    // `false` says that the input isn't defined.
-    fn add_register(
+    // Puts a signal last, and its number among those of the registers if it is one.
+    fn add_signal(
         &mut self,
         alloc: Global,
-        names: &Names,
         name: &[u8],
-        input: &[u8],
-    ) -> Result<bool, NoMemory>
+        kind: Kind,
+        fan_in: FanIn,
+    ) -> Result<(), NoMemory>
         requires { length self.old.signals ≤ 65536 }
-        ensures added { IfOk result (λ added. added ≡ is_some (number_of names.now input.now)) }
-        ensures signals { IfOk result (λ added. IfSome (number_of names.now input.now)
-            (λ number. self.new.signals ≡ self.old.signals ++ record { name = name.now; kind = Dff; fan_in = number ∷ [] } ∷ [])) }
-        ensures registers { IfOk result (λ added. IsTrue added → self.new.registers ≡ self.old.registers ++ length self.old.signals ∷ []) }
+        ensures signals { OnOk result (self.new.signals
+            ≡ self.old.signals ++ record { name = name.now; kind = kind; fan_in = fan_in } ∷ []) }
+        ensures registers { OnOk result (self.old.registers ≡ registers_of self.old.signals
+            → self.new.registers ≡ registers_of self.new.signals) }
         ensures outputs { OnOk result (self.new.outputs.keys ≡ self.old.outputs.keys) }
     {
-        let Some(read) = names.number_of(input) else {
-            return Ok(false);
-        };
         let number = self.signals.len() as u32;
-        let mut fan_in = FanIn::new(alloc);
-        fan_in.push(read)?;
-        let register = signal(alloc, name, Kind::Dff, fan_in)?;
-        self.signals.push(register)?;
-        self.registers.push(number)?;
-        Ok(true)
+        let name = Listed::from_vec(Vec::from_slice(alloc, name)?);
+        self.signals.push(Signal { name, kind, fan_in })?;
+        if kind.is_register() {
+            self.registers.push(number)
+        } else {
+            Ok(())
+        }
     }
 
-    // `false` says that the name isn't defined.
-    fn add_output(&mut self, names: &Names, name: &[u8]) -> Result<bool, NoMemory>
-        ensures added { IfOk result (λ added. added ≡ is_some (number_of names.now name.now)) }
+    // Takes in that a name is mentioned as a primary output.
+    fn add_output(&mut self, names: &Names, name: &[u8]) -> Result<(), UseFault>
         ensures signals { OnOk result (self.new.signals ≡ self.old.signals) }
         ensures registers { OnOk result (self.new.registers ≡ self.old.registers) }
-        ensures outputs { OnOk result (IfSome (number_of names.now name.now) (λ number. self.new.outputs.keys ≡ insert_key nat_eq self.old.outputs.keys number)) }
+        ensures outputs { OnOk result (IsSomeAnd (number_of names.now name.now)
+            (λ number. self.new.outputs.keys ≡ insert_key nat_eq self.old.outputs.keys number)) }
+        ensures refused { IfErr result (MissesName names.now (name.now ∷ [])) }
     {
         let Some(number) = names.number_of(name) else {
-            return Ok(false);
+            return Err(UseFault::Undefined);
         };
         self.outputs.insert(number)?;
-        Ok(true)
+        Ok(())
     }
 }
 
-fn signal(alloc: Global, name: &[u8], kind: Kind, fan_in: FanIn) -> Result<Signal, NoMemory>
-    ensures { IfOk result (λ signal. signal ≡ record { name = name.now; kind = kind; fan_in = fan_in }) }
+// The numbers of the names that a signal reads.
+fn fan_in(alloc: Global, names: &Names, inputs: &InputList) -> Result<FanIn, UseFault>
+    ensures numbers { IfOk result (λ fan_in. fan_in ≡ filter_map (number_of names.now) inputs.now) }
+    ensures defined { OnOk result (All (λ name. IsSome (number_of names.now name)) inputs.now) }
+    ensures refused { IfErr result (MissesName names.now inputs.now) }
 {
-    let name = Listed::from_vec(Vec::from_slice(alloc, name)?);
-    Ok(Signal { name, kind, fan_in })
+    let mut numbers = FanIn::new(alloc);
+    for name in inputs.names() {
+        let Some(number) = names.number_of(name) else {
+            return Err(UseFault::Undefined);
+        };
+        numbers.push(number)?;
+    }
+    Ok(numbers)
 }
 
-/// What the lines of a netlist without gates tell, where the names that they define are known.
+/// What the lines of a netlist tell, where the names that they define are known.
 pub(crate) fn read_parts(
     alloc: Global,
     names: &Names,
     bytes: &[u8],
 ) -> Result<CircuitParts, BenchFault>
     requires short { length bytes.now ≤ 16777216 }
-    requires plain { ArePlainLines (lines_of bytes.now) }
-    requires names { names.now ≡ defined_names (definitions_in (lines_of bytes.now)) }
+    requires flawless { AreFlawless (lines_of bytes.now) }
+    requires names { names.now ≡ names_in bytes.now }
     ensures told { IfOk result (λ parts. HasParts names.now parts (lines_of bytes.now)) }
     ensures refused { IfErr result (RefusesUse bytes.now) }
 {
     let mut parts = CircuitParts::new(alloc);
     for line in lines(bytes) {
-        if !parts.add_line(alloc, names, line.text)? {
-            return Err(BenchFault::Undefined(line.number));
+        match parts.add_line(alloc, names, line.text) {
+            Ok(()) => {}
+            Err(UseFault::Undefined) => return Err(BenchFault::Undefined(line.number)),
+            Err(UseFault::NoMemory) => return Err(BenchFault::NoMemory),
         }
     }
     Ok(parts)

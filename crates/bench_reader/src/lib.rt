@@ -1,15 +1,17 @@
-//! Reads netlists in the ISCAS'89 `.bench` format, so far those without gates.
+//! Reads netlists in the ISCAS'89 `.bench` format.
 #![tactic(auto)]
 
 mod circuit_parts;
 mod definitions;
 mod fault;
+mod input_list;
+mod kinds;
+mod line_fault;
 mod names;
-mod plain_line;
 mod read;
-#[cfg(test)]
-mod tests;
+mod statement;
 mod token;
+mod use_fault;
 
-pub use fault::BenchFault;
+pub use fault::{BenchFault, Which};
 pub use read::read_bench;

@@ -1,6 +1,7 @@
-ghost use Rattle.std.specs.Prelude.{◌≡◌, ◌≤◌, List, ℕ, [], ◌∷◌, ◌++◌, map, length, IfOk, OnErr, MatchBool};
+ghost use Rattle.std.specs.Prelude.{◌≡◌, ◌≤◌, ◌<◌, List, ℕ, [], ◌∷◌, ◌++◌, map, length, false, nat_le, OnOk};
+ghost use Rattle.std.specs.List.{list_any};
+ghost use Rattle.std.specs.Str.{bytes_eq};
 ghost use Rattle.cts_model.specs.Netlists.{number_of};
-ghost use Rattle.bench_reader.specs.PlainLines.{MayDefine};
 
 use cts_base::NoMemory;
 use indexmap::IndexSet;
@@ -36,18 +37,29 @@ impl Names {
         }
     }
 
-    /// Puts a name last. `false` says that it has a number already, or that there is room for no more.
-    pub(crate) fn define(&mut self, name: &[u8]) -> Result<bool, NoMemory>
-        ensures added { IfOk result (λ added. MatchBool added (self.new ≡ self.old ++ name.now ∷ []) (self.new ≡ self.old)) }
-        ensures lawful { IfOk result (λ added. MatchBool added (MayDefine self.old name.now) (MayDefine self.old name.now → ⊥)) }
-        ensures err { OnErr result (self.new ≡ self.old) }
+    /// Whether a name has a number.
+    pub(crate) fn is_defined(&self, name: &[u8]) -> bool
+        ensures { result ≡ list_any (bytes_eq name.now) self.now }
     {
-        if self.names.len() == MAX_NAMES {
-            return Ok(false);
-        }
+        self.names.contains(name)
+    }
+
+    /// Whether there is room for no more names.
+    pub(crate) fn is_full(&self) -> bool
+        ensures { result ≡ nat_le 65536 (length self.now) }
+    {
+        self.names.len() == MAX_NAMES
+    }
+
+    /// Puts a new name last.
+    pub(crate) fn define(&mut self, name: &[u8]) -> Result<(), NoMemory>
+        requires new { list_any (bytes_eq name.now) self.old ≡ false }
+        requires room { length self.old < 65536 }
+        ensures { OnOk result (self.new ≡ self.old ++ name.now ∷ []) }
+    {
         let key = Vec::from_slice(self.alloc, name)?;
-        let added = self.names.insert(key)?;
-        Ok(added)
+        self.names.insert(key)?;
+        Ok(())
     }
 
     /// The number of a name, counted from 0.

@@ -1,28 +1,29 @@
-ghost use Rattle.std.specs.Prelude.{◌≤◌, ◌≢◌, ◌⊎◌, length, IfOk, IfErr, IsErrOf, IsOkUnless};
-ghost use Rattle.cts_model.specs.Netlists.{AcceptsNetlist};
+ghost use Rattle.std.specs.Prelude.{◌≡◌, ◌≤◌, ◌<◌, ◌≢◌, ◌⊎◌, length, All, IfOk, IfErr, IsErrAnd, IsOkUnless};
+ghost use Rattle.cts_model.specs.Hosts.{HasNoHost};
+ghost use Rattle.cts_model.specs.Netlists.{IsNetlist, AcceptsNetlist};
 ghost use Rattle.bench_reader.specs.declared.fault.BenchFault.{BenchFault};
-ghost use Rattle.bench_reader.specs.Plain.{IsPlainNetlist, HasNoGates};
-ghost use Rattle.bench_reader.specs.Refusals.{Refuses};
+ghost use Rattle.bench_reader.specs.Refusals.{Refuses, IsSameFault, names_of_signals};
+ghost use Rattle.bench_reader.specs.Taken.{TellsCircuit};
 
 use crate::BenchFault;
 use crate::circuit_parts::{CircuitParts, read_parts};
 use crate::definitions::read_definitions;
-use cts_base::Listed;
+use cts_base::{Listed, Name, NoMemory};
 use cts_model::Circuit;
+use path_delays::{LevelFault, levels};
 use std::alloc::Global;
 
-/// Reads a netlist without gates in the ISCAS'89 `.bench` format.
+/// Reads a netlist in the ISCAS'89 `.bench` format. The circuit has no host.
 pub fn read_bench(alloc: Global, bytes: &[u8]) -> Result<Circuit, BenchFault>
     requires { length bytes.now ≤ 16777216 }
-    // Ok comes exactly on a netlist without gates, and its circuit is the one that the bytes tell.
+    // Ok comes exactly on a netlist, and its circuit is the one that the bytes tell.
     ensures ok { IfOk result (AcceptsNetlist bytes.now) }
-    ensures plain { IfOk result (λ _. IsPlainNetlist bytes.now) }
-    ensures gateless { IfOk result HasNoGates }
-    ensures accepted { IsPlainNetlist bytes.now → IsOkUnless result BenchFault.NoMemory }
-    // A fault comes exactly where the bytes have it; memory alone is free.
+    ensures hostless { IfOk result HasNoHost }
+    ensures accepted { IsNetlist bytes.now → IsOkUnless result BenchFault.NoMemory }
+    // A fault comes exactly where the bytes have it; memory alone is free, and which ring is named.
     ensures refused { IfErr result (Refuses bytes.now) }
     ensures faulty { (fault : BenchFault) → fault ≢ BenchFault.NoMemory → Refuses bytes.now fault
-        → IsErrOf result fault ⊎ IsErrOf result BenchFault.NoMemory }
+        → IsErrAnd result (λ found. IsSameFault fault found ⊎ (found ≡ BenchFault.NoMemory)) }
 {
     circuit_told(alloc, bytes)
 }
@@ -31,8 +32,25 @@ pub fn read_bench(alloc: Global, bytes: &[u8]) -> Result<Circuit, BenchFault>
 fn circuit_told(alloc: Global, bytes: &[u8]) -> Result<Circuit, BenchFault>
     requires { length bytes.now ≤ 16777216 }
     ensures ok { IfOk result (AcceptsNetlist bytes.now) }
-    ensures plain { IfOk result (λ _. IsPlainNetlist bytes.now) }
-    ensures gateless { IfOk result HasNoGates }
+    ensures hostless { IfOk result HasNoHost }
+    ensures refused { IfErr result (Refuses bytes.now) }
+{
+    let circuit = circuit_of_lines(alloc, bytes)?;
+    match levels(alloc, &circuit) {
+        Ok(_) => Ok(circuit),
+        Err(LevelFault::Loop(gates)) => {
+            let names = signal_names(alloc, &circuit, gates.as_slice())?;
+            Err(BenchFault::CombLoop(names))
+        }
+        Err(LevelFault::NoMemory) => Err(BenchFault::NoMemory),
+    }
+}
+
+// The circuit that the lines tell, or the first fault but a ring: gates may still read one another
+// in one.
+fn circuit_of_lines(alloc: Global, bytes: &[u8]) -> Result<Circuit, BenchFault>
+    requires { length bytes.now ≤ 16777216 }
+    ensures told { IfOk result (TellsCircuit bytes.now) }
     ensures refused { IfErr result (Refuses bytes.now) }
 {
     let names = read_definitions(alloc, bytes)?;
@@ -50,4 +68,19 @@ fn circuit_told(alloc: Global, bytes: &[u8]) -> Result<Circuit, BenchFault>
         registers,
         outputs,
     })
+}
+
+// The names of these signals, in order.
+fn signal_names(alloc: Global, circuit: &Circuit, numbers: &[u32]) -> Result<Listed<Name>, NoMemory>
+    requires { All (λ number. number < length circuit.now.signals) numbers.now }
+    ensures { IfOk result
+        (λ names. names ≡ names_of_signals circuit.now.signals numbers.now) }
+{
+    let mut names = Listed::new(alloc);
+    for number in numbers {
+        let signal = &circuit.signals.as_slice()[*number as usize];
+        let name = Vec::from_slice(alloc, signal.name.as_slice())?;
+        names.push(Listed::from_vec(name))?;
+    }
+    Ok(names)
 }

@@ -1,10 +1,11 @@
 ghost use Rattle.std.specs.Prelude.{◌≡◌, ◌≤◌, ◌<◌, List, ◌∷◌, length};
 ghost use Rattle.std.specs.List.{prefix_len};
-ghost use Rattle.std.specs.Iterator.{YieldsFirstBy, item_count};
+ghost use Rattle.std.specs.Iterator.{YieldsFirstBy, YieldsFirstRef, item_count};
 ghost use Rattle.cts_base.specs.Words.{is_blank};
 ghost use Rattle.cts_model.specs.Names.{is_name_byte};
 ghost use Rattle.cts_model.specs.Tokens.{tokens_of, mark_of};
 ghost use Rattle.cts_model.specs.Tokens as format;
+ghost use Rattle.bench_reader.specs.Inputs.{words_in};
 ghost use Rattle.bench_reader.specs.View.{token_of};
 
 use std::marker::Model;
@@ -44,6 +45,25 @@ impl<'a> Tokens<'a> {
         ensures { result ≡ tokens_of line.now }
     {
         Tokens { rest: line }
+    }
+
+    /// The bytes of the line that are left.
+    pub(crate) fn rest(&self) -> &'a [u8]
+        ensures { tokens_of result.now ≡ self.now }
+    {
+        self.rest
+    }
+
+    /// The next word that is left, whatever stands before it.
+    pub(crate) fn next_word(&mut self) -> Option<&'a [u8]>
+        ensures { YieldsFirstRef words_in self.old result self.new }
+    {
+        while let Some(token) = self.next() {
+            if let Token::Word(word) = token {
+                return Some(word);
+            }
+        }
+        None
     }
 }
 

@@ -12,6 +12,3 @@ pub use listed::{Listed, Name};
 pub use no_memory::NoMemory;
 pub use text::{before_comment, lines, words};
 pub use word_walk::Words;
-
-#[cfg(test)]
-mod tests;

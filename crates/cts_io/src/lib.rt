@@ -13,6 +13,3 @@ pub use host::{HostInputs, HostSink};
 pub use memory_inputs::{HeldFile, MemoryInputs};
 pub use memory_sink::MemorySink;
 pub use whole::{ReadWhole, read_whole, write_whole};
-
-#[cfg(test)]
-mod tests;

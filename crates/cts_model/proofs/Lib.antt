@@ -1,1 +1,4 @@
-mod CircuitLemmas
+pub mod CircuitLemmas
+mod HostLemmas
+mod KindLemmas
+pub mod RegisterLists

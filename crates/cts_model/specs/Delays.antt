@@ -1,25 +1,13 @@
 -- The least and the greatest delay of a path, in ticks: two sums, each over its own numbers.
 use Rattle.std.specs.Prelude.{ℕ, ◌-◌, ℤ, pos, ◌+ℤ◌, ◌*ℤ◌, false, List, [], ◌∷◌, length, slice_get, slice_index_or, Option, Some, None}
 use Rattle.cts_model.specs.declared.kind.Kind.{Kind}
-use Rattle.cts_model.specs.declared.kind.Kind.TheVariants.{And, Nand, Or, Nor, Not, Xor, Xnor, Buff, Input, Dff}
+use Rattle.cts_model.specs.Kinds.{place_of}
 use Rattle.cts_model.specs.declared.signal.Signal.{Signal}
 use Rattle.cts_model.specs.declared.circuit.Circuit.{Circuit}
 use Rattle.cts_model.specs.declared.tech.GateDelay.{GateDelay}
 use Rattle.cts_model.specs.declared.tech.Tech.{Tech}
 
--- the place of a gate kind in a delay table
-abbrev pub place_of : Kind → ℕ
-place_of And = 0
-place_of Nand = 1
-place_of Or = 2
-place_of Nor = 3
-place_of Not = 4
-place_of Xor = 5
-place_of Xnor = 6
-place_of Buff = 7
-place_of Input = 8
-place_of Dff = 8
-
+-- what a table says of a kind that has no gates
 abbrev pub no_delay : GateDelay
 no_delay = record { given = false; least = pos 0; greatest = pos 0; least_per_input = pos 0; greatest_per_input = pos 0 }
 

@@ -3,6 +3,9 @@ pub mod Names
 pub mod Tokens
 pub mod Statements
 pub mod Circuits
+pub mod Hosts
+pub mod UsedKinds
+pub mod Flaws
 pub mod Netlists
 pub mod Tables
 pub mod PlainTable

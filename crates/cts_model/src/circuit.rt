@@ -18,31 +18,22 @@ pub struct Circuit {
 
 impl Circuit {
     ghost use Rattle.std.specs.Prelude.{◌≡◌, ◌<◌, length, Some};
-    ghost use Rattle.cts_model.specs.Paths.{register_signal, register_name, data_input};
+    ghost use Rattle.cts_model.specs.Paths.{register_signal, register_name};
 
     /// The signal that a register is.
     pub fn register_signal(&self, register: usize) -> &Signal
         requires { register < length self.now.registers }
-        ensures signal { register_signal self.now register ≡ Some result.now }
-        ensures one_input { length result.now.fan_in ≡ 1 }
+        ensures { register_signal self.now register ≡ Some result.now }
     {
         let number = self.registers.as_slice()[register];
         &self.signals.as_slice()[number as usize]
     }
 
-    /// The bytes of a register's name.
+    /// The bytes of a register's name. The host is named `(host)`.
     pub fn register_name(&self, register: usize) -> &[u8]
         requires { register < length self.now.registers }
         ensures { result.now ≡ register_name self.now register }
     {
         self.register_signal(register).name.as_slice()
-    }
-
-    /// The number of the signal that a register captures.
-    pub fn data_input(&self, register: usize) -> u32
-        requires { register < length self.now.registers }
-        ensures { data_input self.now register ≡ Some result }
-    {
-        self.register_signal(register).fan_in.as_slice()[0]
     }
 }

@@ -1,4 +1,4 @@
-ghost use Rattle.std.specs.Prelude.{◌≡◌, ◌≤◌, ◌↔◌, ◌==◌, List, ℕ, [], ◌∷◌, ◌++◌, length, slice_get, OnOk, OnErr, IsNone};
+ghost use Rattle.std.specs.Prelude.{◌≡◌, ◌≤◌, ◌<◌, ◌↔◌, ◌==◌, List, ℕ, [], ◌∷◌, ◌++◌, length, slice_get, OnOk, OnErr, IsNone, IsOk, IfOk};
 ghost use Rattle.std.specs.Option.{option_copied};
 
 use cts_base::NoMemory;
@@ -16,6 +16,8 @@ impl Model for FanIn {
     ghost Value = { List ℕ };
 
     ghost view = { λ fan_in. fan_in.signals.items };
+
+    ghost invariant = { λ fan_in. 4 ≤ fan_in.signals.capacity };
 }
 
 impl FanIn {
@@ -28,10 +30,21 @@ impl FanIn {
         }
     }
 
+    /// The list of these numbers. Up to four take no memory.
+    pub fn from_slice(alloc: Global, items: &[u32]) -> Result<FanIn, NoMemory>
+        ensures ok { IfOk result (λ fan_in. fan_in ≡ items.now) }
+        ensures inline { length items.now ≤ 4 → IsOk result }
+    {
+        Ok(FanIn {
+            signals: SmallVec::from_slice(alloc, items)?,
+        })
+    }
+
     /// Puts a signal last. The first four take no memory.
     pub fn push(&mut self, item: u32) -> Result<(), NoMemory>
         ensures ok { OnOk result (self.new ≡ self.old ++ item ∷ []) }
         ensures err { OnErr result (self.new ≡ self.old) }
+        ensures inline { length self.old < 4 → IsOk result }
     {
         self.signals.push(item)?;
         Ok(())

@@ -3,17 +3,18 @@
 
 mod circuit;
 mod fan_in;
+mod host;
 mod kind;
 mod signal;
 mod tech;
 mod timing;
+mod usage;
 
 pub use circuit::Circuit;
 pub use fan_in::FanIn;
+pub use host::with_host;
 pub use kind::Kind;
 pub use signal::Signal;
 pub use tech::{GateDelay, Tech};
 pub use timing::{PairDelay, ZeroSkew};
-
-#[cfg(test)]
-mod tests;
+pub use usage::used_kinds;

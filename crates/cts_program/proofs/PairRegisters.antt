@@ -1,27 +1,30 @@
 -- A pair with a path has two registers of the circuit.
-use Rattle.std.proofs.Common.{ℕ, ◌≡◌, ◌<◌, List, [], ◌∷◌, length, Option, Some, None, refl}
+use Rattle.std.proofs.Common.{ℕ, ◌≡◌, ◌<◌, List, [], ◌∷◌, length, Option, Some, None, IsSomeAnd, refl}
+use Rattle.std.specs.Option.{option_and_then}
 use Rattle.std.specs.List.{slice_get}
 use Rattle.std.proofs.lemmas.Option.{slice_get_within}
+use Rattle.cts_model.specs.declared.signal.Signal.{Signal}
 use Rattle.cts_model.specs.declared.circuit.Circuit.{Circuit}
 use Rattle.cts_model.specs.declared.tech.Tech.{Tech}
 use Rattle.cts_model.specs.declared.timing.PairDelay.{PairDelay}
-use Rattle.cts_model.specs.Paths.{IsPath, data_input}
+use Rattle.cts_model.specs.Paths.{IsPath, register_signal}
 use Rattle.cts_model.specs.EqualArrivals.{IsPairDelay}
+
+-- a number with a register's signal is a register's
+known : (circuit : Circuit) (register : ℕ) (P : Signal → Type 0) → IsSomeAnd (register_signal circuit register) P → register < length circuit.registers
+known circuit register P some = at (slice_get circuit.registers register) refl some
+  where
+    at : (found : Option ℕ) → slice_get circuit.registers register ≡ found → IsSomeAnd (option_and_then (slice_get circuit.signals) found) P → register < length circuit.registers
+    at None none some = absurd some
+    at (Some number) here some = slice_get_within circuit.registers register number here
 
 from_within : (circuit : Circuit) (from to : ℕ) (path : List ℕ) → IsPath circuit from to path → from < length circuit.registers
 from_within circuit from to [] is_path = absurd is_path
-from_within circuit from to (first ∷ gates) is_path = slice_get_within circuit.registers from first is_path.0
-
-captures_within : (circuit : Circuit) (to last : ℕ) → data_input circuit to ≡ Some last → to < length circuit.registers
-captures_within circuit to last captured = at (slice_get circuit.registers to) refl
-  where
-    at : (found : Option ℕ) → slice_get circuit.registers to ≡ found → to < length circuit.registers
-    at None none = cc (rw none at captured)
-    at (Some number) here = slice_get_within circuit.registers to number here
+from_within circuit from to (first ∷ gates) is_path = known circuit from _ is_path.0
 
 to_within : (circuit : Circuit) (from to : ℕ) (path : List ℕ) → IsPath circuit from to path → to < length circuit.registers
 to_within circuit from to [] is_path = absurd is_path
-to_within circuit from to (first ∷ gates) is_path = captures_within circuit to is_path.1.0 is_path.1.2
+to_within circuit from to (first ∷ gates) is_path = known circuit to _ is_path.1.2
 
 -- the register that launches is one of the circuit
 pub pair_from : (circuit : Circuit) (tech : Tech) (pair : PairDelay) → IsPairDelay circuit tech pair → pair.from < length circuit.registers

@@ -1,9 +1,10 @@
 -- Pieces that are written one after the other.
-use Rattle.std.proofs.Common.{ℕ, ◌≡◌, ◌<◌, ◌≤◌, ◌+◌, List, [], ◌∷◌, ◌++◌, length, take, drop, Option, Some, None, refl, ap, sym, ◌∙◌, arith, append_assoc, length-append, get_or, drop-cons, suc, zero-add, subst}
+use Rattle.std.proofs.Common.{ℕ, ◌≡◌, ◌<◌, ◌≤◌, ◌+◌, List, [], ◌∷◌, ◌++◌, length, take, drop, Option, Some, None, Result, Ok, Err, OnOk, OnErr, inl, inr, refl, ap, sym, ◌∙◌, arith, append_assoc, append-nil, length-append, get_or, drop-cons, suc, zero-add, subst}
 use Rattle.std.proofs.lemmas.List.{take-append-le, take-append-drop}
 use Rattle.std.proofs.lemmas.List.Concat.{flat_map-append}
 use Rattle.std.specs.List.{flat_map}
-use Rattle.cts_io.specs.Device.{appended, WritesPrefix}
+use Rattle.cts_io.specs.Device.{Rose, appended, WritesPrefix}
+use Rattle.cts_program.specs.Failures.{Reports, Writes}
 
 -- what stands behind a front stands behind what the front stands behind
 appended-appended : (before : Option (List ℕ)) (first second : List ℕ) → appended (appended before first) second ≡ appended before (first ++ second)
@@ -38,3 +39,36 @@ pieces_cut read pieces place item before mid now within there part =
     ap (flat_map read) split ∙ flat_map-append read (take place pieces) (get_or pieces place item ∷ drop (suc place) pieces) in
     subst (λ bytes. WritesPrefix before bytes now) (sym all)
     (part_written before mid now (flat_map read (take place pieces)) (read (get_or pieces place item)) (flat_map read (drop (suc place) pieces)) there part)
+
+-- a front of bytes that isn't all of them is one of more bytes
+pub front_of_more : (before now : Option (List ℕ)) (bytes more : List ℕ) → WritesPrefix before bytes now → WritesPrefix before (bytes ++ more) now
+front_of_more before now bytes more part = record {
+  count = part.count;
+  short = let short = part.short in omega (arith, length-append bytes more);
+  written =
+      let within : part.count ≤ length bytes = let short = part.short in omega arith in
+      part.written ∙ ap (appended before) (sym (take-append-le part.count bytes more within));
+}
+
+-- where a front was written whole, and then the rest or a front of it, all was written or a front of it
+pub writes_behind : {T E : Type 0} (result : Result T E) (before mid now : Option (List ℕ)) (count counted counted_now : ℕ) (front rest : List ℕ) → mid ≡ appended before front → count ≤ counted
+    → Writes rest mid counted now counted_now result → Writes (front ++ rest) before count now counted_now result
+writes_behind (Ok x) before mid now count counted counted_now front rest there more (whole, risen) =
+    (whole ∙ ap (λ m. appended m rest) there ∙ appended-appended before front rest, omega arith)
+writes_behind (Err e) before mid now count counted counted_now front rest there more (part, rose) =
+    let ends : rest ++ [] ≡ rest = append-nil rest in
+    (subst (λ bytes. WritesPrefix before (front ++ bytes) now) ends (part_written before mid now front rest [] there part), omega arith)
+
+-- what the clauses of a whole write say together
+pub whole_writes : {T E : Type 0} (result : Result T E) (bytes : List ℕ) (before now : Option (List ℕ)) (count counted : ℕ) → OnOk result (now ≡ appended before bytes) → OnErr result (WritesPrefix before bytes now) → OnErr result (Rose count counted) → count ≤ counted → Writes bytes before count now counted result
+whole_writes (Ok x) bytes before now count counted whole part rose more = (whole, more)
+whole_writes (Err e) bytes before now count counted whole part rose more = (part, rose)
+
+-- where a front failed, a front of all was written
+pub front_failed : {T E : Type 0} (result : Result T E) (error : E) → result ≡ Err error → (front rest : List ℕ) (before now : Option (List ℕ)) (count counted : ℕ) → WritesPrefix before front now → Rose count counted → Writes (front ++ rest) before count now counted result
+front_failed result error failed front rest before now count counted part rose = rw failed (front_of_more before now front rest part, rose)
+
+-- a call that writes tells what its line on the error output is
+pub reported : {T E : Type 0} (result : Result T E) (bytes : List ℕ) (before now : Option (List ℕ)) (count counted : ℕ) → Writes bytes before count now counted result → Reports bytes before count now counted
+reported (Ok x) bytes before now count counted (whole, more) = inl whole
+reported (Err e) bytes before now count counted failed = inr failed

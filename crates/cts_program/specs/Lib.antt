@@ -1,4 +1,4 @@
-pub mod Plain
+pub mod Gateless
 pub mod Texts
 pub mod Run
 pub mod Failures

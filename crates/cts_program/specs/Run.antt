@@ -3,14 +3,14 @@ use Rattle.std.specs.Prelude.{◌≡◌, ◌≢◌, ◌≤◌, ◌==◌, ◌⊎�
 use Rattle.cts_io.specs.Device.{Rose, appended, WritesPrefix}
 use Rattle.cts_model.specs.declared.circuit.Circuit.{Circuit}
 use Rattle.cts_model.specs.declared.tech.Tech.{Tech}
-use Rattle.cts_model.specs.Netlists.{AcceptsNetlist}
+use Rattle.cts_model.specs.Netlists.{IsNetlist, AcceptsNetlist}
 use Rattle.cts_model.specs.PlainTable.{IsPlainTable}
 use Rattle.bench_reader.specs.declared.fault.BenchFault.{BenchFault}
 use Rattle.bench_reader.specs.declared.fault.BenchFault.TheVariants as bench
-use Rattle.bench_reader.specs.Plain.{IsPlainNetlist}
 use Rattle.bench_reader.specs.Refusals.{Refuses}
 use Rattle.cts_program.specs.declared.failure.Failure.{Failure}
-use Rattle.cts_program.specs.declared.failure.Failure.TheVariants.{Usage, TooLong, Bench, ReadFault, WriteFault, NoMemory}
+use Rattle.cts_program.specs.declared.failure.Failure.TheVariants.{Usage, TooLong, Bench, Gates, ReadFault, WriteFault, NoMemory}
+use Rattle.cts_program.specs.Gateless.{IsGateless}
 use Rattle.cts_program.specs.Texts.{IsZeroText}
 
 -- the value of an option: one or more bytes, of which the first is no `-`
@@ -33,9 +33,9 @@ IsShortFile bytes = length bytes ≤ 16777216
 
 -- the bytes are a netlist without gates, and the text is the one for its least period with the built-in table
 pub record IsZeroAnswer (bytes text : List ℕ) : Type 0 where
-  pub plain : IsPlainNetlist bytes
   pub circuit : Circuit
   pub accepts : AcceptsNetlist bytes circuit
+  pub gateless : IsGateless bytes
   pub tech : Tech
   pub table : IsPlainTable tech
   pub spelled : IsZeroText circuit tech text
@@ -59,20 +59,33 @@ pub record HasFault (bytes : List ℕ) (fault : BenchFault) : Type 0 where
   pub named : fault ≢ bench.NoMemory
   pub cause : Refuses bytes fault
 
--- the file is too long, or its netlist has a fault
+-- the bytes are a netlist with a gate
+pub record HasGate (bytes : List ℕ) : Type 0 where
+  pub netlist : IsNetlist bytes
+  pub gate : IsGateless bytes → ⊥
+
+-- the netlist has a fault, or a gate
+abbrev pub IsRefusedNetlist : List ℕ → Type 0
+IsRefusedNetlist bytes = ((fault : BenchFault) × HasFault bytes fault) ⊎ HasGate bytes
+
+-- the file is too long, or its netlist is refused
 abbrev pub IsRefused : List ℕ → Type 0
-IsRefused bytes = (IsShortFile bytes → ⊥) ⊎ (IsShortFile bytes × ((fault : BenchFault) × HasFault bytes fault))
+IsRefused bytes = (IsShortFile bytes → ⊥) ⊎ (IsShortFile bytes × IsRefusedNetlist bytes)
 
 -- what fails of a netlist's bytes
 abbrev pub FailsNetlist : List ℕ → Failure → Type 0
 FailsNetlist bytes (Bench fault) = HasFault bytes fault
+FailsNetlist bytes Gates = HasGate bytes
 FailsNetlist bytes NoMemory = Unit {0}
 FailsNetlist bytes _ = ⊥
 
 -- what fails of a file: its bytes, where they are told, or the device, whose count for it rose
 abbrev pub FailsFile : Option (List ℕ) → ℕ → ℕ → Failure → Type 0
 FailsFile told before now TooLong = (bytes : List ℕ) → told ≡ Some bytes → IsShortFile bytes → ⊥
-FailsFile told before now (Bench fault) = (bytes : List ℕ) → told ≡ Some bytes → IsShortFile bytes × HasFault bytes fault
+FailsFile told before now (Bench fault) =
+    (bytes : List ℕ) → told ≡ Some bytes → IsShortFile bytes × HasFault bytes fault
+FailsFile told before now Gates =
+    (bytes : List ℕ) → told ≡ Some bytes → IsShortFile bytes × HasGate bytes
 FailsFile told before now ReadFault = Rose before now
 FailsFile told before now NoMemory = Unit {0}
 FailsFile told before now Usage = ⊥

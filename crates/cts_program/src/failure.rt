@@ -1,16 +1,17 @@
 //! Why a command isn't done, and the line that says so.
 
-ghost use Rattle.std.specs.Prelude.{◌≡◌, ◌++◌, decimal};
+ghost use Rattle.std.specs.Prelude.{◌≡◌, ◌++◌, ◌∷◌, decimal};
 ghost use Rattle.std.specs.List.{flat_map};
 ghost use Rattle.cts_program.specs.declared.failure.Failure.TheVariants.{NoMemory};
-ghost use Rattle.cts_program.specs.Failures.{read_failure_of, bench_failure_of, status_of, ended, bench_line, failure_line, Reports};
+ghost use Rattle.cts_program.specs.Failures.{read_failure_of, bench_failure_of, status_of, limit_word, spaced, loop_line, ended, bench_line, failure_line, Reports, Writes};
 
-use bench_reader::BenchFault;
-use cts_io::{ReadWhole, Sink, write_whole};
+use bench_reader::{BenchFault, Which};
+use cts_base::Name;
+use cts_io::{Failed, ReadWhole, Sink, write_whole};
 use itoa::Buffer;
 
 /// Why a command isn't done.
-#[derive(Clone, Copy, Debug, PartialEq, Eq)]
+#[derive(Debug, Drop)]
 pub enum Failure {
     /// The words are no command.
     Usage,
@@ -18,6 +19,8 @@ pub enum Failure {
     TooLong,
     /// The netlist is refused.
     Bench(BenchFault),
+    /// The netlist has a gate, and delays through gates aren't computed yet.
+    Gates,
     /// The netlist's file couldn't be read.
     ReadFault,
     /// The output couldn't be written.
@@ -31,62 +34,123 @@ const USAGE: &[u8] =
 
 impl Failure {
     /// The program's exit status.
-    pub fn status(self) -> u8
-        ensures { result ≡ status_of self }
+    pub fn status(&self) -> u8
+        ensures { result ≡ status_of self.now }
     {
         match self {
             Failure::Usage => 2,
-            Failure::TooLong | Failure::Bench(_) => 3,
+            Failure::TooLong | Failure::Bench(_) | Failure::Gates => 3,
             Failure::ReadFault => 4,
             Failure::WriteFault => 5,
             Failure::NoMemory => 6,
         }
     }
 
-    /// Writes the line that says why, piece by piece and without memory. A sink that fails ends it.
-    pub fn report<E: Sink>(self, err: &mut E)
-        ensures { Reports (failure_line self) (E.written err.old) (E.faults err.old) (E.written err.new) (E.faults err.new) }
+    /// Writes the line that says why, piece by piece and without memory. A sink that fails ends it:
+    /// there is nowhere else to tell of that.
+    pub fn report<E: Sink>(&self, err: &mut E)
+        ensures { Reports (failure_line self.now)
+            (E.written err.old) (E.faults err.old) (E.written err.new) (E.faults err.new) }
+    {
+        let _ = self.write(err);
+    }
+
+    fn write<E: Sink>(&self, err: &mut E) -> Result<(), Failed>
+        ensures { Writes (failure_line self.now)
+            (E.written err.old) (E.faults err.old) (E.written err.new) (E.faults err.new) result }
     {
         match self {
-            Failure::Usage => write_pieces(err, &[USAGE, b"\n"]),
-            Failure::TooLong => write_pieces(err, &[b"refused bench long\n"]),
-            Failure::Bench(fault) => report_netlist(fault, err),
-            Failure::ReadFault => write_pieces(err, &[b"read fault bench\n"]),
-            Failure::WriteFault => write_pieces(err, &[b"write fault\n"]),
-            Failure::NoMemory => write_pieces(err, &[b"no memory\n"]),
+            Failure::Usage => write_line(&[USAGE], err),
+            Failure::TooLong => write_line(&[b"refused bench long"], err),
+            Failure::Bench(fault) => write_refusal(fault, err),
+            Failure::Gates => write_line(&[b"refused bench 10"], err),
+            Failure::ReadFault => write_line(&[b"read fault bench"], err),
+            Failure::WriteFault => write_line(&[b"write fault"], err),
+            Failure::NoMemory => write_line(&[b"no memory"], err),
         }
     }
 }
 
-fn report_netlist<E: Sink>(fault: BenchFault, err: &mut E)
-    ensures { Reports (bench_line fault) (E.written err.old) (E.faults err.old) (E.written err.new) (E.faults err.new) }
+fn write_refusal<E: Sink>(fault: &BenchFault, err: &mut E) -> Result<(), Failed>
+    ensures { Writes (bench_line fault.now)
+        (E.written err.old) (E.faults err.old) (E.written err.new) (E.faults err.new) result }
 {
     match fault {
-        BenchFault::NotYet(line) => report_line(b"refused bench 10 line ", line, err),
-        BenchFault::Undefined(line) => report_line(b"refused bench 6 line ", line, err),
-        BenchFault::NoRegisters => write_pieces(err, &[b"refused bench 8\n"]),
-        BenchFault::NoMemory => write_pieces(err, &[b"no memory\n"]),
+        BenchFault::BadLine(line) => write_at(b"refused bench 1 line ", *line, b"", err),
+        BenchFault::UnknownKind(line) => write_at(b"refused bench 2 line ", *line, b"", err),
+        BenchFault::WrongInputs(line) => write_at(b"refused bench 3 line ", *line, b"", err),
+        BenchFault::SignalTwice(line) => write_at(b"refused bench 4 line ", *line, b"", err),
+        BenchFault::TooLarge(line, which) => {
+            write_at(b"refused bench 5 line ", *line, limit_word(*which), err)
+        }
+        BenchFault::Undefined(line) => write_at(b"refused bench 6 line ", *line, b"", err),
+        BenchFault::CombLoop(names) => write_loop(names.as_slice(), err),
+        BenchFault::NoRegisters => write_line(&[b"refused bench 8"], err),
+        BenchFault::NoMemory => write_line(&[b"no memory"], err),
     }
 }
 
-fn report_line<E: Sink>(refusal: &[u8], line: u32, err: &mut E)
-    ensures { Reports (ended (refusal.now ++ decimal line)) (E.written err.old) (E.faults err.old) (E.written err.new) (E.faults err.new) }
+// The limit that a line passes, behind a space.
+fn limit_word(which: Which) -> &'static [u8]
+    ensures { result.now ≡ limit_word which }
+{
+    match which {
+        Which::Name => b" name",
+        Which::Signals => b" signals",
+        Which::Registers => b" registers",
+        Which::Inputs => b" inputs",
+    }
+}
+
+// Writes a refusal with the number of a line, and what follows it.
+fn write_at<E: Sink>(refusal: &[u8], line: u32, behind: &[u8], err: &mut E) -> Result<(), Failed>
+    ensures { Writes (ended (refusal.now ++ decimal line ++ behind.now))
+        (E.written err.old) (E.faults err.old) (E.written err.new) (E.faults err.new) result }
 {
     let mut buffer = Buffer::new();
     let line = buffer.format(line).as_bytes();
-    write_pieces(err, &[refusal, line, b"\n"]);
+    write_line(&[refusal, line, behind], err)
 }
 
-// Writes the pieces in order. A sink that fails ends it: there is nowhere else to tell of that.
-fn write_pieces<S: Sink>(sink: &mut S, pieces: &[&[u8]])
-    ensures { Reports (flat_map (λ piece. piece.now) pieces.now)
-        (S.written sink.old) (S.faults sink.old) (S.written sink.new) (S.faults sink.new) }
+// Writes the refusal of a ring of gates, with their names.
+fn write_loop<E: Sink>(names: &[Name], err: &mut E) -> Result<(), Failed>
+    ensures { Writes (loop_line names.now)
+        (E.written err.old) (E.faults err.old) (E.written err.new) (E.faults err.new) result }
+{
+    write_whole(err, b"refused bench 7")?;
+    write_names(names, err)?;
+    write_whole(err, b"\n")
+}
+
+// Writes names, each after a space.
+fn write_names<E: Sink>(names: &[Name], err: &mut E) -> Result<(), Failed>
+    ensures { Writes (spaced names.now)
+        (E.written err.old) (E.faults err.old) (E.written err.new) (E.faults err.new) result }
+{
+    for name in names {
+        write_word(name, err)?;
+    }
+    Ok(())
+}
+
+// Writes a name after a space.
+fn write_word<E: Sink>(name: &Name, err: &mut E) -> Result<(), Failed>
+    ensures { Writes (32 ∷ name.now)
+        (E.written err.old) (E.faults err.old) (E.written err.new) (E.faults err.new) result }
+{
+    write_whole(err, b" ")?;
+    write_whole(err, name.as_slice())
+}
+
+// Writes the pieces of a line and its end.
+fn write_line<E: Sink>(pieces: &[&[u8]], err: &mut E) -> Result<(), Failed>
+    ensures { Writes (ended (flat_map (λ piece. piece.now) pieces.now))
+        (E.written err.old) (E.faults err.old) (E.written err.new) (E.faults err.new) result }
 {
     for piece in pieces {
-        if let Err(_) = write_whole(sink, piece) {
-            return;
-        }
+        write_whole(err, piece)?;
     }
+    write_whole(err, b"\n")
 }
 
 impl From<ReadWhole> for Failure {

@@ -1,8 +1,9 @@
 ghost use Rattle.std.specs.Prelude.{◌≡◌, ◌≢◌, ◌⊎◌, ◌↔◌, ℕ, List, map, Some, string_bytes};
-ghost use Rattle.bench_reader.specs.Plain.{IsPlainNetlist};
+ghost use Rattle.cts_model.specs.Netlists.{IsNetlist};
 ghost use Rattle.cts_io.specs.Device.{Rose};
 ghost use Rattle.cts_program.specs.declared.failure.Failure.{Failure};
 ghost use Rattle.cts_program.specs.Failures.{status_of, failure_line, Reports};
+ghost use Rattle.cts_program.specs.Gateless.{IsGateless};
 ghost use Rattle.cts_program.specs.Run.{IsZeroCommand, IsNoCommand, IsShortFile, IsRefused, Answers, AnswersInPart, Fails};
 
 use crate::zero::zero;
@@ -29,8 +30,8 @@ pub fn run<I: Inputs, O: Sink, E: Sink>(
     ensures usage { (result ≡ 2) ↔ IsNoCommand (map string_bytes words.now) }
     ensures untouched { result ≡ 2 → inputs.new ≡ inputs.old }
 
-    // 3: exactly where the file is too long or its netlist has a fault, unless it can't be read or
-    // memory runs out.
+    // 3: exactly where the file is too long or its netlist has a fault (or a gate, so far), unless it
+    // can't be read or memory runs out.
     ensures refused { result ≡ 3 → (file : List ℕ) × IsZeroCommand (map string_bytes words.now) file
         × ((bytes : List ℕ) → I.holds inputs.old file ≡ Some bytes → IsRefused bytes) }
     ensures refuses { (file bytes : List ℕ) → IsZeroCommand (map string_bytes words.now) file
@@ -43,7 +44,7 @@ pub fn run<I: Inputs, O: Sink, E: Sink>(
 
     // With no fault of theirs a netlist without gates is answered, unless memory runs out.
     ensures complete { (file bytes : List ℕ) → IsZeroCommand (map string_bytes words.now) file
-        → I.holds inputs.old file ≡ Some bytes → IsShortFile bytes → IsPlainNetlist bytes
+        → I.holds inputs.old file ≡ Some bytes → IsShortFile bytes → IsNetlist bytes → IsGateless bytes
         → (Rose (I.faults inputs.old file) (I.faults inputs.new file) → ⊥)
         → (Rose (O.faults out.old) (O.faults out.new) → ⊥) → (result ≡ 0) ⊎ (result ≡ 6) }
 

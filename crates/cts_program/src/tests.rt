@@ -125,22 +125,30 @@ fn prints_the_least_period_at_equal_arrivals(rt: HostRuntime) -> Result<(), Fail
 #[test]
 fn refuses_netlists(rt: HostRuntime) -> Result<(), Fail> {
     for (netlist, line) in [
+        ("INPUT(x)\na = DFF(x", "refused bench 1 line 2\n"),
+        ("x = FOO(a,)\n", "refused bench 1 line 1\n"),
+        ("g = BUF(x) y\n", "refused bench 1 line 1\n"),
+        ("x = FOO()\n", "refused bench 2 line 1\n"),
+        ("x = INPUT(y)\n", "refused bench 2 line 1\n"),
+        ("a = DFF(a)\nb = FOO(a)\n", "refused bench 2 line 2\n"),
+        ("a = DFF(a)\na = NOT(a, a)\n", "refused bench 3 line 2\n"),
+        ("a = DFF(a)\na = NOT(a)\n", "refused bench 4 line 2\n"),
+        ("INPUT(x)\nINPUT(x)\n", "refused bench 4 line 2\n"),
+        // A ring of gates is judged last, and an undefined name before that there is no register.
         (
-            "INPUT(x)\na = DFF(x)\ng = NOT(x)\n",
-            "refused bench 10 line 3\n",
+            "a = DFF(a)\ng = NOT(y)\nh = NOT(h)\n",
+            "refused bench 6 line 2\n",
         ),
-        (
-            "INPUT(x)\na = DFF(g)\ng = NOT(x)\n",
-            "refused bench 10 line 3\n",
-        ),
-        ("a = DFF(y)\n", "refused bench 6 line 1\n"),
         ("a = DFF(a)\nOUTPUT(q)\n", "refused bench 6 line 2\n"),
+        (
+            "INPUT(x)\na = DFF(x)\ng = AND(x, h)\nh = NOT(g)\n",
+            "refused bench 7 g h\n",
+        ),
         ("", "refused bench 8\n"),
-        ("# none\nINPUT(x)\nINPUT(y)\n", "refused bench 8\n"),
-        ("INPUT(x)\na = DFF(x", "refused bench 10 line 2\n"),
-        ("INPUT(x)\nINPUT(x)\n", "refused bench 10 line 2\n"),
-        // Every line is judged by itself before names are looked up.
-        ("a = DFF(y)\nb = DFF\n", "refused bench 10 line 2\n"),
+        ("INPUT(x)\nINPUT(y)\n", "refused bench 8\n"),
+        ("INPUT(x)\nh = NOT(h)\n", "refused bench 8\n"),
+        // An accepted netlist with a gate, so far.
+        ("a = DFF(INPUT)\nINPUT = AND(a)\n", "refused bench 10\n"),
     ] {
         zero_of(rt.alloc(), netlist.as_bytes())?.expect(&rt, 3, "", line, netlist);
     }
@@ -215,11 +223,11 @@ fn long_name(alloc: Global, length: usize) -> Result<Vec<u8>, AllocError> {
 #[test]
 fn counts_signals(rt: HostRuntime) -> Result<(), Fail> {
     let alloc = rt.alloc();
-    let most = wide_netlist(alloc, 65_535, 1)?;
-    zero_of(alloc, &most)?.expect(&rt, 0, FLOOR, "", "65,536 signals");
-    let more = wide_netlist(alloc, 65_536, 1)?;
-    let line = "refused bench 10 line 65537\n";
-    zero_of(alloc, &more)?.expect(&rt, 3, "", line, "65,537 signals");
+    let mut netlist = wide_netlist(alloc, 65_535, 1)?;
+    zero_of(alloc, &netlist)?.expect(&rt, 0, FLOOR, "", "65,536 signals");
+    netlist.extend_from_slice(b"INPUT(y)\n")?;
+    let line = "refused bench 5 line 65537 signals\n";
+    zero_of(alloc, &netlist)?.expect(&rt, 3, "", line, "65,537 signals");
     Ok(())
 }
 
@@ -229,8 +237,46 @@ fn counts_registers(rt: HostRuntime) -> Result<(), Fail> {
     let most = wide_netlist(alloc, 1, 4096)?;
     zero_of(alloc, &most)?.expect(&rt, 0, FLOOR, "", "4,096 registers");
     let more = wide_netlist(alloc, 1, 4097)?;
-    let line = "refused bench 10 line 4098\n";
+    let line = "refused bench 5 line 4098 registers\n";
     zero_of(alloc, &more)?.expect(&rt, 3, "", line, "4,097 registers");
+    Ok(())
+}
+
+// Appends the line of a gate with so many inputs, all `x`.
+fn push_gate(netlist: &mut Vec<u8>, gate: &str, inputs: u32) -> Result<(), AllocError> {
+    netlist.extend_from_slice(gate.as_bytes())?;
+    netlist.extend_from_slice(b" = AND(x")?;
+    for _ in 1..inputs {
+        netlist.extend_from_slice(b",x")?;
+    }
+    netlist.extend_from_slice(b")\n")
+}
+
+// A netlist with 256 gates of 1,024 inputs each, and a last line.
+fn filled_gates(alloc: Global, last: &str) -> Result<Vec<u8>, AllocError> {
+    let mut netlist = Vec::from_slice(alloc, NO_PATH.as_bytes())?;
+    for number in 0..256 {
+        push_gate(&mut netlist, &format!(in alloc; "g{number}")?, 1024)?;
+    }
+    netlist.extend_from_slice(last.as_bytes())?;
+    Ok(netlist)
+}
+
+#[test]
+fn counts_the_inputs_of_gates(rt: HostRuntime) -> Result<(), Fail> {
+    let alloc = rt.alloc();
+    let mut wide = Vec::from_slice(alloc, NO_PATH.as_bytes())?;
+    push_gate(&mut wide, "g", 1025)?;
+    let line = "refused bench 3 line 3\n";
+    zero_of(alloc, &wide)?.expect(&rt, 3, "", line, "1,025 inputs");
+    for (last, line) in [
+        ("# 262,144 inputs", "refused bench 10\n"),
+        // A register's input isn't among them.
+        ("b = DFF(x)", "refused bench 10\n"),
+        ("h = NOT(x)", "refused bench 5 line 259 inputs\n"),
+    ] {
+        zero_of(alloc, &filled_gates(alloc, last)?)?.expect(&rt, 3, "", line, last);
+    }
     Ok(())
 }
 
@@ -240,7 +286,7 @@ fn counts_the_bytes_of_a_name(rt: HostRuntime) -> Result<(), Fail> {
     let most = long_name(alloc, 255)?;
     zero_of(alloc, &most)?.expect(&rt, 0, "zero 5\nsetup a a 5\n", "", "a name of 255 bytes");
     let more = long_name(alloc, 256)?;
-    let line = "refused bench 10 line 1\n";
+    let line = "refused bench 5 line 1 name\n";
     zero_of(alloc, &more)?.expect(&rt, 3, "", line, "a name of 256 bytes");
     Ok(())
 }

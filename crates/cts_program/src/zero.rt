@@ -1,6 +1,7 @@
 //! The command `zero`: the least period at equal arrivals.
 
-ghost use Rattle.std.specs.Prelude.{◌≡◌, ◌≢◌, ℕ, List, map, Some, string_bytes, OnOk, IfOk, IfErr, IsErrOf, IfSome, IsNone};
+ghost use Rattle.std.specs.Prelude.{◌≡◌, ◌≢◌, ℕ, List, map, Some, string_bytes, OnOk, IfOk, IfErr, IsErrOf, IfSome, IsNone, MatchBool};
+ghost use Rattle.cts_program.specs.Gateless.{HasNoGates};
 ghost use Rattle.cts_program.specs.Run.{is_value, IsZeroCommand, IsShortFile, IsZeroAnswer, Answers, AnswersInPart, FailsNetlist, FailsFile, Fails};
 
 use crate::failure::Failure;
@@ -8,7 +9,7 @@ use crate::zero_skew::zero_skew;
 use crate::zero_text::zero_text;
 use bench_reader::read_bench;
 use cts_io::{Inputs, Sink, read_whole, write_whole};
-use cts_model::Tech;
+use cts_model::{Signal, Tech};
 use std::alloc::Global;
 
 /// The most bytes that a file may have.
@@ -84,7 +85,16 @@ fn netlist_answer(alloc: Global, bytes: &[u8]) -> Result<Vec<u8>, Failure>
     ensures cause { IfErr result (FailsNetlist bytes.now) }
 {
     let circuit = read_bench(alloc, bytes)?;
+    if has_gate(circuit.signals.as_slice()) {
+        return Err(Failure::Gates);
+    }
     let tech = Tech::plain(alloc);
     let outcome = zero_skew(&circuit, &tech);
     Ok(zero_text(alloc, &circuit, &tech, &outcome)?)
+}
+
+fn has_gate(signals: &[Signal]) -> bool
+    ensures { MatchBool result (HasNoGates signals.now → ⊥) (HasNoGates signals.now) }
+{
+    signals.iter().any(|signal| signal.kind.is_gate())
 }

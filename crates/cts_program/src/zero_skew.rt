@@ -1,15 +1,16 @@
-ghost use Rattle.std.specs.Prelude.{◌≡◌, ◌<◌, ℕ, length, MatchOption};
-ghost use Rattle.cts_model.specs.Paths.{data_input};
+ghost use Rattle.std.specs.Prelude.{◌<◌, ◌↔◌, ℕ, IsTrue, length, MatchOption};
 ghost use Rattle.cts_model.specs.EqualArrivals.{IsZeroSkew, IsFirstPair};
-ghost use Rattle.bench_reader.specs.Plain.{HasNoGates};
-ghost use Rattle.cts_program.specs.Plain.{IsJoined, HasSmallDelays};
+ghost use Rattle.cts_model.specs.Hosts.{HasNoHost};
+ghost use Rattle.cts_model.specs.Paths.{Captures};
+ghost use Rattle.cts_program.specs.Gateless.{HasNoGates, IsJoined, HasSmallDelays};
 
 use cts_model::{Circuit, PairDelay, Tech, ZeroSkew};
 
 /// The least period at equal arrivals of a circuit whose paths are direct connections. It takes
 /// no memory.
 pub fn zero_skew(circuit: &Circuit, tech: &Tech) -> ZeroSkew
-    requires { HasNoGates circuit.now }
+    requires gateless { HasNoGates circuit.now.signals }
+    requires hostless { HasNoHost circuit.now }
     ensures least { IsZeroSkew circuit.now tech.now result }
     ensures small { HasSmallDelays result }
 {
@@ -32,8 +33,9 @@ pub fn zero_skew(circuit: &Circuit, tech: &Tech) -> ZeroSkew
     }
 }
 
-// The first pair of registers of which the second captures the first one's output.
+// The first pair of registers of which the second captures what the first one launches.
 fn first_joined(circuit: &Circuit) -> Option<(u32, u32)>
+    requires { HasNoHost circuit.now }
     ensures { MatchOption result ((from to : ℕ) → IsJoined circuit.now from to → ⊥)
         (λ pair. IsFirstPair (IsJoined circuit.now) pair.0 pair.1) }
 {
@@ -48,13 +50,22 @@ fn first_joined(circuit: &Circuit) -> Option<(u32, u32)>
 
 // The first register that captures this signal.
 fn first_capture(circuit: &Circuit, signal: u32) -> Option<u32>
-    ensures { MatchOption result ((to : ℕ) → data_input circuit.now to ≡ Some signal → ⊥)
-        (λ first. (data_input circuit.now first ≡ Some signal) × ((to : ℕ) → to < first → data_input circuit.now to ≡ Some signal → ⊥)) }
+    ensures { MatchOption result ((to : ℕ) → Captures circuit.now to signal → ⊥)
+        (λ first. Captures circuit.now first signal
+        × ((to : ℕ) → to < first → Captures circuit.now to signal → ⊥)) }
 {
     for to in 0..circuit.registers.len() {
-        if circuit.data_input(to) == signal {
+        if captures(circuit, to, signal) {
             return Some(to as u32);
         }
     }
     None
+}
+
+fn captures(circuit: &Circuit, register: usize, signal: u32) -> bool
+    requires { register < length circuit.now.registers }
+    ensures { IsTrue result ↔ Captures circuit.now register signal }
+{
+    let fan_in = &circuit.register_signal(register).fan_in;
+    fan_in.as_slice().contains(&signal)
 }

@@ -1,42 +1,12 @@
-use Rattle.std.proofs.Common.{◌≡◌, ◌<◌, ◌∙◌, length, refl, arith}
-use Rattle.std.proofs.lemmas.Bool.Decides.{nat_tests}
-use Rattle.std.proofs.lemmas.Result.{err_from_is_err_and}
-use Rattle.bench_reader.proofs.PlainNetlists.{told_netlist, told_circuit, told_accepts, no_registers, line_refused, use_refused, told_gateless}
+use Rattle.std.proofs.Common.{sym, subst, All, ◌<◌, length}
+use Rattle.bench_reader.proofs.ToldCircuits.{told_hostless}
+use Rattle.bench_reader.proofs.LoopSignals.{loop_within}
 use Rattle.bench_reader.proofs.read.circuit_told.Goals as goal
 
-pub returns-in_err-names-clause-refused : goal.returns-in_err-names-clause-refused
-returns-in_err-names-clause-refused c =
-    let p = err_from_is_err_and c.from_residual.result c.from_residual.ensures.1 in
-    rw (p.1, p.2) (line_refused _ _ c.in_err-names.ensures.refused)
+pub returns-in-Ok-clause-hostless : goal.returns-in-Ok-clause-hostless
+returns-in-Ok-clause-hostless c = told_hostless c.args.bytes.now c.in_ok-circuit.circuit c.in_ok-circuit.ensures.told
 
-pub returns-in_err-signals-clause-refused : goal.returns-in_err-signals-clause-refused
-returns-in_err-signals-clause-refused c =
-    let p = err_from_is_err_and c.from_residual-in_err-signals.result c.from_residual-in_err-signals.ensures.1 in
-    rw (p.1, p.2) (use_refused _ _ c.in_ok-names.ensures.plain c.in_err-signals.ensures.refused)
-
-pub returns-then-is_empty-clause-refused : goal.returns-then-is_empty-clause-refused
-returns-then-is_empty-clause-refused c =
-    let none : length c.in_ok-signals.field-0.registers ≡ 0 = grind (arith, nat_tests) in
-    no_registers c.args.bytes.now _ c.in_ok-signals.field-0 c.in_ok-names.ensures.plain c.in_ok-names.ensures.names c.in_ok-signals.ensures.told none
-
-pub returns-in_err-from_slice-clause-refused : goal.returns-in_err-from_slice-clause-refused
-returns-in_err-from_slice-clause-refused c =
-    let p = err_from_is_err_and c.from_residual-in_err-from_slice.result c.from_residual-in_err-from_slice.ensures.1 in
-    rw (p.1, p.2) tt
-
-pub invariant_of-result : goal.invariant_of-result
-invariant_of-result c =
-    let some : 0 < length c.in_ok-signals.field-0.registers = grind (arith, nat_tests) in
-    let told = told_netlist c.args.bytes.now _ c.in_ok-signals.field-0 c.in_ok-names.ensures.plain c.in_ok-names.ensures.names c.in_ok-signals.ensures.told some in
-    record { valid = told_circuit c.args.bytes.now c.in_ok-signals.field-0 c.from_vec-outputs.result told (c.from_vec-outputs.ensures ∙ c.in_ok-from_slice.ensures.items ∙ c.as_slice.ensures.keys) }
-
-pub returns : goal.returns
-returns c =
-    let some : 0 < length c.in_ok-signals.field-0.registers = grind (arith, nat_tests) in
-    let told = told_netlist c.args.bytes.now _ c.in_ok-signals.field-0 c.in_ok-names.ensures.plain c.in_ok-names.ensures.names c.in_ok-signals.ensures.told some in
-    record {
-      ok = told_accepts c.args.bytes.now c.in_ok-signals.field-0 _ told refl refl (c.from_vec-outputs.ensures ∙ c.in_ok-from_slice.ensures.items ∙ c.as_slice.ensures.keys);
-      plain = told.plain_text;
-      gateless = rw told.signals_are (told_gateless c.args.bytes.now c.in_ok-names.ensures.plain);
-      refused = tt;
-    }
+pub signal_names-requires : goal.signal_names-requires
+signal_names-requires c =
+    let named = rw c.in-Err-Loop.field-0-is at c.in-Err-Loop.ensures.looped in
+    subst (All (λ number. number < length c.in_ok-circuit.circuit.signals)) (sym c.as_slice.ensures) (loop_within c.in_ok-circuit.circuit.signals _ named.ring)

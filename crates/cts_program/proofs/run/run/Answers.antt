@@ -14,8 +14,8 @@ returns-in-Err-clause-refuses g c file bytes command told refused =
     rw c.status.ensures (refused_status _ (g.I.Inputs.holds c.args.inputs.now) _ _ _ _ file bytes command told _ _ c.in-Err.failure c.in-Err.ensures.cause refused (λ e. c.in-Err.ensures.part (ap (λ f. Err f) e) file bytes command told))
 
 pub returns-in-Err-clause-complete : goal.returns-in-Err-clause-complete
-returns-in-Err-clause-complete g c file bytes command told fits netlist read wrote =
-    rw c.status.ensures (complete_status _ (g.I.Inputs.holds c.args.inputs.now) _ _ _ _ file bytes command told c.in-Err.failure c.in-Err.ensures.cause fits netlist read wrote)
+returns-in-Err-clause-complete g c file bytes command told fits netlist gateless read wrote =
+    rw c.status.ensures (complete_status _ (g.I.Inputs.holds c.args.inputs.now) _ _ _ _ file bytes command told c.in-Err.failure c.in-Err.ensures.cause fits netlist gateless read wrote)
 
 pub returns-in-Err-clause-part : goal.returns-in-Err-clause-part
 returns-in-Err-clause-part g c five = c.in-Err.ensures.part (ap (λ f. Err f) (writes_at_five c.in-Err.failure (sym c.status.ensures ∙ five)))

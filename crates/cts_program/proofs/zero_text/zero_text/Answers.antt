@@ -12,6 +12,9 @@ overflow_add-pair c = let small = rw c.in-Setup.is at c.requires.small in omega 
 pub push_constraint-requires-clause-from : goal.push_constraint-requires-clause-from
 push_constraint-requires-clause-from c = pair_from _ _ _ (rw c.in-Fails.is at c.requires.least).delays
 
+pub push_constraint-requires-clause-to : goal.push_constraint-requires-clause-to
+push_constraint-requires-clause-to c = pair_to _ _ _ (rw c.in-Fails.is at c.requires.least).delays
+
 pub push_constraint-requires-in-Setup-clause-from : goal.push_constraint-requires-in-Setup-clause-from
 push_constraint-requires-in-Setup-clause-from c = pair_from _ _ _ (rw c.in-Setup.is at c.requires.least).delays
 

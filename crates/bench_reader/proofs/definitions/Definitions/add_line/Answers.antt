@@ -1,19 +1,31 @@
-use Rattle.bench_reader.proofs.AddedLines.{of_both, of_three, blank_adds, output_adds, input_adds, register_adds}
+use Rattle.std.proofs.Common.{[], sym, refl, ◌∙◌}
+use Rattle.cts_model.specs.declared.kind.Kind.TheVariants as kinds
+use Rattle.cts_model.specs.Statements.{Blank, Input, Output, Assign}
+use Rattle.bench_reader.proofs.DefiningLines.{silent_adds, defining_adds}
 use Rattle.bench_reader.proofs.definitions.Definitions.add_line.Goals as goal
 
-pub returns-in-Some-Blank : goal.returns-in-Some-Blank
-returns-in-Some-Blank c = blank_adds c.args.line.now c.args.self.now (rw c.in-Some-Blank.field-0-is at c.in-Some-Blank.ensures.some)
+pub returns-in-Blank : goal.returns-in-Blank
+returns-in-Blank c earlier = silent_adds earlier c.args.line.now Blank (sym (rw c.in-Blank.is at c.in-Some.ensures)) refl refl refl c.args.self.now
 
-pub returns-in-Some-Output : goal.returns-in-Some-Output
-returns-in-Some-Output c = output_adds c.args.line.now c.args.self.now c.in-Some-Output.field-0-0 (rw c.in-Some-Output.field-0-is at c.in-Some-Output.ensures.some)
+pub returns-in-Output : goal.returns-in-Output
+returns-in-Output c earlier =
+    let name = c.in-Output.field-0.now in
+    let short = rw c.in-Output.is at c.has_short_names-short.ensures in
+    silent_adds earlier c.args.line.now (Output name) (sym (rw c.in-Output.is at c.in-Some.ensures)) refl refl (sym short ∙ c.if-short.true) c.args.self.now
 
-pub returns-in-Some-Input : goal.returns-in-Some-Input
-returns-in-Some-Input c =
-    let reads = rw c.in-Some-Input.field-0-is at c.in-Some-Input.ensures.some in
-    of_both c.define.result c.define.ensures.added c.define.ensures.lawful (λ added put may. input_adds c.args.line.now c.in-Some-Input.name reads added c.args.self.now c.define.new.self put may)
+pub returns-in-Input : goal.returns-in-Input
+returns-in-Input c earlier =
+    let name = c.in-Input.name.now in
+    let short = rw c.in-Input.is at c.has_short_names-short.ensures in
+    defining_adds earlier c.args.line.now (Input name) (sym (rw c.in-Input.is at c.in-Some.ensures)) (record { name = name; kind = kinds.Input; inputs = [] }) refl refl refl c.define.new.self c.define.result (rw short at c.define.ensures)
 
-pub returns-in-Some-Register : goal.returns-in-Some-Register
-returns-in-Some-Register c =
-    let reads = rw c.in-Some-Register.field-0-is at c.in-Some-Register.ensures.some in
-    let told = c.add_register.ensures in
-    of_three c.add_register.result told.names told.registers told.lawful (λ added put count may. register_adds c.args.line.now c.in-Some-Register.name c.in-Some-Register.field-0-1 reads added c.args.self.now c.add_register.new.self put count may)
+pub returns-else-not-may_have : goal.returns-else-not-may_have
+returns-else-not-may_have c earlier =
+    let name = c.in-Assign.name.now in
+    let word = c.in-Assign.word.now in
+    let short = rw c.in-Assign.is at c.has_short_names-short.ensures in
+    let kind = sym c.in-Some-kind_of.ensures in
+    let lawful = rw c.len-count.ensures at (sym c.may_have.ensures ∙ c.if-not-may_have.false) in
+    let judged = rw (short, c.len-count.ensures) at c.define-in-Assign.ensures in
+    defining_adds earlier c.args.line.now (Assign name word c.in-Assign.inputs) (sym (rw c.in-Assign.is at c.in-Some.ensures)) (record { name = name; kind = c.in-Some-kind_of.kind; inputs = c.in-Assign.inputs })
+    (rw kind refl) (rw kind refl) lawful c.define-in-Assign.new.self c.define-in-Assign.result judged

@@ -1,0 +1,7 @@
+use Rattle.std.proofs.Common.{sym, ◌∙◌}
+use Rattle.std.specs.Str.{bytes_eq}
+use Rattle.bench_reader.proofs.Keys.{list_any-map}
+use Rattle.bench_reader.proofs.names.Names.is_defined.Goals as goal
+
+pub returns : goal.returns
+returns c = rw (← c.self.view_is) (c.contains.ensures ∙ sym (list_any-map (λ key. key.items) (bytes_eq c.args.name.now) c.self.inside.names.keys))

@@ -1,0 +1,39 @@
+use Rattle.std.proofs.Common.{◌≡◌, ◌<◌, ◌∙◌, length, refl, arith}
+use Rattle.std.proofs.lemmas.Bool.Decides.{nat_tests}
+use Rattle.std.proofs.lemmas.Result.{err_from_is_err_and}
+use Rattle.bench_reader.proofs.ToldCircuits.{no_registers, parts_circuit, parts_told, line_refused, use_refused}
+use Rattle.bench_reader.proofs.read.circuit_of_lines.Goals as goal
+
+pub returns-in_err-names-clause-refused : goal.returns-in_err-names-clause-refused
+returns-in_err-names-clause-refused c =
+    let p = err_from_is_err_and c.from_residual.result c.from_residual.ensures.1 in
+    rw (p.1, p.2) (line_refused _ _ c.in_err-names.ensures.refused)
+
+pub returns-in_err-signals-clause-refused : goal.returns-in_err-signals-clause-refused
+returns-in_err-signals-clause-refused c =
+    let p = err_from_is_err_and c.from_residual-in_err-signals.result c.from_residual-in_err-signals.ensures.1 in
+    rw (p.1, p.2) (use_refused _ _ c.in_ok-names.ensures.flawless c.in_err-signals.ensures.refused)
+
+pub returns-then-is_empty-clause-refused : goal.returns-then-is_empty-clause-refused
+returns-then-is_empty-clause-refused c =
+    let none : length c.in_ok-signals.field-0.registers ≡ 0 = grind (arith, nat_tests) in
+    no_registers c.args.bytes.now _ c.in_ok-signals.field-0 c.in_ok-names.ensures.flawless c.in_ok-names.ensures.names c.in_ok-signals.ensures.told none
+
+pub returns-in_err-from_slice-clause-refused : goal.returns-in_err-from_slice-clause-refused
+returns-in_err-from_slice-clause-refused c =
+    let p = err_from_is_err_and c.from_residual-in_err-from_slice.result c.from_residual-in_err-from_slice.ensures.1 in
+    rw (p.1, p.2) tt
+
+pub invariant_of-result : goal.invariant_of-result
+invariant_of-result c =
+    let some : 0 < length c.in_ok-signals.field-0.registers = grind (arith, nat_tests) in
+    record {
+      valid = parts_circuit c.args.bytes.now _ c.in_ok-signals.field-0 c.in_ok-names.ensures.flawless c.in_ok-names.ensures.names c.in_ok-signals.ensures.told some c.from_vec-outputs.result
+          (c.from_vec-outputs.ensures ∙ c.in_ok-from_slice.ensures.items ∙ c.as_slice.ensures.keys);
+    }
+
+pub returns-clause-told : goal.returns-clause-told
+returns-clause-told c =
+    let some : 0 < length c.in_ok-signals.field-0.registers = grind (arith, nat_tests) in
+    parts_told c.args.bytes.now _ c.in_ok-signals.field-0 c.in_ok-names.ensures.flawless c.in_ok-names.ensures.names c.in_ok-signals.ensures.told some c.from_vec-outputs.result
+    (c.from_vec-outputs.ensures ∙ c.in_ok-from_slice.ensures.items ∙ c.as_slice.ensures.keys) _ refl refl refl

@@ -1,0 +1,13 @@
+-- The names in a list of inputs that has its form.
+use Rattle.std.specs.Prelude.{ℕ, List, Option, Some, None}
+use Rattle.std.specs.List.{filter_map}
+use Rattle.cts_model.specs.Tokens.{Token, Word}
+
+-- the bytes of a word
+abbrev pub word_in : Token → Option (List ℕ)
+word_in (Word bytes) = Some bytes
+word_in _ = None
+
+-- the words among tokens
+abbrev pub words_in : List Token → List (List ℕ)
+words_in tokens = filter_map word_in tokens

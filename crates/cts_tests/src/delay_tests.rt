@@ -1,0 +1,55 @@
+use bench_reader::read_bench;
+use cts_model::Circuit;
+use path_delays::levels;
+use std::alloc::{AllocError, Global};
+use std::process::Abort;
+use std::test::Fail;
+
+// The circuit of a text, which is short enough for a file.
+fn circuit_of(rt: &impl Abort, alloc: Global, text: &[u8]) -> Result<Circuit, Fail> {
+    assert!(rt; text.len() <= 16_777_216);
+    Ok(read_bench(alloc, text)?)
+}
+
+#[test]
+fn orders_gates_behind_those_that_they_read(rt: HostRuntime) -> Result<(), Fail> {
+    let alloc = rt.alloc();
+    for (text, gates) in [
+        ("a = DFF(a)", [].as_slice()),
+        // A gate whose inputs are a register and a primary input comes first, wherever it stands.
+        (
+            "a = DFF(g)\ng = AND(h, i)\nh = NOT(i)\ni = NOR(a, x)\nINPUT(x)",
+            [3, 2, 1].as_slice(),
+        ),
+        // Two inputs that are one signal.
+        ("g = XOR(h, h)\nh = BUFF(a)\na = DFF(g)", [1, 0].as_slice()),
+    ] {
+        let circuit = circuit_of(&rt, alloc, text.as_bytes())?;
+        let order = levels(alloc, &circuit)?;
+        assert_eq!(rt; order.gates(), gates, "at {text:?}");
+    }
+    Ok(())
+}
+
+// A register and a chain of inverters, each of which reads the one on the line behind it.
+fn chain(alloc: Global, length: u32) -> Result<Vec<u8>, AllocError> {
+    let mut text = Vec::from_slice(alloc, b"g0 = DFF(g0)\n")?;
+    for gate in 0..length {
+        let line = format!(in alloc; "h{gate} = NOT(h{})\n", gate.saturating_add(1))?;
+        text.extend_from_slice(line.as_bytes())?;
+    }
+    text.extend_from_slice(format!(in alloc; "h{length} = BUFF(g0)\n")?.as_bytes())?;
+    Ok(text)
+}
+
+#[test]
+fn orders_a_chain_of_60000_inverters(rt: HostRuntime) -> Result<(), Fail> {
+    let alloc = rt.alloc();
+    let circuit = circuit_of(&rt, alloc, &chain(alloc, 60_000)?)?;
+    let order = levels(alloc, &circuit)?;
+    let gates = order.gates();
+    assert_eq!(rt; gates.len(), 60_001);
+    assert_eq!(rt; gates.first().copied(), Some(60_001));
+    assert_eq!(rt; gates.last().copied(), Some(1));
+    Ok(())
+}

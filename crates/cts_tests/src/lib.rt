@@ -1,0 +1,13 @@
+//! Tests on the public calls of the crates below the program, a file for each crate.
+#![tactic(auto)]
+
+#[cfg(test)]
+mod base_tests;
+#[cfg(test)]
+mod bench_tests;
+#[cfg(test)]
+mod delay_tests;
+#[cfg(test)]
+mod io_tests;
+#[cfg(test)]
+mod model_tests;

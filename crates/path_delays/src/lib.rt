@@ -1,0 +1,14 @@
+//! Orders the gates of a netlist, or names a loop that they form.
+#![tactic(auto)]
+
+mod fault;
+mod gate_reads;
+mod groups;
+mod level_list;
+mod loop_search;
+mod order;
+mod sorting;
+
+pub use fault::LevelFault;
+pub use level_list::Levels;
+pub use order::levels;
