@@ -21,7 +21,8 @@ expect() {
     fi
 }
 
-"$top/cts" zero --bench "$top/examples/ring.bench" >/dev/null || exit 1
+# A program that is newer than the sources is used as it is.
+"$top/cts" build || exit 1
 
 expect lenient 0 $'zero 5\nsetup a b 5' '' "$top/cts" zero --bench "$top/examples/lenient.bench"
 expect floor 0 $'zero 0\nfloor' '' "$top/cts" zero --bench "$top/examples/floor.bench"
@@ -30,13 +31,55 @@ expect order 0 $'zero 5\nsetup b c 5' '' "$top/cts" zero --bench "$top/examples/
 expect comments 0 $'zero 5\nsetup q1 q2 5' '' "$top/cts" zero --bench "$top/examples/comments.bench"
 expect keywords 0 $'zero 0\nfloor' '' "$top/cts" zero --bench "$top/examples/keywords.bench"
 
-expect 's27' 3 '' 'refused bench 10' "$top/cts" zero --bench "$top/examples/s27.bench"
+s27=$top/examples/s27.bench
+table=$top/examples/s27.toml
+expect s27 0 $'zero 10\nsetup G6 G5 10' '' "$top/cts" zero --bench "$s27"
+expect 's27 with its table' 0 $'zero 15\nsetup G6 G5 15' '' "$top/cts" zero --bench "$s27" --tech "$table"
+expect 'the options swapped' 0 $'zero 15\nsetup G6 G5 15' '' "$top/cts" zero --tech "$table" --bench "$s27"
 expect 'a ring of gates' 3 '' 'refused bench 7 g h' "$top/cts" zero --bench "$top/examples/ring_of_gates.bench"
 
 printf 'INPUT(x)\na = DFF(x' >"$work/cut.bench"
 expect 'a cut netlist' 3 '' 'refused bench 1 line 2' "$top/cts" zero --bench "$work/cut.bench"
 expect 'a missing file' 4 '' 'read fault bench' "$top/cts" zero --bench "$work/missing.bench"
 expect 'a folder as the file' 4 '' 'read fault bench' "$top/cts" zero --bench "$work"
+expect 'a missing table' 4 '' 'read fault tech' "$top/cts" zero --bench "$s27" --tech "$work/missing.toml"
+
+# tables NAME STATUS TEXT LINE NETLIST COMMAND..: a netlist with the table that a command prints.
+tables() {
+    local name=$1 status=$2 text=$3 line=$4 netlist=$5
+    shift 5
+    "$@" >"$work/table.toml"
+    expect "$name" "$status" "$text" "$line" "$top/cts" zero --bench "$netlist" --tech "$work/table.toml"
+}
+
+# registers SETUP HOLD LEAST GREATEST [MORE]: a table of registers, and what stands behind it.
+registers() {
+    printf '[wire]\ndelay = "1"\n[source]\nplace = "CLK"\n'
+    printf '[register]\nsetup = %s\nhold = %s\nleast = %s\ngreatest = %s\n' "${@:1:4}"
+    printf '%b' "${5-}"
+}
+
+tables 'registers alone' 0 $'zero 4\nsetup a b 4' '' "$top/examples/lenient.bench" registers 0 0 1 4
+tables 'a kind that is used' 3 '' 'refused tech 6 OR' "$s27" sed '/gate.OR/,$d' "$table"
+tables 'an unknown key' 3 '' 'refused tech 7 wire.width' "$s27" sed 's/^delay.*/&\nwidth = 3/' "$table"
+tables 'least above greatest' 3 '' 'refused tech 5 register' "$s27" sed '0,/^least = 1/s//least = 3/' "$table"
+tables 'no bytes' 3 '' 'refused tech 2 wire.delay' "$s27" true
+tables 'no TOML' 3 '' 'refused tech 1' "$s27" printf '[wire'
+tables 'no table' 3 '' 'refused tech 3 wire' "$s27" printf 'wire = 3'
+tables 'below the range' 3 '' 'refused tech 4 register.setup' "$s27" registers -1 0 1 4
+tables 'a host with no place' 3 '' 'refused tech 2 host.place' "$s27" registers 0 0 1 4 '[host]\n'
+tables 'bytes that are not printed' 3 '' 'refused tech 7 a???' "$s27" sed '$a ["a é"]' "$table"
+tables 'the netlist comes first' 3 '' 'refused bench 7 g h' "$top/examples/ring_of_gates.bench" printf '[wire'
+
+printf 'A = DFF(m)\nB = DFF(A)\nm = BUFF(B)\n' >"$work/hold.bench"
+tables 'a hold that fails' 0 $'zero none\nhold A B 1' '' "$work/hold.bench" \
+    registers 0 2 1 1 '[gate.BUFF]\nleast = 2\ngreatest = 5\n'
+
+printf 'INPUT(x)\nOUTPUT(g)\nA = DFF(x)\ng = NOT(A)\n' >"$work/output.bench"
+inverter='[gate.NOT]\nleast = 1\ngreatest = 3\n'
+tables 'no host' 0 $'zero 0\nfloor' '' "$work/output.bench" registers 1 1 1 2 "$inverter"
+tables 'a host' 0 $'zero 6\nsetup A (host) 6' '' "$work/output.bench" \
+    registers 1 1 1 2 "$inverter"'[host]\nplace = "CLK"\n'
 
 full() { "$top/cts" zero --bench "$top/examples/ring.bench" >/dev/full; }
 closed() { "$top/cts" zero --bench "$top/examples/ring.bench" >&-; }
@@ -45,16 +88,51 @@ expect 'a full output' 5 '' 'write fault' full
 expect 'a closed output' 5 '' 'write fault' closed
 expect 'a closed error output' 2 '' '' no_err
 
-# The caller's folder is where names are looked up, and a later build costs nothing.
+# The caller's folder is where names are looked up.
 cp "$top/examples/ring.bench" "$work/here.bench"
-inside() { cd "$work" && "$top/cts" zero --bench here.bench; }
+inside() { (cd "$work" && "$top/cts" zero --bench here.bench); }
 expect 'the callers folder' 0 $'zero 5\nsetup a a 5' '' inside
+
+# As many joined pairs as a circuit may have, and more; a long chain of gates.
+joined() {
+    echo "g = OR($(seq -f 'r%.0f' -s ', ' 0 1023))"
+    seq -f 'r%.0f = DFF(g)' 0 $(($1 - 1))
+}
+joined 1024 >"$work/pairs.bench"
+joined 1025 >"$work/more_pairs.bench"
+expect 'the most pairs' 0 $'zero 6\nsetup r0 r0 6' '' "$top/cts" zero --bench "$work/pairs.bench"
+expect 'more pairs' 3 '' 'refused pairs' "$top/cts" zero --bench "$work/more_pairs.bench"
+{
+    printf 'INPUT(x)\nA = DFF(x)\nB = DFF(g60000)\ng1 = NOT(A)\n'
+    seq 2 60000 | awk '{ print "g" $1 " = NOT(g" $1 - 1 ")" }'
+} >"$work/chain.bench"
+expect 'a chain of inverters' 0 $'zero 60005\nsetup A B 60005' '' "$top/cts" zero --bench "$work/chain.bench"
 
 # The largest file, and one byte more.
 { printf 'INPUT(x)\na = DFF(x)\n'; head -c $((16777216 - 20)) /dev/zero | tr '\0' '#'; } >"$work/largest.bench"
 { cat "$work/largest.bench"; printf '#'; } >"$work/longer.bench"
 expect 'the largest file' 0 $'zero 0\nfloor' '' "$top/cts" zero --bench "$work/largest.bench"
 expect 'one byte more' 3 '' 'refused bench long' "$top/cts" zero --bench "$work/longer.bench"
+expect 'a table of one byte more' 3 '' 'refused tech long' "$top/cts" zero --bench "$s27" --tech "$work/longer.bench"
+
+# Words that mean no command. No file is read.
+usage='usage: cts zero --bench F [--tech F] | cts period --bench F --tech F | cts schedule --bench F --tech F'
+usage+=' | cts synth --bench F --tech F --pl F | cts check --bench F --tech F --pl F --report F'
+usage+=' | cts demo --registers N --seed S'
+expect 'no words' 2 '' "$usage" "$top/cts"
+expect 'the name last' 2 '' "$usage" "$top/cts" --tech F --bench F zero
+expect 'an option twice' 2 '' "$usage" "$top/cts" zero --bench F --tech F --tech F
+expect 'no netlist' 2 '' "$usage" "$top/cts" zero --tech F
+expect 'one word for both' 2 '' "$usage" "$top/cts" zero --bench=F
+expect 'an end of options' 2 '' "$usage" "$top/cts" zero --bench F --
+
+# A copy with no program answers all the same, by a run that isn't proved.
+mkdir "$work/copy"
+tar -C "$top" --exclude=out --exclude=.git -cf - . | tar -C "$work/copy" -xf -
+unproved='cts: no proved program is newer than the sources, so this run is unproved; ./cts build proves it'
+copied() { (cd "$work" && copy/cts zero --bench here.bench "$@"); }
+expect 'an unproved run' 0 $'zero 5\nsetup a a 5' "$unproved" copied
+expect 'an unproved refusal' 4 '' "$unproved"$'\nread fault tech' copied --tech missing.toml
 
 echo "program: $passed passed, $failed failed"
 [ "$failed" -eq 0 ]

@@ -1,16 +1,15 @@
 -- The walk that takes in what each line defines.
 use Rattle.std.proofs.Common.{◌≡◌, ℕ, List, [], ◌∷◌, ◌++◌, None, inl, inr, subst}
-use Rattle.cts_base.specs.Lines.{lines_of, numbered_lines}
+use Rattle.cts_base.specs.Lines.{lines_of, numbered_lines, IsLine}
+use Rattle.cts_base.proofs.LineSplits.{IsPassed, none_passed, all_passed, next_line}
+use Rattle.cts_base.proofs.ListPlaces.{nothing_before, split_push}
 use Rattle.cts_model.specs.Flaws.{definitions_in, defined_names, flaw_of}
 use Rattle.cts_model.specs.Netlists.{AreFlawless, names_in}
 use Rattle.bench_reader.specs.declared.definitions.Definitions.{Definitions}
 use Rattle.bench_reader.specs.declared.fault.BenchFault.{BenchFault}
 use Rattle.bench_reader.specs.declared.line_fault.LineFault.{LineFault}
-use Rattle.bench_reader.specs.Lines.{IsLine}
 use Rattle.bench_reader.specs.LineFaults.{IsLineFault, RefusesLine}
 use Rattle.bench_reader.specs.Taken.{HasDefinitions}
-use Rattle.bench_reader.proofs.Lists.{nothing_before, split_push}
-use Rattle.bench_reader.proofs.LineSplits.{IsPassed, none_passed, all_passed, next_line}
 
 -- no lines have no flaw
 none_flawless : AreFlawless []

@@ -1,10 +1,11 @@
 -- Names as the keys of a set: looking them up by their bytes.
-use Rattle.std.proofs.Common.{◌≡◌, ℕ, ◌+◌, Bool, false, not, cond, ◌||◌, List, [], ◌∷◌, ◌++◌, map, Contains, position, refl, sym, ap, ◌∙◌, arith}
+use Rattle.std.proofs.Common.{◌≡◌, ℕ, ◌+◌, Bool, false, not, cond, List, [], ◌∷◌, ◌++◌, map, Contains, position, refl, sym, ap, ◌∙◌, arith}
 use Rattle.std.specs.Str.{bytes_eq}
 use Rattle.std.specs.List.{list_any, position_or_len}
 use Rattle.std.specs.Cmp.Lexicographic.{nat_list_eq_equiv}
 use Rattle.std.proofs.lemmas.List.{length-map, map_push}
 use Rattle.std.proofs.lemmas.Map.Views.{list_any-from_Contains}
+use Rattle.cts_base.proofs.ListTests.{list_any-map}
 use Rattle.indexmap.specs.IndexSet.{insert_key}
 use Rattle.cts_model.specs.Netlists.{number_of}
 
@@ -17,11 +18,6 @@ module _ {X Y : Type 0} (f : X → Y) (test : Y → Bool) where
   -- the first place that passes is where it is in the list before
   position-map : (xs : List X) → position test (map f xs) ≡ position (λ x. test (f x)) xs
   position-map xs = rw (position_or_len-map xs, length-map xs f) refl
-
-  -- an item passes where it did before
-  pub list_any-map : (xs : List X) → list_any test (map f xs) ≡ list_any (λ x. test (f x)) xs
-  list_any-map [] = refl
-  list_any-map (x ∷ xs) = ap (λ b. test (f x) || b) (list_any-map xs)
 
 -- a name that no key equals isn't among the keys
 pub absent_from_any : (names : List (List ℕ)) (name : List ℕ) → list_any (bytes_eq name) names ≡ false → Contains names name → ⊥

@@ -8,14 +8,12 @@ mod InputLemmas
 mod Keys
 mod KindLemmas
 mod LawfulDefinitions
-mod LineSplits
 mod LineStatements
 mod Lists
 mod LoopSignals
 mod NetlistCircuits
 mod PartLists
 mod PartWalk
-mod Places
 mod SignalNames
 mod StatementNames
 mod ToldCircuits

@@ -1,23 +1,8 @@
 -- Lists that grow at their end.
-use Rattle.std.proofs.Common.{◌≡◌, zero, suc, get_or, AllPairs, IsSome, List, [], ◌∷◌, ◌++◌, length, ◌⊎◌, inl, inr, Option, Some, None, IfSome, All, refl, sym, ap, subst, arith, map}
+use Rattle.std.proofs.Common.{◌≡◌, zero, suc, get_or, AllPairs, IsSome, List, [], ◌∷◌, length, Option, Some, None, IfSome, All, refl, sym, ap, subst, arith, map}
 use Rattle.std.specs.List.{filter_map, cons_option}
 use Rattle.std.proofs.lemmas.List.Elements.{All-nil, All-cons, All-head, All-tail}
 use Rattle.std.proofs.lemmas.List.{length-map, get_or-map}
-
--- no item has a place in the empty list
-pub nothing_before : {X : Type 0} (earlier : List X) (y : X) (later : List X) → [] ≡ earlier ++ y ∷ later → ⊥
-nothing_before [] y later e = cc
-nothing_before (z ∷ earlier) y later e = cc
-
--- a place in a list with one more item is that item's, or stands in the list before
-pub split_push : {X : Type 0} (xs : List X) (x : X) (earlier : List X) (y : X) (later : List X) → xs ++ x ∷ [] ≡ earlier ++ y ∷ later → ((xs ≡ earlier) × (x ≡ y)) ⊎ ((between : List X) × (xs ≡ earlier ++ y ∷ between))
-split_push [] x [] y later e = inl (refl, cc)
-split_push [] x (z ∷ earlier) y later e = absurd (nothing_before earlier y later cc)
-split_push (w ∷ xs) x [] y later e = inr (xs, ap (λ v. v ∷ xs) cc)
-split_push (w ∷ xs) x (z ∷ earlier) y later e = elim (split_push xs x earlier y later cc) [
-  | inl same ↦ inl (let head : w ≡ z = cc in let tail = same.0 in cc, same.1)
-  | inr inside ↦ inr (inside.0, let head : w ≡ z = cc in let tail = inside.1 in cc)
-]
 
 module _ {X Y : Type 0} (pick : X → Option Y) where
   -- what is picked from the items has P, where it has from each

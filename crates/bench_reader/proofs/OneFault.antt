@@ -13,7 +13,7 @@ use Rattle.bench_reader.specs.declared.fault.BenchFault.TheVariants.{BadLine, Un
 use Rattle.bench_reader.specs.Lines.{IsFirstFlawed, IsFirstUndefined}
 use Rattle.bench_reader.specs.Refusals.{Refuses, IsSameFault, limit_of}
 use Rattle.bench_reader.proofs.LineStatements.{statement_at}
-use Rattle.bench_reader.proofs.Places.{IsBehind, same_place, same_parts}
+use Rattle.cts_base.proofs.ListPlaces.{IsBehind, same_place, same_parts}
 
 -- a line with a flaw isn't among lines without one
 not_among : (text : List ℕ) (number : ℕ) (flaw : Flaw) → IsFirstFlawed text number flaw → AreFlawless (lines_of text) → ⊥

@@ -10,7 +10,7 @@ use Rattle.cts_model.specs.Netlists.{AreFlawless, AreDefined, names_in, signal_o
 use Rattle.bench_reader.specs.declared.circuit_parts.CircuitParts.{CircuitParts}
 use Rattle.bench_reader.specs.Lines.{UsesUndefined, IsFirstUndefined}
 use Rattle.bench_reader.specs.Taken.{HasParts}
-use Rattle.bench_reader.proofs.LineSplits.{IsPassed, none_passed, all_passed, next_line}
+use Rattle.cts_base.proofs.LineSplits.{IsPassed, none_passed, all_passed, next_line}
 use Rattle.bench_reader.proofs.LawfulDefinitions.{lawful_lines}
 
 -- this is what the lines so far tell

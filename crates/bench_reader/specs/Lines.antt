@@ -1,16 +1,9 @@
 -- Places of lines in a text: the first with a flaw, and the first that uses an undefined name.
-use Rattle.std.specs.Prelude.{◌≡◌, ◌+◌, ℕ, List, ◌∷◌, ◌++◌, length, Some}
-use Rattle.cts_base.specs.Lines.{lines_of}
+use Rattle.std.specs.Prelude.{◌≡◌, ℕ, List, Some}
+use Rattle.cts_base.specs.Lines.{IsLine}
 use Rattle.cts_model.specs.Statements.{Statement, statement_of}
 use Rattle.cts_model.specs.Flaws.{Flaw, flaw_of}
 use Rattle.cts_model.specs.Netlists.{AreFlawless, AreDefined, UsesDefined, names_in}
-
--- the line of this number, behind these lines
-pub record IsLine (text : List ℕ) (number : ℕ) (earlier : List (List ℕ)) (line : List ℕ)
-    : Type 0 where
-  pub later : List (List ℕ)
-  pub split : lines_of text ≡ earlier ++ line ∷ later
-  pub number_is : number ≡ length earlier + 1
 
 -- the line of this number is the first that has a flaw, and it has this one
 pub record IsFirstFlawed (text : List ℕ) (number : ℕ) (flaw : Flaw) : Type 0 where

@@ -1,3 +1,12 @@
 mod Places
 mod LineLemmas
 mod WordLemmas
+mod DecimalLemmas
+mod ScaleLemmas
+mod MicroLemmas
+mod SizeLemmas
+mod OneNumberFault
+pub mod LineSplits
+pub mod ListPlaces
+pub mod ListTests
+pub mod PartLengths

@@ -4,11 +4,13 @@
 mod line_walk;
 mod listed;
 mod no_memory;
+mod number;
 mod text;
 mod word_walk;
 
 pub use line_walk::{Line, Lines};
 pub use listed::{Listed, Name};
 pub use no_memory::NoMemory;
+pub use number::{NumberFault, read_micro};
 pub use text::{before_comment, lines, words};
 pub use word_walk::Words;

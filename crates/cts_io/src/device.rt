@@ -35,7 +35,10 @@ pub trait Inputs {
             → Rose (faults self.old name.now) (faults self.new name.now) }
         // No call changes what a file holds, and no count falls.
         ensures files { (file : List ℕ) → holds self.new file ≡ holds self.old file }
-        ensures counts { (file : List ℕ) → faults self.old file ≤ faults self.new file };
+        ensures counts { (file : List ℕ) → faults self.old file ≤ faults self.new file }
+        // A call that doesn't answer `Failed` leaves every count as it was.
+        ensures stays { ¬ IsErrOf result StartFault.Failed
+            → (file : List ℕ) → faults self.new file ≡ faults self.old file };
 
     /// Takes the next bytes of the started file into the front of a buffer, and tells how many:
     /// 0 exactly where nothing is left. The name says whose count a fault raises.
@@ -46,7 +49,8 @@ pub trait Inputs {
             → Takes rest n into.new (left self.new)) }
         ensures failed { OnErr result (Rose (faults self.old name.now) (faults self.new name.now)) }
         ensures files { (file : List ℕ) → holds self.new file ≡ holds self.old file }
-        ensures counts { (file : List ℕ) → faults self.old file ≤ faults self.new file };
+        ensures counts { (file : List ℕ) → faults self.old file ≤ faults self.new file }
+        ensures stays { OnOk result ((file : List ℕ) → faults self.new file ≡ faults self.old file) };
 }
 
 /// A place where bytes are written in pieces.
@@ -66,5 +70,6 @@ pub trait Sink {
         // After a fault nothing more is written.
         ensures err { OnErr result (written self.new ≡ written self.old) }
         ensures failed { OnErr result (Rose (faults self.old) (faults self.new)) }
-        ensures count { faults self.old ≤ faults self.new };
+        ensures count { faults self.old ≤ faults self.new }
+        ensures stays { OnOk result (faults self.new ≡ faults self.old) };
 }

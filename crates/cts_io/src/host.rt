@@ -56,6 +56,7 @@ impl<'a, R: Files> Inputs for HostInputs<'a, R> {
         ensures failed { IsErrOf result StartFault.Failed → Rose self.old self.new }
         ensures files { (file : List ℕ) → untold ≡ untold }
         ensures counts { (file : List ℕ) → self.old ≤ self.new }
+        ensures stays { ¬ IsErrOf result StartFault.Failed → (file : List ℕ) → self.new ≡ self.old }
     {
         match fs::open(self.rt, name) {
             Ok(file) => {
@@ -81,6 +82,7 @@ impl<'a, R: Files> Inputs for HostInputs<'a, R> {
         ensures failed { OnErr result (Rose self.old self.new) }
         ensures files { (file : List ℕ) → untold ≡ untold }
         ensures counts { (file : List ℕ) → self.old ≤ self.new }
+        ensures stays { OnOk result ((file : List ℕ) → self.new ≡ self.old) }
     {
         let Some(file) = &mut self.file else {
             return Ok(0);
@@ -133,6 +135,7 @@ impl<W: Write> Sink for HostSink<W> {
         ensures none { length piece.now ≡ 0 → IsOk result }
         ensures failed { OnErr result (Rose self.old self.new) }
         ensures count { self.old ≤ self.new }
+        ensures stays { OnOk result (self.new ≡ self.old) }
     {
         if piece.is_empty() {
             return Ok(0);

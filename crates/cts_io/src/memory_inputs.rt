@@ -74,6 +74,8 @@ impl Inputs for MemoryInputs {
         ensures failed { IsErrOf result StartFault.Failed → Rose self.old.plan.faults self.new.plan.faults }
         ensures files { (file : List ℕ) → held_in self.new.files file ≡ held_in self.old.files file }
         ensures counts { (file : List ℕ) → self.old.plan.faults ≤ self.new.plan.faults }
+        ensures stays { ¬ IsErrOf result StartFault.Failed
+            → (file : List ℕ) → self.new.plan.faults ≡ self.old.plan.faults }
     {
         let fails = self.plan.call_fails();
         match place_of(self.files.as_slice(), name) {
@@ -104,6 +106,7 @@ impl Inputs for MemoryInputs {
         ensures failed { OnErr result (Rose self.old.plan.faults self.new.plan.faults) }
         ensures files { (file : List ℕ) → held_in self.new.files file ≡ held_in self.old.files file }
         ensures counts { (file : List ℕ) → self.old.plan.faults ≤ self.new.plan.faults }
+        ensures stays { OnOk result ((file : List ℕ) → self.new.plan.faults ≡ self.old.plan.faults) }
     {
         if self.plan.call_fails() {
             self.plan.count_fault();

@@ -75,6 +75,7 @@ impl Sink for MemorySink {
         ensures err { OnErr result (Some self.new.bytes ≡ Some self.old.bytes) }
         ensures failed { OnErr result (Rose self.old.plan.faults self.new.plan.faults) }
         ensures count { self.old.plan.faults ≤ self.new.plan.faults }
+        ensures stays { OnOk result (self.new.plan.faults ≡ self.old.plan.faults) }
     {
         let fails = self.plan.call_fails();
         let left = self.room - self.bytes.len();

@@ -2,7 +2,7 @@
 
 ghost use Rattle.std.specs.Prelude.{◌≡◌, ◌≤◌, ◌<◌, ◌-◌, ℕ, List, length, take, drop, Option, Some, IsOk, OnOk, OnErr, IfOk, IsErrOf};
 ghost use Rattle.cts_io.specs.Device.{Rose, appended, Takes, WritesPrefix};
-ghost use Rattle.cts_io.specs.declared.whole.ReadWhole.TheVariants.{NoMemory, Failed as ReadFailed};
+ghost use Rattle.cts_io.specs.declared.whole.ReadWhole.TheVariants.{NoMemory};
 ghost use Rattle.cts_io.specs.Whole.{read_fault_of};
 
 use crate::device::{Failed, Inputs, Sink, StartFault};
@@ -24,14 +24,6 @@ impl From<AllocError> for ReadWhole {
 
     fn from(_refused: AllocError) -> ReadWhole {
         ReadWhole::NoMemory
-    }
-}
-
-impl From<Failed> for ReadWhole {
-    ghost from_gives = { λ _ fault. fault ≡ ReadFailed };
-
-    fn from(_failed: Failed) -> ReadWhole {
-        ReadWhole::Failed
     }
 }
 
@@ -62,12 +54,17 @@ pub fn read_whole<I: Inputs>(
     ensures failed { IsErrOf result ReadWhole.Failed → Rose (I.faults inputs.old name.now) (I.faults inputs.new name.now) }
     ensures files { (file : List ℕ) → I.holds inputs.new file ≡ I.holds inputs.old file }
     ensures counts { (file : List ℕ) → I.faults inputs.old file ≤ I.faults inputs.new file }
+    // Every answer but `Failed` says that no device failed on the way.
+    ensures stays { ¬ IsErrOf result ReadWhole.Failed
+        → (file : List ℕ) → I.faults inputs.new file ≡ I.faults inputs.old file }
 {
     inputs.start(name)?;
     let mut bytes = Vec::new(alloc);
     let mut buffer = [0u8; 8192];
     loop {
-        let taken = inputs.take(name, &mut buffer)?;
+        let Ok(taken) = inputs.take(name, &mut buffer) else {
+            return Err(ReadWhole::Failed);
+        };
         if taken == 0 {
             return Ok(bytes);
         }
@@ -84,6 +81,7 @@ pub fn write_whole<S: Sink>(sink: &mut S, bytes: &[u8]) -> Result<(), Failed>
     ensures err { OnErr result (WritesPrefix (S.written sink.old) bytes.now (S.written sink.new)) }
     ensures failed { OnErr result (Rose (S.faults sink.old) (S.faults sink.new)) }
     ensures count { S.faults sink.old ≤ S.faults sink.new }
+    ensures stays { OnOk result (S.faults sink.new ≡ S.faults sink.old) }
 {
     let mut rest = bytes;
     while !rest.is_empty() {

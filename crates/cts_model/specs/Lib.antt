@@ -9,7 +9,16 @@ pub mod Flaws
 pub mod Netlists
 pub mod Tables
 pub mod PlainTable
+pub mod TableKeys
+pub mod TableValues
+pub mod TableFlaws
+pub mod AcceptedTables
 pub mod Paths
 pub mod Delays
+pub mod Points
+pub mod Regions
+pub mod PlaceLines
+pub mod Placements
 pub mod Timing
 pub mod EqualArrivals
+pub mod PairLists

@@ -1,4 +1,5 @@
--- What a delay table keeps: the ranges of its numbers, in ticks, and no least delay above its greatest.
+-- What a delay table keeps: the ranges of its numbers, in ticks, and no least delay above its
+-- greatest.
 use Rattle.std.specs.Prelude.{◌≡◌, ℕ, ℤ, pos, ◌≤ℤ◌, false, List, All, nat_abs}
 use Rattle.std.specs.Int.{IsGcd}
 use Rattle.cts_model.specs.declared.tech.GateDelay.{GateDelay}
@@ -21,7 +22,8 @@ pub record IsGateDelay (delay : GateDelay) : Type 0 where
   pub zero_least_per_input : delay.given ≡ false → delay.least_per_input ≡ pos 0
   pub zero_greatest_per_input : delay.given ≡ false → delay.greatest_per_input ≡ pos 0
 
-pub record IsTable (wire_num wire_den setup hold least greatest floor : ℤ) (gates : List GateDelay) : Type 0 where
+pub record IsTable (wire_num wire_den setup hold least greatest floor : ℤ)
+    (gates : List GateDelay) : Type 0 where
   pub wire_num_within : IsWithin 1 1000000 wire_num
   pub wire_den_within : IsWithin 1 1000000 wire_den
   pub lowest_terms : IsGcd (nat_abs wire_num) (nat_abs wire_den) 1

@@ -1,6 +1,6 @@
 ghost use Rattle.cts_model.specs.Tables.{IsTable};
 
-use cts_base::Listed;
+use cts_base::{Listed, Name};
 use std::alloc::Global;
 
 /// The delays of a gate kind, in ticks.
@@ -26,7 +26,7 @@ pub struct Tech {
     /// The denominator of that fraction.
     pub wire_den: i128,
     /// The name of the node where the clock comes from, empty if the table gives none.
-    pub source: Listed<u8>,
+    pub source: Name,
     /// How long before the capturing edge a register's input must stand still.
     pub setup: i128,
     /// How long after the capturing edge it must stand still.
@@ -35,6 +35,8 @@ pub struct Tech {
     pub least: i128,
     /// The greatest delay of a register.
     pub greatest: i128,
+    /// The name of the node where the host stands, empty if the table gives none.
+    pub host: Name,
     /// No period may be less.
     pub floor: i128,
     /// The gate kinds in the order of `Kind`.
@@ -46,7 +48,7 @@ impl Tech {
     ghost use Rattle.cts_model.specs.PlainTable.{IsPlainTable};
 
     /// The built-in table: wires of one tick per length unit, registers with setup 2, hold 1 and
-    /// delay 3, gates of one tick, no floor and no source. It takes no memory.
+    /// delay 3, gates of one tick, no floor, no source and no host. It takes no memory.
     pub fn plain(alloc: Global) -> Tech
         ensures { IsPlainTable result }
     {
@@ -65,6 +67,7 @@ impl Tech {
             hold: 1,
             least: 3,
             greatest: 3,
+            host: Listed::new(alloc),
             floor: 0,
             gates: [one_tick; 8],
         }

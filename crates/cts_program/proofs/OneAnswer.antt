@@ -1,111 +1,173 @@
--- The bytes of a netlist have one text, so a part of it isn't the whole.
-use Rattle.std.proofs.Common.{ℕ, ◌≡◌, ◌<◌, List, [], ◌++◌, length, take, Option, Some, ap, sym, ◌∙◌, subst, arith, ℤ, length-append, append-nil}
-use Rattle.std.proofs.Props.{props}
-use Rattle.std.proofs.lemmas.List.{length-take}
-use Rattle.cts_model.specs.declared.signal.Signal.{Signal}
+-- Contents of files have one answer at the most, and not both an answer and a refusal.
+use Rattle.std.proofs.Common.{ℕ, ◌≡◌, ◌<◌, ◌≤◌, ◌⊎◌, inl, inr, Bool, true, false, ◌==◌, MatchBool, List, [], ◌∷◌, length, refl, ap₂, sym, ◌∙◌, subst, arith}
 use Rattle.cts_model.specs.declared.circuit.Circuit.{Circuit}
-use Rattle.cts_model.specs.declared.tech.GateDelay.{GateDelay}
 use Rattle.cts_model.specs.declared.tech.Tech.{Tech}
 use Rattle.cts_model.specs.declared.timing.ZeroSkew.{ZeroSkew}
 use Rattle.cts_model.specs.declared.timing.ZeroSkew.TheVariants.{Fails, Floor, Setup}
-use Rattle.cts_model.specs.Circuits.{IsCircuit}
-use Rattle.cts_model.specs.Tables.{IsTable}
+use Rattle.cts_model.specs.AcceptedTables.{AcceptsTable}
+use Rattle.cts_model.specs.Hosts.{IsWithHost}
+use Rattle.cts_model.specs.Netlists.{AcceptsNetlist}
+use Rattle.cts_model.specs.PairLists.{JoinsMoreThan}
 use Rattle.cts_model.specs.PlainTable.{IsPlainTable}
+use Rattle.cts_model.specs.UsedKinds.{AreUsedKinds}
+use Rattle.cts_model.proofs.OneRecord.{same_circuit, same_tech, one_use}
+use Rattle.bench_reader.specs.declared.fault.BenchFault.{BenchFault}
+use Rattle.bench_reader.proofs.OneFault.{no_fault}
+use Rattle.delay_tables.specs.declared.fault.TechFault.{TechFault}
+use Rattle.delay_tables.specs.Refusals.{Refuses}
+use Rattle.delay_tables.proofs.OneFault.{not_refused}
+use Rattle.delay_tables.proofs.OneTable.{one_table}
+use Rattle.cts_program.specs.declared.command.Command.{Command}
+use Rattle.cts_program.specs.declared.command.Command.TheVariants.{Zero}
+use Rattle.cts_program.specs.declared.failure.Failure.{Failure}
+use Rattle.cts_program.specs.declared.failure.Failure.TheVariants as failures
+use Rattle.cts_program.specs.declared.file_kind.FileKind.TheVariants as kinds
+use Rattle.cts_program.specs.Answers.{JoinTooMany, IsZeroAnswer, IsAnswer, IsRefusal}
+use Rattle.cts_program.specs.Files.{IsShortFile, AreAll}
+use Rattle.cts_program.specs.Judged.{IsNetlistFile, IsTableFile, AreAccepted, HasFault, HasTableFault, IsFileRefusal, IsHostedBy, TellBoth, Tell}
 use Rattle.cts_program.specs.Texts.{text_of, zero_lines, IsZeroText}
-use Rattle.cts_program.specs.Run.{IsZeroAnswer, Answers, AnswersInPart}
 use Rattle.cts_program.proofs.OneText.{one_text}
 
--- a circuit of its lists
-circuit_of : (lists : List Signal × List ℕ × List ℕ) → IsCircuit lists.0 lists.1 lists.2 → Circuit
-circuit_of lists valid = record { signals = lists.0; registers = lists.1; outputs = lists.2; valid = valid }
+-- ---- one circuit and one table
 
-one_validity : (lists : List Signal × List ℕ × List ℕ) → IsProp (IsCircuit lists.0 lists.1 lists.2)
-one_validity lists = hlevel props
+one_netlist : (bytes : List ℕ) (circuit other : Circuit) → AcceptsNetlist bytes circuit → AcceptsNetlist bytes other → circuit ≡ other
+one_netlist bytes circuit other accepts accepts' =
+    same_circuit circuit other (accepts.signals ∙ sym accepts'.signals) (accepts.registers ∙ sym accepts'.registers) (accepts.outputs ∙ sym accepts'.outputs)
 
--- circuits with the same lists are one
-same_lists : (lists others : List Signal × List ℕ × List ℕ) → lists ≡ others → (valid : IsCircuit lists.0 lists.1 lists.2) (valid' : IsCircuit others.0 others.1 others.2) → circuit_of lists valid ≡ circuit_of others valid'
-unfolding circuit_of
-same_lists lists others same valid valid' =
-    subst (λ (l : List Signal × List ℕ × List ℕ). (v : IsCircuit l.0 l.1 l.2) → circuit_of lists valid ≡ circuit_of l v) same
-    (λ v. ap (circuit_of lists) (one_validity lists valid v)) valid'
+one_plain : (tech other : Tech) → IsPlainTable tech → IsPlainTable other → tech ≡ other
+one_plain tech other plain plain' =
+    same_tech tech other (plain.wire_num ∙ sym plain'.wire_num) (plain.wire_den ∙ sym plain'.wire_den) (plain.source ∙ sym plain'.source) (plain.setup ∙ sym plain'.setup) (plain.hold ∙ sym plain'.hold)
+    (plain.least ∙ sym plain'.least) (plain.greatest ∙ sym plain'.greatest) (plain.host ∙ sym plain'.host) (plain.floor ∙ sym plain'.floor) (plain.gates ∙ sym plain'.gates)
 
-same_circuit : (circuit other : Circuit) → circuit.signals ≡ other.signals → circuit.registers ≡ other.registers → circuit.outputs ≡ other.outputs → circuit ≡ other
-unfolding circuit_of
-same_circuit circuit other signals registers outputs =
-    same_lists (circuit.signals, circuit.registers, circuit.outputs) (other.signals, other.registers, other.outputs) (λ i. (signals i, registers i, outputs i)) circuit.valid other.valid
+one_hosted : (hostless : Bool) (bare circuit other : Circuit) → MatchBool hostless (circuit ≡ bare) (IsWithHost bare circuit) → MatchBool hostless (other ≡ bare) (IsWithHost bare other) → circuit ≡ other
+one_hosted true bare circuit other hosted hosted' = hosted ∙ sym hosted'
+one_hosted false bare circuit other hosted hosted' =
+    same_circuit circuit other (hosted.signals ∙ sym hosted'.signals) (hosted.registers ∙ sym hosted'.registers) (hosted.outputs ∙ sym hosted'.outputs)
 
--- a table of its numbers
-tech_of : (numbers : ℤ × ℤ × List ℕ × ℤ × ℤ × ℤ × ℤ × ℤ × List GateDelay) → IsTable numbers.0 numbers.1 numbers.3 numbers.4 numbers.5 numbers.6 numbers.7 numbers.8 → Tech
-tech_of numbers valid = record { wire_num = numbers.0; wire_den = numbers.1; source = numbers.2; setup = numbers.3; hold = numbers.4; least = numbers.5; greatest = numbers.6; floor = numbers.7; gates = numbers.8; valid = valid }
+one_both : (netlist table : List ℕ) (circuit other : Circuit) (tech tech' : Tech) → TellBoth netlist table circuit tech → TellBoth netlist table other tech' → (circuit ≡ other) × (tech ≡ tech')
+one_both netlist table circuit other tech tech' tell tell' =
+    let bare : tell'.bare ≡ tell.bare = one_netlist netlist tell'.bare tell.bare tell'.accepts tell.accepts in
+    let kinds' = subst (λ (c : Circuit). AreUsedKinds c.signals tell'.used) bare tell'.kinds in
+    let used : tell'.used ≡ tell.used = one_use tell.bare.signals tell'.used tell.used kinds' tell.kinds in
+    let same : tech' ≡ tech = one_table tell.used table tech' tech (subst (λ u. AcceptsTable u table tech') used tell'.accepts_table) tell.accepts_table in
+    let hosted' = subst (λ c. IsHostedBy tech c other) bare (subst (λ t. IsHostedBy t tell'.bare other) same tell'.hosted) in
+    (one_hosted (length tech.host == 0) tell.bare circuit other tell.hosted hosted', sym same)
 
-one_table_validity : (numbers : ℤ × ℤ × List ℕ × ℤ × ℤ × ℤ × ℤ × ℤ × List GateDelay) → IsProp (IsTable numbers.0 numbers.1 numbers.3 numbers.4 numbers.5 numbers.6 numbers.7 numbers.8)
-one_table_validity numbers = hlevel props
+-- contents tell one circuit and one table
+one_told : (contents : List (List ℕ)) (circuit other : Circuit) (tech tech' : Tech) → Tell contents circuit tech → Tell contents other tech' → (circuit ≡ other) × (tech ≡ tech')
+one_told [] circuit other tech tech' tell tell' = absurd tell
+one_told (netlist ∷ []) circuit other tech tech' (accepts, plain) (accepts', plain') = (one_netlist netlist circuit other accepts accepts', one_plain tech tech' plain plain')
+one_told (netlist ∷ table ∷ []) circuit other tech tech' tell tell' = one_both netlist table circuit other tech tech' tell tell'
+one_told (netlist ∷ table ∷ more ∷ rest) circuit other tech tech' tell tell' = absurd tell
 
--- tables with the same numbers are one
-same_numbers : (numbers others : ℤ × ℤ × List ℕ × ℤ × ℤ × ℤ × ℤ × ℤ × List GateDelay) → numbers ≡ others → (valid : IsTable numbers.0 numbers.1 numbers.3 numbers.4 numbers.5 numbers.6 numbers.7 numbers.8) (valid' : IsTable others.0 others.1 others.3 others.4 others.5 others.6 others.7 others.8) → tech_of numbers valid ≡ tech_of others valid'
-unfolding tech_of
-same_numbers numbers others same valid valid' =
-    subst (λ (n : ℤ × ℤ × List ℕ × ℤ × ℤ × ℤ × ℤ × ℤ × List GateDelay). (v : IsTable n.0 n.1 n.3 n.4 n.5 n.6 n.7 n.8) → tech_of numbers valid ≡ tech_of n v) same
-    (λ v. ap (tech_of numbers) (one_table_validity numbers valid v)) valid'
+-- ---- one text
 
--- there is one built-in table
-same_table : (tech other : Tech) → IsPlainTable tech → IsPlainTable other → tech ≡ other
-unfolding tech_of
-same_table tech other table table' =
-    let wire_num = table.wire_num ∙ sym table'.wire_num in
-    let wire_den = table.wire_den ∙ sym table'.wire_den in
-    let source = table.source ∙ sym table'.source in
-    let setup = table.setup ∙ sym table'.setup in
-    let hold = table.hold ∙ sym table'.hold in
-    let least = table.least ∙ sym table'.least in
-    let greatest = table.greatest ∙ sym table'.greatest in
-    let floor = table.floor ∙ sym table'.floor in
-    let gates = table.gates ∙ sym table'.gates in
-    same_numbers
-    (tech.wire_num, tech.wire_den, tech.source, tech.setup, tech.hold, tech.least, tech.greatest, tech.floor, tech.gates)
-    (other.wire_num, other.wire_den, other.source, other.setup, other.hold, other.least, other.greatest, other.floor, other.gates)
-    (λ i. (wire_num i, wire_den i, source i, setup i, hold i, least i, greatest i, floor i, gates i)) tech.valid other.valid
+-- contents have one text
+pub one_zero : (contents : List (List ℕ)) (text other : List ℕ) → IsZeroAnswer contents text → IsZeroAnswer contents other → text ≡ other
+one_zero contents text other answer answer' =
+    let same = one_told contents answer'.circuit answer.circuit answer'.tech answer.tech answer'.tell answer.tell in
+    one_text answer.circuit answer.tech text other answer.spelled
+    (subst (λ t. IsZeroText answer.circuit t other) same.1 (subst (λ c. IsZeroText c answer'.tech other) same.0 answer'.spelled))
 
 -- a text begins with a word
-some_text : (circuit : Circuit) (tech : Tech) (outcome : ZeroSkew) → 0 < length (text_of (zero_lines circuit tech outcome))
-some_text circuit tech (Fails pair) = omega arith
-some_text circuit tech (Floor value) = omega arith
-some_text circuit tech (Setup value pair) = omega arith
+some_lines : (circuit : Circuit) (tech : Tech) (outcome : ZeroSkew) → 0 < length (text_of (zero_lines circuit tech outcome))
+some_lines circuit tech (Fails pair) = omega arith
+some_lines circuit tech (Floor value) = omega arith
+some_lines circuit tech (Setup value pair) = omega arith
 
--- the texts of one netlist are one
-one_answer : (bytes text other : List ℕ) → IsZeroAnswer bytes text → IsZeroAnswer bytes other → text ≡ other
-one_answer bytes text other answer answer' =
-    let circuits : answer'.circuit ≡ answer.circuit = same_circuit answer'.circuit answer.circuit
-    (answer'.accepts.signals ∙ sym answer.accepts.signals) (answer'.accepts.registers ∙ sym answer.accepts.registers) (answer'.accepts.outputs ∙ sym answer.accepts.outputs) in
-    let tables : answer'.tech ≡ answer.tech = same_table answer'.tech answer.tech answer'.table answer.table in
-    one_text answer.circuit answer.tech text other answer.spelled
-    (subst (λ t. IsZeroText answer.circuit t other) tables (subst (λ c. IsZeroText c answer'.tech other) circuits answer'.spelled))
+pub some_text : (contents : List (List ℕ)) (text : List ℕ) → IsZeroAnswer contents text → 0 < length text
+some_text contents text answer = subst (λ t. 0 < length t) (sym answer.spelled.spelled) (some_lines answer.circuit answer.tech answer.spelled.outcome)
 
-answer_some : (bytes text : List ℕ) → IsZeroAnswer bytes text → 0 < length text
-answer_some bytes text answer = subst (λ t. 0 < length t) (sym answer.spelled.spelled) (some_text answer.circuit answer.tech answer.spelled.outcome)
+-- what an answer of the only command is
+pub zero_answer : (command : Command) (contents : List (List ℕ)) (status : ℕ) (text : List ℕ) → IsAnswer command contents status text → AreAll command contents × (status ≡ 0) × IsZeroAnswer contents text
+zero_answer (Zero bench tech) contents status text answer = answer
 
--- what stands behind the same bytes is as long
-as_long : (before text other : List ℕ) → Some (before ++ text) ≡ Some (before ++ other) → length text ≡ length other
-as_long before text other same =
-    let joined : before ++ text ≡ before ++ other = cc same in
-    let lengths : length (before ++ text) ≡ length (before ++ other) = ap length joined in
-    omega (arith, length-append before text, length-append before other)
+-- ---- not both
 
--- where nothing was written, the text isn't there
-pub kept_lacks : (bytes before : List ℕ) (old new : Option (List ℕ)) → old ≡ Some before → new ≡ old → Answers bytes old new → ⊥
-kept_lacks bytes before old new told same answers =
-    let whole : new ≡ Some (before ++ answers.text) = rw told at answers.whole in
-    let none : 0 ≡ length answers.text = as_long before [] answers.text (ap (λ b. Some b) (append-nil before) ∙ (sym told ∙ (sym same ∙ whole))) in
-    let some = answer_some bytes answers.text answers.answer in
-    omega arith
+-- contents that are known of the same files, the first of each list being the same
+abbrev pub Agree : List (List ℕ) → List (List ℕ) → Type 0
+Agree [] others = Unit {0}
+Agree (one ∷ more) [] = Unit {0}
+Agree (one ∷ more) (other ∷ others) = (one ≡ other) × Agree more others
 
--- and a front of the text isn't the text
-pub part_lacks : (bytes before : List ℕ) (old new : Option (List ℕ)) → old ≡ Some before → AnswersInPart bytes old new → Answers bytes old new → ⊥
-part_lacks bytes before old new told in_part answers =
-    let count = in_part.front.count in
-    let whole : new ≡ Some (before ++ answers.text) = rw told at answers.whole in
-    let part : new ≡ Some (before ++ take count in_part.text) = rw told at in_part.front.written in
-    let lengths : length answers.text ≡ length (take count in_part.text) = as_long before answers.text (take count in_part.text) (sym whole ∙ part) in
-    let one : length in_part.text ≡ length answers.text = ap length (one_answer bytes in_part.text answers.text in_part.answer answers.answer) in
-    let short = in_part.front.short in
-    omega (arith, length-take count in_part.text)
+pub agree_same : (contents others : List (List ℕ)) → Agree contents others → length contents ≡ length others → contents ≡ others
+agree_same [] [] agree as_long = refl
+agree_same [] (other ∷ others) agree as_long = absurd (omega arith)
+agree_same (one ∷ more) [] agree as_long = absurd (omega arith)
+agree_same (one ∷ more) (other ∷ others) (same, agree) as_long = ap₂ (λ first rest. first ∷ rest) same (agree_same more others agree (omega arith))
+
+-- why the only file, or the second, is refused
+refused_first : (netlist : List ℕ) (failure : Failure) → IsFileRefusal (netlist ∷ []) failure → (IsShortFile netlist → ⊥) ⊎ ((fault : BenchFault) × HasFault netlist fault)
+refused_first netlist failures.Usage refused = absurd refused
+refused_first netlist (failures.TooLong kinds.Bench) refused = inl refused
+refused_first netlist (failures.TooLong kinds.Tech) refused = absurd refused
+refused_first netlist (failures.Bench fault) refused = inr (fault, refused.1)
+refused_first netlist (failures.Tech fault) refused = absurd refused
+refused_first netlist failures.Pairs refused = absurd refused
+refused_first netlist (failures.ReadFault kind) refused = absurd refused
+refused_first netlist failures.WriteFault refused = absurd refused
+refused_first netlist failures.NoMemory refused = absurd refused
+
+refused_second : (netlist table : List ℕ) (failure : Failure) → IsFileRefusal (netlist ∷ table ∷ []) failure → (IsShortFile table → ⊥) ⊎ ((fault : TechFault) × HasTableFault netlist table fault)
+refused_second netlist table failures.Usage refused = absurd refused
+refused_second netlist table (failures.TooLong kinds.Bench) refused = absurd refused
+refused_second netlist table (failures.TooLong kinds.Tech) refused = inl refused.1
+refused_second netlist table (failures.Bench fault) refused = absurd refused
+refused_second netlist table (failures.Tech fault) refused = inr (fault, refused.2)
+refused_second netlist table failures.Pairs refused = absurd refused
+refused_second netlist table (failures.ReadFault kind) refused = absurd refused
+refused_second netlist table failures.WriteFault refused = absurd refused
+refused_second netlist table failures.NoMemory refused = absurd refused
+
+first_fine : (netlist : List ℕ) → IsNetlistFile netlist → (IsShortFile netlist → ⊥) ⊎ ((fault : BenchFault) × HasFault netlist fault) → ⊥
+first_fine netlist file (inl long) = long file.short
+first_fine netlist file (inr (fault, has)) = has.named (no_fault netlist fault file.netlist has.cause)
+
+second_fine : (netlist table : List ℕ) → IsTableFile netlist table → (IsShortFile table → ⊥) ⊎ ((fault : TechFault) × HasTableFault netlist table fault) → ⊥
+second_fine netlist table file (inl long) = long file.short
+second_fine netlist table file (inr (fault, has)) =
+    let used = one_use _ has.used file.used has.kinds file.kinds in
+    has.named (not_refused file.used table fault file.table (subst (λ u. Refuses u table fault) used has.cause))
+
+first_accepted : (netlist : List ℕ) (rest : List (List ℕ)) → AreAccepted (netlist ∷ rest) → IsNetlistFile netlist
+first_accepted netlist [] accepted = accepted
+first_accepted netlist (table ∷ []) accepted = accepted.0
+first_accepted netlist (table ∷ more ∷ rest) accepted = absurd accepted
+
+-- files that are accepted aren't refused
+accepted_not_refused : (contents refused : List (List ℕ)) (failure : Failure) → Agree contents refused → length refused ≤ length contents → AreAccepted contents → IsFileRefusal refused failure → ⊥
+accepted_not_refused contents [] failure agree within accepted refusal = refusal
+accepted_not_refused [] (netlist ∷ rest) failure agree within accepted refusal = absurd (omega arith)
+accepted_not_refused (first ∷ others) (netlist ∷ []) failure agree within accepted refusal =
+    first_fine netlist (subst IsNetlistFile agree.0 (first_accepted first others accepted)) (refused_first netlist failure refusal)
+accepted_not_refused (first ∷ []) (netlist ∷ table ∷ rest) failure agree within accepted refusal = absurd (omega arith)
+accepted_not_refused (first ∷ second ∷ []) (netlist ∷ table ∷ []) failure agree within accepted refusal =
+    let file = subst (λ bytes. IsTableFile netlist bytes) agree.1.0 (subst (λ bytes. IsTableFile bytes second) agree.0 accepted.1) in
+    second_fine netlist table file (refused_second netlist table failure refusal)
+accepted_not_refused (first ∷ second ∷ third ∷ others) (netlist ∷ table ∷ []) failure agree within accepted refusal = accepted
+accepted_not_refused contents (netlist ∷ table ∷ more ∷ rest) failure agree within accepted refusal = refusal
+
+-- a refusal is that of a file, or tells of too many pairs
+refusal_of : (command : Command) (contents : List (List ℕ)) (failure : Failure) → IsRefusal command contents failure → (AreAll command contents × JoinTooMany contents) ⊎ IsFileRefusal contents failure
+refusal_of command contents failures.Usage refusal = inr refusal
+refusal_of command contents (failures.TooLong kind) refusal = inr refusal
+refusal_of command contents (failures.Bench fault) refusal = inr refusal
+refusal_of command contents (failures.Tech fault) refusal = inr refusal
+refusal_of command contents failures.Pairs refusal = inl refusal
+refusal_of command contents (failures.ReadFault kind) refusal = inr refusal
+refusal_of command contents failures.WriteFault refusal = inr refusal
+refusal_of command contents failures.NoMemory refusal = inr refusal
+
+few_not_many : (contents : List (List ℕ)) (text : List ℕ) → IsZeroAnswer contents text → JoinTooMany contents → ⊥
+few_not_many contents text answer too_many =
+    let same = one_told contents too_many.circuit answer.circuit too_many.tech answer.tech too_many.tell answer.tell in
+    answer.few (subst (λ c. JoinsMoreThan c 1048576) same.0 too_many.many)
+
+-- what is answered isn't refused
+pub answer_not_refused : (command : Command) (contents refused : List (List ℕ)) (text : List ℕ) (failure : Failure) → Agree contents refused → length refused ≤ length contents → IsZeroAnswer contents text
+    → (AreAll command refused → length refused ≡ length contents) → IsRefusal command refused failure → ⊥
+answer_not_refused command contents refused text failure agree within answer all refusal = at (refusal_of command refused failure refusal)
+  where
+    at : (AreAll command refused × JoinTooMany refused) ⊎ IsFileRefusal refused failure → ⊥
+    at (inl (whole, too_many)) = few_not_many contents text answer (subst JoinTooMany (sym (agree_same contents refused agree (sym (all whole)))) too_many)
+    at (inr refused_file) = accepted_not_refused contents refused failure agree within answer.accepted refused_file

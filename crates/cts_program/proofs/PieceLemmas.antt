@@ -4,7 +4,7 @@ use Rattle.std.proofs.lemmas.List.{take-append-le, take-append-drop}
 use Rattle.std.proofs.lemmas.List.Concat.{flat_map-append}
 use Rattle.std.specs.List.{flat_map}
 use Rattle.cts_io.specs.Device.{Rose, appended, WritesPrefix}
-use Rattle.cts_program.specs.Failures.{Reports, Writes}
+use Rattle.cts_program.specs.Failures.{ended, Reports, Writes}
 
 -- what stands behind a front stands behind what the front stands behind
 appended-appended : (before : Option (List ℕ)) (first second : List ℕ) → appended (appended before first) second ≡ appended before (first ++ second)
@@ -72,3 +72,7 @@ front_failed result error failed front rest before now count counted part rose =
 pub reported : {T E : Type 0} (result : Result T E) (bytes : List ℕ) (before now : Option (List ℕ)) (count counted : ℕ) → Writes bytes before count now counted result → Reports bytes before count now counted
 reported (Ok x) bytes before now count counted (whole, more) = inl whole
 reported (Err e) bytes before now count counted failed = inr failed
+
+-- a line that ends with a word
+pub line_with_word : {T E : Type 0} (result : Result T E) (front word other : List ℕ) (before now : Option (List ℕ)) (count counted : ℕ) → word ≡ other → Writes (ended (front ++ (word ++ []))) before count now counted result → Writes (ended (front ++ other)) before count now counted result
+line_with_word result front word other before now count counted same writes = subst (λ l. Writes (ended (front ++ l)) before count now counted result) (append-nil word ∙ same) writes

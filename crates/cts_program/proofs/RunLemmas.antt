@@ -1,76 +1,250 @@
 -- What the causes of failures leave of the exit status.
-use Rattle.std.proofs.Common.{ℕ, ◌≡◌, ◌≢◌, ◌⊎◌, inl, inr, List, Option, Some, refl, subst}
-use Rattle.cts_io.specs.Device.{Rose}
-use Rattle.cts_model.specs.Netlists.{IsNetlist}
-use Rattle.bench_reader.proofs.OneFault.{no_fault}
+use Rattle.std.proofs.Common.{ℕ, ◌≡◌, ◌≢◌, ◌<◌, ◌≤◌, ◌⊎◌, inl, inr, true, List, [], ◌++◌, ◌∷◌, length, take, Option, Some, refl, ap, sym, ◌∙◌, subst, arith, length-append, append-nil}
+use Rattle.std.proofs.lemmas.List.{length-take}
+use Rattle.std.proofs.lemmas.List.Elements.{All-head, All-drop}
+use Rattle.cts_io.specs.Device.{Rose, appended, WritesPrefix}
+use Rattle.cts_program.specs.declared.command.Command.{Command}
+use Rattle.cts_program.specs.declared.command.WordsFault.{WordsFault}
+use Rattle.cts_program.specs.declared.command.WordsFault.TheVariants as word_faults
 use Rattle.cts_program.specs.declared.failure.Failure.{Failure}
-use Rattle.cts_program.specs.declared.failure.Failure.TheVariants.{Usage, TooLong, Bench, Gates, ReadFault, WriteFault, NoMemory}
-use Rattle.cts_program.specs.Failures.{status_of}
-use Rattle.cts_program.specs.Gateless.{IsGateless}
-use Rattle.cts_program.specs.Run.{IsZeroCommand, IsShortFile, IsRefused, Answers, AnswersInPart, Fails}
-use Rattle.cts_program.proofs.CommandLemmas.{one_file}
-use Rattle.cts_program.proofs.OneAnswer.{kept_lacks, part_lacks}
+use Rattle.cts_program.specs.declared.failure.Failure.TheVariants.{Usage, TooLong, Bench, Tech, Pairs, ReadFault, WriteFault, NoMemory}
+use Rattle.cts_program.specs.declared.file_kind.FileKind.{FileKind}
+use Rattle.cts_program.specs.Answers.{is_ending, IsZeroAnswer, IsAnswer, IsRefusal}
+use Rattle.cts_program.specs.Commands.{IsCommand}
+use Rattle.cts_program.specs.Failures.{words_failure_of, status_of}
+use Rattle.cts_program.specs.Files.{files_of, AreContents, AreTold}
+use Rattle.cts_program.specs.Run.{IsNoCommand, TellsText, Refuses, CannotRead, Stops, EndsInPart, Fails, AreUnrisen}
+use Rattle.cts_program.proofs.OneAnswer.{Agree, one_zero, some_text, zero_answer, answer_not_refused, agree_same}
+use Rattle.cts_program.proofs.SameFiles.{same_files, told_contents, contents_within, told_agree, agree_turned}
 
--- a short file that is a netlist without gates isn't refused
-not_refused : (bytes : List ℕ) → IsShortFile bytes → IsNetlist bytes → IsGateless bytes → IsRefused bytes → ⊥
-not_refused bytes fits netlist gateless (inl long) = long fits
-not_refused bytes fits netlist gateless (inr (fits', inl (fault, has))) = has.named (no_fault bytes fault netlist has.cause)
-not_refused bytes fits netlist gateless (inr (fits', inr has)) = has.gate gateless
+-- ---- what is told of files, against what is known of them
 
--- what is told of a file is told of the one that the words name
-told_there : (words : List (List ℕ)) (holds : List ℕ → Option (List ℕ)) (file other bytes : List ℕ) → IsZeroCommand words file → IsZeroCommand words other → holds file ≡ Some bytes → holds other ≡ Some bytes
-told_there words holds file other bytes command command' told = subst (λ f. holds f ≡ Some bytes) (one_file words file other command command') told
+-- contents that a command's text is made of, beside those that are told of its files
+module _ (words : List (List ℕ)) (holds : List ℕ → Option (List ℕ)) (command other : Command) (means : IsCommand words command) (means' : IsCommand words other) (contents : List (List ℕ)) (told : AreTold holds (files_of command) contents) where
+  agrees : (known : List (List ℕ)) → AreContents holds (files_of other) known → Agree contents known
+  agrees known are = told_agree holds (files_of command) contents known told (subst (λ files. AreContents holds files known) (sym (same_files words command other means means')) are)
 
--- a file that is answered isn't refused
-pub done_not_refused : (words : List (List ℕ)) (holds : List ℕ → Option (List ℕ)) (old new : Option (List ℕ)) → (file : List ℕ) × IsZeroCommand words file × ((bytes : List ℕ) → holds file ≡ Some bytes → Answers bytes old new)
-    → (file bytes : List ℕ) → IsZeroCommand words file → holds file ≡ Some bytes → IsRefused bytes → ⊥
-done_not_refused words holds old new (other, command', answered) file bytes command told refused =
-    let answers = answered bytes (told_there words holds file other bytes command command' told) in
-    not_refused bytes answers.fits answers.answer.accepts.netlist answers.answer.gateless refused
+  as_many : length (files_of command) ≡ length (files_of other)
+  as_many = ap length (same_files words command other means means')
 
--- only a fault of writing writes, and it lacks a part of the text
-pub fails_without_text : (failure : Failure) (bytes before : List ℕ) (old new : Option (List ℕ)) → old ≡ Some before → (failure ≢ WriteFault → new ≡ old) → (failure ≡ WriteFault → AnswersInPart bytes old new) → Answers bytes old new → ⊥
-fails_without_text Usage bytes before old new told kept part answers = kept_lacks bytes before old new told (kept (λ e. cc e)) answers
-fails_without_text TooLong bytes before old new told kept part answers = kept_lacks bytes before old new told (kept (λ e. cc e)) answers
-fails_without_text (Bench fault) bytes before old new told kept part answers = kept_lacks bytes before old new told (kept (λ e. cc e)) answers
-fails_without_text Gates bytes before old new told kept part answers = kept_lacks bytes before old new told (kept (λ e. cc e)) answers
-fails_without_text ReadFault bytes before old new told kept part answers = kept_lacks bytes before old new told (kept (λ e. cc e)) answers
-fails_without_text WriteFault bytes before old new told kept part answers = part_lacks bytes before old new told (part refl) answers
-fails_without_text NoMemory bytes before old new told kept part answers = kept_lacks bytes before old new told (kept (λ e. cc e)) answers
+  told_within : length contents ≤ length (files_of command)
+  told_within = contents_within holds (files_of command) contents (told_contents holds (files_of command) contents told)
 
--- status 5 is a fault of writing
-pub writes_at_five : (failure : Failure) → status_of failure ≡ 5 → failure ≡ WriteFault
-writes_at_five WriteFault five = refl
-writes_at_five Usage five = cc five
-writes_at_five TooLong five = cc five
-writes_at_five (Bench fault) five = cc five
-writes_at_five Gates five = cc five
-writes_at_five ReadFault five = cc five
-writes_at_five NoMemory five = cc five
+  -- a refusal of contents that are told, beside a text
+  pub told_not_refused : (failure : Failure) → IsRefusal command contents failure → (status : ℕ) (text : List ℕ) → TellsText holds other status text → ⊥
+  told_not_refused failure refusal status text tells =
+      let (all, none, answer) = zero_answer other tells.contents status text tells.answer in
+      let many = as_many in
+      let within = told_within in
+      answer_not_refused command tells.contents contents text failure (agree_turned contents tells.contents (agrees tells.contents tells.are)) (omega arith) answer
+      (λ whole. omega arith) refusal
 
-module _ (words : List (List ℕ)) (holds : List ℕ → Option (List ℕ)) (reads reads_now : List ℕ → ℕ) (writes writes_now : ℕ) (file bytes : List ℕ) (command : IsZeroCommand words file) (told : holds file ≡ Some bytes) where
-  -- a refused file leaves status 3, unless it can't be read or memory runs out
-  pub refused_status : (old new : Option (List ℕ)) (failure : Failure) → Fails words holds reads reads_now writes writes_now failure → IsRefused bytes → (failure ≡ WriteFault → AnswersInPart bytes old new)
-      → (status_of failure ≡ 3) ⊎ ((status_of failure ≡ 4) ⊎ (status_of failure ≡ 6))
-  refused_status old new Usage fails refused part = absurd (fails file command)
-  refused_status old new TooLong fails refused part = inl refl
-  refused_status old new (Bench fault) fails refused part = inl refl
-  refused_status old new Gates fails refused part = inl refl
-  refused_status old new ReadFault fails refused part = inr (inl refl)
-  refused_status old new WriteFault fails refused part = let in_part = part refl in absurd (not_refused bytes in_part.fits in_part.answer.accepts.netlist in_part.answer.gateless refused)
-  refused_status old new NoMemory fails refused part = inr (inr refl)
+  -- an answer for contents that are told, beside a refusal
+  pub refusal_not_told : (status : ℕ) (text : List ℕ) → IsAnswer command contents status text → (failure : Failure) → Refuses holds other failure → ⊥
+  refusal_not_told status text answer failure refuses =
+      let (all, none, zero) = zero_answer command contents status text answer in
+      let many = as_many in
+      let within = contents_within holds (files_of other) refuses.contents refuses.are in
+      answer_not_refused other contents refuses.contents text failure (agrees refuses.contents refuses.are) (omega arith) zero (λ whole. omega arith) refuses.refusal
 
-  -- a netlist leaves want of memory alone, where no count rose
-  pub complete_status : (failure : Failure) → Fails words holds reads reads_now writes writes_now failure → IsShortFile bytes → IsNetlist bytes → IsGateless bytes
-      → (Rose (reads file) (reads_now file) → ⊥) → (Rose writes writes_now → ⊥) → (status_of failure ≡ 0) ⊎ (status_of failure ≡ 6)
-  complete_status Usage fails fits netlist gateless read wrote = absurd (fails file command)
-  complete_status TooLong (other, command', long) fits netlist gateless read wrote = absurd (long bytes (told_there words holds file other bytes command command' told) fits)
-  complete_status (Bench fault) (other, command', faulty) fits netlist gateless read wrote =
-      let has = (faulty bytes (told_there words holds file other bytes command command' told)).1 in
-      absurd (has.named (no_fault bytes fault netlist has.cause))
-  complete_status Gates (other, command', faulty) fits netlist gateless read wrote =
-      let has = (faulty bytes (told_there words holds file other bytes command command' told)).1 in
-      absurd (has.gate gateless)
-  complete_status ReadFault (other, command', rose) fits netlist gateless read wrote = absurd (read (subst (λ f. Rose (reads f) (reads_now f)) (one_file words other file command' command) rose))
-  complete_status WriteFault (other, command', rose) fits netlist gateless read wrote = absurd (wrote rose)
-  complete_status NoMemory fails fits netlist gateless read wrote = inr refl
+  -- an answer for contents that are told, beside a text
+  pub tells_zero : (status : ℕ) (text : List ℕ) → IsAnswer command contents status text → (status' : ℕ) (text' : List ℕ) → TellsText holds other status' text' → IsZeroAnswer contents text'
+  tells_zero status text answer status' text' tells =
+      let (all, none, zero) = zero_answer command contents status text answer in
+      let (all', none', zero') = zero_answer other tells.contents status' text' tells.answer in
+      let many = as_many in
+      subst (λ known. IsZeroAnswer known text') (sym (agree_same contents tells.contents (agrees tells.contents tells.are) (omega arith))) zero'
+
+-- a file whose count rose is none of those whose counts didn't
+unrisen_read : (reads reads_now : List ℕ → ℕ) (files front : List (FileKind × List ℕ)) (file : FileKind × List ℕ) (behind : List (FileKind × List ℕ)) → files ≡ front ++ file ∷ behind
+    → AreUnrisen reads reads_now files → Rose (reads file.1) (reads_now file.1) → ⊥
+unrisen_read reads reads_now files [] file behind is unrisen rose = All-head (λ (f : FileKind × List ℕ). Rose (reads f.1) (reads_now f.1) → ⊥) file behind (subst (AreUnrisen reads reads_now) is unrisen) rose
+unrisen_read reads reads_now files (first ∷ front) file behind is unrisen rose =
+    unrisen_read reads reads_now (front ++ file ∷ behind) front file behind refl (All-drop (λ (f : FileKind × List ℕ). Rose (reads f.1) (reads_now f.1) → ⊥) 1 (first ∷ (front ++ file ∷ behind)) (subst (AreUnrisen reads reads_now) is unrisen)) rose
+
+-- what stands behind the same bytes is as long
+as_long : (before text other : List ℕ) → Some (before ++ text) ≡ Some (before ++ other) → length text ≡ length other
+as_long before text other same =
+    let joined : before ++ text ≡ before ++ other = cc same in
+    let lengths : length (before ++ text) ≡ length (before ++ other) = ap length joined in
+    omega (arith, length-append before text, length-append before other)
+
+-- where nothing was written, the text isn't there
+kept_lacks : (contents : List (List ℕ)) (text front : List ℕ) (before now : Option (List ℕ)) → IsZeroAnswer contents text → before ≡ Some front → now ≡ before → now ≡ appended before text → ⊥
+kept_lacks contents text front before now answer is same whole =
+    let there : now ≡ Some (front ++ text) = rw is at whole in
+    let none : 0 ≡ length text = as_long front [] text (ap (λ b. Some b) (append-nil front) ∙ (sym is ∙ (sym same ∙ there))) in
+    let some = some_text contents text answer in
+    omega arith
+
+-- and a front of the text isn't the text
+part_lacks : (contents : List (List ℕ)) (text other front : List ℕ) (before now : Option (List ℕ)) → IsZeroAnswer contents text → IsZeroAnswer contents other → before ≡ Some front → WritesPrefix before other now → now ≡ appended before text → ⊥
+part_lacks contents text other front before now answer answer' is part whole =
+    let there : now ≡ Some (front ++ text) = rw is at whole in
+    let cut : now ≡ Some (front ++ take part.count other) = rw is at part.written in
+    let lengths : length text ≡ length (take part.count other) = as_long front text (take part.count other) (sym there ∙ cut) in
+    let one : length other ≡ length text = ap length (one_zero contents other text answer' answer) in
+    let short = part.short in
+    omega (arith, length-take part.count other)
+
+-- ---- what a failure's cause is
+
+module _ (words : List (List ℕ)) (holds : List ℕ → Option (List ℕ)) (reads reads_now : List ℕ → ℕ) (before now : Option (List ℕ)) (writes writes_now : ℕ) where
+  data Cause (failure : Failure) : Type 0 where
+    usage : failure ≡ Usage → IsNoCommand words → Cause failure
+    refused : status_of failure ≡ 3 → (command : Command) → IsCommand words command → Refuses holds command failure → Cause failure
+    unread : (kind : FileKind) → failure ≡ ReadFault kind → (command : Command) → IsCommand words command → CannotRead holds reads reads_now command kind → Cause failure
+    unwritten : failure ≡ WriteFault → EndsInPart words holds before now → Rose writes writes_now → Cause failure
+    memory : failure ≡ NoMemory → (command : Command) → IsCommand words command → Cause failure
+
+  cause_of : (failure : Failure) → Fails words holds reads reads_now before now writes writes_now failure → Cause failure
+  cause_of Usage none = usage refl none
+  cause_of (TooLong kind) (command, means, refuses) = refused refl command means refuses
+  cause_of (Bench fault) (command, means, refuses) = refused refl command means refuses
+  cause_of (Tech fault) (command, means, refuses) = refused refl command means refuses
+  cause_of Pairs (command, means, refuses) = refused refl command means refuses
+  cause_of (ReadFault kind) (command, means, cannot) = unread kind refl command means cannot
+  cause_of WriteFault (part, rose) = unwritten refl part rose
+  cause_of NoMemory (command, means, any) = memory refl command means
+
+  module _ (failure : Failure) (fails : Fails words holds reads reads_now before now writes writes_now failure) where
+    -- status 2 is that of words that mean nothing
+    pub two_is_usage : status_of failure ≡ 2 → IsNoCommand words
+    two_is_usage two = elim (cause_of failure fails) [
+      | usage is none ↦ none
+      | refused is command means refuses ↦ absurd (omega arith)
+      | unread kind is command means cannot ↦ let other : status_of failure ≡ 4 = ap status_of is in absurd (omega arith)
+      | unwritten is part rose ↦ let other : status_of failure ≡ 5 = ap status_of is in absurd (omega arith)
+      | memory is command means ↦ let other : status_of failure ≡ 6 = ap status_of is in absurd (omega arith)
+    ]
+
+    pub usage_is_two : IsNoCommand words → status_of failure ≡ 2
+    usage_is_two none = elim (cause_of failure fails) [
+      | usage is none' ↦ ap status_of is
+      | refused is command means refuses ↦ absurd (none command means)
+      | unread kind is command means cannot ↦ absurd (none command means)
+      | unwritten is part rose ↦ absurd (none part.command part.means)
+      | memory is command means ↦ absurd (none command means)
+    ]
+
+    -- status 3 is that of a refusal
+    pub three_is_refused : status_of failure ≡ 3 → (command : Command) × IsCommand words command × ((other : Failure) × Refuses holds command other)
+    three_is_refused three = elim (cause_of failure fails) [
+      | usage is none ↦ let other : status_of failure ≡ 2 = ap status_of is in absurd (omega arith)
+      | refused is command means refuses ↦ (command, means, (failure, refuses))
+      | unread kind is command means cannot ↦ let other : status_of failure ≡ 4 = ap status_of is in absurd (omega arith)
+      | unwritten is part rose ↦ let other : status_of failure ≡ 5 = ap status_of is in absurd (omega arith)
+      | memory is command means ↦ let other : status_of failure ≡ 6 = ap status_of is in absurd (omega arith)
+    ]
+
+    -- status 4 is that of a file that can't be read
+    pub four_is_unread : status_of failure ≡ 4 → (command : Command) × IsCommand words command × ((kind : FileKind) × CannotRead holds reads reads_now command kind)
+    four_is_unread four = elim (cause_of failure fails) [
+      | usage is none ↦ let other : status_of failure ≡ 2 = ap status_of is in absurd (omega arith)
+      | refused is command means refuses ↦ absurd (omega arith)
+      | unread kind is command means cannot ↦ (command, means, (kind, cannot))
+      | unwritten is part rose ↦ let other : status_of failure ≡ 5 = ap status_of is in absurd (omega arith)
+      | memory is command means ↦ let other : status_of failure ≡ 6 = ap status_of is in absurd (omega arith)
+    ]
+
+    -- status 5 is that of an output that can't be written
+    pub five_is_unwritten : status_of failure ≡ 5 → EndsInPart words holds before now × Rose writes writes_now
+    five_is_unwritten five = elim (cause_of failure fails) [
+      | usage is none ↦ let other : status_of failure ≡ 2 = ap status_of is in absurd (omega arith)
+      | refused is command means refuses ↦ absurd (omega arith)
+      | unread kind is command means cannot ↦ let other : status_of failure ≡ 4 = ap status_of is in absurd (omega arith)
+      | unwritten is part rose ↦ (part, rose)
+      | memory is command means ↦ let other : status_of failure ≡ 6 = ap status_of is in absurd (omega arith)
+    ]
+
+    -- a refusal of what the files hold leaves status 3, unless a file can't be read or memory runs out
+    pub refused_status : (command : Command) (contents : List (List ℕ)) (other : Failure) → IsCommand words command → AreTold holds (files_of command) contents → IsRefusal command contents other
+        → (status_of failure ≡ 3) ⊎ ((status_of failure ≡ 4) ⊎ (status_of failure ≡ 6))
+    refused_status command contents other means told refusal = elim (cause_of failure fails) [
+      | usage is none ↦ absurd (none command means)
+      | refused is command' means' refuses ↦ inl is
+      | unread kind is command' means' cannot ↦ inr (inl (ap status_of is))
+      | unwritten is part rose ↦ absurd (told_not_refused words holds command part.command means part.means contents told other refusal part.status part.text part.tells)
+      | memory is command' means' ↦ inr (inr (ap status_of is))
+    ]
+
+    -- an answer for what the files hold is left out for want of memory alone, where no count rose
+    pub complete_status : (command : Command) (contents : List (List ℕ)) (status : ℕ) (text : List ℕ) → IsCommand words command → AreTold holds (files_of command) contents → IsAnswer command contents status text
+        → AreUnrisen reads reads_now (files_of command) → (Rose writes writes_now → ⊥) → (status_of failure ≡ status) ⊎ (status_of failure ≡ 6)
+    complete_status command contents status text means told answer read wrote = elim (cause_of failure fails) [
+      | usage is none ↦ absurd (none command means)
+      | refused is command' means' refuses ↦ absurd (refusal_not_told words holds command command' means means' contents told status text answer failure refuses)
+      | unread kind is command' means' cannot ↦
+          absurd (unrisen_read reads reads_now (files_of command) cannot.front (kind, cannot.file) cannot.behind (same_files words command command' means means' ∙ cannot.files) read cannot.rose)
+      | unwritten is part rose ↦ absurd (wrote rose)
+      | memory is command' means' ↦ inr (ap status_of is)
+    ]
+
+    -- the text of an answer doesn't stand whole where the command line failed
+    pub lacks_text : (command : Command) (contents : List (List ℕ)) (status : ℕ) (text front : List ℕ) → IsCommand words command → AreTold holds (files_of command) contents → IsAnswer command contents status text
+        → (failure ≢ WriteFault → now ≡ before) → before ≡ Some front → now ≡ appended before text → ⊥
+    lacks_text command contents status text front means told answer kept is whole = elim (cause_of failure fails) [
+      | usage is' none ↦ absurd (none command means)
+      | refused is' command' means' refuses ↦ kept_lacks contents text front before now (zero_answer command contents status text answer).2 is (kept (not_write 3 is' (λ e. cc e))) whole
+      | unread kind is' command' means' cannot ↦ kept_lacks contents text front before now (zero_answer command contents status text answer).2 is (kept (not_write 4 (ap status_of is') (λ e. cc e))) whole
+      | unwritten is' part rose ↦
+          part_lacks contents text part.text front before now (zero_answer command contents status text answer).2
+          (tells_zero words holds command part.command means part.means contents told status text answer part.status part.text part.tells) is part.front whole
+      | memory is' command' means' ↦ kept_lacks contents text front before now (zero_answer command contents status text answer).2 is (kept (not_write 6 (ap status_of is') (λ e. cc e))) whole
+    ]
+      where
+        not_write : (status : ℕ) → status_of failure ≡ status → (status ≡ 5 → ⊥) → failure ≢ WriteFault
+        not_write status is apart same = apart (sym is ∙ ap status_of same)
+
+-- ---- statuses
+
+-- no failure has the status of a text
+pub not_ending : (failure : Failure) → is_ending (status_of failure) ≡ true → ⊥
+not_ending Usage is = cc is
+not_ending (TooLong kind) is = cc is
+not_ending (Bench fault) is = cc is
+not_ending (Tech fault) is = cc is
+not_ending Pairs is = cc is
+not_ending (ReadFault kind) is = cc is
+not_ending WriteFault is = cc is
+not_ending NoMemory is = cc is
+
+-- a count that rises is told by its status alone
+pub risen_status : (failure : Failure) (before now : ℕ) → (((kind : FileKind) × (failure ≡ ReadFault kind) → ⊥) → now ≡ before) → before < now → status_of failure ≡ 4
+risen_status (ReadFault kind) before now stays rose = refl
+risen_status Usage before now stays rose = let same = stays (λ (kind, e). cc e) in absurd (omega arith)
+risen_status (TooLong kind) before now stays rose = let same = stays (λ (kind, e). cc e) in absurd (omega arith)
+risen_status (Bench fault) before now stays rose = let same = stays (λ (kind, e). cc e) in absurd (omega arith)
+risen_status (Tech fault) before now stays rose = let same = stays (λ (kind, e). cc e) in absurd (omega arith)
+risen_status Pairs before now stays rose = let same = stays (λ (kind, e). cc e) in absurd (omega arith)
+risen_status WriteFault before now stays rose = let same = stays (λ (kind, e). cc e) in absurd (omega arith)
+risen_status NoMemory before now stays rose = let same = stays (λ (kind, e). cc e) in absurd (omega arith)
+
+pub written_status : (failure : Failure) (before now : ℕ) → ((failure ≡ WriteFault → ⊥) → now ≡ before) → before < now → status_of failure ≡ 5
+written_status WriteFault before now stays rose = refl
+written_status Usage before now stays rose = let same = stays (λ e. cc e) in absurd (omega arith)
+written_status (TooLong kind) before now stays rose = let same = stays (λ e. cc e) in absurd (omega arith)
+written_status (Bench fault) before now stays rose = let same = stays (λ e. cc e) in absurd (omega arith)
+written_status (Tech fault) before now stays rose = let same = stays (λ e. cc e) in absurd (omega arith)
+written_status Pairs before now stays rose = let same = stays (λ e. cc e) in absurd (omega arith)
+written_status (ReadFault kind) before now stays rose = let same = stays (λ e. cc e) in absurd (omega arith)
+written_status NoMemory before now stays rose = let same = stays (λ e. cc e) in absurd (omega arith)
+
+-- a failure of a command's text is one of the command line
+pub stopped : (words : List (List ℕ)) (holds : List ℕ → Option (List ℕ)) (reads reads_now : List ℕ → ℕ) (before now : Option (List ℕ)) (writes writes_now : ℕ) (command : Command) → IsCommand words command
+    → (failure : Failure) → Stops holds reads reads_now command failure → Fails words holds reads reads_now before now writes writes_now failure
+stopped words holds reads reads_now before now writes writes_now command means Usage stops = absurd stops
+stopped words holds reads reads_now before now writes writes_now command means WriteFault stops = absurd stops
+stopped words holds reads reads_now before now writes writes_now command means (TooLong kind) stops = (command, means, stops)
+stopped words holds reads reads_now before now writes writes_now command means (Bench fault) stops = (command, means, stops)
+stopped words holds reads reads_now before now writes writes_now command means (Tech fault) stops = (command, means, stops)
+stopped words holds reads reads_now before now writes writes_now command means Pairs stops = (command, means, stops)
+stopped words holds reads reads_now before now writes writes_now command means (ReadFault kind) stops = (command, means, stops)
+stopped words holds reads reads_now before now writes writes_now command means NoMemory stops = (command, means, stops)
+
+-- and so is one of its words
+pub words_fail : (words : List (List ℕ)) (holds : List ℕ → Option (List ℕ)) (reads reads_now : List ℕ → ℕ) (before now : Option (List ℕ)) (writes writes_now : ℕ) (fault : WordsFault)
+    → (fault ≡ word_faults.Usage → IsNoCommand words) → (fault ≡ word_faults.NoMemory → (command : Command) × IsCommand words command)
+    → Fails words holds reads reads_now before now writes writes_now (words_failure_of fault)
+words_fail words holds reads reads_now before now writes writes_now word_faults.Usage none some = none refl
+words_fail words holds reads reads_now before now writes writes_now word_faults.NoMemory none some = let (command, means) = some refl in (command, means, tt)

@@ -1,34 +1,44 @@
 -- Why a command isn't done: the exit status and the line on the error output of each failure.
-use Rattle.std.specs.Prelude.{◌≡◌, ◌≤◌, ℕ, List, [], ◌∷◌, ◌++◌, ◌⊎◌, Option, Result, MatchResult, codes, decimal}
+use Rattle.std.specs.Prelude.{◌≡◌, ◌≤◌, ℕ, List, [], ◌∷◌, ◌++◌, ◌⊎◌, Option, Result, MatchResult, if◌then◌else◌, ◌&&◌, nat_le, codes, decimal}
 use Rattle.std.specs.List.{flat_map}
 use Rattle.cts_io.specs.Device.{Rose, appended, WritesPrefix}
-use Rattle.cts_io.specs.declared.whole.ReadWhole.{ReadWhole}
-use Rattle.cts_io.specs.declared.whole.ReadWhole.TheVariants as read
 use Rattle.bench_reader.specs.declared.fault.Which.{Which}
 use Rattle.bench_reader.specs.declared.fault.Which.TheVariants.{Name, Signals, Registers, Inputs}
 use Rattle.bench_reader.specs.declared.fault.BenchFault.{BenchFault}
 use Rattle.bench_reader.specs.declared.fault.BenchFault.TheVariants as bench
+use Rattle.delay_tables.specs.declared.fault.TechFault.{TechFault}
+use Rattle.delay_tables.specs.declared.fault.TechFault.TheVariants as tech
+use Rattle.cts_model.specs.declared.kind.Kind.{Kind}
+use Rattle.cts_model.specs.declared.kind.Kind.TheVariants.{And, Nand, Or, Nor, Not, Xor, Xnor, Buff}
 use Rattle.cts_program.specs.declared.failure.Failure.{Failure}
-use Rattle.cts_program.specs.declared.failure.Failure.TheVariants.{Usage, TooLong, Bench, Gates, ReadFault, WriteFault, NoMemory}
+use Rattle.cts_program.specs.declared.failure.Failure.TheVariants.{Usage, TooLong, Bench, Tech, Pairs, ReadFault, WriteFault, NoMemory}
+use Rattle.cts_program.specs.declared.command.WordsFault.{WordsFault}
+use Rattle.cts_program.specs.declared.command.WordsFault.TheVariants as words
+use Rattle.cts_program.specs.Files.{kind_word}
 
--- the failure where the netlist's file isn't read whole
-abbrev pub read_failure_of : ReadWhole → Failure
-read_failure_of read.Failed = ReadFault
-read_failure_of read.TooLong = TooLong
-read_failure_of read.NoMemory = NoMemory
+-- the failure where the words aren't read
+abbrev pub words_failure_of : WordsFault → Failure
+words_failure_of words.Usage = Usage
+words_failure_of words.NoMemory = NoMemory
 
 -- the failure where the netlist isn't read
 abbrev pub bench_failure_of : BenchFault → Failure
 bench_failure_of bench.NoMemory = NoMemory
 bench_failure_of fault = Bench fault
 
+-- the failure where the delay table isn't read
+abbrev pub tech_failure_of : TechFault → Failure
+tech_failure_of tech.NoMemory = NoMemory
+tech_failure_of fault = Tech fault
+
 -- the program's exit status
 abbrev pub status_of : Failure → ℕ
 status_of Usage = 2
-status_of TooLong = 3
+status_of (TooLong kind) = 3
 status_of (Bench fault) = 3
-status_of Gates = 3
-status_of ReadFault = 4
+status_of (Tech fault) = 3
+status_of Pairs = 3
+status_of (ReadFault kind) = 4
 status_of WriteFault = 5
 status_of NoMemory = 6
 
@@ -68,13 +78,49 @@ bench_line (bench.CombLoop names) = loop_line names
 bench_line bench.NoRegisters = ended (codes "refused bench 8")
 bench_line bench.NoMemory = ended (codes "no memory")
 
+-- the word of a gate kind in a delay table
+abbrev pub gate_word : Kind → List ℕ
+gate_word And = codes "AND"
+gate_word Nand = codes "NAND"
+gate_word Or = codes "OR"
+gate_word Nor = codes "NOR"
+gate_word Not = codes "NOT"
+gate_word Xor = codes "XOR"
+gate_word Xnor = codes "XNOR"
+gate_word Buff = codes "BUFF"
+gate_word _ = []
+
+-- a byte as it is shown: one that isn't printable is a question mark
+abbrev pub shown_byte : ℕ → ℕ
+shown_byte byte = if nat_le 33 byte && nat_le byte 126 then byte else 63
+
+-- bytes as they are shown
+abbrev pub shown : List ℕ → List ℕ
+shown bytes = flat_map (λ byte. shown_byte byte ∷ []) bytes
+
+-- a refusal of a delay table, with the name that it is about
+abbrev pub line_about : List ℕ → List ℕ → List ℕ
+line_about refusal name = ended (refusal ++ shown name)
+
+-- the line for a fault of a delay table, with the number of the fault
+abbrev pub tech_line : TechFault → List ℕ
+tech_line tech.NotToml = ended (codes "refused tech 1")
+tech_line (tech.Missing name) = line_about (codes "refused tech 2 ") name
+tech_line (tech.WrongType name) = line_about (codes "refused tech 3 ") name
+tech_line (tech.OutOfRange name) = line_about (codes "refused tech 4 ") name
+tech_line (tech.LeastAboveGreatest name) = line_about (codes "refused tech 5 ") name
+tech_line (tech.MissingKind kind) = ended (codes "refused tech 6 " ++ gate_word kind)
+tech_line (tech.UnknownKey name) = line_about (codes "refused tech 7 ") name
+tech_line tech.NoMemory = ended (codes "no memory")
+
 -- the line that says why
 abbrev pub failure_line : Failure → List ℕ
 failure_line Usage = ended (codes "usage: cts zero --bench F [--tech F] | cts period --bench F --tech F | cts schedule --bench F --tech F | cts synth --bench F --tech F --pl F | cts check --bench F --tech F --pl F --report F | cts demo --registers N --seed S")
-failure_line TooLong = ended (codes "refused bench long")
+failure_line (TooLong kind) = ended (codes "refused " ++ kind_word kind ++ codes " long")
 failure_line (Bench fault) = bench_line fault
-failure_line Gates = ended (codes "refused bench 10")
-failure_line ReadFault = ended (codes "read fault bench")
+failure_line (Tech fault) = tech_line fault
+failure_line Pairs = ended (codes "refused pairs")
+failure_line (ReadFault kind) = ended (codes "read fault " ++ kind_word kind)
 failure_line WriteFault = ended (codes "write fault")
 failure_line NoMemory = ended (codes "no memory")
 

@@ -1,4 +1,10 @@
-pub mod Gateless
-pub mod Texts
-pub mod Run
+pub mod Answers
+pub mod Commands
 pub mod Failures
+pub mod Files
+pub mod Judged
+pub mod Parsers
+pub mod PlainWords
+pub mod Run
+pub mod Steps
+pub mod Texts

@@ -1,13 +1,17 @@
 //! Why a command isn't done, and the line that says so.
 
-ghost use Rattle.std.specs.Prelude.{◌≡◌, ◌++◌, ◌∷◌, decimal};
+ghost use Rattle.std.specs.Prelude.{◌≡◌, ◌++◌, ◌∷◌, [], decimal};
 ghost use Rattle.std.specs.List.{flat_map};
 ghost use Rattle.cts_program.specs.declared.failure.Failure.TheVariants.{NoMemory};
-ghost use Rattle.cts_program.specs.Failures.{read_failure_of, bench_failure_of, status_of, limit_word, spaced, loop_line, ended, bench_line, failure_line, Reports, Writes};
+ghost use Rattle.cts_program.specs.Failures.{words_failure_of, bench_failure_of, tech_failure_of, status_of, limit_word, gate_word, shown_byte, shown, spaced, loop_line, ended, bench_line, tech_line, failure_line, Reports, Writes};
 
+use crate::command::WordsFault;
+use crate::file_kind::FileKind;
 use bench_reader::{BenchFault, Which};
 use cts_base::Name;
-use cts_io::{Failed, ReadWhole, Sink, write_whole};
+use cts_io::{Failed, Sink, write_whole};
+use cts_model::Kind;
+use delay_tables::TechFault;
 use itoa::Buffer;
 
 /// Why a command isn't done.
@@ -15,14 +19,16 @@ use itoa::Buffer;
 pub enum Failure {
     /// The words are no command.
     Usage,
-    /// The netlist's file has more bytes than a file may have.
-    TooLong,
+    /// A file has more bytes than a file may have.
+    TooLong(FileKind),
     /// The netlist is refused.
     Bench(BenchFault),
-    /// The netlist has a gate, and delays through gates aren't computed yet.
-    Gates,
-    /// The netlist's file couldn't be read.
-    ReadFault,
+    /// The delay table is refused.
+    Tech(TechFault),
+    /// More than 1,048,576 pairs of registers are joined by paths.
+    Pairs,
+    /// A file couldn't be read.
+    ReadFault(FileKind),
     /// The output couldn't be written.
     WriteFault,
     /// Memory was refused.
@@ -39,8 +45,8 @@ impl Failure {
     {
         match self {
             Failure::Usage => 2,
-            Failure::TooLong | Failure::Bench(_) | Failure::Gates => 3,
-            Failure::ReadFault => 4,
+            Failure::TooLong(_) | Failure::Bench(_) | Failure::Tech(_) | Failure::Pairs => 3,
+            Failure::ReadFault(_) => 4,
             Failure::WriteFault => 5,
             Failure::NoMemory => 6,
         }
@@ -61,17 +67,18 @@ impl Failure {
     {
         match self {
             Failure::Usage => write_line(&[USAGE], err),
-            Failure::TooLong => write_line(&[b"refused bench long"], err),
-            Failure::Bench(fault) => write_refusal(fault, err),
-            Failure::Gates => write_line(&[b"refused bench 10"], err),
-            Failure::ReadFault => write_line(&[b"read fault bench"], err),
+            Failure::TooLong(kind) => write_line(&[b"refused ", kind.word(), b" long"], err),
+            Failure::Bench(fault) => write_bench_refusal(fault, err),
+            Failure::Tech(fault) => write_tech_refusal(fault, err),
+            Failure::Pairs => write_line(&[b"refused pairs"], err),
+            Failure::ReadFault(kind) => write_line(&[b"read fault ", kind.word()], err),
             Failure::WriteFault => write_line(&[b"write fault"], err),
             Failure::NoMemory => write_line(&[b"no memory"], err),
         }
     }
 }
 
-fn write_refusal<E: Sink>(fault: &BenchFault, err: &mut E) -> Result<(), Failed>
+fn write_bench_refusal<E: Sink>(fault: &BenchFault, err: &mut E) -> Result<(), Failed>
     ensures { Writes (bench_line fault.now)
         (E.written err.old) (E.faults err.old) (E.written err.new) (E.faults err.new) result }
 {
@@ -87,6 +94,76 @@ fn write_refusal<E: Sink>(fault: &BenchFault, err: &mut E) -> Result<(), Failed>
         BenchFault::CombLoop(names) => write_loop(names.as_slice(), err),
         BenchFault::NoRegisters => write_line(&[b"refused bench 8"], err),
         BenchFault::NoMemory => write_line(&[b"no memory"], err),
+    }
+}
+
+fn write_tech_refusal<E: Sink>(fault: &TechFault, err: &mut E) -> Result<(), Failed>
+    ensures { Writes (tech_line fault.now)
+        (E.written err.old) (E.faults err.old) (E.written err.new) (E.faults err.new) result }
+{
+    match fault {
+        TechFault::NotToml => write_line(&[b"refused tech 1"], err),
+        TechFault::Missing(name) => write_shown(b"refused tech 2 ", name, err),
+        TechFault::WrongType(name) => write_shown(b"refused tech 3 ", name, err),
+        TechFault::OutOfRange(name) => write_shown(b"refused tech 4 ", name, err),
+        TechFault::LeastAboveGreatest(name) => write_shown(b"refused tech 5 ", name, err),
+        TechFault::MissingKind(kind) => write_line(&[b"refused tech 6 ", gate_word(*kind)], err),
+        TechFault::UnknownKey(name) => write_shown(b"refused tech 7 ", name, err),
+        TechFault::NoMemory => write_line(&[b"no memory"], err),
+    }
+}
+
+// The word of a gate kind in a delay table.
+fn gate_word(kind: Kind) -> &'static [u8]
+    ensures { result.now ≡ gate_word kind }
+{
+    match kind {
+        Kind::And => b"AND",
+        Kind::Nand => b"NAND",
+        Kind::Or => b"OR",
+        Kind::Nor => b"NOR",
+        Kind::Not => b"NOT",
+        Kind::Xor => b"XOR",
+        Kind::Xnor => b"XNOR",
+        Kind::Buff => b"BUFF",
+        Kind::Input | Kind::Dff | Kind::Host => b"",
+    }
+}
+
+// Writes a refusal and the name that it is about, which may have any bytes.
+fn write_shown<E: Sink>(refusal: &[u8], name: &Name, err: &mut E) -> Result<(), Failed>
+    ensures { Writes (ended (refusal.now ++ shown name.now))
+        (E.written err.old) (E.faults err.old) (E.written err.new) (E.faults err.new) result }
+{
+    write_whole(err, refusal)?;
+    write_bytes(name.as_slice(), err)?;
+    write_whole(err, b"\n")
+}
+
+// Writes bytes, each that isn't printable as a question mark.
+fn write_bytes<E: Sink>(bytes: &[u8], err: &mut E) -> Result<(), Failed>
+    ensures { Writes (shown bytes.now)
+        (E.written err.old) (E.faults err.old) (E.written err.new) (E.faults err.new) result }
+{
+    for byte in bytes {
+        write_byte(shown_byte(*byte), err)?;
+    }
+    Ok(())
+}
+
+fn write_byte<E: Sink>(byte: u8, err: &mut E) -> Result<(), Failed>
+    ensures { Writes (byte ∷ [])
+        (E.written err.old) (E.faults err.old) (E.written err.new) (E.faults err.new) result }
+{
+    write_whole(err, &[byte])
+}
+
+fn shown_byte(byte: u8) -> u8
+    ensures { result ≡ shown_byte byte }
+{
+    match byte {
+        b'!'..=b'~' => byte,
+        _ => b'?',
     }
 }
 
@@ -153,14 +230,24 @@ fn write_line<E: Sink>(pieces: &[&[u8]], err: &mut E) -> Result<(), Failed>
     write_whole(err, b"\n")
 }
 
-impl From<ReadWhole> for Failure {
-    ghost from_gives = { λ fault failure. failure ≡ read_failure_of fault };
+impl From<WordsFault> for Failure {
+    ghost from_gives = { λ fault failure. failure ≡ words_failure_of fault };
 
-    fn from(fault: ReadWhole) -> Failure {
+    fn from(fault: WordsFault) -> Failure {
         match fault {
-            ReadWhole::Failed => Failure::ReadFault,
-            ReadWhole::TooLong => Failure::TooLong,
-            ReadWhole::NoMemory => Failure::NoMemory,
+            WordsFault::Usage => Failure::Usage,
+            WordsFault::NoMemory => Failure::NoMemory,
+        }
+    }
+}
+
+impl From<TechFault> for Failure {
+    ghost from_gives = { λ fault failure. failure ≡ tech_failure_of fault };
+
+    fn from(fault: TechFault) -> Failure {
+        match fault {
+            TechFault::NoMemory => Failure::NoMemory,
+            _ => Failure::Tech(fault),
         }
     }
 }

@@ -1,12 +1,14 @@
 //! The clock tree synthesizer `cts`.
 #![tactic(auto)]
 
+mod command;
 mod failure;
+mod file_kind;
+mod files;
 mod run;
 #[cfg(test)]
 mod tests;
 mod zero;
-mod zero_skew;
 mod zero_text;
 
 use cts_io::{HostInputs, HostSink};

@@ -1,13 +1,19 @@
-ghost use Rattle.std.specs.Prelude.{◌≡◌, ◌≢◌, ◌⊎◌, ◌↔◌, ℕ, List, map, Some, string_bytes};
-ghost use Rattle.cts_model.specs.Netlists.{IsNetlist};
-ghost use Rattle.cts_io.specs.Device.{Rose};
+ghost use Rattle.std.specs.Prelude.{◌≡◌, ◌≢◌, ◌⊎◌, ◌↔◌, ◌<◌, ℕ, List, map, true, Some, string_bytes, IfOk, IfErr, IsErrOf};
+ghost use Rattle.cts_io.specs.Device.{Rose, appended};
+ghost use Rattle.cts_program.specs.declared.command.Command.{Command};
 ghost use Rattle.cts_program.specs.declared.failure.Failure.{Failure};
+ghost use Rattle.cts_program.specs.declared.file_kind.FileKind.{FileKind};
+ghost use Rattle.cts_program.specs.Answers.{is_ending, IsAnswer, IsRefusal};
+ghost use Rattle.cts_program.specs.Commands.{IsCommand};
 ghost use Rattle.cts_program.specs.Failures.{status_of, failure_line, Reports};
-ghost use Rattle.cts_program.specs.Gateless.{IsGateless};
-ghost use Rattle.cts_program.specs.Run.{IsZeroCommand, IsNoCommand, IsShortFile, IsRefused, Answers, AnswersInPart, Fails};
+ghost use Rattle.cts_program.specs.Files.{files_of, AreTold};
+ghost use Rattle.cts_program.specs.Run.{IsNoCommand, TellsText, Refuses, CannotRead, Stops, Ends, EndsInPart, Fails, AreUnrisen};
+ghost use Rattle.cts_program.specs.Steps.{IsAnyReadFault};
 
+use crate::command::{Command, read_command};
+use crate::failure::Failure;
 use crate::zero::zero;
-use cts_io::{Inputs, Sink};
+use cts_io::{Inputs, Sink, write_whole};
 use std::alloc::Global;
 
 /// All that the program does: answers the words behind its name, and gives its exit status. A
@@ -19,52 +25,111 @@ pub fn run<I: Inputs, O: Sink, E: Sink>(
     out: &mut O,
     err: &mut E,
 ) -> u8
-    // 0: exactly where the words name a netlist without gates and its text is whole on the output.
-    ensures done { result ≡ 0 → (file : List ℕ) × IsZeroCommand (map string_bytes words.now) file
-        × ((bytes : List ℕ) → I.holds inputs.old file ≡ Some bytes → Answers bytes (O.written out.old) (O.written out.new)) }
-    ensures only { (file bytes before : List ℕ) → IsZeroCommand (map string_bytes words.now) file
-        → I.holds inputs.old file ≡ Some bytes → O.written out.old ≡ Some before
-        → Answers bytes (O.written out.old) (O.written out.new) → result ≡ 0 }
+    // 0 and 1: exactly where the words mean a command that has an answer with this status for what
+    // its files hold, and the text stands whole on the output.
+    ensures done { is_ending result ≡ true → Ends (map string_bytes words.now)
+        (I.holds inputs.old) result (O.written out.old) (O.written out.new) }
+    ensures only { (command : Command) (contents : List (List ℕ)) (status : ℕ) (text before : List ℕ)
+        → IsCommand (map string_bytes words.now) command
+        → AreTold (I.holds inputs.old) (files_of command) contents
+        → IsAnswer command contents status text → O.written out.old ≡ Some before
+        → O.written out.new ≡ appended (O.written out.old) text → result ≡ status }
 
     // 2: exactly where the words are no command. No file is touched then.
     ensures usage { (result ≡ 2) ↔ IsNoCommand (map string_bytes words.now) }
     ensures untouched { result ≡ 2 → inputs.new ≡ inputs.old }
 
-    // 3: exactly where the file is too long or its netlist has a fault (or a gate, so far), unless it
-    // can't be read or memory runs out.
-    ensures refused { result ≡ 3 → (file : List ℕ) × IsZeroCommand (map string_bytes words.now) file
-        × ((bytes : List ℕ) → I.holds inputs.old file ≡ Some bytes → IsRefused bytes) }
-    ensures refuses { (file bytes : List ℕ) → IsZeroCommand (map string_bytes words.now) file
-        → I.holds inputs.old file ≡ Some bytes → IsRefused bytes → (result ≡ 3) ⊎ ((result ≡ 4) ⊎ (result ≡ 6)) }
+    // 3: exactly where what the files hold makes the command refuse, unless a file can't be read or
+    // memory runs out.
+    ensures refused { result ≡ 3 → (command : Command) × IsCommand (map string_bytes words.now) command
+        × ((failure : Failure) × Refuses (I.holds inputs.old) command failure) }
+    ensures refuses { (command : Command) (contents : List (List ℕ)) (failure : Failure)
+        → IsCommand (map string_bytes words.now) command
+        → AreTold (I.holds inputs.old) (files_of command) contents
+        → IsRefusal command contents failure → (result ≡ 3) ⊎ ((result ≡ 4) ⊎ (result ≡ 6)) }
 
-    // 4 and 5: only where the count of the named file, or of the output, rose in this call.
-    ensures read_fault { result ≡ 4 → (file : List ℕ) × IsZeroCommand (map string_bytes words.now) file
-        × Rose (I.faults inputs.old file) (I.faults inputs.new file) }
+    // 4: exactly where the count of a file rose. It is one that the command reads, and the files
+    // before it are accepted.
+    ensures read_fault { result ≡ 4 → (command : Command) × IsCommand (map string_bytes words.now) command
+        × ((kind : FileKind) × CannotRead (I.holds inputs.old) (I.faults inputs.old) (I.faults inputs.new) command kind) }
+    ensures risen { (file : List ℕ) → I.faults inputs.old file < I.faults inputs.new file → result ≡ 4 }
+
+    // 5: exactly where the count of the output rose. A front of the text stands there.
     ensures write_fault { result ≡ 5 → Rose (O.faults out.old) (O.faults out.new) }
+    ensures part { result ≡ 5 → EndsInPart (map string_bytes words.now)
+        (I.holds inputs.old) (O.written out.old) (O.written out.new) }
+    ensures written { O.faults out.old < O.faults out.new → result ≡ 5 }
 
-    // With no fault of theirs a netlist without gates is answered, unless memory runs out.
-    ensures complete { (file bytes : List ℕ) → IsZeroCommand (map string_bytes words.now) file
-        → I.holds inputs.old file ≡ Some bytes → IsShortFile bytes → IsNetlist bytes → IsGateless bytes
-        → (Rose (I.faults inputs.old file) (I.faults inputs.new file) → ⊥)
-        → (Rose (O.faults out.old) (O.faults out.new) → ⊥) → (result ≡ 0) ⊎ (result ≡ 6) }
+    // With no fault of theirs a command that has an answer gives it, unless memory runs out.
+    ensures complete { (command : Command) (contents : List (List ℕ)) (status : ℕ) (text : List ℕ)
+        → IsCommand (map string_bytes words.now) command
+        → AreTold (I.holds inputs.old) (files_of command) contents
+        → IsAnswer command contents status text
+        → AreUnrisen (I.faults inputs.old) (I.faults inputs.new) (files_of command)
+        → (Rose (O.faults out.old) (O.faults out.new) → ⊥) → (result ≡ status) ⊎ (result ≡ 6) }
 
-    // Files hold what they held. The output keeps what it had, but for status 0 and, with a front of the text, status 5.
+    // Files hold what they held. The output keeps what it had.
     ensures files { (file : List ℕ) → I.holds inputs.new file ≡ I.holds inputs.old file }
-    ensures kept { result ≢ 0 → result ≢ 5 → O.written out.new ≡ O.written out.old }
-    ensures part { result ≡ 5 → (file bytes : List ℕ) → IsZeroCommand (map string_bytes words.now) file
-        → I.holds inputs.old file ≡ Some bytes → AnswersInPart bytes (O.written out.old) (O.written out.new) }
+    ensures kept { is_ending result ≢ true → result ≢ 5 → O.written out.new ≡ O.written out.old }
 
     // Every other status is that of a failure that has its cause, and whose line stands on `err`.
-    ensures quiet { result ≡ 0 → E.written err.new ≡ E.written err.old }
-    ensures told { result ≢ 0 → (failure : Failure) × (result ≡ status_of failure)
-        × Fails (map string_bytes words.now) (I.holds inputs.old) (I.faults inputs.old) (I.faults inputs.new) (O.faults out.old) (O.faults out.new) failure
+    ensures quiet { is_ending result ≡ true → E.written err.new ≡ E.written err.old }
+    ensures told { is_ending result ≢ true → (failure : Failure) × (result ≡ status_of failure)
+        × Fails (map string_bytes words.now) (I.holds inputs.old) (I.faults inputs.old)
+        (I.faults inputs.new) (O.written out.old) (O.written out.new) (O.faults out.old) (O.faults out.new) failure
         × Reports (failure_line failure) (E.written err.old) (E.faults err.old) (E.written err.new) (E.faults err.new) }
 {
-    match zero(alloc, words, inputs, out) {
+    match answer(alloc, words, inputs, out) {
         Ok(()) => 0,
         Err(failure) => {
             failure.report(err);
             failure.status()
         }
+    }
+}
+
+// Answers the words: the whole text is made before its first byte is written.
+fn answer<I: Inputs, O: Sink>(
+    alloc: Global,
+    words: &[String],
+    inputs: &mut I,
+    out: &mut O,
+) -> Result<(), Failure>
+    ensures done { IfOk result (λ _. Ends (map string_bytes words.now) (I.holds inputs.old) 0
+        (O.written out.old) (O.written out.new)) }
+    ensures cause { IfErr result (Fails (map string_bytes words.now) (I.holds inputs.old)
+        (I.faults inputs.old) (I.faults inputs.new) (O.written out.old) (O.written out.new)
+        (O.faults out.old) (O.faults out.new)) }
+    ensures files { (file : List ℕ) → I.holds inputs.new file ≡ I.holds inputs.old file }
+    ensures untouched { IsErrOf result Failure.Usage → inputs.new ≡ inputs.old }
+    ensures kept { IfErr result (λ failure. failure ≢ Failure.WriteFault
+        → O.written out.new ≡ O.written out.old) }
+    ensures reads { ¬ IsAnyReadFault result
+        → (file : List ℕ) → I.faults inputs.new file ≡ I.faults inputs.old file }
+    ensures writes { ¬ IsErrOf result Failure.WriteFault → O.faults out.new ≡ O.faults out.old }
+{
+    let command = read_command(alloc, words)?;
+    let text = command_text(alloc, inputs, command)?;
+    match write_whole(out, &text) {
+        Ok(()) => Ok(()),
+        Err(_) => Err(Failure::WriteFault),
+    }
+}
+
+// The text that a command answers.
+fn command_text<I: Inputs>(
+    alloc: Global,
+    inputs: &mut I,
+    command: Command,
+) -> Result<Vec<u8>, Failure>
+    ensures ok { IfOk result (λ text. TellsText (I.holds inputs.old) command.entry 0 text.items) }
+    ensures cause { IfErr result (Stops (I.holds inputs.old) (I.faults inputs.old)
+        (I.faults inputs.new) command.entry) }
+    ensures files { (file : List ℕ) → I.holds inputs.new file ≡ I.holds inputs.old file }
+    ensures stays { ¬ IsAnyReadFault result
+        → (file : List ℕ) → I.faults inputs.new file ≡ I.faults inputs.old file }
+{
+    match command {
+        Command::Zero { bench, tech } => zero(alloc, inputs, bench, tech),
     }
 }

@@ -1,100 +1,78 @@
 //! The command `zero`: the least period at equal arrivals.
 
-ghost use Rattle.std.specs.Prelude.{◌≡◌, ◌≢◌, ℕ, List, map, Some, string_bytes, OnOk, IfOk, IfErr, IsErrOf, IfSome, IsNone, MatchBool};
-ghost use Rattle.cts_program.specs.Gateless.{HasNoGates};
-ghost use Rattle.cts_program.specs.Run.{is_value, IsZeroCommand, IsShortFile, IsZeroAnswer, Answers, AnswersInPart, FailsNetlist, FailsFile, Fails};
+ghost use Rattle.std.specs.Prelude.{◌≡◌, ℕ, List, IfOk, IfErr};
+ghost use Rattle.cts_model.specs.Hosts.{HasNoHost};
+ghost use Rattle.cts_model.specs.PairLists.{JoinsMoreThan};
+ghost use Rattle.cts_model.specs.Paths.{IsLoop};
+ghost use Rattle.cts_program.specs.Judged.{IsHostedBy};
+ghost use Rattle.cts_program.specs.Run.{TellsText, Stops};
+ghost use Rattle.cts_program.specs.Steps.{FailsCircuit, IsAnyReadFault};
+ghost use Rattle.cts_program.specs.Texts.{IsZeroText};
 
+use crate::command::Command;
 use crate::failure::Failure;
-use crate::zero_skew::zero_skew;
+use crate::files::{read_netlist, read_table};
 use crate::zero_text::zero_text;
-use bench_reader::read_bench;
-use cts_io::{Inputs, Sink, read_whole, write_whole};
-use cts_model::{Signal, Tech};
+use cts_base::NoMemory;
+use cts_io::Inputs;
+use cts_model::{Circuit, Tech, with_host};
+use path_delays::{LevelFault, PairFault, levels, pair_delays};
 use std::alloc::Global;
+use timing_report::zero_skew;
 
-/// The most bytes that a file may have.
-const FILE_LIMIT: usize = 16_777_216;
-
-/// Answers the words of the command: the whole text is made before its first byte is written.
-pub fn zero<I: Inputs, O: Sink>(
+/// The text for the netlist in a file, with the delays in another or the built-in ones.
+pub fn zero<I: Inputs>(
     alloc: Global,
-    words: &[String],
     inputs: &mut I,
-    out: &mut O,
-) -> Result<(), Failure>
-    ensures done { OnOk result ((file : List ℕ) × IsZeroCommand (map string_bytes words.now) file
-        × ((bytes : List ℕ) → I.holds inputs.old file ≡ Some bytes → Answers bytes (O.written out.old) (O.written out.new))) }
-    ensures cause { IfErr result (Fails (map string_bytes words.now) (I.holds inputs.old)
-        (I.faults inputs.old) (I.faults inputs.new) (O.faults out.old) (O.faults out.new)) }
+    bench: &str,
+    tech: Option<&str>,
+) -> Result<Vec<u8>, Failure>
+    ensures ok { IfOk result (λ text. TellsText (I.holds inputs.old)
+        (Command.Zero bench.entry tech.entry) 0 text.items) }
+    ensures cause { IfErr result (Stops (I.holds inputs.old) (I.faults inputs.old)
+        (I.faults inputs.new) (Command.Zero bench.entry tech.entry)) }
     ensures files { (file : List ℕ) → I.holds inputs.new file ≡ I.holds inputs.old file }
-    ensures untouched { IsErrOf result Failure.Usage → inputs.new ≡ inputs.old }
-    ensures kept { IfErr result (λ failure. failure ≢ Failure.WriteFault → O.written out.new ≡ O.written out.old) }
-    ensures part { IsErrOf result Failure.WriteFault → (file bytes : List ℕ) → IsZeroCommand (map string_bytes words.now) file
-        → I.holds inputs.old file ≡ Some bytes → AnswersInPart bytes (O.written out.old) (O.written out.new) }
+    ensures stays { ¬ IsAnyReadFault result
+        → (file : List ℕ) → I.faults inputs.new file ≡ I.faults inputs.old file }
 {
-    let Some(file) = netlist_file(words) else {
-        return Err(Failure::Usage);
-    };
-    let text = zero_answer(alloc, inputs, file)?;
-    match write_whole(out, &text) {
-        Ok(()) => Ok(()),
-        Err(_) => Err(Failure::WriteFault),
+    let bare = read_netlist(alloc, inputs, bench)?;
+    match tech {
+        None => circuit_text(alloc, &bare, &Tech::plain(alloc)),
+        Some(file) => {
+            let tech = read_table(alloc, inputs, file, &bare)?;
+            let circuit = hosted(alloc, bare, &tech)?;
+            circuit_text(alloc, &circuit, &tech)
+        }
     }
 }
 
-// The file that the words name.
-fn netlist_file(words: &[String]) -> Option<&str>
-    ensures some { IfSome result (λ file. IsZeroCommand (map string_bytes words.now) file.now) }
-    ensures none { IsNone result → (file : List ℕ) → IsZeroCommand (map string_bytes words.now) file → ⊥ }
+// The circuit with the host, where the table gives it a place.
+fn hosted(alloc: Global, circuit: Circuit, tech: &Tech) -> Result<Circuit, NoMemory>
+    requires { HasNoHost circuit }
+    ensures { IfOk result (IsHostedBy tech.now circuit) }
 {
-    let [command, option, file] = words else {
-        return None;
-    };
-    let file = file.as_str();
-    if command.as_str() == "zero" && option.as_str() == "--bench" && is_value(file) {
-        Some(file)
+    if tech.host.is_empty() {
+        Ok(circuit)
     } else {
-        None
+        with_host(alloc, circuit)
     }
 }
 
-fn is_value(word: &str) -> bool
-    ensures { result ≡ is_value word.now }
+// The text for a circuit and its delays.
+fn circuit_text(alloc: Global, circuit: &Circuit, tech: &Tech) -> Result<Vec<u8>, Failure>
+    requires { (loop : List ℕ) → IsLoop circuit.now.signals loop → ⊥ }
+    ensures few { IfOk result (λ _. JoinsMoreThan circuit.now 1048576 → ⊥) }
+    ensures text { IfOk result (λ text. IsZeroText circuit.now tech.now text.items) }
+    ensures cause { IfErr result (FailsCircuit circuit.now) }
 {
-    match word.as_bytes() {
-        [] | [b'-', ..] => false,
-        _ => true,
+    let levels = match levels(alloc, circuit) {
+        Ok(levels) => levels,
+        Err(LevelFault::Loop(_)) => unreachable!(),
+        Err(LevelFault::NoMemory) => return Err(Failure::NoMemory),
+    };
+    match pair_delays(alloc, circuit, &levels, tech) {
+        Ok(pairs) => Ok(zero_text(alloc, circuit, tech, &zero_skew(&pairs, tech))?),
+        Err(PairFault::TooManyPairs) => Err(Failure::Pairs),
+        Err(PairFault::NoMemory) => Err(Failure::NoMemory),
     }
-}
-
-// The text for the netlist in a file.
-fn zero_answer<I: Inputs>(alloc: Global, inputs: &mut I, file: &str) -> Result<Vec<u8>, Failure>
-    ensures ok { IfOk result (λ text. (bytes : List ℕ) → I.holds inputs.old file.now ≡ Some bytes
-        → IsShortFile bytes × IsZeroAnswer bytes text.items) }
-    ensures cause { IfErr result (FailsFile (I.holds inputs.old file.now) (I.faults inputs.old file.now) (I.faults inputs.new file.now)) }
-    ensures files { (other : List ℕ) → I.holds inputs.new other ≡ I.holds inputs.old other }
-{
-    let bytes = read_whole(alloc, inputs, file, FILE_LIMIT)?;
-    netlist_answer(alloc, &bytes)
-}
-
-// The text for a netlist.
-fn netlist_answer(alloc: Global, bytes: &[u8]) -> Result<Vec<u8>, Failure>
-    requires { IsShortFile bytes.now }
-    ensures ok { IfOk result (λ text. IsZeroAnswer bytes.now text.items) }
-    ensures cause { IfErr result (FailsNetlist bytes.now) }
-{
-    let circuit = read_bench(alloc, bytes)?;
-    if has_gate(circuit.signals.as_slice()) {
-        return Err(Failure::Gates);
-    }
-    let tech = Tech::plain(alloc);
-    let outcome = zero_skew(&circuit, &tech);
-    Ok(zero_text(alloc, &circuit, &tech, &outcome)?)
-}
-
-fn has_gate(signals: &[Signal]) -> bool
-    ensures { MatchBool result (HasNoGates signals.now → ⊥) (HasNoGates signals.now) }
-{
-    signals.iter().any(|signal| signal.kind.is_gate())
 }

@@ -1,7 +1,7 @@
 ghost use Rattle.std.specs.Prelude.{◌≡◌, ◌<◌, ◌++◌, ◌∷◌, [], length, map, OnOk, IfOk, IsSome, slice_get, codes};
 ghost use Rattle.std.specs.Fmt.{signed_decimal};
 ghost use Rattle.cts_model.specs.EqualArrivals.{IsZeroSkew};
-ghost use Rattle.cts_program.specs.Gateless.{HasSmallDelays};
+ghost use Rattle.cts_model.specs.PairLists.{HasSmallDelays};
 ghost use Rattle.cts_program.specs.Texts.{line_of, text_of, zero_lines, constraint_line};
 
 use cts_base::NoMemory;

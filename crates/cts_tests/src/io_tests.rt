@@ -54,7 +54,8 @@ fn reads_whole_files_in_pieces(rt: HostRuntime) -> Result<(), Fail> {
     Ok(())
 }
 
-// In pieces of 4 the file is started by call 1, calls 2 to 4 take its bytes, and call 5 finds its end.
+// In pieces of 4 the file is started by call 1, calls 2 to 4 take its bytes, and call 5 finds its
+// end.
 #[test]
 fn tells_each_read_that_fails(rt: HostRuntime) -> Result<(), Fail> {
     let alloc = rt.alloc();

@@ -11,3 +11,13 @@ mod delay_tests;
 mod io_tests;
 #[cfg(test)]
 mod model_tests;
+#[cfg(test)]
+mod number_tests;
+#[cfg(test)]
+mod pair_tests;
+#[cfg(test)]
+mod place_tests;
+#[cfg(test)]
+mod rect_tests;
+#[cfg(test)]
+mod table_tests;

@@ -16,7 +16,7 @@ follows_parts signals (gate ∷ front) back first last (reads, chain) =
     let parts = follows_parts signals front back gate last chain in (parts.0, (reads, parts.1), parts.2)
 
 -- two chains that meet are one
-follows_joined : (signals : List Signal) (front back : List ℕ) (first middle last : ℕ) → Follows signals first front middle → Follows signals middle back last
+pub follows_joined : (signals : List Signal) (front back : List ℕ) (first middle last : ℕ) → Follows signals first front middle → Follows signals middle back last
     → Follows signals first (front ++ back) last
 follows_joined signals [] back first middle last same chain = subst (λ n. Follows signals n back last) (sym same) chain
 follows_joined signals (gate ∷ front) back first middle last (reads, chain) rest = (reads, follows_joined signals front back gate middle last chain rest)

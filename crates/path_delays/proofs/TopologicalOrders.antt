@@ -23,7 +23,7 @@ place_of order gate (place, within, here) = (place, slice_get-get_or order place
 
 module _ (signals : List Signal) (order : List ℕ) (sorted : IsTopologicalOrder signals order) where
   -- a gate stands before each that reads it
-  before_reader : (read reader place later : ℕ) → slice_get order place ≡ Some read → slice_get order later ≡ Some reader → Reads signals reader read → IsGate signals read → place < later
+  pub before_reader : (read reader place later : ℕ) → slice_get order place ≡ Some read → slice_get order later ≡ Some reader → Reads signals reader read → IsGate signals read → place < later
   before_reader read reader place later here there reads is_one =
       let found = sorted.after later reader read there reads is_one in
       let near : found.0 < later = omega (arith, found.1, length-take later order) in

@@ -4,3 +4,14 @@ pub mod Grouped
 pub mod GroupParts
 pub mod GateReads
 pub mod Sorted
+pub mod NumberSets
+pub mod SumParts
+pub mod Networks
+pub mod LevelParts
+pub mod Handing
+pub mod Reaches
+pub mod Walking
+pub mod WalkParts
+pub mod CapturedSums
+pub mod JoinedPairs
+pub mod ExtremePaths

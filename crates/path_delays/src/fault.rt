@@ -1,5 +1,6 @@
 ghost use Rattle.std.specs.Prelude.{◌≡◌};
 ghost use Rattle.path_delays.specs.declared.fault.LevelFault.TheVariants as fault;
+ghost use Rattle.path_delays.specs.declared.fault.PairFault.TheVariants as pair_fault;
 
 use cts_base::{Listed, NoMemory};
 use std::alloc::{AllocError, AllocFailed};
@@ -35,5 +36,30 @@ impl<T: Drop> From<AllocFailed<T>> for LevelFault {
 
     fn from(_refused: AllocFailed<T>) -> LevelFault {
         LevelFault::NoMemory
+    }
+}
+
+/// Why the delays of a circuit's pairs aren't listed.
+#[derive(Clone, Copy, Debug, PartialEq, Eq)]
+pub enum PairFault {
+    /// More than 1,048,576 pairs of registers are joined by paths.
+    TooManyPairs,
+    /// Memory was refused.
+    NoMemory,
+}
+
+impl From<NoMemory> for PairFault {
+    ghost from_gives = { λ _ given. given ≡ pair_fault.NoMemory };
+
+    fn from(_refused: NoMemory) -> PairFault {
+        PairFault::NoMemory
+    }
+}
+
+impl<T: Drop> From<AllocFailed<T>> for PairFault {
+    ghost from_gives = { λ _ given. given ≡ pair_fault.NoMemory };
+
+    fn from(_refused: AllocFailed<T>) -> PairFault {
+        PairFault::NoMemory
     }
 }

@@ -1,14 +1,27 @@
-//! Orders the gates of a netlist, or names a loop that they form.
+//! Orders the gates of a netlist, or names a loop that they form, and finds the delays over all
+//! paths between its registers.
 #![tactic(auto)]
 
+mod extreme_path;
 mod fault;
+mod gate_delays;
 mod gate_reads;
 mod groups;
 mod level_list;
 mod loop_search;
+mod network;
+mod number_set;
 mod order;
+mod pair;
+mod pairs;
+mod reach;
 mod sorting;
+mod sums;
+mod walk;
 
-pub use fault::LevelFault;
+pub use extreme_path::path_of;
+pub use fault::{LevelFault, PairFault};
 pub use level_list::Levels;
 pub use order::levels;
+pub use pair::pair_delay;
+pub use pairs::pair_delays;

@@ -19,5 +19,5 @@ loop-rest-preserved g c =
       done = i.done ++ take n c.loop-rest.rest.now;
       parts = rw c.split_at.ensures.back (append-moved _ i.done c.loop-rest.rest.now n i.parts);
       written = c.in_ok-taken.ensures.ok ∙ ap (λ told. appended told (take n c.loop-rest.rest.now)) i.written ∙ appended-appended _ _ _;
-      count = omega arith;
+      stays = c.in_ok-taken.ensures.stays ∙ i.stays;
     }

@@ -1,6 +1,6 @@
-use Rattle.std.proofs.Common.{[], ◌∷◌, ◌++◌, codes, append_assoc, arith, subst, sym}
+use Rattle.std.proofs.Common.{[], ◌∷◌, ◌++◌, codes}
 use Rattle.std.proofs.lemmas.Result.{err_from_is_err_and}
-use Rattle.cts_program.specs.Failures.{spaced, Writes}
+use Rattle.cts_program.specs.Failures.{spaced}
 use Rattle.cts_program.proofs.PieceLemmas.{front_failed, writes_behind, whole_writes}
 use Rattle.cts_program.proofs.failure.write_loop.Goals as goal
 

@@ -1,4 +1,4 @@
-use Rattle.std.proofs.Common.{arith, Err, sym, subst, ◌∷◌}
+use Rattle.std.proofs.Common.{arith, ◌∷◌}
 use Rattle.std.proofs.lemmas.Result.{err_from_is_err_and}
 use Rattle.cts_program.proofs.PieceLemmas.{pieces_cut}
 use Rattle.cts_program.proofs.failure.write_names.Goals as goal

@@ -1,0 +1,5 @@
+use Rattle.cts_base.proofs.DecimalLemmas.{digits_tested}
+use Rattle.cts_base.proofs.number.parts.are_digits.Goals as goal
+
+pub returns : goal.returns
+returns c = digits_tested c.all_ascii_digits.result c.args.bytes.now c.all_ascii_digits.ensures

@@ -1,0 +1,54 @@
+ghost use Rattle.std.specs.Prelude.{◌≡◌, ◌^◌, ◌≤◌, ◌↔◌, ℤ, pos, neg_ℤ, if◌then◌else◌, IfOk, length, MatchResult};
+ghost use Rattle.std.specs.Result.{IsErrOf};
+ghost use Rattle.cts_base.specs.Decimals.{IsDecimal, IsRead, IsFineEnough, IsAboveLimit, Refuses};
+
+use crate::number::parts::{begins_with_minus, is_decimal};
+use crate::number::size::size_of;
+
+mod parts;
+mod scale;
+mod size;
+
+/// Why a text is refused as a number, in the order in which the faults are judged.
+#[derive(Clone, Copy, Debug, PartialEq, Eq)]
+pub enum NumberFault {
+    /// The text hasn't the form of a number.
+    NotNumber,
+    /// The value is no multiple of 10^-6.
+    TooFine,
+    /// The size of the value is above 10^9.
+    TooLarge,
+}
+
+/// Reads a decimal number as millionths, exactly, however large its exponent. It takes no memory.
+pub fn read_micro(text: &[u8]) -> Result<i64, NumberFault>
+    requires { length text.now ≤ 16777216 }
+    ensures ok { IfOk result (IsRead text.now) }
+    ensures not_number { IsErrOf result NumberFault.NotNumber ↔ (¬ (IsDecimal text.now)) }
+    ensures too_fine { IsErrOf result NumberFault.TooFine
+        ↔ (IsDecimal text.now × ¬ (IsFineEnough text.now)) }
+    ensures too_large { IsErrOf result NumberFault.TooLarge
+        ↔ (IsDecimal text.now × IsFineEnough text.now × IsAboveLimit text.now) }
+{
+    judged(text)
+}
+
+fn judged(text: &[u8]) -> Result<i64, NumberFault>
+    requires { length text.now ≤ 16777216 }
+    ensures { MatchResult result (IsRead text.now) (Refuses text.now) }
+{
+    if !is_decimal(text) {
+        return Err(NumberFault::NotNumber);
+    }
+    match size_of(text) {
+        Ok(size) => Ok(signed(begins_with_minus(text), size)),
+        Err(fault) => Err(fault),
+    }
+}
+
+fn signed(minus: bool, size: u64) -> i64
+    requires { size ≤ 10 ^ 15 }
+    ensures { result ≡ (if minus then neg_ℤ (pos size) else pos size) }
+{
+    if minus { -(size as i64) } else { size as i64 }
+}

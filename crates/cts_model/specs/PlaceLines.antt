@@ -1,0 +1,97 @@
+-- The lines of a placement in the Bookshelf format (.pl), with this project's choice of spellings.
+-- What a line says is told by its words, its comment cut off.
+use Rattle.std.specs.Prelude.{ℕ, Bool, true, false, not, ◌==◌, ◌&&◌, ◌||◌, List, [], ◌∷◌, length, take, drop, Option, Some, None, if◌then◌else◌, codes}
+use Rattle.std.specs.Option.{option_map}
+use Rattle.std.specs.List.{prefix_len, list_any}
+use Rattle.std.specs.Str.{bytes_eq, str_eq_ignore_ascii_case}
+use Rattle.cts_base.specs.Words.{words_of, before_hash, is_not_empty}
+
+-- a node's line: its name and its coordinates as they are written
+pub record Node : Type 0 where
+  pub name : List ℕ
+  pub x : List ℕ
+  pub y : List ℕ
+
+-- what a line is
+pub data Entry : Type 0 where
+  Blank : Entry
+  Header : Entry
+  Stands : (node : Node) → Entry
+
+-- any byte but the colon before an orientation
+abbrev pub is_not_colon : ℕ → Bool
+is_not_colon byte = not (byte == 58)
+
+-- the word has that byte in front
+abbrev pub begins_with : ℕ → List ℕ → Bool
+begins_with byte [] = false
+begins_with byte (first ∷ rest) = first == byte
+
+-- a compass point, turned over or not, in any case of its letters
+abbrev pub is_orientation : List ℕ → Bool
+is_orientation word =
+    str_eq_ignore_ascii_case word (codes "N") || str_eq_ignore_ascii_case word (codes "S")
+    || str_eq_ignore_ascii_case word (codes "E") || str_eq_ignore_ascii_case word (codes "W")
+    || str_eq_ignore_ascii_case word (codes "FN") || str_eq_ignore_ascii_case word (codes "FS")
+    || str_eq_ignore_ascii_case word (codes "FE") || str_eq_ignore_ascii_case word (codes "FW")
+
+-- what is left of a word, if anything is, and the words behind it
+abbrev pub part_and : List ℕ → List (List ℕ) → List (List ℕ)
+part_and part words = if is_not_empty part then part ∷ words else words
+
+-- nothing, or one word that begins with `/`
+abbrev pub is_remark : List (List ℕ) → Bool
+is_remark [] = true
+is_remark (word ∷ rest) = begins_with 47 word && (length rest == 0)
+
+-- an orientation, and a remark if wanted
+abbrev pub is_oriented : List (List ℕ) → Bool
+is_oriented [] = false
+is_oriented (word ∷ rest) = is_orientation word && is_remark rest
+
+-- what may stand behind y: a colon with an orientation if wanted, and a remark if wanted
+abbrev pub is_tail : List (List ℕ) → Bool
+is_tail [] = true
+is_tail (word ∷ rest) =
+    if begins_with 58 word then is_oriented (part_and (drop 1 word) rest)
+    else is_remark (word ∷ rest)
+
+-- y is as much of its word as stands before a colon
+abbrev pub y_len : List ℕ → ℕ
+y_len word = prefix_len is_not_colon word
+
+-- the node of a line, by its name, its x and the words behind x
+abbrev pub node_of : (name x : List ℕ) → List (List ℕ) → Option Node
+node_of name x [] = None
+node_of name x (word ∷ rest) =
+    let y = take (y_len word) word in
+    if is_not_empty y && is_tail (part_and (drop (y_len word) word) rest)
+    then Some (record { name = name; x = x; y = y }) else None
+
+-- the words that a header begins with
+abbrev pub is_header : (first second : List ℕ) → Bool
+is_header first second = bytes_eq first (codes "UCLA") && bytes_eq second (codes "pl")
+
+-- what a line with these words is; only the first line that isn't blank may be the header
+abbrev pub entry_of_words : (begun : Bool) → List (List ℕ) → Option Entry
+entry_of_words begun [] = Some Blank
+entry_of_words begun (first ∷ []) = None
+entry_of_words begun (first ∷ second ∷ rest) =
+    if not begun && is_header first second then Some Header
+    else option_map Stands (node_of first second rest)
+
+-- the words of a line
+abbrev pub place_words : List ℕ → List (List ℕ)
+place_words line = words_of (before_hash line)
+
+-- the line has a word
+abbrev pub is_not_blank : List ℕ → Bool
+is_not_blank line = not (length (place_words line) == 0)
+
+-- one of these lines isn't blank
+abbrev pub has_begun : List (List ℕ) → Bool
+has_begun lines = list_any is_not_blank lines
+
+-- what a line is behind these lines, if it has a form
+abbrev pub entry_behind : (earlier : List (List ℕ)) → List ℕ → Option Entry
+entry_behind earlier line = entry_of_words (has_begun earlier) (place_words line)

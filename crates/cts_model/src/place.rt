@@ -1,0 +1,60 @@
+ghost use Rattle.std.specs.Prelude.{◌≡◌, ◌*◌, ◌^◌, pos, ◌≤ℤ◌, ◌<ℤ◌};
+ghost use Rattle.cts_model.specs.Points.{IsBelow, IsPointBelow, apart, distance, turned, turned_distance};
+
+use cts_base::Listed;
+
+/// A point of the plane.
+#[derive(Clone, Copy, Debug, PartialEq, Eq)]
+pub struct Point {
+    /// Rightwards.
+    pub x: i128,
+    /// Upwards.
+    pub y: i128,
+}
+
+/// A point by the sum and the difference of its coordinates.
+#[derive(Clone, Copy, Debug, PartialEq, Eq)]
+pub struct Uv {
+    /// x + y.
+    pub u: i128,
+    /// x - y.
+    pub v: i128,
+}
+
+/// A register as the clock tree sees it.
+#[derive(Clone, Copy, Debug, PartialEq, Eq)]
+pub struct Sink {
+    /// Where it stands.
+    pub at: Uv,
+    /// What the wire down to it counts beyond its length: minus its scheduled length.
+    pub offset: i128,
+}
+
+/// Where the nodes of a circuit stand, in micros.
+#[derive(Debug, Drop)]
+pub struct Places {
+    /// Where the clock comes from.
+    pub source: Point,
+    /// The registers, by their numbers.
+    pub registers: Listed<Point>,
+}
+
+/// The length of the shortest wire from one point to another along x and y. It takes no memory.
+pub fn manhattan(a: Point, b: Point) -> i128
+    requires from { IsPointBelow (10 ^ 33) a }
+    requires to { IsPointBelow (10 ^ 33) b }
+    ensures value { result ≡ distance a b }
+    ensures turned { result ≡ turned_distance (turned a) (turned b) }
+{
+    apart(a.x, b.x) + apart(a.y, b.y)
+}
+
+fn apart(a: i128, b: i128) -> i128
+    requires from { IsBelow (10 ^ 33) a }
+    requires to { IsBelow (10 ^ 33) b }
+    ensures value { result ≡ apart a b }
+    ensures low { pos 0 ≤ℤ result }
+    ensures high { result <ℤ pos (2 * 10 ^ 33) }
+{
+    (a - b).max(b - a)
+}

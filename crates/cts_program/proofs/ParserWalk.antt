@@ -1,0 +1,154 @@
+-- How `clap` walks over options with their values.
+use Rattle.std.proofs.Common.{◌≡◌, ◌||◌, ◌++◌, Bool, true, false, cond, List, [], ◌∷◌, map, fold, Some, None, IsTrue, refl, sym, ap, ◌∙◌, subst, true≢false, codes, ◌==◌}
+use Rattle.std.specs.Str.{bytes_eq}
+use Rattle.std.specs.List.{AllByRecursion, list_all}
+use Rattle.std.specs.Cmp.Lexicographic.{nat_list_eq_equiv}
+use Rattle.std.proofs.Math.Bool.{and-true}
+use Rattle.std.proofs.lemmas.List.{append-nil, append_assoc}
+use Rattle.clap.specs.Lexer.{long_of, short_of}
+use Rattle.clap.specs.Walk.{Held, Row, Rule, Text, Walk, option, arg_by_id, arg_by_long, at_row, default_rows, has_row, more_values, nothing_held, reading_by, rows_after, settled, walk, walk_from, walked, with_default}
+use Rattle.clap.specs.Simple.{Shape, filled}
+use Rattle.clap.specs.Takes.{default_passes, is_valid, level_passes, settle_passes, turn_passes, walk_passes}
+use Rattle.clap.specs.declared.parser.matches.ValueSource.TheVariants.{CommandLine}
+use Rattle.clap.specs.declared.builder.value_parser.Reading.TheVariants.{AsWritten}
+use Rattle.cts_program.specs.Commands.{Word, Given, is_value, option_words}
+use Rattle.cts_program.proofs.GivenOptions.{is_false}
+use Rattle.cts_program.specs.Parsers.{long_name, rule_for}
+
+-- the row that an option and its value leave
+abbrev pub row_for : Given → Row
+row_for one = record { id = one.0; values = one.1 ∷ []; count = None; source = Some CommandLine; reading = AsWritten }
+
+-- the arguments have one for the option, and its word is read as that option without a value
+pub record IsReadBy (rules : List Rule) (word : Word) : Type 0 where
+  pub required : Bool
+  pub by_id : arg_by_id rules word ≡ Some (filled (rule_for (word, required)))
+  pub by_long : arg_by_long rules (long_name word) ≡ Some (filled (rule_for (word, required)))
+  pub long : long_of word ≡ Some (long_name word, None)
+  pub option : bytes_eq word (codes "--") ≡ false
+
+-- ---- rows
+
+-- a row that isn't there comes to the end
+at_row-absent : (id : Text) (change : Row → List Row) (missing rows : List Row) → has_row id rows ≡ false → at_row id change missing rows ≡ rows ++ missing
+at_row-absent id change missing [] absent = refl
+at_row-absent id change missing (row ∷ rows) absent = at (bytes_eq row.id id) refl (λ rest. at_row-absent id change missing rows rest)
+  where
+    at : (same : Bool) → bytes_eq row.id id ≡ same → (has_row id rows ≡ false → at_row id change missing rows ≡ rows ++ missing)
+        → at_row id change missing (row ∷ rows) ≡ (row ∷ rows) ++ missing
+    at true same rest = absurd (true≢false (sym (ap (λ test. test || has_row id rows) same) ∙ absent))
+    at false same rest = rw same (ap (λ xs. row ∷ xs) (rest (sym (ap (λ test. test || has_row id rows) same) ∙ absent)))
+
+-- ---- one option and its value
+
+-- the word is no option, for the parser
+record IsNoOption (value : Word) : Type 0 where
+  end : bytes_eq value (codes "--") ≡ false
+  long : long_of value ≡ None
+  short : short_of value ≡ None
+
+-- what may be a value is none
+no_option : (value : Word) → IsTrue (is_value value) → IsNoOption value
+no_option [] plain = absurd (true≢false (sym plain))
+no_option (byte ∷ bytes) plain =
+    let apart = is_false (byte == 45) plain in
+    record { end = rw apart refl; long = rw apart refl; short = rw apart refl }
+
+module _ (s : Shape) (word value : Word) (h : Held) where
+  -- what is held after the option's word, and after its value
+  abbrev after_word : Held
+  after_word = record (settled s.rules h) { pending = Some (word, []) }
+
+  abbrev pub after_value : Held
+  after_value = record (settled s.rules h) { pending = Some (word, value ∷ []) }
+
+  abbrev between : Walk
+  between = record { held = after_word; waiting = option word; position = 1; is_trailing = false; stopped = None }
+
+  -- the option's word waits for a value
+  walked-word : IsReadBy s.rules word → walked s.rules [] (walk_from h) word ≡ between
+  unfolding walked
+  walked-word read = rw (read.option, read.long, read.by_long) refl
+
+  -- it passes where what was pending does
+  turn-word : IsReadBy s.rules word → turn_passes s [] (walk_from h) word ≡ settle_passes s.rules s.args_override_self h
+  turn-word read = rw (read.option, read.long, read.by_long) (and-true (settle_passes s.rules s.args_override_self h))
+
+  -- the value is taken
+  walked-value : IsReadBy s.rules word → IsNoOption value → walked s.rules [] between value ≡ walk_from after_value
+  unfolding walked
+  walked-value read plain = rw (plain.end, plain.long, plain.short, read.by_id, nat_list_eq_equiv.refl word) refl
+
+  -- it passes
+  turn-value : IsNoOption value → turn_passes s [] between value ≡ true
+  turn-value plain = rw (plain.end, plain.long, plain.short) refl
+
+  -- what is pending then passes, where the option is used for the first time
+  settles-after : IsReadBy s.rules word → has_row word (settled s.rules h).rows ≡ false → settle_passes s.rules s.args_override_self after_value ≡ true
+  settles-after read absent = rw (read.by_id, absent) refl
+
+  -- and it leaves its row
+  rows-after : IsReadBy s.rules word → has_row word (settled s.rules h).rows ≡ false → (settled s.rules after_value).rows ≡ (settled s.rules h).rows ++ row_for (word, value) ∷ []
+  rows-after read absent =
+      let rows = (settled s.rules h).rows in
+      rw (read.by_id, at_row-absent word (λ _. []) [] rows absent, append-nil rows)
+      (at_row-absent word (more_values CommandLine (value ∷ [])) (row_for (word, value) ∷ []) rows absent)
+
+-- ---- all options and their values
+
+-- each option comes for the first time
+abbrev pub Fresh : List Row → List Given → Type 0
+Fresh rows [] = Unit {0}
+Fresh rows (one ∷ more) = (has_row one.0 rows ≡ false) × Fresh (rows ++ row_for one ∷ []) more
+
+-- the walk over options and their values passes, and leaves their rows
+pub record Walks (s : Shape) (h : Held) (given : List Given) : Type 0 where
+  pub passes : walk_passes s [] (walk_from h) (option_words given) ≡ true
+  pub held : Held
+  pub ends : walk s.rules [] h (option_words given) ≡ walk_from held
+  pub settles : settle_passes s.rules s.args_override_self held ≡ true
+  pub rows : (settled s.rules held).rows ≡ (settled s.rules h).rows ++ map row_for given
+
+-- where what was pending passes, so does the walk over options that are read and come for the first time
+pub walks : (s : Shape) (given : List Given) (h : Held) → settle_passes s.rules s.args_override_self h ≡ true
+    → AllByRecursion (λ one. IsReadBy s.rules one.0 × IsTrue (is_value one.1)) given → Fresh (settled s.rules h).rows given → Walks s h given
+unfolding walk_passes
+walks s [] h settles reads fresh = record { passes = refl; held = h; ends = refl; settles = settles; rows = sym (append-nil (settled s.rules h).rows) }
+walks s (one ∷ more) h settles reads fresh =
+    let read = reads.0.0 in
+    let plain = no_option one.1 reads.0.1 in
+    let added = rows-after s one.0 one.1 h read fresh.0 in
+    let rest = walks s more (after_value s one.0 one.1 h) (settles-after s one.0 one.1 h read fresh.0) reads.1 (subst (λ (rows : List Row). Fresh rows more) (sym added) fresh.1) in
+    record {
+      passes = rw (turn-word s one.0 one.1 h read, settles, walked-word s one.0 one.1 h read, turn-value s one.0 one.1 h plain, walked-value s one.0 one.1 h read plain) rest.passes;
+      held = rest.held;
+      ends = ap (λ (w : Walk). fold (walked s.rules []) w (one.1 ∷ option_words more)) (walked-word s one.0 one.1 h read)
+          ∙ ap (λ (w : Walk). fold (walked s.rules []) w (option_words more)) (walked-value s one.0 one.1 h read plain) ∙ rest.ends;
+      settles = rest.settles;
+      rows = rest.rows ∙ ap (λ (rows : List Row). rows ++ map row_for more) added ∙ append_assoc (settled s.rules h).rows (row_for one ∷ []) (map row_for more);
+    }
+
+-- ---- after the walk
+
+-- an argument without defaults adds no row
+with_default-none : (rows : List Row) (rule : Rule) → rule.defaults ≡ [] → with_default rows rule ≡ rows
+with_default-none rows rule none = at (has_row rule.id rows) none
+  where
+    at : (there : Bool) → rule.defaults ≡ [] → cond there rows (default_rows rule.id (reading_by rule) rule.defaults rows) ≡ rows
+    at true none = refl
+    at false none = rw none refl
+
+-- arguments without defaults add no rows
+finished-none : (rules : List Rule) (rows : List Row) → AllByRecursion (λ rule. rule.defaults ≡ []) rules → fold with_default rows rules ≡ rows
+finished-none [] rows none = refl
+finished-none (rule ∷ rules) rows none = rw (with_default-none rows rule none.0) (finished-none rules rows none.1)
+
+-- a level of the parse passes that has these options and their values
+pub level-walks : (s : Shape) (given : List Given) → Walks s nothing_held given → list_all default_passes s.rules ≡ true → AllByRecursion (λ rule. rule.defaults ≡ []) s.rules
+    → is_valid s (map row_for given) false ≡ true → level_passes s [] nothing_held (option_words given) false ≡ true
+level-walks s given w defaults none valid =
+    rw (w.passes, w.ends, w.settles, defaults, finished-none s.rules (settled s.rules w.held).rows none, w.rows) valid
+
+-- and it leaves their rows
+pub rows_after-walks : (s : Shape) (given : List Given) → Walks s nothing_held given → AllByRecursion (λ rule. rule.defaults ≡ []) s.rules → rows_after s.rules [] (option_words given) ≡ map row_for given
+rows_after-walks s given w none = rw (w.ends, finished-none s.rules (settled s.rules w.held).rows none) w.rows

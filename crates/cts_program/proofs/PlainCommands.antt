@@ -1,0 +1,207 @@
+-- Words that mean a command pass the reader's test, and no others do.
+use Rattle.std.proofs.Common.{◌≡◌, ◌≤◌, ◌-◌, ◌++◌, Bool, true, false, List, [], ◌∷◌, is_some, option_map, unwrap_or, length, take, drop, map, Option, Some, None, IsTrue, refl, sym, ap, ap₂, ◌∙◌, arith, get_or, codes}
+use Rattle.std.specs.Borrow.{Bor}
+use Rattle.std.specs.Str.{bytes_eq}
+use Rattle.std.specs.List.{All, AllByRecursion, IsDistinct, list_all}
+use Rattle.std.specs.List.Sorted.{IsPermutation}
+use Rattle.std.specs.Map.{keys_of}
+use Rattle.std.specs.Cmp.Lexicographic.{nat_list_eq_equiv}
+use Rattle.std.proofs.lemmas.Slice.Eq.{bytes_eq-Decides}
+use Rattle.std.proofs.lemmas.List.{take_all}
+use Rattle.std.proofs.lemmas.List.Elements.{All-cons, All-nil, All-head, All-drop}
+use Rattle.std.proofs.lemmas.List.Sorted.{IsPermutation-sym, IsPermutation-map, All-permutation, Contains-permutation}
+use Rattle.std.proofs.lemmas.Map.Keys.{IsDistinct-IsPermutation, IsDistinct-head, IsDistinct-tail}
+use Rattle.std.proofs.lemmas.Map.Views.{Contains-from_lookup, lookup-from_Contains}
+use Rattle.cts_program.specs.declared.command.Command.{Command}
+use Rattle.cts_program.specs.declared.command.Command.TheVariants as command
+use Rattle.cts_program.specs.declared.command.table.Form.{Form}
+use Rattle.cts_program.specs.declared.command.table.Form.TheVariants.{Zero}
+use Rattle.cts_program.specs.Commands.{Word, Given, is_value, name_of, options_of, option_words, IsCommand, IsSame}
+use Rattle.cts_program.specs.PlainWords.{form_of, form_name, choices_of, is_known, has_option, are_options, has_required, listed_one, listed, IsPlain}
+use Rattle.cts_program.proofs.GivenOptions.{both, value_of, has_option-given, given_of, values_pass, IsRow, listed_of, listed-permutes}
+
+-- ---- values in another order
+
+-- options that differ have the same values in any order
+value_of-permutes : (option : Word) (given other : List Given) → IsDistinct bytes_eq (keys_of given) → IsPermutation given other → value_of option other ≡ value_of option given
+value_of-permutes option given other distinct moved = at (value_of option given) refl (value_of option other) refl
+  where
+    is_word : (x y : Word) → bytes_eq x y ≡ true → x ≡ y
+    is_word x y = (bytes_eq-Decides x y).0
+
+    distinct' : IsDistinct bytes_eq (keys_of other)
+    distinct' = IsDistinct-IsPermutation bytes_eq nat_list_eq_equiv.symm (keys_of given) (keys_of other) (IsPermutation-map (λ one. one.0) given other moved) distinct
+
+    forward : (value : Word) → value_of option given ≡ Some value → value_of option other ≡ Some value
+    forward value is = lookup-from_Contains nat_list_eq_equiv option value other distinct'
+        (Contains-permutation given other (option, value) moved (Contains-from_lookup is_word option value given is))
+
+    backward : (value : Word) → value_of option other ≡ Some value → value_of option given ≡ Some value
+    backward value is = lookup-from_Contains nat_list_eq_equiv option value given distinct
+        (Contains-permutation other given (option, value) (IsPermutation-sym given other moved) (Contains-from_lookup is_word option value other is))
+
+    at : (o : Option Word) → value_of option given ≡ o → (o' : Option Word) → value_of option other ≡ o' → value_of option other ≡ value_of option given
+    at None is None is' = is' ∙ sym is
+    at None is (Some value) is' = is' ∙ sym (backward value is')
+    at (Some value) is o' is' = forward value is ∙ sym is
+
+-- ---- pairs that pass
+
+-- the option is one of this row
+abbrev IsKnownTo : List (Word × Bool) → Given → Type 0
+IsKnownTo choices one = is_known choices one.0 ≡ true
+
+-- an option that differs from all doesn't stand among them
+apart_none : (option : Word) (given : List Given) → AllByRecursion (λ other. bytes_eq option other ≡ false) (keys_of given) → has_option option (option_words given) ≡ false
+unfolding has_option
+apart_none option [] apart = refl
+apart_none option (one ∷ more) apart = rw (apart.0, apart_none option more apart.1) refl
+
+-- options of a row that differ, with values, pass the reader's test
+are_options-given : (choices : List (Word × Bool)) (given : List Given) → IsDistinct bytes_eq (keys_of given) → All (IsKnownTo choices) given
+    → All (λ one. IsTrue (is_value one.1)) given → are_options choices (option_words given) ≡ true
+unfolding are_options
+are_options-given choices [] distinct known values = refl
+are_options-given choices (one ∷ more) distinct known values =
+    rw (
+      All-head (IsKnownTo choices) one more known,
+      All-head (λ one. IsTrue (is_value one.1)) one more values,
+      apart_none one.0 more (IsDistinct-head bytes_eq one.0 (keys_of more) distinct),
+    )
+    (are_options-given choices more (IsDistinct-tail bytes_eq one.0 (keys_of more) distinct)
+    (All-drop (IsKnownTo choices) 1 (one ∷ more) known) (All-drop (λ one. IsTrue (is_value one.1)) 1 (one ∷ more) values))
+
+-- ---- the rows of the commands
+
+-- no command's row has an option twice
+is_row : (form : Form) → IsRow (choices_of form)
+is_row Zero = (refl, (refl, tt))
+
+-- a command's name is that of its form
+name_of-form : (command : Command) → name_of command ≡ form_name (form_of command)
+name_of-form (command.Zero bench tech) = refl
+
+-- forms with one name are one
+one_form : (form other : Form) → form_name form ≡ form_name other → form ≡ other
+one_form Zero Zero same = refl
+
+-- the options of a command differ
+options_differ : (command : Command) → IsDistinct bytes_eq (keys_of (options_of command))
+unfolding IsDistinct
+options_differ (command.Zero bench None) = (tt, tt)
+options_differ (command.Zero bench (Some tech)) = ((refl, tt), (tt, tt))
+
+-- options that all pass the test for a row are of that row
+all_known : (choices : List (Word × Bool)) (given : List Given) → list_all (λ one. is_known choices one.0) given ≡ true → All (IsKnownTo choices) given
+all_known choices [] pass = All-nil (IsKnownTo choices)
+all_known choices (one ∷ more) pass =
+    let known = both (is_known choices one.0) (list_all (λ one. is_known choices one.0) more) pass in
+    All-cons (IsKnownTo choices) one more known.0 (all_known choices more known.1)
+
+-- the options of a command are those of its row
+options_known : (command : Command) → All (IsKnownTo (choices_of (form_of command))) (options_of command)
+options_known (command.Zero bench None) = all_known (choices_of Zero) (options_of (command.Zero bench None)) refl
+options_known (command.Zero bench (Some tech)) = all_known (choices_of Zero) (options_of (command.Zero bench (Some tech))) refl
+
+-- and each option that the row requires has its value
+options_required : (command : Command) (given : List Given) → IsPermutation (options_of command) given → has_required (choices_of (form_of command)) (option_words given) ≡ true
+options_required (command.Zero bench tech) given moved =
+    let value : value_of (codes "--bench") given ≡ Some bench.now =
+    value_of-permutes (codes "--bench") (options_of (command.Zero bench tech)) given (options_differ (command.Zero bench tech)) moved in
+    rw (has_option-given (codes "--bench") given, value) refl
+
+-- ---- words that are no command
+
+-- no command has a name that no form has
+pub unnamed : (words : List Word) (name : Word) (others : List Word) → words ≡ name ∷ others → ((form : Form) → form_name form ≡ name → ⊥) → (command : Command) → IsCommand words command → ⊥
+unnamed words name others is none command means =
+    none (form_of command) (sym (name_of-form command) ∙ ap (λ (ws : List Word). get_or ws 0 name) (sym means.words_are ∙ is))
+
+-- what a command's words say of what stands behind its name
+pub command_passes : (words : List Word) (form : Form) (others : List Word) → words ≡ form_name form ∷ others → (command : Command) → IsCommand words command
+    → (are_options (choices_of form) others ≡ true) × (has_required (choices_of form) others ≡ true)
+command_passes words form others is command means =
+    let name : form_of command ≡ form =
+    one_form (form_of command) form (sym (name_of-form command) ∙ ap (λ (ws : List Word). get_or ws 0 []) (sym means.words_are ∙ is)) in
+    let rest : option_words means.given ≡ others = ap (λ (ws : List Word). drop 1 ws) (sym means.words_are ∙ is) in
+    let differ = IsDistinct-IsPermutation bytes_eq nat_list_eq_equiv.symm (keys_of (options_of command)) (keys_of means.given)
+    (IsPermutation-map (λ one. one.0) (options_of command) means.given means.options) (options_differ command) in
+    let known = All-permutation (IsKnownTo (choices_of (form_of command))) (options_of command) means.given means.options (options_known command) in
+    rw (← name, ← rest) (are_options-given (choices_of (form_of command)) means.given differ known means.values, options_required command means.given means.options)
+
+-- ---- lists of words that were read one by one
+
+-- the first word, and those behind it as a slice pattern gives them
+pub first_word : {X : Type 0} (read : X → Word) (words : List X) (first : X) → 1 ≤ length words → first ≡ get_or words 0 first
+    → map read words ≡ read first ∷ map read (take (length words - 1) (drop 1 words))
+first_word read [] first enough is = absurd (omega arith)
+first_word read (x ∷ more) first enough is = rw (take_all (length (x ∷ more) - 1) more (omega arith), is) refl
+
+-- ---- plain words mean a command
+
+-- a command that has the values that stand in plain words is meant by them
+pub means_command : (words : List Word) (form : Form) → IsPlain words form → (value : Word → Option Word)
+    → ((given : List Given) → words ≡ form_name form ∷ option_words given → (word : Word) → value word ≡ value_of word given)
+    → (command : Command) → form_of command ≡ form → options_of command ≡ listed value (choices_of form) → IsCommand words command
+means_command words form plain value same command has options =
+    let pairs = given_of (choices_of form) plain.others plain.options in
+    let given = pairs.0 in
+    let pass : are_options (choices_of form) (option_words given) ≡ true = rw (← pairs.1) plain.options in
+    let is : words ≡ form_name form ∷ option_words given = plain.words_are ∙ ap (λ others. form_name form ∷ others) pairs.1 in
+    let listed_is : listed value (choices_of form) ≡ listed_of (choices_of form) given = λ i. listed (λ word. same given is word i) (choices_of form) in
+    record {
+      given = given;
+      words_are = is ∙ ap (λ name. name ∷ option_words given) (sym (name_of-form command ∙ ap form_name has));
+      options = rw (options, listed_is) (IsPermutation-sym given (listed_of (choices_of form) given) (listed-permutes (choices_of form) given (is_row form) pass));
+      values = values_pass (choices_of form) given pass;
+    }
+
+-- ---- words mean one command
+
+-- the options of a command are those of its row that have values
+options_listed : (command : Command) (given : List Given) → IsPermutation (options_of command) given → options_of command ≡ listed_of (choices_of (form_of command)) given
+options_listed (command.Zero bench None) given moved =
+    let same = λ (word : Word). value_of-permutes word (options_of (command.Zero bench None)) given (options_differ (command.Zero bench None)) moved in
+    rw (same (codes "--bench"), same (codes "--tech")) refl
+options_listed (command.Zero bench (Some tech)) given moved =
+    let same = λ (word : Word). value_of-permutes word (options_of (command.Zero bench (Some tech))) given (options_differ (command.Zero bench (Some tech))) moved in
+    rw (same (codes "--bench"), same (codes "--tech")) refl
+
+-- words are options with values in one way
+one_given : (given other : List Given) → option_words given ≡ option_words other → given ≡ other
+one_given [] [] same = refl
+one_given [] (two ∷ more) same = cc
+one_given (one ∷ more) [] same = cc
+one_given (one ∷ more) (two ∷ others) same =
+    λ i. (get_or (same i) 0 [], get_or (same i) 1 []) ∷ one_given more others (ap (λ (words : List Word). drop 2 words) same) i
+
+-- words mean one command at most
+pub one_command : (words : List Word) (command other : Command) → IsCommand words command → IsCommand words other → IsSame command other
+one_command words command other means means' =
+    let words_same = sym means.words_are ∙ means'.words_are in
+    let name : name_of command ≡ name_of other = ap (λ (ws : List Word). get_or ws 0 []) words_same in
+    let form : form_of command ≡ form_of other = one_form (form_of command) (form_of other) (sym (name_of-form command) ∙ name ∙ name_of-form other) in
+    let given : means.given ≡ means'.given = one_given means.given means'.given (ap (λ (ws : List Word). drop 1 ws) words_same) in
+    record {
+      name = name;
+      options = options_listed command means.given means.options ∙ ap₂ listed_of (ap choices_of form) given ∙ sym (options_listed other means'.given means'.options);
+    }
+
+-- ---- plain words mean a command, wherever its values stand
+
+zero_options : (borrowed : Word → Bor Word) → ((word : Word) → (borrowed word).now ≡ word) → (bench tech : Option Word) → is_some bench ≡ true
+    → options_of (command.Zero (borrowed (unwrap_or bench [])) (option_map borrowed tech)) ≡ listed_one (codes "--bench") bench ++ (listed_one (codes "--tech") tech ++ [])
+zero_options borrowed same None tech some = cc
+zero_options borrowed same (Some bench) None some = ap (λ (word : Word). (codes "--bench", word) ∷ []) (same bench)
+zero_options borrowed same (Some bench) (Some tech) some = ap₂ (λ (word other : Word). (codes "--bench", word) ∷ (codes "--tech", other) ∷ []) (same bench) (same tech)
+
+pub some_command : (borrowed : Word → Bor Word) → ((word : Word) → (borrowed word).now ≡ word) → (words : List Word) (form : Form) → IsPlain words form → (command : Command) × IsCommand words command
+some_command borrowed same words Zero plain =
+    let pairs = given_of (choices_of Zero) plain.others plain.options in
+    let value = λ (word : Word). value_of word pairs.0 in
+    let given_is = λ (given : List Given) (is : words ≡ form_name Zero ∷ option_words given) (word : Word).
+    ap (value_of word) (one_given pairs.0 given (sym pairs.1 ∙ ap (λ (ws : List Word). drop 1 ws) (sym plain.words_are ∙ is))) in
+    let required = both (has_option (codes "--bench") plain.others) true plain.required in
+    let bench : is_some (value (codes "--bench")) ≡ true = sym (has_option-given (codes "--bench") pairs.0) ∙ ap (has_option (codes "--bench")) (sym pairs.1) ∙ required.0 in
+    let meant = command.Zero (borrowed (unwrap_or (value (codes "--bench")) [])) (option_map borrowed (value (codes "--tech"))) in
+    (meant, means_command words Zero plain value given_is meant refl (zero_options borrowed same (value (codes "--bench")) (value (codes "--tech")) bench))

@@ -1,0 +1,42 @@
+-- What a command answers where its files have these contents: a text, or the first refusal.
+use Rattle.std.specs.Prelude.{◌≡◌, ◌==◌, ◌||◌, ℕ, Bool, List}
+use Rattle.cts_model.specs.declared.circuit.Circuit.{Circuit}
+use Rattle.cts_model.specs.declared.tech.Tech.{Tech}
+use Rattle.cts_model.specs.PairLists.{JoinsMoreThan}
+use Rattle.cts_program.specs.declared.command.Command.{Command}
+use Rattle.cts_program.specs.declared.command.Command.TheVariants.{Zero}
+use Rattle.cts_program.specs.declared.failure.Failure.{Failure}
+use Rattle.cts_program.specs.declared.failure.Failure.TheVariants.{Pairs}
+use Rattle.cts_program.specs.Files.{AreAll}
+use Rattle.cts_program.specs.Judged.{AreAccepted, IsFileRefusal, Tell}
+use Rattle.cts_program.specs.Texts.{IsZeroText}
+
+-- more pairs of registers are joined by paths than a circuit may have
+pub record JoinTooMany (contents : List (List ℕ)) : Type 0 where
+  pub circuit : Circuit
+  pub tech : Tech
+  pub tell : Tell contents circuit tech
+  pub many : JoinsMoreThan circuit 1048576
+
+-- the text is the one for the least period at equal arrivals
+pub record IsZeroAnswer (contents : List (List ℕ)) (text : List ℕ) : Type 0 where
+  pub accepted : AreAccepted contents
+  pub circuit : Circuit
+  pub tech : Tech
+  pub tell : Tell contents circuit tech
+  pub few : JoinsMoreThan circuit 1048576 → ⊥
+  pub spelled : IsZeroText circuit tech text
+
+-- the status of a text that is whole on the output
+abbrev pub is_ending : ℕ → Bool
+is_ending status = (status == 0) || (status == 1)
+
+-- the command answers with this status and this text
+abbrev pub IsAnswer : Command → List (List ℕ) → ℕ → List ℕ → Type 0
+IsAnswer (Zero bench tech) contents status text =
+    AreAll (Zero bench tech) contents × (status ≡ 0) × IsZeroAnswer contents text
+
+-- the first refusal of the command, on the contents of its files up to the one that is refused
+abbrev pub IsRefusal : Command → List (List ℕ) → Failure → Type 0
+IsRefusal command contents Pairs = AreAll command contents × JoinTooMany contents
+IsRefusal command contents failure = IsFileRefusal contents failure

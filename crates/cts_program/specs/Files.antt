@@ -1,0 +1,38 @@
+-- The files that a command reads, and what is known of their contents.
+use Rattle.std.specs.Prelude.{◌≡◌, ◌≤◌, ℕ, List, [], ◌∷◌, map, length, Option, Some, IfSome, option_to_list, codes}
+use Rattle.cts_program.specs.declared.file_kind.FileKind.{FileKind}
+use Rattle.cts_program.specs.declared.file_kind.FileKind.TheVariants.{Bench, Tech}
+use Rattle.cts_program.specs.declared.command.Command.{Command}
+use Rattle.cts_program.specs.declared.command.Command.TheVariants.{Zero}
+
+-- the word for a kind of file on the error output
+abbrev pub kind_word : FileKind → List ℕ
+kind_word Bench = codes "bench"
+kind_word Tech = codes "tech"
+
+-- the files that a command reads, in this order, each with its name
+abbrev pub files_of : Command → List (FileKind × List ℕ)
+files_of (Zero bench tech) =
+    (Bench, bench.now) ∷ map (λ file. (Tech, file.now)) (option_to_list tech)
+
+-- no file has more bytes
+abbrev pub IsShortFile : List ℕ → Type 0
+IsShortFile bytes = length bytes ≤ 16777216
+
+-- what the first of these files hold: where the device tells it, it tells these contents
+abbrev pub AreContents : (List ℕ → Option (List ℕ)) → List (FileKind × List ℕ) → List (List ℕ) → Type 0
+AreContents holds files [] = Unit {0}
+AreContents holds [] (bytes ∷ contents) = ⊥
+AreContents holds (file ∷ files) (bytes ∷ contents) =
+    IfSome (holds file.1) (λ told. told ≡ bytes) × AreContents holds files contents
+
+-- the device tells that the first of these files hold these contents
+abbrev pub AreTold : (List ℕ → Option (List ℕ)) → List (FileKind × List ℕ) → List (List ℕ) → Type 0
+AreTold holds files [] = Unit {0}
+AreTold holds [] (bytes ∷ contents) = ⊥
+AreTold holds (file ∷ files) (bytes ∷ contents) =
+    (holds file.1 ≡ Some bytes) × AreTold holds files contents
+
+-- these are the contents of all files that the command reads
+abbrev pub AreAll : Command → List (List ℕ) → Type 0
+AreAll command contents = length contents ≡ length (files_of command)

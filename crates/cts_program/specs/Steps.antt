@@ -1,0 +1,80 @@
+-- What one step of a command finds: a file that was read, or why the command stops there.
+use Rattle.std.specs.Prelude.{◌≡◌, ℕ, Bool, List, Option, IfSome, Result, IsErrOf}
+use Rattle.cts_io.specs.Device.{Rose}
+use Rattle.cts_model.specs.declared.signal.Signal.{Signal}
+use Rattle.cts_model.specs.declared.circuit.Circuit.{Circuit}
+use Rattle.cts_model.specs.declared.tech.Tech.{Tech}
+use Rattle.cts_model.specs.AcceptedTables.{AcceptsTable}
+use Rattle.cts_model.specs.Netlists.{AcceptsNetlist}
+use Rattle.cts_model.specs.PairLists.{JoinsMoreThan}
+use Rattle.cts_model.specs.UsedKinds.{AreUsedKinds}
+use Rattle.delay_tables.specs.declared.fault.TechFault.{TechFault}
+use Rattle.delay_tables.specs.declared.fault.TechFault.TheVariants as tech
+use Rattle.delay_tables.specs.Refusals.{Refuses}
+use Rattle.cts_program.specs.declared.failure.Failure.{Failure}
+use Rattle.cts_program.specs.declared.failure.Failure.TheVariants as failures
+use Rattle.cts_program.specs.declared.file_kind.FileKind.{FileKind}
+use Rattle.cts_program.specs.declared.file_kind.FileKind.TheVariants as kinds
+use Rattle.cts_program.specs.Files.{IsShortFile}
+use Rattle.cts_program.specs.Judged.{HasFault}
+
+-- these bytes are what a file holds, where the device tells it
+abbrev pub IsToldAs : Option (List ℕ) → List ℕ → Type 0
+IsToldAs held bytes = IfSome held (λ told. told ≡ bytes)
+
+-- a file isn't read: it is too long, or its count rose, or memory ran out
+abbrev pub FailsToReadFile : FileKind → Option (List ℕ) → ℕ → ℕ → Failure → Type 0
+FailsToReadFile kind held before now (failures.TooLong other) =
+    (kind ≡ other) × ((bytes : List ℕ) × IsToldAs held bytes × (IsShortFile bytes → ⊥))
+FailsToReadFile kind held before now (failures.ReadFault other) = (kind ≡ other) × Rose before now
+FailsToReadFile kind held before now failures.NoMemory = Unit {0}
+FailsToReadFile kind held before now _ = ⊥
+
+-- the netlist in a file tells this circuit
+pub record ReadsNetlist (held : Option (List ℕ)) (circuit : Circuit) : Type 0 where
+  pub bytes : List ℕ
+  pub told : IsToldAs held bytes
+  pub short : IsShortFile bytes
+  pub accepts : AcceptsNetlist bytes circuit
+
+-- a netlist isn't read, or has a fault
+abbrev pub FailsNetlist : Option (List ℕ) → ℕ → ℕ → Failure → Type 0
+FailsNetlist held before now (failures.Bench fault) =
+    (bytes : List ℕ) × IsToldAs held bytes × IsShortFile bytes × HasFault bytes fault
+FailsNetlist held before now failure = FailsToReadFile kinds.Bench held before now failure
+
+-- the delay table in a file tells these delays, and gives each gate kind of these signals
+pub record ReadsTable (signals : List Signal) (held : Option (List ℕ)) (tech : Tech) : Type 0 where
+  pub bytes : List ℕ
+  pub told : IsToldAs held bytes
+  pub short : IsShortFile bytes
+  pub used : List Bool
+  pub kinds : AreUsedKinds signals used
+  pub accepts : AcceptsTable used bytes tech
+
+-- a table has this fault
+pub record HasFaultFor (signals : List Signal) (bytes : List ℕ) (fault : TechFault) : Type 0 where
+  pub named : fault ≡ tech.NoMemory → ⊥
+  pub used : List Bool
+  pub kinds : AreUsedKinds signals used
+  pub cause : Refuses used bytes fault
+
+-- a delay table isn't read, or has a fault
+abbrev pub FailsTable : List Signal → Option (List ℕ) → ℕ → ℕ → Failure → Type 0
+FailsTable signals held before now (failures.Tech fault) =
+    (bytes : List ℕ) × IsToldAs held bytes × IsShortFile bytes × HasFaultFor signals bytes fault
+FailsTable signals held before now failure = FailsToReadFile kinds.Tech held before now failure
+
+-- more pairs are joined than a circuit may have, or memory ran out
+abbrev pub FailsCircuit : Circuit → Failure → Type 0
+FailsCircuit circuit failures.Pairs = JoinsMoreThan circuit 1048576
+FailsCircuit circuit failures.NoMemory = Unit {0}
+FailsCircuit circuit _ = ⊥
+
+-- the call answers that a file of this kind couldn't be read
+abbrev pub IsReadFault : {T : Type 0} → FileKind → Result T Failure → Type 0
+IsReadFault kind result = IsErrOf result (failures.ReadFault kind)
+
+-- or a file of any kind
+abbrev pub IsAnyReadFault : {T : Type 0} → Result T Failure → Type 0
+IsAnyReadFault result = (kind : FileKind) × IsReadFault kind result

@@ -1,0 +1,57 @@
+//! The commands and their options, as they stand in the usage line.
+
+ghost use Rattle.std.specs.Prelude.{◌≡◌, map, IfSome, IsNone};
+ghost use Rattle.cts_program.specs.declared.command.table.Form.{Form};
+ghost use Rattle.cts_program.specs.PlainWords.{choices_of, form_name, row_of};
+
+/// A command without the values of its options.
+#[derive(Clone, Copy, Debug, Drop, PartialEq)]
+pub enum Form {
+    Zero,
+}
+
+/// An option that stands at most once behind a command's name.
+#[derive(Clone, Copy, Debug, Drop)]
+pub struct Choice {
+    pub option: &'static str,
+    pub is_required: bool,
+}
+
+const FORMS: [Form; 1] = [Form::Zero];
+
+static ZERO: [Choice; 2] = [
+    Choice {
+        option: "--bench",
+        is_required: true,
+    },
+    Choice {
+        option: "--tech",
+        is_required: false,
+    },
+];
+
+impl Form {
+    pub fn name(self) -> &'static str
+        ensures { result.now ≡ form_name self }
+    {
+        match self {
+            Form::Zero => "zero",
+        }
+    }
+
+    pub fn choices(self) -> &'static [Choice]
+        ensures { map row_of result.now ≡ choices_of self }
+    {
+        match self {
+            Form::Zero => &ZERO,
+        }
+    }
+
+    /// The command with this name.
+    pub fn named(name: &str) -> Option<Form>
+        ensures some { IfSome result (λ form. form_name form ≡ name.now) }
+        ensures none { IsNone result → (form : Form) → form_name form ≡ name.now → ⊥ }
+    {
+        FORMS.iter().copied().find(|form| form.name() == name)
+    }
+}

@@ -1,0 +1,63 @@
+use crate::command::{Command, WordsFault, read_command};
+use std::alloc::{AllocError, Global};
+use std::test::Fail;
+
+// The words of a command line.
+fn words(alloc: Global, words: &[&str]) -> Result<Vec<String>, AllocError> {
+    let mut all = Vec::new(alloc);
+    for word in words {
+        all.push(String::from_str(alloc, word)?)?;
+    }
+    Ok(all)
+}
+
+#[test]
+fn reads_options_in_any_order(rt: HostRuntime) -> Result<(), Fail> {
+    let rows: [(&[&str], &str, Option<&str>); 5] = [
+        (&["zero", "--bench", "F"], "F", None),
+        (&["zero", "--bench", "F", "--tech", "G"], "F", Some("G")),
+        (&["zero", "--tech", "G", "--bench", "F"], "F", Some("G")),
+        // Both options may name one file.
+        (&["zero", "--bench", "F", "--tech", "F"], "F", Some("F")),
+        // A command's name is a value where a value stands.
+        (&["zero", "--bench", "zero"], "zero", None),
+    ];
+    for (row, bench, tech) in rows {
+        let words = words(rt.alloc(), row)?;
+        let command = read_command(rt.alloc(), words.as_slice());
+        assert_eq!(rt; command, Ok(Command::Zero { bench, tech }), "for {row:?}");
+    }
+    Ok(())
+}
+
+#[test]
+fn refuses_words_that_mean_no_command(rt: HostRuntime) -> Result<(), Fail> {
+    let rows: [&[&str]; 19] = [
+        &[],
+        &["zero"],
+        &["zero", "--bench"],
+        &["--tech", "F", "--bench", "F", "zero"],
+        &["zero", "--bench", "F", "--tech", "F", "--tech", "F"],
+        &["zero", "--bench", "a", "--bench", "b"],
+        &["zero", "--tech", "F"],
+        &["zero", "--bench=F"],
+        &["zero", "--bench", "F", "--"],
+        &["zero", "--bench", "F", "extra"],
+        &["zero", "--bench", "F", "--tech"],
+        &["zero", "--", "--bench", "F"],
+        &["zero", "bench", "F"],
+        &["Zero", "--bench", "F"],
+        &["zero", "--bench", ""],
+        &["zero", "--bench", "-F"],
+        &["--help"],
+        &["zero", "--help"],
+        // Not built yet.
+        &["period", "--bench", "F", "--tech", "F"],
+    ];
+    for row in rows {
+        let words = words(rt.alloc(), row)?;
+        let command = read_command(rt.alloc(), words.as_slice());
+        assert_eq!(rt; command, Err(WordsFault::Usage), "for {row:?}");
+    }
+    Ok(())
+}

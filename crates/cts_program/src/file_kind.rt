@@ -1,0 +1,23 @@
+ghost use Rattle.std.specs.Prelude.{◌≡◌};
+ghost use Rattle.cts_program.specs.Files.{kind_word};
+
+/// A file that commands read, in the order in which they are read.
+#[derive(Clone, Copy, Debug, PartialEq, Eq)]
+pub enum FileKind {
+    /// A netlist.
+    Bench,
+    /// A delay table.
+    Tech,
+}
+
+impl FileKind {
+    /// The word for it on the error output.
+    pub fn word(self) -> &'static [u8]
+        ensures { result.now ≡ kind_word self }
+    {
+        match self {
+            FileKind::Bench => b"bench",
+            FileKind::Tech => b"tech",
+        }
+    }
+}

@@ -1,0 +1,79 @@
+//! Reading a command's files.
+
+ghost use Rattle.std.specs.Prelude.{◌≡◌, ◌≤◌, ℕ, List, IfOk, IfErr};
+ghost use Rattle.cts_model.specs.Hosts.{HasNoHost};
+ghost use Rattle.cts_program.specs.Files.{IsShortFile};
+ghost use Rattle.cts_program.specs.Steps.{IsToldAs, FailsToReadFile, ReadsNetlist, FailsNetlist, ReadsTable, FailsTable, IsReadFault};
+
+use crate::failure::Failure;
+use crate::file_kind::FileKind;
+use bench_reader::read_bench;
+use cts_io::{Inputs, ReadWhole, read_whole};
+use cts_model::{Circuit, Tech, used_kinds};
+use delay_tables::read_tech;
+use std::alloc::Global;
+
+// The most bytes that a file may have.
+const FILE_LIMIT: usize = 16_777_216;
+
+/// The circuit that the netlist in a file tells.
+pub fn read_netlist<I: Inputs>(
+    alloc: Global,
+    inputs: &mut I,
+    file: &str,
+) -> Result<Circuit, Failure>
+    ensures ok { IfOk result (ReadsNetlist (I.holds inputs.old file.now)) }
+    ensures hostless { IfOk result HasNoHost }
+    ensures cause { IfErr result (FailsNetlist (I.holds inputs.old file.now)
+        (I.faults inputs.old file.now) (I.faults inputs.new file.now)) }
+    ensures files { (other : List ℕ) → I.holds inputs.new other ≡ I.holds inputs.old other }
+    ensures counts { (other : List ℕ) → I.faults inputs.old other ≤ I.faults inputs.new other }
+    ensures stays { ¬ IsReadFault FileKind.Bench result
+        → (other : List ℕ) → I.faults inputs.new other ≡ I.faults inputs.old other }
+{
+    let bytes = read_file(alloc, inputs, FileKind::Bench, file)?;
+    Ok(read_bench(alloc, &bytes)?)
+}
+
+/// The delays that the table in a file tells, for a circuit without the host.
+pub fn read_table<I: Inputs>(
+    alloc: Global,
+    inputs: &mut I,
+    file: &str,
+    circuit: &Circuit,
+) -> Result<Tech, Failure>
+    ensures ok { IfOk result (ReadsTable circuit.now.signals (I.holds inputs.old file.now)) }
+    ensures cause { IfErr result (FailsTable circuit.now.signals (I.holds inputs.old file.now)
+        (I.faults inputs.old file.now) (I.faults inputs.new file.now)) }
+    ensures files { (other : List ℕ) → I.holds inputs.new other ≡ I.holds inputs.old other }
+    ensures counts { (other : List ℕ) → I.faults inputs.old other ≤ I.faults inputs.new other }
+    ensures stays { ¬ IsReadFault FileKind.Tech result
+        → (other : List ℕ) → I.faults inputs.new other ≡ I.faults inputs.old other }
+{
+    let bytes = read_file(alloc, inputs, FileKind::Tech, file)?;
+    Ok(read_tech(alloc, &bytes, &used_kinds(circuit))?)
+}
+
+// The bytes of a file.
+fn read_file<I: Inputs>(
+    alloc: Global,
+    inputs: &mut I,
+    kind: FileKind,
+    file: &str,
+) -> Result<Vec<u8>, Failure>
+    ensures ok { IfOk result (λ bytes. IsToldAs (I.holds inputs.old file.now) bytes.items) }
+    ensures short { IfOk result (λ bytes. IsShortFile bytes.items) }
+    ensures cause { IfErr result (FailsToReadFile kind (I.holds inputs.old file.now)
+        (I.faults inputs.old file.now) (I.faults inputs.new file.now)) }
+    ensures files { (other : List ℕ) → I.holds inputs.new other ≡ I.holds inputs.old other }
+    ensures counts { (other : List ℕ) → I.faults inputs.old other ≤ I.faults inputs.new other }
+    ensures stays { ¬ IsReadFault kind result
+        → (other : List ℕ) → I.faults inputs.new other ≡ I.faults inputs.old other }
+{
+    match read_whole(alloc, inputs, file, FILE_LIMIT) {
+        Ok(bytes) => Ok(bytes),
+        Err(ReadWhole::Failed) => Err(Failure::ReadFault(kind)),
+        Err(ReadWhole::TooLong) => Err(Failure::TooLong(kind)),
+        Err(ReadWhole::NoMemory) => Err(Failure::NoMemory),
+    }
+}

@@ -1,0 +1,186 @@
+use bench_reader::read_bench;
+use cts_base::NumberFault;
+use cts_model::{Circuit, Places, Point, with_host};
+use place_reader::{PlaceFault, read_places};
+use std::alloc::Global;
+use std::process::Abort;
+use std::test::Fail;
+
+// The registers of s27 are G5, G6 and G7, in this order.
+const S27: &str = "\
+INPUT(G0)\nINPUT(G1)\nINPUT(G2)\nINPUT(G3)\nOUTPUT(G17)\n\
+G5 = DFF(G10)\nG6 = DFF(G11)\nG7 = DFF(G13)\nG14 = NOT(G0)\nG17 = NOT(G11)\n\
+G8 = AND(G14, G6)\nG15 = OR(G12, G8)\nG16 = OR(G3, G8)\nG9 = NAND(G16, G15)\n\
+G10 = NOR(G14, G11)\nG11 = NOR(G5, G9)\nG12 = NOR(G1, G7)\nG13 = NOR(G2, G12)\n";
+
+// Three registers and nothing else.
+const REGISTERS: &str = "G5 = DFF(G6)\nG6 = DFF(G7)\nG7 = DFF(G5)\n";
+
+fn at(x: i128, y: i128) -> Point {
+    Point { x, y }
+}
+
+// What a placement tells of the registers and the source of a netlist without a host.
+fn read(
+    rt: &impl Abort,
+    alloc: Global,
+    netlist: &str,
+    text: &str,
+    source: &str,
+) -> Result<Result<Places, PlaceFault>, Fail> {
+    assert!(rt; netlist.len() <= 16_777_216 && text.len() <= 16_777_216);
+    let circuit = read_bench(alloc, netlist.as_bytes())?;
+    Ok(read_places(alloc, text.as_bytes(), &circuit, source.as_bytes(), b""))
+}
+
+// The same with the host, which stands at a node of its own.
+fn read_hosted(
+    rt: &impl Abort,
+    alloc: Global,
+    text: &str,
+    host: &str,
+) -> Result<Result<Places, PlaceFault>, Fail> {
+    assert!(rt; text.len() <= 16_777_216);
+    assert!(rt; !host.is_empty());
+    let circuit = with_host(alloc, read_bench(alloc, REGISTERS.as_bytes())?)?;
+    Ok(read_places(alloc, text.as_bytes(), &circuit, b"CLK", host.as_bytes()))
+}
+
+#[test]
+fn reads_a_placement_of_s27(rt: HostRuntime) -> Result<(), Fail> {
+    for text in [
+        "UCLA pl 1.0\nG5 0 0 : N\nG6 4 2 : N\nG7 10 0 : N\nCLK 5 10 : N /FIXED\n",
+        "UCLA pl 1.0\n# from a placer\nG5 0.000000 0 : N\nG6 4 2 : FS /FIXED\n\
+p1 77.1234567 3 : N\nG7 1e+01 0.0\nCLK 5 10 :N /FIXED_NI\n",
+    ] {
+        let places = read(&rt, rt.alloc(), S27, text, "CLK")??;
+        assert_eq!(rt; places.source, at(5_000_000, 10_000_000), "at {text:?}");
+        let wanted = [at(0, 0), at(4_000_000, 2_000_000), at(10_000_000, 0)];
+        assert_eq!(rt;
+            places.registers.as_slice(),
+            wanted.as_slice(),
+            "at {text:?}"
+        );
+    }
+    Ok(())
+}
+
+// G5 at (1, 2), G6 at (3, 4), G7 at (5, 6) and the source at (7, 8), in millionths.
+#[test]
+fn takes_lenient_spellings(rt: HostRuntime) -> Result<(), Fail> {
+    for text in [
+        "G5 1e-6 2e-6\nG6 3e-6 4e-6\nG7 5e-6 6e-6\nCLK 7e-6 8e-6",
+        // Any order, any orientation and its spelling, a remark with or without it.
+        "CLK 7e-6 8e-6:fw\nG7 5e-6 6e-6: Fe\nG6 3e-6 4e-6 :S /\nG5 1e-6 2e-6 /a:b\n",
+        "CLK 7e-6 8e-6\t:\tw /\nG7 5e-6 6e-6\nG6 3e-6 4e-6\nG5 1e-6 2e-6\n",
+        // The header is the first line that isn't blank.
+        "\r\n# UCLA\r\n\tUCLA\tpl#1\r\nG5 1e-6 2e-6\r\nG6 3e-6 4e-6\nG7 5e-6 6e-6\nCLK 7e-6 8e-6",
+        // Further on and in another case it names a node.
+        "ucla pl 1.0\nUCLA pl 1.0\nG5 1e-6 2e-6\nG6 3e-6 4e-6\nG7 5e-6 6e-6\nCLK 7e-6 8e-6",
+        "UCLA pl\nUCLA pl 1\nUCLA pl 1\nG5 1e-6 2e-6\nG6 3e-6 4e-6\nG7 5e-6 6e-6\nCLK 7e-6 8e-6",
+        "UCLA pl: 1\nG5 1e-6 2e-6\nG6 3e-6 4e-6\nG7 5e-6 6e-6\nCLK 7e-6 8e-6",
+        // Any other node is passed over, whatever its numbers are and how often it stands there.
+        "p x.y 1\np 1e-9 x.y\nG5 1e-6 2e-6\np ::: 1\nG6 3e-6 4e-6\nG7 5e-6 6e-6\nCLK 7e-6 8e-6",
+    ] {
+        let places = read(&rt, rt.alloc(), REGISTERS, text, "CLK")??;
+        assert_eq!(rt; places.source, at(7, 8), "at {text:?}");
+        let wanted = [at(1, 2), at(3, 4), at(5, 6)];
+        assert_eq!(rt;
+            places.registers.as_slice(),
+            wanted.as_slice(),
+            "at {text:?}"
+        );
+    }
+    Ok(())
+}
+
+#[test]
+fn refuses_lines(rt: HostRuntime) -> Result<(), Fail> {
+    for (text, fault) in [
+        ("UCLA pl\nG5 0 0 : N/FIXED", PlaceFault::BadLine(2)),
+        ("G5 0 0 : X", PlaceFault::BadLine(1)),
+        ("G5 0 0 : N /FIXED /MORE", PlaceFault::BadLine(1)),
+        ("G5 0 0 /FIXED : N", PlaceFault::BadLine(1)),
+        ("G5 0 0 :", PlaceFault::BadLine(1)),
+        ("G5 0 : N", PlaceFault::BadLine(1)),
+        ("\nG5", PlaceFault::BadLine(2)),
+        ("G5 0", PlaceFault::BadLine(1)),
+        ("ucla pl\nG5 0 0", PlaceFault::BadLine(1)),
+        ("UCLA pl\nUCLA pl", PlaceFault::BadLine(2)),
+        // So is the line of a node that isn't wanted.
+        ("p 0 0 : X", PlaceFault::BadLine(1)),
+        (
+            "UCLA pl 1.0\nG5 1000000000.000001 0 : N",
+            PlaceFault::BadNumber(2, NumberFault::TooLarge),
+        ),
+        (
+            "UCLA pl 1.0\n# from a placer\nG5 0.0000001 0 : N",
+            PlaceFault::BadNumber(3, NumberFault::TooFine),
+        ),
+        (
+            "UCLA pl 1.0\nG5 0 - : N",
+            PlaceFault::BadNumber(2, NumberFault::NotNumber),
+        ),
+        // x is judged before y.
+        (
+            "UCLA pl 1.0\nG5 - 1e-7",
+            PlaceFault::BadNumber(2, NumberFault::NotNumber),
+        ),
+        ("CLK 0 1e-7", PlaceFault::BadNumber(1, NumberFault::TooFine)),
+        ("G5 0 0\nG6 1 1\nG5 0 0", PlaceFault::PlaceTwice(3)),
+        ("CLK 0 0\np 1 1\nCLK 1 1", PlaceFault::PlaceTwice(3)),
+        // Numbers are judged before that.
+        (
+            "G5 0 0\nG5 x 0",
+            PlaceFault::BadNumber(2, NumberFault::NotNumber),
+        ),
+    ] {
+        let refused = read(&rt, rt.alloc(), REGISTERS, text, "CLK")?.err();
+        assert_eq!(rt; refused, Some(fault), "at {text:?}");
+    }
+    Ok(())
+}
+
+#[test]
+fn misses_places(rt: HostRuntime) -> Result<(), Fail> {
+    for (text, source, fault) in [
+        ("", "CLK", PlaceFault::NoPlace(0)),
+        ("UCLA pl", "CLK", PlaceFault::NoPlace(0)),
+        ("G5 0 0\nG7 0 0\nCLK 0 0", "CLK", PlaceFault::NoPlace(1)),
+        ("G5 0 0\nG6 0 0\ng7 0 0", "CLK", PlaceFault::NoPlace(2)),
+        ("G5 0 0\nG6 0 0\nG7 0 0", "CLK", PlaceFault::NoSource),
+        ("G5 0 0\nG6 0 0\nG7 0 0\nC 0 0", "C K", PlaceFault::NoSource),
+    ] {
+        let refused = read(&rt, rt.alloc(), REGISTERS, text, source)?.err();
+        assert_eq!(rt; refused, Some(fault), "at {text:?}");
+    }
+    Ok(())
+}
+
+#[test]
+fn places_one_node_for_two(rt: HostRuntime) -> Result<(), Fail> {
+    let text = "G7 5e-6 6e-6\nG6 3e-6 4e-6\nG5 1e-6 2e-6";
+    let places = read(&rt, rt.alloc(), REGISTERS, text, "G5")??;
+    assert_eq!(rt; places.source, at(1, 2));
+    let wanted = [at(1, 2), at(3, 4), at(5, 6)];
+    assert_eq!(rt; places.registers.as_slice(), wanted.as_slice());
+    Ok(())
+}
+
+#[test]
+fn places_the_host(rt: HostRuntime) -> Result<(), Fail> {
+    let text = "(host) x y\nG5 0 1e-6\nG6 0 2e-6\nG7 0 3e-6\nCLK 0 4e-6\nPAD 0 5e-6";
+    for (host, place) in [("PAD", 5), ("CLK", 4), ("G6", 2)] {
+        let places = read_hosted(&rt, rt.alloc(), text, host)??;
+        assert_eq!(rt; places.source, at(0, 4), "at {host:?}");
+        let wanted = [at(0, 1), at(0, 2), at(0, 3), at(0, place)];
+        assert_eq!(rt;
+            places.registers.as_slice(),
+            wanted.as_slice(),
+            "at {host:?}"
+        );
+    }
+    let refused = read_hosted(&rt, rt.alloc(), text, "pad")?.err();
+    assert_eq!(rt; refused, Some(PlaceFault::NoPlace(3)));
+    Ok(())
+}

@@ -1,0 +1,204 @@
+use cts_model::{Kind, Tech};
+use delay_tables::{TechFault, read_tech};
+use std::alloc::Global;
+use std::test::Fail;
+
+// The five gate kinds of the ISCAS'89 circuit s27, in the order of `Kind`.
+const USED: [bool; 8] = [true, true, true, true, true, false, false, false];
+
+const TABLE: &str = "[wire]
+delay = \"1/1\"
+[source]
+place = \"CLK\"
+[register]
+setup = 1
+hold = 1
+least = 1
+greatest = 2
+[gate.NOT]
+least = 1
+greatest = 2
+[gate.NAND]
+least = 1
+greatest = 2
+[gate.NOR]
+least = 1
+greatest = 2
+[gate.AND]
+least = 2
+greatest = 3
+[gate.OR]
+least = 2
+greatest = 3
+";
+
+// What a table tells, or the number of its fault and the name.
+fn answer(alloc: Global, bytes: &[u8]) -> Result<String, Fail> {
+    let (number, name) = match read_tech(alloc, bytes, &USED) {
+        Ok(tech) => return table_text(alloc, &tech),
+        Err(TechFault::NotToml) => return Ok(format!(in alloc; "1")?),
+        Err(TechFault::Missing(name)) => (2, name),
+        Err(TechFault::WrongType(name)) => (3, name),
+        Err(TechFault::OutOfRange(name)) => (4, name),
+        Err(TechFault::LeastAboveGreatest(name)) => (5, name),
+        Err(TechFault::MissingKind(kind)) => return Ok(format!(in alloc; "6 {kind:?}")?),
+        Err(TechFault::UnknownKey(name)) => (7, name),
+        Err(TechFault::NoMemory) => return Ok(format!(in alloc; "8")?),
+    };
+    let name = String::from_utf8_lossy(alloc, name.as_slice())?;
+    Ok(format!(in alloc; "{number} {name}")?)
+}
+
+fn table_text(alloc: Global, tech: &Tech) -> Result<String, Fail> {
+    let source = String::from_utf8_lossy(alloc, tech.source.as_slice())?;
+    let host = String::from_utf8_lossy(alloc, tech.host.as_slice())?;
+    Ok(format!(in alloc;
+        "{}/{} {source} {host} {}",
+        tech.wire_num, tech.wire_den, tech.floor
+    )?)
+}
+
+// The table with one text in the place of another.
+fn changed(alloc: Global, old: &str, new: &str) -> Result<String, Fail> {
+    let (front, back) = TABLE.split_once(old).ok_or("not in the table")?;
+    Ok(format!(in alloc; "{front}{new}{back}")?)
+}
+
+#[test]
+fn reads_the_table_of_s27(rt: HostRuntime) -> Result<(), Fail> {
+    let tech = read_tech(rt.alloc(), TABLE.as_bytes(), &USED)?;
+    assert_eq!(rt; (tech.wire_num, tech.wire_den), (1, 1));
+    assert_eq!(rt; tech.source.as_slice(), b"CLK".as_slice());
+    assert!(rt; tech.host.is_empty());
+    assert_eq!(rt;
+        (tech.setup, tech.hold, tech.least, tech.greatest, tech.floor),
+        (1, 1, 1, 2, 0)
+    );
+    let or = tech.gates[2];
+    assert_eq!(rt; (or.given, or.least, or.greatest), (true, 2, 3));
+    assert_eq!(rt; (or.least_per_input, or.greatest_per_input), (0, 0));
+    let xor = tech.gates[5];
+    assert_eq!(rt; (xor.given, xor.least, xor.greatest), (false, 0, 0));
+    Ok(())
+}
+
+#[test]
+fn answers_each_change_of_the_table(rt: HostRuntime) -> Result<(), Fail> {
+    let rows = [
+        ("[wire]", "[wire]", "1/1 CLK  0"),
+        ("\"1/1\"", "\"01/02\"", "1/2 CLK  0"),
+        ("\"1/1\"", "\"1000000/400000\"", "5/2 CLK  0"),
+        ("\"1/1\"", "\"7\"", "7/1 CLK  0"),
+        ("\"1/1\"", "\"1/0\"", "4 wire.delay"),
+        ("\"1/1\"", "\"1/1000001\"", "4 wire.delay"),
+        ("\"1/1\"", "\"100000000000000000000000\"", "4 wire.delay"),
+        ("\"1/1\"", "\"1/\"", "3 wire.delay"),
+        ("\"1/1\"", "\"/1\"", "3 wire.delay"),
+        ("\"1/1\"", "\"1/1/1\"", "3 wire.delay"),
+        ("\"1/1\"", "\"+1\"", "3 wire.delay"),
+        ("\"1/1\"", "1.5", "3 wire.delay"),
+        ("setup = 1", "setup = -1", "4 register.setup"),
+        ("setup = 1", "setup = true", "3 register.setup"),
+        ("setup = 1", "setup = 1000001", "4 register.setup"),
+        (
+            "setup = 1",
+            "setup = 9223372036854775807",
+            "4 register.setup",
+        ),
+        ("setup = 1", "setup = 1000000", "1/1 CLK  0"),
+        ("setup = 1", "", "2 register.setup"),
+        ("place = \"CLK\"", "place = \"\"", "4 source.place"),
+        ("[gate.OR]\nleast = 2\ngreatest = 3\n", "", "6 Or"),
+        ("[wire]", "[wire]\nwidth = 3", "7 wire.width"),
+        (
+            "\nleast = 1\ngreatest = 2",
+            "\nleast = 3\ngreatest = 2",
+            "5 register",
+        ),
+        ("[gate.AND]\nleast = 2", "[gate.AND]\nleast = 4", "5 AND"),
+        ("[gate.AND]", "[gate.AND]\nleast_per_input = 1", "5 AND"),
+        (
+            "[gate.AND]",
+            "[gate.AND]\ngreatest_per_input = 1000",
+            "1/1 CLK  0",
+        ),
+        (
+            "[gate.AND]",
+            "[gate.AND]\ngreatest_per_input = 1001",
+            "4 gate.AND.greatest_per_input",
+        ),
+        (
+            "[gate.AND]",
+            "[gate.XOR]\nleast = 1\n[gate.AND]",
+            "2 gate.XOR.greatest",
+        ),
+        (
+            "[gate.AND]",
+            "[gate.XNOR]\nleast = 1\ngreatest = 0\n[gate.AND]",
+            "5 XNOR",
+        ),
+        ("[source]", "[host]\n[source]", "2 host.place"),
+        ("[source]", "[host]\nplace = \"\"\n[source]", "4 host.place"),
+        (
+            "[source]",
+            "[host]\nplace = \"PAD\"\n[source]",
+            "1/1 CLK PAD 0",
+        ),
+        (
+            "[source]",
+            "[period]\nfloor = 1000000000\n[source]",
+            "1/1 CLK  1000000000",
+        ),
+        (
+            "[source]",
+            "[period]\nfloor = 1000000001\n[source]",
+            "4 period.floor",
+        ),
+        ("[source]", "zz = 1\n[source]", "7 wire.zz"),
+        ("[gate.AND]", "[\"a b\".c]\n[gate.AND]", "7 a b"),
+        (
+            "[gate.AND]",
+            "[gate.FOO]\nleast = 1\n[gate.AND]",
+            "7 gate.FOO",
+        ),
+        (
+            "[gate.AND]",
+            "[gate.Input]\nleast = 1\n[gate.AND]\na = 1",
+            "7 gate.AND.a",
+        ),
+    ];
+    for (old, new, expected) in rows {
+        let text = changed(rt.alloc(), old, new)?;
+        let told = answer(rt.alloc(), text.as_bytes())?;
+        assert_eq!(rt; told.as_str(), expected, "{new:?} for {old:?}");
+    }
+    Ok(())
+}
+
+#[test]
+fn answers_short_tables(rt: HostRuntime) -> Result<(), Fail> {
+    let rows: [(&[u8], &str); 6] = [
+        (b"", "2 wire.delay"),
+        (b"[wire", "1"),
+        (b"wire = 3", "3 wire"),
+        (b"wire = \"\xff\"", "1"),
+        (b"gate = 1\n[wire]\ndelay = \"0\"", "4 wire.delay"),
+        (
+            b"[wire]\ndelay = \"1\"\n[source]\nplace = \"C\"",
+            "2 register.setup",
+        ),
+    ];
+    for (bytes, expected) in rows {
+        let told = answer(rt.alloc(), bytes)?;
+        assert_eq!(rt; told.as_str(), expected);
+    }
+    Ok(())
+}
+
+#[test]
+fn a_gate_that_is_no_table(rt: HostRuntime) -> Result<(), Fail> {
+    let (front, _) = TABLE.split_once("[gate.NOT]").ok_or("not in the table")?;
+    let text = format!(in rt.alloc(); "{front}[gate]\nAND = 1")?;
+    assert_eq!(rt; answer(rt.alloc(), text.as_bytes())?.as_str(), "3 gate.AND");
+    Ok(())
+}

@@ -1,0 +1,8 @@
+mod FlawlessTables
+mod Fractions
+mod Judgements
+pub mod OneFault
+pub mod OneTable
+mod ToldTables
+mod UnknownNames
+mod Ways

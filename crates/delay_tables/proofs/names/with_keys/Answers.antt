@@ -1,0 +1,12 @@
+use Rattle.std.proofs.Common.{IfOk, ◌≡◌, ◌∙◌, ap, subst}
+use Rattle.std.specs.List.{fold}
+use Rattle.toml.specs.View.{table_view}
+use Rattle.cts_model.specs.TableFlaws as flaws
+use Rattle.delay_tables.specs.Keys.{texts}
+use Rattle.delay_tables.proofs.UnknownNames.{key_names_are}
+use Rattle.delay_tables.proofs.names.with_keys.Goals as goal
+
+pub returns : goal.returns
+returns c =
+    subst (λ known. IfOk c.with_unknown.result (λ lesser. lesser ≡ fold flaws.lesser_name c.args.least (flaws.unknown_at (texts c.args.way.now) known (table_view c.args.document.now))))
+    (ap texts (c.as_slice.ensures.value ∙ c.in_ok-known.ensures) ∙ key_names_are c.args.keys.now) c.with_unknown.ensures

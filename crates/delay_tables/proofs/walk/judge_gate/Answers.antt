@@ -1,0 +1,10 @@
+use Rattle.std.proofs.Common.{subst, [], ◌∷◌, codes}
+use Rattle.toml.specs.View.{table_view}
+use Rattle.cts_model.specs.TableKeys as tables
+use Rattle.cts_model.specs.TableFlaws as flaws
+use Rattle.delay_tables.specs.Refusals.{Judges}
+use Rattle.delay_tables.proofs.walk.judge_gate.Goals as goal
+
+pub returns : goal.returns
+returns c =
+    subst (λ name. Judges c.judge_section.result (flaws.section_flaw (table_view c.args.document.now) (record { way = codes "gate" ∷ name ∷ []; keys = tables.gate_keys }))) c.gate_name.ensures c.judge_section.ensures

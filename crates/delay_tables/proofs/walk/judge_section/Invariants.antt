@@ -1,0 +1,10 @@
+use Rattle.std.proofs.Common.{◌≡◌, drop}
+use Rattle.toml.specs.View.{table_view}
+use Rattle.cts_model.specs.TableFlaws as flaws
+use Rattle.delay_tables.specs.Keys.{texts, keys_of}
+use Rattle.delay_tables.proofs.walk.judge_section.Given as goal
+
+abbrev pub invariant-loop-key : goal.invariant-loop-key
+invariant-loop-key l =
+    flaws.first_flaw (flaws.key_flaw (texts l.way) (table_view l.document)) (keys_of (drop l.key-index l.keys))
+    ≡ flaws.first_flaw (flaws.key_flaw (texts l.way) (table_view l.document)) (keys_of l.keys)

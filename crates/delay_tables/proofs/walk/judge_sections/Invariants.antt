@@ -1,0 +1,10 @@
+use Rattle.std.proofs.Common.{◌≡◌, drop, map}
+use Rattle.toml.specs.View.{table_view}
+use Rattle.cts_model.specs.TableFlaws as flaws
+use Rattle.delay_tables.specs.Keys.{section_of}
+use Rattle.delay_tables.proofs.walk.judge_sections.Given as goal
+
+abbrev pub invariant-loop-section : goal.invariant-loop-section
+invariant-loop-section l =
+    flaws.first_flaw (flaws.section_flaw (table_view l.document)) (map section_of (drop l.section-index l.sections))
+    ≡ flaws.first_flaw (flaws.section_flaw (table_view l.document)) (map section_of l.sections)

@@ -1,0 +1,40 @@
+-- Why the reader refuses a delay table: it is no TOML, or it has a flaw, the first in the order in
+-- which it is judged.
+use Rattle.std.specs.Prelude.{◌≡◌, ℕ, Bool, List, Option, Some, None, Result, MatchResult}
+use Rattle.cts_model.specs.TableFlaws.{TableFlaw}
+use Rattle.cts_model.specs.TableFlaws as flaws
+use Rattle.cts_model.specs.AcceptedTables.{IsNotToml, HasFlaw}
+use Rattle.delay_tables.specs.declared.fault.TechFault.{TechFault}
+use Rattle.delay_tables.specs.declared.fault.TechFault.TheVariants.{NotToml, Missing, WrongType, OutOfRange, LeastAboveGreatest, MissingKind, UnknownKey, NoMemory}
+
+-- the fault that bytes have, with a netlist that uses these gate kinds; memory may run out at any
+abbrev pub Refuses : List Bool → List ℕ → TechFault → Type 0
+Refuses used bytes NotToml = IsNotToml bytes
+Refuses used bytes (Missing name) = HasFlaw used bytes (flaws.Missing name)
+Refuses used bytes (WrongType name) = HasFlaw used bytes (flaws.WrongType name)
+Refuses used bytes (OutOfRange name) = HasFlaw used bytes (flaws.OutOfRange name)
+Refuses used bytes (LeastAboveGreatest name) = HasFlaw used bytes (flaws.LeastAboveGreatest name)
+Refuses used bytes (MissingKind kind) = HasFlaw used bytes (flaws.MissingKind kind)
+Refuses used bytes (UnknownKey name) = HasFlaw used bytes (flaws.UnknownKey name)
+Refuses used bytes NoMemory = Unit {0}
+
+-- a document with this flaw first has the fault, or memory ran out
+abbrev pub IsFaultOf : Option TableFlaw → TechFault → Type 0
+IsFaultOf flaw NotToml = ⊥
+IsFaultOf flaw (Missing name) = flaw ≡ Some (flaws.Missing name)
+IsFaultOf flaw (WrongType name) = flaw ≡ Some (flaws.WrongType name)
+IsFaultOf flaw (OutOfRange name) = flaw ≡ Some (flaws.OutOfRange name)
+IsFaultOf flaw (LeastAboveGreatest name) = flaw ≡ Some (flaws.LeastAboveGreatest name)
+IsFaultOf flaw (MissingKind kind) = flaw ≡ Some (flaws.MissingKind kind)
+IsFaultOf flaw (UnknownKey name) = flaw ≡ Some (flaws.UnknownKey name)
+IsFaultOf flaw NoMemory = Unit {0}
+
+-- Ok says that there is no flaw, and a fault is the flaw
+abbrev pub Judges : {X : Type 0} → Result X TechFault → Option TableFlaw → Type 0
+Judges result flaw = MatchResult result (λ _. flaw ≡ None) (IsFaultOf flaw)
+
+-- the bytes are no TOML, or memory ran out
+abbrev pub IsUnread : List ℕ → TechFault → Type 0
+IsUnread bytes NotToml = IsNotToml bytes
+IsUnread bytes NoMemory = Unit {0}
+IsUnread bytes _ = ⊥

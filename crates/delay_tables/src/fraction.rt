@@ -1,0 +1,119 @@
+ghost use Rattle.std.specs.Prelude.{◌≡◌, ◌<◌, true, min, position};
+ghost use Rattle.std.specs.List.{list_all};
+ghost use Rattle.std.specs.Char.{is_ascii_digit};
+ghost use Rattle.std.specs.Int.{IsGcd};
+ghost use Rattle.std.specs.Str.Parse.{digits_value};
+ghost use Rattle.cts_model.specs.TableValues as told;
+ghost use Rattle.delay_tables.specs.Fractions.{AreLowestTerms};
+
+// The most of either number of a fraction.
+const MOST: u32 = 1_000_000;
+
+/// A fraction of two whole numbers.
+#[derive(Clone, Copy, Debug)]
+pub(crate) struct Ratio {
+    pub(crate) num: u32,
+    pub(crate) den: u32,
+}
+
+/// Whether a text is `a/b` or `a`, in digits.
+pub(crate) fn is_fraction(text: &[u8]) -> bool
+    ensures { result ≡ told.is_fraction text.now }
+{
+    is_numeral(numerator_text(text)) && is_numeral(denominator_text(text))
+}
+
+/// Whether both numbers of a fraction are from 1 to 1,000,000.
+pub(crate) fn is_small_fraction(text: &[u8]) -> bool
+    requires { told.is_fraction text.now ≡ true }
+    ensures { result ≡ told.is_small_fraction text.now }
+{
+    is_small(numerator_text(text)) && is_small(denominator_text(text))
+}
+
+/// The fraction that a text writes, in lowest terms.
+pub(crate) fn lowest_terms(text: &[u8]) -> Ratio
+    requires form { told.is_fraction text.now ≡ true }
+    requires small { told.is_small_fraction text.now ≡ true }
+    ensures { AreLowestTerms (told.numerator_of text.now) (told.denominator_of text.now)
+        result.num result.den }
+{
+    let num = capped_value(numerator_text(text));
+    let den = capped_value(denominator_text(text));
+    let divisor = gcd(num, den);
+    Ratio {
+        num: num / divisor,
+        den: den / divisor,
+    }
+}
+
+fn numerator_text(text: &[u8]) -> &[u8]
+    ensures { result.now ≡ told.numerator_text text.now }
+{
+    match first_slash(text) {
+        Some(slash) => text.split_at(slash).0,
+        None => text,
+    }
+}
+
+fn denominator_text(text: &[u8]) -> &[u8]
+    ensures { result.now ≡ told.denominator_text text.now }
+{
+    match first_slash(text) {
+        Some(slash) => text.split_at(slash + 1).1,
+        None => b"1",
+    }
+}
+
+fn first_slash(text: &[u8]) -> Option<usize>
+    ensures { result ≡ position told.is_slash text.now }
+{
+    text.iter().position(|byte| *byte == b'/')
+}
+
+fn is_numeral(digits: &[u8]) -> bool
+    ensures { result ≡ told.is_numeral digits.now }
+{
+    !digits.is_empty() && is_all_digits(digits)
+}
+
+fn is_all_digits(digits: &[u8]) -> bool
+    ensures { result ≡ list_all is_ascii_digit digits.now }
+{
+    digits.iter().all(|digit| digit.is_ascii_digit())
+}
+
+fn is_small(digits: &[u8]) -> bool
+    requires { told.is_numeral digits.now ≡ true }
+    ensures { result ≡ told.is_between 1 1000000 (digits_value 10 digits.now) }
+{
+    let value = capped_value(digits);
+    1 <= value && value <= MOST
+}
+
+// The number that digits write, or one that is too large where it is too large.
+fn capped_value(digits: &[u8]) -> u32
+    requires { told.is_numeral digits.now ≡ true }
+    ensures { result ≡ min (digits_value 10 digits.now) 1000001 }
+{
+    let mut value = 0;
+    for digit in digits {
+        value = (value * 10 + u32::from(*digit - b'0')).min(MOST + 1);
+    }
+    value
+}
+
+fn gcd(a: u32, b: u32) -> u32
+    requires { 0 < a }
+    ensures greatest { IsGcd a b result }
+    ensures some { 0 < result }
+{
+    let mut x = a;
+    let mut y = b;
+    while y != 0 {
+        let rest = x % y;
+        x = y;
+        y = rest;
+    }
+    x
+}

@@ -1,0 +1,76 @@
+-- The delays of gates, from the rows of a table.
+use Rattle.std.proofs.Common.{◌≡◌, ◌≤◌, ◌*◌, ℕ, ◌+◌, ◌-◌, ℤ, pos, negsuc, cond, Some, ◌+ℤ◌, ◌*ℤ◌, Bool, true, false, List, length, get_or, All, inl, inr, refl, sym, subst, arith}
+use Rattle.std.proofs.lemmas.Bool.{cases_lt}
+use Rattle.std.proofs.lemmas.List.{get_or_past}
+use Rattle.std.proofs.lemmas.Int.{ints}
+use Rattle.std.proofs.Math.IntN.{pos-*ℤ-pos}
+use Rattle.std.proofs.Math.Nat.{mul-le-mul_right}
+use Rattle.cts_model.specs.declared.tech.GateDelay.{GateDelay}
+use Rattle.cts_model.specs.Kinds.{is_gate, place_of}
+use Rattle.cts_model.specs.declared.signal.Signal.{Signal}
+use Rattle.cts_model.specs.declared.tech.Tech.{Tech}
+use Rattle.cts_model.specs.Delays.{no_delay, delay_of, least_gate_delay, greatest_gate_delay}
+use Rattle.cts_model.specs.Tables.{IsWithin, IsGateDelay}
+use Rattle.path_delays.specs.SumParts.{AreWithin}
+use Rattle.path_delays.specs.Networks.{gate_sums, weight_of}
+
+-- a row of no gates has the facts of every row
+no_delay_valid : IsGateDelay no_delay
+no_delay_valid = record {
+  least = zero 1000000;
+  greatest = zero 1000000;
+  least_per_input = zero 1000;
+  greatest_per_input = zero 1000;
+  ordered = omega (arith, ints);
+  ordered_per_input = omega (arith, ints);
+  zero_least = λ e. refl;
+  zero_greatest = λ e. refl;
+  zero_least_per_input = λ e. refl;
+  zero_greatest_per_input = λ e. refl;
+}
+  where
+    zero : (high : ℕ) → IsWithin 0 high (pos 0)
+    zero high = record { above = omega (arith, ints); below = omega (arith, ints) }
+
+-- each row has them, also where a row is missing
+pub row_valid : (rows : List GateDelay) (place : ℕ) → All IsGateDelay rows → IsGateDelay (get_or rows place no_delay)
+row_valid rows place all = elim (cases_lt place (length rows)) [
+  | inl within ↦ all place no_delay within
+  | inr past ↦ subst IsGateDelay (sym (get_or_past rows place no_delay past)) no_delay_valid
+]
+
+-- so much for each further input
+scaled : (number : ℤ) (times : ℕ) → IsWithin 0 1000 number → IsWithin 0 (1000 * times) (number *ℤ pos times)
+scaled (pos number) times within =
+    let small : number ≤ 1000 = omega (arith, ints, within.below) in
+    let most : number * times ≤ 1000 * times = mul-le-mul_right times small in
+    let is : pos number *ℤ pos times ≡ pos (number * times) = pos-*ℤ-pos number times in
+    subst (IsWithin 0 (1000 * times)) (sym is) (record { above = omega (arith, ints); below = omega (arith, ints, most) })
+scaled (negsuc number) times within = absurd (omega (arith, ints, within.above))
+
+-- what each input adds is within what it may
+delay_within : (first per_input : ℤ) (inputs : ℕ) → IsWithin 0 1000000 first → IsWithin 0 1000 per_input → IsWithin 0 (1000000 + 1000 * inputs) (first +ℤ (per_input *ℤ pos (inputs - 1)))
+delay_within first per_input inputs within each =
+    let further = scaled per_input (inputs - 1) each in
+    let fewer : 1000 * (inputs - 1) ≤ 1000 * inputs = omega arith in
+    record { above = omega (arith, ints, within.above, further.above); below = omega (arith, ints, within.below, further.below) }
+
+-- a gate's delays are within its weight
+pub gate_within : (tech : Tech) (signal : Signal) → AreWithin (weight_of signal) (gate_sums tech signal)
+gate_within tech signal = at (is_gate signal.kind)
+  where
+    row : IsGateDelay (delay_of tech signal.kind)
+    row = row_valid tech.gates (place_of signal.kind) tech.valid.gates_within
+
+    inputs : ℕ
+    inputs = length signal.fan_in
+
+    at : (b : Bool) → AreWithin (1000000 + 1000 * cond b inputs 0) (cond b (record { least = least_gate_delay tech (Some signal); greatest = greatest_gate_delay tech (Some signal) }) (record { least = pos 0; greatest = pos 0 }))
+    at true = record {
+      least = delay_within (delay_of tech signal.kind).least (delay_of tech signal.kind).least_per_input inputs row.least row.least_per_input;
+      greatest = delay_within (delay_of tech signal.kind).greatest (delay_of tech signal.kind).greatest_per_input inputs row.greatest row.greatest_per_input;
+    }
+    at false = record {
+      least = record { above = omega (arith, ints); below = omega (arith, ints) };
+      greatest = record { above = omega (arith, ints); below = omega (arith, ints) };
+    }

@@ -1,0 +1,228 @@
+-- The readers of each signal, and the place of each gate in the order.
+use Rattle.std.proofs.Common.{◌≡◌, ◌≢◌, ◌+◌, ◌-◌, ◌*◌, ◌<◌, ◌≤◌, ◌==◌, ℕ, zero, suc, Bool, true, false, cond, IsTrue, List, [], ◌∷◌, ◌++◌, length, map, filter, replicate, get_or, set, sum, All, AllPairs, Contains, Option, Some, None, IsSomeAnd, inl, inr, refl, sym, ◌∙◌, ap, subst, arith}
+use Rattle.std.specs.List.{slice_get, sum_by}
+use Rattle.std.specs.Option.{option_map_or}
+use Rattle.std.proofs.lemmas.Bool.{cases_eq, cases_lt, eqb-true, eq-eqb}
+use Rattle.std.proofs.lemmas.List.{length-append, length-map, length-set, length-take, get_or-map, get_or-take, get_or-set_same, get_or-set_other, get_or_default, length-replicate, get_or-replicate, get_or_past}
+use Rattle.std.proofs.lemmas.List.Sums.{sum_by_more, sum_by-cons, sum_by-set, sum_by-le-sum_by, sum-map}
+use Rattle.std.proofs.lemmas.List.Elements.{All-nil, All-map, All-filter, All-append, All-contains, All-contains_itself, filter_passes, Contains-append_left, Contains-append_right}
+use Rattle.std.proofs.lemmas.Option.{get_or_from_slice_get, slice_get_within, slice_get-get_or, slice_get_past}
+use Rattle.cts_model.specs.declared.signal.Signal.{Signal}
+use Rattle.cts_model.specs.declared.circuit.Circuit.{Circuit}
+use Rattle.cts_model.specs.Kinds.{is_gate}
+use Rattle.cts_model.specs.Circuits.{gate_inputs, has_host}
+use Rattle.cts_model.specs.Paths.{IsGate, Reads}
+use Rattle.path_delays.specs.declared.groups.Groups.{Groups}
+use Rattle.path_delays.specs.Grouped.{values_at}
+use Rattle.path_delays.specs.GroupParts.{group_of, HasGroups}
+use Rattle.path_delays.specs.Orders.{IsTopologicalOrder}
+use Rattle.path_delays.specs.Networks.{AreAllReads, all_reads_by, AreReaders, IsPlaced, ArePlaces, AreRanks, weight_of, weight_at}
+use Rattle.path_delays.proofs.ReadLemmas.{Contains-cons, IsGate-from_Reads}
+
+-- no pairs of no signals
+pub AreAllReads-none : (signals : List Signal) → AreAllReads signals 0 []
+AreAllReads-none signals = record {
+  each = All-nil (λ (pair : ℕ × ℕ). Reads signals pair.1 pair.0);
+  all = λ gate read lower reads. absurd (omega arith);
+  few = omega arith;
+}
+
+-- what a list contains, its image contains
+Contains-map : {X Y : Type 0} (f : X → Y) (xs : List X) (x : X) → Contains xs x → Contains (map f xs) (f x)
+Contains-map f xs x (k, inside, here) = (k, omega (arith, length-map xs f), get_or-map f xs k x (f x) inside ∙ ap f here)
+
+-- the pairs of one more signal
+pub AreAllReads-more : (signals : List Signal) (below : ℕ) (pairs : List (ℕ × ℕ)) (signal : Signal) → slice_get signals below ≡ Some signal → AreAllReads signals below pairs
+    → AreAllReads signals (below + 1) (pairs ++ all_reads_by signal below)
+AreAllReads-more signals below pairs signal here so_far = record {
+  each = All-append (λ (pair : ℕ × ℕ). Reads signals pair.1 pair.0) pairs (all_reads_by signal below) so_far.each (each (is_gate signal.kind) refl);
+  all = λ gate read lower reads. elim (cases_lt gate below) [
+    | inl earlier ↦ Contains-append_left pairs (all_reads_by signal below) (read, gate) (so_far.all gate read earlier reads)
+    | inr last ↦
+        let same : gate ≡ below = omega arith in
+        Contains-append_right pairs (all_reads_by signal below) (read, gate) (subst (λ n. Contains (all_reads_by signal below) (read, n)) (sym same) (all read (rw (same, here) at reads)))
+  ];
+  few = omega (arith, length-append pairs (all_reads_by signal below), so_far.few, few (is_gate signal.kind), sum_by_more gate_inputs signals below signal (slice_get_within signals below signal here), ap gate_inputs (get_or_from_slice_get signals below signal signal here));
+}
+  where
+    each : (b : Bool) → is_gate signal.kind ≡ b → All (λ (pair : ℕ × ℕ). Reads signals pair.1 pair.0) (cond b (map (λ input. (input, below)) signal.fan_in) [])
+    each true is_one = All-map (λ (pair : ℕ × ℕ). Reads signals pair.1 pair.0) (λ input. (input, below)) signal.fan_in (λ i d within. rw here (is_one, All-contains_itself signal.fan_in i d within))
+    each false other = All-nil (λ (pair : ℕ × ℕ). Reads signals pair.1 pair.0)
+
+    all : (read : ℕ) → IsTrue (is_gate signal.kind) × Contains signal.fan_in read → Contains (all_reads_by signal below) (read, below)
+    all read (is_one, listed) = rw is_one (Contains-map (λ input. (input, below)) signal.fan_in read listed)
+
+    pair : ℕ → ℕ × ℕ
+    pair input = (input, below)
+
+    few : (b : Bool) → length (cond b (map pair signal.fan_in) []) ≤ cond b (length signal.fan_in) 0
+    few true = omega (arith, length-map signal.fan_in pair)
+    few false = omega arith
+
+-- what a gate reads is a signal
+pub reads_within : (signals : List Signal) (gate read : ℕ) → All (λ signal. All (λ number. number < length signals) signal.fan_in) signals → Reads signals gate read → read < length signals
+reads_within signals gate read within reads = at (slice_get signals gate) refl reads
+  where
+    at : (o : Option Signal) → slice_get signals gate ≡ o → IsSomeAnd o (λ signal. IsTrue (is_gate signal.kind) × Contains signal.fan_in read) → read < length signals
+    at None none reads = absurd reads
+    at (Some signal) here (is_one, listed) =
+        let inputs = subst (λ (s : Signal). All (λ number. number < length signals) s.fan_in) (get_or_from_slice_get signals gate signal signal here) (within gate signal (slice_get_within signals gate signal here)) in
+        All-contains (λ number. number < length signals) signal.fan_in read inputs listed
+
+-- and so is the gate
+pub reader_within : (signals : List Signal) (gate read : ℕ) → Reads signals gate read → gate < length signals
+reader_within signals gate read reads = elim (cases_lt gate (length signals)) [ inl inside ↦ inside | inr past ↦ absurd (rw (slice_get_past signals gate past) at reads) ]
+
+-- a pair's value stands among those of its key
+Contains-values_at : (pairs : List (ℕ × ℕ)) (key value : ℕ) → Contains pairs (key, value) → Contains (values_at pairs key) value
+Contains-values_at [] key value (k, inside, here) = absurd (omega arith)
+Contains-values_at (pair ∷ pairs) key value (zero, inside, here) =
+    let passes : (pair.0 == key) ≡ true = eq-eqb pair.0 key (ap (λ (p : ℕ × ℕ). p.0) here) in
+    rw passes (zero, omega arith, ap (λ (p : ℕ × ℕ). p.1) here)
+Contains-values_at (pair ∷ pairs) key value (suc k, inside, here) = at (pair.0 == key) (Contains-values_at pairs key value (k, omega arith, here))
+  where
+    at : (b : Bool) → Contains (values_at pairs key) value → Contains (map (λ (p : ℕ × ℕ). p.1) (cond b (pair ∷ filter (λ (p : ℕ × ℕ). p.0 == key) pairs) (filter (λ (p : ℕ × ℕ). p.0 == key) pairs))) value
+    at true rest = Contains-cons pair.1 value (values_at pairs key) rest
+    at false rest = rest
+
+-- the groups of the pairs are the readers of each signal
+pub AreReaders-grouped : (signals : List Signal) (pairs : List (ℕ × ℕ)) (groups : Groups) → All (λ signal. All (λ number. number < length signals) signal.fan_in) signals
+    → AreAllReads signals (length signals) pairs → HasGroups (length signals) pairs groups → AreReaders signals groups
+AreReaders-grouped signals pairs groups within reads grouped = record {
+  long = grouped.long;
+  each = λ read gate inside listed. All-contains (λ gate. Reads signals gate read) (group_of groups read) gate (rw (grouped.each read inside) (readers read)) listed;
+  all = λ read gate reading.
+      let inside = reads_within signals gate read within reading in
+      rw (grouped.each read inside) (Contains-values_at pairs read gate (reads.all gate read (reader_within signals gate read reading) reading));
+}
+  where
+    readers : (read : ℕ) → All (λ gate. Reads signals gate read) (values_at pairs read)
+    readers read =
+        let test : ℕ × ℕ → Bool = λ (pair : ℕ × ℕ). pair.0 == read in
+        let kept = All-filter test (λ (pair : ℕ × ℕ). Reads signals pair.1 pair.0) pairs reads.each in
+        All-map (λ gate. Reads signals gate read) (λ (pair : ℕ × ℕ). pair.1) (filter test pairs) (λ i d inside.
+        subst (Reads signals (get_or (filter test pairs) i d).1) (eqb-true (get_or (filter test pairs) i d).0 read (filter_passes test pairs i d inside)) (kept i d inside))
+
+-- no number has a place in no items
+pub ArePlaces-none : (limit : ℕ) (order : List ℕ) → ArePlaces limit order 0 (replicate limit 0)
+ArePlaces-none limit order = record {
+  covers = length-replicate {A = ℕ} limit 0;
+  each = λ place before. absurd (omega arith);
+  placed = λ number counted. absurd (omega (arith, zero_at number));
+}
+  where
+    zero_at : (number : ℕ) → get_or {A = ℕ} (replicate limit 0) number 0 ≡ 0
+    zero_at number = elim (cases_lt number limit) [ inl inside ↦ get_or-replicate {A = ℕ} limit number 0 0 inside | inr past ↦ get_or_past {X = ℕ} (replicate limit 0) number 0 (omega (arith, length-replicate {A = ℕ} limit 0)) ]
+
+-- one more item's place
+pub ArePlaces-more : (limit : ℕ) (order : List ℕ) (passed : ℕ) (places : List ℕ) (number : ℕ) → AllPairs (λ first second. first ≢ second) order → passed < length order → number ≡ get_or order passed 0 → number < limit
+    → ArePlaces limit order passed places → ArePlaces limit order (passed + 1) (set places number (passed + 1))
+ArePlaces-more limit order passed places number once inside read known so_far = record {
+  covers = length-set places number (passed + 1) ∙ so_far.covers;
+  each = λ place before. elim (cases_lt place passed) [
+    | inl earlier ↦ get_or-set_other places number (get_or order place 0) (passed + 1) 0 (λ same. once place passed 0 earlier inside (same ∙ read)) ∙ so_far.each place earlier
+    | inr last ↦
+        let here : passed ≡ place = omega arith in
+        subst (λ p. get_or (set places number (passed + 1)) (get_or order p 0) 0 ≡ p + 1) here (ap (λ n. get_or (set places number (passed + 1)) n 0) (sym read) ∙ put)
+  ];
+  placed = λ other counted. elim (cases_eq other number) [
+    | inl same ↦
+        let value : get_or (set places number (passed + 1)) other 0 ≡ passed + 1 = ap (λ n. get_or (set places number (passed + 1)) n 0) same ∙ put in
+        let front : passed + 1 - 1 ≡ passed = omega arith in
+        subst (IsPlaced order other) (sym value) (record { counted = omega arith; here = ap (slice_get order) front ∙ (slice_get-get_or order passed 0 inside ∙ ap Some (sym (same ∙ read))) })
+    | inr apart ↦
+        let value : get_or (set places number (passed + 1)) other 0 ≡ get_or places other 0 = get_or-set_other places number other (passed + 1) 0 apart in
+        subst (IsPlaced order other) (sym value) (so_far.placed other (rw value at counted))
+  ];
+}
+  where
+    put : get_or (set places number (passed + 1)) number 0 ≡ passed + 1
+    put = get_or-set_same places number (passed + 1) 0 (omega (arith, so_far.covers))
+
+-- in an order of gates, places rise from what is read to what reads it
+pub AreRanks-placed : (signals : List Signal) (order places : List ℕ) → IsTopologicalOrder signals order → ArePlaces (length signals) order (length order) places → AreRanks signals order places
+AreRanks-placed signals order places sorted placed = record {
+  covers = placed.covers;
+  gates = λ gate is_one. placed.placed gate (omega (arith, (ranked gate is_one).2));
+  others = λ number counted. is_gate_placed number (get_or places number 0) (placed.placed number counted);
+  rising = λ gate read reading. elim (cases_lt 0 (get_or places read 0)) [
+    | inl counted ↦
+        let at = ranked gate (IsGate-from_Reads signals gate read reading) in
+        let before = sorted.after at.0 gate read at.1 reading (is_gate_placed read (get_or places read 0) (placed.placed read counted)) in
+        let front : before.0 < at.0 = omega (arith, before.1, length-take at.0 order) in
+        let inside : before.0 < length order = omega (arith, before.1, length-take at.0 order) in
+        let here : get_or order before.0 0 ≡ read = get_or_default order before.0 0 read inside ∙ (sym (get_or-take at.0 order before.0 read front) ∙ before.2) in
+        omega (arith, stands before.0 read inside here, at.2)
+    | inr none ↦ omega (arith, (ranked gate (IsGate-from_Reads signals gate read reading)).2)
+  ];
+}
+  where
+    stands : (place number : ℕ) → place < length order → get_or order place 0 ≡ number → get_or places number 0 ≡ place + 1
+    stands place number inside here = subst (λ n. get_or places n 0 ≡ place + 1) here (placed.each place inside)
+
+    is_gate_placed : (number place : ℕ) → IsPlaced order number place → IsGate signals number
+    is_gate_placed number place at = All-contains (IsGate signals) order number sorted.gates (place - 1, slice_get_within order (place - 1) number at.here, get_or_from_slice_get order (place - 1) number number at.here)
+
+    ranked : (gate : ℕ) → IsGate signals gate → (place : ℕ) × (slice_get order place ≡ Some gate) × (get_or places gate 0 ≡ place + 1)
+    ranked gate is_one =
+        let found = sorted.all gate is_one in
+        let here : get_or order found.0 0 ≡ gate = get_or_default order found.0 0 gate found.1 ∙ found.2 in
+        (found.0, slice_get-get_or order found.0 0 found.1 ∙ ap Some here, stands found.0 gate found.1 here)
+
+-- two measures that agree at each item of a list have the same sum
+sum_by-same : {X : Type 0} (f g : X → ℕ) (xs : List X) → ((i : ℕ) (d : X) → i < length xs → f (get_or xs i d) ≡ g (get_or xs i d)) → sum_by f xs ≡ sum_by g xs
+sum_by-same f g [] agree = refl
+sum_by-same f g (x ∷ xs) agree = omega (arith, sum_by-cons f x xs, sum_by-cons g x xs, agree 0 x (omega arith), sum_by-same f g xs (λ i d inside. agree (suc i) d (omega arith)))
+
+-- numbers that aren't equal have no more weight than all
+distinct_sum-le : (weights numbers : List ℕ) → AllPairs (λ first second. first ≢ second) numbers → sum_by (λ number. get_or weights number 0) numbers ≤ sum weights
+distinct_sum-le weights [] once = omega arith
+distinct_sum-le weights (number ∷ numbers) once = elim (cases_lt number (length weights)) [
+  | inl inside ↦ omega (arith, sum_by-cons (λ n. get_or weights n 0) number numbers, same, distinct_sum-le (set weights number 0) numbers later, sum_by-set (λ w. w) weights number 0 0 inside)
+  | inr past ↦ omega (arith, sum_by-cons (λ n. get_or weights n 0) number numbers, get_or_past weights number 0 past, distinct_sum-le weights numbers later)
+]
+  where
+    later : AllPairs (λ first second. first ≢ second) numbers
+    later i j d before inside = once (suc i) (suc j) d (omega arith) (omega arith)
+
+    same : sum_by (λ n. get_or weights n 0) numbers ≡ sum_by (λ n. get_or (set weights number 0) n 0) numbers
+    same = sum_by-same (λ n. get_or weights n 0) (λ n. get_or (set weights number 0) n 0) numbers (λ i d inside.
+        sym (get_or-set_other weights number (get_or numbers i d) 0 0 (λ equal. once 0 (suc i) d (omega arith) (omega arith) (sym equal))))
+
+-- so the gates of an order have no more weight than the signals
+pub weights_once : (signals : List Signal) (order : List ℕ) → AllPairs (λ first second. first ≢ second) order → sum_by (weight_at signals) order ≤ sum_by weight_of signals
+weights_once signals order once =
+    let weights = map weight_of signals in
+    omega (arith, sum_by-le-sum_by (weight_at signals) (λ n. get_or weights n 0) order (λ n. omega (arith, weight_is signals n)), distinct_sum-le weights order once, sum-map weight_of signals)
+  where
+    weight_is : (signals : List Signal) (number : ℕ) → get_or (map weight_of signals) number 0 ≡ weight_at signals number
+    weight_is [] number = refl
+    weight_is (signal ∷ signals) zero = refl
+    weight_is (signal ∷ signals) (suc number) = weight_is signals number
+
+-- what all signals weigh
+weights_are : (signals : List Signal) → sum_by weight_of signals ≡ 1000000 * length signals + 1000 * sum_by gate_inputs signals
+weights_are [] = refl
+weights_are (signal ∷ signals) = omega (arith, sum_by-cons weight_of signal signals, sum_by-cons gate_inputs signal signals, weights_are signals)
+
+-- a circuit's signals
+pub weights_within : (circuit : Circuit) → sum_by weight_of circuit.signals ≤ 65799144000
+weights_within circuit = omega (arith, weights_are circuit.signals, one (has_host circuit.signals), circuit.valid.few_signals, circuit.valid.few_inputs)
+  where
+    one : (b : Bool) → cond {A = ℕ} b 1 0 ≤ 1
+    one true = omega arith
+    one false = omega arith
+
+-- each gate weighs something
+weights_of_gates : (signals : List Signal) (gates : List ℕ) → All (IsGate signals) gates → 1000000 * length gates ≤ sum_by (weight_at signals) gates
+weights_of_gates signals [] all = omega arith
+weights_of_gates signals (gate ∷ gates) all =
+    omega (arith, sum_by-cons (weight_at signals) gate gates, at (slice_get signals gate) (all 0 gate (omega arith)), weights_of_gates signals gates (λ i d inside. all (suc i) d (omega arith)))
+  where
+    at : (o : Option Signal) → IsSomeAnd o (λ signal. IsTrue (is_gate signal.kind)) → 1000000 ≤ option_map_or weight_of o 0
+    at None none = absurd none
+    at (Some signal) is_one = omega arith
+
+-- so there are few of them
+pub few_gates : (circuit : Circuit) (order : List ℕ) → IsTopologicalOrder circuit.signals order → length order ≤ 65799
+few_gates circuit order sorted = omega (arith, weights_of_gates circuit.signals order sorted.gates, weights_once circuit.signals order sorted.once, weights_within circuit)

@@ -1,0 +1,243 @@
+-- The walk back from the end of a path, each time to the signal that was found furthest.
+use Rattle.std.proofs.Common.{ℕ, ◌≡◌, ◌<◌, ◌⊎◌, Bool, true, false, MatchBool, List, [], ◌∷◌, ◌++◌, length, reverse, Option, Some, None, IsSomeAnd, IsTrue, Contains, refl, sym, ◌∙◌, ap, subst, arith, inl, inr, ◌+ℤ◌}
+use Rattle.std.specs.List.{slice_get}
+use Rattle.std.proofs.lemmas.Bool.{false≢true}
+use Rattle.std.proofs.lemmas.Int.{ints}
+use Rattle.std.proofs.lemmas.List.{reverse-append}
+use Rattle.std.proofs.lemmas.Option.{same_Some, slice_get_within, get_or_from_slice_get}
+use Rattle.cts_model.specs.declared.kind.Kind.{Kind}
+use Rattle.cts_model.specs.declared.kind.Kind.TheVariants.{And, Nand, Or, Nor, Not, Xor, Xnor, Buff, Input, Dff, Host}
+use Rattle.cts_model.specs.declared.signal.Signal.{Signal}
+use Rattle.cts_model.specs.declared.circuit.Circuit.{Circuit}
+use Rattle.cts_model.specs.declared.tech.Tech.{Tech}
+use Rattle.cts_model.specs.Kinds.{is_gate, is_host, is_input, is_register}
+use Rattle.cts_model.specs.Paths.{register_signal, Reads, Follows, IsInput, Launches, Captures}
+use Rattle.cts_model.proofs.CircuitLemmas.{IsRegisterAt, registered}
+use Rattle.path_delays.specs.declared.sums.Sums.{Sums}
+use Rattle.path_delays.specs.declared.walk.Walk.{Walk}
+use Rattle.path_delays.specs.Reaches.{IsChain, IsReach}
+use Rattle.path_delays.specs.WalkParts.{sums_to, HasReach}
+use Rattle.path_delays.specs.ExtremePaths.{delay_by, extreme_of, IsNoFurther, IsExtremePath, IsFurthest}
+use Rattle.path_delays.proofs.Rings.{follows_joined}
+use Rattle.path_delays.proofs.ExtremeDelays.{own_by, gate_by, through_by, delay_is, delay_push, IsReachBy, reach_by, same_extreme, no_further_than, no_further_behind}
+use Rattle.path_delays.proofs.ReachedPairs.{read_within, captured_within, chain_of_path}
+
+-- a primary input is no gate
+input_no_gate : (kind : Kind) → is_input kind ≡ true → is_gate kind ≡ true → ⊥
+input_no_gate Input input gate = false≢true gate
+input_no_gate And input gate = false≢true input
+input_no_gate Nand input gate = false≢true input
+input_no_gate Or input gate = false≢true input
+input_no_gate Nor input gate = false≢true input
+input_no_gate Not input gate = false≢true input
+input_no_gate Xor input gate = false≢true input
+input_no_gate Xnor input gate = false≢true input
+input_no_gate Buff input gate = false≢true input
+input_no_gate Dff input gate = false≢true input
+input_no_gate Host input gate = false≢true input
+
+-- and a register is none
+register_no_gate : (kind : Kind) → is_register kind ≡ true → is_gate kind ≡ true → ⊥
+register_no_gate Dff register gate = false≢true gate
+register_no_gate Host register gate = false≢true gate
+register_no_gate Input register gate = false≢true register
+register_no_gate And register gate = false≢true register
+register_no_gate Nand register gate = false≢true register
+register_no_gate Or register gate = false≢true register
+register_no_gate Nor register gate = false≢true register
+register_no_gate Not register gate = false≢true register
+register_no_gate Xor register gate = false≢true register
+register_no_gate Xnor register gate = false≢true register
+register_no_gate Buff register gate = false≢true register
+
+-- what a register launches reads nothing
+launched_no_gate : (circuit : Circuit) (from number read : ℕ) → Launches circuit from number → Reads circuit.signals number read → ⊥
+launched_no_gate circuit from number read launched reads = at (slice_get circuit.signals number) refl reads
+  where
+    own : (signal : Signal) → slice_get circuit.signals number ≡ Some signal → is_gate signal.kind ≡ true → slice_get circuit.registers from ≡ Some number → ⊥
+    own signal here is_one listed =
+        let register : IsRegisterAt circuit.signals number = subst (IsRegisterAt circuit.signals) (get_or_from_slice_get circuit.registers from number 0 listed) (registered circuit from (slice_get_within circuit.registers from number listed)) in
+        let same : register.signal ≡ signal = same_Some register.signal signal (sym register.here ∙ here) in
+        register_no_gate register.signal.kind register.register (ap (λ s. is_gate s.kind) same ∙ is_one)
+
+    by : (signal : Signal) → slice_get circuit.signals number ≡ Some signal → is_gate signal.kind ≡ true → (host : Bool) → MatchBool host (IsInput circuit number) (slice_get circuit.registers from ≡ Some number) → ⊥
+    by signal here is_one true input = input_no_gate signal.kind (rw here at input) is_one
+    by signal here is_one false listed = own signal here is_one listed
+
+    register : (signal : Signal) → slice_get circuit.signals number ≡ Some signal → is_gate signal.kind ≡ true → (from_signal : Option Signal) → IsSomeAnd from_signal (λ launching. MatchBool (is_host launching.kind) (IsInput circuit number) (slice_get circuit.registers from ≡ Some number)) → ⊥
+    register signal here is_one None launches = launches
+    register signal here is_one (Some launching) launches = by signal here is_one (is_host launching.kind) launches
+
+    at : (found : Option Signal) → slice_get circuit.signals number ≡ found → IsSomeAnd found (λ signal. IsTrue (is_gate signal.kind) × Contains signal.fan_in read) → ⊥
+    at None missing reads = reads
+    at (Some signal) here reads = register signal here reads.0 (register_signal circuit from) launched
+
+-- what a gate reads is within the circuit
+reads_within : (circuit : Circuit) (number read : ℕ) → Reads circuit.signals number read → read < length circuit.signals
+reads_within circuit number read reads = at (slice_get circuit.signals number) refl reads
+  where
+    at : (found : Option Signal) → slice_get circuit.signals number ≡ found → IsSomeAnd found (λ signal. IsTrue (is_gate signal.kind) × Contains signal.fan_in read) → read < length circuit.signals
+    at None missing reads = absurd reads
+    at (Some signal) here reads =
+        rw reads.1.2 at (read_within circuit number signal (slice_get_within circuit.signals number signal here) (sym (get_or_from_slice_get circuit.signals number signal signal here)) reads.1.0 read reads.1.1)
+
+-- a chain to a signal is this signal alone, or goes through one that it reads
+record IsBehind (circuit : Circuit) (first : ℕ) (gates : List ℕ) (last : ℕ) : Type 0 where
+  read : ℕ
+  front : List ℕ
+  is : gates ≡ front ++ last ∷ []
+  follows : Follows circuit.signals first front read
+  reads : Reads circuit.signals last read
+
+-- and which of the two it is
+last_of : (circuit : Circuit) (first : ℕ) (gates : List ℕ) (last : ℕ) → Follows circuit.signals first gates last → ((gates ≡ []) × (first ≡ last)) ⊎ IsBehind circuit first gates last
+last_of circuit first [] last follows = inl (refl, follows)
+last_of circuit first (gate ∷ gates) last follows = elim (last_of circuit gate gates last follows.1) [
+  | inl end ↦ inr (record { read = first; front = []; is = ap (λ g. gate ∷ g) end.0 ∙ ap (λ g. g ∷ []) end.1; follows = refl; reads = subst (λ g. Reads circuit.signals g first) end.1 follows.0 })
+  | inr behind ↦ inr (record { read = behind.read; front = gate ∷ behind.front; is = ap (λ g. gate ∷ g) behind.is; follows = (follows.0, behind.follows); reads = behind.reads })
+]
+
+-- what a register captures is its fan-in
+pub captures_furthest : (circuit : Circuit) (to : ℕ) (captured : Signal) → register_signal circuit to ≡ Some captured → (walk : Walk) (greatest : Bool) (last : ℕ) → IsFurthest walk (Contains captured.fan_in) greatest last → IsFurthest walk (Captures circuit to) greatest last
+captures_furthest circuit to captured found walk greatest last furthest = record {
+  is_one = rw found furthest.is_one;
+  sums = furthest.sums;
+  here = furthest.here;
+  furthest = λ other entry is_captured there. furthest.furthest other entry (rw found at is_captured) there;
+}
+
+-- and within the circuit
+pub captures_within : (circuit : Circuit) (to : ℕ) (captured : Signal) → register_signal circuit to ≡ Some captured → (signal : ℕ) → Captures circuit to signal → signal < length circuit.signals
+captures_within circuit to captured found signal captures = let listed = rw found at captures in rw listed.2 at (captured_within circuit to captured found listed.0 signal listed.1)
+
+-- from a signal on, the path to the last one, whose sums are those of the signal and what the gates behind it add
+pub record IsBack (circuit : Circuit) (tech : Tech) (walk : Walk) (greatest : Bool) (last : ℕ) (path : List ℕ) (signal : ℕ) : Type 0 where
+  pub rest : List ℕ
+  pub is : reverse path ≡ signal ∷ rest
+  pub within : signal < length circuit.signals
+  pub follows : Follows circuit.signals signal rest last
+  pub sums : Sums
+  pub here : sums_to walk signal ≡ Some sums
+  pub end : Sums
+  pub end_here : sums_to walk last ≡ Some end
+  pub total : extreme_of greatest end ≡ extreme_of greatest sums +ℤ through_by greatest circuit tech rest
+
+module _ (circuit : Circuit) (tech : Tech) (from : ℕ) (walk : Walk) (greatest : Bool) (reach : HasReach circuit tech from walk) where
+  -- what the walk found at a signal are the delays of its chains
+  reached : (signal : ℕ) (sums : Sums) → sums_to walk signal ≡ Some sums → IsReachBy greatest circuit tech from signal sums
+  reached signal sums here = reach_by greatest circuit tech from signal sums (subst (IsReach circuit tech from signal) here (reach.each signal))
+
+  -- where it found nothing, there is no chain
+  unreached : (signal : ℕ) (chain : List ℕ) → sums_to walk signal ≡ None → IsChain circuit from signal chain → ⊥
+  unreached signal chain nothing is_chain = subst (IsReach circuit tech from signal) nothing (reach.each signal) chain is_chain
+
+  -- a chain to a signal is no further than what the walk found there
+  chain_within : (signal : ℕ) (chain : List ℕ) → IsChain circuit from signal chain → (sums : Sums) × (sums_to walk signal ≡ Some sums) × IsNoFurther greatest (delay_by greatest circuit tech chain) (extreme_of greatest sums)
+  chain_within signal chain is_chain = at (sums_to walk signal) refl
+    where
+      at : (found : Option Sums) → sums_to walk signal ≡ found → (sums : Sums) × (sums_to walk signal ≡ Some sums) × IsNoFurther greatest (delay_by greatest circuit tech chain) (extreme_of greatest sums)
+      at None nothing = absurd (unreached signal chain nothing is_chain)
+      at (Some sums) here = (sums, here, (reached signal sums here).extreme chain is_chain)
+
+  -- a chain with a reader of its end behind it is one to the reader
+  chain_push : (first : ℕ) (front : List ℕ) (read gate : ℕ) → IsChain circuit from read (first ∷ front) → Reads circuit.signals gate read → IsChain circuit from gate (first ∷ front ++ gate ∷ [])
+  chain_push first front read gate is_chain reads = (is_chain.0, follows_joined circuit.signals front (gate ∷ []) first read gate is_chain.1 (reads, refl))
+
+  -- so the walk found no less at a gate than what it reads and the gate add up to
+  reader_within : (signal read : ℕ) (sums read_sums : Sums) → Reads circuit.signals signal read → sums_to walk signal ≡ Some sums → sums_to walk read ≡ Some read_sums
+      → IsNoFurther greatest (extreme_of greatest read_sums +ℤ gate_by greatest tech (slice_get circuit.signals signal)) (extreme_of greatest sums)
+  reader_within signal read sums read_sums reads here read_here =
+      let shown = reached read read_sums read_here in
+      at shown.chain shown.is_chain shown.shown
+    where
+      at : (chain : List ℕ) → IsChain circuit from read chain → delay_by greatest circuit tech chain ≡ extreme_of greatest read_sums
+          → IsNoFurther greatest (extreme_of greatest read_sums +ℤ gate_by greatest tech (slice_get circuit.signals signal)) (extreme_of greatest sums)
+      at [] is_chain shown = absurd is_chain
+      at (first ∷ front) is_chain shown =
+          let longer = (reached signal sums here).extreme (first ∷ front ++ signal ∷ []) (chain_push first front read signal is_chain reads) in
+          rw (← shown) (rw (delay_push greatest circuit tech first front signal) at longer)
+
+  -- at a gate the walk found what it found at the furthest signal that the gate reads, and the gate's delay
+  furthest_adds : (signal read : ℕ) (sums : Sums) → sums_to walk signal ≡ Some sums → (furthest : IsFurthest walk (Reads circuit.signals signal) greatest read)
+      → extreme_of greatest sums ≡ extreme_of greatest furthest.sums +ℤ gate_by greatest tech (slice_get circuit.signals signal)
+  furthest_adds signal read sums here furthest =
+      let shown = reached signal sums here in
+      same_extreme greatest _ _ (at shown.chain shown.is_chain shown.shown) (reader_within signal read sums furthest.sums furthest.is_one here furthest.here)
+    where
+      behind : (first : ℕ) (gates : List ℕ) → Launches circuit from first → IsBehind circuit first gates signal → delay_by greatest circuit tech (first ∷ gates) ≡ extreme_of greatest sums
+          → IsNoFurther greatest (extreme_of greatest sums) (extreme_of greatest furthest.sums +ℤ gate_by greatest tech (slice_get circuit.signals signal))
+      behind first gates launches is_behind shown =
+          let there = chain_within is_behind.read (first ∷ is_behind.front) (launches, is_behind.follows) in
+          let lower = no_further_than greatest _ _ _ there.2 (furthest.furthest is_behind.read there.0 is_behind.reads there.1) in
+          let whole = sym shown ∙ ap (λ l. delay_by greatest circuit tech (first ∷ l)) is_behind.is ∙ delay_push greatest circuit tech first is_behind.front signal in
+          rw whole (no_further_behind greatest _ _ _ lower)
+
+      at : (chain : List ℕ) → IsChain circuit from signal chain → delay_by greatest circuit tech chain ≡ extreme_of greatest sums
+          → IsNoFurther greatest (extreme_of greatest sums) (extreme_of greatest furthest.sums +ℤ gate_by greatest tech (slice_get circuit.signals signal))
+      at [] is_chain shown = absurd is_chain
+      at (first ∷ gates) is_chain shown = elim (last_of circuit first gates signal is_chain.1) [
+        | inl alone ↦ absurd (launched_no_gate circuit from signal read (subst (Launches circuit from) alone.1 is_chain.0) furthest.is_one)
+        | inr is_behind ↦ behind first gates is_chain.0 is_behind shown
+      ]
+
+  -- where the walk found nothing at what a signal reads, the register launches it
+  is_start : (signal : ℕ) (sums : Sums) → sums_to walk signal ≡ Some sums → ((read : ℕ) → Reads circuit.signals signal read → sums_to walk read ≡ None)
+      → Launches circuit from signal × (extreme_of greatest sums ≡ own_by greatest tech)
+  is_start signal sums here none = let shown = reached signal sums here in at shown.chain shown.is_chain shown.shown
+    where
+      at : (chain : List ℕ) → IsChain circuit from signal chain → delay_by greatest circuit tech chain ≡ extreme_of greatest sums → Launches circuit from signal × (extreme_of greatest sums ≡ own_by greatest tech)
+      at [] is_chain shown = absurd is_chain
+      at (first ∷ gates) is_chain shown = elim (last_of circuit first gates signal is_chain.1) [
+        | inl alone ↦
+            let own = delay_is greatest circuit tech first [] in
+            let whole = sym shown ∙ ap (λ l. delay_by greatest circuit tech (first ∷ l)) alone.0 in
+            (subst (Launches circuit from) alone.1 is_chain.0, omega (arith, ints, own, whole))
+        | inr is_behind ↦ absurd (unreached is_behind.read (first ∷ is_behind.front) (none is_behind.read is_behind.reads) (is_chain.0, is_behind.follows))
+      ]
+
+  -- the last signal by itself
+  pub back_first : (last : ℕ) (sums : Sums) (path : List ℕ) → path ≡ last ∷ [] → last < length circuit.signals → sums_to walk last ≡ Some sums → IsBack circuit tech walk greatest last path last
+  back_first last sums path is within here = record {
+    rest = [];
+    is = ap reverse is;
+    within = within;
+    follows = refl;
+    sums = sums;
+    here = here;
+    end = sums;
+    end_here = here;
+    total = omega (arith, ints);
+  }
+
+  -- one signal further back
+  pub back_next : (last signal read : ℕ) (path longer : List ℕ) → longer ≡ path ++ read ∷ [] → IsFurthest walk (Reads circuit.signals signal) greatest read → IsBack circuit tech walk greatest last path signal → IsBack circuit tech walk greatest last longer read
+  back_next last signal read path longer is furthest back =
+      let adds = furthest_adds signal read back.sums back.here furthest in
+      record {
+        rest = signal ∷ back.rest;
+        is = ap reverse is ∙ reverse-append path (read ∷ []) ∙ ap (λ l. read ∷ l) back.is;
+        within = reads_within circuit signal read furthest.is_one;
+        follows = (furthest.is_one, back.follows);
+        sums = furthest.sums;
+        here = furthest.here;
+        end = back.end;
+        end_here = back.end_here;
+        total = let sum = back.total in omega (arith, ints, adds, sum);
+      }
+
+  -- back at a signal that the register launches, it is a path, and none is further
+  pub back_at_start : (to last signal : ℕ) (path turned : List ℕ) → turned ≡ reverse path → IsFurthest walk (Captures circuit to) greatest last
+      → ((read : ℕ) → Reads circuit.signals signal read → sums_to walk read ≡ None) → IsBack circuit tech walk greatest last path signal → IsExtremePath circuit tech from to greatest turned
+  back_at_start to last signal path turned is furthest none back =
+      let start = is_start signal back.sums back.here none in
+      let own = delay_is greatest circuit tech signal back.rest in
+      let sum = back.total in
+      let delay : delay_by greatest circuit tech (signal ∷ back.rest) ≡ extreme_of greatest back.end = omega (arith, ints, own, sum, start.1) in
+      let same_end : back.end ≡ furthest.sums = same_Some back.end furthest.sums (sym back.end_here ∙ furthest.here) in
+      rw (is, back.is) record {
+        is_path = (start.0, (last, back.follows, furthest.is_one));
+        extreme = λ other is_path.
+            let chain = chain_of_path circuit from to other is_path in
+            let there = chain_within chain.0 other chain.1 in
+            rw (delay, same_end) (no_further_than greatest _ _ _ there.2 (furthest.furthest chain.0 there.0 chain.2 there.1));
+      }

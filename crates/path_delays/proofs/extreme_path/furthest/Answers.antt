@@ -1,0 +1,19 @@
+use Rattle.std.proofs.Common.{arith}
+use Rattle.std.proofs.lemmas.List.Elements.{Contains-get_or}
+use Rattle.path_delays.proofs.FurthestSignals.{furthest_found, some_fits, none_fits_next}
+use Rattle.path_delays.proofs.extreme_path.furthest.Goals as goal
+
+pub returns-then-fits : goal.returns-then-fits
+returns-then-fits c =
+    furthest_found c.args.walk.now c.args.signals.now c.args.greatest c.in_ok-sums.sums c.in_ok-sums.ensures _
+    (Contains-get_or c.args.signals.now c.loop-signal.signal-index 0 c.loop-signal-test.true)
+    (rw c.sums.ensures at (c.fits.ensures.0 c.if-fits.true))
+
+pub loop-signal-preserved : goal.loop-signal-preserved
+loop-signal-preserved c =
+    none_fits_next c.args.walk.now c.args.signals.now c.args.greatest _ c.loop-signal.signal-index
+    (λ fits. let passes = c.fits.ensures.1 (rw c.sums.ensures fits) in cc)
+    c.loop-signal.invariant
+
+pub returns : goal.returns
+returns c = λ signal listed. absurd (some_fits c.args.walk.now c.args.signals.now c.args.greatest c.in_ok-sums.sums c.in_ok-sums.ensures (λ place within. c.loop-signal.invariant place (omega arith)))

@@ -1,0 +1,79 @@
+-- What walks over a circuit go by: the readers of each signal, the order of the gates and their delays.
+use Rattle.std.specs.Prelude.{◌≡◌, ◌<◌, ◌≤◌, ◌+◌, ◌-◌, ◌*◌, ℕ, pos, List, [], length, map, take, All, Contains, Some, if◌then◌else◌, slice_get, slice_index, vec_len}
+use Rattle.std.specs.List.{sum_by}
+use Rattle.std.specs.Option.{option_map_or}
+use Rattle.cts_model.specs.declared.signal.Signal.{Signal}
+use Rattle.cts_model.specs.declared.circuit.Circuit.{Circuit}
+use Rattle.cts_model.specs.declared.tech.Tech.{Tech}
+use Rattle.cts_model.specs.Kinds.{is_gate}
+use Rattle.cts_model.specs.Circuits.{gate_inputs}
+use Rattle.cts_model.specs.Paths.{IsGate, Reads}
+use Rattle.cts_model.specs.Delays.{least_gate_delay, greatest_gate_delay}
+use Rattle.path_delays.specs.declared.groups.Groups.{Groups}
+use Rattle.path_delays.specs.declared.sums.Sums.{Sums}
+use Rattle.path_delays.specs.declared.network.Network.{Network}
+use Rattle.path_delays.specs.GroupParts.{group_of}
+
+-- the pairs of a signal that is read and a gate that reads it, of all gates below a number
+pub record AreAllReads (signals : List Signal) (below : ℕ) (pairs : List (ℕ × ℕ)) : Type 0 where
+  pub each : All (λ pair. Reads signals pair.1 pair.0) pairs
+  pub all : (gate read : ℕ) → gate < below → Reads signals gate read
+      → Contains pairs (read, gate)
+  pub few : length pairs ≤ sum_by gate_inputs (take below signals)
+
+-- the pairs of one signal, if it is a gate
+abbrev pub all_reads_by : Signal → ℕ → List (ℕ × ℕ)
+all_reads_by signal number =
+    if is_gate signal.kind then map (λ input. (input, number)) signal.fan_in else []
+
+-- the readers of each signal
+pub record AreReaders (signals : List Signal) (readers : Groups) : Type 0 where
+  pub long : vec_len readers.starts ≡ length signals + 1
+  pub each : (read gate : ℕ) → read < length signals
+      → Contains (group_of readers read) gate → Reads signals gate read
+  pub all : (read gate : ℕ) → Reads signals gate read → Contains (group_of readers read) gate
+
+-- the number stands in the list at this place, counted from 1
+pub record IsPlaced (order : List ℕ) (number place : ℕ) : Type 0 where
+  pub counted : 1 ≤ place
+  pub here : slice_get order (place - 1) ≡ Some number
+
+-- for each number below a limit its place in a list's first items, counted from 1, or 0
+pub record ArePlaces (limit : ℕ) (order : List ℕ) (passed : ℕ) (places : List ℕ) : Type 0 where
+  pub covers : length places ≡ limit
+  pub each : (place : ℕ) → place < passed
+      → slice_index places (slice_index order place) ≡ place + 1
+  pub placed : (number : ℕ) → 0 < slice_index places number
+      → IsPlaced order number (slice_index places number)
+
+-- a gate's rank is its place in the order, counted from 1: above the rank of all that it reads.
+-- What is no gate has the rank 0
+pub record AreRanks (signals : List Signal) (order ranks : List ℕ) : Type 0 where
+  pub covers : length ranks ≡ length signals
+  pub gates : (gate : ℕ) → IsGate signals gate → IsPlaced order gate (slice_index ranks gate)
+  pub others : (number : ℕ) → 0 < slice_index ranks number → IsGate signals number
+  pub rising : (gate read : ℕ) → Reads signals gate read
+      → slice_index ranks read < slice_index ranks gate
+
+-- a gate's least and greatest delay; what is no gate has none
+abbrev pub gate_sums : Tech → Signal → Sums
+gate_sums tech signal = if is_gate signal.kind
+    then (record {
+      least = least_gate_delay tech (Some signal);
+      greatest = greatest_gate_delay tech (Some signal);
+    })
+    else (record { least = pos 0; greatest = pos 0 })
+
+-- no delay of a gate is more
+abbrev pub weight_of : Signal → ℕ
+weight_of signal = 1000000 + 1000 * gate_inputs signal
+
+abbrev pub weight_at : List Signal → ℕ → ℕ
+weight_at signals number = option_map_or weight_of (slice_get signals number) 0
+
+pub record IsNetworkOf (circuit : Circuit) (tech : Tech) (network : Network) : Type 0 where
+  pub readers : AreReaders circuit.signals network.readers
+  pub ranks : AreRanks circuit.signals network.order.items network.ranks.items
+  pub once : sum_by (weight_at circuit.signals) network.order.items
+      ≤ sum_by weight_of circuit.signals
+  pub delays : network.delays.items ≡ map (gate_sums tech) circuit.signals

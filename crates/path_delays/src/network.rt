@@ -1,0 +1,97 @@
+ghost use Rattle.std.specs.Prelude.{◌≡◌, ◌≢◌, ◌<◌, ◌++◌, ◌^◌, IfOk, OnOk, All, AllPairs, length};
+
+use crate::Levels;
+use crate::gate_delays::gate_delays;
+use crate::groups::Groups;
+use crate::sums::Sums;
+use cts_base::NoMemory;
+use cts_model::{Circuit, Signal, Tech};
+use std::alloc::Global;
+
+/// What walks over a circuit go by.
+#[derive(Drop)]
+pub(crate) struct Network {
+    /// The gates that read each signal, each as often as it reads it.
+    pub(crate) readers: Groups,
+    /// The gates, each behind those that it reads.
+    pub(crate) order: Vec<u32>,
+    /// For each signal its place in the order, counted from 1, or 0 where it is no gate.
+    pub(crate) ranks: Vec<u32>,
+    /// The least and the greatest delay of each gate.
+    pub(crate) delays: Vec<Sums>,
+}
+
+impl Network {
+    ghost use Rattle.path_delays.specs.LevelParts.{IsLevelsOf};
+    ghost use Rattle.path_delays.specs.Networks.{AreAllReads, ArePlaces, IsNetworkOf, all_reads_by};
+
+    /// The network of a circuit: one pass over its inputs, and one over its gates.
+    pub(crate) fn new(
+        alloc: Global,
+        circuit: &Circuit,
+        levels: &Levels,
+        tech: &Tech,
+    ) -> Result<Network, NoMemory>
+        requires { IsLevelsOf circuit.now levels.now }
+        ensures network { IfOk result (IsNetworkOf circuit.now tech.now) }
+        ensures order { IfOk result (λ network. network.order.items ≡ levels.now) }
+    {
+        let signals = circuit.signals.len();
+        let pairs = Network::all_reads(alloc, circuit)?;
+        let readers = Groups::of(alloc, signals, pairs.as_slice())?;
+        let order = Vec::from_slice(alloc, levels.gates())?;
+        let ranks = Network::places(alloc, signals, order.as_slice())?;
+        let delays = gate_delays(alloc, circuit, tech)?;
+        Ok(Network {
+            readers,
+            order,
+            ranks,
+            delays,
+        })
+    }
+
+    // The pairs of a signal that is read and a gate that reads it, one for each input of a gate.
+    fn all_reads(alloc: Global, circuit: &Circuit) -> Result<Vec<(u32, u32)>, NoMemory>
+        ensures { IfOk result (λ pairs.
+            AreAllReads circuit.now.signals (length circuit.now.signals) pairs.items) }
+    {
+        let mut pairs = Vec::new(alloc);
+        for (number, signal) in circuit.signals.as_slice().iter().enumerate() {
+            Network::push_inputs(&mut pairs, signal, number as u32)?;
+        }
+        Ok(pairs)
+    }
+
+    // Puts the pairs of a signal last, if it is a gate.
+    fn push_inputs(
+        pairs: &mut Vec<(u32, u32)>,
+        signal: &Signal,
+        number: u32,
+    ) -> Result<(), NoMemory>
+        ensures { OnOk result
+            (pairs.new.items ≡ pairs.old.items ++ all_reads_by signal.now number) }
+    {
+        if !signal.kind.is_gate() {
+            return Ok(());
+        }
+        for input in signal.fan_in.as_slice() {
+            pairs.push((*input, number))?;
+        }
+        Ok(())
+    }
+
+    // The place of each number in a list, counted from 1, or 0 where it isn't in the list.
+    fn places(alloc: Global, numbers: usize, order: &[u32]) -> Result<Vec<u32>, NoMemory>
+        requires within { All (λ number. number < numbers) order.now }
+        requires once { AllPairs (λ first second. first ≢ second) order.now }
+        requires few { length order.now < 2 ^ 32 }
+        ensures { IfOk result
+            (λ places. ArePlaces numbers order.now (length order.now) places.items) }
+    {
+        let mut places = vec![in alloc; 0u32; numbers]?;
+        for (place, number) in order.iter().enumerate() {
+            places[*number as usize] = place as u32 + 1;
+        }
+        Ok(places)
+    }
+}

@@ -1,0 +1,71 @@
+ghost use Rattle.std.specs.Prelude.{◌≡◌, ◌<◌, length, IfOk};
+ghost use Rattle.cts_model.specs.declared.tech.Tech.{Tech};
+ghost use Rattle.path_delays.specs.LevelParts.{IsLevelsOf};
+ghost use Rattle.path_delays.specs.WalkParts.{HasReach};
+ghost use Rattle.path_delays.specs.CapturedSums.{AreCaptured, either_sums};
+ghost use Rattle.path_delays.specs.JoinedPairs.{IsJoinedBy};
+
+use crate::Levels;
+use crate::sums::Sums;
+use crate::walk::Walk;
+use cts_base::NoMemory;
+use cts_model::{Circuit, PairDelay, Tech};
+use std::alloc::Global;
+
+/// The delays from one register to another over all paths between the two. `None` comes exactly
+/// where no path joins them.
+pub fn pair_delay(
+    alloc: Global,
+    circuit: &Circuit,
+    levels: &Levels,
+    tech: &Tech,
+    from: u32,
+    to: u32,
+) -> Result<Option<PairDelay>, NoMemory>
+    requires levels { IsLevelsOf circuit.now levels.now }
+    requires from { from < length circuit.now.registers }
+    requires to { to < length circuit.now.registers }
+    ensures { IfOk result (IsJoinedBy circuit.now tech.now from to) }
+{
+    let mut walk = Walk::new(alloc, circuit, levels, tech)?;
+    walk.walk_from(circuit, tech, from);
+    Ok(joined_pair(&walk, circuit, from, to))
+}
+
+// The delays from the register that a walk came from to another.
+pub(crate) fn joined_pair(walk: &Walk, circuit: &Circuit, from: u32, to: u32) -> Option<PairDelay>
+    requires { to < length circuit.now.registers }
+    ensures { (tech : Tech) → HasReach circuit.now tech from walk.now
+        → IsJoinedBy circuit.now tech from to result }
+{
+    let captured = circuit.register_signal(to as usize).fan_in.as_slice();
+    let sums = captured_sums(walk, captured)?;
+    Some(PairDelay {
+        from,
+        to,
+        least: i128::from(sums.least),
+        greatest: i128::from(sums.greatest),
+    })
+}
+
+// The least and the greatest of what a walk found at some signals.
+pub(crate) fn captured_sums(walk: &Walk, signals: &[u32]) -> Option<Sums>
+    ensures { AreCaptured walk.now signals.now result }
+{
+    let mut captured = None;
+    for signal in signals {
+        captured = either(captured, walk.sums(*signal));
+    }
+    captured
+}
+
+// The least and the greatest of both, or the one that there is.
+fn either(known: Option<Sums>, found: Option<Sums>) -> Option<Sums>
+    ensures { result ≡ either_sums known found }
+{
+    match (known, found) {
+        (Some(known), Some(found)) => Some(known.merged(found)),
+        (None, found) => found,
+        (known, None) => known,
+    }
+}

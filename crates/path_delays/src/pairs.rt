@@ -1,0 +1,79 @@
+ghost use Rattle.std.specs.Prelude.{◌≡◌, ◌<◌, ◌≤◌, ◌+◌, ◌++◌, length, vec_len, IfOk, IfErr, OnOk};
+ghost use Rattle.std.specs.Option.{option_to_list};
+ghost use Rattle.cts_model.specs.PairLists.{JoinsMoreThan};
+ghost use Rattle.path_delays.specs.LevelParts.{IsLevelsOf};
+ghost use Rattle.path_delays.specs.WalkParts.{IsRoomFor};
+ghost use Rattle.path_delays.specs.JoinedPairs.{ListsPairsBefore, ArePairs, ShowsTooMany, MeetsLimit, pair_limit};
+
+use crate::pair::joined_pair;
+use crate::walk::Walk;
+use crate::{Levels, PairFault};
+use cts_base::Listed;
+use cts_model::{Circuit, PairDelay, Tech};
+use std::alloc::Global;
+
+/// How many joined pairs of registers a circuit may have.
+const MAX_PAIRS: usize = 1_048_576;
+
+/// The delays of all pairs of registers that paths join, by the register that launches and then by
+/// the one that captures.
+pub fn pair_delays(
+    alloc: Global,
+    circuit: &Circuit,
+    levels: &Levels,
+    tech: &Tech,
+) -> Result<Listed<PairDelay>, PairFault>
+    requires { IsLevelsOf circuit.now levels.now }
+    ensures ok { IfOk result (ArePairs circuit.now tech.now) }
+    ensures few { IfOk result (λ _. JoinsMoreThan circuit.now pair_limit → ⊥) }
+    ensures many { IfErr result (ShowsTooMany circuit.now) }
+{
+    let mut walk = Walk::new(alloc, circuit, levels, tech)?;
+    let mut pairs = Vec::new(alloc);
+    for from in 0..circuit.registers.len() {
+        push_pairs_from(&mut pairs, &mut walk, circuit, tech, from as u32)?;
+    }
+    Ok(Listed::from_vec(pairs))
+}
+
+// Appends the pairs of the register that launches.
+fn push_pairs_from(
+    pairs: &mut Vec<PairDelay>,
+    walk: &mut Walk,
+    circuit: &Circuit,
+    tech: &Tech,
+    from: u32,
+) -> Result<(), PairFault>
+    requires from { from < length circuit.now.registers }
+    requires room { IsRoomFor circuit.now tech.now walk.old }
+    requires listed { ListsPairsBefore circuit.now tech.now from 0 pairs.old.items }
+    requires few { vec_len pairs.old ≤ pair_limit }
+    ensures room { IsRoomFor circuit.now tech.now walk.new }
+    ensures listed { OnOk result (ListsPairsBefore circuit.now tech.now (from + 1) 0
+        pairs.new.items) }
+    ensures few { OnOk result (vec_len pairs.new ≤ pair_limit) }
+    ensures many { IfErr result (ShowsTooMany circuit.now) }
+{
+    walk.walk_from(circuit, tech, from);
+    for to in 0..circuit.registers.len() {
+        push_joined(pairs, joined_pair(walk, circuit, from, to as u32))?;
+    }
+    Ok(())
+}
+
+// Appends a pair, if there is one.
+fn push_joined(pairs: &mut Vec<PairDelay>, joined: Option<PairDelay>) -> Result<(), PairFault>
+    requires { vec_len pairs.old ≤ pair_limit }
+    ensures ok { OnOk result (pairs.new.items ≡ pairs.old.items ++ option_to_list joined) }
+    ensures few { OnOk result (vec_len pairs.new ≤ pair_limit) }
+    ensures many { IfErr result (MeetsLimit joined pairs.old.items) }
+{
+    match joined {
+        None => Ok(()),
+        Some(_) if pairs.len() >= MAX_PAIRS => Err(PairFault::TooManyPairs),
+        Some(pair) => {
+            pairs.push(pair)?;
+            Ok(())
+        }
+    }
+}

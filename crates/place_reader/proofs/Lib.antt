@@ -1,0 +1,11 @@
+mod EntryLengths
+mod NameLemmas
+mod NodeLemmas
+mod NumberFaults
+mod PlacedLemmas
+mod PlacePush
+mod PlaceWalk
+mod RegisterPlaces
+mod TakenLines
+mod ToldPlaces
+pub mod OneFault

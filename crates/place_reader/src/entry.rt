@@ -1,0 +1,63 @@
+ghost use Rattle.std.specs.Prelude.{◌≡◌, ◌≤◌, length};
+ghost use Rattle.std.specs.Option.{option_map};
+ghost use Rattle.cts_model.specs.PlaceLines.{entry_of_words, is_header, place_words, y_len};
+ghost use Rattle.place_reader.specs.View.{said_by};
+
+use crate::tail::is_tail;
+use cts_base::{before_comment, words};
+
+/// The line of a node: its name and its coordinates as they are written.
+#[derive(Clone, Copy, Debug, PartialEq, Eq)]
+pub(crate) struct Node<'a> {
+    pub(crate) name: &'a [u8],
+    pub(crate) x: &'a [u8],
+    pub(crate) y: &'a [u8],
+}
+
+/// What a line of a placement is.
+#[derive(Clone, Copy, Debug, PartialEq, Eq)]
+pub(crate) enum Entry<'a> {
+    /// Nothing but spaces, tabs and a comment.
+    Blank,
+    /// The header.
+    Header,
+    /// A node's line.
+    Stands(Node<'a>),
+}
+
+impl<'a> Entry<'a> {
+    /// Reads a line; `begun` says that an earlier one isn't blank. `None` says that it has no form
+    /// of the format.
+    pub(crate) fn of(begun: bool, line: &'a [u8]) -> Option<Entry<'a>>
+        ensures { option_map said_by result ≡ entry_of_words begun (place_words line.now) }
+    {
+        let mut words = words(before_comment(line));
+        let Some(name) = words.next() else {
+            return Some(Entry::Blank);
+        };
+        let x = words.next()?;
+        if !begun && is_header(name, x) {
+            return Some(Entry::Header);
+        }
+        let word = words.next()?;
+        let (y, part) = word.split_at(y_len(word));
+        if y.is_empty() || !is_tail(part, words) {
+            return None;
+        }
+        Some(Entry::Stands(Node { name, x, y }))
+    }
+}
+
+fn is_header(first: &[u8], second: &[u8]) -> bool
+    ensures { result ≡ is_header first.now second.now }
+{
+    first == b"UCLA".as_slice() && second == b"pl".as_slice()
+}
+
+// How many bytes of a word stand before its first colon.
+fn y_len(word: &[u8]) -> usize
+    ensures count { result ≡ y_len word.now }
+    ensures within { result ≤ length word.now }
+{
+    word.iter().take_while(|byte| **byte != b':').count()
+}

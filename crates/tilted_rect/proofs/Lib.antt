@@ -1,0 +1,10 @@
+pub mod CodeNumbers
+pub mod ExtremeLemmas
+mod IntervalLemmas
+pub mod MergeLemmas
+pub mod MultipleLemmas
+mod RectLemmas
+pub mod RegionLemmas
+mod Scaling
+pub mod SpanLemmas
+mod TurnLemmas

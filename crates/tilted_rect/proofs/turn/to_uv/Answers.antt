@@ -1,0 +1,13 @@
+use Rattle.std.proofs.Common.{◌≡◌, sym, subst, arith}
+use Rattle.std.proofs.lemmas.Int.{ints}
+use Rattle.cts_model.specs.Points.{distance, turned, turned_distance}
+use Rattle.cts_model.proofs.PointLemmas.{apart-turned}
+use Rattle.tilted_rect.proofs.TurnLemmas.{same_uv}
+use Rattle.tilted_rect.proofs.turn.to_uv.Goals as goal
+
+pub returns-clause-value : goal.returns-clause-value
+returns-clause-value c = same_uv (omega (arith, ints)) (omega (arith, ints))
+
+pub returns-clause-distance : goal.returns-clause-distance
+returns-clause-distance c = λ other.
+    subst (λ at. distance c.args.at other ≡ turned_distance at (turned other)) (sym (returns-clause-value c)) (apart-turned c.args.at.x c.args.at.y other.x other.y)

@@ -1,0 +1,5 @@
+pub mod Corners
+pub mod Extremes
+pub mod Intervals
+pub mod Laws
+pub mod Rects

@@ -1,0 +1,10 @@
+//! Rectangles at 45 degrees to the axes: the points within a distance of a point are one.
+#![tactic(auto)]
+
+mod interval;
+pub mod laws;
+mod rect;
+mod turn;
+
+pub use rect::Rect;
+pub use turn::{to_point, to_uv};

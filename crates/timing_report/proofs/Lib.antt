@@ -1,0 +1,4 @@
+mod MostDelayedPairs
+mod FirstPairs
+mod ListedPeriods
+mod PairListLemmas

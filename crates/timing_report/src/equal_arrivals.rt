@@ -1,0 +1,68 @@
+ghost use Rattle.std.specs.Prelude.{◌≡◌, int_lt, if◌then◌else◌, length, All, MatchOption, find};
+ghost use Rattle.cts_model.specs.declared.circuit.Circuit.{Circuit};
+ghost use Rattle.cts_model.specs.EqualArrivals.{IsZeroSkew};
+ghost use Rattle.cts_model.specs.PairLists.{ListsPairs, IsSmallPair, HasSmallDelays};
+ghost use Rattle.timing_report.specs.ListedPairs.{IsMostDelayed, IsZeroSkewOf};
+
+use cts_base::Listed;
+use cts_model::{PairDelay, Tech, ZeroSkew};
+
+/// The least period at equal arrivals of a circuit, from the delays of its pairs. It takes no
+/// memory.
+pub fn zero_skew(pairs: &Listed<PairDelay>, tech: &Tech) -> ZeroSkew
+    requires { All IsSmallPair pairs.now }
+    ensures listed { IsZeroSkewOf tech.now pairs.now result }
+    ensures least { (circuit : Circuit) → ListsPairs circuit tech.now pairs.now
+        → IsZeroSkew circuit tech.now result }
+    ensures small { HasSmallDelays result }
+{
+    zero_skew_of(pairs.as_slice(), tech)
+}
+
+// The same of a slice.
+fn zero_skew_of(pairs: &[PairDelay], tech: &Tech) -> ZeroSkew
+    requires { All IsSmallPair pairs.now }
+    ensures { IsZeroSkewOf tech.now pairs.now result }
+{
+    if let Some(pair) = first_too_quick(pairs, tech.hold) {
+        return ZeroSkew::Fails { pair };
+    }
+    let Some(pair) = most_delayed(pairs) else {
+        return ZeroSkew::Floor { value: tech.floor };
+    };
+    let value = pair.greatest + tech.setup;
+    if value <= tech.floor {
+        ZeroSkew::Floor { value: tech.floor }
+    } else {
+        ZeroSkew::Setup { value, pair }
+    }
+}
+
+// The first pair whose least delay is below the hold time.
+fn first_too_quick(pairs: &[PairDelay], hold: i128) -> Option<PairDelay>
+    ensures { result ≡ find (λ pair. int_lt pair.least hold) pairs.now }
+{
+    pairs.iter().copied().find(|pair| pair.least < hold)
+}
+
+// The pair with the greatest delay, and of several the first.
+fn most_delayed(pairs: &[PairDelay]) -> Option<PairDelay>
+    ensures { MatchOption result (length pairs.now ≡ 0) (IsMostDelayed pairs.now) }
+{
+    let mut most = *pairs.first()?;
+    for pair in pairs {
+        most = more_delayed(most, *pair);
+    }
+    Some(most)
+}
+
+// The pair with the greater delay, and the first where both have the same.
+fn more_delayed(first: PairDelay, second: PairDelay) -> PairDelay
+    ensures { result ≡ (if int_lt first.greatest second.greatest then second else first) }
+{
+    if first.greatest < second.greatest {
+        second
+    } else {
+        first
+    }
+}
