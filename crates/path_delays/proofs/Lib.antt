@@ -19,6 +19,7 @@ mod Chains
 mod Rooms
 mod Launching
 mod WalkSteps
+mod CaptureLemmas
 mod CapturedLemmas
 mod ReachedPairs
 mod FurthestSignals

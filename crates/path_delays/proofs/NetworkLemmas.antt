@@ -4,6 +4,7 @@ use Rattle.std.specs.List.{slice_get, sum_by}
 use Rattle.std.specs.Option.{option_map_or}
 use Rattle.std.proofs.lemmas.Bool.{cases_eq, cases_lt, eqb-true, eq-eqb}
 use Rattle.std.proofs.lemmas.List.{length-append, length-map, length-set, length-take, get_or-map, get_or-take, get_or-set_same, get_or-set_other, get_or_default, length-replicate, get_or-replicate, get_or_past}
+use Rattle.std.proofs.lemmas.List.Folds.{sum_by-replicate}
 use Rattle.std.proofs.lemmas.List.Sums.{sum_by_more, sum_by-cons, sum_by-set, sum_by-le-sum_by, sum-map}
 use Rattle.std.proofs.lemmas.List.Elements.{All-nil, All-map, All-filter, All-append, All-contains, All-contains_itself, filter_passes, Contains-append_left, Contains-append_right}
 use Rattle.std.proofs.lemmas.Option.{get_or_from_slice_get, slice_get_within, slice_get-get_or, slice_get_past}
@@ -28,7 +29,7 @@ AreAllReads-none signals = record {
 }
 
 -- what a list contains, its image contains
-Contains-map : {X Y : Type 0} (f : X → Y) (xs : List X) (x : X) → Contains xs x → Contains (map f xs) (f x)
+pub Contains-map : {X Y : Type 0} (f : X → Y) (xs : List X) (x : X) → Contains xs x → Contains (map f xs) (f x)
 Contains-map f xs x (k, inside, here) = (k, omega (arith, length-map xs f), get_or-map f xs k x (f x) inside ∙ ap f here)
 
 -- the pairs of one more signal
@@ -74,7 +75,7 @@ pub reader_within : (signals : List Signal) (gate read : ℕ) → Reads signals 
 reader_within signals gate read reads = elim (cases_lt gate (length signals)) [ inl inside ↦ inside | inr past ↦ absurd (rw (slice_get_past signals gate past) at reads) ]
 
 -- a pair's value stands among those of its key
-Contains-values_at : (pairs : List (ℕ × ℕ)) (key value : ℕ) → Contains pairs (key, value) → Contains (values_at pairs key) value
+pub Contains-values_at : (pairs : List (ℕ × ℕ)) (key value : ℕ) → Contains pairs (key, value) → Contains (values_at pairs key) value
 Contains-values_at [] key value (k, inside, here) = absurd (omega arith)
 Contains-values_at (pair ∷ pairs) key value (zero, inside, here) =
     let passes : (pair.0 == key) ≡ true = eq-eqb pair.0 key (ap (λ (p : ℕ × ℕ). p.0) here) in
@@ -85,23 +86,24 @@ Contains-values_at (pair ∷ pairs) key value (suc k, inside, here) = at (pair.0
     at true rest = Contains-cons pair.1 value (values_at pairs key) rest
     at false rest = rest
 
+-- and what holds of each pair holds of the values of a key
+pub All-values_at : (Holds : ℕ → ℕ → Type 0) (pairs : List (ℕ × ℕ)) (key : ℕ) → All (λ pair. Holds pair.0 pair.1) pairs → All (Holds key) (values_at pairs key)
+All-values_at Holds pairs key each =
+    let test : ℕ × ℕ → Bool = λ (pair : ℕ × ℕ). pair.0 == key in
+    let kept = All-filter test (λ (pair : ℕ × ℕ). Holds pair.0 pair.1) pairs each in
+    All-map (Holds key) (λ (pair : ℕ × ℕ). pair.1) (filter test pairs) (λ i d inside.
+    subst (λ n. Holds n (get_or (filter test pairs) i d).1) (eqb-true (get_or (filter test pairs) i d).0 key (filter_passes test pairs i d inside)) (kept i d inside))
+
 -- the groups of the pairs are the readers of each signal
 pub AreReaders-grouped : (signals : List Signal) (pairs : List (ℕ × ℕ)) (groups : Groups) → All (λ signal. All (λ number. number < length signals) signal.fan_in) signals
     → AreAllReads signals (length signals) pairs → HasGroups (length signals) pairs groups → AreReaders signals groups
 AreReaders-grouped signals pairs groups within reads grouped = record {
   long = grouped.long;
-  each = λ read gate inside listed. All-contains (λ gate. Reads signals gate read) (group_of groups read) gate (rw (grouped.each read inside) (readers read)) listed;
+  each = λ read gate inside listed. All-contains (λ gate. Reads signals gate read) (group_of groups read) gate (rw (grouped.each read inside) (All-values_at (λ read gate. Reads signals gate read) pairs read reads.each)) listed;
   all = λ read gate reading.
       let inside = reads_within signals gate read within reading in
       rw (grouped.each read inside) (Contains-values_at pairs read gate (reads.all gate read (reader_within signals gate read reading) reading));
 }
-  where
-    readers : (read : ℕ) → All (λ gate. Reads signals gate read) (values_at pairs read)
-    readers read =
-        let test : ℕ × ℕ → Bool = λ (pair : ℕ × ℕ). pair.0 == read in
-        let kept = All-filter test (λ (pair : ℕ × ℕ). Reads signals pair.1 pair.0) pairs reads.each in
-        All-map (λ gate. Reads signals gate read) (λ (pair : ℕ × ℕ). pair.1) (filter test pairs) (λ i d inside.
-        subst (Reads signals (get_or (filter test pairs) i d).1) (eqb-true (get_or (filter test pairs) i d).0 read (filter_passes test pairs i d inside)) (kept i d inside))
 
 -- no number has a place in no items
 pub ArePlaces-none : (limit : ℕ) (order : List ℕ) → ArePlaces limit order 0 (replicate limit 0)
@@ -188,6 +190,14 @@ distinct_sum-le weights (number ∷ numbers) once = elim (cases_lt number (lengt
     same : sum_by (λ n. get_or weights n 0) numbers ≡ sum_by (λ n. get_or (set weights number 0) n 0) numbers
     same = sum_by-same (λ n. get_or weights n 0) (λ n. get_or (set weights number 0) n 0) numbers (λ i d inside.
         sym (get_or-set_other weights number (get_or numbers i d) 0 0 (λ equal. once 0 (suc i) d (omega arith) (omega arith) (sym equal))))
+
+-- so distinct numbers below a limit are no more than the limit
+pub distinct_length-le : (limit : ℕ) (numbers : List ℕ) → AllPairs (λ first second. first ≢ second) numbers → All (λ number. number < limit) numbers → length numbers ≤ limit
+distinct_length-le limit numbers once below = omega (arith, distinct_sum-le (replicate limit 1) numbers once, sum_by-replicate (λ x. x) limit 1, count numbers below)
+  where
+    count : (numbers : List ℕ) → All (λ number. number < limit) numbers → sum_by (λ number. get_or (replicate limit 1) number 0) numbers ≡ length numbers
+    count [] below = refl
+    count (number ∷ numbers) below = omega (arith, sum_by-cons (λ n. get_or (replicate limit 1) n 0) number numbers, get_or-replicate {A = ℕ} limit number 1 0 (below 0 number (omega arith)), count numbers (λ i d inside. below (suc i) d (omega arith)))
 
 -- so the gates of an order have no more weight than the signals
 pub weights_once : (signals : List Signal) (order : List ℕ) → AllPairs (λ first second. first ≢ second) order → sum_by (weight_at signals) order ≤ sum_by weight_of signals

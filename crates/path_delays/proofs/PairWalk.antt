@@ -17,7 +17,7 @@ use Rattle.cts_model.specs.PairLists.{IsSmallPair}
 use Rattle.path_delays.specs.JoinedPairs.{IsDelayBetween, IsJoinedBy, ListsPairsBefore, pair_limit, ArePairs}
 
 -- a register that has a signal is one of the circuit's
-register_within : (circuit : Circuit) (register : ℕ) (Holds : Signal → Type 0) → IsSomeAnd (register_signal circuit register) Holds → register < length circuit.registers
+pub register_within : (circuit : Circuit) (register : ℕ) (Holds : Signal → Type 0) → IsSomeAnd (register_signal circuit register) Holds → register < length circuit.registers
 register_within circuit register Holds holds = at (slice_get circuit.registers register) refl holds
   where
     at : (listed : Option ℕ) → slice_get circuit.registers register ≡ listed → IsSomeAnd (option_and_then (slice_get circuit.signals) listed) Holds → register < length circuit.registers

@@ -14,6 +14,7 @@ use Rattle.path_delays.specs.declared.sums.Sums.{Sums}
 use Rattle.path_delays.specs.declared.walk.Walk.{Walk}
 use Rattle.path_delays.specs.Reaches.{IsChain, AreExtreme, IsReach}
 use Rattle.path_delays.specs.WalkParts.{sums_to, HasReach}
+use Rattle.path_delays.specs.Captured.{AreCapturedBy}
 use Rattle.path_delays.specs.CapturedSums.{AreSumsOver, AreCaptured}
 use Rattle.path_delays.specs.JoinedPairs.{IsDelayBetween}
 
@@ -45,15 +46,11 @@ pub chain_of_path : (circuit : Circuit) (from to : ℕ) (path : List ℕ) → Is
 chain_of_path circuit from to [] is_path = absurd is_path
 chain_of_path circuit from to (first ∷ gates) is_path = (is_path.1.0, (is_path.0, is_path.1.1), is_path.1.2)
 
-module _ (circuit : Circuit) (tech : Tech) (from to : ℕ) (walk : Walk) (captured : Signal) (found : register_signal circuit to ≡ Some captured) (reach : HasReach circuit tech from walk) where
-  -- the captured signals are the fan-in
-  captures : (signal : ℕ) → Contains captured.fan_in signal → Captures circuit to signal
-  captures signal listed = rw found listed
+-- a register captures its signal's fan-in
+pub captured_is_fan_in : (circuit : Circuit) (register : ℕ) (signal : Signal) → register_signal circuit register ≡ Some signal → AreCapturedBy circuit register signal.fan_in
+captured_is_fan_in circuit register signal found = λ number. (λ listed. rw found listed, λ captures. rw found at captures)
 
-  -- and the other way round
-  listed_of : (signal : ℕ) → Captures circuit to signal → Contains captured.fan_in signal
-  listed_of signal is_captured = rw found at is_captured
-
+module _ (circuit : Circuit) (tech : Tech) (from to : ℕ) (walk : Walk) (captured : List ℕ) (exact : AreCapturedBy circuit to captured) (reach : HasReach circuit tech from walk) where
   -- what the walk found at a signal are the delays of its chains
   reached : (signal : ℕ) (entry : Sums) → sums_to walk signal ≡ Some entry → AreExtreme circuit tech from signal entry
   reached signal entry here = subst (IsReach circuit tech from signal) here (reach.each signal)
@@ -63,19 +60,19 @@ module _ (circuit : Circuit) (tech : Tech) (from to : ℕ) (walk : Walk) (captur
   no_chain signal chain nothing is_chain = subst (IsReach circuit tech from signal) nothing (reach.each signal) chain is_chain
 
   -- so no path joins the registers, where it found nothing at any
-  pub no_path : AreCaptured walk captured.fan_in None → (path : List ℕ) → IsPath circuit from to path → ⊥
+  pub no_path : AreCaptured walk captured None → (path : List ℕ) → IsPath circuit from to path → ⊥
   no_path none path is_path =
       let chain = chain_of_path circuit from to path is_path in
-      no_chain chain.0 path (none chain.0 (listed_of chain.0 chain.2)) chain.1
+      no_chain chain.0 path (none chain.0 ((exact chain.0).1 chain.2)) chain.1
 
   -- the delays of a path lie within the sums over all captured signals
-  path_within : (sums : Sums) → AreSumsOver walk captured.fan_in sums → (path : List ℕ) → IsPath circuit from to path → (sums.least ≤ℤ least_delay circuit tech path) × (greatest_delay circuit tech path ≤ℤ sums.greatest)
+  path_within : (sums : Sums) → AreSumsOver walk captured sums → (path : List ℕ) → IsPath circuit from to path → (sums.least ≤ℤ least_delay circuit tech path) × (greatest_delay circuit tech path ≤ℤ sums.greatest)
   path_within sums over path is_path =
       let chain = chain_of_path circuit from to path is_path in
-      let listed = listed_of chain.0 chain.2 in
+      let listed = (exact chain.0).1 chain.2 in
       at chain.0 listed chain.1 (sums_to walk chain.0) refl
     where
-      at : (last : ℕ) → Contains captured.fan_in last → IsChain circuit from last path → (entry : Option Sums) → sums_to walk last ≡ entry → (sums.least ≤ℤ least_delay circuit tech path) × (greatest_delay circuit tech path ≤ℤ sums.greatest)
+      at : (last : ℕ) → Contains captured last → IsChain circuit from last path → (entry : Option Sums) → sums_to walk last ≡ entry → (sums.least ≤ℤ least_delay circuit tech path) × (greatest_delay circuit tech path ≤ℤ sums.greatest)
       at last listed is_chain None nothing = absurd (no_chain last path nothing is_chain)
       at last listed is_chain (Some entry) here =
           let around = over.around last entry listed here in
@@ -85,7 +82,7 @@ module _ (circuit : Circuit) (tech : Tech) (from to : ℕ) (walk : Walk) (captur
           (omega (arith, ints, around.least), omega (arith, ints, around.greatest))
 
   -- the sums over all captured signals are the delays between the registers
-  pub delays_between : (sums : Sums) (pair : PairDelay) → AreSumsOver walk captured.fan_in sums → pair.from ≡ from → pair.to ≡ to → pair.least ≡ sums.least → pair.greatest ≡ sums.greatest → IsDelayBetween circuit tech from to pair
+  pub delays_between : (sums : Sums) (pair : PairDelay) → AreSumsOver walk captured sums → pair.from ≡ from → pair.to ≡ to → pair.least ≡ sums.least → pair.greatest ≡ sums.greatest → IsDelayBetween circuit tech from to pair
   delays_between sums pair over from_is to_is least_is greatest_is =
       let least_entry = some_of (sums_to walk over.least_at) (λ entry. entry.least ≡ sums.least) over.least_found in
       let least_reach = reached over.least_at least_entry.0 least_entry.1 in
@@ -99,9 +96,9 @@ module _ (circuit : Circuit) (tech : Tech) (from to : ℕ) (walk : Walk) (captur
         from_is = from_is;
         to_is = to_is;
         delays = record {
-          least_shown = (least_chain.0, here least_chain.0 (path_of_chain circuit from to over.least_at least_chain.0 least_chain.1 (captures over.least_at over.least_listed)), least_chain.2 ∙ least_entry.2 ∙ sym least_is);
+          least_shown = (least_chain.0, here least_chain.0 (path_of_chain circuit from to over.least_at least_chain.0 least_chain.1 ((exact over.least_at).0 over.least_listed)), least_chain.2 ∙ least_entry.2 ∙ sym least_is);
           least = λ path is_path. rw least_is (path_within sums over path (there path is_path)).0;
-          greatest_shown = (greatest_chain.0, here greatest_chain.0 (path_of_chain circuit from to over.greatest_at greatest_chain.0 greatest_chain.1 (captures over.greatest_at over.greatest_listed)), greatest_chain.2 ∙ greatest_entry.2 ∙ sym greatest_is);
+          greatest_shown = (greatest_chain.0, here greatest_chain.0 (path_of_chain circuit from to over.greatest_at greatest_chain.0 greatest_chain.1 ((exact over.greatest_at).0 over.greatest_listed)), greatest_chain.2 ∙ greatest_entry.2 ∙ sym greatest_is);
           greatest = λ path is_path. rw greatest_is (path_within sums over path (there path is_path)).1;
         };
         small = record {

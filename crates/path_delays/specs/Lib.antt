@@ -12,6 +12,7 @@ pub mod Handing
 pub mod Reaches
 pub mod Walking
 pub mod WalkParts
+pub mod Captured
 pub mod CapturedSums
 pub mod JoinedPairs
 pub mod ExtremePaths

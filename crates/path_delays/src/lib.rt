@@ -2,6 +2,7 @@
 //! paths between its registers.
 #![tactic(auto)]
 
+mod captures;
 mod extreme_path;
 mod fault;
 mod gate_delays;

@@ -1,7 +1,9 @@
 ghost use Rattle.std.specs.Prelude.{◌≡◌, ◌<◌, length, IfOk};
+ghost use Rattle.cts_model.specs.declared.circuit.Circuit.{Circuit};
 ghost use Rattle.cts_model.specs.declared.tech.Tech.{Tech};
 ghost use Rattle.path_delays.specs.LevelParts.{IsLevelsOf};
 ghost use Rattle.path_delays.specs.WalkParts.{HasReach};
+ghost use Rattle.path_delays.specs.Captured.{AreCapturedBy};
 ghost use Rattle.path_delays.specs.CapturedSums.{AreCaptured, either_sums};
 ghost use Rattle.path_delays.specs.JoinedPairs.{IsJoinedBy};
 
@@ -29,16 +31,15 @@ pub fn pair_delay(
 {
     let mut walk = Walk::new(alloc, circuit, levels, tech)?;
     walk.walk_from(circuit, tech, from);
-    Ok(joined_pair(&walk, circuit, from, to))
+    let captured = circuit.register_signal(to as usize).fan_in.as_slice();
+    Ok(joined_pair(&walk, captured, from, to))
 }
 
-// The delays from the register that a walk came from to another.
-pub(crate) fn joined_pair(walk: &Walk, circuit: &Circuit, from: u32, to: u32) -> Option<PairDelay>
-    requires { to < length circuit.now.registers }
-    ensures { (tech : Tech) → HasReach circuit.now tech from walk.now
-        → IsJoinedBy circuit.now tech from to result }
+// The delays from the register that a walk came from to another, which captures these signals.
+pub(crate) fn joined_pair(walk: &Walk, captured: &[u32], from: u32, to: u32) -> Option<PairDelay>
+    ensures { (circuit : Circuit) (tech : Tech) → AreCapturedBy circuit to captured.now
+        → HasReach circuit tech from walk.now → IsJoinedBy circuit tech from to result }
 {
-    let captured = circuit.register_signal(to as usize).fan_in.as_slice();
     let sums = captured_sums(walk, captured)?;
     Some(PairDelay {
         from,

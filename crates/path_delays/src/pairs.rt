@@ -3,8 +3,11 @@ ghost use Rattle.std.specs.Option.{option_to_list};
 ghost use Rattle.cts_model.specs.PairLists.{JoinsMoreThan};
 ghost use Rattle.path_delays.specs.LevelParts.{IsLevelsOf};
 ghost use Rattle.path_delays.specs.WalkParts.{IsRoomFor};
+ghost use Rattle.path_delays.specs.Captured.{AreCapturesOf};
 ghost use Rattle.path_delays.specs.JoinedPairs.{ListsPairsBefore, ArePairs, ShowsTooMany, MeetsLimit, pair_limit};
 
+use crate::captures::captures;
+use crate::groups::Groups;
 use crate::pair::joined_pair;
 use crate::walk::Walk;
 use crate::{Levels, PairFault};
@@ -29,9 +32,10 @@ pub fn pair_delays(
     ensures many { IfErr result (ShowsTooMany circuit.now) }
 {
     let mut walk = Walk::new(alloc, circuit, levels, tech)?;
+    let captures = captures(alloc, circuit)?;
     let mut pairs = Vec::new(alloc);
     for from in 0..circuit.registers.len() {
-        push_pairs_from(&mut pairs, &mut walk, circuit, tech, from as u32)?;
+        push_pairs_from(&mut pairs, &mut walk, circuit, &captures, tech, from as u32)?;
     }
     Ok(Listed::from_vec(pairs))
 }
@@ -41,11 +45,13 @@ fn push_pairs_from(
     pairs: &mut Vec<PairDelay>,
     walk: &mut Walk,
     circuit: &Circuit,
+    captures: &Groups,
     tech: &Tech,
     from: u32,
 ) -> Result<(), PairFault>
     requires from { from < length circuit.now.registers }
     requires room { IsRoomFor circuit.now tech.now walk.old }
+    requires captures { AreCapturesOf circuit.now captures.now }
     requires listed { ListsPairsBefore circuit.now tech.now from 0 pairs.old.items }
     requires few { vec_len pairs.old ≤ pair_limit }
     ensures room { IsRoomFor circuit.now tech.now walk.new }
@@ -56,7 +62,10 @@ fn push_pairs_from(
 {
     walk.walk_from(circuit, tech, from);
     for to in 0..circuit.registers.len() {
-        push_joined(pairs, joined_pair(walk, circuit, from, to as u32))?;
+        push_joined(
+            pairs,
+            joined_pair(walk, captures.group(to), from, to as u32),
+        )?;
     }
     Ok(())
 }

@@ -1,6 +1,6 @@
 use Rattle.std.proofs.Common.{◌∙◌}
 use Rattle.path_delays.proofs.OrderPlaces.{place_falls}
-use Rattle.path_delays.proofs.ReachedPairs.{no_path}
+use Rattle.path_delays.proofs.ReachedPairs.{no_path, captured_is_fan_in}
 use Rattle.path_delays.proofs.PathsBack.{captures_furthest, captures_within, back_first, back_next, back_at_start}
 use Rattle.path_delays.proofs.extreme_path.path_of.Goals as goal
 
@@ -13,7 +13,8 @@ loop-read-preserved c =
 
 pub returns-in_default : goal.returns-in_default
 returns-in_default c =
-    no_path c.args.circuit.now c.args.tech.now c.args.from c.args.to c.walk_from.new.self c.register_signal.result.now c.register_signal.ensures c.walk_from.ensures.reach (rw c.as_slice-captured.ensures at c.in_default.ensures)
+    no_path c.args.circuit.now c.args.tech.now c.args.from c.args.to c.walk_from.new.self c.register_signal.result.now.fan_in
+    (captured_is_fan_in c.args.circuit.now c.args.to c.register_signal.result.now c.register_signal.ensures) c.walk_from.ensures.reach (rw c.as_slice-captured.ensures at c.in_default.ensures)
 
 pub loop-read-init : goal.loop-read-init
 loop-read-init c =

@@ -1,0 +1,6 @@
+-- The pairs of the signals passed so far.
+use Rattle.std.proofs.Common.{◌≡◌, ◌++◌, map, take}
+use Rattle.path_delays.proofs.captures.push_captured.Given as goal
+
+abbrev pub invariant-loop-signal : goal.invariant-loop-signal
+invariant-loop-signal l = l.pairs.items ≡ l.initial.pairs.items ++ map (λ signal. (l.register, signal)) (take l.signal-index l.captured)
