@@ -12,6 +12,7 @@ mod zero;
 mod zero_text;
 
 use cts_io::{HostInputs, HostSink};
+use failure::Failure;
 use run::run;
 use std::process::ExitCode;
 use std::rt::Env;
@@ -19,12 +20,17 @@ use std::{env, io};
 
 fn main(rt: HostRuntime) -> ExitCode {
     let alloc = rt.alloc();
-    // Words that can't be had are wrong words.
-    let words = words(&rt).unwrap_or(Vec::new(alloc));
     let mut inputs = HostInputs::new(&rt);
     let mut out = HostSink::new(rt.stdout());
     let mut err = HostSink::new(rt.stderr());
-    ExitCode::from(run(alloc, &words, &mut inputs, &mut out, &mut err))
+    let failure = match words(&rt) {
+        Ok(words) => return ExitCode::from(run(alloc, &words, &mut inputs, &mut out, &mut err)),
+        Err(error) if error.kind() == io::ErrorKind::OutOfMemory => Failure::NoMemory,
+        // Words that are no text are wrong words.
+        Err(_) => Failure::Usage,
+    };
+    failure.report(&mut err);
+    ExitCode::from(failure.status())
 }
 
 // The words behind the program's name.
