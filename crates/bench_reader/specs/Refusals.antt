@@ -1,5 +1,6 @@
--- Why the reader refuses a netlist: the first line with a flaw, else the first that uses a name which
--- no line defines, else that there is no register, else gates that read one another in a ring.
+-- Why the reader refuses a netlist: the first line with a flaw, else the first that uses a name
+-- which no line defines, else that there is no register, else gates that read one another in a
+-- ring.
 use Rattle.std.specs.Prelude.{◌≡◌, ◌<◌, ℕ, List, [], map}
 use Rattle.std.specs.Option.{option_map_or}
 use Rattle.std.specs.List.{slice_get}

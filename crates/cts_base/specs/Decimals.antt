@@ -1,7 +1,7 @@
 -- Decimal numbers, as the placements of the Bookshelf format have them. The format doesn't say how
--- a number is spelled; it is this project's choice to take an optional sign, digits with at most one
--- point among, before or after them, and an exponent of ten if wanted. The value is
--- digits * 10^raised / 10^lowered, with the sign.
+-- a number is spelled; it is this project's choice to take an optional sign, digits with at most
+-- one point among, before or after them, and an exponent of ten if wanted. The value is digits *
+-- 10^raised / 10^lowered, with the sign.
 use Rattle.std.specs.Prelude.{◌≡◌, ℕ, ◌+◌, ◌*◌, ◌^◌, ◌<◌, ◌≤◌, Bool, false, ◌==◌, ◌||◌, IsTrue, List, ◌++◌, length, ℤ, pos, ◌≤ℤ◌, nat_abs, if◌then◌else◌}
 use Rattle.std.specs.List.{before_first, after_first}
 use Rattle.std.specs.Str.Parse.{AllDigits, IsNumeral, digits_value, starts_with_minus, without_leading_sign}
@@ -57,7 +57,8 @@ raised text = if starts_with_minus (exponent text) then 0 else exponent_size tex
 
 unfoldable pub lowered : List ℕ → ℕ
 lowered text =
-    length (fraction_digits text) + (if starts_with_minus (exponent text) then exponent_size text else 0)
+    length (fraction_digits text) + (if starts_with_minus (exponent text) then exponent_size text
+        else 0)
 
 -- the size of the value is so many millionths
 abbrev pub IsMicrosSize : List ℕ → ℕ → Type 0

@@ -1,5 +1,6 @@
 -- The lines of a text: it is cut at each line feed, and a carriage return before one, or before the
--- end of the text, belongs to the line's end. The ISCAS'89 and Bookshelf files are texts of such lines.
+-- end of the text, belongs to the line's end. The ISCAS'89 and Bookshelf files are texts of such
+-- lines.
 use Rattle.std.specs.Prelude.{◌≡◌, ◌+◌, ℕ, Bool, List, [], ◌∷◌, ◌++◌, length, map, ◌==◌, if◌then◌else◌}
 use Rattle.std.specs.List.{slice_split, enumerate_from}
 use Rattle.std.specs.Str.Lines.{strip_carriage_return}

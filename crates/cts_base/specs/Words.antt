@@ -1,4 +1,5 @@
--- The words of a line, and the part of it that is no comment, as the ISCAS'89 and Bookshelf formats have them.
+-- The words of a line, and the part of it that is no comment, as the ISCAS'89 and Bookshelf formats
+-- have them.
 use Rattle.std.specs.Prelude.{ℕ, Bool, not, List, length, filter, ◌==◌, ◌||◌}
 use Rattle.std.specs.List.{slice_split, before_first}
 

@@ -1,7 +1,8 @@
 -- What a device gives and takes, and when a count of its faults rose.
 use Rattle.std.specs.Prelude.{◌≡◌, ◌≤◌, ◌+◌, ◌-◌, ◌^◌, ℕ, min, List, [], ◌++◌, length, take, drop, Option, Some, None}
 
--- a count rose from before to now; a counter stands still at its last value, and there it counts as risen
+-- a count rose from before to now; a counter stands still at its last value, and there it counts as
+-- risen
 abbrev pub Rose : ℕ → ℕ → Type 0
 Rose before now = min (before + 1) (2 ^ 64 - 1) ≤ now
 
@@ -19,7 +20,8 @@ pub record Takes (left : List ℕ) (n : ℕ) (buffer : List ℕ) (after : Option
   pub some : n ≡ 0 → left ≡ []
 
 -- all but at least the last of these bytes are written: a prefix of them
-pub record WritesPrefix (before : Option (List ℕ)) (bytes : List ℕ) (now : Option (List ℕ)) : Type 0 where
+pub record WritesPrefix (before : Option (List ℕ)) (bytes : List ℕ)
+    (now : Option (List ℕ)) : Type 0 where
   pub count : ℕ
   pub short : count + 1 ≤ length bytes
   pub written : now ≡ appended before (take count bytes)

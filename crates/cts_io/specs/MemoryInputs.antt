@@ -5,7 +5,8 @@ use Rattle.std.specs.Str.{bytes_eq}
 use Rattle.cts_io.specs.Plan.{PlanState, fails_next, after_call, with_fault}
 use Rattle.cts_io.specs.declared.memory_inputs.HeldFile.{HeldFile}
 
--- the files, the plan of their calls, the most bytes of a take, and what is left of the started file
+-- the files, the plan of their calls, the most bytes of a take, and what is left of the started
+-- file
 pub record InputsState : Type 0 where
   pub files : List HeldFile
   pub plan : PlanState
@@ -27,7 +28,8 @@ starts inputs name = not (fails_next inputs.plan) && is_some (held_in inputs.fil
 -- after a start, all bytes of the file are left; after a fault, what was left
 abbrev pub after_start : InputsState → List ℕ → InputsState
 after_start inputs name = if starts inputs name
-    then record inputs { plan = after_call inputs.plan; left = unwrap_or (held_in inputs.files name) [] }
+    then record inputs { plan = after_call inputs.plan;
+        left = unwrap_or (held_in inputs.files name) [] }
     else record inputs { plan = with_fault (after_call inputs.plan) }
 
 -- how many bytes a take gives to a buffer of this length
@@ -38,4 +40,5 @@ given inputs room = min (min inputs.piece room) (length inputs.left)
 abbrev pub after_take : InputsState → ℕ → InputsState
 after_take inputs room = if fails_next inputs.plan
     then record inputs { plan = with_fault (after_call inputs.plan) }
-    else record inputs { plan = after_call inputs.plan; left = drop (given inputs room) inputs.left }
+    else record inputs { plan = after_call inputs.plan;
+        left = drop (given inputs room) inputs.left }

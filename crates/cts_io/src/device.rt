@@ -50,7 +50,8 @@ pub trait Inputs {
         ensures failed { OnErr result (Rose (faults self.old name.now) (faults self.new name.now)) }
         ensures files { (file : List ℕ) → holds self.new file ≡ holds self.old file }
         ensures counts { (file : List ℕ) → faults self.old file ≤ faults self.new file }
-        ensures stays { OnOk result ((file : List ℕ) → faults self.new file ≡ faults self.old file) };
+        ensures stays { OnOk result ((file : List ℕ)
+            → faults self.new file ≡ faults self.old file) };
 }
 
 /// A place where bytes are written in pieces.
@@ -66,7 +67,8 @@ pub trait Sink {
         ensures within { IfOk result (λ n. n ≤ length piece.now) }
         ensures some { 0 < length piece.now → IfOk result (λ n. 0 < n) }
         ensures none { length piece.now ≡ 0 → IsOk result }
-        ensures ok { IfOk result (λ n. written self.new ≡ appended (written self.old) (take n piece.now)) }
+        ensures ok { IfOk result (λ n. written self.new ≡ appended (written self.old)
+            (take n piece.now)) }
         // After a fault nothing more is written.
         ensures err { OnErr result (written self.new ≡ written self.old) }
         ensures failed { OnErr result (Rose (faults self.old) (faults self.new)) }

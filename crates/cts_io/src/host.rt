@@ -78,7 +78,8 @@ impl<'a, R: Files> Inputs for HostInputs<'a, R> {
 
         // The trait's clauses.
         ensures within { IfOk result (λ n. n ≤ length into.new) }
-        ensures ok { IfOk result (λ n. (rest : List ℕ) → untold ≡ Some rest → Takes rest n into.new untold) }
+        ensures ok { IfOk result (λ n. (rest : List ℕ) → untold ≡ Some rest
+            → Takes rest n into.new untold) }
         ensures failed { OnErr result (Rose self.old self.new) }
         ensures files { (file : List ℕ) → untold ≡ untold }
         ensures counts { (file : List ℕ) → self.old ≤ self.new }

@@ -33,9 +33,11 @@ pub struct MemoryInputs {
 impl Model for MemoryInputs {
     ghost Value = { InputsState };
 
-    ghost view = { λ inputs. record { files = inputs.files; plan = inputs.plan; piece = inputs.piece; left = drop inputs.taken (bytes_at inputs.files inputs.place) } };
+    ghost view = { λ inputs. record { files = inputs.files; plan = inputs.plan;
+        piece = inputs.piece; left = drop inputs.taken (bytes_at inputs.files inputs.place) } };
 
-    ghost invariant = { λ inputs. (1 ≤ inputs.piece) × (inputs.taken ≤ length (bytes_at inputs.files inputs.place)) };
+    ghost invariant = { λ inputs. (1 ≤ inputs.piece)
+        × (inputs.taken ≤ length (bytes_at inputs.files inputs.place)) };
 }
 
 impl MemoryInputs {
@@ -44,7 +46,8 @@ impl MemoryInputs {
     /// gives at most `piece` bytes.
     pub fn new(files: Listed<HeldFile>, fails: Vec<u64>, piece: usize) -> MemoryInputs
         requires { 1 ≤ piece }
-        ensures { result ≡ record { files = files; plan = fresh_plan fails.items; piece = piece; left = [] } }
+        ensures { result ≡ record { files = files; plan = fresh_plan fails.items; piece = piece;
+            left = [] } }
     {
         let place = files.len();
         MemoryInputs {
@@ -71,8 +74,10 @@ impl Inputs for MemoryInputs {
 
         // The trait's clauses.
         ensures ok { OnOk result (Some self.new.left ≡ held_in self.old.files name.now) }
-        ensures failed { IsErrOf result StartFault.Failed → Rose self.old.plan.faults self.new.plan.faults }
-        ensures files { (file : List ℕ) → held_in self.new.files file ≡ held_in self.old.files file }
+        ensures failed { IsErrOf result StartFault.Failed
+            → Rose self.old.plan.faults self.new.plan.faults }
+        ensures files { (file : List ℕ)
+            → held_in self.new.files file ≡ held_in self.old.files file }
         ensures counts { (file : List ℕ) → self.old.plan.faults ≤ self.new.plan.faults }
         ensures stays { ¬ IsErrOf result StartFault.Failed
             → (file : List ℕ) → self.new.plan.faults ≡ self.old.plan.faults }
@@ -104,9 +109,11 @@ impl Inputs for MemoryInputs {
         ensures ok { IfOk result (λ n. (rest : List ℕ) → Some self.old.left ≡ Some rest
             → Takes rest n into.new (Some self.new.left)) }
         ensures failed { OnErr result (Rose self.old.plan.faults self.new.plan.faults) }
-        ensures files { (file : List ℕ) → held_in self.new.files file ≡ held_in self.old.files file }
+        ensures files { (file : List ℕ)
+            → held_in self.new.files file ≡ held_in self.old.files file }
         ensures counts { (file : List ℕ) → self.old.plan.faults ≤ self.new.plan.faults }
-        ensures stays { OnOk result ((file : List ℕ) → self.new.plan.faults ≡ self.old.plan.faults) }
+        ensures stays { OnOk result ((file : List ℕ)
+            → self.new.plan.faults ≡ self.old.plan.faults) }
     {
         if self.plan.call_fails() {
             self.plan.count_fault();
@@ -122,7 +129,8 @@ impl Inputs for MemoryInputs {
 
 // The place of the first file of a name.
 fn place_of(files: &[HeldFile], name: &str) -> Option<usize>
-    ensures found { IfSome result (λ place. held_in files.now name.now ≡ Some (bytes_at files.now place)) }
+    ensures found { IfSome result
+        (λ place. held_in files.now name.now ≡ Some (bytes_at files.now place)) }
     ensures none { IfNone result (held_in files.now name.now ≡ None) }
 {
     first_named(files, name.as_bytes())

@@ -22,9 +22,11 @@ pub struct MemorySink {
 impl Model for MemorySink {
     ghost Value = { SinkState };
 
-    ghost view = { λ sink. record { bytes = sink.bytes.items; room = sink.room; plan = sink.plan; piece = sink.piece } };
+    ghost view = { λ sink. record { bytes = sink.bytes.items; room = sink.room; plan = sink.plan;
+        piece = sink.piece } };
 
-    ghost invariant = { λ sink. (1 ≤ sink.piece) × (vec_len sink.bytes ≤ sink.room) × (sink.room ≤ vec_capacity sink.bytes) };
+    ghost invariant = { λ sink. (1 ≤ sink.piece) × (vec_len sink.bytes ≤ sink.room)
+        × (sink.room ≤ vec_capacity sink.bytes) };
 }
 
 impl MemorySink {
@@ -39,7 +41,8 @@ impl MemorySink {
         piece: usize,
     ) -> Result<MemorySink, NoMemory>
         requires { 1 ≤ piece }
-        ensures { IfOk result (λ sink. sink ≡ record { bytes = []; room = room; plan = fresh_plan fails.items; piece = piece }) }
+        ensures { IfOk result (λ sink. sink ≡ record { bytes = []; room = room;
+            plan = fresh_plan fails.items; piece = piece }) }
     {
         Ok(MemorySink {
             bytes: Vec::with_capacity(alloc, room)?,
@@ -71,7 +74,8 @@ impl Sink for MemorySink {
         ensures within { IfOk result (λ n. n ≤ length piece.now) }
         ensures some { 0 < length piece.now → IfOk result (λ n. 0 < n) }
         ensures none { length piece.now ≡ 0 → IsOk result }
-        ensures ok { IfOk result (λ n. Some self.new.bytes ≡ appended (Some self.old.bytes) (take n piece.now)) }
+        ensures ok { IfOk result (λ n. Some self.new.bytes ≡ appended (Some self.old.bytes)
+            (take n piece.now)) }
         ensures err { OnErr result (Some self.new.bytes ≡ Some self.old.bytes) }
         ensures failed { OnErr result (Rose self.old.plan.faults self.new.plan.faults) }
         ensures count { self.old.plan.faults ≤ self.new.plan.faults }

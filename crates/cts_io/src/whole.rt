@@ -48,10 +48,13 @@ pub fn read_whole<I: Inputs>(
     limit: usize,
 ) -> Result<Vec<u8>, ReadWhole>
     requires { limit ≤ 16777216 }
-    ensures ok { IfOk result (λ bytes. (held : List ℕ) → I.holds inputs.old name.now ≡ Some held → bytes.items ≡ held) }
+    ensures ok { IfOk result (λ bytes. (held : List ℕ) → I.holds inputs.old name.now ≡ Some held
+        → bytes.items ≡ held) }
     ensures within { IfOk result (λ bytes. length bytes.items ≤ limit) }
-    ensures too_long { IsErrOf result ReadWhole.TooLong → (held : List ℕ) → I.holds inputs.old name.now ≡ Some held → limit < length held }
-    ensures failed { IsErrOf result ReadWhole.Failed → Rose (I.faults inputs.old name.now) (I.faults inputs.new name.now) }
+    ensures too_long { IsErrOf result ReadWhole.TooLong → (held : List ℕ)
+        → I.holds inputs.old name.now ≡ Some held → limit < length held }
+    ensures failed { IsErrOf result ReadWhole.Failed
+        → Rose (I.faults inputs.old name.now) (I.faults inputs.new name.now) }
     ensures files { (file : List ℕ) → I.holds inputs.new file ≡ I.holds inputs.old file }
     ensures counts { (file : List ℕ) → I.faults inputs.old file ≤ I.faults inputs.new file }
     // Every answer but `Failed` says that no device failed on the way.

@@ -1,5 +1,6 @@
--- What a circuit keeps, whoever made it: the facts of a sequential netlist, within this project's limits, with or
--- without the host. The host is one more register: primary inputs come from it, and primary outputs go to it.
+-- What a circuit keeps, whoever made it: the facts of a sequential netlist, within this project's
+-- limits, with or without the host. The host is one more register: primary inputs come from it, and
+-- primary outputs go to it.
 use Rattle.std.specs.Prelude.{◌≡◌, ◌≢◌, ◌<◌, ◌≤◌, ◌+◌, ℕ, Bool, IsTrue, ◌&&◌, List, length, All, AllPairs, Option, Some, None, if◌then◌else◌, slice_get, codes}
 use Rattle.std.specs.List.{enumerate_from, filter_map, sum_by, list_any}
 use Rattle.std.specs.Str.{bytes_eq}
@@ -42,7 +43,8 @@ is_named signal = if is_host signal.kind then bytes_eq signal.name host_name
     else is_name signal.name && is_short signal.name
 
 -- the host is the last signal, and captures the outputs in order
-pub record IsHost (signals : List Signal) (outputs : List ℕ) (number : ℕ) (signal : Signal) : Type 0 where
+pub record IsHost (signals : List Signal) (outputs : List ℕ) (number : ℕ)
+    (signal : Signal) : Type 0 where
   pub last : number + 1 ≡ length signals
   pub captures : signal.fan_in ≡ outputs
 

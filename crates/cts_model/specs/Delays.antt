@@ -9,7 +9,8 @@ use Rattle.cts_model.specs.declared.tech.Tech.{Tech}
 
 -- what a table says of a kind that has no gates
 abbrev pub no_delay : GateDelay
-no_delay = record { given = false; least = pos 0; greatest = pos 0; least_per_input = pos 0; greatest_per_input = pos 0 }
+no_delay = record { given = false; least = pos 0; greatest = pos 0; least_per_input = pos 0;
+    greatest_per_input = pos 0 }
 
 -- what the table says of a kind
 abbrev pub delay_of : Tech → Kind → GateDelay
@@ -21,21 +22,27 @@ further_inputs signal = pos (length signal.fan_in - 1)
 
 abbrev pub least_gate_delay : Tech → Option Signal → ℤ
 least_gate_delay tech None = pos 0
-least_gate_delay tech (Some gate) = (delay_of tech gate.kind).least +ℤ ((delay_of tech gate.kind).least_per_input *ℤ further_inputs gate)
+least_gate_delay tech (Some gate) =
+    (delay_of tech gate.kind).least
+    +ℤ ((delay_of tech gate.kind).least_per_input *ℤ further_inputs gate)
 
 abbrev pub greatest_gate_delay : Tech → Option Signal → ℤ
 greatest_gate_delay tech None = pos 0
-greatest_gate_delay tech (Some gate) = (delay_of tech gate.kind).greatest +ℤ ((delay_of tech gate.kind).greatest_per_input *ℤ further_inputs gate)
+greatest_gate_delay tech (Some gate) =
+    (delay_of tech gate.kind).greatest
+    +ℤ ((delay_of tech gate.kind).greatest_per_input *ℤ further_inputs gate)
 
 -- the gates' least delays, added up
 abbrev pub least_through : Circuit → Tech → List ℕ → ℤ
 least_through circuit tech [] = pos 0
-least_through circuit tech (gate ∷ gates) = least_gate_delay tech (slice_get circuit.signals gate) +ℤ least_through circuit tech gates
+least_through circuit tech (gate ∷ gates) =
+    least_gate_delay tech (slice_get circuit.signals gate) +ℤ least_through circuit tech gates
 
 -- the gates' greatest delays, added up
 abbrev pub greatest_through : Circuit → Tech → List ℕ → ℤ
 greatest_through circuit tech [] = pos 0
-greatest_through circuit tech (gate ∷ gates) = greatest_gate_delay tech (slice_get circuit.signals gate) +ℤ greatest_through circuit tech gates
+greatest_through circuit tech (gate ∷ gates) =
+    greatest_gate_delay tech (slice_get circuit.signals gate) +ℤ greatest_through circuit tech gates
 
 -- a path's least delay: that of its register, and those of its gates
 abbrev pub least_delay : Circuit → Tech → List ℕ → ℤ
@@ -45,4 +52,5 @@ least_delay circuit tech (register ∷ gates) = tech.least +ℤ least_through ci
 -- a path's greatest delay
 abbrev pub greatest_delay : Circuit → Tech → List ℕ → ℤ
 greatest_delay circuit tech [] = tech.greatest
-greatest_delay circuit tech (register ∷ gates) = tech.greatest +ℤ greatest_through circuit tech gates
+greatest_delay circuit tech (register ∷ gates) =
+    tech.greatest +ℤ greatest_through circuit tech gates

@@ -1,5 +1,5 @@
--- What can be wrong with a line of an ISCAS'89 .bench netlist, in the order in which it is judged. The limits are
--- this project's.
+-- What can be wrong with a line of an ISCAS'89 .bench netlist, in the order in which it is judged.
+-- The limits are this project's.
 use Rattle.std.specs.Prelude.{ℕ, Bool, true, false, not, nat_le, nat_lt, List, [], ◌∷◌, ◌++◌, length, map, Option, Some, None, is_some, if◌then◌else◌, count_by}
 use Rattle.std.specs.Option.{option_map, option_and_then, option_map_or}
 use Rattle.std.specs.List.{filter_map, sum_by, list_any, list_all}
@@ -77,8 +77,10 @@ excess_of earlier statement =
 abbrev pub statement_flaw : List Definition → Statement → Option Flaw
 statement_flaw earlier statement =
     if not (has_kind statement) then Some UnknownKind
-    else if not (option_map_or has_lawful_inputs (definition_of statement) true) then Some WrongInputs
-    else if option_map_or (is_defined_before earlier) (definition_of statement) false then Some SignalTwice
+    else if not (option_map_or has_lawful_inputs (definition_of statement) true)
+        then Some WrongInputs
+    else if option_map_or (is_defined_before earlier) (definition_of statement) false
+        then Some SignalTwice
     else option_map TooLarge (excess_of earlier statement)
 
 -- what is wrong with a line behind the lines before it, if anything is

@@ -8,7 +8,8 @@ is_mark byte = (byte == 40) || (byte == 41) || (byte == 44) || (byte == 61) || (
 
 -- a byte of a name: a printable one other than the marks, or any above 127
 abbrev pub is_name_byte : ℕ → Bool
-is_name_byte byte = ((nat_le 33 byte && nat_le byte 126) || (nat_le 128 byte && nat_le byte 255)) && not (is_mark byte)
+is_name_byte byte = ((nat_le 33 byte && nat_le byte 126) || (nat_le 128 byte && nat_le byte 255))
+    && not (is_mark byte)
 
 -- one or more bytes of a name
 abbrev pub is_name : List ℕ → Bool

@@ -16,12 +16,14 @@ number_of names name = position (bytes_eq name) names
 
 -- the signal of a definition: its inputs are the numbers of their names
 abbrev pub signal_of : List (List ℕ) → Definition → Signal
-signal_of names definition = record { name = definition.name; kind = definition.kind; fan_in = filter_map (number_of names) definition.inputs }
+signal_of names definition = record { name = definition.name; kind = definition.kind;
+    fan_in = filter_map (number_of names) definition.inputs }
 
 -- each number where it stands first
 abbrev pub first_mentions : List ℕ → List ℕ
 first_mentions [] = []
-first_mentions (number ∷ numbers) = number ∷ filter (λ other. not (other == number)) (first_mentions numbers)
+first_mentions (number ∷ numbers) =
+    number ∷ filter (λ other. not (other == number)) (first_mentions numbers)
 
 -- the names that the lines of a text define, in order
 abbrev pub names_in : List ℕ → List (List ℕ)
@@ -33,7 +35,8 @@ signals_of text = map (signal_of (names_in text)) (definitions_in (lines_of text
 
 -- the signals that its OUTPUT lines mention
 abbrev pub outputs_of : List ℕ → List ℕ
-outputs_of text = first_mentions (filter_map (number_of (names_in text)) (filter_map mention_of (statements_in (lines_of text))))
+outputs_of text = first_mentions
+    (filter_map (number_of (names_in text)) (filter_map mention_of (statements_in (lines_of text))))
 
 -- each name that a statement uses is one of these
 abbrev pub UsesDefined : List (List ℕ) → Statement → Type 0
@@ -41,7 +44,8 @@ UsesDefined names statement = All (λ name. IsSome (number_of names name)) (uses
 
 -- nothing is wrong with any line behind the lines before it
 pub record AreFlawless (lines : List (List ℕ)) : Type 0 where
-  pub each : (earlier : List (List ℕ)) (line : List ℕ) (later : List (List ℕ)) → lines ≡ earlier ++ line ∷ later → flaw_of earlier line ≡ None
+  pub each : (earlier : List (List ℕ)) (line : List ℕ) (later : List (List ℕ))
+      → lines ≡ earlier ++ line ∷ later → flaw_of earlier line ≡ None
 
 -- each name that the lines use is one of these
 abbrev pub AreDefined : List (List ℕ) → List (List ℕ) → Type 0

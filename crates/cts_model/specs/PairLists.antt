@@ -35,8 +35,8 @@ pub record JoinsMoreThan (circuit : Circuit) (limit : ℕ) : Type 0 where
   pub joined : All (AreJoined circuit) pairs
   pub more : limit < length pairs
 
--- the delays of a pair are from 0 to below 66,000,000,000, as those of gates and a register within the
--- limits of a circuit and a table are
+-- the delays of a pair are from 0 to below 66,000,000,000, as those of gates and a register within
+-- the limits of a circuit and a table are
 pub record IsSmallPair (pair : PairDelay) : Type 0 where
   pub least : IsWithin 0 65999999999 pair.least
   pub greatest : IsWithin 0 65999999999 pair.greatest

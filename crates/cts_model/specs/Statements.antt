@@ -1,4 +1,5 @@
--- The statements of the ISCAS'89 .bench format: `INPUT(name)`, `OUTPUT(name)` and `name = KIND(names)`.
+-- The statements of the ISCAS'89 .bench format: `INPUT(name)`, `OUTPUT(name)` and
+-- `name = KIND(names)`.
 use Rattle.std.specs.Prelude.{ℕ, List, [], ◌∷◌, Option, Some, None, if◌then◌else◌, codes}
 use Rattle.std.specs.Option.{option_map}
 use Rattle.std.specs.Str.{str_eq_ignore_ascii_case}
@@ -38,7 +39,8 @@ inputs_of _ = None
 abbrev pub form_of : List Token → Option Statement
 form_of [] = Some Blank
 form_of (Word word ∷ Open ∷ Word name ∷ Close ∷ []) = declaration_of word name
-form_of (Word name ∷ Equals ∷ Word word ∷ Open ∷ rest) = option_map (λ inputs. Assign name word inputs) (inputs_of rest)
+form_of (Word name ∷ Equals ∷ Word word ∷ Open ∷ rest) =
+    option_map (λ inputs. Assign name word inputs) (inputs_of rest)
 form_of _ = None
 
 -- the statement of a line, its comment left out
@@ -53,7 +55,8 @@ pub record Definition : Type 0 where
 
 abbrev pub definition_of : Statement → Option Definition
 definition_of (Input name) = Some (record { name = name; kind = kinds.Input; inputs = [] })
-definition_of (Assign name word inputs) = option_map (λ kind. record { name = name; kind = kind; inputs = inputs }) (kind_of word)
+definition_of (Assign name word inputs) =
+    option_map (λ kind. record { name = name; kind = kind; inputs = inputs }) (kind_of word)
 definition_of _ = None
 
 -- the names that a line uses, in order

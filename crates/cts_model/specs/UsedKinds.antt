@@ -8,4 +8,5 @@ use Rattle.cts_model.specs.Kinds.{is_gate, place_of}
 pub record AreUsedKinds (signals : List Signal) (used : List Bool) : Type 0 where
   pub eight : length used ≡ 8
   pub each : (kind : Kind) → IsTrue (is_gate kind)
-      → IsTrue (slice_index_or used (place_of kind) false) ↔ Any (λ signal. signal.kind ≡ kind) signals
+      → IsTrue (slice_index_or used (place_of kind) false)
+          ↔ Any (λ signal. signal.kind ≡ kind) signals

@@ -124,13 +124,16 @@ failure_line (ReadFault kind) = ended (codes "read fault " ++ kind_word kind)
 failure_line WriteFault = ended (codes "write fault")
 failure_line NoMemory = ended (codes "no memory")
 
--- the line stands behind what was written before, or a front of it where the sink's count of faults rose
+-- the line stands behind what was written before, or a front of it where the sink's count of faults
+-- rose
 abbrev pub Reports : List ℕ → Option (List ℕ) → ℕ → Option (List ℕ) → ℕ → Type 0
-Reports line before faults_before now faults_now = (now ≡ appended before line) ⊎ (WritesPrefix before line now × Rose faults_before faults_now)
+Reports line before faults_before now faults_now = (now ≡ appended before line)
+    ⊎ (WritesPrefix before line now × Rose faults_before faults_now)
 
--- what a call that writes bytes answers: they stand whole behind what was written before, or a front of them where
--- the sink failed, whose count of faults rose
-abbrev pub Writes : {T E : Type 0} → List ℕ → Option (List ℕ) → ℕ → Option (List ℕ) → ℕ → Result T E → Type 0
+-- what a call that writes bytes answers: they stand whole behind what was written before, or a
+-- front of them where the sink failed, whose count of faults rose
+abbrev pub Writes : {T E : Type 0} → List ℕ → Option (List ℕ) → ℕ → Option (List ℕ) → ℕ
+    → Result T E → Type 0
 Writes bytes before faults_before now faults_now result =
     MatchResult result (λ _. (now ≡ appended before bytes) × (faults_before ≤ faults_now))
     (λ _. WritesPrefix before bytes now × Rose faults_before faults_now)

@@ -20,7 +20,8 @@ abbrev pub IsShortFile : List ℕ → Type 0
 IsShortFile bytes = length bytes ≤ 16777216
 
 -- what the first of these files hold: where the device tells it, it tells these contents
-abbrev pub AreContents : (List ℕ → Option (List ℕ)) → List (FileKind × List ℕ) → List (List ℕ) → Type 0
+abbrev pub AreContents : (List ℕ → Option (List ℕ)) → List (FileKind × List ℕ) → List (List ℕ)
+    → Type 0
 AreContents holds files [] = Unit {0}
 AreContents holds [] (bytes ∷ contents) = ⊥
 AreContents holds (file ∷ files) (bytes ∷ contents) =

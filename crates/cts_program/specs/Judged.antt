@@ -1,5 +1,5 @@
--- What the contents of a command's files tell: a circuit and its delays, or why one of them is refused. The
--- netlist comes first, and the delay table behind it, if one is wanted.
+-- What the contents of a command's files tell: a circuit and its delays, or why one of them is
+-- refused. The netlist comes first, and the delay table behind it, if one is wanted.
 use Rattle.std.specs.Prelude.{◌≡◌, ◌≢◌, ℕ, Bool, List, [], ◌∷◌, ◌==◌, length, MatchBool}
 use Rattle.cts_model.specs.declared.circuit.Circuit.{Circuit}
 use Rattle.cts_model.specs.declared.tech.Tech.{Tech}
@@ -75,7 +75,8 @@ pub record TellBoth (netlist table : List ℕ) (circuit : Circuit) (tech : Tech)
   pub accepts_table : AcceptsTable used table tech
   pub hosted : IsHostedBy tech bare circuit
 
--- the contents of a command's files tell this circuit and these delays; without a table they are the built-in ones
+-- the contents of a command's files tell this circuit and these delays; without a table they are
+-- the built-in ones
 abbrev pub Tell : List (List ℕ) → Circuit → Tech → Type 0
 Tell (netlist ∷ []) circuit tech = AcceptsNetlist netlist circuit × IsPlainTable tech
 Tell (netlist ∷ table ∷ []) circuit tech = TellBoth netlist table circuit tech

@@ -22,4 +22,5 @@ rule_for choice = record (new_rule choice.0) {
 -- the parser for a command's options
 abbrev pub parser_for : Form → App
 parser_for form =
-    fold (λ app choice. with_rule app (rule_for choice)) (new_app (form_name form)) (choices_of form)
+    fold (λ app choice. with_rule app (rule_for choice)) (new_app (form_name form))
+        (choices_of form)

@@ -15,19 +15,22 @@ abbrev pub IsNoCommand : List (List ℕ) → Type 0
 IsNoCommand words = (command : Command) → IsCommand words command → ⊥
 
 -- this text is the answer for what the files of the command hold
-pub record TellsText (holds : List ℕ → Option (List ℕ)) (command : Command) (status : ℕ) (text : List ℕ) : Type 0 where
+pub record TellsText (holds : List ℕ → Option (List ℕ)) (command : Command) (status : ℕ)
+    (text : List ℕ) : Type 0 where
   pub contents : List (List ℕ)
   pub are : AreContents holds (files_of command) contents
   pub answer : IsAnswer command contents status text
 
 -- what the files of the command hold makes it refuse with this failure
-pub record Refuses (holds : List ℕ → Option (List ℕ)) (command : Command) (failure : Failure) : Type 0 where
+pub record Refuses (holds : List ℕ → Option (List ℕ)) (command : Command)
+    (failure : Failure) : Type 0 where
   pub contents : List (List ℕ)
   pub are : AreContents holds (files_of command) contents
   pub refusal : IsRefusal command contents failure
 
 -- the command reads this kind of file, whose count rose; the files before it are accepted
-pub record CannotRead (holds : List ℕ → Option (List ℕ)) (reads reads_now : List ℕ → ℕ) (command : Command) (kind : FileKind) : Type 0 where
+pub record CannotRead (holds : List ℕ → Option (List ℕ)) (reads reads_now : List ℕ → ℕ)
+    (command : Command) (kind : FileKind) : Type 0 where
   pub front : List (FileKind × List ℕ)
   pub file : List ℕ
   pub behind : List (FileKind × List ℕ)
@@ -39,7 +42,8 @@ pub record CannotRead (holds : List ℕ → Option (List ℕ)) (reads reads_now 
   pub accepted : AreAccepted contents
 
 -- why a command has no text
-abbrev pub Stops : (List ℕ → Option (List ℕ)) → (reads reads_now : List ℕ → ℕ) → Command → Failure → Type 0
+abbrev pub Stops : (List ℕ → Option (List ℕ)) → (reads reads_now : List ℕ → ℕ) → Command → Failure
+    → Type 0
 Stops holds reads reads_now command Usage = ⊥
 Stops holds reads reads_now command WriteFault = ⊥
 Stops holds reads reads_now command NoMemory = Unit {0}
@@ -48,7 +52,8 @@ Stops holds reads reads_now command (ReadFault kind) =
 Stops holds reads reads_now command failure = Refuses holds command failure
 
 -- the words mean a command, whose text stands whole on the output
-pub record Ends (words : List (List ℕ)) (holds : List ℕ → Option (List ℕ)) (status : ℕ) (before now : Option (List ℕ)) : Type 0 where
+pub record Ends (words : List (List ℕ)) (holds : List ℕ → Option (List ℕ)) (status : ℕ)
+    (before now : Option (List ℕ)) : Type 0 where
   pub command : Command
   pub means : IsCommand words command
   pub text : List ℕ
@@ -56,7 +61,8 @@ pub record Ends (words : List (List ℕ)) (holds : List ℕ → Option (List ℕ
   pub whole : now ≡ appended before text
 
 -- the same with a front of the text that isn't the whole
-pub record EndsInPart (words : List (List ℕ)) (holds : List ℕ → Option (List ℕ)) (before now : Option (List ℕ)) : Type 0 where
+pub record EndsInPart (words : List (List ℕ)) (holds : List ℕ → Option (List ℕ))
+    (before now : Option (List ℕ)) : Type 0 where
   pub command : Command
   pub means : IsCommand words command
   pub status : ℕ
@@ -65,7 +71,8 @@ pub record EndsInPart (words : List (List ℕ)) (holds : List ℕ → Option (Li
   pub front : WritesPrefix before text now
 
 -- why a command line isn't done: its words, the files that they name, or the output
-abbrev pub Fails : List (List ℕ) → (List ℕ → Option (List ℕ)) → (reads reads_now : List ℕ → ℕ) → (before now : Option (List ℕ)) → (writes writes_now : ℕ) → Failure → Type 0
+abbrev pub Fails : List (List ℕ) → (List ℕ → Option (List ℕ)) → (reads reads_now : List ℕ → ℕ)
+    → (before now : Option (List ℕ)) → (writes writes_now : ℕ) → Failure → Type 0
 Fails words holds reads reads_now before now writes writes_now Usage = IsNoCommand words
 Fails words holds reads reads_now before now writes writes_now WriteFault =
     EndsInPart words holds before now × Rose writes writes_now

@@ -29,7 +29,8 @@ pub fn run<I: Inputs, O: Sink, E: Sink>(
     // its files hold, and the text stands whole on the output.
     ensures done { is_ending result ≡ true → Ends (map string_bytes words.now)
         (I.holds inputs.old) result (O.written out.old) (O.written out.new) }
-    ensures only { (command : Command) (contents : List (List ℕ)) (status : ℕ) (text before : List ℕ)
+    ensures only { (command : Command) (contents : List (List ℕ)) (status : ℕ)
+        (text before : List ℕ)
         → IsCommand (map string_bytes words.now) command
         → AreTold (I.holds inputs.old) (files_of command) contents
         → IsAnswer command contents status text → O.written out.old ≡ Some before
@@ -41,7 +42,8 @@ pub fn run<I: Inputs, O: Sink, E: Sink>(
 
     // 3: exactly where what the files hold makes the command refuse, unless a file can't be read or
     // memory runs out.
-    ensures refused { result ≡ 3 → (command : Command) × IsCommand (map string_bytes words.now) command
+    ensures refused { result ≡ 3 → (command : Command)
+        × IsCommand (map string_bytes words.now) command
         × ((failure : Failure) × Refuses (I.holds inputs.old) command failure) }
     ensures refuses { (command : Command) (contents : List (List ℕ)) (failure : Failure)
         → IsCommand (map string_bytes words.now) command
@@ -50,9 +52,12 @@ pub fn run<I: Inputs, O: Sink, E: Sink>(
 
     // 4: exactly where the count of a file rose. It is one that the command reads, and the files
     // before it are accepted.
-    ensures read_fault { result ≡ 4 → (command : Command) × IsCommand (map string_bytes words.now) command
-        × ((kind : FileKind) × CannotRead (I.holds inputs.old) (I.faults inputs.old) (I.faults inputs.new) command kind) }
-    ensures risen { (file : List ℕ) → I.faults inputs.old file < I.faults inputs.new file → result ≡ 4 }
+    ensures read_fault { result ≡ 4 → (command : Command)
+        × IsCommand (map string_bytes words.now) command
+        × ((kind : FileKind) × CannotRead (I.holds inputs.old) (I.faults inputs.old)
+            (I.faults inputs.new) command kind) }
+    ensures risen { (file : List ℕ) → I.faults inputs.old file < I.faults inputs.new file
+        → result ≡ 4 }
 
     // 5: exactly where the count of the output rose. A front of the text stands there.
     ensures write_fault { result ≡ 5 → Rose (O.faults out.old) (O.faults out.new) }
@@ -76,8 +81,10 @@ pub fn run<I: Inputs, O: Sink, E: Sink>(
     ensures quiet { is_ending result ≡ true → E.written err.new ≡ E.written err.old }
     ensures told { is_ending result ≢ true → (failure : Failure) × (result ≡ status_of failure)
         × Fails (map string_bytes words.now) (I.holds inputs.old) (I.faults inputs.old)
-        (I.faults inputs.new) (O.written out.old) (O.written out.new) (O.faults out.old) (O.faults out.new) failure
-        × Reports (failure_line failure) (E.written err.old) (E.faults err.old) (E.written err.new) (E.faults err.new) }
+        (I.faults inputs.new) (O.written out.old) (O.written out.new) (O.faults out.old)
+            (O.faults out.new) failure
+        × Reports (failure_line failure) (E.written err.old) (E.faults err.old) (E.written err.new)
+            (E.faults err.new) }
 {
     match answer(alloc, words, inputs, out) {
         Ok(()) => 0,

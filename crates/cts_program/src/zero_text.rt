@@ -18,7 +18,8 @@ pub fn zero_text(
 ) -> Result<Vec<u8>, NoMemory>
     requires least { IsZeroSkew circuit.now tech.now outcome.now }
     requires small { HasSmallDelays outcome.now }
-    ensures { IfOk result (λ text. text.items ≡ text_of (zero_lines circuit.now tech.now outcome.now)) }
+    ensures { IfOk result (λ text. text.items ≡ text_of
+        (zero_lines circuit.now tech.now outcome.now)) }
 {
     let mut out = Vec::new(alloc);
     match outcome {

@@ -1,4 +1,5 @@
--- What walks over a circuit go by: the readers of each signal, the order of the gates and their delays.
+-- What walks over a circuit go by: the readers of each signal, the order of the gates and their
+-- delays.
 use Rattle.std.specs.Prelude.{◌≡◌, ◌<◌, ◌≤◌, ◌+◌, ◌-◌, ◌*◌, ℕ, pos, List, [], length, map, take, All, Contains, Some, if◌then◌else◌, slice_get, slice_index, vec_len}
 use Rattle.std.specs.List.{sum_by}
 use Rattle.std.specs.Option.{option_map_or}

@@ -43,7 +43,8 @@ pub record HasRoom (rect : Rect) (by : ℤ) : Type 0 where
 -- how far two rectangles are apart: the greater of how far they are apart in u and in v
 abbrev pub gap_of : Rect → Rect → ℤ
 gap_of rect other =
-    int_max (between rect.ulo rect.uhi other.ulo other.uhi) (between rect.vlo rect.vhi other.vlo other.vhi)
+    int_max (between rect.ulo rect.uhi other.ulo other.uhi)
+        (between rect.vlo rect.vhi other.vlo other.vhi)
 
 -- no two points of the rectangles are closer, and two are no further apart
 pub record IsLeastDistance (rect other : Rect) (gap : ℤ) : Type 0 where
