@@ -20,5 +20,7 @@ pub mod Regions
 pub mod PlaceLines
 pub mod Placements
 pub mod Timing
+pub mod Constraints
+pub mod Cycles
 pub mod EqualArrivals
 pub mod PairLists

@@ -2,6 +2,7 @@
 #![tactic(auto)]
 
 mod circuit;
+mod constraint;
 mod fan_in;
 mod host;
 mod kind;
@@ -12,6 +13,7 @@ mod timing;
 mod usage;
 
 pub use circuit::Circuit;
+pub use constraint::Constraint;
 pub use fan_in::FanIn;
 pub use host::with_host;
 pub use kind::Kind;
