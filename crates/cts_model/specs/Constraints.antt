@@ -1,9 +1,10 @@
 -- What paths ask of the arrivals at registers, as edges between them. Fishburn, "Clock Skew Optimization",
 -- 1990. Weights are in ticks; the period and the arrivals are in ticks over a scale.
-use Rattle.std.specs.Prelude.{◌≡◌, ℕ, ℤ, pos, ◌+ℤ◌, ◌-ℤ◌, ◌*ℤ◌, ◌≤ℤ◌, MatchBool, if◌then◌else◌, List, All}
+use Rattle.std.specs.Prelude.{◌≡◌, ◌<◌, ◌≤◌, ◌^◌, ℕ, ℤ, pos, ◌+ℤ◌, ◌-ℤ◌, ◌*ℤ◌, ◌≤ℤ◌, MatchBool, if◌then◌else◌, List, All, length}
 use Rattle.cts_model.specs.declared.circuit.Circuit.{Circuit}
 use Rattle.cts_model.specs.declared.tech.Tech.{Tech}
 use Rattle.cts_model.specs.declared.constraint.Constraint.{Constraint}
+use Rattle.cts_model.specs.Points.{IsBelow}
 use Rattle.cts_model.specs.Paths.{IsPath}
 use Rattle.cts_model.specs.Delays.{least_delay, greatest_delay}
 
@@ -43,3 +44,16 @@ abbrev pub IsConstraintOf : Circuit → Tech → Constraint → Type 0
 IsConstraintOf circuit tech constraint = MatchBool constraint.setup
     (IsSetupConstraint circuit tech constraint.tail constraint.head constraint.weight)
     (IsHoldConstraint circuit tech constraint.head constraint.tail constraint.weight)
+
+-- the registers are among so many, and the weight is below 100,000,000,000 in size
+pub record IsSmallConstraint (registers : ℕ) (constraint : Constraint) : Type 0 where
+  pub tail : constraint.tail < registers
+  pub head : constraint.head < registers
+  pub weight : IsBelow (10 ^ 11) constraint.weight
+
+-- constraints between 1 to 4,097 registers, at most two for each of 1,048,576 pairs
+pub record AreSmallConstraints (registers : ℕ) (constraints : List Constraint) : Type 0 where
+  pub some : 1 ≤ registers
+  pub not_many : registers ≤ 4097
+  pub few : length constraints ≤ 2097152
+  pub each : All (IsSmallConstraint registers) constraints

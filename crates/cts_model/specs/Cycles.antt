@@ -1,6 +1,6 @@
 -- Cycles of constraints between registers, and what they show of the period. Fishburn, "Clock Skew
 -- Optimization", 1990.
-use Rattle.std.specs.Prelude.{◌≡◌, ◌≢◌, ◌<◌, ◌≤◌, ℕ, ℤ, pos, ◌+ℤ◌, ◌*ℤ◌, ◌≤ℤ◌, ◌<ℤ◌, List, [], ◌∷◌, AllPairs, IsSomeAnd, slice_get, sum_by}
+use Rattle.std.specs.Prelude.{◌≡◌, ◌≢◌, ◌≤◌, ℕ, ℤ, pos, ◌+ℤ◌, ◌*ℤ◌, ◌≤ℤ◌, ◌<ℤ◌, List, [], ◌∷◌, AllPairs, IsSomeAnd, slice_get, sum_by}
 use Rattle.cts_model.specs.declared.constraint.Constraint.{Constraint}
 use Rattle.cts_model.specs.Constraints.{count_of, Satisfies}
 
@@ -26,13 +26,13 @@ total_count constraints = sum_by count_of constraints
 
 -- the cycle shows a period: it counts the period, and its weights sum to that count of periods
 pub record ShowsPeriod (cycle : List Constraint) (numerator : ℤ) (denominator : ℕ) : Type 0 where
-  pub cycle : IsCycle cycle
+  pub is_cycle : IsCycle cycle
   pub counts : 1 ≤ total_count cycle
   pub value : (pos denominator *ℤ total_weight cycle) ≡ (numerator *ℤ pos (total_count cycle))
 
 -- the cycle forbids every period: it asks for time and never counts the period
 pub record ForbidsPeriods (cycle : List Constraint) : Type 0 where
-  pub cycle : IsCycle cycle
+  pub is_cycle : IsCycle cycle
   pub counts : total_count cycle ≡ 0
   pub asks : pos 0 <ℤ total_weight cycle
 
