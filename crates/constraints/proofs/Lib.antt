@@ -1,0 +1,2 @@
+mod PairInequalities
+mod PairListConstraints

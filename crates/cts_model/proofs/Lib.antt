@@ -7,3 +7,4 @@ pub mod PointLemmas
 pub mod RegisterLists
 pub mod PairOrder
 pub mod OneRecord
+pub mod PathRegisters
