@@ -1,2 +1,3 @@
 mod PairInequalities
-mod PairListConstraints
+mod BothOfPairs
+mod ListedConstraints

@@ -1,5 +1,5 @@
 -- The constraints of a pair beside the inequalities of its paths.
-use Rattle.std.proofs.Common.{◌≡◌, ℕ, ◌+◌, ◌≤◌, ℤ, pos, ◌+ℤ◌, ◌-ℤ◌, ◌*ℤ◌, ◌≤ℤ◌, ap, arith}
+use Rattle.std.proofs.Common.{ℕ, ◌+◌, ◌≤◌, ℤ, pos, ◌+ℤ◌, ◌-ℤ◌, ◌*ℤ◌, ◌≤ℤ◌, arith}
 use Rattle.std.proofs.Math.Nat.{mul-le-mul_left}
 use Rattle.std.proofs.lemmas.Int.{ints}
 use Rattle.cts_model.specs.Timing.{MeetsSetup, MeetsHold}
@@ -11,7 +11,7 @@ pub setup_met : (scale : ℕ) (launch capture greatest delay setup period : ℤ)
     → MeetsSetup launch capture delay setup (pos scale) period
 setup_met scale launch capture greatest delay setup period below satisfied =
     let plain : up (delay +ℤ setup) + down (greatest +ℤ setup)
-        ≤ down (delay +ℤ setup) + up (greatest +ℤ setup) = omega (arith, ints) in
+    ≤ down (delay +ℤ setup) + up (greatest +ℤ setup) = omega (arith, ints) in
     omega (arith, ints, mul-le-mul_left scale plain)
 
 -- and what holds at the least
@@ -20,7 +20,7 @@ pub hold_met : (scale : ℕ) (launch capture least delay hold period : ℤ) → 
     → MeetsHold launch capture delay hold (pos scale)
 hold_met scale launch capture least delay hold period above satisfied =
     let plain : down (hold -ℤ least) + up hold + down delay
-        ≤ up (hold -ℤ least) + down hold + up delay = omega (arith, ints) in
+    ≤ up (hold -ℤ least) + down hold + up delay = omega (arith, ints) in
     omega (arith, ints, mul-le-mul_left scale plain)
 
 -- what the path with the greatest delay meets satisfies the setup constraint
@@ -35,5 +35,5 @@ pub hold_satisfied : (scale : ℕ) (launch capture least hold period : ℤ)
     → (capture +ℤ (pos scale *ℤ (hold -ℤ least))) ≤ℤ (launch +ℤ (period *ℤ pos 0))
 hold_satisfied scale launch capture least hold period meets =
     let plain : up (hold -ℤ least) + down hold + up least
-        ≤ down (hold -ℤ least) + up hold + down least = omega (arith, ints) in
+    ≤ down (hold -ℤ least) + up hold + down least = omega (arith, ints) in
     omega (arith, ints, mul-le-mul_left scale plain)

@@ -1,6 +1,8 @@
--- The constraints of listed pairs of registers, with delays and weights in ticks. Fishburn, "Clock Skew
--- Optimization", 1990.
+-- The constraints of listed pairs of registers, with delays and weights in ticks. Fishburn, "Clock
+-- Skew Optimization", 1990.
 use Rattle.std.specs.Prelude.{◌<◌, ◌≤◌, ℕ, ℤ, ◌+ℤ◌, ◌-ℤ◌, true, false, List, [], ◌∷◌, length, All}
+use Rattle.std.specs.List.{flat_map}
+use Rattle.cts_model.specs.declared.tech.Tech.{Tech}
 use Rattle.cts_model.specs.declared.timing.PairDelay.{PairDelay}
 use Rattle.cts_model.specs.declared.constraint.Constraint.{Constraint}
 
@@ -17,6 +19,10 @@ hold_constraint hold pair =
 -- both constraints of a pair
 abbrev pub constraints_of_pair : (setup hold : ℤ) → PairDelay → List Constraint
 constraints_of_pair setup hold pair = setup_constraint setup pair ∷ hold_constraint hold pair ∷ []
+
+-- both constraints of each pair, in the order of the pairs
+abbrev pub constraints_of_pairs : Tech → List PairDelay → List Constraint
+constraints_of_pairs tech pairs = flat_map (constraints_of_pair tech.setup tech.hold) pairs
 
 -- at most 1,048,576 pairs between 1 to 4,097 registers
 pub record AreFewPairs (registers : ℕ) (pairs : List PairDelay) : Type 0 where

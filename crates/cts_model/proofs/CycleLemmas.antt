@@ -19,7 +19,7 @@ asked_together : (scale count counts total : ℕ) (period weight weights from ta
     → (from +ℤ (pos scale *ℤ (weight +ℤ weights))) ≤ℤ (to +ℤ (period *ℤ pos total))
 asked_together scale count counts total period weight weights from tail head to same sum one rest =
     let plain : up (weight +ℤ weights) + down weight + down weights
-        ≡ down (weight +ℤ weights) + up weight + up weights = omega (arith, ints) in
+    ≡ down (weight +ℤ weights) + up weight + up weights = omega (arith, ints) in
     let later = ap (λ n. up period * n) sum in
     let sooner = ap (λ n. down period * n) sum in
     omega (arith, ints, ap (λ n. scale * n) plain)
@@ -31,13 +31,17 @@ too_small : (scale denominator count : ℕ) (weight numerator period : ℤ) → 
     → (pos scale *ℤ weight) ≤ℤ (period *ℤ pos count) → ⊥
 too_small scale denominator count weight numerator period counts value small bounded =
     let shown : denominator * up weight + down numerator * count
-        ≡ denominator * down weight + up numerator * count = omega (arith, ints) in
+    ≡ denominator * down weight + up numerator * count = omega (arith, ints) in
     let below : up period * denominator + down numerator * scale + 1
-        ≤ up numerator * scale + down period * denominator = omega (arith, ints) in
+    ≤ up numerator * scale + down period * denominator = omega (arith, ints) in
     let within : scale * up weight + down period * count
-        ≤ scale * down weight + up period * count = omega (arith, ints) in
-    omega (arith, ap (λ n. scale * n) shown, mul-le-mul_left count below,
-    mul-le-mul_left denominator within)
+    ≤ scale * down weight + up period * count = omega (arith, ints) in
+    omega (
+      arith,
+      ap (λ n. scale * n) shown,
+      mul-le-mul_left count below,
+      mul-le-mul_left denominator within,
+    )
 
 -- a weight above 0 asks for time, where the period isn't counted
 asks_for_time : (scale count : ℕ) (weight period : ℤ) → 1 ≤ scale → count ≡ 0
