@@ -1,4 +1,5 @@
 pub mod CircuitLemmas
+pub mod CycleLemmas
 mod HostLemmas
 pub mod HostedCircuits
 mod KindLemmas
@@ -6,3 +7,4 @@ pub mod PointLemmas
 pub mod RegisterLists
 pub mod PairOrder
 pub mod OneRecord
+pub mod PathRegisters

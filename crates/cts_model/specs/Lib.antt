@@ -20,5 +20,8 @@ pub mod Regions
 pub mod PlaceLines
 pub mod Placements
 pub mod Timing
+pub mod Constraints
+pub mod Cycles
+pub mod Laws
 pub mod EqualArrivals
 pub mod PairLists

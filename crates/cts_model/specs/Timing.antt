@@ -32,9 +32,10 @@ abbrev pub IsAdmitted : Circuit → Tech → ℕ → ℤ → Type 0
 IsAdmitted circuit tech scale period = ((pos scale *ℤ tech.floor) ≤ℤ period)
     × ((arrival : ℕ → ℤ) × Meets circuit tech scale period arrival)
 
--- no smaller fraction is admitted, whatever its denominator
+-- the fraction is admitted, and no smaller one is, whatever its denominator
 pub record IsLeastPeriod (circuit : Circuit) (tech : Tech) (numerator : ℤ)
     (denominator : ℕ) : Type 0 where
+  pub proper : 1 ≤ denominator
   pub admitted : IsAdmitted circuit tech denominator numerator
   pub least : (scale : ℕ) (period : ℤ) → 1 ≤ scale
       → (period *ℤ pos denominator) <ℤ (numerator *ℤ pos scale)

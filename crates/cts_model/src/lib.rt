@@ -2,9 +2,11 @@
 #![tactic(auto)]
 
 mod circuit;
+mod constraint;
 mod fan_in;
 mod host;
 mod kind;
+pub mod laws;
 mod place;
 mod signal;
 mod tech;
@@ -12,6 +14,7 @@ mod timing;
 mod usage;
 
 pub use circuit::Circuit;
+pub use constraint::Constraint;
 pub use fan_in::FanIn;
 pub use host::with_host;
 pub use kind::Kind;

@@ -6,6 +6,8 @@ mod base_tests;
 #[cfg(test)]
 mod bench_tests;
 #[cfg(test)]
+mod constraint_tests;
+#[cfg(test)]
 mod delay_tests;
 #[cfg(test)]
 mod io_tests;

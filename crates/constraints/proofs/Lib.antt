@@ -1,0 +1,3 @@
+mod PairInequalities
+mod BothOfPairs
+mod ListedConstraints

@@ -1,0 +1,2 @@
+pub mod TrialSizes
+pub mod Trials

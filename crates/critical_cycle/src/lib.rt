@@ -1,0 +1,4 @@
+//! The least clock period that constraints between registers admit, and the cycle that shows it.
+#![tactic(auto)]
+
+mod trial;
