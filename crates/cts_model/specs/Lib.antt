@@ -22,6 +22,7 @@ pub mod Placements
 pub mod Timing
 pub mod Constraints
 pub mod Cycles
+pub mod LeastPeriods
 pub mod Laws
 pub mod EqualArrivals
 pub mod PairLists

@@ -1,0 +1,24 @@
+-- The outcome of a circuit: its least period and what shows it, or what forbids every period.
+-- Fishburn, "Clock Skew Optimization", 1990.
+use Rattle.std.specs.Prelude.{List}
+use Rattle.cts_base.specs.declared.fraction.Fraction.{Fraction}
+use Rattle.cts_model.specs.declared.circuit.Circuit.{Circuit}
+use Rattle.cts_model.specs.declared.tech.Tech.{Tech}
+use Rattle.cts_model.specs.declared.timing.ZeroSkew.{ZeroSkew}
+use Rattle.cts_model.specs.declared.period.PeriodShow.{PeriodShow}
+use Rattle.cts_model.specs.EqualArrivals.{IsZeroSkew}
+use Rattle.cts_model.specs.LeastPeriods.{IsLeastFraction, IsPeriodShow, IsForbidding}
+use Rattle.cts_engine.specs.declared.period.PeriodOutcome.{PeriodOutcome}
+use Rattle.cts_engine.specs.declared.period.PeriodOutcome.TheVariants.{Found, Never}
+
+-- the least period with and without skew, and what shows the one with it
+pub record IsFound (circuit : Circuit) (tech : Tech) (zero_skew : ZeroSkew) (fraction : Fraction)
+    (show : PeriodShow) : Type 0 where
+  pub zero : IsZeroSkew circuit tech zero_skew
+  pub least : IsLeastFraction circuit tech fraction
+  pub shown : IsPeriodShow circuit tech fraction show
+
+-- the least period, or a cycle that forbids every period
+abbrev pub IsPeriodOutcome : Circuit → Tech → PeriodOutcome → Type 0
+IsPeriodOutcome circuit tech (Found zero period shown) = IsFound circuit tech zero period shown
+IsPeriodOutcome circuit tech (Never cycle) = IsForbidding circuit tech cycle

@@ -1,0 +1,8 @@
+//! From a circuit and its delays to what the program answers: each step of the timing in its order.
+#![tactic(auto)]
+
+mod fault;
+mod period;
+
+pub use fault::SynthFault;
+pub use period::{PeriodOutcome, period_of, zero_of};
