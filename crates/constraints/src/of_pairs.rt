@@ -34,8 +34,10 @@ pub fn constraints_of(
 {
     let mut constraints = Listed::new(alloc);
     for pair in pairs.as_slice() {
-        constraints.push(setup_constraint(pair, tech))?;
-        constraints.push(hold_constraint(pair, tech))?;
+        let setup = setup_constraint(pair, tech);
+        let hold = hold_constraint(pair, tech);
+        constraints.push(setup)?;
+        constraints.push(hold)?;
     }
     Ok(constraints)
 }

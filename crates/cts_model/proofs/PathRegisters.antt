@@ -23,16 +23,12 @@ register_within circuit register Holds holds = at (slice_get circuit.registers r
     at None missing holds = absurd holds
     at (Some number) here holds = slice_get_within circuit.registers register number here
 
--- the register that launches a path, and the one that captures it
-launch_within : (circuit : Circuit) (from to : ℕ) (path : List ℕ) → IsPath circuit from to path
-    → from < length circuit.registers
-launch_within circuit from to [] is_path = absurd is_path
-launch_within circuit from to (first ∷ gates) is_path = register_within circuit from _ is_path.0
-
-capture_within : (circuit : Circuit) (from to : ℕ) (path : List ℕ)
-    → IsPath circuit from to path → to < length circuit.registers
-capture_within circuit from to [] is_path = absurd is_path
-capture_within circuit from to (first ∷ gates) is_path = register_within circuit to _ is_path.1.2
+-- a path joins registers of the circuit
+pub path_within : (circuit : Circuit) (from to : ℕ) (path : List ℕ) → IsPath circuit from to path
+    → (from < length circuit.registers) × (to < length circuit.registers)
+path_within circuit from to [] is_path = absurd is_path
+path_within circuit from to (first ∷ gates) is_path =
+    (register_within circuit from _ is_path.0, register_within circuit to _ is_path.1.2)
 
 module _ {circuit : Circuit} {tech : Tech} {pairs : List PairDelay}
     (lists : ListsPairs circuit tech pairs) where
@@ -40,9 +36,9 @@ module _ {circuit : Circuit} {tech : Tech} {pairs : List PairDelay}
   pub launches_within : All (λ pair. pair.from < length circuit.registers) pairs
   launches_within = All-weaker (IsPairDelay circuit tech) _
       (λ pair delays. let (path, joins, least_is) = delays.least_shown in
-      launch_within circuit pair.from pair.to path joins) pairs lists.delays
+      (path_within circuit pair.from pair.to path joins).0) pairs lists.delays
 
   pub captures_within : All (λ pair. pair.to < length circuit.registers) pairs
   captures_within = All-weaker (IsPairDelay circuit tech) _
       (λ pair delays. let (path, joins, least_is) = delays.least_shown in
-      capture_within circuit pair.from pair.to path joins) pairs lists.delays
+      (path_within circuit pair.from pair.to path joins).1) pairs lists.delays

@@ -7,7 +7,7 @@ use Rattle.constraints.proofs.of_pairs.constraints_of.Goals as goal
 pub loop-pair-preserved : goal.loop-pair-preserved
 loop-pair-preserved c =
     pushed_next c.args.tech.now _ _ _ _ _ _ _ _ c.loop-pair-test.true c.loop-pair.invariant
-    c.setup_constraint.ensures c.hold_constraint.ensures
+    c.setup_constraint-setup.ensures c.hold_constraint-hold.ensures
     c.in_ok-push.ensures.ok c.in_ok-push-2.ensures.ok
 
 pub returns-clause-value : goal.returns-clause-value
