@@ -8,6 +8,8 @@ mod bench_tests;
 #[cfg(test)]
 mod delay_tests;
 #[cfg(test)]
+mod fraction_tests;
+#[cfg(test)]
 mod io_tests;
 #[cfg(test)]
 mod model_tests;
