@@ -19,6 +19,7 @@ gcd_less a b less greatest = (
 no_less : (b more d less : ℕ) → 0 < b → (b + more) * (d + 1 + less) ≡ d * b → ⊥
 no_less b more d less some same = grind arith
 
+-- where one value isn't below 1, neither is the other
 at_least : (a b c d : ℕ) → b ≤ a → 0 < b → a * d ≡ c * b → d ≤ c
 at_least a b c d more some same = elim (cases_lt c d) [
   | inl less ↦

@@ -1,5 +1,5 @@
 -- Signed numbers divided by their greatest common divisor.
-use Rattle.std.proofs.Common.{◌≡◌, ℕ, zero, suc, ◌*◌, ◌/◌, ◌≤◌, ℤ, pos, negsuc, neg_ℤ, ◌*ℤ◌, ◌≤ℤ◌, nat_abs, to_z, of_z, FitsSigned, refl, sym, ap, ◌∙◌, arith}
+use Rattle.std.proofs.Common.{◌≡◌, ℕ, zero, suc, ◌*◌, ◌/◌, ◌<◌, ◌≤◌, ℤ, pos, negsuc, neg_ℤ, ◌*ℤ◌, ◌≤ℤ◌, nat_abs, to_z, of_z, FitsSigned, refl, sym, ap, ◌∙◌, arith}
 use Rattle.std.proofs.Math.Nat.{mul-div_cancel', div-le_self}
 use mir.Syntax.{w128}
 use Rattle.std.proofs.lemmas.Int.{ints, quot_fits, quot_is}
@@ -37,7 +37,8 @@ pub lowest_quotients : (num den divisor : ℤ) → pos 1 ≤ℤ den → pos 1 �
     → IsLowest (int_div num divisor) (int_div den divisor)
 lowest_quotients num (pos d) (pos divisor) some positive greatest =
     let back = mul-div_cancel' divisor greatest.1 in
-    let quotient = some_divisor (d / divisor) divisor d (omega (arith, back)) (omega (arith, ints)) in
+    let some_d : 0 < d = omega (arith, ints) in
+    let quotient = some_divisor (d / divisor) divisor d (omega (arith, back)) some_d in
     record {
       some_den = omega (arith, ints);
       coprime = rw (size-int_div num divisor)

@@ -10,6 +10,8 @@ mod constraint_tests;
 #[cfg(test)]
 mod delay_tests;
 #[cfg(test)]
+mod fraction_tests;
+#[cfg(test)]
 mod io_tests;
 #[cfg(test)]
 mod model_tests;

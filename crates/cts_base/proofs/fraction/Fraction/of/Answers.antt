@@ -14,8 +14,9 @@ invariant_of-result c =
     let greatest = rw (num_is, den_is) at divisor.ensures.greatest in
     let front = quotient_is c.args.num divisor.result c.ranges.num fits some in
     let back = quotient_is c.args.den divisor.result c.ranges.den fits some in
+    let some_den = c.requires.some_den in
     rw (front, back) (record {
-      lowest = lowest_quotients c.args.num c.args.den divisor.result c.requires.some_den some greatest;
+      lowest = lowest_quotients c.args.num c.args.den divisor.result some_den some greatest;
     })
 
 pub returns-clause-value : goal.returns-clause-value
