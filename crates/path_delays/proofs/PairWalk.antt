@@ -1,33 +1,18 @@
 -- The list of joined pairs as it grows, by the register that launches and then by the one that captures.
-use Rattle.std.proofs.Common.{ℕ, ◌≡◌, ◌<◌, ◌≤◌, ◌+◌, ◌⊎◌, List, [], ◌∷◌, ◌++◌, length, get_or, Any, Option, Some, None, IsSomeAnd, refl, sym, ◌∙◌, subst, arith, inl, inr, append-nil}
-use Rattle.std.specs.List.{slice_get}
-use Rattle.std.specs.Option.{option_and_then, option_to_list}
+use Rattle.std.proofs.Common.{ℕ, ◌≡◌, ◌<◌, ◌≤◌, ◌+◌, ◌⊎◌, List, [], ◌∷◌, ◌++◌, length, get_or, Any, Option, Some, None, sym, ◌∙◌, subst, arith, inl, inr, append-nil}
+use Rattle.std.specs.Option.{option_to_list}
 use Rattle.std.proofs.lemmas.Bool.{cases_lt}
-use Rattle.std.proofs.lemmas.Option.{slice_get_within}
 use Rattle.std.proofs.lemmas.List.{get_or_append_left, length_push}
 use Rattle.std.proofs.lemmas.List.Elements.{All-push}
 use Rattle.std.proofs.lemmas.List.Quantifiers.{all_pairs_push, Any-push}
-use Rattle.cts_model.specs.declared.signal.Signal.{Signal}
 use Rattle.cts_model.specs.declared.circuit.Circuit.{Circuit}
 use Rattle.cts_model.specs.declared.tech.Tech.{Tech}
 use Rattle.cts_model.specs.declared.timing.PairDelay.{PairDelay}
-use Rattle.cts_model.specs.Paths.{register_signal, IsPath}
+use Rattle.cts_model.specs.Paths.{IsPath}
 use Rattle.cts_model.specs.EqualArrivals.{IsPairDelay, ComesBefore}
 use Rattle.cts_model.specs.PairLists.{IsSmallPair}
+use Rattle.cts_model.proofs.PathRegisters.{path_within}
 use Rattle.path_delays.specs.JoinedPairs.{IsDelayBetween, IsJoinedBy, ListsPairsBefore, pair_limit, ArePairs}
-
--- a register that has a signal is one of the circuit's
-pub register_within : (circuit : Circuit) (register : ℕ) (Holds : Signal → Type 0) → IsSomeAnd (register_signal circuit register) Holds → register < length circuit.registers
-register_within circuit register Holds holds = at (slice_get circuit.registers register) refl holds
-  where
-    at : (listed : Option ℕ) → slice_get circuit.registers register ≡ listed → IsSomeAnd (option_and_then (slice_get circuit.signals) listed) Holds → register < length circuit.registers
-    at None missing holds = absurd holds
-    at (Some number) here holds = slice_get_within circuit.registers register number here
-
--- a path joins registers of the circuit
-path_within : (circuit : Circuit) (from to : ℕ) (path : List ℕ) → IsPath circuit from to path → (from < length circuit.registers) × (to < length circuit.registers)
-path_within circuit from to [] is_path = absurd is_path
-path_within circuit from to (first ∷ gates) is_path = (register_within circuit from _ is_path.0, register_within circuit to _ is_path.1.2)
 
 -- what is listed stays so with one item more
 any_before : (Property : PairDelay → Type 0) (pairs : List PairDelay) (pair : PairDelay) → Any Property pairs → Any Property (pairs ++ pair ∷ [])
