@@ -1,6 +1,6 @@
 -- How large gains are.
-use Rattle.std.proofs.Common.{◌≡◌, ◌≤◌, ◌*◌, ◌^◌, ◌∙◌, Bool, true, false, cond, subst, ℕ, ℤ, pos, negsuc, ◌+ℤ◌, ◌-ℤ◌, ◌*ℤ◌, neg_ℤ, ◌≤ℤ◌, FitsSigned, ap, arith}
-use Rattle.std.proofs.lemmas.Int.{ints, to_z-of_z, unsigned_abs-mul}
+use Rattle.std.proofs.Common.{◌≡◌, ◌≤◌, ◌*◌, ◌^◌, ◌∙◌, Bool, true, false, cond, sym, subst, ℕ, ℤ, pos, negsuc, ◌+ℤ◌, ◌-ℤ◌, ◌*ℤ◌, neg_ℤ, ◌≤ℤ◌, FitsSigned, ap, arith}
+use Rattle.std.proofs.lemmas.Int.{ints, to_z-of_z, unsigned_abs-mul, fits_signed_mul}
 use Rattle.std.proofs.lemmas.Nat.{mul-le}
 use Rattle.std.specs.Int.{w128}
 use Rattle.std.specs.Prelude.{unsigned_abs}
@@ -33,6 +33,16 @@ asked_small denominator weight proper low small =
     let size : unsigned_abs (denominator *ℤ weight) ≤ 409700000000000 = omega (arith, unsigned_abs-mul denominator weight, mul-le (unsigned_abs denominator) (unsigned_abs weight) 4097 100000000000 first second) in
     let both = within_size 409700000000000 (denominator *ℤ weight) size in
     record { above = omega (arith, ints, both.0); below = omega (arith, ints, both.1) }
+
+-- a product of a value with a denominator, as the code keeps it
+pub product_fits : (value denominator : ℤ) → IsBelow (2 ^ 90) value → pos 1 ≤ℤ denominator → denominator ≤ℤ pos 4097 → FitsSigned w128 (kept (kept value *ℤ kept denominator))
+product_fits value denominator small proper low =
+    let first : FitsSigned w128 value = omega (arith, ints, small.above, small.below) in
+    let second : FitsSigned w128 denominator = omega (arith, ints) in
+    let size : unsigned_abs value ≤ 2 ^ 90 = size_within (2 ^ 90) value (omega (arith, ints, small.above)) (omega (arith, ints, small.below)) in
+    let fits : FitsSigned w128 (value *ℤ denominator) = fits_signed_mul w128 value denominator (2 ^ 90) 4097 size (size_within 4097 denominator (omega (arith, ints)) low) (omega arith) in
+    let same : kept (kept value *ℤ kept denominator) ≡ value *ℤ denominator = ap (λ z. kept (z *ℤ kept denominator)) (to_z-of_z w128 value first) ∙ ap (λ z. kept (value *ℤ z)) (to_z-of_z w128 denominator second) ∙ to_z-of_z w128 (value *ℤ denominator) fits in
+    subst (FitsSigned w128) (sym same) fits
 
 -- what the code asks for a hold constraint
 hold_read : (denominator numerator weight : ℤ) → IsTrial numerator denominator → IsBelow (10 ^ 11) weight → kept (kept denominator *ℤ kept weight) ≡ denominator *ℤ weight

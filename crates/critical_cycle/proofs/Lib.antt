@@ -1,2 +1,4 @@
 pub mod GainLemmas
 pub mod RelaxLemmas
+pub mod ParentLemmas
+pub mod SweepLemmas
