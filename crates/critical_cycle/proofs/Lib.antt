@@ -2,3 +2,5 @@ pub mod GainLemmas
 pub mod RelaxLemmas
 pub mod ParentLemmas
 pub mod SweepLemmas
+pub mod StepLemmas
+pub mod ClimbLemmas

@@ -73,7 +73,7 @@ impl Relaxation {
             (ReachesUp constraints.now self.now from) }
     {
         let mut register = from;
-        for _ in 0..self.parents.len() {
+        for _step in 0..self.parents.len() {
             let parent = self.parents[register as usize];
             register = constraints.get(parent as usize)?.tail;
         }
