@@ -4,3 +4,4 @@ pub mod ParentLemmas
 pub mod SweepLemmas
 pub mod StepLemmas
 pub mod ClimbLemmas
+pub mod SettleLemmas
