@@ -5,3 +5,4 @@ pub mod SweepLemmas
 pub mod StepLemmas
 pub mod ClimbLemmas
 pub mod SettleLemmas
+pub mod PrepareLemmas

@@ -13,7 +13,7 @@ use Rattle.cts_model.specs.Points.{IsBelow}
 use Rattle.critical_cycle.specs.declared.trial.Trial.{Trial}
 use Rattle.critical_cycle.specs.declared.relaxation.Relaxation.{Relaxation}
 use Rattle.critical_cycle.specs.Trials.{gain_of, value_of}
-use Rattle.critical_cycle.specs.Relaxing.{HasRoom, AreBetween, offer_of, GivesMore, IsLeft, IsRaised, IsRelaxed}
+use Rattle.critical_cycle.specs.Relaxing.{HasRoom, AreBetween, offer_of, IsLeft, IsRaised, IsRelaxed}
 use Rattle.critical_cycle.specs.Sweeps.{IsSweeping, IsReady, IsSwept}
 use Rattle.critical_cycle.proofs.GainLemmas.{gain_small}
 use Rattle.critical_cycle.proofs.ParentLemmas.{IsRaise, IsRaise-set}

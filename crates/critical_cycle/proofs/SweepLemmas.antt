@@ -1,8 +1,6 @@
 -- Sweeps: which constraints may give more, by the sweeps in which registers changed last.
-use Rattle.std.proofs.Common.{◌≡◌, ◌≢◌, ◌<◌, ◌≤◌, ◌+◌, ◌==◌, ◌∙◌, ℕ, suc, zero, ℤ, pos, ◌+ℤ◌, ◌-ℤ◌, ◌*ℤ◌, ◌≤ℤ◌, ◌<ℤ◌, get_or, true, false, cond, List, [], ◌∷◌, length, Option, Some, None, MatchOption, IfSome, ◌⊎◌, inl, inr, sym, subst, ap, refl, arith}
+use Rattle.std.proofs.Common.{◌≡◌, ◌≢◌, ◌<◌, ◌≤◌, ◌+◌, ◌==◌, ◌∙◌, ℕ, suc, zero, ℤ, pos, ◌+ℤ◌, ◌-ℤ◌, ◌*ℤ◌, ◌≤ℤ◌, ◌<ℤ◌, get_or, cond, List, [], ◌∷◌, length, Option, Some, None, ◌⊎◌, inl, inr, sym, subst, ap, refl, arith}
 use Rattle.std.specs.List.{slice_get}
-use Rattle.std.specs.Bool.{⊤}
-use Rattle.std.specs.Option.{option_or}
 use Rattle.std.proofs.lemmas.Bool.{cases_eq, eq-eqb, ne_eqb}
 use Rattle.std.proofs.lemmas.Option.{same_Some, slice_get-get_or}
 use Rattle.std.proofs.lemmas.Int.{ints, by_lt_z}
@@ -10,10 +8,10 @@ use Rattle.cts_model.specs.declared.constraint.Constraint.{Constraint}
 use Rattle.cts_model.specs.Constraints.{count_of}
 use Rattle.critical_cycle.specs.declared.trial.Trial.{Trial}
 use Rattle.critical_cycle.specs.declared.relaxation.Relaxation.{Relaxation}
-use Rattle.critical_cycle.specs.Trials.{gain_of, parent_of, Climbs, value_of, AreParents}
+use Rattle.critical_cycle.specs.Trials.{parent_of, Climbs, value_of}
 use Rattle.critical_cycle.specs.Relaxing.{offer_of, GivesMore, SatisfiesTrial}
 use Rattle.critical_cycle.specs.Sweeps.{IsSweeping, IsReady, IsSwept}
-use Rattle.critical_cycle.proofs.ParentLemmas.{IsRaise, IsRaise-set, AreParents-raise, AreParents-none, rises}
+use Rattle.critical_cycle.proofs.ParentLemmas.{IsRaise, AreParents-raise, AreParents-none, rises}
 
 -- a constraint that gives no more doesn't give more
 not_both : (has offer : ℤ) → offer ≤ℤ has → has <ℤ offer → ⊥

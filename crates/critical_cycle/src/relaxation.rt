@@ -1,4 +1,4 @@
-ghost use Rattle.std.specs.Prelude.{◌≡◌, ◌<◌, ◌≤◌, ◌^◌, ℕ, ℤ, pos, ◌+ℤ◌, None, All, MatchOption, length};
+ghost use Rattle.std.specs.Prelude.{◌≡◌, ◌<◌, ◌≤◌, ◌^◌, ℕ, ℤ, pos, ◌+ℤ◌, None, List, All, MatchOption, length};
 ghost use Rattle.cts_model.specs.declared.constraint.Constraint.{Constraint};
 ghost use Rattle.cts_model.specs.Points.{IsBelow};
 

@@ -1,9 +1,8 @@
 -- Denominators are above 0, so the quotient is no larger than the product.
-use Rattle.std.proofs.Common.{◌≡◌, ◌<◌, ◌^◌, FitsSigned, ℤ, ◌*ℤ◌, arith}
+use Rattle.std.proofs.Common.{FitsSigned, ℤ, ◌*ℤ◌, arith}
 use Rattle.std.proofs.lemmas.Int.{ints, quot_fits}
 use Rattle.std.specs.Int.{w128}
 use Rattle.critical_cycle.proofs.GainLemmas.{product_fits}
-use Rattle.critical_cycle.proofs.SweepLemmas.{IsSweeping-raised, parents_above}
 use Rattle.critical_cycle.proofs.relaxation.rescaled.Goals as goal
 use mir.Val.{to_z, of_z}
 

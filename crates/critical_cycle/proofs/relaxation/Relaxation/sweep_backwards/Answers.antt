@@ -1,5 +1,5 @@
 -- A look at each place, from the last down.
-use Rattle.std.proofs.Common.{◌≤◌, ◌+◌, ◌-◌, ◌⊎◌, ◌≡◌, ℕ, Option, length, inl, inr, arith, sym, subst}
+use Rattle.std.proofs.Common.{◌≤◌, ◌+◌, ◌-◌, ◌⊎◌, ◌≡◌, ℕ, length, inl, inr, arith, sym, subst}
 use Rattle.std.proofs.lemmas.Bool.{cases_lt}
 use Rattle.critical_cycle.proofs.StepLemmas.{IsUnderWay, IsUnderWay-more, small_now, swept_all}
 use Rattle.critical_cycle.proofs.relaxation.Relaxation.sweep_backwards.Goals as goal
