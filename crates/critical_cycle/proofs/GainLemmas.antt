@@ -12,7 +12,7 @@ use Rattle.critical_cycle.specs.Trials.{gain_of}
 use mir.Val.{to_z, of_z}
 
 -- a number as the code keeps it
-abbrev kept : ℤ → ℤ
+abbrev pub kept : ℤ → ℤ
 kept number = to_z w128 (of_z w128 number)
 
 -- a number lies within its size
@@ -66,19 +66,21 @@ setup_read denominator numerator weight trial small =
     ap (λ z. kept (z -ℤ kept numerator)) (hold_read denominator numerator weight trial small)
     ∙ difference_read (denominator *ℤ weight) numerator (asked_small denominator weight trial.proper trial.low small) trial.positive trial.small
 
--- the gain of a setup constraint, and of a hold constraint
+-- a setup constraint counts the period once
 once_less : (asked numerator : ℤ) → asked -ℤ numerator ≡ asked -ℤ (numerator *ℤ pos 1)
 once_less asked numerator = omega (arith, ints)
 
+-- a hold constraint never does
 never_less : (asked numerator : ℤ) → asked ≡ asked -ℤ (numerator *ℤ pos 0)
 never_less asked numerator = omega (arith, ints)
 
--- what the code answers is the gain
+-- what the code answers for a setup constraint is its gain
 pub setup_gain : (trial : Trial) (constraint : Constraint) → constraint.setup ≡ true → IsBelow (10 ^ 11) constraint.weight → kept (kept (kept trial.denominator *ℤ kept constraint.weight) -ℤ kept trial.numerator) ≡ gain_of trial constraint
 setup_gain trial constraint setup small =
     setup_read trial.denominator trial.numerator constraint.weight trial.valid small
     ∙ rw setup (once_less (trial.denominator *ℤ constraint.weight) trial.numerator)
 
+-- and so it is for a hold constraint
 pub hold_gain : (trial : Trial) (constraint : Constraint) → constraint.setup ≡ false → IsBelow (10 ^ 11) constraint.weight → kept (kept trial.denominator *ℤ kept constraint.weight) ≡ gain_of trial constraint
 hold_gain trial constraint hold small =
     hold_read trial.denominator trial.numerator constraint.weight trial.valid small

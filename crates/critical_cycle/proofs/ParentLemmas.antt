@@ -42,35 +42,43 @@ IsRaise-set constraints trial place constraint values parents at within parent_w
   kept = λ register apart. ap (option_and_then (slice_get constraints)) (slice_get-set_other parents constraint.head register place apart);
 }
 
--- sums along a climb
+-- two steps that don't lose don't lose together
 not_more : (from via gain to total : ℤ) → from ≤ℤ (via +ℤ gain) → via ≤ℤ (to +ℤ total) → from ≤ℤ (to +ℤ (gain +ℤ total))
 not_more from via gain to total first second = omega (arith, ints)
 
+-- where the first of two gains, both do
 less_first : (from via gain to total : ℤ) → from <ℤ (via +ℤ gain) → via ≤ℤ (to +ℤ total) → from <ℤ (to +ℤ (gain +ℤ total))
 less_first from via gain to total first second = omega (arith, ints)
 
+-- and so they do where the second gains
 less_then : (from via gain to total : ℤ) → from ≤ℤ (via +ℤ gain) → via <ℤ (to +ℤ total) → from <ℤ (to +ℤ (gain +ℤ total))
 less_then from via gain to total first second = omega (arith, ints)
 
+-- no step loses nothing
 at_most_itself : (z : ℤ) → z ≤ℤ (z +ℤ pos 0)
 at_most_itself z = omega (arith, ints)
 
+-- who comes back with more than nothing has gained
 above_none : (z total : ℤ) → z <ℤ (z +ℤ total) → pos 0 <ℤ total
 above_none z total less = omega (arith, ints)
 
+-- less is at most
 weaker : (a b : ℤ) → a <ℤ b → a ≤ℤ b
 weaker a b less = omega (arith, ints)
 
--- a value that rises
+-- a value that stays isn't less
 not_less : (old new : ℤ) → new ≡ old → old ≤ℤ new
 not_less old new same = omega (arith, ints)
 
+-- a value that is raised isn't less
 below_offer : (old new offer : ℤ) → old <ℤ offer → new ≡ offer → old ≤ℤ new
 below_offer old new offer more here = omega (arith, ints)
 
+-- what was given before is given still, as the tail only rises
 below_sum : (value later from to gain : ℤ) → value ≤ℤ (from +ℤ gain) → later ≡ value → from ≤ℤ to → later ≤ℤ (to +ℤ gain)
 below_sum value later from to gain given same rises = omega (arith, ints)
 
+-- what was offered is given still
 offer_below : (offer later from to gain : ℤ) → offer ≡ from +ℤ gain → later ≡ offer → from ≤ℤ to → later ≤ℤ (to +ℤ gain)
 offer_below offer later from to gain is same rises = omega (arith, ints)
 

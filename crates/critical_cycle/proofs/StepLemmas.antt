@@ -1,5 +1,5 @@
 -- How far a sweep has come: what one constraint after the other makes of all values.
-use Rattle.std.proofs.Common.{◌≡◌, ◌≢◌, ◌<◌, ◌≤◌, ◌+◌, ◌*◌, ◌^◌, ◌∙◌, ℕ, ℤ, pos, ◌+ℤ◌, neg_ℤ, ◌≤ℤ◌, ◌<ℤ◌, false, List, length, get_or, set, All, Option, Some, None, MatchOption, IfSome, ◌⊎◌, inl, inr, sym, subst, ap, refl, arith}
+use Rattle.std.proofs.Common.{◌≡◌, ◌≢◌, ◌<◌, ◌≤◌, ◌+◌, ◌*◌, ◌^◌, ◌∙◌, ℕ, ℤ, pos, ◌+ℤ◌, neg_ℤ, ◌≤ℤ◌, ◌<ℤ◌, List, length, get_or, set, All, Option, Some, None, MatchOption, IfSome, ◌⊎◌, inl, inr, sym, subst, ap, refl, arith}
 use Rattle.std.specs.List.{slice_get}
 use Rattle.std.specs.Bool.{⊤}
 use Rattle.std.specs.Option.{option_or}
@@ -14,8 +14,9 @@ use Rattle.critical_cycle.specs.declared.trial.Trial.{Trial}
 use Rattle.critical_cycle.specs.declared.relaxation.Relaxation.{Relaxation}
 use Rattle.critical_cycle.specs.Trials.{gain_of, value_of}
 use Rattle.critical_cycle.specs.Relaxing.{HasRoom, AreBetween, offer_of, IsLeft, IsRaised, IsRelaxed}
-use Rattle.critical_cycle.specs.Sweeps.{IsSweeping, IsReady, IsSwept}
+use Rattle.critical_cycle.specs.Sweeps.{IsSweeping, IsReady, IsSweep}
 use Rattle.critical_cycle.proofs.GainLemmas.{gain_small}
+use Rattle.critical_cycle.proofs.RelaxLemmas.{nowhere}
 use Rattle.critical_cycle.proofs.ParentLemmas.{IsRaise, IsRaise-set}
 use Rattle.critical_cycle.proofs.SweepLemmas.{IsSweeping-fewer, IsSweeping-left, IsSweeping-raised}
 
@@ -44,15 +45,13 @@ AreBetween-wider least greatest wider values more between = record {
 offer_high : (from gain greatest : ℤ) → from ≤ℤ greatest → IsBelow (2 ^ 50) gain → (from +ℤ gain) ≤ℤ (greatest +ℤ pos (2 ^ 50))
 offer_high from gain greatest high small = omega (arith, ints, small.below)
 
+-- and no less than the least
 offer_low : (least has offer : ℤ) → least ≤ℤ has → has <ℤ offer → least ≤ℤ offer
 offer_low least has offer low more = omega (arith, ints)
 
+-- the greatest with a gain more is no less
 raised_little : (greatest : ℤ) → greatest ≤ℤ (greatest +ℤ pos (2 ^ 50))
 raised_little greatest = omega (arith, ints)
-
--- what stands past the end
-abbrev nowhere : Constraint
-nowhere = record { setup = false; tail = 0; head = 0; weight = pos 0 }
 
 -- values with one that is set stay between
 AreBetween-set : (least greatest offer : ℤ) (values : List ℤ) (register : ℕ) → register < length values → least ≤ℤ offer → offer ≤ℤ (greatest +ℤ pos (2 ^ 50)) → AreBetween least greatest values → AreBetween least (greatest +ℤ pos (2 ^ 50)) (set values register offer)
@@ -82,11 +81,12 @@ IsLook trial place constraint old answer new = MatchOption answer (IsLeft trial 
 
 module _ {constraints : List Constraint} (trial : Trial) (place : ℕ) {constraint : Constraint} {old : Relaxation} (new : Relaxation)
     (room : HasRoom constraints old) (here : slice_get constraints place ≡ Some constraint) (small : IsSmallConstraint (length old.values.items) constraint) where
-  -- the lists keep their lengths
+  -- the values keep their length
   pub values_length : (answer : Option ℕ) → IsLook trial place constraint old answer new → length new.values.items ≡ length old.values.items
   values_length None left = ap length left.values
   values_length (Some register) raised = ap length raised.values ∙ length-set old.values.items constraint.head (offer_of trial old.values.items constraint)
 
+  -- and so do the parents
   pub parents_length : (answer : Option ℕ) → IsLook trial place constraint old answer new → length new.parents.items ≡ length old.parents.items
   parents_length None left = ap length left.parents
   parents_length (Some register) raised = ap length raised.parents ∙ length-set old.parents.items constraint.head place
@@ -126,18 +126,21 @@ pub record IsUnderWay (constraints : List Constraint) (trial : Trial) (Seen : �
   pub swept : (sweep : ℕ) → IsReady constraints trial sweep begun → IsSweeping constraints trial sweep Seen changed now.values.items now.parents.items
   pub between : (least greatest : ℤ) → AreBetween least greatest begun.values.items → AreBetween least (greatest +ℤ pos (count * 2 ^ 50)) now.values.items
 
--- sums of gains
-nothing_more : (z : ℤ) → z ≤ℤ (z +ℤ pos (0 * 2 ^ 50))
-nothing_more z = omega (arith, ints)
+-- before any gain
+no_gain : (z : ℤ) → z ≤ℤ (z +ℤ pos (0 * 2 ^ 50))
+no_gain z = omega (arith, ints)
 
-one_more : (z : ℤ) (count : ℕ) → ((z +ℤ pos (count * 2 ^ 50)) +ℤ pos (2 ^ 50)) ≤ℤ (z +ℤ pos ((count + 1) * 2 ^ 50))
-one_more z count = omega (arith, ints)
+-- after one gain more
+one_gain : (z : ℤ) (count : ℕ) → ((z +ℤ pos (count * 2 ^ 50)) +ℤ pos (2 ^ 50)) ≤ℤ (z +ℤ pos ((count + 1) * 2 ^ 50))
+one_gain z count = omega (arith, ints)
 
-all_more : (z : ℤ) (count : ℕ) → count ≤ 2097152 → (z +ℤ pos (count * 2 ^ 50)) ≤ℤ (z +ℤ pos (2 ^ 71))
-all_more z count few = omega (arith, ints)
+-- after the gains of all constraints
+all_gains : (z : ℤ) (count : ℕ) → count ≤ 2097152 → (z +ℤ pos (count * 2 ^ 50)) ≤ℤ (z +ℤ pos (2 ^ 71))
+all_gains z count few = omega (arith, ints)
 
-still_small : (count : ℕ) → count ≤ 2097152 → (pos (2 ^ 91) +ℤ pos (count * 2 ^ 50)) <ℤ pos (2 ^ 92)
-still_small count few = omega (arith, ints)
+-- small values are small still after them
+small_gains : (count : ℕ) → count ≤ 2097152 → (pos (2 ^ 91) +ℤ pos (count * 2 ^ 50)) <ℤ pos (2 ^ 92)
+small_gains count few = omega (arith, ints)
 
 -- before the first constraint
 pub IsUnderWay-none : (constraints : List Constraint) (trial : Trial) (Seen : ℕ → Type 0) (relaxation : Relaxation) → ((place : ℕ) → Seen place → place < length constraints → ⊥) → IsUnderWay constraints trial Seen 0 None relaxation relaxation
@@ -145,7 +148,7 @@ IsUnderWay-none constraints trial Seen relaxation none = record {
   values = refl;
   parents = refl;
   swept = λ sweep ready. IsSweeping-fewer ready Seen (λ place constraint seen here. none place seen (slice_get_within constraints place constraint here));
-  between = λ least greatest between. AreBetween-wider least greatest (greatest +ℤ pos (0 * 2 ^ 50)) relaxation.values.items (nothing_more greatest) between;
+  between = λ least greatest between. AreBetween-wider least greatest (greatest +ℤ pos (0 * 2 ^ 50)) relaxation.values.items (no_gain greatest) between;
 }
 
 module _ {constraints : List Constraint} {trial : Trial} {Seen : ℕ → Type 0} {count : ℕ} {changed : Option ℕ} {begun now : Relaxation}
@@ -160,7 +163,7 @@ module _ {constraints : List Constraint} {trial : Trial} {Seen : ℕ → Type 0}
   -- the values are small still
   pub small_now : count ≤ 2097152 → All (IsBelow (2 ^ 91)) begun.values.items → All (IsBelow (2 ^ 92)) now.values.items
   small_now few small =
-      All-between (2 ^ 92) (neg_ℤ (pos (2 ^ 91))) (pos (2 ^ 91) +ℤ pos (count * 2 ^ 50)) now.values.items (omega (arith, ints)) (still_small count few)
+      All-between (2 ^ 92) (neg_ℤ (pos (2 ^ 91))) (pos (2 ^ 91) +ℤ pos (count * 2 ^ 50)) now.values.items (omega (arith, ints)) (small_gains count few)
       (way.between (neg_ℤ (pos (2 ^ 91))) (pos (2 ^ 91)) (AreBetween-below (2 ^ 91) begun.values.items small))
 
   -- one more constraint is looked at
@@ -170,7 +173,7 @@ module _ {constraints : List Constraint} {trial : Trial} {Seen : ℕ → Type 0}
     values = values_length trial place later room_now here small answer look ∙ way.values;
     parents = parents_length trial place later room_now here small answer look ∙ way.parents;
     swept = λ sweep ready. sweeping_look trial place later room_now here small answer look sweep Seen Later changed seen (way.swept sweep ready);
-    between = λ least greatest between. AreBetween-wider least ((greatest +ℤ pos (count * 2 ^ 50)) +ℤ pos (2 ^ 50)) (greatest +ℤ pos ((count + 1) * 2 ^ 50)) later.values.items (one_more greatest count)
+    between = λ least greatest between. AreBetween-wider least ((greatest +ℤ pos (count * 2 ^ 50)) +ℤ pos (2 ^ 50)) (greatest +ℤ pos ((count + 1) * 2 ^ 50)) later.values.items (one_gain greatest count)
         (between_look trial place later room_now here small answer look least (greatest +ℤ pos (count * 2 ^ 50)) (way.between least greatest between));
   }
     where
@@ -184,8 +187,10 @@ module _ {constraints : List Constraint} {trial : Trial} {Seen : ℕ → Type 0}
       small = room_now.small.each place nowhere within
 
   -- after the last
-  pub swept_all : ((place : ℕ) → place < length constraints → Seen place) → (sweep : ℕ) → IsReady constraints trial sweep begun → IsSwept constraints trial sweep changed now
-  swept_all all sweep ready = IsSweeping-fewer (way.swept sweep ready) (λ place. ⊤) (λ place constraint seen here. all place (slice_get_within constraints place constraint here))
-
-  pub between_all : count ≤ 2097152 → (least greatest : ℤ) → AreBetween least greatest begun.values.items → AreBetween least (greatest +ℤ pos (2 ^ 71)) now.values.items
-  between_all few least greatest between = AreBetween-wider least (greatest +ℤ pos (count * 2 ^ 50)) (greatest +ℤ pos (2 ^ 71)) now.values.items (all_more greatest count few) (way.between least greatest between)
+  pub IsSweep-all : count ≤ 2097152 → ((place : ℕ) → place < length constraints → Seen place) → IsSweep constraints trial begun changed now
+  IsSweep-all few all = record {
+    values = way.values;
+    parents = way.parents;
+    swept = λ sweep ready. IsSweeping-fewer (way.swept sweep ready) (λ place. ⊤) (λ place constraint seen here. all place (slice_get_within constraints place constraint here));
+    between = λ least greatest between. AreBetween-wider least (greatest +ℤ pos (count * 2 ^ 50)) (greatest +ℤ pos (2 ^ 71)) now.values.items (all_gains greatest count few) (way.between least greatest between);
+  }

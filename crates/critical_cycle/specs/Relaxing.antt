@@ -1,5 +1,5 @@
--- How values of registers are raised in place until constraints hold, each with the constraint that raised
--- it. Cherkassky and Goldberg, "Negative-cycle detection algorithms", 1999.
+-- How values of registers are raised in place until constraints hold, each with the constraint that
+-- raised it. Cherkassky and Goldberg, "Negative-cycle detection algorithms", 1999.
 use Rattle.std.specs.Prelude.{◌≡◌, ◌<◌, ℕ, ℤ, pos, ◌+ℤ◌, ◌≤ℤ◌, ◌<ℤ◌, List, length, slice_get, slice_set, Option, IfSome, MatchOption}
 use Rattle.cts_model.specs.declared.constraint.Constraint.{Constraint}
 use Rattle.cts_model.specs.Constraints.{AreSmallConstraints, Satisfies}

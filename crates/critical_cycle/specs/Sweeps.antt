@@ -1,17 +1,18 @@
--- What a sweep over constraints makes of the values of registers. Each register has the number of the
--- sweep in which it changed last, from 1 on, and 0 where it didn't change.
-use Rattle.std.specs.Prelude.{◌≡◌, ◌<◌, ◌≤◌, ◌+◌, ⊤, ℕ, ℤ, List, length, slice_get, Option, Some, None, MatchOption}
+-- What a sweep over constraints makes of the values of registers. Each register has the number of
+-- the sweep in which it changed last, from 1 on, and 0 where it didn't change. Cherkassky and
+-- Goldberg, "Negative-cycle detection algorithms", 1999.
+use Rattle.std.specs.Prelude.{◌≡◌, ◌<◌, ◌≤◌, ◌+◌, ◌^◌, ◌+ℤ◌, ⊤, ℕ, ℤ, pos, List, length, slice_get, Option, Some, None, MatchOption}
 use Rattle.cts_model.specs.declared.constraint.Constraint.{Constraint}
 use Rattle.critical_cycle.specs.declared.trial.Trial.{Trial}
 use Rattle.critical_cycle.specs.declared.relaxation.Relaxation.{Relaxation}
 use Rattle.critical_cycle.specs.Trials.{parent_of, AreParents}
-use Rattle.critical_cycle.specs.Relaxing.{GivesMore}
+use Rattle.critical_cycle.specs.Relaxing.{AreBetween, GivesMore}
 
--- within a sweep that has seen some places: a constraint that gives more has a tail that changed since it
--- was seen, and above a register that changed is one that changed in the sweep before or later
+-- within a sweep that has seen some places: where a constraint gives more, its tail has changed
+-- since it was seen, and above a register that changed is one that changed a sweep before or later
 pub record IsSweeping (constraints : List Constraint) (trial : Trial) (sweep : ℕ)
-    (Seen : ℕ → Type 0) (changed : Option ℕ) (values : List ℤ) (parents : List ℕ)
-    : Type 0 where
+    (Seen : ℕ → Type 0) (changed : Option ℕ) (values : List ℤ)
+    (parents : List ℕ) : Type 0 where
   pub are_parents : AreParents constraints trial values parents
   pub last : ℕ → ℕ
   pub latest : (register : ℕ) → last register ≤ sweep
@@ -37,3 +38,13 @@ abbrev pub IsSwept : List Constraint → Trial → ℕ → Option ℕ → Relaxa
 IsSwept constraints trial sweep changed relaxation =
     IsSweeping constraints trial sweep (λ place. ⊤) changed
     relaxation.values.items relaxation.parents.items
+
+-- a sweep raises the greatest value by less than 2^71, and makes none less
+pub record IsSweep (constraints : List Constraint) (trial : Trial) (old : Relaxation)
+    (changed : Option ℕ) (new : Relaxation) : Type 0 where
+  pub values : length new.values.items ≡ length old.values.items
+  pub parents : length new.parents.items ≡ length old.parents.items
+  pub swept : (sweep : ℕ) → IsReady constraints trial sweep old
+      → IsSwept constraints trial sweep changed new
+  pub between : (least greatest : ℤ) → AreBetween least greatest old.values.items
+      → AreBetween least (greatest +ℤ pos (2 ^ 71)) new.values.items

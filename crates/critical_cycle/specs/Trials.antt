@@ -32,8 +32,8 @@ Climbs constraints parents from (constraint ∷ above) to =
 abbrev pub value_of : List ℤ → ℕ → ℤ
 value_of values register = slice_index_or values register (pos 0)
 
--- each register with a parent has no more than its parent gives it, and whoever climbs from a register
--- back to it has gained
+-- each register with a parent has no more than its parent gives it, and whoever climbs from a
+-- register back to it has gained
 pub record AreParents (constraints : List Constraint) (trial : Trial) (values : List ℤ)
     (parents : List ℕ) : Type 0 where
   pub heads : (register : ℕ) (parent : Constraint)

@@ -1,4 +1,4 @@
-ghost use Rattle.std.specs.Prelude.{◌≡◌, ◌<◌, ◌≤◌, ◌^◌, ℕ, ℤ, pos, ◌+ℤ◌, None, List, All, MatchOption, length};
+ghost use Rattle.std.specs.Prelude.{◌≡◌, ◌<◌, ◌≤◌, ◌^◌, ℕ, None, List, All, MatchOption, length};
 ghost use Rattle.cts_model.specs.declared.constraint.Constraint.{Constraint};
 ghost use Rattle.cts_model.specs.Points.{IsBelow};
 
@@ -19,11 +19,12 @@ pub(crate) struct Relaxation {
 
 impl Relaxation {
     ghost use Rattle.critical_cycle.specs.Trials.{parent_of};
-    ghost use Rattle.critical_cycle.specs.Relaxing.{AreBetween, HasRoom, IsFarUp, IsRelaxed, ReachesUp, SatisfiesTrial};
-    ghost use Rattle.critical_cycle.specs.Sweeps.{IsReady, IsSwept};
+    ghost use Rattle.critical_cycle.specs.Relaxing.{HasRoom, IsFarUp, IsRelaxed, ReachesUp, SatisfiesTrial};
+    ghost use Rattle.critical_cycle.specs.Sweeps.{IsSweep};
 
     /// Forgets the parents, and brings the values from the last trial's denominator to that of the
-    /// next, rounded and cut. What the values were doesn't matter. For a first trial, give it twice.
+    /// next, rounded and cut. Whatever they were, they may be. A first trial is given as both, and
+    /// takes the values as they are. It takes no memory.
     pub(crate) fn prepare(&mut self, last: Trial, next: Trial)
         ensures values { length self.new.values.items ≡ length self.old.values.items }
         ensures parents { length self.new.parents.items ≡ length self.old.parents.items }
@@ -85,12 +86,7 @@ impl Relaxation {
     fn sweep(&mut self, constraints: &[Constraint], trial: Trial, before: usize) -> Option<u32>
         requires room { HasRoom constraints.now self.old }
         requires small { All (IsBelow (2 ^ 91)) self.old.values.items }
-        ensures swept { (sweep : ℕ) → IsReady constraints.now trial sweep self.old
-            → IsSwept constraints.now trial sweep result self.new }
-        ensures between { (low high : ℤ) → AreBetween low high self.old.values.items
-            → AreBetween low (high +ℤ pos (2 ^ 71)) self.new.values.items }
-        ensures values { length self.new.values.items ≡ length self.old.values.items }
-        ensures parents { length self.new.parents.items ≡ length self.old.parents.items }
+        ensures { IsSweep constraints.now trial self.old result self.new }
     {
         if before % 2 == 0 {
             self.sweep_forwards(constraints, trial)
@@ -103,12 +99,7 @@ impl Relaxation {
     fn sweep_forwards(&mut self, constraints: &[Constraint], trial: Trial) -> Option<u32>
         requires room { HasRoom constraints.now self.old }
         requires small { All (IsBelow (2 ^ 91)) self.old.values.items }
-        ensures swept { (sweep : ℕ) → IsReady constraints.now trial sweep self.old
-            → IsSwept constraints.now trial sweep result self.new }
-        ensures between { (low high : ℤ) → AreBetween low high self.old.values.items
-            → AreBetween low (high +ℤ pos (2 ^ 71)) self.new.values.items }
-        ensures values { length self.new.values.items ≡ length self.old.values.items }
-        ensures parents { length self.new.parents.items ≡ length self.old.parents.items }
+        ensures { IsSweep constraints.now trial self.old result self.new }
     {
         let mut changed = None;
         for place in 0..constraints.len() {
@@ -121,12 +112,7 @@ impl Relaxation {
     fn sweep_backwards(&mut self, constraints: &[Constraint], trial: Trial) -> Option<u32>
         requires room { HasRoom constraints.now self.old }
         requires small { All (IsBelow (2 ^ 91)) self.old.values.items }
-        ensures swept { (sweep : ℕ) → IsReady constraints.now trial sweep self.old
-            → IsSwept constraints.now trial sweep result self.new }
-        ensures between { (low high : ℤ) → AreBetween low high self.old.values.items
-            → AreBetween low (high +ℤ pos (2 ^ 71)) self.new.values.items }
-        ensures values { length self.new.values.items ≡ length self.old.values.items }
-        ensures parents { length self.new.parents.items ≡ length self.old.parents.items }
+        ensures { IsSweep constraints.now trial self.old result self.new }
     {
         let mut changed = None;
         let mut place = constraints.len();

@@ -1,7 +1,7 @@
 -- A look at each place, from the last down.
 use Rattle.std.proofs.Common.{◌≤◌, ◌+◌, ◌-◌, ◌⊎◌, ◌≡◌, ℕ, length, inl, inr, arith, sym, subst}
 use Rattle.std.proofs.lemmas.Bool.{cases_lt}
-use Rattle.critical_cycle.proofs.StepLemmas.{IsUnderWay, IsUnderWay-more, small_now, swept_all}
+use Rattle.critical_cycle.proofs.StepLemmas.{IsUnderWay, IsUnderWay-more, small_now, IsSweep-all}
 use Rattle.critical_cycle.proofs.relaxation.Relaxation.sweep_backwards.Goals as goal
 
 -- the places from the one before on
@@ -25,5 +25,5 @@ loop-place-preserved c =
       (IsUnderWay-more c.requires.room c.loop-place.invariant.1 (place - 1) c.relax.result c.relax.new.self (λ other. place - 1 ≤ other) (omega (arith, c.loop-place.invariant.0)) c.relax.ensures (this_or_after place))),
     )
 
-pub returns-clause-swept : goal.returns-clause-swept
-returns-clause-swept c = swept_all c.requires.room c.loop-place.invariant.1 (λ place within. omega arith)
+pub returns : goal.returns
+returns c = IsSweep-all c.requires.room c.loop-place.invariant.1 (omega (arith, c.requires.room.small.few)) (λ place within. omega arith)

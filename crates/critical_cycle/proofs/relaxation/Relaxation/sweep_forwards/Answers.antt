@@ -1,7 +1,7 @@
 -- A look at each place, from the first on.
 use Rattle.std.proofs.Common.{◌<◌, ◌+◌, ◌⊎◌, ◌≡◌, ℕ, inl, inr, arith, sym, subst}
 use Rattle.std.proofs.lemmas.Bool.{cases_lt}
-use Rattle.critical_cycle.proofs.StepLemmas.{IsUnderWay, IsUnderWay-more, small_now, swept_all}
+use Rattle.critical_cycle.proofs.StepLemmas.{IsUnderWay, IsUnderWay-more, small_now, IsSweep-all}
 use Rattle.critical_cycle.proofs.relaxation.Relaxation.sweep_forwards.Goals as goal
 
 -- the places before the next one
@@ -20,5 +20,5 @@ loop-place-preserved c =
     subst (λ changed. IsUnderWay c.args.constraints.now c.args.trial (λ other. other < place + 1) (place + 1) changed c.args.self.now c.relax.new.self) (sym c.or-changed.ensures)
     (IsUnderWay-more c.requires.room c.loop-place.invariant place c.relax.result c.relax.new.self (λ other. other < place + 1) c.loop-place-test.true c.relax.ensures (next_or_before place))
 
-pub returns-clause-swept : goal.returns-clause-swept
-returns-clause-swept c = swept_all c.requires.room c.loop-place.invariant (λ place within. omega arith)
+pub returns : goal.returns
+returns c = IsSweep-all c.requires.room c.loop-place.invariant (omega (arith, c.requires.room.small.few)) (λ place within. omega arith)
