@@ -14,37 +14,59 @@ use Rattle.critical_cycle.specs.Trials.{parent_of}
 pub record IsPrepared (count : ℕ) (begun now : Relaxation) : Type 0 where
   pub values : length now.values.items ≡ length begun.values.items
   pub parents : now.parents.items ≡ begun.parents.items
-  pub small : (register : ℕ) (default : ℤ) → register < count → register < length now.values.items → IsBelow (2 ^ 90) (get_or now.values.items register default)
+  pub small : (register : ℕ) (default : ℤ) → register < count → register < length now.values.items
+      → IsBelow (2 ^ 90) (get_or now.values.items register default)
 
 -- one more value is small
-pub IsPrepared-more : (register : ℕ) (value : ℤ) (begun now later : Relaxation) → later.values.items ≡ set now.values.items register value → later.parents.items ≡ now.parents.items → IsBelow (2 ^ 90) value → IsPrepared register begun now → IsPrepared (register + 1) begun later
+pub IsPrepared-more : (register : ℕ) (value : ℤ) (begun now later : Relaxation)
+    → later.values.items ≡ set now.values.items register value
+    → later.parents.items ≡ now.parents.items → IsBelow (2 ^ 90) value
+    → IsPrepared register begun now → IsPrepared (register + 1) begun later
 IsPrepared-more register value begun now later values parents small prepared = record {
   values = long ∙ prepared.values;
   parents = parents ∙ prepared.parents;
-  small = λ other default before within. subst (λ (xs : List ℤ). IsBelow (2 ^ 90) (get_or xs other default)) (sym values) (each other default before (omega (arith, long, within)) (cases_eq other register));
+  small = λ other default before within. subst
+      (λ (xs : List ℤ). IsBelow (2 ^ 90) (get_or xs other default)) (sym values)
+      (each other default before (omega (arith, long, within)) (cases_eq other register));
 }
   where
     long : length later.values.items ≡ length now.values.items
     long = ap length values ∙ length-set now.values.items register value
 
-    each : (other : ℕ) (default : ℤ) → other < register + 1 → other < length now.values.items → (other ≡ register) ⊎ (other ≡ register → ⊥) → IsBelow (2 ^ 90) (get_or (set now.values.items register value) other default)
+    each : (other : ℕ) (default : ℤ) → other < register + 1 → other < length now.values.items
+        → (other ≡ register) ⊎ (other ≡ register → ⊥)
+        → IsBelow (2 ^ 90) (get_or (set now.values.items register value) other default)
     each other default before within (inl same) =
-        subst (λ r. IsBelow (2 ^ 90) (get_or (set now.values.items register value) r default)) (sym same) (subst (IsBelow (2 ^ 90)) (sym (get_or-set_same now.values.items register value default (omega (arith, same, within)))) small)
+        subst (λ r. IsBelow (2 ^ 90) (get_or (set now.values.items register value) r default))
+        (sym same) (subst (IsBelow (2 ^ 90))
+        (sym (get_or-set_same now.values.items register value default
+        (omega (arith, same, within)))) small)
     each other default before within (inr apart) =
-        subst (IsBelow (2 ^ 90)) (sym (get_or-set_other now.values.items register other value default apart)) (prepared.small other default (below other register before apart) within)
+        subst (IsBelow (2 ^ 90))
+        (sym (get_or-set_other now.values.items register other value default apart))
+        (prepared.small other default (below other register before apart) within)
       where
         below : (a b : ℕ) → a < b + 1 → (a ≡ b → ⊥) → a < b
         below a b less different = omega arith
 
 -- no place in a list of constraints is that large
-pub no_parents : (registers : ℕ) (constraints : List Constraint) (register : ℕ) → length constraints ≤ 2097152 → parent_of constraints (replicate registers 4294967295) register ≡ None
+pub no_parents : (registers : ℕ) (constraints : List Constraint) (register : ℕ)
+    → length constraints ≤ 2097152 → parent_of constraints (replicate registers 4294967295) register
+    ≡ None
 no_parents registers constraints register few = by_place (cases_lt register registers)
   where
     past : slice_get constraints 4294967295 ≡ None
     past = slice_get_past constraints 4294967295 (omega arith)
 
-    by_place : (register < registers) ⊎ (registers ≤ register) → parent_of constraints (replicate registers 4294967295) register ≡ None
+    by_place : (register < registers) ⊎ (registers ≤ register)
+        → parent_of constraints (replicate registers 4294967295) register ≡ None
     by_place (inl within) =
-        ap (option_and_then (slice_get constraints)) (slice_get-get_or (replicate registers 4294967295) register 0 (omega (arith, length-replicate {A = ℕ} registers 4294967295)))
-        ∙ (ap (slice_get constraints) (get_or-replicate registers register 4294967295 0 within) ∙ past)
-    by_place (inr beyond) = ap (option_and_then (slice_get constraints)) (slice_get_past (replicate registers 4294967295) register (omega (arith, length-replicate {A = ℕ} registers 4294967295)))
+        ap (option_and_then (slice_get constraints))
+        (slice_get-get_or (replicate registers 4294967295) register 0
+        (omega (arith, length-replicate {A = ℕ} registers 4294967295)))
+        ∙ (ap (slice_get constraints) (get_or-replicate registers register 4294967295 0 within)
+        ∙ past)
+    by_place (inr beyond) =
+        ap (option_and_then (slice_get constraints))
+        (slice_get_past (replicate registers 4294967295) register
+        (omega (arith, length-replicate {A = ℕ} registers 4294967295)))

@@ -48,8 +48,8 @@ abbrev pub IsRelaxed : List Constraint → Trial → (place : ℕ) → (old : Re
     → (changed : Option ℕ) → (new : Relaxation) → Type 0
 IsRelaxed constraints trial place old changed new =
     IfSome (slice_get constraints place) (λ constraint. MatchOption changed
-        (IsLeft trial constraint old new)
-        (λ register. IsRaised trial place constraint old register new))
+    (IsLeft trial constraint old new)
+    (λ register. IsRaised trial place constraint old register new))
 
 -- so many parents as there are registers lead up from the one register to the other
 abbrev pub ReachesUp : List Constraint → Relaxation → ℕ → ℕ → Type 0

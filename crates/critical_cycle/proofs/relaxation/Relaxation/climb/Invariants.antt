@@ -3,4 +3,5 @@ use Rattle.critical_cycle.proofs.ClimbLemmas.{IsClimbing}
 use Rattle.critical_cycle.proofs.relaxation.Relaxation.climb.Given as goal
 
 abbrev pub invariant-loop-step : goal.invariant-loop-step
-invariant-loop-step l = (l.register < length l.self.values.items) × IsClimbing l.constraints l.self.parents.items l.from l._step l.register
+invariant-loop-step l = (l.register < length l.self.values.items) × IsClimbing l.constraints
+    l.self.parents.items l.from l._step l.register
