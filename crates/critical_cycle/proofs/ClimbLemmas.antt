@@ -24,8 +24,8 @@ pub record IsClimbing (constraints : List Constraint) (parents : List ℕ)
   pub climb : Climbs constraints parents from above register
   pub rest : (to : ℕ) (whole : List Constraint) → length whole ≡ length parents
       → Climbs constraints parents from whole to
-      → (more : List Constraint) × (length more + count ≡ length parents) × Climbs constraints
-      parents register more to
+      → (more : List Constraint) × (length more + count ≡ length parents)
+      × Climbs constraints parents register more to
 
 -- before the first step
 pub IsClimbing-none : (constraints : List Constraint) (parents : List ℕ) (from : ℕ)
@@ -57,29 +57,33 @@ module _ {constraints : List Constraint} {parents : List ℕ} {from count regist
     above = climbing.above ++ parent ∷ [];
     long = length_push climbing.above parent ∙ ap (λ n. n + 1) climbing.long;
     climb = Climbs-push constraints parents from climbing.above register parent climbing.climb here;
-    rest = λ to whole long climb. let more =
-        climbing.rest to whole long climb in goes_on to more.0 more.1 more.2;
+    rest = λ to whole long climb.
+        let more = climbing.rest to whole long climb in
+        goes_on to more.0 more.1 more.2;
   }
     where
+      -- what is left of a climb, but for that step
       goes_on : (to : ℕ) (more : List Constraint) → length more + count ≡ length parents
-          → Climbs constraints parents register more to → (later : List Constraint)
-          × (length later + (count + 1) ≡ length parents) × Climbs constraints parents parent.tail
-          later to
+          → Climbs constraints parents register more to
+          → (later : List Constraint) × (length later + (count + 1) ≡ length parents)
+          × Climbs constraints parents parent.tail later to
       goes_on to [] long climb = absurd (omega arith)
       goes_on to (first ∷ later) long (begin, climb) = (
         later,
         omega arith,
-        subst (λ (c : Constraint). Climbs constraints parents c.tail later
-            to) (same_Some first parent (sym begin ∙ here)) climb,
+        subst (λ (c : Constraint). Climbs constraints parents c.tail later to)
+            (same_Some first parent (sym begin ∙ here)) climb,
       )
 
   -- without a parent no climb goes on
   pub no_climb : count < length parents → parent_of constraints parents register ≡ None
       → (to : ℕ) (whole : List Constraint) → length whole ≡ length parents
       → Climbs constraints parents from whole to → ⊥
-  no_climb inside none to whole long climb = let more =
-      climbing.rest to whole long climb in stops more.0 more.1 more.2
+  no_climb inside none to whole long climb =
+      let more = climbing.rest to whole long climb in
+      stops more.0 more.1 more.2
     where
+      -- nothing is left of a climb
       stops : (more : List Constraint) → length more + count ≡ length parents
           → Climbs constraints parents register more to → ⊥
       stops [] long climb = absurd (omega arith)

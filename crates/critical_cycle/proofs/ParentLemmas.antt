@@ -49,7 +49,8 @@ pub IsRaise-set : (constraints : List Constraint) (trial : Trial) (place : ℕ)
 IsRaise-set constraints trial place constraint values parents at within parent_within more =
     record {
       more = more;
-      here = get_or-set_same values constraint.head (offer_of trial values constraint) (pos 0) within;
+      here = get_or-set_same values constraint.head
+          (offer_of trial values constraint) (pos 0) within;
       others = λ register apart. get_or-set_other values constraint.head register
           (offer_of trial values constraint) (pos 0) apart;
       parent = ap (option_and_then (slice_get constraints))
@@ -116,13 +117,13 @@ module _ {constraints : List Constraint} {trial : Trial} {constraint : Constrain
 
   module _ (before : AreParents constraints trial values parents) where
     -- where the head has a parent, it is the constraint
-    is_constraint : (parent : Constraint) → parent_of constraints later_parents constraint.head
-        ≡ Some parent → constraint ≡ parent
+    is_constraint : (parent : Constraint)
+        → parent_of constraints later_parents constraint.head ≡ Some parent → constraint ≡ parent
     is_constraint parent here = same_Some constraint parent (sym raise.parent ∙ here)
 
     -- by the values before, no register has more than its parent gives it
-    gave : (register : ℕ) (parent : Constraint) → parent_of constraints later_parents register
-        ≡ Some parent
+    gave : (register : ℕ) (parent : Constraint)
+        → parent_of constraints later_parents register ≡ Some parent
         → (value_of values register <ℤ (value_of values parent.tail +ℤ gain_of trial parent))
         ⊎ ((parent_of constraints parents register ≡ Some parent)
         × (value_of values register ≤ℤ (value_of values parent.tail +ℤ gain_of trial parent)))
@@ -130,8 +131,8 @@ module _ {constraints : List Constraint} {trial : Trial} {constraint : Constrain
       | inl same ↦
           let at_head : parent_of constraints later_parents constraint.head ≡ Some parent =
           subst (λ r. parent_of constraints later_parents r ≡ Some parent) same here in
-          inl (subst (λ r. value_of values r <ℤ (value_of values parent.tail +ℤ gain_of trial
-          parent)) (sym same)
+          inl (subst (λ r. value_of values r
+          <ℤ (value_of values parent.tail +ℤ gain_of trial parent)) (sym same)
           (subst (λ (c : Constraint). value_of values constraint.head
           <ℤ (value_of values c.tail +ℤ gain_of trial c)) (is_constraint parent at_head)
           raise.more))
@@ -156,6 +157,7 @@ module _ {constraints : List Constraint} {trial : Trial} {constraint : Constrain
     climb_gains from (parent ∷ above) to (here, climb) =
         joined (gave from parent here) (climb_gains parent.tail above to climb)
       where
+        -- of the first step and the rest
         joined : ((value_of values from <ℤ (value_of values parent.tail +ℤ gain_of trial parent))
             ⊎ ((parent_of constraints parents from ≡ Some parent)
             × (value_of values from ≤ℤ (value_of values parent.tail +ℤ gain_of trial parent))))
@@ -175,8 +177,10 @@ module _ {constraints : List Constraint} {trial : Trial} {constraint : Constrain
     pub AreParents-raise : AreParents constraints trial later later_parents
     AreParents-raise = record { heads = heads; given = given; rings = rings }
       where
-        heads : (register : ℕ) (parent : Constraint) → parent_of constraints later_parents register
-            ≡ Some parent → parent.head ≡ register
+        -- a parent leads to its register
+        heads : (register : ℕ) (parent : Constraint)
+            → parent_of constraints later_parents register ≡ Some parent
+            → parent.head ≡ register
         heads register parent here = elim (cases_eq register constraint.head) [
           | inl same ↦ ap (λ (c : Constraint). c.head)
               (sym (is_constraint parent
@@ -185,8 +189,9 @@ module _ {constraints : List Constraint} {trial : Trial} {constraint : Constrain
           | inr other ↦ before.heads register parent (sym (raise.kept register other) ∙ here)
         ]
 
-        given : (register : ℕ) (parent : Constraint) → parent_of constraints later_parents register
-            ≡ Some parent
+        -- no register has more than its parent gives it
+        given : (register : ℕ) (parent : Constraint)
+            → parent_of constraints later_parents register ≡ Some parent
             → value_of later register ≤ℤ (value_of later parent.tail +ℤ gain_of trial parent)
         given register parent here = elim (cases_eq register constraint.head) [
           | inl same ↦
@@ -202,6 +207,7 @@ module _ {constraints : List Constraint} {trial : Trial} {constraint : Constrain
               (raise.others register other) (rises parent.tail)
         ]
 
+        -- whoever comes back has gained
         rings : (register : ℕ) (above : List Constraint) → 0 < length above
             → Climbs constraints later_parents register above register
             → pos 0 <ℤ total_gain trial above
@@ -220,10 +226,12 @@ AreParents-none constraints trial values parents none = record {
   rings = rings;
 }
   where
-    nothing : (register : ℕ) (parent : Constraint) → parent_of constraints parents register ≡ Some
-        parent → ⊥
+    -- no register has a parent
+    nothing : (register : ℕ) (parent : Constraint)
+        → parent_of constraints parents register ≡ Some parent → ⊥
     nothing register parent here = none-some parent (sym (none register) ∙ here)
 
+    -- so no climb goes anywhere
     rings : (register : ℕ) (above : List Constraint) → 0 < length above
         → Climbs constraints parents register above register → pos 0 <ℤ total_gain trial above
     rings register [] some climb = absurd (omega arith)

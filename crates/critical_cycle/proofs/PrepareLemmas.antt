@@ -30,9 +30,11 @@ IsPrepared-more register value begun now later values parents small prepared = r
       (each other default before (omega (arith, long, within)) (cases_eq other register));
 }
   where
+    -- the values keep their length
     long : length later.values.items ≡ length now.values.items
     long = ap length values ∙ length-set now.values.items register value
 
+    -- each value is small, whether it is that one or another
     each : (other : ℕ) (default : ℤ) → other < register + 1 → other < length now.values.items
         → (other ≡ register) ⊎ (other ≡ register → ⊥)
         → IsBelow (2 ^ 90) (get_or (set now.values.items register value) other default)
@@ -46,18 +48,21 @@ IsPrepared-more register value begun now later values parents small prepared = r
         (sym (get_or-set_other now.values.items register other value default apart))
         (prepared.small other default (below other register before apart) within)
       where
+        -- what is no more and another is less
         below : (a b : ℕ) → a < b + 1 → (a ≡ b → ⊥) → a < b
         below a b less different = omega arith
 
 -- no place in a list of constraints is that large
 pub no_parents : (registers : ℕ) (constraints : List Constraint) (register : ℕ)
-    → length constraints ≤ 2097152 → parent_of constraints (replicate registers 4294967295) register
-    ≡ None
+    → length constraints ≤ 2097152
+    → parent_of constraints (replicate registers 4294967295) register ≡ None
 no_parents registers constraints register few = by_place (cases_lt register registers)
   where
+    -- it is past the end of the list
     past : slice_get constraints 4294967295 ≡ None
     past = slice_get_past constraints 4294967295 (omega arith)
 
+    -- of a register and of a number beyond them
     by_place : (register < registers) ⊎ (registers ≤ register)
         → parent_of constraints (replicate registers 4294967295) register ≡ None
     by_place (inl within) =

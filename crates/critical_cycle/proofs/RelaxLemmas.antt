@@ -73,11 +73,12 @@ module _ {trial : Trial} {constraint : Constraint} {values : List ℤ} {from gai
   to_value : to ≡ value_of values constraint.head
   to_value = get_or_read values constraint.head to read.head read.to_is (pos 0)
 
-  -- both are small
+  -- the first is small
   from_small : IsBelow (2 ^ 92) from
   from_small =
       subst (IsBelow (2 ^ 92)) (sym from_value) (read.small constraint.tail (pos 0) read.tail)
 
+  -- and so is the second
   to_small : IsBelow (2 ^ 92) to
   to_small = subst (IsBelow (2 ^ 92)) (sym to_value) (read.small constraint.head (pos 0) read.head)
 
@@ -91,6 +92,7 @@ module _ {trial : Trial} {constraint : Constraint} {values : List ℤ} {from gai
   offer_small : IsBelow (2 ^ 93) (kept (kept from +ℤ kept gain))
   offer_small = below from_small read.gain_small
     where
+      -- a sum of small numbers
       below : IsBelow (2 ^ 92) from → IsBelow (2 ^ 50) gain
           → IsBelow (2 ^ 93) (kept (kept from +ℤ kept gain))
       below first second = record { above = omega (arith, ints); below = omega (arith, ints) }
@@ -121,8 +123,9 @@ relaxed_left constraints trial place constraint old new here left =
 -- the step where the head changes
 pub relaxed_raised : (constraints : List Constraint) (trial : Trial) (place : ℕ)
     (constraint : Constraint) (old new : Relaxation) (register : ℕ)
-    → slice_get constraints place ≡ Some constraint → IsRaised trial place constraint old register
-    new → IsRelaxed constraints trial place old (Some register) new
+    → slice_get constraints place ≡ Some constraint
+    → IsRaised trial place constraint old register new
+    → IsRelaxed constraints trial place old (Some register) new
 relaxed_raised constraints trial place constraint old new register here raised =
     subst (λ o. IfSome o (λ (it : Constraint). IsRaised trial place it old register new)) (sym here)
     raised

@@ -1,11 +1,10 @@
 -- Sweeps by turns: each that changes something raises one more parent above the register that
 -- changed last.
-use Rattle.std.proofs.Common.{◌≡◌, ◌<◌, ◌≤◌, ◌+◌, ◌*◌, ◌^◌, ◌∙◌, ℕ, ℤ, pos, ◌+ℤ◌, neg_ℤ, ◌≤ℤ◌, ◌<ℤ◌, List, length, All, Option, Some, None, ◌⊎◌, inl, inr, sym, subst, refl, arith}
+use Rattle.std.proofs.Common.{◌≡◌, ◌<◌, ◌≤◌, ◌+◌, ◌*◌, ◌^◌, ◌∙◌, ℕ, ℤ, pos, ◌+ℤ◌, neg_ℤ, ◌≤ℤ◌, ◌<ℤ◌, List, length, All, Option, Some, None, ◌⊎◌, inl, inr, subst, refl, arith}
 use Rattle.std.specs.Bool.{⊤}
 use Rattle.std.proofs.lemmas.Bool.{cases_lt}
 use Rattle.std.proofs.lemmas.Int.{ints}
 use Rattle.cts_model.specs.declared.constraint.Constraint.{Constraint}
-use Rattle.cts_model.specs.Constraints.{AreSmallConstraints}
 use Rattle.cts_model.specs.Points.{IsBelow}
 use Rattle.critical_cycle.specs.declared.trial.Trial.{Trial}
 use Rattle.critical_cycle.specs.declared.relaxation.Relaxation.{Relaxation}
@@ -30,7 +29,8 @@ no_sweep : pos (2 ^ 90) ≤ℤ (pos (2 ^ 90) +ℤ pos (0 * 2 ^ 71))
 no_sweep = omega (arith, ints)
 
 -- after one sweep more
-one_sweep : (sweeps : ℕ) → ((pos (2 ^ 90) +ℤ pos (sweeps * 2 ^ 71)) +ℤ pos (2 ^ 71))
+one_sweep : (sweeps : ℕ)
+    → ((pos (2 ^ 90) +ℤ pos (sweeps * 2 ^ 71)) +ℤ pos (2 ^ 71))
     ≤ℤ (pos (2 ^ 90) +ℤ pos ((sweeps + 1) * 2 ^ 71))
 one_sweep sweeps = omega (arith, ints)
 
@@ -62,16 +62,9 @@ IsSettling-none constraints trial relaxation room small none = record {
 }
 
 module _ {constraints : List Constraint} {trial : Trial} {sweeps : ℕ} {begun now : Relaxation}
-    (room : HasRoom constraints begun) (settling : IsSettling constraints trial sweeps begun
-    now) where
-  -- there is room
-  pub room_settling : HasRoom constraints now
-  room_settling = record {
-    small = subst (λ n. AreSmallConstraints n constraints) (sym settling.values) room.small;
-    parents = omega (arith, settling.values, settling.parents, room.parents);
-  }
-
-  -- and the values are small
+    (room : HasRoom constraints begun)
+    (settling : IsSettling constraints trial sweeps begun now) where
+  -- the values are small
   pub small_settling : All (IsBelow (2 ^ 91)) now.values.items
   small_settling =
       small_between sweeps now.values.items (omega (arith, settling.few, room.small.not_many))
@@ -122,8 +115,10 @@ module _ {constraints : List Constraint} {trial : Trial} {sweeps : ℕ} {begun n
           → sweeps + 1 < length begun.values.items
       fewer stops = by_count (cases_lt (sweeps + 1) (length begun.values.items))
         where
+          -- with as many sweeps as registers there would be such a climb
           by_count : (sweeps + 1 < length begun.values.items)
-              ⊎ (length begun.values.items ≤ sweeps + 1) → sweeps + 1 < length begun.values.items
+              ⊎ (length begun.values.items ≤ sweeps + 1)
+              → sweeps + 1 < length begun.values.items
           by_count (inl below) = below
           by_count (inr reached) =
               let found = parents_above constraints trial (sweeps + 1) (λ place. ⊤) (Some changed)

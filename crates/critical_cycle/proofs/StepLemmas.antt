@@ -63,18 +63,21 @@ raised_little greatest = omega (arith, ints)
 -- values with one that is set stay between
 AreBetween-set : (least greatest offer : ℤ) (values : List ℤ) (register : ℕ)
     → register < length values → least ≤ℤ offer → offer ≤ℤ (greatest +ℤ pos (2 ^ 50))
-    → AreBetween least greatest values → AreBetween least (greatest +ℤ pos (2 ^ 50))
-    (set values register offer)
+    → AreBetween least greatest values
+    → AreBetween least (greatest +ℤ pos (2 ^ 50)) (set values register offer)
 AreBetween-set least greatest offer values register inside above below between =
     record { low = low; high = high }
   where
+    -- the value that is set
     put : value_of (set values register offer) register ≡ offer
     put = get_or-set_same values register offer (pos 0) inside
 
-    other_stays : (other : ℕ) → other ≢ register → value_of (set values register offer) other
-        ≡ value_of values other
+    -- any other value
+    other_stays : (other : ℕ) → other ≢ register
+        → value_of (set values register offer) other ≡ value_of values other
     other_stays other apart = get_or-set_other values register other offer (pos 0) apart
 
+    -- none is too small
     low : (other : ℕ) → other < length (set values register offer)
         → least ≤ℤ value_of (set values register offer) other
     low other within = elim (cases_eq other register) [
@@ -84,6 +87,7 @@ AreBetween-set least greatest offer values register inside above below between =
           (between.low other (omega (arith, length-set values register offer)))
     ]
 
+    -- none is too great
     high : (other : ℕ) → other < length (set values register offer)
         → value_of (set values register offer) other ≤ℤ (greatest +ℤ pos (2 ^ 50))
     high other within = elim (cases_eq other register) [
@@ -117,13 +121,13 @@ module _ {constraints : List Constraint} (trial : Trial) (place : ℕ) {constrai
   pub parents_length : (answer : Option ℕ) → IsLook trial place constraint old answer new
       → length new.parents.items ≡ length old.parents.items
   parents_length None left = ap length left.parents
-  parents_length (Some register) raised = ap length raised.parents ∙ length-set old.parents.items
-      constraint.head place
+  parents_length (Some register) raised =
+      ap length raised.parents ∙ length-set old.parents.items constraint.head place
 
   -- a register that is raised
   raise_of : (register : ℕ) → IsRaised trial place constraint old register new
-      → IsRaise constraints trial constraint old.values.items old.parents.items new.values.items
-      new.parents.items
+      → IsRaise constraints trial constraint old.values.items old.parents.items
+      new.values.items new.parents.items
   raise_of register raised =
       subst (λ (later : List ℤ). IsRaise constraints trial constraint old.values.items
       old.parents.items later new.parents.items) (sym raised.values)
@@ -158,8 +162,8 @@ module _ {constraints : List Constraint} (trial : Trial) (place : ℕ) {constrai
       → (sweep : ℕ) (Seen Later : ℕ → Type 0) (changed : Option ℕ)
       → ((other : ℕ) → Later other → (Seen other) ⊎ (other ≡ place))
       → IsSweeping constraints trial sweep Seen changed old.values.items old.parents.items
-      → IsSweeping constraints trial sweep Later (option_or answer changed) new.values.items
-      new.parents.items
+      → IsSweeping constraints trial sweep Later (option_or answer changed)
+      new.values.items new.parents.items
   sweeping_look None left sweep Seen Later changed seen before =
       subst (λ (values : List ℤ). IsSweeping constraints trial sweep Later changed values
       new.parents.items) (sym left.values)
@@ -187,8 +191,8 @@ no_gain : (z : ℤ) → z ≤ℤ (z +ℤ pos (0 * 2 ^ 50))
 no_gain z = omega (arith, ints)
 
 -- after one gain more
-one_gain : (z : ℤ) (count : ℕ) → ((z +ℤ pos (count * 2 ^ 50)) +ℤ pos (2 ^ 50))
-    ≤ℤ (z +ℤ pos ((count + 1) * 2 ^ 50))
+one_gain : (z : ℤ) (count : ℕ)
+    → ((z +ℤ pos (count * 2 ^ 50)) +ℤ pos (2 ^ 50)) ≤ℤ (z +ℤ pos ((count + 1) * 2 ^ 50))
 one_gain z count = omega (arith, ints)
 
 -- after the gains of all constraints
@@ -216,10 +220,10 @@ IsUnderWay-none constraints trial Seen relaxation none = record {
 
 module _ {constraints : List Constraint} {trial : Trial} {Seen : ℕ → Type 0} {count : ℕ}
     {changed : Option ℕ} {begun now : Relaxation}
-    (room : HasRoom constraints begun) (way : IsUnderWay constraints trial Seen count changed begun
-    now) where
+    (room : HasRoom constraints begun)
+    (way : IsUnderWay constraints trial Seen count changed begun now) where
   -- there is room still
-  pub room_now : HasRoom constraints now
+  room_now : HasRoom constraints now
   room_now = record {
     small = subst (λ n. AreSmallConstraints n constraints) (sym way.values) room.small;
     parents = omega (arith, way.values, way.parents, room.parents);
@@ -251,13 +255,16 @@ module _ {constraints : List Constraint} {trial : Trial} {Seen : ℕ → Type 0}
         (greatest +ℤ pos (count * 2 ^ 50)) (way.between least greatest between));
   }
     where
+      -- the constraint at the place
       here : slice_get constraints place ≡ Some (get_or constraints place nowhere)
       here = slice_get-get_or constraints place nowhere within
 
+      -- the look at it
       look : IsLook trial place (get_or constraints place nowhere) now answer later
       look = subst (λ o. IfSome o (λ (it : Constraint). IsLook trial place it now answer later))
           here relaxed
 
+      -- it is small
       small : IsSmallConstraint (length now.values.items) (get_or constraints place nowhere)
       small = room_now.small.each place nowhere within
 

@@ -52,8 +52,8 @@ module _ {constraints : List Constraint} {trial : Trial} {sweep : ℕ} {Seen : �
     is_constraint : (other : ℕ) (it : Constraint) → other ≡ place
         → slice_get constraints other ≡ Some it → constraint ≡ it
     is_constraint other it same there =
-        same_Some constraint it (sym here ∙ subst (λ p. slice_get constraints p ≡ Some it) same
-        there)
+        same_Some constraint it
+        (sym here ∙ subst (λ p. slice_get constraints p ≡ Some it) same there)
 
     -- a constraint that gives no more is seen
     pub IsSweeping-left : offer_of trial values constraint ≤ℤ value_of values constraint.head
@@ -66,7 +66,8 @@ module _ {constraints : List Constraint} {trial : Trial} {sweep : ℕ} {Seen : �
       waits = before.waits;
       seen = λ other it later there more. elim (seen other later) [
         | inl was ↦ before.seen other it was there more
-        | inr same ↦ absurd (not_both _ _ met (subst (λ (c : Constraint). GivesMore trial values c)
+        | inr same ↦ absurd (not_both _ _ met
+            (subst (λ (c : Constraint). GivesMore trial values c)
             (sym (is_constraint other it same there)) more))
       ];
       above = before.above;
@@ -79,27 +80,31 @@ module _ {constraints : List Constraint} {trial : Trial} {sweep : ℕ} {Seen : �
       last_now : ℕ → ℕ
       last_now register = cond (register == constraint.head) sweep (before.last register)
 
+      -- at the head it is this one
       at_head : last_now constraint.head ≡ sweep
       unfolding last_now
       at_head = ap (λ b. cond b sweep (before.last constraint.head))
           (eq-eqb constraint.head constraint.head refl)
 
+      -- at the others it is as it was
       elsewhere : (register : ℕ) → register ≢ constraint.head
           → last_now register ≡ before.last register
       unfolding last_now
       elsewhere register other =
           ap (λ b. cond b sweep (before.last register)) (ne_eqb register constraint.head other)
 
-      -- of a register that is the head, or isn't
+      -- the same of a register that is the head
       same_last : (register : ℕ) → register ≡ constraint.head → last_now register ≡ sweep
       same_last register same = ap last_now same ∙ at_head
 
+      -- no register changed later
       latest_now : (register : ℕ) → last_now register ≤ sweep
       latest_now register = elim (cases_eq register constraint.head) [
         | inl same ↦ omega (arith, same_last register same)
         | inr other ↦ omega (arith, elsewhere register other, before.latest register)
       ]
 
+      -- no register changed earlier than it had
       no_earlier : (register : ℕ) → before.last register ≤ last_now register
       no_earlier register = elim (cases_eq register constraint.head) [
         | inl same ↦ omega (arith, same_last register same, before.latest register)
@@ -112,36 +117,34 @@ module _ {constraints : List Constraint} {trial : Trial} {sweep : ℕ} {Seen : �
       gave it other more =
           gave_more _ _ _ _ _ (rises raise it.head) more (raise.others it.tail other)
 
+      -- what gives more has a tail that changed in the sweep before or later
       waits_now : (other : ℕ) (it : Constraint) → slice_get constraints other ≡ Some it
           → GivesMore trial later it → sweep ≤ last_now it.tail + 1
       waits_now other it there more = elim (cases_eq it.tail constraint.head) [
         | inl same ↦ omega (arith, same_last it.tail same)
-        | inr apart ↦ omega (
-          arith,
-          elsewhere it.tail apart,
-          before.waits other it there
-              (gave it apart more),
-        )
+        | inr apart ↦
+            let waited = before.waits other it there (gave it apart more) in
+            omega (arith, elsewhere it.tail apart)
       ]
 
-      seen_now : (other : ℕ) (it : Constraint) → Later other → slice_get constraints other ≡ Some it
+      -- what is seen and gives more has a tail that changed in this sweep
+      seen_now : (other : ℕ) (it : Constraint) → Later other
+          → slice_get constraints other ≡ Some it
           → GivesMore trial later it → sweep ≤ last_now it.tail
       seen_now other it is_seen there more = elim (cases_eq it.tail constraint.head) [
         | inl same ↦ omega (arith, same_last it.tail same)
         | inr apart ↦ by_place apart (seen other is_seen)
       ]
         where
+          -- by whether it was seen before or now
           by_place : it.tail ≢ constraint.head → (Seen other) ⊎ (other ≡ place)
               → sweep ≤ last_now it.tail
           by_place apart (inl was) =
-              omega (
-                arith,
-                elsewhere it.tail apart,
-                before.seen other it was there
-                    (gave it apart more),
-              )
+              let was_seen = before.seen other it was there (gave it apart more) in
+              omega (arith, elsewhere it.tail apart)
           by_place apart (inr same) = absurd (itself (is_constraint other it same there) apart more)
             where
+              -- the constraint itself gives no more now
               itself : constraint ≡ it → it.tail ≢ constraint.head → GivesMore trial later it → ⊥
               itself is far gives =
                   let mine : GivesMore trial later constraint =
@@ -150,39 +153,29 @@ module _ {constraints : List Constraint} {trial : Trial} {sweep : ℕ} {Seen : �
                   subst (λ (c : Constraint). c.tail ≢ constraint.head) (sym is) far in
                   no_more _ _ _ _ _ raise.here refl (raise.others constraint.tail other_tail) mine
 
+      -- above a register that changed is one that changed a sweep before or later
       above_now : (register : ℕ) → 0 < last_now register
           → (parent : Constraint) × (parent_of constraints later_parents register ≡ Some parent)
           × (last_now register ≤ last_now parent.tail + 1)
       above_now register changed_once = elim (cases_eq register constraint.head) [
-        | inl same ↦ (
-          constraint,
-          subst (λ r. parent_of constraints later_parents r ≡ Some
-              constraint) (sym same) raise.parent,
-          omega (
-            arith,
-            same_last register same,
-            no_earlier constraint.tail,
-            before.waits place
-                constraint here raise.more,
-          ),
-        )
+        | inl same ↦
+            let waited = before.waits place constraint here raise.more in (
+              constraint,
+              subst (λ r. parent_of constraints later_parents r ≡ Some constraint)
+                  (sym same) raise.parent,
+              omega (arith, same_last register same, no_earlier constraint.tail),
+            )
         | inr other ↦
             let found = before.above register (omega (arith, elsewhere register other)) in (
               found.0,
-              raise.kept register other
-                  ∙ found.1,
-              omega (
-                arith,
-                elsewhere register other,
-                no_earlier found.0.tail,
-                found.2,
-              ),
+              raise.kept register other ∙ found.1,
+              omega (arith, elsewhere register other, no_earlier found.0.tail, found.2),
             )
       ]
 
       -- a constraint that gives more is seen, and its head changed
-      pub IsSweeping-raised : IsSweeping constraints trial sweep Later (Some constraint.head) later
-          later_parents
+      pub IsSweeping-raised
+          : IsSweeping constraints trial sweep Later (Some constraint.head) later later_parents
       IsSweeping-raised = record {
         are_parents = AreParents-raise raise before.are_parents;
         last = last_now;
@@ -198,8 +191,8 @@ pub IsReady-first : (constraints : List Constraint) (trial : Trial) (relaxation 
     → ((register : ℕ) → parent_of constraints relaxation.parents.items register ≡ None)
     → IsReady constraints trial 1 relaxation
 IsReady-first constraints trial relaxation none = record {
-  are_parents = AreParents-none constraints trial relaxation.values.items relaxation.parents.items
-      none;
+  are_parents = AreParents-none constraints trial
+      relaxation.values.items relaxation.parents.items none;
   last = λ register. 0;
   latest = λ register. omega arith;
   changes = λ register. omega arith;
