@@ -1,8 +1,8 @@
-pub mod GainLemmas
-pub mod RelaxLemmas
-pub mod ParentLemmas
-pub mod SweepLemmas
-pub mod StepLemmas
-pub mod ClimbLemmas
-pub mod SettleLemmas
-pub mod PrepareLemmas
+mod GainLemmas
+mod RelaxLemmas
+mod ParentLemmas
+mod SweepLemmas
+mod StepLemmas
+mod ClimbLemmas
+mod SettleLemmas
+mod PrepareLemmas

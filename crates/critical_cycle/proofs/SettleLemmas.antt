@@ -105,10 +105,15 @@ module _ {constraints : List Constraint} {trial : Trial} {sweeps : ℕ} {begun n
       changed_within = swept_now.changes.0
 
       -- where so many parents are above it, the climb stands far up
-      pub far_up : (register : ℕ) → ReachesUp constraints later changed register
+      pub far_up : (register : ℕ) → register < length later.values.items
+          → ReachesUp constraints later changed register
           → IsFarUp constraints trial later register
-      far_up register reaches =
-          record { are_parents = swept_now.are_parents; from = changed; reaches = reaches }
+      far_up register within reaches = record {
+        are_parents = swept_now.are_parents;
+        within = within;
+        from = changed;
+        reaches = reaches;
+      }
 
       -- else there are fewer sweeps still than registers
       fewer : ((to : ℕ) → ReachesUp constraints later changed to → ⊥)

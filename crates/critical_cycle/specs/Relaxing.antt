@@ -66,5 +66,6 @@ SatisfiesTrial constraints trial relaxation = (scale : ℕ) → pos scale ≡ tr
 pub record IsFarUp (constraints : List Constraint) (trial : Trial) (relaxation : Relaxation)
     (register : ℕ) : Type 0 where
   pub are_parents : AreParents constraints trial relaxation.values.items relaxation.parents.items
+  pub within : register < length relaxation.values.items
   pub from : ℕ
   pub reaches : ReachesUp constraints relaxation from register

@@ -39,7 +39,7 @@ IsSwept constraints trial sweep changed relaxation =
     IsSweeping constraints trial sweep (λ place. ⊤) changed
     relaxation.values.items relaxation.parents.items
 
--- a sweep raises the greatest value by less than 2^71, and makes none less
+-- what a sweep leaves: it raises the greatest value by at most 2^71, and the least falls no lower
 pub record IsSweep (constraints : List Constraint) (trial : Trial) (old : Relaxation)
     (changed : Option ℕ) (new : Relaxation) : Type 0 where
   pub values : length new.values.items ≡ length old.values.items

@@ -1,4 +1,4 @@
-ghost use Rattle.std.specs.Prelude.{◌≡◌, ◌<◌, ◌≤◌, ◌^◌, ℕ, None, List, All, MatchOption, length};
+ghost use Rattle.std.specs.Prelude.{◌≡◌, ◌<◌, ◌≤◌, ◌^◌, ℕ, None, List, All, IfSome, MatchOption, length};
 ghost use Rattle.cts_model.specs.declared.constraint.Constraint.{Constraint};
 ghost use Rattle.cts_model.specs.Points.{IsBelow};
 
@@ -23,8 +23,8 @@ impl Relaxation {
     ghost use Rattle.critical_cycle.specs.Sweeps.{IsSweep};
 
     /// Forgets the parents, and brings the values from the last trial's denominator to that of the
-    /// next, rounded and cut. Whatever they were, they may be. A first trial is given as both, and
-    /// takes the values as they are. It takes no memory.
+    /// next, rounded towards 0 and cut in size. Any values will do. Before a first trial, give it
+    /// as both: the values are then cut and else stay. It takes no memory.
     pub(crate) fn prepare(&mut self, last: Trial, next: Trial)
         ensures values { length self.new.values.items ≡ length self.old.values.items }
         ensures parents { length self.new.parents.items ≡ length self.old.parents.items }
@@ -41,8 +41,9 @@ impl Relaxation {
     }
 
     /// Sweeps over the constraints, forwards and backwards by turns, until a sweep changes nothing
-    /// or some register has as many parents above it as there are registers. Such a register is
-    /// answered, and it stands on a cycle of parents. It takes no memory.
+    /// or as many parents as there are registers stand above the register that it changed last. The
+    /// register at their top is answered. It makes at most a sweep for each register, and takes no
+    /// memory.
     pub(crate) fn settle(&mut self, constraints: &[Constraint], trial: Trial) -> Option<u32>
         requires room { HasRoom constraints.now self.old }
         requires small { All (IsBelow (2 ^ 90)) self.old.values.items }
@@ -64,14 +65,15 @@ impl Relaxation {
         None
     }
 
-    /// The register that so many steps up the parents lead to as there are registers, if there are
-    /// so many parents.
+    /// The register to which as many steps up the parents lead as there are registers, if there are
+    /// so many parents. It takes no memory.
     pub(crate) fn climb(&self, constraints: &[Constraint], from: u32) -> Option<u32>
         requires room { HasRoom constraints.now self.now }
         requires from { from < length self.now.values.items }
-        ensures { MatchOption result
+        ensures reaches { MatchOption result
             ((to : ℕ) → ReachesUp constraints.now self.now from to → ⊥)
             (ReachesUp constraints.now self.now from) }
+        ensures within { IfSome result (λ register. register < length self.now.values.items) }
     {
         let mut register = from;
         for _step in 0..self.parents.len() {

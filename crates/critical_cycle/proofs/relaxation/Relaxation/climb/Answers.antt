@@ -8,8 +8,8 @@ use Rattle.critical_cycle.specs.Relaxing.{ReachesUp}
 use Rattle.critical_cycle.proofs.ClimbLemmas.{parent_read, IsClimbing-more, no_climb}
 use Rattle.critical_cycle.proofs.relaxation.Relaxation.climb.Goals as goal
 
-pub returns-in_err-register : goal.returns-in_err-register
-returns-in_err-register c =
+pub returns-in_err-register-clause-reaches : goal.returns-in_err-register-clause-reaches
+returns-in_err-register-clause-reaches c =
     let constraints = c.args.constraints.now in
     let relaxation = c.args.self.now in
     let parents = relaxation.parents.items in

@@ -16,7 +16,8 @@ climb-requires-clause-from c = changed_within c.requires.room c.loop-changed.inv
 pub returns-in-Some-climb-clause-settled : goal.returns-in-Some-climb-clause-settled
 returns-in-Some-climb-clause-settled c =
     far_up c.requires.room c.loop-changed.invariant c.sweep.new.self c.sweep.result c.sweep.ensures
-    c.in-Some.changed c.in-Some.is c.in-Some-climb.register c.in-Some-climb.ensures
+    c.in-Some.changed c.in-Some.is c.in-Some-climb.register c.in-Some-climb.ensures.within
+    c.in-Some-climb.ensures.reaches
 
 pub returns-in-Some-climb-clause-small : goal.returns-in-Some-climb-clause-small
 returns-in-Some-climb-clause-small c =
@@ -25,7 +26,7 @@ returns-in-Some-climb-clause-small c =
 
 pub loop-changed-preserved : goal.loop-changed-preserved
 loop-changed-preserved c = IsSettling-more c.requires.room c.loop-changed.invariant c.sweep.new.self
-    c.sweep.result c.sweep.ensures c.in-Some.changed c.in-Some.is c.in_default-climb.ensures
+    c.sweep.result c.sweep.ensures c.in-Some.changed c.in-Some.is c.in_default-climb.ensures.reaches
 
 pub returns-clause-settled : goal.returns-clause-settled
 returns-clause-settled c = satisfied_later c.requires.room c.loop-changed.invariant c.sweep.new.self
