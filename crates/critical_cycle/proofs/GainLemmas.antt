@@ -46,10 +46,19 @@ asked_small denominator weight proper low small =
     let both = within_size 409700000000000 (denominator *ℤ weight) size in
     record { above = omega (arith, ints, both.0); below = omega (arith, ints, both.1) }
 
--- a product of a value with a denominator, as the code keeps it
-pub product_fits : (value denominator : ℤ) → IsBelow (2 ^ 90) value → pos 1 ≤ℤ denominator
-    → denominator ≤ℤ pos 4097 → FitsSigned w128 (kept (kept value *ℤ kept denominator))
-product_fits value denominator small proper low =
+-- a number that fits does so as the code keeps it
+kept_fits : (number : ℤ) → FitsSigned w128 number → FitsSigned w128 (kept number)
+kept_fits number fits = subst (FitsSigned w128) (sym (to_z-of_z w128 number fits)) fits
+
+-- the code's product
+product_read : (a b : ℤ) → FitsSigned w128 a → FitsSigned w128 b → kept a *ℤ kept b ≡ a *ℤ b
+product_read a b first second =
+    ap (λ z. z *ℤ kept b) (to_z-of_z w128 a first) ∙ ap (λ z. a *ℤ z) (to_z-of_z w128 b second)
+
+-- the product of a value with a denominator fits
+pub scaled_fits : (value denominator : ℤ) → IsBelow (2 ^ 90) value → pos 1 ≤ℤ denominator
+    → denominator ≤ℤ pos 4097 → FitsSigned w128 (kept value *ℤ kept denominator)
+scaled_fits value denominator small proper low =
     let first : FitsSigned w128 value = omega (arith, ints, small.above, small.below) in
     let second : FitsSigned w128 denominator = omega (arith, ints) in
     let size : unsigned_abs value ≤ 2 ^ 90 =
@@ -58,42 +67,72 @@ product_fits value denominator small proper low =
     let fits : FitsSigned w128 (value *ℤ denominator) =
     fits_signed_mul w128 value denominator (2 ^ 90) 4097 size
     (size_within 4097 denominator (omega (arith, ints)) low) (omega arith) in
-    let same : kept (kept value *ℤ kept denominator) ≡ value *ℤ denominator =
-    ap (λ z. kept (z *ℤ kept denominator)) (to_z-of_z w128 value first)
-    ∙ ap (λ z. kept (value *ℤ z)) (to_z-of_z w128 denominator second)
-    ∙ to_z-of_z w128 (value *ℤ denominator) fits in
-    subst (FitsSigned w128) (sym same) fits
+    subst (FitsSigned w128) (sym (product_read value denominator first second)) fits
+
+-- and does so as the code keeps it
+pub scaled_kept : (value denominator : ℤ) → IsBelow (2 ^ 90) value → pos 1 ≤ℤ denominator
+    → denominator ≤ℤ pos 4097 → FitsSigned w128 (kept (kept value *ℤ kept denominator))
+scaled_kept value denominator small proper low =
+    kept_fits (kept value *ℤ kept denominator) (scaled_fits value denominator small proper low)
+
+-- what the code asks is the product
+asked_read : (denominator numerator weight : ℤ) → IsTrial numerator denominator
+    → IsBelow (10 ^ 11) weight → kept denominator *ℤ kept weight ≡ denominator *ℤ weight
+asked_read denominator numerator weight trial small =
+    let first : FitsSigned w128 denominator = omega (arith, ints, trial.proper, trial.low) in
+    let second : FitsSigned w128 weight = omega (arith, ints, small.above, small.below) in
+    product_read denominator weight first second
+
+-- it fits
+pub asked_fits : (denominator numerator weight : ℤ) → IsTrial numerator denominator
+    → IsBelow (10 ^ 11) weight → FitsSigned w128 (kept denominator *ℤ kept weight)
+asked_fits denominator numerator weight trial small =
+    let asked = asked_small denominator weight trial.proper trial.low small in
+    let fits : FitsSigned w128 (denominator *ℤ weight) =
+    omega (arith, ints, asked.above, asked.below) in
+    subst (FitsSigned w128) (sym (asked_read denominator numerator weight trial small)) fits
 
 -- what the code asks for a hold constraint
 hold_read : (denominator numerator weight : ℤ) → IsTrial numerator denominator
     → IsBelow (10 ^ 11) weight → kept (kept denominator *ℤ kept weight) ≡ denominator *ℤ weight
 hold_read denominator numerator weight trial small =
-    let asked = asked_small denominator weight trial.proper trial.low small in
-    let first : FitsSigned w128 denominator = omega (arith, ints, trial.proper, trial.low) in
-    let second : FitsSigned w128 weight = omega (arith, ints, small.above, small.below) in
-    let fits : FitsSigned w128 (denominator *ℤ weight) =
-    omega (arith, ints, asked.above, asked.below) in
-    ap (λ z. kept (z *ℤ kept weight)) (to_z-of_z w128 denominator first)
-    ∙ ap (λ z. kept (denominator *ℤ z)) (to_z-of_z w128 weight second)
-    ∙ to_z-of_z w128 (denominator *ℤ weight) fits
+    to_z-of_z w128 (kept denominator *ℤ kept weight)
+    (asked_fits denominator numerator weight trial small)
+    ∙ asked_read denominator numerator weight trial small
 
 -- the code's difference
-difference_read : (asked numerator : ℤ) → IsBelow 409700000000001 asked → pos 0 ≤ℤ numerator
-    → numerator ≤ℤ pos 409700000000000 → kept (asked -ℤ kept numerator) ≡ asked -ℤ numerator
-difference_read asked numerator small positive low =
-    let first : FitsSigned w128 numerator = omega (arith, ints) in
-    let fits : FitsSigned w128 (asked -ℤ numerator) = omega (arith, ints) in
-    ap (λ z. kept (asked -ℤ z)) (to_z-of_z w128 numerator first)
-    ∙ to_z-of_z w128 (asked -ℤ numerator) fits
+difference_read : (denominator numerator weight : ℤ) → IsTrial numerator denominator
+    → IsBelow (10 ^ 11) weight
+    → kept (kept denominator *ℤ kept weight) -ℤ kept numerator
+    ≡ (denominator *ℤ weight) -ℤ numerator
+difference_read denominator numerator weight trial small =
+    let first : FitsSigned w128 numerator = omega (arith, ints, trial.positive, trial.small) in
+    ap (λ z. z -ℤ kept numerator) (hold_read denominator numerator weight trial small)
+    ∙ ap (λ z. (denominator *ℤ weight) -ℤ z) (to_z-of_z w128 numerator first)
+
+-- a difference of small numbers fits
+difference_fits : (asked numerator : ℤ) → IsBelow 409700000000001 asked → pos 0 ≤ℤ numerator
+    → numerator ≤ℤ pos 409700000000000 → FitsSigned w128 (asked -ℤ numerator)
+difference_fits asked numerator small positive low = omega (arith, ints)
+
+-- so the code's does
+pub less_fits : (denominator numerator weight : ℤ) → IsTrial numerator denominator
+    → IsBelow (10 ^ 11) weight
+    → FitsSigned w128 (kept (kept denominator *ℤ kept weight) -ℤ kept numerator)
+less_fits denominator numerator weight trial small =
+    subst (FitsSigned w128) (sym (difference_read denominator numerator weight trial small))
+    (difference_fits (denominator *ℤ weight) numerator
+    (asked_small denominator weight trial.proper trial.low small) trial.positive trial.small)
 
 -- what the code asks for a setup constraint
 setup_read : (denominator numerator weight : ℤ) → IsTrial numerator denominator
-    → IsBelow (10 ^ 11) weight → kept (kept (kept denominator *ℤ kept weight) -ℤ kept numerator)
+    → IsBelow (10 ^ 11) weight
+    → kept (kept (kept denominator *ℤ kept weight) -ℤ kept numerator)
     ≡ (denominator *ℤ weight) -ℤ numerator
 setup_read denominator numerator weight trial small =
-    ap (λ z. kept (z -ℤ kept numerator)) (hold_read denominator numerator weight trial small)
-    ∙ difference_read (denominator *ℤ weight) numerator
-    (asked_small denominator weight trial.proper trial.low small) trial.positive trial.small
+    to_z-of_z w128 (kept (kept denominator *ℤ kept weight) -ℤ kept numerator)
+    (less_fits denominator numerator weight trial small)
+    ∙ difference_read denominator numerator weight trial small
 
 -- a setup constraint counts the period once
 once_less : (asked numerator : ℤ) → asked -ℤ numerator ≡ asked -ℤ (numerator *ℤ pos 1)

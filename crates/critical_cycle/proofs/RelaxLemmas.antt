@@ -1,6 +1,7 @@
 -- What looking at one constraint makes of the values and the parents.
-use Rattle.std.proofs.Common.{◌≡◌, ◌<◌, ◌^◌, ◌∙◌, ℕ, ℤ, pos, ◌+ℤ◌, ◌≤ℤ◌, ◌<ℤ◌, true, false, List, length, get_or, All, Some, None, IfSome, sym, subst, ap, arith}
+use Rattle.std.proofs.Common.{◌≡◌, ◌<◌, ◌^◌, ◌∙◌, ℕ, ℤ, pos, ◌+ℤ◌, ◌≤ℤ◌, ◌<ℤ◌, true, false, List, length, get_or, All, Some, None, IfSome, sym, subst, ap, FitsSigned, arith}
 use Rattle.std.specs.List.{slice_get}
+use Rattle.std.specs.Int.{w128}
 use Rattle.std.proofs.lemmas.List.{get_or_read}
 use Rattle.std.proofs.lemmas.Int.{ints}
 use Rattle.cts_model.specs.declared.constraint.Constraint.{Constraint}
@@ -52,6 +53,11 @@ IsRead-at constraints trial place values from gain to are_small within small fro
 sum_read : (from gain : ℤ) → IsBelow (2 ^ 92) from → IsBelow (2 ^ 50) gain
     → kept (kept from +ℤ kept gain) ≡ from +ℤ gain
 sum_read from gain small gain_small = omega (arith, ints)
+
+-- it fits
+pub sum_fits : (from gain : ℤ) → IsBelow (2 ^ 92) from → IsBelow (2 ^ 50) gain
+    → FitsSigned w128 (kept from +ℤ kept gain)
+sum_fits from gain small gain_small = omega (arith, ints)
 
 -- what the code's test says where it passes
 test_true : (offer to : ℤ) → IsBelow (2 ^ 93) offer → IsBelow (2 ^ 92) to

@@ -2,19 +2,20 @@
 use Rattle.std.proofs.Common.{FitsSigned, ℤ, ◌*ℤ◌, arith}
 use Rattle.std.proofs.lemmas.Int.{ints, quot_fits}
 use Rattle.std.specs.Int.{w128}
-use Rattle.critical_cycle.proofs.GainLemmas.{product_fits}
+use Rattle.critical_cycle.proofs.GainLemmas.{kept, scaled_fits, scaled_kept}
 use Rattle.critical_cycle.proofs.relaxation.rescaled.Goals as goal
-use mir.Val.{to_z, of_z}
+
+pub overflow_mul-cut : goal.overflow_mul-cut
+overflow_mul-cut c =
+    let next = c.args.next.valid in
+    scaled_fits c.cut.result c.args.next.denominator c.cut.ensures next.proper next.low
 
 pub nonzero_div-cut : goal.nonzero_div-cut
 nonzero_div-cut c =
-    let product : ℤ =
-    to_z w128 (of_z w128 (to_z w128 (of_z w128 c.cut.result) *ℤ to_z w128
-    (of_z w128 c.args.next.denominator))) in
+    let next = c.args.next.valid in
+    let product : ℤ = kept (kept c.cut.result *ℤ kept c.args.next.denominator) in
     let fits : FitsSigned w128 product =
-    product_fits c.cut.result c.args.next.denominator c.cut.ensures c.args.next.valid.proper
-    c.args.next.valid.low in (
+    scaled_kept c.cut.result c.args.next.denominator c.cut.ensures next.proper next.low in (
       omega (arith, ints),
-      quot_fits w128 product (to_z w128 (of_z w128 c.args.last.denominator))
-          fits (omega (arith, ints)),
+      quot_fits w128 product (kept c.args.last.denominator) fits (omega (arith, ints)),
     )

@@ -1,10 +1,19 @@
 -- The code's numbers are small, so they are what the definitions say.
-use Rattle.std.proofs.Common.{get_or, refl, ap, arith}
+use Rattle.std.proofs.Common.{◌^◌, get_or, refl, sym, subst, ap, arith}
 use Rattle.std.proofs.Math.ListN.{set}
 use Rattle.std.proofs.lemmas.Option.{slice_get-get_or}
 use Rattle.cts_model.specs.declared.constraint.Constraint.{Constraint}
-use Rattle.critical_cycle.proofs.RelaxLemmas.{nowhere, IsRead-at, offer_read, left_read, more_read, relaxed_left, relaxed_raised}
+use Rattle.cts_model.specs.Points.{IsBelow}
+use Rattle.critical_cycle.proofs.RelaxLemmas.{nowhere, IsRead-at, sum_fits, offer_read, left_read, more_read, relaxed_left, relaxed_raised}
 use Rattle.critical_cycle.proofs.relaxation.Relaxation.relax.Goals as goal
+
+pub overflow_add-offer : goal.overflow_add-offer
+overflow_add-offer c =
+    let within = (c.requires.room.small.each c.args.place nowhere c.requires.place).tail in
+    let tail = (get_or c.args.constraints.now c.args.place nowhere).tail in
+    let small = c.requires.small tail c.index.result.now within in
+    sum_fits c.index.result.now c.gain.result
+    (subst (IsBelow (2 ^ 92)) (sym c.index.ensures) small) c.gain.ensures.small
 
 pub returns-then-offer-index : goal.returns-then-offer-index
 returns-then-offer-index c =
