@@ -27,16 +27,6 @@ pub record IsClimbing (constraints : List Constraint) (parents : List ℕ)
       → (more : List Constraint) × (length more + count ≡ length parents)
       × Climbs constraints parents register more to
 
--- before the first step
-pub IsClimbing-none : (constraints : List Constraint) (parents : List ℕ) (from : ℕ)
-    → IsClimbing constraints parents from 0 from
-IsClimbing-none constraints parents from = record {
-  above = [];
-  long = refl;
-  climb = refl;
-  rest = λ to whole long climb. (whole, omega arith, climb);
-}
-
 -- a climb goes on by one parent
 Climbs-push : (constraints : List Constraint) (parents : List ℕ) (from : ℕ)
     (above : List Constraint) (to : ℕ) (parent : Constraint)

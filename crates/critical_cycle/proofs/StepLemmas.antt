@@ -1,5 +1,5 @@
 -- How far a sweep has come: what one constraint after the other makes of all values.
-use Rattle.std.proofs.Common.{◌≡◌, ◌≢◌, ◌<◌, ◌≤◌, ◌+◌, ◌*◌, ◌^◌, ◌∙◌, ℕ, ℤ, pos, ◌+ℤ◌, neg_ℤ, ◌≤ℤ◌, ◌<ℤ◌, List, length, get_or, set, All, Option, Some, None, MatchOption, IfSome, ◌⊎◌, inl, inr, sym, subst, ap, refl, arith}
+use Rattle.std.proofs.Common.{◌≡◌, ◌≢◌, ◌<◌, ◌≤◌, ◌+◌, ◌*◌, ◌^◌, ◌∙◌, ℕ, ℤ, pos, ◌+ℤ◌, neg_ℤ, ◌≤ℤ◌, ◌<ℤ◌, List, length, get_or, set, All, Option, Some, None, MatchOption, IfSome, ◌⊎◌, inl, inr, sym, subst, ap, arith}
 use Rattle.std.specs.List.{slice_get}
 use Rattle.std.specs.Bool.{⊤}
 use Rattle.std.specs.Option.{option_or}
@@ -186,10 +186,6 @@ pub record IsUnderWay (constraints : List Constraint) (trial : Trial) (Seen : �
   pub between : (least greatest : ℤ) → AreBetween least greatest begun.values.items
       → AreBetween least (greatest +ℤ pos (count * 2 ^ 50)) now.values.items
 
--- before any gain
-no_gain : (z : ℤ) → z ≤ℤ (z +ℤ pos (0 * 2 ^ 50))
-no_gain z = omega (arith, ints)
-
 -- after one gain more
 one_gain : (z : ℤ) (count : ℕ)
     → ((z +ℤ pos (count * 2 ^ 50)) +ℤ pos (2 ^ 50)) ≤ℤ (z +ℤ pos ((count + 1) * 2 ^ 50))
@@ -203,20 +199,6 @@ all_gains z count few = omega (arith, ints)
 -- small values are small still after them
 small_gains : (count : ℕ) → count ≤ 2097152 → (pos (2 ^ 91) +ℤ pos (count * 2 ^ 50)) <ℤ pos (2 ^ 92)
 small_gains count few = omega (arith, ints)
-
--- before the first constraint
-pub IsUnderWay-none : (constraints : List Constraint) (trial : Trial) (Seen : ℕ → Type 0)
-    (relaxation : Relaxation) → ((place : ℕ) → Seen place → place < length constraints → ⊥)
-    → IsUnderWay constraints trial Seen 0 None relaxation relaxation
-IsUnderWay-none constraints trial Seen relaxation none = record {
-  values = refl;
-  parents = refl;
-  swept = λ sweep ready. IsSweeping-fewer ready Seen
-      (λ place constraint seen here. none place seen
-      (slice_get_within constraints place constraint here));
-  between = λ least greatest between. AreBetween-wider least greatest (greatest +ℤ pos (0 * 2 ^ 50))
-      relaxation.values.items (no_gain greatest) between;
-}
 
 module _ {constraints : List Constraint} {trial : Trial} {Seen : ℕ → Type 0} {count : ℕ}
     {changed : Option ℕ} {begun now : Relaxation}
