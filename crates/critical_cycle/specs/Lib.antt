@@ -1,2 +1,4 @@
 pub mod TrialSizes
 pub mod Trials
+pub mod Relaxing
+pub mod Sweeps

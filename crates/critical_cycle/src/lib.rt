@@ -1,4 +1,5 @@
 //! The least clock period that constraints between registers admit, and the cycle that shows it.
 #![tactic(auto)]
 
+mod relaxation;
 mod trial;
