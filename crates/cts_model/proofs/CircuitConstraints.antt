@@ -76,4 +76,5 @@ pub forbidding_at_all : (circuit : Circuit) (tech : Tech) (cycle : List Constrai
 forbidding_at_all circuit tech cycle forbidding scale period proper admitted =
     let (floor, (arrival, meets)) = admitted in
     forbidden_at_all cycle cycle scale period arrival (All-contains_itself cycle)
-    forbidding.forbids proper (met_all circuit tech scale period arrival meets cycle forbidding.of_circuit)
+    forbidding.forbids proper
+    (met_all circuit tech scale period arrival meets cycle forbidding.of_circuit)
