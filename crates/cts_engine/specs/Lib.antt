@@ -1,1 +1,4 @@
+pub mod Faults
 pub mod Outcomes
+pub mod OutcomeParts
+pub mod Periods

@@ -7,6 +7,7 @@ use Rattle.cts_model.specs.declared.tech.Tech.{Tech}
 use Rattle.cts_model.specs.declared.timing.ZeroSkew.{ZeroSkew}
 use Rattle.cts_model.specs.declared.period.PeriodShow.{PeriodShow}
 use Rattle.cts_model.specs.EqualArrivals.{IsZeroSkew}
+use Rattle.cts_model.specs.PairLists.{HasSmallDelays}
 use Rattle.cts_model.specs.LeastPeriods.{IsLeastFraction, IsPeriodShow, IsForbidding}
 use Rattle.cts_engine.specs.declared.period.PeriodOutcome.{PeriodOutcome}
 use Rattle.cts_engine.specs.declared.period.PeriodOutcome.TheVariants.{Found, Never}
@@ -22,3 +23,13 @@ pub record IsFound (circuit : Circuit) (tech : Tech) (zero_skew : ZeroSkew) (fra
 abbrev pub IsPeriodOutcome : Circuit → Tech → PeriodOutcome → Type 0
 IsPeriodOutcome circuit tech (Found zero period shown) = IsFound circuit tech zero period shown
 IsPeriodOutcome circuit tech (Never cycle) = IsForbidding circuit tech cycle
+
+-- the pair that the outcome without skew names, if any, has small delays
+abbrev pub HasSmallZero : PeriodOutcome → Type 0
+HasSmallZero (Found zero period shown) = HasSmallDelays zero
+HasSmallZero (Never cycle) = Unit {0}
+
+-- the outcome is that no period will do
+abbrev pub IsNever : PeriodOutcome → Type 0
+IsNever (Found zero period shown) = ⊥
+IsNever (Never cycle) = Unit {0}

@@ -2,7 +2,11 @@
 #![tactic(auto)]
 
 mod fault;
+mod pairs;
 mod period;
+mod stub;
+mod zero;
 
 pub use fault::SynthFault;
-pub use period::{PeriodOutcome, period_of, zero_of};
+pub use period::{PeriodOutcome, period_of};
+pub use zero::zero_of;
