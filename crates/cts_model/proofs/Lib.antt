@@ -1,4 +1,5 @@
 pub mod CircuitLemmas
+pub mod CycleLemmas
 mod HostLemmas
 pub mod HostedCircuits
 mod KindLemmas

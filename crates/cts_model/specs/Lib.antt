@@ -22,5 +22,6 @@ pub mod Placements
 pub mod Timing
 pub mod Constraints
 pub mod Cycles
+pub mod Laws
 pub mod EqualArrivals
 pub mod PairLists

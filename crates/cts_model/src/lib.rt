@@ -6,6 +6,7 @@ mod constraint;
 mod fan_in;
 mod host;
 mod kind;
+pub mod laws;
 mod place;
 mod signal;
 mod tech;
