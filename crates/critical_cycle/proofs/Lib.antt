@@ -1,0 +1,4 @@
+mod Climbs
+mod PlaceLemmas
+mod RoundWalk
+mod Turns

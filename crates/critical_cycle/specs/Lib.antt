@@ -1,2 +1,3 @@
 pub mod TrialSizes
 pub mod Trials
+pub mod CyclePlaces

@@ -1,4 +1,6 @@
 //! The least clock period that constraints between registers admit, and the cycle that shows it.
 #![tactic(auto)]
 
+mod ring;
+mod sums;
 mod trial;
