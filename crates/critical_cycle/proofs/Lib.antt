@@ -1,4 +1,6 @@
 mod Climbs
 mod PlaceLemmas
+mod RaiseLemmas
 mod RoundWalk
+mod SumLemmas
 mod Turns

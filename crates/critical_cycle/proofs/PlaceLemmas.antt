@@ -1,8 +1,7 @@
 -- The constraints at places of a list: one for each place.
-use Rattle.std.proofs.Common.{ℕ, ◌≡◌, ◌<◌, List, [], ◌∷◌, ◌++◌, length, get_or, Option, Some, refl, sym, ◌∙◌, ap, subst, arith, All, map, suc, false, pos}
+use Rattle.std.proofs.Common.{ℕ, ◌≡◌, ◌<◌, ◌≤◌, List, [], ◌∷◌, length, get_or, refl, sym, ◌∙◌, ap, subst, All, map, suc, false, pos}
 use Rattle.std.proofs.lemmas.List.Elements.{All-nil, All-cons, All-head, All-tail}
 use Rattle.std.proofs.lemmas.Option.{slice_get-get_or}
-use Rattle.std.specs.Prelude.{slice_get}
 use Rattle.std.specs.List.{cons_option}
 use Rattle.cts_model.specs.declared.constraint.Constraint.{Constraint}
 use Rattle.critical_cycle.specs.CyclePlaces.{AreWithin, IsFromLowest, constraints_at, tail_at}
@@ -73,3 +72,15 @@ from_lowest constraints place places within lowest =
     (subst (λ low. All (λ (c : Constraint). low ≤ c.tail) (get_or constraints place unread ∷ constraints_at constraints places))
     (tail_at_is constraints place unread here)
     (subst (All (λ (c : Constraint). tail_at constraints place ≤ c.tail)) whole each))
+
+-- what holds of each constraint of the list holds of those at places
+pub All-constraints_at : (Q : Constraint → Type 0) (constraints : List Constraint) (places : List ℕ)
+    → All Q constraints → AreWithin constraints places → All Q (constraints_at constraints places)
+All-constraints_at Q constraints [] each within = All-nil Q
+All-constraints_at Q constraints (place ∷ places) each within =
+    let P : ℕ → Type 0 = λ n. n < length constraints in
+    let here = All-head P place places within in
+    subst (All Q) (sym (constraints_at-cons constraints place places unread here))
+    (All-cons Q (get_or constraints place unread) (constraints_at constraints places)
+    (each place unread here)
+    (All-constraints_at Q constraints places each (All-tail P place places within)))

@@ -1,3 +1,4 @@
 pub mod TrialSizes
 pub mod Trials
 pub mod CyclePlaces
+pub mod Raises
