@@ -6,7 +6,10 @@ mod ScaleLemmas
 mod MicroLemmas
 mod SizeLemmas
 mod OneNumberFault
+mod Quotients
+pub mod Divisors
 pub mod LineSplits
 pub mod ListPlaces
 pub mod ListTests
+pub mod OneFraction
 pub mod PartLengths

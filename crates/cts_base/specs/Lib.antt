@@ -1,3 +1,4 @@
 pub mod Decimals
+pub mod Fractions
 pub mod Lines
 pub mod Words

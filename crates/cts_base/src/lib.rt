@@ -1,6 +1,8 @@
-//! Lists, lines and words: what every text of the clock tree synthesizer is made of.
+//! Lists, lines, words and numbers: what every text of the clock tree synthesizer is made of.
 #![tactic(auto)]
 
+mod divisor;
+mod fraction;
 mod line_walk;
 mod listed;
 mod no_memory;
@@ -8,6 +10,8 @@ mod number;
 mod text;
 mod word_walk;
 
+pub use divisor::gcd;
+pub use fraction::{Fraction, push_fraction};
 pub use line_walk::{Line, Lines};
 pub use listed::{Listed, Name};
 pub use no_memory::NoMemory;

@@ -1,0 +1,40 @@
+use Rattle.std.proofs.Common.{FitsSigned, rules}
+use mir.Syntax.{w128}
+use Rattle.std.proofs.lemmas.Int.{to_z-of_z}
+use Rattle.cts_base.proofs.Quotients.{int_div-le, lowest_quotients, quotient_is, same_value}
+use Rattle.cts_base.proofs.fraction.Fraction.of.Goals as goal
+
+pub invariant_of-result : goal.invariant_of-result
+invariant_of-result c =
+    let divisor = c.common_divisor-divisor in
+    let some = divisor.ensures.some in
+    let fits : FitsSigned w128 divisor.result = search rules in
+    let num_is = to_z-of_z w128 c.args.num c.ranges.num in
+    let den_is = to_z-of_z w128 c.args.den c.ranges.den in
+    let greatest = rw (num_is, den_is) at divisor.ensures.greatest in
+    let front = quotient_is c.args.num divisor.result c.ranges.num fits some in
+    let back = quotient_is c.args.den divisor.result c.ranges.den fits some in
+    rw (front, back) (record {
+      lowest = lowest_quotients c.args.num c.args.den divisor.result c.requires.some_den some greatest;
+    })
+
+pub returns-clause-value : goal.returns-clause-value
+returns-clause-value c =
+    let divisor = c.common_divisor-divisor in
+    let some = divisor.ensures.some in
+    let fits : FitsSigned w128 divisor.result = search rules in
+    let num_is = to_z-of_z w128 c.args.num c.ranges.num in
+    let den_is = to_z-of_z w128 c.args.den c.ranges.den in
+    let greatest = rw (num_is, den_is) at divisor.ensures.greatest in
+    let front = quotient_is c.args.num divisor.result c.ranges.num fits some in
+    let back = quotient_is c.args.den divisor.result c.ranges.den fits some in
+    rw (front, back)
+    (same_value c.args.num c.args.den divisor.result c.requires.some_den some greatest)
+
+pub returns-clause-num : goal.returns-clause-num
+returns-clause-num c =
+    let divisor = c.common_divisor-divisor in
+    let some = divisor.ensures.some in
+    let fits : FitsSigned w128 divisor.result = search rules in
+    let front = quotient_is c.args.num divisor.result c.ranges.num fits some in
+    rw front (int_div-le c.args.num divisor.result some)

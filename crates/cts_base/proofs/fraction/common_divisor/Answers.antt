@@ -1,0 +1,13 @@
+use Rattle.std.proofs.Common.{◌≡◌, nat_abs, to_z, arith}
+use mir.Syntax.{w128}
+use Rattle.std.proofs.lemmas.Int.{ints, to_z-of_z}
+use Rattle.cts_base.proofs.fraction.common_divisor.Goals as goal
+
+pub returns-clause-greatest : goal.returns-clause-greatest
+returns-clause-greatest c =
+    let size : nat_abs (to_z w128 c.gcd.result) ≡ c.gcd.result = omega (arith, ints) in
+    let num_is = to_z-of_z w128 c.args.num c.ranges.num in
+    let den_is = to_z-of_z w128 c.args.den c.ranges.den in
+    let front = c.unsigned_abs.ensures.value in
+    let back = c.unsigned_abs-2.ensures.value in
+    rw size (rw (front, back, num_is, den_is) at c.gcd.ensures.greatest)
