@@ -1,15 +1,18 @@
 -- What the sums of a cycle say of a trial period: its total gain, and the greater value.
-use Rattle.std.proofs.Common.{ℕ, ◌≡◌, ◌<◌, ◌≤◌, ◌+◌, ◌*◌, ◌^◌, ℤ, pos, negsuc, ◌+ℤ◌, ◌-ℤ◌, ◌*ℤ◌, neg_ℤ, ◌≤ℤ◌, ◌<ℤ◌, List, [], ◌∷◌, length, refl, sym, ◌∙◌, ap, subst, arith, FitsSigned, to_z, of_z}
+use Rattle.std.proofs.Common.{ℕ, ◌≡◌, ◌≤◌, ◌+◌, ◌*◌, ◌^◌, ℤ, pos, negsuc, ◌+ℤ◌, ◌-ℤ◌, ◌*ℤ◌, ◌≤ℤ◌, ◌<ℤ◌, List, [], ◌∷◌, refl, ◌∙◌, ap, arith, zero, suc, of_z}
+use mir.Syntax.{w128}
 use Rattle.std.specs.Prelude.{nat_abs}
-use Rattle.std.specs.Int.{w128}
 use Rattle.std.proofs.Math.Nat.{mul-le-mul_left}
-use Rattle.std.proofs.lemmas.Int.{ints, by_lt_z, fits_signed_mul}
+use Rattle.std.proofs.lemmas.Int.{ints, by_lt_z}
 use Rattle.std.proofs.lemmas.List.Sums.{sum_by-cons}
 use Rattle.cts_model.specs.declared.constraint.Constraint.{Constraint}
 use Rattle.cts_model.specs.Constraints.{count_of}
 use Rattle.cts_model.specs.Cycles.{total_weight, total_count}
 use Rattle.critical_cycle.specs.declared.trial.Trial.{Trial}
 use Rattle.critical_cycle.specs.Trials.{gain_of, total_gain}
+use Rattle.cts_base.specs.declared.fraction.Fraction.{Fraction}
+use Rattle.critical_cycle.specs.Raises.{IsRaisedTo, NeverCounts}
+use Rattle.critical_cycle.proofs.SumLemmas.{AreSmallSums}
 use borrow.Author.Differences.{up, down}
 
 -- the gain of one constraint and that of others
@@ -80,12 +83,72 @@ numerator_below (pos a) (pos w) most smaller some low = omega (arith, ints)
 numerator_below (pos a) (negsuc w) most smaller some low = absurd (omega (arith, ints))
 numerator_below (negsuc a) weight most smaller some low = omega (arith, ints)
 
--- products of that size fit
-pub product_fits : (a b : ℤ) → neg_ℤ (pos (4097 * 10 ^ 11)) ≤ℤ a → a ≤ℤ pos (4097 * 10 ^ 11)
-    → pos 0 ≤ℤ b → b ≤ℤ pos (4097 * 10 ^ 11) → FitsSigned w128 (a *ℤ b)
-product_fits a b above below some low =
-    fits_signed_mul w128 a b (4097 * 10 ^ 11) (4097 * 10 ^ 11) (sized a above below) (sized b (omega (arith, ints)) low) (omega arith)
+-- a cycle that asks for no more than it counts has no gain
+pub no_gain : (trial : Trial) (steps : List Constraint) (weight count : ℤ)
+    → weight ≡ total_weight steps → count ≡ pos (total_count steps)
+    → ((count *ℤ trial.numerator) <ℤ (weight *ℤ trial.denominator) → ⊥)
+    → total_gain trial steps ≤ℤ pos 0
+no_gain trial steps weight count weighs counts kept =
+    let total = total_gain-sums trial steps in
+    by_lt_z (pos 0) (total_gain trial steps)
+    (λ more. absurd (kept (more_asked trial.numerator trial.denominator weight count (total_weight steps) (total_count steps) (total_gain trial steps) weighs counts total more)))
+    (λ less. less)
   where
-    sized : (z : ℤ) → neg_ℤ (pos (4097 * 10 ^ 11)) ≤ℤ z → z ≤ℤ pos (4097 * 10 ^ 11) → nat_abs z ≤ 4097 * 10 ^ 11
-    sized (pos n) above below = omega (arith, ints)
-    sized (negsuc n) above below = omega (arith, ints)
+    more_asked : (num den weight count total : ℤ) (k : ℕ) (gain : ℤ) → weight ≡ total → count ≡ pos k
+        → gain ≡ (den *ℤ total) -ℤ (num *ℤ pos k) → pos 0 <ℤ gain → (count *ℤ num) <ℤ (weight *ℤ den)
+    more_asked num den weight count total k gain weighs counts is more =
+        rw (weighs, counts) (omega (arith, ints))
+
+-- constraints that ask for more and never count the period ask for time
+pub never_counts : (trial : Trial) (steps : List Constraint) (weight count : ℤ)
+    → weight ≡ total_weight steps → count ≡ pos (total_count steps) → count ≡ pos 0
+    → (count *ℤ trial.numerator) <ℤ (weight *ℤ trial.denominator) → NeverCounts steps
+never_counts trial steps weight count weighs counts none above =
+    let low = trial.valid.positive in
+    let den = size_is trial.denominator trial.valid.proper in
+    let over : (pos (total_count steps) *ℤ trial.numerator)
+        <ℤ (total_weight steps *ℤ pos (nat_abs trial.denominator)) =
+        rw den (rw (weighs, counts) at above) in
+    record {
+      counts = omega (arith, ints);
+      asks = positive trial.numerator (total_weight steps) (total_count steps) (nat_abs trial.denominator) low over;
+    }
+
+-- the value that the sums make is above the trial's
+pub raised : (trial : Trial) (steps : List Constraint) (value : Fraction) (weight count : ℤ)
+    → weight ≡ total_weight steps → count ≡ pos (total_count steps) → AreSmallSums steps
+    → 1 ≤ total_count steps → (count *ℤ trial.numerator) <ℤ (weight *ℤ trial.denominator)
+    → value.num *ℤ count ≡ weight *ℤ value.den → nat_abs value.num ≤ nat_abs weight
+    → value.den ≤ℤ count → IsRaisedTo trial steps value
+raised trial steps value weight count weighs counts small some above is num den =
+    let size = size_is value.den value.lowest.some_den in
+    let trial_size = size_is trial.denominator trial.valid.proper in
+    let over : (pos (total_count steps) *ℤ trial.numerator)
+        <ℤ (total_weight steps *ℤ pos (nat_abs trial.denominator)) =
+        rw trial_size (rw (weighs, counts) at above) in
+    let same : value.num *ℤ pos (total_count steps) ≡ total_weight steps *ℤ pos (nat_abs value.den) =
+        rw size (rw (weighs, counts) at is) in
+    let asks = positive trial.numerator (total_weight steps) (total_count steps) (nat_abs trial.denominator) trial.valid.positive over in
+    let higher : (trial.numerator *ℤ pos (nat_abs value.den)) <ℤ (value.num *ℤ pos (nat_abs trial.denominator)) =
+        value_above trial.numerator (total_weight steps) value.num (nat_abs trial.denominator) (nat_abs value.den) (total_count steps) some (omega (arith, ints, size, value.lowest.some_den)) same over in
+    let asks_more : pos 0 <ℤ value.num =
+        positive trial.numerator value.num (nat_abs value.den) (nat_abs trial.denominator) trial.valid.positive (omega (arith, ints)) in
+    record {
+      counts = some;
+      value_is = swapped (pos (nat_abs value.den)) (total_weight steps) _ same;
+      above = rw (size, trial_size) at higher;
+      valid = record {
+        positive = omega (arith, ints);
+        small = numerator_below value.num (total_weight steps) (4097 * 10 ^ 11) (rw weighs at num) asks small.below;
+        proper = value.lowest.some_den;
+        low = omega (arith, ints, small.count, den);
+      };
+    }
+  where
+    swapped : (a b c : ℤ) → c ≡ b *ℤ a → a *ℤ b ≡ c
+    swapped a b c is = omega (arith, ints)
+
+-- a count that isn't 0 is at least 1
+pub counts_some : (count : ℤ) (times : ℕ) → count ≡ pos times → (of_z w128 count ≡ 0 → ⊥) → 1 ≤ times
+counts_some count zero is some = absurd (some (ap (of_z w128) is))
+counts_some count (suc times) is some = omega arith

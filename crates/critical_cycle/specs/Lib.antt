@@ -1,4 +1,5 @@
 pub mod TrialSizes
 pub mod Trials
+pub mod Relaxing
 pub mod CyclePlaces
 pub mod Raises

@@ -2,6 +2,7 @@
 #![tactic(auto)]
 
 mod raise;
+mod relaxation;
 mod ring;
 mod sums;
 mod trial;

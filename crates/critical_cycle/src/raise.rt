@@ -27,7 +27,7 @@ pub(crate) fn raise_by(trial: Trial, constraints: &[Constraint], cycle: &[u32]) 
     ensures { IsRaise trial (constraints_at constraints.now cycle.now) result }
 {
     let sums = Sums::of(constraints, cycle);
-    if sums.weight * trial.denominator <= sums.count * trial.numerator {
+    if !sums.exceed(trial) {
         return Raise::Keep;
     }
     if sums.count == 0 {

@@ -1,9 +1,10 @@
-ghost use Rattle.std.specs.Prelude.{◌≡◌, ◌≤◌, ◌^◌, ◌*◌, pos, ◌+ℤ◌, ◌≤ℤ◌, All, length};
+ghost use Rattle.std.specs.Prelude.{◌≡◌, ◌≤◌, ◌^◌, ◌↔◌, IsTrue, pos, ◌+ℤ◌, ◌*ℤ◌, ◌<ℤ◌, All, length};
 ghost use Rattle.cts_model.specs.Constraints.{count_of};
 ghost use Rattle.cts_model.specs.Cycles.{total_count, total_weight};
 ghost use Rattle.cts_model.specs.Points.{IsBelow};
 ghost use Rattle.critical_cycle.specs.CyclePlaces.{AreWithin, constraints_at};
 
+use crate::trial::Trial;
 use cts_model::Constraint;
 
 /// What the constraints of a cycle sum to.
@@ -31,6 +32,16 @@ impl Sums {
         sums
     }
 
+    /// Whether the constraints ask for more time than they count at the trial period.
+    pub(crate) fn exceed(self, trial: Trial) -> bool
+        requires weight { IsBelow (10 ^ 18) self.weight }
+        requires count { IsBelow (10 ^ 18) self.count }
+        ensures { IsTrue result
+            ↔ ((self.count *ℤ trial.numerator) <ℤ (self.weight *ℤ trial.denominator)) }
+    {
+        product(self.count, trial.numerator) < product(self.weight, trial.denominator)
+    }
+
     // The sums with one more constraint.
     fn and(self, constraint: &Constraint) -> Sums
         requires weight { IsBelow (2 ^ 64) self.weight }
@@ -51,4 +62,13 @@ fn count_of(constraint: &Constraint) -> i128
     ensures { result ≡ pos (count_of constraint.now) }
 {
     if constraint.setup { 1 } else { 0 }
+}
+
+// The product of two numbers.
+fn product(a: i128, b: i128) -> i128
+    requires a { IsBelow (10 ^ 18) a }
+    requires b { IsBelow (10 ^ 18) b }
+    ensures { result ≡ a *ℤ b }
+{
+    a * b
 }
