@@ -2,5 +2,7 @@ mod Climbs
 mod PlaceLemmas
 mod RaiseLemmas
 mod RoundWalk
+mod Steps
+mod SearchLemmas
 mod SumLemmas
 mod Turns

@@ -3,3 +3,6 @@ pub mod Trials
 pub mod Relaxing
 pub mod CyclePlaces
 pub mod Raises
+pub mod ShownPeriods
+pub mod Searches
+pub mod Periods
