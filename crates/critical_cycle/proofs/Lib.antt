@@ -6,3 +6,4 @@ mod Steps
 mod SearchLemmas
 mod SumLemmas
 mod Turns
+mod PeriodLemmas

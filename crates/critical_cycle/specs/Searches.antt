@@ -6,8 +6,8 @@ use Rattle.critical_cycle.specs.ShownPeriods.{IsSmallFloor, IsShown, IsTrialOf}
 use Rattle.critical_cycle.specs.declared.search.Search.{Search}
 
 -- the places of the cycle that was gone round last
-abbrev pub cycle_of : Search → List ℕ
-cycle_of search = drop search.start search.places.items
+abbrev pub last_cycle : Search → List ℕ
+last_cycle search = drop search.start search.places.items
 
 -- there is room for each register, and the cycle shows what is said to be shown
 pub record IsSearch (constraints : List Constraint) (search : Search) : Type 0 where
@@ -15,7 +15,7 @@ pub record IsSearch (constraints : List Constraint) (search : Search) : Type 0 w
   pub places : length search.places.items ≡ length search.relaxation.parents.items
   pub start : search.start ≤ length search.places.items
   pub floor : IsSmallFloor search.floor
-  pub shown : IsShown constraints search.floor (cycle_of search) search.shown
+  pub shown : IsShown constraints search.floor (last_cycle search) search.shown
 
 -- a register far up the parents of the trial at the greatest period shown
 pub record IsAtRing (constraints : List Constraint) (search : Search) (register : ℕ) : Type 0 where

@@ -10,4 +10,4 @@ mod shown;
 mod sums;
 mod trial;
 
-pub use period::{Period, least_period_in};
+pub use period::{Period, least_period, least_period_in};

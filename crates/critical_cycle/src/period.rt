@@ -65,6 +65,26 @@ pub fn least_period_in(
     period_of(search, list)
 }
 
+/// The same in memory of its own: a number, a parent and a place of the cycle for each register.
+pub fn least_period(
+    alloc: Global,
+    registers: usize,
+    constraints: &Listed<Constraint>,
+    floor: i128,
+) -> Result<Period, NoMemory>
+    requires small { AreSmallConstraints registers constraints.now }
+    requires floor { IsSmallFloor floor }
+    ensures period { IfOk result (IsPeriodOf constraints.now floor) }
+    ensures never { IfOk result (λ period. IsNever period ↔ HasForbidding constraints.now) }
+    ensures floor { IfOk result (λ period. IsFloor period
+        ↔ IsLeastPeriodOf constraints.now floor floor 1) }
+{
+    let values = Listed::from_vec(vec![in alloc; 0i128; registers]?);
+    let parents = Listed::from_vec(vec![in alloc; 0u32; registers]?);
+    let cycle = Listed::from_vec(vec![in alloc; 0u32; registers]?);
+    Ok(least_period_in(values, parents, cycle, constraints, floor))
+}
+
 // What a search that has settled shows.
 fn period_of(search: Search, constraints: &[Constraint]) -> Period
     requires search { IsSearch constraints.now search }
