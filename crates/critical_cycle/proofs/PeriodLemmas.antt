@@ -92,8 +92,10 @@ never_exactly constraints floor (Never cycle) is =
 pub floor_exactly : (constraints : List Constraint) (floor : ℤ) (period : Period)
     → IsPeriodOf constraints floor period → IsFloor period ↔ IsLeastPeriodOf constraints floor floor 1
 floor_exactly constraints floor (Cycle value cycle) is =
+    let above : (floor *ℤ pos (nat_abs value.den)) <ℤ value.num =
+        rw (size_is value.den value.lowest.some_den) is.above in
     (λ never. absurd never,
-    λ least. is.least.least 1 floor (omega arith) (omega (arith, ints, is.above)) least.admitted)
+    λ least. is.least.least 1 floor (omega arith) (omega (arith, ints)) least.admitted)
 floor_exactly constraints floor Floor is = (λ floor. is, λ least. tt)
 floor_exactly constraints floor (Never cycle) is =
     (λ never. absurd never,
