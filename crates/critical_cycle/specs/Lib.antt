@@ -1,6 +1,7 @@
 pub mod TrialSizes
 pub mod Trials
 pub mod Relaxing
+pub mod Sweeps
 pub mod CyclePlaces
 pub mod Raises
 pub mod ShownPeriods
