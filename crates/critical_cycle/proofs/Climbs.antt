@@ -159,8 +159,12 @@ module _ (constraints : List Constraint) (parents : List ℕ) where
       let below = climbs_below small ends.from ends.above register ends.climbs within in
       ⊎_elim
       (λ ring. (ring.0, ring.1, omega (arith, ring.2, ends.long), ring.3))
-      (λ once. absurd (omega (arith, fewer (length parents) (ends.from ∷ tails ends.above) once below,
-      length-map ends.above (λ (step : Constraint). step.tail), ends.long)))
+      (λ once. absurd (omega (
+        arith,
+        fewer (length parents) (ends.from ∷ tails ends.above) once below,
+        length-map ends.above (λ (step : Constraint). step.tail),
+        ends.long,
+      )))
       (ring_or_once ends.from ends.above register ends.climbs)
 
 -- a climb that leaves no register before its end that is the end's
@@ -208,7 +212,7 @@ module _ (constraints : List Constraint) (parents : List ℕ) where
       All-cons P step rest
       (λ same.
       let shorter = same_direct to from above rest climb direct
-          (subst (λ r. Climbs constraints parents r rest to) (sym same) up)
-          (subst (λ r. IsDirect to r rest) (sym same) ahead.1) in
+      (subst (λ r. Climbs constraints parents r rest to) (sym same) up)
+      (subst (λ r. IsDirect to r rest) (sym same) ahead.1) in
       absurd (omega arith))
       (not_passed to from above climb direct step.tail rest up ahead.1 (omega arith))

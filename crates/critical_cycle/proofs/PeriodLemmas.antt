@@ -65,26 +65,28 @@ pub forbidden_turned : (constraints : List Constraint) (cycle turned : List ℕ)
     → IsNeverShown constraints cycle → turned ≡ drop turn cycle ++ take turn cycle
     → IsFromLowest (constraints_at constraints turned) → IsForbidden constraints turned
 forbidden_turned constraints cycle turned turn shown is lowest = record {
-    within = turned_within constraints cycle turned turn is shown.within;
-    forbids = record {
-      is_cycle = turned_cycle constraints cycle turned turn is shown.forbids.is_cycle;
-      counts = rw (turned_count constraints cycle turned turn is) shown.forbids.counts;
-      asks = rw (turned_weight constraints cycle turned turn is) shown.forbids.asks;
-    };
-    lowest = lowest;
-  }
+  within = turned_within constraints cycle turned turn is shown.within;
+  forbids = record {
+    is_cycle = turned_cycle constraints cycle turned turn is shown.forbids.is_cycle;
+    counts = rw (turned_count constraints cycle turned turn is) shown.forbids.counts;
+    asks = rw (turned_weight constraints cycle turned turn is) shown.forbids.asks;
+  };
+  lowest = lowest;
+}
 
 -- the answer is that no period is long enough exactly where a cycle forbids all
 pub never_exactly : (constraints : List Constraint) (floor : ℤ) (period : Period)
     → IsPeriodOf constraints floor period → IsNever period ↔ HasForbidding constraints
 never_exactly constraints floor (Cycle value cycle) is =
-    let admitted = is.least.admitted.1 in
-    (λ never. absurd never,
-    λ has. forbidden_at_all constraints has.0 (nat_abs value.den) value.num admitted.0 has.1 has.2 is.least.proper admitted.1)
+    let admitted = is.least.admitted.1 in (
+      λ never. absurd never,
+      λ has. forbidden_at_all constraints has.0 (nat_abs value.den) value.num admitted.0 has.1 has.2 is.least.proper admitted.1,
+    )
 never_exactly constraints floor Floor is =
-    let admitted = is.admitted.1 in
-    (λ never. absurd never,
-    λ has. forbidden_at_all constraints has.0 1 floor admitted.0 has.1 has.2 is.proper admitted.1)
+    let admitted = is.admitted.1 in (
+      λ never. absurd never,
+      λ has. forbidden_at_all constraints has.0 1 floor admitted.0 has.1 has.2 is.proper admitted.1,
+    )
 never_exactly constraints floor (Never cycle) is =
     (λ never. (constraints_at constraints cycle, among constraints cycle is.within, is.forbids), λ has. tt)
 
@@ -93,11 +95,13 @@ pub floor_exactly : (constraints : List Constraint) (floor : ℤ) (period : Peri
     → IsPeriodOf constraints floor period → IsFloor period ↔ IsLeastPeriodOf constraints floor floor 1
 floor_exactly constraints floor (Cycle value cycle) is =
     let above : (floor *ℤ pos (nat_abs value.den)) <ℤ value.num =
-        rw (size_is value.den value.lowest.some_den) is.above in
-    (λ never. absurd never,
-    λ least. is.least.least 1 floor (omega arith) (omega (arith, ints)) least.admitted)
+    rw (size_is value.den value.lowest.some_den) is.above in (
+      λ never. absurd never,
+      λ least. is.least.least 1 floor (omega arith) (omega (arith, ints)) least.admitted,
+    )
 floor_exactly constraints floor Floor is = (λ floor. is, λ least. tt)
-floor_exactly constraints floor (Never cycle) is =
-    (λ never. absurd never,
-    λ least. forbidden_at_all constraints (constraints_at constraints cycle) 1 floor least.admitted.1.0
-    (among constraints cycle is.within) is.forbids least.proper least.admitted.1.1)
+floor_exactly constraints floor (Never cycle) is = (
+  λ never. absurd never,
+  λ least. forbidden_at_all constraints (constraints_at constraints cycle) 1 floor least.admitted.1.0
+      (among constraints cycle is.within) is.forbids least.proper least.admitted.1.1,
+)

@@ -21,7 +21,7 @@ gains_together : (den num weight weights : ℤ) (count counts total : ℕ) → t
     ≡ (den *ℤ (weight +ℤ weights)) -ℤ (num *ℤ pos total)
 gains_together den num weight weights count counts total sum =
     let plain : up (weight +ℤ weights) + down weight + down weights
-        ≡ down (weight +ℤ weights) + up weight + up weights = omega (arith, ints) in
+    ≡ down (weight +ℤ weights) + up weight + up weights = omega (arith, ints) in
     let high = ap (λ n. up den * n) plain in
     let low = ap (λ n. down den * n) plain in
     let more = ap (λ n. up num * n) sum in
@@ -66,11 +66,11 @@ value_above num weight value den size count counts some is above =
     by_lt_z (num *ℤ pos size) (value *ℤ pos den) (λ more. more)
     (λ less.
     let same : up value * count + down weight * size ≡ down value * count + up weight * size =
-        omega (arith, ints) in
+    omega (arith, ints) in
     let over : count * up num + down weight * den + 1 ≤ count * down num + up weight * den =
-        omega (arith, ints) in
+    omega (arith, ints) in
     let under : up value * den + down num * size ≤ down value * den + up num * size =
-        omega (arith, ints) in
+    omega (arith, ints) in
     let first = ap (λ n. den * n) same in
     let second = mul-le-mul_left size over in
     let third = mul-le-mul_left count under in
@@ -107,8 +107,8 @@ never_counts trial steps weight count weighs counts none above =
     let low = trial.valid.positive in
     let den = size_is trial.denominator trial.valid.proper in
     let over : (pos (total_count steps) *ℤ trial.numerator)
-        <ℤ (total_weight steps *ℤ pos (nat_abs trial.denominator)) =
-        rw den (rw (weighs, counts) at above) in
+    <ℤ (total_weight steps *ℤ pos (nat_abs trial.denominator)) =
+    rw den (rw (weighs, counts) at above) in
     record {
       counts = omega (arith, ints);
       asks = positive trial.numerator (total_weight steps) (total_count steps) (nat_abs trial.denominator) low over;
@@ -124,15 +124,15 @@ raised trial steps value weight count weighs counts small some above is num den 
     let size = size_is value.den value.lowest.some_den in
     let trial_size = size_is trial.denominator trial.valid.proper in
     let over : (pos (total_count steps) *ℤ trial.numerator)
-        <ℤ (total_weight steps *ℤ pos (nat_abs trial.denominator)) =
-        rw trial_size (rw (weighs, counts) at above) in
+    <ℤ (total_weight steps *ℤ pos (nat_abs trial.denominator)) =
+    rw trial_size (rw (weighs, counts) at above) in
     let same : value.num *ℤ pos (total_count steps) ≡ total_weight steps *ℤ pos (nat_abs value.den) =
-        rw size (rw (weighs, counts) at is) in
+    rw size (rw (weighs, counts) at is) in
     let asks = positive trial.numerator (total_weight steps) (total_count steps) (nat_abs trial.denominator) trial.valid.positive over in
     let higher : (trial.numerator *ℤ pos (nat_abs value.den)) <ℤ (value.num *ℤ pos (nat_abs trial.denominator)) =
-        value_above trial.numerator (total_weight steps) value.num (nat_abs trial.denominator) (nat_abs value.den) (total_count steps) some (omega (arith, ints, size, value.lowest.some_den)) same over in
+    value_above trial.numerator (total_weight steps) value.num (nat_abs trial.denominator) (nat_abs value.den) (total_count steps) some (omega (arith, ints, size, value.lowest.some_den)) same over in
     let asks_more : pos 0 <ℤ value.num =
-        positive trial.numerator value.num (nat_abs value.den) (nat_abs trial.denominator) trial.valid.positive (omega (arith, ints)) in
+    positive trial.numerator value.num (nat_abs value.den) (nat_abs trial.denominator) trial.valid.positive (omega (arith, ints)) in
     record {
       counts = some;
       value_is = swapped (pos (nat_abs value.den)) (total_weight steps) _ same;

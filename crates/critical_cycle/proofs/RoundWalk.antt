@@ -202,7 +202,7 @@ module _ (constraints : List Constraint) (parents : List ℕ) where
           let room : at ≤ length places = omega (arith, walk.gone.long) in
           let whole = steps_are places at (get_or parents register 0) walk.left.next (omega (arith, walk.left.fits)) room read_place in
           let unlike = not_passed constraints parents start walk.left.next.tail walk.left.rest walk.left.climbs walk.left.direct
-              walk.left.next.tail walk.left.rest walk.left.climbs walk.left.direct (omega arith) in
+          walk.left.next.tail walk.left.rest walk.left.climbs walk.left.direct (omega arith) in
           let before = All-tail (λ (step : Constraint). All (λ (gone : Constraint). step.tail ≢ gone.tail) steps) walk.left.next walk.left.rest walk.left.apart in
           subst (λ (c : Constraint). IsRoundWalk constraints parents after start (at - 1) c.tail) same (record {
             gone = next_gone;

@@ -28,14 +28,16 @@ use borrow.Author.Differences.{up, down}
 pub settled_at : (constraints : List Constraint) (floor : ℤ) (shown : Shown) (trial : Trial)
     → (relaxation : Relaxation) → CanTry shown → IsTrialOf floor shown trial
     → SatisfiesTrial constraints trial relaxation → IsSettled constraints floor shown
-settled_at constraints floor Floor trial relaxation can_try at satisfies =
-    (value_of relaxation.values.items,
-    subst (λ n. Satisfies constraints 1 n (value_of relaxation.values.items)) at.numerator_is
-    (satisfies 1 (sym at.denominator_is)))
-settled_at constraints floor (Value value) trial relaxation can_try at satisfies =
-    (value_of relaxation.values.items,
-    subst (λ n. Satisfies constraints (nat_abs value.den) n (value_of relaxation.values.items)) at.numerator_is
-    (satisfies (nat_abs value.den) (size_is value.den can_try.proper ∙ sym at.denominator_is)))
+settled_at constraints floor Floor trial relaxation can_try at satisfies = (
+  value_of relaxation.values.items,
+  subst (λ n. Satisfies constraints 1 n (value_of relaxation.values.items)) at.numerator_is
+      (satisfies 1 (sym at.denominator_is)),
+)
+settled_at constraints floor (Value value) trial relaxation can_try at satisfies = (
+  value_of relaxation.values.items,
+  subst (λ n. Satisfies constraints (nat_abs value.den) n (value_of relaxation.values.items)) at.numerator_is
+      (satisfies (nat_abs value.den) (size_is value.den can_try.proper ∙ sym at.denominator_is)),
+)
 settled_at constraints floor Never trial relaxation can_try at satisfies = absurd at
 
 -- both outcomes of a trial
@@ -94,20 +96,26 @@ raise_shows constraints floor before cycle old new trial (raise.To value) is at 
     let size = size_is value.den to.valid.proper in
     let trial_size = size_is trial.denominator trial.valid.proper in
     let over = above_floor floor trial.numerator value.num (nat_abs trial.denominator) (nat_abs value.den)
-        (rw trial_size low) (rw (size, trial_size) to.above) in
+    (rw trial_size low) (rw (size, trial_size) to.above) in
     let less = steps_below-less (4097 * 10 ^ 11) trial.numerator trial.denominator value.num value.den
-        trial.valid to.valid trial.valid.small to.valid.small to.above in
-    rw by (record {
+    trial.valid to.valid trial.valid.small to.valid.small to.above in
+    rw by (
+      record {
         within = within;
         shows = record { is_cycle = is_cycle; counts = to.counts; value = to.value_is };
         above = rw size at over;
         valid = to.valid;
-      }, omega (arith, left_at floor old trial at))
+      },
+      omega (arith, left_at floor old trial at),
+    )
 raise_shows constraints floor before cycle old new trial raise.Never is at within is_cycle goes_on never by =
-    rw by (record {
+    rw by (
+      record {
         within = within;
         forbids = record { is_cycle = is_cycle; counts = never.counts; asks = never.asks };
-      }, omega (arith, left_at floor old trial at))
+      },
+      omega (arith, left_at floor old trial at),
+    )
 
 -- a value that is shown can be tried
 pub can_try : (constraints : List Constraint) (floor : ℤ) (cycle : List ℕ) (shown : Shown)

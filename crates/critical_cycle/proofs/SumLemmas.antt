@@ -49,7 +49,7 @@ pub count_more : (constraints : List Constraint) (cycle : List ℕ) (i : ℕ) (d
 count_more constraints cycle i d sum more inside within is next =
     let last = get_or constraints (get_or cycle i 0) d in
     let whole = ap total_count (constraints_at-more constraints cycle i d inside within)
-        ∙ sum_by-append count_of (constraints_at constraints (take i cycle)) (last ∷ []) in
+    ∙ sum_by-append count_of (constraints_at constraints (take i cycle)) (last ∷ []) in
     joined sum more (total_count (constraints_at constraints (take i cycle))) (count_of last)
     (total_count (constraints_at constraints (take (i + 1) cycle))) is next
     (omega (arith, whole, sum_by-cons count_of last []))
@@ -96,7 +96,7 @@ small_sums constraints cycle within few small =
     let steps = constraints_at constraints cycle in
     let long = length-constraints_at constraints cycle within in
     let weights = weights_below (10 ^ 11) steps
-        (All-constraints_at (λ c. IsBelow (10 ^ 11) c.weight) constraints cycle small within) in
+    (All-constraints_at (λ c. IsBelow (10 ^ 11) c.weight) constraints cycle small within) in
     record {
       above = omega (arith, ints, weights.0, long);
       below = omega (arith, ints, weights.1, long);

@@ -23,7 +23,7 @@ turned_from_lowest constraints cycle turned turn within inside is lowest =
     let back = drop (turn + 1) cycle ++ take turn cycle in
     let parts : turned ≡ first ∷ back = is ∙ ap (λ l. l ++ take turn cycle) (drop_more cycle turn 0 inside) in
     let kept : (P : ℕ → Type 0) → All P cycle → All P (first ∷ back) =
-        λ P each. subst (All P) (sym is ∙ parts) (All-append P (drop turn cycle) (take turn cycle) (All-drop P turn cycle each) (All-take P turn cycle each)) in
+    λ P each. subst (All P) (sym is ∙ parts) (All-append P (drop turn cycle) (take turn cycle) (All-drop P turn cycle each) (All-take P turn cycle each)) in
     let Above : ℕ → Type 0 = λ n. tail_at constraints first ≤ tail_at constraints n in
     subst (λ ps. IsFromLowest (constraints_at constraints ps)) (sym parts)
     (from_lowest constraints first back (kept (λ n. n < length constraints) within)
@@ -53,9 +53,9 @@ pub cycle_from_closed : (cycle : List Constraint) (start : ℕ) → 0 < length c
     → AllPairs (λ first second. first.tail ≢ second.tail) cycle → IsCycle cycle
 cycle_from_closed [] start some leads once = absurd (omega arith)
 cycle_from_closed (first ∷ cycle) start some leads once = record {
-    closed = (refl, subst (λ r. Leads first.head cycle r) (sym leads.0) leads.1);
-    once = once;
-  }
+  closed = (refl, subst (λ r. Leads first.head cycle r) (sym leads.0) leads.1);
+  once = once;
+}
 
 -- no tail comes twice in the turned list either
 once_turned : (front back : List Constraint)

@@ -25,7 +25,10 @@ impl Sums {
         ensures weight { result.weight ≡ total_weight (constraints_at constraints.now cycle.now) }
         ensures count { result.count ≡ pos (total_count (constraints_at constraints.now cycle.now)) }
     {
-        let mut sums = Sums { weight: 0, count: 0 };
+        let mut sums = Sums {
+            weight: 0,
+            count: 0,
+        };
         for place in cycle {
             sums = sums.and(&constraints[*place as usize]);
         }

@@ -14,9 +14,10 @@ pub bounds-constraints-place : goal.bounds-constraints-place
 bounds-constraints-place c = place_within _ _ _ _ _ _ c.loop-register.invariant.1
 
 pub loop-register-preserved : goal.loop-register-preserved
-loop-register-preserved c =
-    (length-set c.loop-register.places (c.loop-register.at - 1) _ ∙ c.loop-register.invariant.0,
-    round_next _ _ _ _ _ _ c.loop-register.invariant.1 c.requires.heads _ c.if-register-start.false)
+loop-register-preserved c = (
+  length-set c.loop-register.places (c.loop-register.at - 1) _ ∙ c.loop-register.invariant.0,
+  round_next _ _ _ _ _ _ c.loop-register.invariant.1 c.requires.heads _ c.if-register-start.false,
+)
 
 pub returns-then-register-start-clause-within : goal.returns-then-register-start-clause-within
 returns-then-register-start-clause-within c =

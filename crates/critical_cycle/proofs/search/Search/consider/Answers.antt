@@ -17,7 +17,7 @@ returns c =
     let whole : (with_items c.args.self.now.places places).items ≡ places = with_items_is c.args.self.now.places places (omega (arith, c.put_last-self.ensures.len, c.deref_mut.ensures.len)) in
     let cycle : drop c.put_last-self.result (with_items c.args.self.now.places places).items ≡ c.args.cycle.now = ap (λ ps. drop c.put_last-self.result ps) whole ∙ c.put_last-self.ensures.last in
     let shows = raise_shows c.args.constraints.now c.args.self.now.floor _ c.args.cycle.now c.args.self.now.shown c.raised-self.result c.in-Some.trial c.raise_by-raise.result
-        search.shown at c.requires.within c.requires.cycle c.in_default-raise.not-Keep c.raise_by-raise.ensures c.raised-self.ensures in
+    search.shown at c.requires.within c.requires.cycle c.in_default-raise.not-Keep c.raise_by-raise.ensures c.raised-self.ensures in
     record {
       search = record {
         room = search.room;

@@ -20,7 +20,7 @@ returns-clause-search c =
     let gains = c.go_round-self.ensures.gains c.args.self.now.trial c.args.self.now.relaxation.values.items parents in
     let judged = subst (λ ps. IsRaise c.args.self.now.trial (constraints_at c.args.constraints.now ps) c.raise_by.result) cycle c.raise_by.ensures in
     let shows = raise_shows c.args.constraints.now c.args.self.now.floor _ (drop c.go_round-self.result places) c.args.self.now.shown c.raised-self.result c.args.self.now.trial c.raise_by.result
-        search.shown ring.at c.go_round-self.ensures.within c.go_round-self.ensures.cycle (not_kept c.args.self.now.trial (constraints_at c.args.constraints.now (drop c.go_round-self.result places)) c.raise_by.result gains judged) judged c.raised-self.ensures in
+    search.shown ring.at c.go_round-self.ensures.within c.go_round-self.ensures.cycle (not_kept c.args.self.now.trial (constraints_at c.args.constraints.now (drop c.go_round-self.result places)) c.raise_by.result gains judged) judged c.raised-self.ensures in
     record {
       room = search.room;
       places = ap length whole ∙ c.go_round-self.ensures.len ∙ ap length c.deref_mut.ensures.value ∙ search.places;

@@ -18,6 +18,6 @@ and-sums-requires-clause-count c =
 
 pub loop-place-preserved : goal.loop-place-preserved
 loop-place-preserved c = (
-      weight_more c.args.constraints.now c.args.cycle.now c.loop-place.place-index _ c.loop-place.sums.weight _ c.loop-place-test.true c.requires.within c.loop-place.invariant.0 c.and-sums.ensures.weight,
-      count_more c.args.constraints.now c.args.cycle.now c.loop-place.place-index _ c.loop-place.sums.count _ c.loop-place-test.true c.requires.within c.loop-place.invariant.1 c.and-sums.ensures.count,
-    )
+  weight_more c.args.constraints.now c.args.cycle.now c.loop-place.place-index _ c.loop-place.sums.weight _ c.loop-place-test.true c.requires.within c.loop-place.invariant.0 c.and-sums.ensures.weight,
+  count_more c.args.constraints.now c.args.cycle.now c.loop-place.place-index _ c.loop-place.sums.count _ c.loop-place-test.true c.requires.within c.loop-place.invariant.1 c.and-sums.ensures.count,
+)
