@@ -1,0 +1,17 @@
+mod GainLemmas
+mod RelaxLemmas
+mod ParentLemmas
+mod SweepLemmas
+mod StepLemmas
+mod ClimbLemmas
+mod SettleLemmas
+mod PrepareLemmas
+mod Climbs
+mod PlaceLemmas
+mod Turns
+mod RoundWalk
+mod SumLemmas
+mod RaiseLemmas
+mod Steps
+mod SearchLemmas
+mod PeriodLemmas

@@ -1,5 +1,5 @@
 -- How large the numerator and the denominator of a trial period are.
-use Rattle.std.specs.Prelude.{◌≤◌, ◌*◌, ◌^◌, ℕ, ℤ, pos, ◌≤ℤ◌}
+use Rattle.std.specs.Prelude.{◌*◌, ◌^◌, ℤ, pos, ◌≤ℤ◌}
 
 -- a period of at least 0, a sum of at most 4,097 weights over at most 4,097
 pub record IsTrial (numerator denominator : ℤ) : Type 0 where

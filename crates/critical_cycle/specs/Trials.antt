@@ -1,5 +1,5 @@
 -- What a trial period makes of constraints, and what the parents of registers say.
-use Rattle.std.specs.Prelude.{◌≡◌, ◌<◌, ◌*◌, ◌^◌, ℕ, ℤ, pos, ◌+ℤ◌, ◌-ℤ◌, ◌*ℤ◌, ◌≤ℤ◌, ◌<ℤ◌, List, [], ◌∷◌, length, slice_get, slice_index_or, Option, Some}
+use Rattle.std.specs.Prelude.{◌≡◌, ◌<◌, ℕ, ℤ, pos, ◌+ℤ◌, ◌-ℤ◌, ◌*ℤ◌, ◌≤ℤ◌, ◌<ℤ◌, List, [], ◌∷◌, length, slice_get, slice_index_or, Option, Some}
 use Rattle.std.specs.Option.{option_and_then}
 use Rattle.cts_model.specs.declared.constraint.Constraint.{Constraint}
 use Rattle.cts_model.specs.Constraints.{count_of}
@@ -32,8 +32,8 @@ Climbs constraints parents from (constraint ∷ above) to =
 abbrev pub value_of : List ℤ → ℕ → ℤ
 value_of values register = slice_index_or values register (pos 0)
 
--- each register with a parent has no more than its parent gives it, and whoever climbs from a register
--- back to it has gained
+-- each register with a parent has no more than its parent gives it, and whoever climbs from a
+-- register back to it has gained
 pub record AreParents (constraints : List Constraint) (trial : Trial) (values : List ℤ)
     (parents : List ℕ) : Type 0 where
   pub heads : (register : ℕ) (parent : Constraint)

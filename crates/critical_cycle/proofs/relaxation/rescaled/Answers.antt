@@ -1,0 +1,21 @@
+-- Denominators are above 0, so the quotient is no larger than the product.
+use Rattle.std.proofs.Common.{FitsSigned, ℤ, ◌*ℤ◌, arith}
+use Rattle.std.proofs.lemmas.Int.{ints, quot_fits}
+use Rattle.std.specs.Int.{w128}
+use Rattle.critical_cycle.proofs.GainLemmas.{kept, scaled_fits, scaled_kept}
+use Rattle.critical_cycle.proofs.relaxation.rescaled.Goals as goal
+
+pub overflow_mul-cut : goal.overflow_mul-cut
+overflow_mul-cut c =
+    let next = c.args.next.valid in
+    scaled_fits c.cut.result c.args.next.denominator c.cut.ensures next.proper next.low
+
+pub nonzero_div-cut : goal.nonzero_div-cut
+nonzero_div-cut c =
+    let next = c.args.next.valid in
+    let product : ℤ = kept (kept c.cut.result *ℤ kept c.args.next.denominator) in
+    let fits : FitsSigned w128 product =
+    scaled_kept c.cut.result c.args.next.denominator c.cut.ensures next.proper next.low in (
+      omega (arith, ints),
+      quot_fits w128 product (kept c.args.last.denominator) fits (omega (arith, ints)),
+    )
