@@ -1,5 +1,5 @@
 -- From the least period of a circuit's constraints to the outcome of the circuit.
-use Rattle.std.proofs.Common.{◌≡◌, ◌↔◌, ◌≤◌, ℕ, ℤ, pos, ◌*ℤ◌, ◌≤ℤ◌, ◌<ℤ◌, List, subst, sym, arith}
+use Rattle.std.proofs.Common.{◌≡◌, ◌↔◌, ℕ, ℤ, pos, ◌*ℤ◌, ◌≤ℤ◌, List, arith}
 use Rattle.std.specs.Prelude.{nat_abs}
 use Rattle.std.proofs.lemmas.Int.{ints}
 use Rattle.cts_base.specs.declared.fraction.Fraction.{Fraction}
@@ -16,9 +16,9 @@ use Rattle.cts_model.specs.LeastPeriods.{IsFloorPeriod, IsForbidding, HasNoPerio
 use Rattle.cts_model.proofs.CircuitConstraints.{forbidding_at_all}
 use Rattle.cts_engine.specs.declared.period.PeriodOutcome.{PeriodOutcome}
 use Rattle.cts_engine.specs.declared.period.PeriodOutcome.TheVariants.{Found, Never}
-use Rattle.cts_engine.specs.OutcomeParts.{AreConstraintsOf}
-use Rattle.cts_engine.specs.Outcomes.{IsFound, IsPeriodOutcome, IsNever}
-use Rattle.cts_engine.specs.Periods.{IsShownPeriod, IsForbidden, constraints_at}
+use Rattle.cts_engine.specs.Outcomes.{IsFound, IsPeriodOutcome, IsNever, AreConstraintsOf}
+use Rattle.critical_cycle.specs.CyclePlaces.{constraints_at}
+use Rattle.critical_cycle.specs.Periods.{IsShownPeriod, IsForbidden}
 use Rattle.cts_engine.proofs.PlaceLemmas.{All-constraints_at}
 
 -- a fraction that stands for a whole number is that number over 1

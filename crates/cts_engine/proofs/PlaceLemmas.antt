@@ -6,7 +6,7 @@ use Rattle.std.proofs.lemmas.List.{take_more}
 use Rattle.std.proofs.lemmas.List.Elements.{All-nil, All-cons, All-head, All-tail, All-get_or, filter_map-append}
 use Rattle.std.proofs.lemmas.Option.{slice_get-get_or}
 use Rattle.cts_model.specs.declared.constraint.Constraint.{Constraint}
-use Rattle.cts_engine.specs.Periods.{AreWithin, constraints_at}
+use Rattle.critical_cycle.specs.CyclePlaces.{AreWithin, constraints_at}
 
 -- what stands at no place
 unread : Constraint

@@ -1,4 +1,2 @@
 pub mod Faults
 pub mod Outcomes
-pub mod OutcomeParts
-pub mod Periods

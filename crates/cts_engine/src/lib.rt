@@ -4,7 +4,6 @@
 mod fault;
 mod pairs;
 mod period;
-mod stub;
 mod zero;
 
 pub use fault::SynthFault;

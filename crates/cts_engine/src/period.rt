@@ -4,15 +4,15 @@ ghost use Rattle.cts_model.specs.EqualArrivals.{IsZeroSkew};
 ghost use Rattle.cts_model.specs.LeastPeriods.{HasNoPeriod};
 ghost use Rattle.cts_model.specs.PairLists.{HasSmallDelays, JoinsMoreThan};
 ghost use Rattle.cts_model.specs.Paths.{IsLoop};
+ghost use Rattle.critical_cycle.specs.CyclePlaces.{AreWithin, constraints_at};
+ghost use Rattle.critical_cycle.specs.Periods.{IsPeriodOf};
 ghost use Rattle.cts_engine.specs.Faults.{IsCaused};
-ghost use Rattle.cts_engine.specs.OutcomeParts.{AreConstraintsOf};
-ghost use Rattle.cts_engine.specs.Outcomes.{HasSmallZero, IsNever, IsPeriodOutcome};
-ghost use Rattle.cts_engine.specs.Periods.{AreWithin, IsPeriodOf, constraints_at};
+ghost use Rattle.cts_engine.specs.Outcomes.{AreConstraintsOf, BeginsLowest, HasSmallZero, IsNever, IsPeriodOutcome};
 
 use crate::SynthFault;
 use crate::pairs::pairs_of;
-use crate::stub::{Period, least_period};
 use constraints::constraints_of;
+use critical_cycle::{Period, least_period};
 use cts_base::{Fraction, Listed, NoMemory};
 use cts_model::{Circuit, Constraint, PeriodShow, Tech, ZeroSkew};
 use std::alloc::Global;
@@ -30,13 +30,16 @@ pub enum PeriodOutcome {
         shown: PeriodShow,
     },
     /// No arrivals meet any period: constraints that lead from a register back to it show it.
-    Never { cycle: Listed<Constraint> },
+    Never {
+        cycle: Listed<Constraint>,
+    },
 }
 
 /// The least period of a circuit, whenever the clock reaches each register, in ticks.
 pub fn period_of(alloc: Global, circuit: &Circuit, tech: &Tech) -> Result<PeriodOutcome, SynthFault>
     requires { (loop : List ℕ) → IsLoop circuit.now.signals loop → ⊥ }
     ensures ok { IfOk result (IsPeriodOutcome circuit.now tech.now) }
+    ensures lowest { IfOk result BeginsLowest }
     ensures small { IfOk result HasSmallZero }
     ensures never { IfOk result (λ outcome. IsNever outcome ↔ HasNoPeriod circuit.now tech.now) }
     ensures few { IfOk result (λ _. JoinsMoreThan circuit.now 1048576 → ⊥) }
@@ -62,6 +65,7 @@ fn outcome(
     ensures ok { IfOk result (λ outcome. (circuit : Circuit) → IsZeroSkew circuit tech.now zero
         → AreConstraintsOf circuit tech.now constraints.now
         → IsPeriodOutcome circuit tech.now outcome) }
+    ensures lowest { IfOk result BeginsLowest }
     ensures small { IfOk result HasSmallZero }
 {
     match period {

@@ -1,5 +1,5 @@
 use Rattle.std.proofs.Common.{◌≡◌, take}
-use Rattle.cts_engine.specs.Periods.{constraints_at}
+use Rattle.critical_cycle.specs.CyclePlaces.{constraints_at}
 use Rattle.cts_engine.proofs.period.constraints_at.Given as goal
 
 abbrev pub invariant-loop-place : goal.invariant-loop-place

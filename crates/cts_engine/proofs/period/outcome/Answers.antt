@@ -6,8 +6,9 @@ use Rattle.cts_engine.proofs.period.outcome.Goals as goal
 pub returns-in_ok-constraints_at-in-Cycle-clause-ok :
     goal.returns-in_ok-constraints_at-in-Cycle-clause-ok
 returns-in_ok-constraints_at-in-Cycle-clause-ok c = λ circuit is_zero are.
+    let shown = rw c.in-Cycle.is at c.requires.period in
     rw c.in_ok-constraints_at-in-Cycle.ensures
-    (found_by_cycle are c.args.zero c.in-Cycle.value _ is_zero (rw c.in-Cycle.is at c.requires.period))
+    (found_by_cycle are c.args.zero c.in-Cycle.value _ is_zero shown)
 
 pub returns-in-Floor-clause-ok : goal.returns-in-Floor-clause-ok
 returns-in-Floor-clause-ok c = λ circuit is_zero are.
