@@ -6,3 +6,12 @@ mod StepLemmas
 mod ClimbLemmas
 mod SettleLemmas
 mod PrepareLemmas
+mod Climbs
+mod PlaceLemmas
+mod Turns
+mod RoundWalk
+mod SumLemmas
+mod RaiseLemmas
+mod Steps
+mod SearchLemmas
+mod PeriodLemmas

@@ -1,13 +1,19 @@
 -- The outcome of a circuit: its least period and what shows it, or what forbids every period.
 -- Fishburn, "Clock Skew Optimization", 1990.
-use Rattle.std.specs.Prelude.{List}
+use Rattle.std.specs.Prelude.{◌↔◌, ℕ, ℤ, List, All}
 use Rattle.cts_base.specs.declared.fraction.Fraction.{Fraction}
 use Rattle.cts_model.specs.declared.circuit.Circuit.{Circuit}
 use Rattle.cts_model.specs.declared.tech.Tech.{Tech}
 use Rattle.cts_model.specs.declared.timing.ZeroSkew.{ZeroSkew}
+use Rattle.cts_model.specs.declared.constraint.Constraint.{Constraint}
 use Rattle.cts_model.specs.declared.period.PeriodShow.{PeriodShow}
+use Rattle.cts_model.specs.declared.period.PeriodShow.TheVariants.{Cycle, Floor}
 use Rattle.cts_model.specs.EqualArrivals.{IsZeroSkew}
+use Rattle.cts_model.specs.PairLists.{HasSmallDelays}
+use Rattle.cts_model.specs.Timing.{Meets}
+use Rattle.cts_model.specs.Constraints.{IsConstraintOf, Satisfies}
 use Rattle.cts_model.specs.LeastPeriods.{IsLeastFraction, IsPeriodShow, IsForbidding}
+use Rattle.critical_cycle.specs.CyclePlaces.{IsFromLowest}
 use Rattle.cts_engine.specs.declared.period.PeriodOutcome.{PeriodOutcome}
 use Rattle.cts_engine.specs.declared.period.PeriodOutcome.TheVariants.{Found, Never}
 
@@ -22,3 +28,26 @@ pub record IsFound (circuit : Circuit) (tech : Tech) (zero_skew : ZeroSkew) (fra
 abbrev pub IsPeriodOutcome : Circuit → Tech → PeriodOutcome → Type 0
 IsPeriodOutcome circuit tech (Found zero period shown) = IsFound circuit tech zero period shown
 IsPeriodOutcome circuit tech (Never cycle) = IsForbidding circuit tech cycle
+
+-- the outcome is that no period will do
+abbrev pub IsNever : PeriodOutcome → Type 0
+IsNever (Found zero period shown) = ⊥
+IsNever (Never cycle) = Unit {0}
+
+-- the pair that the least period without skew names, if any, has small delays
+abbrev pub HasSmallZero : PeriodOutcome → Type 0
+HasSmallZero (Found zero period shown) = HasSmallDelays zero
+HasSmallZero (Never cycle) = Unit {0}
+
+-- the cycle that is shown, if any, begins at its lowest register
+abbrev pub BeginsLowest : PeriodOutcome → Type 0
+BeginsLowest (Found zero period (Cycle cycle)) = IsFromLowest cycle
+BeginsLowest (Found zero period Floor) = Unit {0}
+BeginsLowest (Never cycle) = IsFromLowest cycle
+
+-- constraints of the circuit, and whoever satisfies them meets the period over every path
+pub record AreConstraintsOf (circuit : Circuit) (tech : Tech)
+    (constraints : List Constraint) : Type 0 where
+  pub each : All (IsConstraintOf circuit tech) constraints
+  pub meets : (scale : ℕ) (period : ℤ) (arrival : ℕ → ℤ)
+      → Satisfies constraints scale period arrival ↔ Meets circuit tech scale period arrival

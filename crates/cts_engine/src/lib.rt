@@ -2,7 +2,10 @@
 #![tactic(auto)]
 
 mod fault;
+mod pairs;
 mod period;
+mod zero;
 
 pub use fault::SynthFault;
-pub use period::{PeriodOutcome, period_of, zero_of};
+pub use period::{PeriodOutcome, period_of};
+pub use zero::zero_of;

@@ -1,5 +1,22 @@
-use cts_base::{Fraction, Listed};
+ghost use Rattle.std.specs.Prelude.{◌≡◌, ◌↔◌, ℕ, List, IfOk, IfErr};
+ghost use Rattle.cts_model.specs.declared.circuit.Circuit.{Circuit};
+ghost use Rattle.cts_model.specs.EqualArrivals.{IsZeroSkew};
+ghost use Rattle.cts_model.specs.LeastPeriods.{HasNoPeriod};
+ghost use Rattle.cts_model.specs.PairLists.{HasSmallDelays, JoinsMoreThan};
+ghost use Rattle.cts_model.specs.Paths.{IsLoop};
+ghost use Rattle.critical_cycle.specs.CyclePlaces.{AreWithin, constraints_at};
+ghost use Rattle.critical_cycle.specs.Periods.{IsPeriodOf};
+ghost use Rattle.cts_engine.specs.Faults.{IsCaused};
+ghost use Rattle.cts_engine.specs.Outcomes.{AreConstraintsOf, BeginsLowest, HasSmallZero, IsNever, IsPeriodOutcome};
+
+use crate::SynthFault;
+use crate::pairs::pairs_of;
+use constraints::constraints_of;
+use critical_cycle::{Period, least_period};
+use cts_base::{Fraction, Listed, NoMemory};
 use cts_model::{Circuit, Constraint, PeriodShow, Tech, ZeroSkew};
+use std::alloc::Global;
+use timing_report::zero_skew;
 
 /// The least clock period of a circuit, in ticks.
 #[derive(Debug, Drop)]
@@ -13,5 +30,73 @@ pub enum PeriodOutcome {
         shown: PeriodShow,
     },
     /// No arrivals meet any period: constraints that lead from a register back to it show it.
-    Never { cycle: Listed<Constraint> },
+    Never {
+        cycle: Listed<Constraint>,
+    },
+}
+
+/// The least period of a circuit, whenever the clock reaches each register, in ticks.
+pub fn period_of(alloc: Global, circuit: &Circuit, tech: &Tech) -> Result<PeriodOutcome, SynthFault>
+    requires { (loop : List ℕ) → IsLoop circuit.now.signals loop → ⊥ }
+    ensures ok { IfOk result (IsPeriodOutcome circuit.now tech.now) }
+    ensures lowest { IfOk result BeginsLowest }
+    ensures small { IfOk result HasSmallZero }
+    ensures never { IfOk result (λ outcome. IsNever outcome ↔ HasNoPeriod circuit.now tech.now) }
+    ensures few { IfOk result (λ _. JoinsMoreThan circuit.now 1048576 → ⊥) }
+    ensures many { IfErr result (IsCaused circuit.now) }
+{
+    let pairs = pairs_of(alloc, circuit, tech)?;
+    let zero = zero_skew(&pairs, tech);
+    let constraints = constraints_of(alloc, &pairs, tech)?;
+    let period = least_period(alloc, circuit.registers.len(), &constraints, tech.floor)?;
+    Ok(outcome(alloc, &constraints, tech, zero, period)?)
+}
+
+// The outcome of a circuit with these constraints, of which this is the least period.
+fn outcome(
+    alloc: Global,
+    constraints: &Listed<Constraint>,
+    tech: &Tech,
+    zero: ZeroSkew,
+    period: Period,
+) -> Result<PeriodOutcome, NoMemory>
+    requires period { IsPeriodOf constraints.now tech.now.floor period }
+    requires small { HasSmallDelays zero }
+    ensures ok { IfOk result (λ outcome. (circuit : Circuit) → IsZeroSkew circuit tech.now zero
+        → AreConstraintsOf circuit tech.now constraints.now
+        → IsPeriodOutcome circuit tech.now outcome) }
+    ensures lowest { IfOk result BeginsLowest }
+    ensures small { IfOk result HasSmallZero }
+{
+    match period {
+        Period::Cycle { value, cycle } => Ok(PeriodOutcome::Found {
+            zero,
+            period: value,
+            shown: PeriodShow::Cycle(constraints_at(alloc, constraints, &cycle)?),
+        }),
+        Period::Floor => Ok(PeriodOutcome::Found {
+            zero,
+            period: Fraction::of(tech.floor, 1),
+            shown: PeriodShow::Floor,
+        }),
+        Period::Never { cycle } => Ok(PeriodOutcome::Never {
+            cycle: constraints_at(alloc, constraints, &cycle)?,
+        }),
+    }
+}
+
+// The constraints at these places of a list.
+fn constraints_at(
+    alloc: Global,
+    constraints: &Listed<Constraint>,
+    places: &Listed<u32>,
+) -> Result<Listed<Constraint>, NoMemory>
+    requires { AreWithin constraints.now places.now }
+    ensures { IfOk result (λ listed. listed ≡ constraints_at constraints.now places.now) }
+{
+    let mut listed = Listed::new(alloc);
+    for place in places.as_slice() {
+        listed.push(constraints.as_slice()[*place as usize])?;
+    }
+    Ok(listed)
 }

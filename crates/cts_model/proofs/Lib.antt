@@ -1,3 +1,4 @@
+pub mod CircuitConstraints
 pub mod CircuitLemmas
 pub mod CycleLemmas
 mod HostLemmas

@@ -1,9 +1,14 @@
--- What a cycle of constraints says of the period, whatever the arrivals. Fishburn, "Clock Skew
+-- What constraints and their cycles say of the period, whatever the arrivals. Fishburn, "Clock Skew
 -- Optimization", 1990. Each law is the clause of a function of the module laws.
-use Rattle.std.specs.Prelude.{◌≤◌, ℕ, ℤ, pos, ◌*ℤ◌, ◌≤ℤ◌, ◌<ℤ◌, List, All, Contains}
+use Rattle.std.specs.Prelude.{◌≤◌, ℕ, ℤ, pos, ◌*ℤ◌, ◌≤ℤ◌, ◌<ℤ◌, List, All, Contains, nat_abs}
+use Rattle.cts_base.specs.declared.fraction.Fraction.{Fraction}
+use Rattle.cts_model.specs.declared.circuit.Circuit.{Circuit}
+use Rattle.cts_model.specs.declared.tech.Tech.{Tech}
 use Rattle.cts_model.specs.declared.constraint.Constraint.{Constraint}
-use Rattle.cts_model.specs.Constraints.{Satisfies}
+use Rattle.cts_model.specs.Timing.{Meets, IsAdmitted}
+use Rattle.cts_model.specs.Constraints.{IsSatisfied, Satisfies, IsConstraintOf}
 use Rattle.cts_model.specs.Cycles.{IsCycle, total_weight, total_count, ShowsPeriod, ForbidsPeriods}
+use Rattle.cts_model.specs.LeastPeriods.{IsCritical, IsForbidding, HasNoPeriod}
 
 -- round a cycle the arrivals cancel: its weights sum to no more than the periods that it counts
 abbrev pub CycleBoundsPeriod : Type 0
@@ -24,3 +29,22 @@ abbrev pub ForbiddenAtAll : Type 0
 ForbiddenAtAll = (constraints cycle : List Constraint) (scale : ℕ) (period : ℤ) (arrival : ℕ → ℤ)
     → All (Contains constraints) cycle → ForbidsPeriods cycle
     → 1 ≤ scale → Satisfies constraints scale period arrival → ⊥
+
+-- arrivals that meet a period over every path satisfy each constraint of the circuit
+abbrev pub MeetsConstraints : Type 0
+MeetsConstraints = (circuit : Circuit) (tech : Tech) (scale : ℕ) (period : ℤ) (arrival : ℕ → ℤ)
+    → Meets circuit tech scale period arrival
+    → (constraint : Constraint) → IsConstraintOf circuit tech constraint
+    → IsSatisfied scale period arrival constraint
+
+-- where a cycle of the circuit's constraints shows a period, no smaller one is admitted
+abbrev pub CriticalIsLeast : Type 0
+CriticalIsLeast = (circuit : Circuit) (tech : Tech) (shown : Fraction) (cycle : List Constraint)
+    → IsCritical circuit tech shown cycle → (scale : ℕ) (period : ℤ) → 1 ≤ scale
+    → (period *ℤ pos (nat_abs shown.den)) <ℤ (shown.num *ℤ pos scale)
+    → IsAdmitted circuit tech scale period → ⊥
+
+-- where a cycle of the circuit's constraints forbids every period, none is admitted
+abbrev pub ForbiddingAtAll : Type 0
+ForbiddingAtAll = (circuit : Circuit) (tech : Tech) (cycle : List Constraint)
+    → IsForbidding circuit tech cycle → HasNoPeriod circuit tech

@@ -1,0 +1,10 @@
+-- Two constraints that close a cycle join two registers.
+use Rattle.std.proofs.Common.{arith, refl}
+use Rattle.critical_cycle.proofs.SearchLemmas.{two_registers}
+use Rattle.critical_cycle.proofs.search.Search.look_at_pair.Goals as goal
+
+pub consider-requires-clause-few : goal.consider-requires-clause-few
+consider-requires-clause-few c =
+    let search = c.requires.search in
+    let closes = c.if-closes_with_next.ensures refl in
+    omega (arith, two_registers _ c.args.constraints.now c.args.place search.room.small closes, search.room.parents, search.places)

@@ -1,0 +1,9 @@
+use Rattle.std.proofs.Common.{◌≡◌, pos, take}
+use Rattle.cts_model.specs.Cycles.{total_count, total_weight}
+use Rattle.critical_cycle.specs.CyclePlaces.{constraints_at}
+use Rattle.critical_cycle.proofs.sums.Sums.of.Given as goal
+
+abbrev pub invariant-loop-place : goal.invariant-loop-place
+invariant-loop-place l =
+    (l.sums.weight ≡ total_weight (constraints_at l.constraints (take l.place-index l.cycle)))
+    × (l.sums.count ≡ pos (total_count (constraints_at l.constraints (take l.place-index l.cycle))))

@@ -1,0 +1,47 @@
+-- The least period that constraints admit, at or above a floor, and the cycle that shows it. Fishburn,
+-- "Clock Skew Optimization", 1990.
+use Rattle.std.specs.Prelude.{◌≡◌, ℕ, ℤ, pos, ◌*ℤ◌, ◌<ℤ◌, List, All, Contains, nat_abs}
+use Rattle.cts_base.specs.declared.fraction.Fraction.{Fraction}
+use Rattle.cts_model.specs.declared.constraint.Constraint.{Constraint}
+use Rattle.cts_model.specs.Cycles.{ShowsPeriod, ForbidsPeriods, IsLeastPeriodOf}
+use Rattle.critical_cycle.specs.CyclePlaces.{AreWithin, IsFromLowest, constraints_at}
+use Rattle.critical_cycle.specs.declared.period.Period.{Period}
+use Rattle.critical_cycle.specs.declared.period.Period.TheVariants.{Cycle, Floor, Never}
+
+-- the value is the least period, above the floor, and the cycle at these places shows it
+pub record IsShownPeriod (constraints : List Constraint) (floor : ℤ) (value : Fraction)
+    (cycle : List ℕ) : Type 0 where
+  pub least : IsLeastPeriodOf constraints floor value.num (nat_abs value.den)
+  pub above : (floor *ℤ value.den) <ℤ value.num
+  pub within : AreWithin constraints cycle
+  pub shows : ShowsPeriod (constraints_at constraints cycle) value.num (nat_abs value.den)
+  pub lowest : IsFromLowest (constraints_at constraints cycle)
+
+-- the cycle at these places forbids every period
+pub record IsForbidden (constraints : List Constraint) (cycle : List ℕ) : Type 0 where
+  pub within : AreWithin constraints cycle
+  pub forbids : ForbidsPeriods (constraints_at constraints cycle)
+  pub lowest : IsFromLowest (constraints_at constraints cycle)
+
+-- the answer is right: the least period, shown by a cycle or by the floor, or a cycle that forbids all
+abbrev pub IsPeriodOf : List Constraint → (floor : ℤ) → Period → Type 0
+IsPeriodOf constraints floor (Cycle value cycle) = IsShownPeriod constraints floor value cycle
+IsPeriodOf constraints floor Floor = IsLeastPeriodOf constraints floor floor 1
+IsPeriodOf constraints floor (Never cycle) = IsForbidden constraints cycle
+
+-- some cycle of these constraints forbids every period
+abbrev pub HasForbidding : List Constraint → Type 0
+HasForbidding constraints = (cycle : List Constraint)
+    × All (Contains constraints) cycle × ForbidsPeriods cycle
+
+-- the answer is that the least period is the floor's
+abbrev pub IsFloor : Period → Type 0
+IsFloor (Cycle value cycle) = ⊥
+IsFloor Floor = Unit {0}
+IsFloor (Never cycle) = ⊥
+
+-- the answer is that no period is long enough
+abbrev pub IsNever : Period → Type 0
+IsNever (Cycle value cycle) = ⊥
+IsNever Floor = ⊥
+IsNever (Never cycle) = Unit {0}

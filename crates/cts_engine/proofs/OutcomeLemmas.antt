@@ -1,0 +1,90 @@
+-- From the least period of a circuit's constraints to the outcome of the circuit.
+use Rattle.std.proofs.Common.{◌≡◌, ◌↔◌, ℕ, ℤ, pos, ◌*ℤ◌, ◌≤ℤ◌, List, arith}
+use Rattle.std.specs.Prelude.{nat_abs}
+use Rattle.std.proofs.lemmas.Int.{ints}
+use Rattle.cts_base.specs.declared.fraction.Fraction.{Fraction}
+use Rattle.cts_model.specs.declared.circuit.Circuit.{Circuit}
+use Rattle.cts_model.specs.declared.tech.Tech.{Tech}
+use Rattle.cts_model.specs.declared.timing.ZeroSkew.{ZeroSkew}
+use Rattle.cts_model.specs.declared.constraint.Constraint.{Constraint}
+use Rattle.cts_model.specs.declared.period.PeriodShow.TheVariants.{Cycle, Floor}
+use Rattle.cts_model.specs.EqualArrivals.{IsZeroSkew}
+use Rattle.cts_model.specs.Timing.{IsLeastPeriod}
+use Rattle.cts_model.specs.Constraints.{IsConstraintOf}
+use Rattle.cts_model.specs.Cycles.{IsLeastPeriodOf}
+use Rattle.cts_model.specs.LeastPeriods.{IsFloorPeriod, IsForbidding, HasNoPeriod}
+use Rattle.cts_model.proofs.CircuitConstraints.{forbidding_at_all}
+use Rattle.cts_engine.specs.declared.period.PeriodOutcome.{PeriodOutcome}
+use Rattle.cts_engine.specs.declared.period.PeriodOutcome.TheVariants.{Found, Never}
+use Rattle.cts_engine.specs.Outcomes.{IsFound, IsPeriodOutcome, IsNever, AreConstraintsOf}
+use Rattle.critical_cycle.specs.CyclePlaces.{constraints_at}
+use Rattle.critical_cycle.specs.Periods.{IsShownPeriod, IsForbidden}
+use Rattle.cts_engine.proofs.PlaceLemmas.{All-constraints_at}
+
+-- a fraction that stands for a whole number is that number over 1
+pub whole_fraction : (num den value : ℤ) → pos 1 ≤ℤ den → den ≤ℤ pos 1
+    → (num *ℤ pos 1) ≡ (value *ℤ den) → (num ≡ value) × (den ≡ pos 1)
+whole_fraction num den value some low same =
+    let one : den ≡ pos 1 = omega (arith, ints) in
+    let plain = rw one at same in
+    (omega (arith, ints, plain), one)
+
+module _ {circuit : Circuit} {tech : Tech} {constraints : List Constraint}
+    (are : AreConstraintsOf circuit tech constraints) where
+  -- the least period of the constraints is that of the circuit
+  least_of_circuit : (numerator : ℤ) (denominator : ℕ)
+      → IsLeastPeriodOf constraints tech.floor numerator denominator
+      → IsLeastPeriod circuit tech numerator denominator
+  least_of_circuit numerator denominator is_least = record {
+    proper = is_least.proper;
+    admitted =
+        let (floor, (arrival, satisfied)) = is_least.admitted in
+        (floor, (arrival, (are.meets denominator numerator arrival).0 satisfied));
+    least = λ scale period proper smaller (floor, (arrival, met)).
+        is_least.least scale period proper smaller
+        (floor, (arrival, (are.meets scale period arrival).1 met));
+  }
+
+  -- what a cycle of the constraints shows is found
+  pub found_by_cycle : (zero_skew : ZeroSkew) (value : Fraction) (cycle : List ℕ)
+      → IsZeroSkew circuit tech zero_skew → IsShownPeriod constraints tech.floor value cycle
+      → IsFound circuit tech zero_skew value (Cycle (constraints_at constraints cycle))
+  found_by_cycle zero_skew value cycle is_zero shown = record {
+    zero = is_zero;
+    least = least_of_circuit value.num (nat_abs value.den) shown.least;
+    shown = record {
+      of_circuit =
+          All-constraints_at (IsConstraintOf circuit tech) constraints cycle are.each shown.within;
+      above_floor = shown.above;
+      shows = shown.shows;
+    };
+  }
+
+  -- and so is the floor where it is the least period of the constraints
+  pub found_by_floor : (zero_skew : ZeroSkew) (period : Fraction)
+      → IsZeroSkew circuit tech zero_skew → IsLeastPeriodOf constraints tech.floor tech.floor 1
+      → IsFloorPeriod tech period → IsFound circuit tech zero_skew period Floor
+  found_by_floor zero_skew period is_zero is_least is_floor = record {
+    zero = is_zero;
+    least = rw (is_floor.value, is_floor.whole) (least_of_circuit tech.floor 1 is_least);
+    shown = is_floor;
+  }
+
+  -- what a cycle of the constraints forbids, one of the circuit forbids
+  pub forbidden_by_cycle : (cycle : List ℕ) → IsForbidden constraints cycle
+      → IsForbidding circuit tech (constraints_at constraints cycle)
+  forbidden_by_cycle cycle forbidden = record {
+    of_circuit = All-constraints_at (IsConstraintOf circuit tech) constraints cycle are.each
+        forbidden.within;
+    forbids = forbidden.forbids;
+  }
+
+-- the outcome is that no period will do exactly where none is admitted
+pub never_exactly : (circuit : Circuit) (tech : Tech) (outcome : PeriodOutcome)
+    → IsPeriodOutcome circuit tech outcome → IsNever outcome ↔ HasNoPeriod circuit tech
+never_exactly circuit tech (Found zero_skew period shown) found = (
+  λ never. absurd never,
+  λ none. absurd (none (nat_abs period.den) period.num found.least.proper found.least.admitted),
+)
+never_exactly circuit tech (Never cycle) forbidding =
+    (λ never. forbidding_at_all circuit tech cycle forbidding, λ none. tt)

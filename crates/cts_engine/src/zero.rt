@@ -1,0 +1,23 @@
+ghost use Rattle.std.specs.Prelude.{ℕ, List, IfOk, IfErr};
+ghost use Rattle.cts_model.specs.EqualArrivals.{IsZeroSkew};
+ghost use Rattle.cts_model.specs.PairLists.{HasSmallDelays, JoinsMoreThan};
+ghost use Rattle.cts_model.specs.Paths.{IsLoop};
+ghost use Rattle.cts_engine.specs.Faults.{IsCaused};
+
+use crate::SynthFault;
+use crate::pairs::pairs_of;
+use cts_model::{Circuit, Tech, ZeroSkew};
+use std::alloc::Global;
+use timing_report::zero_skew;
+
+/// The least period of a circuit where the clock reaches all registers at once, in ticks.
+pub fn zero_of(alloc: Global, circuit: &Circuit, tech: &Tech) -> Result<ZeroSkew, SynthFault>
+    requires { (loop : List ℕ) → IsLoop circuit.now.signals loop → ⊥ }
+    ensures ok { IfOk result (IsZeroSkew circuit.now tech.now) }
+    ensures small { IfOk result HasSmallDelays }
+    ensures few { IfOk result (λ _. JoinsMoreThan circuit.now 1048576 → ⊥) }
+    ensures many { IfErr result (IsCaused circuit.now) }
+{
+    let pairs = pairs_of(alloc, circuit, tech)?;
+    Ok(zero_skew(&pairs, tech))
+}
