@@ -6,9 +6,13 @@ mod base_tests;
 #[cfg(test)]
 mod bench_tests;
 #[cfg(test)]
+mod circuits;
+#[cfg(test)]
 mod constraint_tests;
 #[cfg(test)]
 mod delay_tests;
+#[cfg(test)]
+mod engine_tests;
 #[cfg(test)]
 mod io_tests;
 #[cfg(test)]
