@@ -31,7 +31,7 @@ fn listed(alloc: Global, rows: &[Row]) -> Result<Listed<PairDelay>, NoMemory>
     Ok(pairs)
 }
 
-fn constraint(row: (bool, u32, u32, i128)) -> Constraint {
+pub(crate) fn constraint(row: (bool, u32, u32, i128)) -> Constraint {
     Constraint {
         setup: row.0,
         tail: row.1,

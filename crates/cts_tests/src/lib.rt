@@ -6,9 +6,13 @@ mod base_tests;
 #[cfg(test)]
 mod bench_tests;
 #[cfg(test)]
+mod circuits;
+#[cfg(test)]
 mod constraint_tests;
 #[cfg(test)]
 mod delay_tests;
+#[cfg(test)]
+mod engine_tests;
 #[cfg(test)]
 mod fraction_tests;
 #[cfg(test)]
@@ -19,6 +23,8 @@ mod model_tests;
 mod number_tests;
 #[cfg(test)]
 mod pair_tests;
+#[cfg(test)]
+mod period_tests;
 #[cfg(test)]
 mod place_tests;
 #[cfg(test)]

@@ -1,64 +1,13 @@
-use bench_reader::read_bench;
+use crate::circuits::{RING, S27, S27_GATES, TWO_WAYS, TWO_WAYS_GATES, circuit_of, table_of};
 use cts_base::Listed;
-use cts_model::{Circuit, PairDelay, Tech, ZeroSkew, used_kinds, with_host};
-use delay_tables::read_tech;
+use cts_model::{Circuit, PairDelay, Tech, ZeroSkew};
 use path_delays::{PairFault, levels, pair_delay, pair_delays, path_of};
 use std::alloc::{AllocError, Global};
-use std::process::Abort;
 use std::test::Fail;
 use timing_report::zero_skew;
 
-// The benchmark s27 of ISCAS'89: registers G5, G6 and G7.
-const S27: &str = "INPUT(G0)\nINPUT(G1)\nINPUT(G2)\nINPUT(G3)\nOUTPUT(G17)\nG5 = DFF(G10)
-G6 = DFF(G11)\nG7 = DFF(G13)\nG14 = NOT(G0)\nG17 = NOT(G11)\nG8 = AND(G14, G6)
-G15 = OR(G12, G8)\nG16 = OR(G3, G8)\nG9 = NAND(G16, G15)\nG10 = NOR(G14, G11)
-G11 = NOR(G5, G9)\nG12 = NOR(G1, G7)\nG13 = NOR(G2, G12)\n";
-
-// What a table for s27 says of its gates.
-const S27_GATES: &str = "[gate.NOT]\nleast = 1\ngreatest = 2\n[gate.NAND]\nleast = 1\ngreatest = 2
-[gate.NOR]\nleast = 1\ngreatest = 2\n[gate.AND]\nleast = 2\ngreatest = 3
-[gate.OR]\nleast = 2\ngreatest = 3\n";
-
-// A gate that reads a register at once and through another gate.
-const TWO_WAYS: &str = "INPUT(x)\nA = DFF(x)\nB = DFF(z)\np = NOT(A)\nz = OR(A, p)";
-
-const TWO_WAYS_GATES: &str = "[gate.NOT]\nleast = 3\ngreatest = 4
-[gate.OR]\nleast = 1\ngreatest = 2";
-
-// Two registers in a ring, one of whose two ways has a gate.
-const RING: &str = "A = DFF(m)\nB = DFF(A)\nm = BUFF(B)";
-
 // A netlist whose only path ends at an output.
 const TO_OUTPUT: &str = "INPUT(x)\nOUTPUT(g)\nA = DFF(x)\ng = NOT(A)";
-
-// The circuit of a text, which is short enough for a file, with the host or without.
-fn circuit_of(rt: &impl Abort, alloc: Global, text: &str, host: bool) -> Result<Circuit, Fail> {
-    assert!(rt; text.len() <= 16_777_216);
-    let circuit = read_bench(alloc, text.as_bytes())?;
-    Ok(if host {
-        with_host(alloc, circuit)?
-    } else {
-        circuit
-    })
-}
-
-// The setup and the hold time and the least and the greatest delay of registers.
-type Registers = (u32, u32, u32, u32);
-
-// A table of registers, with the text of its other sections behind them.
-fn table_of(
-    alloc: Global,
-    circuit: &Circuit,
-    registers: Registers,
-    rest: &str,
-) -> Result<Tech, Fail> {
-    let (setup, hold, least, greatest) = registers;
-    let text = format!(in alloc;
-        "[wire]\ndelay = \"1/1\"\n[source]\nplace = \"CLK\"\n[register]\nsetup = {setup}
-hold = {hold}\nleast = {least}\ngreatest = {greatest}\n{rest}"
-    )?;
-    Ok(read_tech(alloc, text.as_bytes(), &used_kinds(circuit))?)
-}
 
 fn pair(row: (u32, u32, i128, i128)) -> PairDelay {
     PairDelay {
