@@ -1,11 +1,12 @@
--- Climbs from register to register by their parents: they go one way only, and one of as many steps as
+-- Climbs from register to register by their parents: they go one way only, and one of as many steps
+-- as
 -- there are registers ends on a ring.
-use Rattle.std.proofs.Common.{ℕ, zero, suc, ◌≡◌, ◌≢◌, ◌<◌, ◌≤◌, ◌+◌, List, [], ◌∷◌, ◌++◌, length, map, Option, Some, None, refl, sym, ◌∙◌, ap, subst, arith, All, AllPairs, ⊎_elim, ◌⊎◌, inl, inr, eqb, Bool, true, get_or, Contains}
+use Rattle.std.proofs.Common.{ℕ, suc, ◌≡◌, ◌≢◌, ◌<◌, ◌≤◌, List, [], ◌∷◌, ◌++◌, length, map, Option, Some, None, refl, sym, ◌∙◌, ap, subst, arith, All, AllPairs, ⊎_elim, ◌⊎◌, inl, inr, eqb, true, Contains}
 use Rattle.std.proofs.lemmas.Bool.{cases_eq, eqb-true}
 use Rattle.std.proofs.lemmas.Bool.Decides.{Decides-eqb}
 use Rattle.std.proofs.lemmas.Option.{slice_get_within, get_or_from_slice_get}
 use Rattle.std.proofs.lemmas.List.{length-append, length-map, get_or_default}
-use Rattle.std.proofs.lemmas.List.Elements.{All-nil, All-cons, All-head, All-tail, All-contains}
+use Rattle.std.proofs.lemmas.List.Elements.{All-nil, All-cons, All-contains}
 use Rattle.std.proofs.lemmas.List.Kept.{AllPairs-cons}
 use Rattle.std.proofs.lemmas.List.Folds.{Any-from_list_any}
 use Rattle.std.proofs.lemmas.Map.Made.{IsDistinct-from_AllPairs}
@@ -21,7 +22,8 @@ use Rattle.critical_cycle.specs.Trials.{parent_of, Climbs}
 -- a parent stands where it is said to stand
 pub parent_place : (constraints : List Constraint) (parents : List ℕ) (register : ℕ)
     → (parent : Constraint) → parent_of constraints parents register ≡ Some parent
-    → (place : ℕ) × (slice_get parents register ≡ Some place) × (slice_get constraints place ≡ Some parent)
+    → (place : ℕ) × (slice_get parents register ≡ Some place)
+    × (slice_get constraints place ≡ Some parent)
 parent_place constraints parents register parent is = at (slice_get parents register) refl is
   where
     at : (o : Option ℕ) → slice_get parents register ≡ o
@@ -63,7 +65,8 @@ module _ (constraints : List Constraint) (parents : List ℕ) where
   moved_ring from (first ∷ ring) (step ∷ above) to some (reads, round) (same, climb) =
       let one : first ≡ step = cc in
       let next = climbs_push first.tail ring from first round reads in
-      let here = subst (λ c. Climbs constraints parents c.tail (ring ++ first ∷ []) c.tail) one next in
+      let here = subst (λ c. Climbs constraints parents c.tail (ring ++ first ∷ []) c.tail) one
+      next in
       let size = length-append ring (first ∷ []) in
       let more = moved_ring step.tail (ring ++ first ∷ []) above to (omega arith) here climb in
       (more.0, omega (arith, more.1), more.2)
@@ -72,7 +75,8 @@ module _ (constraints : List Constraint) (parents : List ℕ) where
   comes_by : (register from : ℕ) (above : List Constraint) (to : ℕ)
       → Climbs constraints parents from above to
       → ((front : List Constraint) × (back : List Constraint) × (length front ≤ length above)
-      × Climbs constraints parents from front register × Climbs constraints parents register back to)
+      × Climbs constraints parents from front register × Climbs constraints parents register back
+      to)
       ⊎ All (λ number. register ≢ number) (from ∷ tails above)
   comes_by register from [] to climb =
       let P : ℕ → Type 0 = λ number. register ≢ number in
@@ -83,7 +87,14 @@ module _ (constraints : List Constraint) (parents : List ℕ) where
   comes_by register from (step ∷ above) to (reads, climb) =
       let P : ℕ → Type 0 = λ number. register ≢ number in
       ⊎_elim
-      (λ same. inl ([], step ∷ above, omega arith, sym same, subst (λ r. Climbs constraints parents r (step ∷ above) to) (sym same) (reads, climb)))
+      (λ same. inl (
+        [],
+        step ∷ above,
+        omega arith,
+        sym same,
+        subst
+            (λ r. Climbs constraints parents r (step ∷ above) to) (sym same) (reads, climb),
+      ))
       (λ other. ⊎_elim
       (λ found. inl (step ∷ found.0, found.1, omega (arith, found.2), (reads, found.3), found.4))
       (λ apart. inr (All-cons P from (step.tail ∷ tails above) other apart))
@@ -91,7 +102,8 @@ module _ (constraints : List Constraint) (parents : List ℕ) where
       (cases_eq register from)
 
   -- a climb ends on a ring, or comes by no register twice
-  ring_or_once : (from : ℕ) (above : List Constraint) (to : ℕ) → Climbs constraints parents from above to
+  ring_or_once : (from : ℕ) (above : List Constraint) (to : ℕ) → Climbs constraints parents from
+      above to
       → ((ring : List Constraint) × (0 < length ring) × (length ring ≤ length above)
       × Climbs constraints parents to ring to)
       ⊎ AllPairs (λ first second. first ≢ second) (from ∷ tails above)
@@ -109,7 +121,8 @@ module _ (constraints : List Constraint) (parents : List ℕ) where
       (ring_or_once step.tail above to climb)
     where
       closed : (front back : List Constraint) → length front ≤ length above
-          → Climbs constraints parents step.tail front from → Climbs constraints parents from back to
+          → Climbs constraints parents step.tail front from → Climbs constraints parents from back
+          to
           → (ring : List Constraint) × (0 < length ring) × (length ring ≤ suc (length above))
           × Climbs constraints parents to ring to
       closed front back short round rest =
@@ -120,28 +133,39 @@ module _ (constraints : List Constraint) (parents : List ℕ) where
   fewer : (registers : ℕ) (numbers : List ℕ) → AllPairs (λ first second. first ≢ second) numbers
       → All (λ number. number < registers) numbers → length numbers ≤ registers
   fewer registers numbers once below =
-      length-le_from_distinct_below numbers registers (IsDistinct-from_AllPairs Decides-eqb numbers once)
-      (λ number listed. All-contains (λ n. n < registers) numbers number below (found number listed))
+      length-le_from_distinct_below numbers registers
+      (IsDistinct-from_AllPairs Decides-eqb numbers once)
+      (λ number listed. All-contains (λ n. n < registers) numbers number below
+      (found number listed))
     where
       found : (number : ℕ) → list_any (eqb number) numbers ≡ true → Contains numbers number
       found number listed =
-          let any = Any-from_list_any (eqb number) numbers listed in
-          (any.0, any.2, get_or_default numbers any.0 number any.1 any.2 ∙ any.3 ∙ sym (eqb-true number any.1 any.4))
+          let any = Any-from_list_any (eqb number) numbers listed in (
+            any.0,
+            any.2,
+            get_or_default numbers any.0 number any.1 any.2 ∙ any.3
+                ∙ sym (eqb-true number any.1 any.4),
+          )
 
   -- a climb leads to registers only
-  climbs_below : AreSmallConstraints (length parents) constraints → (from : ℕ) (above : List Constraint)
+  climbs_below : AreSmallConstraints (length parents) constraints
+      → (from : ℕ) (above : List Constraint)
       → (to : ℕ) → Climbs constraints parents from above to → from < length parents
       → All (λ number. number < length parents) (from ∷ tails above)
   climbs_below small from [] to climb within =
-      let P : ℕ → Type 0 = λ number. number < length parents in All-cons P from [] within (All-nil P)
+      let P : ℕ → Type 0 = λ number. number < length parents in All-cons P from [] within
+      (All-nil P)
   climbs_below small from (step ∷ above) to (reads, climb) within =
       let P : ℕ → Type 0 = λ number. number < length parents in
       let stands = parent_place constraints parents from step reads in
-      let next = (all_at (IsSmallConstraint (length parents)) constraints small.each stands.0 step stands.2).tail in
-      All-cons P from (step.tail ∷ tails above) within (climbs_below small step.tail above to climb next)
+      let next = (all_at (IsSmallConstraint (length parents)) constraints small.each stands.0 step
+      stands.2).tail in
+      All-cons P from (step.tail ∷ tails above) within
+      (climbs_below small step.tail above to climb next)
 
   -- whoever climbs from a register has a parent of it
-  first_within : AreSmallConstraints (length parents) constraints → (from : ℕ) (above : List Constraint)
+  first_within : AreSmallConstraints (length parents) constraints
+      → (from : ℕ) (above : List Constraint)
       → (to : ℕ) → length above ≡ length parents → Climbs constraints parents from above to
       → from < length parents
   first_within small from [] to long climb = absurd (omega (arith, small.some))
@@ -174,7 +198,8 @@ IsDirect to from (step ∷ above) = (from ≢ to) × IsDirect to step.tail above
 
 module _ (constraints : List Constraint) (parents : List ℕ) where
   -- a climb up to where it first comes to its end
-  pub direct_climb : (from : ℕ) (above : List Constraint) (to : ℕ) → Climbs constraints parents from above to
+  pub direct_climb : (from : ℕ) (above : List Constraint) (to : ℕ) → Climbs constraints parents
+      from above to
       → (direct : List Constraint) × Climbs constraints parents from direct to
       × IsDirect to from direct × (length direct ≤ length above)
   direct_climb from [] to climb = ([], climb, tt, omega arith)
@@ -193,7 +218,8 @@ module _ (constraints : List Constraint) (parents : List ℕ) where
   same_direct to from [] [] climb direct again alike = refl
   same_direct to from [] (step ∷ other) climb direct again alike = absurd (alike.0 climb)
   same_direct to from (step ∷ above) [] climb direct again alike = absurd (direct.0 again)
-  same_direct to from (step ∷ above) (next ∷ other) (reads, climb) direct (reads_again, again) alike =
+  same_direct to from (step ∷ above) (next ∷ other) (reads, climb) direct (reads_again, again)
+      alike =
       let one : next ≡ step = cc in
       ap suc (same_direct to step.tail above other climb direct.1
       (subst (λ c. Climbs constraints parents c.tail other to) one again)

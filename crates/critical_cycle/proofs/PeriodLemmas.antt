@@ -1,5 +1,5 @@
 -- What is shown when the search ends is the least period, and what the answers exclude.
-use Rattle.std.proofs.Common.{ℕ, ◌≡◌, ◌<◌, ◌≤◌, ◌++◌, ℤ, pos, ◌*ℤ◌, ◌≤ℤ◌, ◌<ℤ◌, List, take, drop, sym, ◌∙◌, ap, subst, arith, All, Contains}
+use Rattle.std.proofs.Common.{ℕ, ◌≡◌, ◌++◌, ℤ, pos, ◌*ℤ◌, ◌<ℤ◌, List, take, drop, arith, All, Contains}
 use Rattle.std.specs.Prelude.{nat_abs, ◌↔◌}
 use Rattle.std.proofs.lemmas.Int.{ints}
 use Rattle.std.proofs.lemmas.List.Elements.{All-contains_itself}
@@ -21,7 +21,8 @@ use Rattle.critical_cycle.proofs.Turns.{turned_cycle, turned_weight, turned_coun
 among : (constraints : List Constraint) (cycle : List ℕ) → AreWithin constraints cycle
     → All (Contains constraints) (constraints_at constraints cycle)
 among constraints cycle within =
-    All-constraints_at (Contains constraints) constraints cycle (All-contains_itself constraints) within
+    All-constraints_at (Contains constraints) constraints cycle (All-contains_itself constraints)
+    within
 
 -- a value that a cycle shows and that is admitted is the least
 least_shown : (constraints : List Constraint) (floor : ℤ) (cycle : List ℕ) (value : Fraction)
@@ -35,8 +36,10 @@ least_shown constraints floor cycle value shown arrival satisfied =
       proper = omega (arith, ints, size, shown.valid.proper);
       admitted = (omega (arith, ints), (arrival, satisfied));
       least = λ scale period some below admits.
-          shown_period_is_least constraints (constraints_at constraints cycle) value.num (nat_abs value.den)
-          scale period admits.1.0 (among constraints cycle shown.within) shown.shows below admits.1.1;
+          shown_period_is_least constraints (constraints_at constraints cycle) value.num
+          (nat_abs value.den)
+          scale period admits.1.0 (among constraints cycle shown.within) shown.shows below
+          admits.1.1;
     }
 
 -- it is shown by the turned cycle too
@@ -80,19 +83,23 @@ pub never_exactly : (constraints : List Constraint) (floor : ℤ) (period : Peri
 never_exactly constraints floor (Cycle value cycle) is =
     let admitted = is.least.admitted.1 in (
       λ never. absurd never,
-      λ has. forbidden_at_all constraints has.0 (nat_abs value.den) value.num admitted.0 has.1 has.2 is.least.proper admitted.1,
+      λ has. forbidden_at_all constraints has.0 (nat_abs value.den) value.num admitted.0 has.1
+          has.2 is.least.proper admitted.1,
     )
 never_exactly constraints floor Floor is =
     let admitted = is.admitted.1 in (
       λ never. absurd never,
       λ has. forbidden_at_all constraints has.0 1 floor admitted.0 has.1 has.2 is.proper admitted.1,
     )
-never_exactly constraints floor (Never cycle) is =
-    (λ never. (constraints_at constraints cycle, among constraints cycle is.within, is.forbids), λ has. tt)
+never_exactly constraints floor (Never cycle) is = (
+  λ never. (constraints_at constraints cycle, among constraints cycle is.within, is.forbids),
+  λ has. tt,
+)
 
 -- and the floor exactly where it is the least period
 pub floor_exactly : (constraints : List Constraint) (floor : ℤ) (period : Period)
-    → IsPeriodOf constraints floor period → IsFloor period ↔ IsLeastPeriodOf constraints floor floor 1
+    → IsPeriodOf constraints floor period → IsFloor period ↔ IsLeastPeriodOf constraints floor
+    floor 1
 floor_exactly constraints floor (Cycle value cycle) is =
     let above : (floor *ℤ pos (nat_abs value.den)) <ℤ value.num =
     rw (size_is value.den value.lowest.some_den) is.above in (
@@ -102,6 +109,7 @@ floor_exactly constraints floor (Cycle value cycle) is =
 floor_exactly constraints floor Floor is = (λ floor. is, λ least. tt)
 floor_exactly constraints floor (Never cycle) is = (
   λ never. absurd never,
-  λ least. forbidden_at_all constraints (constraints_at constraints cycle) 1 floor least.admitted.1.0
+  λ least. forbidden_at_all constraints (constraints_at constraints cycle) 1 floor
+      least.admitted.1.0
       (among constraints cycle is.within) is.forbids least.proper least.admitted.1.1,
 )

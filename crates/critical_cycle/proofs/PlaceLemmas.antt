@@ -1,5 +1,5 @@
 -- The constraints at places of a list: one for each place.
-use Rattle.std.proofs.Common.{ℕ, ◌≡◌, ◌<◌, ◌≤◌, List, [], ◌∷◌, length, get_or, refl, sym, ◌∙◌, ap, subst, All, map, suc, false, pos}
+use Rattle.std.proofs.Common.{ℕ, ◌≡◌, ◌<◌, ◌≤◌, List, [], ◌∷◌, length, get_or, refl, sym, ◌∙◌, ap, subst, All, suc, false, pos}
 use Rattle.std.proofs.lemmas.List.Elements.{All-nil, All-cons, All-head, All-tail}
 use Rattle.std.proofs.lemmas.Option.{slice_get-get_or}
 use Rattle.std.specs.List.{cons_option}
@@ -12,22 +12,14 @@ unread : Constraint
 unread = record { setup = false; tail = 0; head = 0; weight = pos 0 }
 
 -- the constraint at the first place comes first
-pub constraints_at-cons : (constraints : List Constraint) (place : ℕ) (places : List ℕ) (d : Constraint)
+pub constraints_at-cons : (constraints : List Constraint) (place : ℕ) (places : List ℕ)
+    (d : Constraint)
     → place < length constraints
     → constraints_at constraints (place ∷ places)
     ≡ get_or constraints place d ∷ constraints_at constraints places
 constraints_at-cons constraints place places d within =
-    ap (λ o. cons_option o (constraints_at constraints places)) (slice_get-get_or constraints place d within)
-
--- so they are read one by one
-pub constraints_at-map : (constraints : List Constraint) (places : List ℕ) (d : Constraint)
-    → AreWithin constraints places
-    → constraints_at constraints places ≡ map (λ place. get_or constraints place d) places
-constraints_at-map constraints [] d within = refl
-constraints_at-map constraints (place ∷ places) d within =
-    let P : ℕ → Type 0 = λ n. n < length constraints in
-    constraints_at-cons constraints place places d (All-head P place places within)
-    ∙ ap (λ cs. get_or constraints place d ∷ cs) (constraints_at-map constraints places d (All-tail P place places within))
+    ap (λ o. cons_option o (constraints_at constraints places))
+    (slice_get-get_or constraints place d within)
 
 -- they are as many as the places
 pub length-constraints_at : (constraints : List Constraint) (places : List ℕ)
@@ -39,13 +31,15 @@ length-constraints_at constraints (place ∷ places) within =
     ∙ ap suc (length-constraints_at constraints places (All-tail P place places within))
 
 -- the tail at a place is that of the constraint there
-tail_at_is : (constraints : List Constraint) (place : ℕ) (d : Constraint) → place < length constraints
+tail_at_is : (constraints : List Constraint) (place : ℕ) (d : Constraint)
+    → place < length constraints
     → tail_at constraints place ≡ (get_or constraints place d).tail
 tail_at_is constraints place d within =
-    ap (λ o. option_map_or (λ (c : Constraint). c.tail) o 0) (slice_get-get_or constraints place d within)
+    ap (λ o. option_map_or (λ (c : Constraint). c.tail) o 0)
+    (slice_get-get_or constraints place d within)
 
 -- what holds of the tails at places holds of those of the constraints there
-pub All-tails : (Q : ℕ → Type 0) (constraints : List Constraint) (places : List ℕ)
+All-tails : (Q : ℕ → Type 0) (constraints : List Constraint) (places : List ℕ)
     → AreWithin constraints places → All (λ place. Q (tail_at constraints place)) places
     → All (λ constraint. Q constraint.tail) (constraints_at constraints places)
 All-tails Q constraints [] within each = All-nil (λ (c : Constraint). Q c.tail)
@@ -53,10 +47,13 @@ All-tails Q constraints (place ∷ places) within each =
     let P : ℕ → Type 0 = λ n. n < length constraints in
     let S : ℕ → Type 0 = λ n. Q (tail_at constraints n) in
     let here = All-head P place places within in
-    subst (All (λ (c : Constraint). Q c.tail)) (sym (constraints_at-cons constraints place places unread here))
-    (All-cons (λ (c : Constraint). Q c.tail) (get_or constraints place unread) (constraints_at constraints places)
+    subst (All (λ (c : Constraint). Q c.tail))
+    (sym (constraints_at-cons constraints place places unread here))
+    (All-cons (λ (c : Constraint). Q c.tail) (get_or constraints place unread)
+    (constraints_at constraints places)
     (subst Q (tail_at_is constraints place unread here) (All-head S place places each))
-    (All-tails Q constraints places (All-tail P place places within) (All-tail S place places each)))
+    (All-tails Q constraints places (All-tail P place places within)
+    (All-tail S place places each)))
 
 -- the first constraint has the lowest tail where the first place has
 pub from_lowest : (constraints : List Constraint) (place : ℕ) (places : List ℕ)
@@ -67,9 +64,11 @@ from_lowest constraints place places within lowest =
     let P : ℕ → Type 0 = λ n. n < length constraints in
     let here = All-head P place places within in
     let whole = constraints_at-cons constraints place places unread here in
-    let each = All-tails (λ n. tail_at constraints place ≤ n) constraints (place ∷ places) within lowest in
+    let each = All-tails (λ n. tail_at constraints place ≤ n) constraints (place ∷ places) within
+    lowest in
     subst IsFromLowest (sym whole)
-    (subst (λ low. All (λ (c : Constraint). low ≤ c.tail) (get_or constraints place unread ∷ constraints_at constraints places))
+    (subst (λ low. All (λ (c : Constraint). low ≤ c.tail)
+    (get_or constraints place unread ∷ constraints_at constraints places))
     (tail_at_is constraints place unread here)
     (subst (All (λ (c : Constraint). tail_at constraints place ≤ c.tail)) whole each))
 

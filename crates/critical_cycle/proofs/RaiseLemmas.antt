@@ -29,7 +29,7 @@ gains_together den num weight weights count counts total sum =
     omega (arith, ints)
 
 -- the gain of a cycle by its sums
-pub total_gain-sums : (trial : Trial) (steps : List Constraint)
+total_gain-sums : (trial : Trial) (steps : List Constraint)
     → total_gain trial steps
     ≡ (trial.denominator *ℤ total_weight steps) -ℤ (trial.numerator *ℤ pos (total_count steps))
 total_gain-sums trial [] = nothing trial.denominator trial.numerator
@@ -39,7 +39,8 @@ total_gain-sums trial [] = nothing trial.denominator trial.numerator
 total_gain-sums trial (step ∷ steps) =
     ap (λ g. gain_of trial step +ℤ g) (total_gain-sums trial steps)
     ∙ gains_together trial.denominator trial.numerator step.weight (total_weight steps)
-    (count_of step) (total_count steps) (total_count (step ∷ steps)) (sum_by-cons count_of step steps)
+    (count_of step) (total_count steps) (total_count (step ∷ steps))
+    (sum_by-cons count_of step steps)
 
 -- a number of at least 1 is its size
 pub size_is : (number : ℤ) → pos 1 ≤ℤ number → pos (nat_abs number) ≡ number
@@ -59,7 +60,7 @@ positive num weight count den some above = by_lt_z (pos 0) weight
     absurd (omega (arith, ints)))
 
 -- the cycle's value is above the trial's
-pub value_above : (num weight value : ℤ) (den size count : ℕ) → 1 ≤ count → 1 ≤ size
+value_above : (num weight value : ℤ) (den size count : ℕ) → 1 ≤ count → 1 ≤ size
     → value *ℤ pos count ≡ weight *ℤ pos size → (pos count *ℤ num) <ℤ (weight *ℤ pos den)
     → (num *ℤ pos size) <ℤ (value *ℤ pos den)
 value_above num weight value den size count counts some is above =
@@ -77,7 +78,7 @@ value_above num weight value den size count counts some is above =
     absurd (omega (arith, ints)))
 
 -- the numerator is no larger than the weight
-pub numerator_below : (num weight : ℤ) (most : ℕ) → nat_abs num ≤ nat_abs weight
+numerator_below : (num weight : ℤ) (most : ℕ) → nat_abs num ≤ nat_abs weight
     → pos 0 <ℤ weight → weight ≤ℤ pos most → num ≤ℤ pos most
 numerator_below (pos a) (pos w) most smaller some low = omega (arith, ints)
 numerator_below (pos a) (negsuc w) most smaller some low = absurd (omega (arith, ints))
@@ -91,11 +92,15 @@ pub no_gain : (trial : Trial) (steps : List Constraint) (weight count : ℤ)
 no_gain trial steps weight count weighs counts kept =
     let total = total_gain-sums trial steps in
     by_lt_z (pos 0) (total_gain trial steps)
-    (λ more. absurd (kept (more_asked trial.numerator trial.denominator weight count (total_weight steps) (total_count steps) (total_gain trial steps) weighs counts total more)))
+    (λ more. absurd (kept (more_asked trial.numerator trial.denominator weight count
+    (total_weight steps) (total_count steps) (total_gain trial steps) weighs counts total
+    more)))
     (λ less. less)
   where
-    more_asked : (num den weight count total : ℤ) (k : ℕ) (gain : ℤ) → weight ≡ total → count ≡ pos k
-        → gain ≡ (den *ℤ total) -ℤ (num *ℤ pos k) → pos 0 <ℤ gain → (count *ℤ num) <ℤ (weight *ℤ den)
+    more_asked : (num den weight count total : ℤ) (k : ℕ) (gain : ℤ) → weight ≡ total → count
+        ≡ pos k
+        → gain ≡ (den *ℤ total) -ℤ (num *ℤ pos k) → pos 0 <ℤ gain
+        → (count *ℤ num) <ℤ (weight *ℤ den)
     more_asked num den weight count total k gain weighs counts is more =
         rw (weighs, counts) (omega (arith, ints))
 
@@ -111,7 +116,8 @@ never_counts trial steps weight count weighs counts none above =
     rw den (rw (weighs, counts) at above) in
     record {
       counts = omega (arith, ints);
-      asks = positive trial.numerator (total_weight steps) (total_count steps) (nat_abs trial.denominator) low over;
+      asks = positive trial.numerator (total_weight steps) (total_count steps)
+          (nat_abs trial.denominator) low over;
     }
 
 -- the value that the sums make is above the trial's
@@ -126,20 +132,27 @@ raised trial steps value weight count weighs counts small some above is num den 
     let over : (pos (total_count steps) *ℤ trial.numerator)
     <ℤ (total_weight steps *ℤ pos (nat_abs trial.denominator)) =
     rw trial_size (rw (weighs, counts) at above) in
-    let same : value.num *ℤ pos (total_count steps) ≡ total_weight steps *ℤ pos (nat_abs value.den) =
+    let same : value.num *ℤ pos (total_count steps) ≡ total_weight steps *ℤ pos
+    (nat_abs value.den) =
     rw size (rw (weighs, counts) at is) in
-    let asks = positive trial.numerator (total_weight steps) (total_count steps) (nat_abs trial.denominator) trial.valid.positive over in
-    let higher : (trial.numerator *ℤ pos (nat_abs value.den)) <ℤ (value.num *ℤ pos (nat_abs trial.denominator)) =
-    value_above trial.numerator (total_weight steps) value.num (nat_abs trial.denominator) (nat_abs value.den) (total_count steps) some (omega (arith, ints, size, value.lowest.some_den)) same over in
+    let asks = positive trial.numerator (total_weight steps) (total_count steps)
+    (nat_abs trial.denominator) trial.valid.positive over in
+    let higher : (trial.numerator *ℤ pos (nat_abs value.den))
+    <ℤ (value.num *ℤ pos (nat_abs trial.denominator)) =
+    value_above trial.numerator (total_weight steps) value.num (nat_abs trial.denominator)
+    (nat_abs value.den) (total_count steps) some
+    (omega (arith, ints, size, value.lowest.some_den)) same over in
     let asks_more : pos 0 <ℤ value.num =
-    positive trial.numerator value.num (nat_abs value.den) (nat_abs trial.denominator) trial.valid.positive (omega (arith, ints)) in
+    positive trial.numerator value.num (nat_abs value.den) (nat_abs trial.denominator)
+    trial.valid.positive (omega (arith, ints)) in
     record {
       counts = some;
       value_is = swapped (pos (nat_abs value.den)) (total_weight steps) _ same;
       above = rw (size, trial_size) at higher;
       valid = record {
         positive = omega (arith, ints);
-        small = numerator_below value.num (total_weight steps) (4097 * 10 ^ 11) (rw weighs at num) asks small.below;
+        small = numerator_below value.num (total_weight steps) (4097 * 10 ^ 11) (rw weighs at num)
+            asks small.below;
         proper = value.lowest.some_den;
         low = omega (arith, ints, small.count, den);
       };
@@ -149,6 +162,7 @@ raised trial steps value weight count weighs counts small some above is num den 
     swapped a b c is = omega (arith, ints)
 
 -- a count that isn't 0 is at least 1
-pub counts_some : (count : ℤ) (times : ℕ) → count ≡ pos times → (of_z w128 count ≡ 0 → ⊥) → 1 ≤ times
+pub counts_some : (count : ℤ) (times : ℕ) → count ≡ pos times → (of_z w128 count ≡ 0 → ⊥)
+    → 1 ≤ times
 counts_some count zero is some = absurd (some (ap (of_z w128) is))
 counts_some count (suc times) is some = omega arith

@@ -1,5 +1,6 @@
--- Going round a ring of parents: the constraints gone by lead on from the register reached to the first.
-use Rattle.std.proofs.Common.{ℕ, ◌≡◌, ◌≢◌, ◌<◌, ◌≤◌, ◌+◌, ◌-◌, ℤ, pos, ◌+ℤ◌, ◌<ℤ◌, List, [], ◌∷◌, ◌++◌, length, set, drop, Option, Some, refl, sym, ◌∙◌, ap, subst, arith, All, AllPairs, get_or}
+-- Going round a ring of parents: the constraints gone by lead on from the register reached to the
+-- first.
+use Rattle.std.proofs.Common.{ℕ, ◌≡◌, ◌≢◌, ◌<◌, ◌≤◌, ◌+◌, ◌-◌, ℤ, pos, ◌+ℤ◌, ◌<ℤ◌, List, [], ◌∷◌, ◌++◌, length, set, drop, Some, refl, sym, ◌∙◌, ap, subst, arith, All, AllPairs, get_or}
 use Rattle.std.proofs.lemmas.Int.{ints}
 use Rattle.std.proofs.lemmas.List.{length-set, length-append, length-drop, drop-set, drop_all}
 use Rattle.std.proofs.lemmas.List.Elements.{All-nil, All-cons, All-head, All-tail}
@@ -19,7 +20,8 @@ use Rattle.critical_cycle.proofs.Climbs.{climbs_push, direct_climb, IsDirect, no
 
 -- a gain that is added last counts as one that is added first
 gains_push : (trial : Trial) (constraints : List Constraint) (next : Constraint)
-    → total_gain trial (constraints ++ next ∷ []) ≡ gain_of trial next +ℤ total_gain trial constraints
+    → total_gain trial (constraints ++ next ∷ []) ≡ gain_of trial next +ℤ total_gain trial
+    constraints
 gains_push trial [] next = refl
 gains_push trial (first ∷ constraints) next =
     swapped (gain_of trial first) (gain_of trial next) _ (total_gain trial constraints)
@@ -28,7 +30,8 @@ gains_push trial (first ∷ constraints) next =
     swapped : (a b c d : ℤ) → c ≡ b +ℤ d → a +ℤ c ≡ b +ℤ (a +ℤ d)
     swapped a b c d is = omega (arith, ints)
 
--- the places from there on are those of constraints that were climbed from the first register, which
+-- the places from there on are those of constraints that were climbed from the first register,
+-- which
 -- lead back to it from the register reached
 pub record IsGone (constraints : List Constraint) (parents places : List ℕ)
     (start at register : ℕ) : Type 0 where
@@ -37,11 +40,13 @@ pub record IsGone (constraints : List Constraint) (parents places : List ℕ)
   pub long : at + length climbed ≡ length places
   pub within : AreWithin constraints (drop at places)
   pub leads : Leads register (constraints_at constraints (drop at places)) start
-  pub once : AllPairs (λ first second. first.tail ≢ second.tail) (constraints_at constraints (drop at places))
+  pub once : AllPairs (λ first second. first.tail ≢ second.tail)
+      (constraints_at constraints (drop at places))
   pub gained : (trial : Trial)
       → total_gain trial climbed ≡ total_gain trial (constraints_at constraints (drop at places))
 
--- what is left to climb: a parent of the register reached, and more up to the first register, all by
+-- what is left to climb: a parent of the register reached, and more up to the first register, all
+-- by
 -- registers that weren't passed
 pub record IsLeft (constraints : List Constraint) (parents places : List ℕ)
     (start at register : ℕ) : Type 0 where
@@ -61,18 +66,22 @@ pub record IsRoundWalk (constraints : List Constraint) (parents places : List �
 
 module _ (constraints : List Constraint) (parents : List ℕ) where
   -- at first nothing is gone by
-  none_gone : (places : List ℕ) (start : ℕ) → IsGone constraints parents places start (length places) start
+  none_gone : (places : List ℕ) (start : ℕ) → IsGone constraints parents places start
+      (length places) start
   none_gone places start =
       let none = drop_all (length places) places (omega arith) in
       record {
         climbed = [];
         climbs = refl;
         long = omega arith;
-        within = subst (AreWithin constraints) (sym none) (All-nil (λ place. place < length constraints));
+        within = subst (AreWithin constraints) (sym none)
+            (All-nil (λ place. place < length constraints));
         leads = subst (λ ps. Leads start (constraints_at constraints ps) start) (sym none) refl;
-        once = subst (λ ps. AllPairs (λ (first second : Constraint). first.tail ≢ second.tail) (constraints_at constraints ps)) (sym none)
+        once = subst (λ ps. AllPairs (λ (first second : Constraint). first.tail ≢ second.tail)
+            (constraints_at constraints ps)) (sym none)
             (λ i j d before within. absurd (omega arith));
-        gained = λ trial. subst (λ ps. pos 0 ≡ total_gain trial (constraints_at constraints ps)) (sym none) refl;
+        gained = λ trial. subst (λ ps. pos 0 ≡ total_gain trial (constraints_at constraints ps))
+            (sym none) refl;
       }
 
   -- the parent of the register reached comes before what is gone by
@@ -92,7 +101,8 @@ module _ (constraints : List Constraint) (parents : List ℕ) where
         ∙ ap (λ o. cons_option o (constraints_at constraints (drop at places))) here
 
     gone_more : (start register : ℕ) → IsGone constraints parents places start at register → 0 < at
-        → slice_get constraints place ≡ Some next → parent_of constraints parents register ≡ Some next
+        → slice_get constraints place ≡ Some next → parent_of constraints parents register
+        ≡ Some next
         → next.head ≡ register
         → All (λ gone. next.tail ≢ gone.tail) (constraints_at constraints (drop at places))
         → IsGone constraints parents (set places (at - 1) place) start (at - 1) next.tail
@@ -103,10 +113,18 @@ module _ (constraints : List Constraint) (parents : List ℕ) where
         let whole = steps_are some room here in
         record {
           climbed = gone.climbed ++ next ∷ [];
-          climbs = climbs_push constraints parents start gone.climbed register next gone.climbs reads;
-          long = omega (arith, length-set places (at - 1) place, length-append gone.climbed (next ∷ []), gone.long);
+          climbs = climbs_push constraints parents start gone.climbed register next gone.climbs
+              reads;
+          long = omega (
+            arith,
+            length-set places (at - 1) place,
+            length-append gone.climbed
+                (next ∷ []),
+            gone.long,
+          );
           within = subst (AreWithin constraints) (sym (before_is some room here))
-              (All-cons (λ n. n < length constraints) place (drop at places) (slice_get_within constraints place next here) gone.within);
+              (All-cons (λ n. n < length constraints) place (drop at places)
+              (slice_get_within constraints place next here) gone.within);
           leads = subst (λ cs. Leads next.tail cs start) (sym whole)
               (refl, subst (λ r. Leads r steps start) (sym head) gone.leads);
           once = subst (AllPairs R) (sym whole) (AllPairs-cons R next steps apart gone.once);
@@ -119,7 +137,8 @@ module _ (constraints : List Constraint) (parents : List ℕ) where
   left_more : (places : List ℕ) (start at : ℕ) (next : Constraint) (rest : List Constraint)
       → Climbs constraints parents next.tail rest start → IsDirect start next.tail rest
       → next.tail ≢ start → length rest ≤ at
-      → All (λ step. All (λ gone. step.tail ≢ gone.tail) (constraints_at constraints (drop at places))) rest
+      → All (λ step. All (λ gone. step.tail ≢ gone.tail)
+      (constraints_at constraints (drop at places))) rest
       → IsLeft constraints parents places start at next.tail
   left_more places start at next [] climbs direct goes_on fits apart = absurd (goes_on climbs)
   left_more places start at next (step ∷ rest) climbs direct goes_on fits apart = record {
@@ -156,14 +175,18 @@ module _ (constraints : List Constraint) (parents : List ℕ) where
               climbs = direct.1;
               direct = direct.2;
               fits = omega (arith, direct.3);
-              apart = λ k d within. subst (λ ps. All (λ (gone : Constraint). (get_or (next ∷ direct.0) k d).tail ≢ gone.tail) (constraints_at constraints ps)) (sym none)
-                  (All-nil (λ (gone : Constraint). (get_or (next ∷ direct.0) k d).tail ≢ gone.tail));
+              apart = λ k d within. subst
+                  (λ ps. All (λ (gone : Constraint). (get_or (next ∷ direct.0) k d).tail ≢
+                  gone.tail) (constraints_at constraints ps)) (sym none)
+                  (All-nil (λ (gone : Constraint). (get_or (next ∷ direct.0) k d).tail ≢
+                  gone.tail));
             };
           }
 
-  module _ (places : List ℕ) (start at register : ℕ) (walk : IsRoundWalk constraints parents places start at register) where
+  module _ (places : List ℕ) (start at register : ℕ)
+      (walk : IsRoundWalk constraints parents places start at register) where
     -- the parent that is read is the next step
-    pub read_place : slice_get constraints (get_or parents register 0) ≡ Some walk.left.next
+    read_place : slice_get constraints (get_or parents register 0) ≡ Some walk.left.next
     read_place =
         let stands = parent_place constraints parents register walk.left.next walk.left.reads in
         subst (λ n. slice_get constraints n ≡ Some walk.left.next)
@@ -175,61 +198,87 @@ module _ (constraints : List Constraint) (parents : List ℕ) where
         slice_get_within parents register stands.0 stands.1
 
     pub place_within : get_or parents register 0 < length constraints
-    place_within = slice_get_within constraints (get_or parents register 0) walk.left.next read_place
+    place_within = slice_get_within constraints (get_or parents register 0) walk.left.next
+        read_place
 
     read_step : (d : Constraint) → get_or constraints (get_or parents register 0) d ≡ walk.left.next
-    read_step d = get_or_from_slice_get constraints (get_or parents register 0) walk.left.next d read_place
+    read_step d = get_or_from_slice_get constraints (get_or parents register 0) walk.left.next d
+        read_place
 
-    module _ (heads : (r : ℕ) (parent : Constraint) → parent_of constraints parents r ≡ Some parent → parent.head ≡ r) where
+    module _ (heads : (r : ℕ) (parent : Constraint) → parent_of constraints parents r ≡ Some parent
+        → parent.head ≡ r) where
       -- it leads to what is gone by
-      next_gone : IsGone constraints parents (set places (at - 1) (get_or parents register 0)) start (at - 1) walk.left.next.tail
+      next_gone : IsGone constraints parents (set places (at - 1) (get_or parents register 0))
+          start (at - 1) walk.left.next.tail
       next_gone =
           gone_more places at (get_or parents register 0) walk.left.next start register walk.gone
           (omega (arith, walk.left.fits)) read_place walk.left.reads
           (heads register walk.left.next walk.left.reads)
-          (All-head (λ (step : Constraint). All (λ (gone : Constraint). step.tail ≢ gone.tail) (constraints_at constraints (drop at places))) walk.left.next walk.left.rest walk.left.apart)
+          (All-head (λ (step : Constraint). All (λ (gone : Constraint). step.tail ≢ gone.tail)
+          (constraints_at constraints (drop at places))) walk.left.next walk.left.rest
+          walk.left.apart)
 
       -- the walk goes on where it isn't back
       pub round_next : (d : Constraint)
           → (get_or constraints (get_or parents register 0) d).tail ≢ start
-          → IsRoundWalk constraints parents (set places (at - 1) (get_or parents register 0)) start (at - 1)
+          → IsRoundWalk constraints parents (set places (at - 1) (get_or parents register 0)) start
+          (at - 1)
           (get_or constraints (get_or parents register 0) d).tail
       round_next d goes_on =
           let same = sym (read_step d) in
           let after = set places (at - 1) (get_or parents register 0) in
-          let on : walk.left.next.tail ≢ start = subst (λ (c : Constraint). c.tail ≢ start) (read_step d) goes_on in
+          let on : walk.left.next.tail ≢ start = subst (λ (c : Constraint). c.tail ≢ start)
+          (read_step d) goes_on in
           let steps = constraints_at constraints (drop at places) in
           let room : at ≤ length places = omega (arith, walk.gone.long) in
-          let whole = steps_are places at (get_or parents register 0) walk.left.next (omega (arith, walk.left.fits)) room read_place in
-          let unlike = not_passed constraints parents start walk.left.next.tail walk.left.rest walk.left.climbs walk.left.direct
+          let whole = steps_are places at (get_or parents register 0) walk.left.next
+          (omega (arith, walk.left.fits)) room read_place in
+          let unlike = not_passed constraints parents start walk.left.next.tail walk.left.rest
+          walk.left.climbs walk.left.direct
           walk.left.next.tail walk.left.rest walk.left.climbs walk.left.direct (omega arith) in
-          let before = All-tail (λ (step : Constraint). All (λ (gone : Constraint). step.tail ≢ gone.tail) steps) walk.left.next walk.left.rest walk.left.apart in
-          subst (λ (c : Constraint). IsRoundWalk constraints parents after start (at - 1) c.tail) same (record {
+          let before = All-tail (λ (step : Constraint). All
+          (λ (gone : Constraint). step.tail ≢ gone.tail) steps) walk.left.next walk.left.rest
+          walk.left.apart in
+          subst (λ (c : Constraint). IsRoundWalk constraints parents after start (at - 1) c.tail)
+          same (record {
             gone = next_gone;
-            left = left_more after start (at - 1) walk.left.next walk.left.rest walk.left.climbs walk.left.direct on
+            left = left_more after start (at - 1) walk.left.next walk.left.rest walk.left.climbs
+                walk.left.direct on
                 (omega (arith, walk.left.fits))
-                (λ k e within. subst (All (λ (gone : Constraint). (get_or walk.left.rest k e).tail ≢ gone.tail)) (sym whole)
-                (All-cons (λ (gone : Constraint). (get_or walk.left.rest k e).tail ≢ gone.tail) walk.left.next steps
+                (λ k e within. subst (All (λ (gone : Constraint). (get_or walk.left.rest k e).tail
+                ≢ gone.tail)) (sym whole)
+                (All-cons (λ (gone : Constraint). (get_or walk.left.rest k e).tail ≢ gone.tail)
+                walk.left.next steps
                 (λ alike. unlike k e within (sym alike)) (before k e within)));
           })
 
       -- and where it is back, a cycle is gone by
       pub round_gone : (d : Constraint)
           → (get_or constraints (get_or parents register 0) d).tail ≡ start
-          → IsGone constraints parents (set places (at - 1) (get_or parents register 0)) start (at - 1) start
-      round_gone d back = subst (IsGone constraints parents (set places (at - 1) (get_or parents register 0)) start (at - 1))
+          → IsGone constraints parents (set places (at - 1) (get_or parents register 0)) start
+          (at - 1) start
+      round_gone d back = subst (IsGone constraints parents
+          (set places (at - 1) (get_or parents register 0)) start (at - 1))
           (ap (λ (c : Constraint). c.tail) (sym (read_step d)) ∙ back) next_gone
 
   -- what is gone by where the walk is back has a cycle's constraints
-  pub gone_cycle : (places : List ℕ) (start at : ℕ) → IsGone constraints parents places start at start
+  pub gone_cycle : (places : List ℕ) (start at : ℕ) → IsGone constraints parents places start at
+      start
       → at < length places → IsCycle (constraints_at constraints (drop at places))
   gone_cycle places start at gone some =
       cycle_from_closed (constraints_at constraints (drop at places)) start
-      (omega (arith, length-constraints_at constraints (drop at places) gone.within, length-drop at places)) gone.leads gone.once
+      (omega (
+        arith,
+        length-constraints_at constraints (drop at places) gone.within,
+        length-drop at
+            places,
+      )) gone.leads gone.once
 
   -- and a total above 0
-  pub gone_gains : (places : List ℕ) (start at : ℕ) → IsGone constraints parents places start at start
-      → at < length places → (trial : Trial) (values : List ℤ) → AreParents constraints trial values parents
+  pub gone_gains : (places : List ℕ) (start at : ℕ) → IsGone constraints parents places start at
+      start
+      → at < length places → (trial : Trial) (values : List ℤ) → AreParents constraints trial
+      values parents
       → pos 0 <ℤ total_gain trial (constraints_at constraints (drop at places))
   gone_gains places start at gone some trial values are =
       subst (λ total. pos 0 <ℤ total) (gone.gained trial)

@@ -1,9 +1,8 @@
 -- What a trial and a raise leave shown.
-use Rattle.std.proofs.Common.{ℕ, ◌≡◌, ◌<◌, ◌≤◌, ◌+◌, ◌*◌, ◌^◌, ℤ, pos, ◌*ℤ◌, ◌≤ℤ◌, ◌<ℤ◌, List, Option, Some, None, refl, sym, ◌∙◌, ap, subst, arith, false}
+use Rattle.std.proofs.Common.{ℕ, ◌≡◌, ◌<◌, ◌≤◌, ◌+◌, ◌*◌, ◌^◌, ℤ, pos, ◌*ℤ◌, ◌≤ℤ◌, ◌<ℤ◌, List, Option, Some, None, refl, sym, ◌∙◌, subst, arith, false}
 use Rattle.std.specs.Prelude.{MatchOption, nat_abs}
 use Rattle.std.proofs.Math.Nat.{mul-le-mul_left}
 use Rattle.std.proofs.lemmas.Int.{ints, by_lt_z}
-use Rattle.cts_base.specs.declared.fraction.Fraction.{Fraction}
 use Rattle.cts_model.specs.declared.constraint.Constraint.{Constraint}
 use Rattle.cts_model.specs.Constraints.{AreSmallConstraints, Satisfies}
 use Rattle.critical_cycle.specs.Searches.{ClosesWithNext}
@@ -15,10 +14,9 @@ use Rattle.critical_cycle.specs.declared.shown.Shown.{Shown}
 use Rattle.critical_cycle.specs.declared.shown.Shown.TheVariants.{Floor, Value, Never}
 use Rattle.critical_cycle.specs.declared.trial.Trial.{Trial}
 use Rattle.critical_cycle.specs.CyclePlaces.{AreWithin, constraints_at}
-use Rattle.critical_cycle.specs.Raises.{IsRaise, IsRaisedTo}
+use Rattle.critical_cycle.specs.Raises.{IsRaise}
 use Rattle.critical_cycle.specs.Relaxing.{SatisfiesTrial}
 use Rattle.critical_cycle.specs.ShownPeriods.{CanTry, IsRaisedBy, IsSettled, IsShown, IsTrialOf, raises_left, steps_below}
-use Rattle.critical_cycle.specs.TrialSizes.{IsTrial}
 use Rattle.critical_cycle.specs.Trials.{total_gain, value_of}
 use Rattle.critical_cycle.proofs.RaiseLemmas.{size_is}
 use Rattle.critical_cycle.proofs.Steps.{steps_below-less}
@@ -35,7 +33,8 @@ settled_at constraints floor Floor trial relaxation can_try at satisfies = (
 )
 settled_at constraints floor (Value value) trial relaxation can_try at satisfies = (
   value_of relaxation.values.items,
-  subst (λ n. Satisfies constraints (nat_abs value.den) n (value_of relaxation.values.items)) at.numerator_is
+  subst (λ n. Satisfies constraints (nat_abs value.den) n (value_of relaxation.values.items))
+      at.numerator_is
       (satisfies (nat_abs value.den) (size_is value.den can_try.proper ∙ sym at.denominator_is)),
 )
 settled_at constraints floor Never trial relaxation can_try at satisfies = absurd at
@@ -47,7 +46,8 @@ outcome P Q R S None left right here = left here
 outcome P Q R S (Some register) left right here = right register here
 
 -- the floor is no longer than the trial's period
-floor_below : (constraints : List Constraint) (floor : ℤ) (cycle : List ℕ) (shown : Shown) (trial : Trial)
+floor_below : (constraints : List Constraint) (floor : ℤ) (cycle : List ℕ) (shown : Shown)
+    (trial : Trial)
     → IsShown constraints floor cycle shown → IsTrialOf floor shown trial
     → (floor *ℤ trial.denominator) ≤ℤ trial.numerator
 floor_below constraints floor cycle Floor trial is at =
@@ -70,34 +70,42 @@ above_floor floor num value den size low above =
 
 -- the raises that are left from the trial on
 left_at : (floor : ℤ) (shown : Shown) (trial : Trial) → IsTrialOf floor shown trial
-    → raises_left floor shown ≡ 1 + steps_below (pos (4097 * 10 ^ 11)) trial.numerator trial.denominator
+    → raises_left floor shown ≡ 1 + steps_below (pos (4097 * 10 ^ 11)) trial.numerator
+    trial.denominator
 left_at floor Floor trial at = rw (at.numerator_is, at.denominator_is)
 left_at floor (Value value) trial at = rw (at.numerator_is, at.denominator_is)
 left_at floor Never trial at = absurd at
 
 -- the trial's period isn't long enough for a cycle with a total above 0
-pub not_kept : (trial : Trial) (steps : List Constraint) (says : Raise) → pos 0 <ℤ total_gain trial steps
+pub not_kept : (trial : Trial) (steps : List Constraint) (says : Raise) → pos 0 <ℤ total_gain trial
+    steps
     → IsRaise trial steps says → says ≡ raise.Keep → ⊥
 not_kept trial steps raise.Keep gains keep is = omega (arith, ints)
 not_kept trial steps (raise.To value) gains to is = cc
 not_kept trial steps raise.Never gains never is = cc
 
 -- a cycle that the trial's period isn't long enough for shows more, and leaves fewer raises
-pub raise_shows : (constraints : List Constraint) (floor : ℤ) (before cycle : List ℕ) (old new : Shown)
-    → (trial : Trial) (says : Raise) → IsShown constraints floor before old → IsTrialOf floor old trial
+pub raise_shows : (constraints : List Constraint) (floor : ℤ) (before cycle : List ℕ)
+    (old new : Shown)
+    → (trial : Trial) (says : Raise) → IsShown constraints floor before old
+    → IsTrialOf floor old trial
     → AreWithin constraints cycle → IsCycle (constraints_at constraints cycle)
     → (says ≡ raise.Keep → ⊥)
     → IsRaise trial (constraints_at constraints cycle) says → IsRaisedBy says old new
     → IsShown constraints floor cycle new × (raises_left floor new < raises_left floor old)
-raise_shows constraints floor before cycle old new trial raise.Keep is at within is_cycle goes_on keep by =
+raise_shows constraints floor before cycle old new trial raise.Keep is at within is_cycle goes_on
+    keep by =
     absurd (goes_on refl)
-raise_shows constraints floor before cycle old new trial (raise.To value) is at within is_cycle goes_on to by =
+raise_shows constraints floor before cycle old new trial (raise.To value) is at within is_cycle
+    goes_on to by =
     let low = floor_below constraints floor before old trial is at in
     let size = size_is value.den to.valid.proper in
     let trial_size = size_is trial.denominator trial.valid.proper in
-    let over = above_floor floor trial.numerator value.num (nat_abs trial.denominator) (nat_abs value.den)
+    let over = above_floor floor trial.numerator value.num (nat_abs trial.denominator)
+    (nat_abs value.den)
     (rw trial_size low) (rw (size, trial_size) to.above) in
-    let less = steps_below-less (4097 * 10 ^ 11) trial.numerator trial.denominator value.num value.den
+    let less = steps_below-less (4097 * 10 ^ 11) trial.numerator trial.denominator value.num
+    value.den
     trial.valid to.valid trial.valid.small to.valid.small to.above in
     rw by (
       record {
@@ -108,7 +116,8 @@ raise_shows constraints floor before cycle old new trial (raise.To value) is at 
       },
       omega (arith, left_at floor old trial at),
     )
-raise_shows constraints floor before cycle old new trial raise.Never is at within is_cycle goes_on never by =
+raise_shows constraints floor before cycle old new trial raise.Never is at within is_cycle goes_on
+    never by =
     rw by (
       record {
         within = within;

@@ -1,6 +1,5 @@
 -- How many fractions of small denominators are left below the greatest: fewer after each raise.
-use Rattle.std.proofs.Common.{ℕ, zero, suc, ◌≡◌, ◌<◌, ◌≤◌, ◌+◌, ◌-◌, ◌*◌, ◌/◌, ◌^◌, ℤ, pos, negsuc, ◌*ℤ◌, ◌≤ℤ◌, ◌<ℤ◌, ap, arith, ⊎_elim}
-use Rattle.std.specs.Prelude.{nat_abs}
+use Rattle.std.proofs.Common.{ℕ, suc, ◌≡◌, ◌<◌, ◌≤◌, ◌+◌, ◌-◌, ◌*◌, ◌/◌, ℤ, pos, negsuc, ◌*ℤ◌, ◌≤ℤ◌, ◌<ℤ◌, ap, arith, ⊎_elim}
 use Rattle.std.proofs.Math.Nat.{mul-le-mul_left, div-mul-le_self}
 use Rattle.std.proofs.lemmas.Bool.{cases_lt}
 use Rattle.std.proofs.lemmas.Int.{ints}
@@ -23,7 +22,8 @@ fewer_steps steps most num den more size some some_size apart low high above =
     let floor = div-mul-le_self (steps * x) size in
     le-div (suc taken) (steps * y) den (omega arith)
     (⊎_elim
-    (λ short. absurd (crossed steps most num den more size x y taken some_size apart above whole_x whole_y floor short))
+    (λ short. absurd (crossed steps most num den more size x y taken some_size apart above whole_x
+    whole_y floor short))
     (λ enough. enough)
     (cases_lt (steps * y) (suc taken * den)))
   where
@@ -34,7 +34,13 @@ fewer_steps steps most num den more size some some_size apart low high above =
         let first = ap (λ n. den * n) whole_x in
         let second = ap (λ n. size * n) whole_y in
         let step : den * x + 1 ≤ size * y = omega arith in
-        omega (arith, mul-le-mul_left steps step, mul-le-mul_left den floor, mul-le-mul_left size short)
+        omega (
+          arith,
+          mul-le-mul_left steps step,
+          mul-le-mul_left den floor,
+          mul-le-mul_left size
+              short,
+        )
 
 -- so there are fewer steps below the greater of two trials
 pub steps_below-less : (most : ℕ) (num den more size : ℤ) → IsTrial num den → IsTrial more size

@@ -25,7 +25,8 @@ constraints_at-more constraints cycle i d more within =
     (constraints_at-cons constraints (get_or cycle i 0) [] d (within i 0 more))
 
 -- its weight is added
-pub weight_more : (constraints : List Constraint) (cycle : List ℕ) (i : ℕ) (d : Constraint) (sum more : ℤ)
+pub weight_more : (constraints : List Constraint) (cycle : List ℕ) (i : ℕ) (d : Constraint)
+    (sum more : ℤ)
     → i < length cycle → AreWithin constraints cycle
     → sum ≡ total_weight (constraints_at constraints (take i cycle))
     → more ≡ sum +ℤ (get_or constraints (get_or cycle i 0) d).weight
@@ -41,7 +42,8 @@ weight_more constraints cycle i d sum more inside within is next =
     alone a = omega (arith, ints)
 
 -- and its count
-pub count_more : (constraints : List Constraint) (cycle : List ℕ) (i : ℕ) (d : Constraint) (sum more : ℤ)
+pub count_more : (constraints : List Constraint) (cycle : List ℕ) (i : ℕ) (d : Constraint)
+    (sum more : ℤ)
     → i < length cycle → AreWithin constraints cycle
     → sum ≡ pos (total_count (constraints_at constraints (take i cycle)))
     → more ≡ sum +ℤ pos (count_of (get_or constraints (get_or cycle i 0) d))
@@ -104,9 +106,11 @@ small_sums constraints cycle within few small =
     }
 
 -- also part of the way
-pub part_small : (constraints : List Constraint) (cycle : List ℕ) (i : ℕ) → AreWithin constraints cycle
+pub part_small : (constraints : List Constraint) (cycle : List ℕ) (i : ℕ)
+    → AreWithin constraints cycle
     → length cycle ≤ 4097 → All (λ constraint. IsBelow (10 ^ 11) constraint.weight) constraints
     → AreSmallSums (constraints_at constraints (take i cycle))
 part_small constraints cycle i within few small =
-    small_sums constraints (take i cycle) (All-take (λ place. place < length constraints) i cycle within)
+    small_sums constraints (take i cycle)
+    (All-take (λ place. place < length constraints) i cycle within)
     (omega (arith, length-take i cycle)) small

@@ -14,16 +14,20 @@ use Rattle.critical_cycle.proofs.PlaceLemmas.{from_lowest}
 
 -- the lowest tail comes first where the cycle is turned to it
 pub turned_from_lowest : (constraints : List Constraint) (cycle turned : List ℕ) (turn : ℕ)
-    → AreWithin constraints cycle → turn < length cycle → turned ≡ drop turn cycle ++ take turn cycle
+    → AreWithin constraints cycle → turn < length cycle → turned ≡ drop turn cycle
+    ++ take turn cycle
     → ((other : ℕ) → other < length cycle
     → tail_at constraints (slice_index cycle turn) ≤ tail_at constraints (slice_index cycle other))
     → IsFromLowest (constraints_at constraints turned)
 turned_from_lowest constraints cycle turned turn within inside is lowest =
     let first = slice_index cycle turn in
     let back = drop (turn + 1) cycle ++ take turn cycle in
-    let parts : turned ≡ first ∷ back = is ∙ ap (λ l. l ++ take turn cycle) (drop_more cycle turn 0 inside) in
+    let parts : turned ≡ first ∷ back = is ∙ ap (λ l. l ++ take turn cycle)
+    (drop_more cycle turn 0 inside) in
     let kept : (P : ℕ → Type 0) → All P cycle → All P (first ∷ back) =
-    λ P each. subst (All P) (sym is ∙ parts) (All-append P (drop turn cycle) (take turn cycle) (All-drop P turn cycle each) (All-take P turn cycle each)) in
+    λ P each. subst (All P) (sym is ∙ parts)
+    (All-append P (drop turn cycle) (take turn cycle) (All-drop P turn cycle each)
+    (All-take P turn cycle each)) in
     let Above : ℕ → Type 0 = λ n. tail_at constraints first ≤ tail_at constraints n in
     subst (λ ps. IsFromLowest (constraints_at constraints ps)) (sym parts)
     (from_lowest constraints first back (kept (λ n. n < length constraints) within)
@@ -44,12 +48,14 @@ leads_joined from (first ∷ front) back middle to (tail, leads) rest =
     (tail, leads_joined first.head front back middle to leads rest)
 
 -- a cycle is what leads back to its first register
-closed : (cycle : List Constraint) → IsCycle cycle → (start : ℕ) × (0 < length cycle) × Leads start cycle start
+closed : (cycle : List Constraint) → IsCycle cycle → (start : ℕ) × (0 < length cycle)
+    × Leads start cycle start
 closed [] is_cycle = absurd is_cycle.closed
 closed (first ∷ cycle) is_cycle = (first.tail, omega arith, is_cycle.closed)
 
 -- constraints that lead back to their first register, with no tail twice, are a cycle
-pub cycle_from_closed : (cycle : List Constraint) (start : ℕ) → 0 < length cycle → Leads start cycle start
+pub cycle_from_closed : (cycle : List Constraint) (start : ℕ) → 0 < length cycle
+    → Leads start cycle start
     → AllPairs (λ first second. first.tail ≢ second.tail) cycle → IsCycle cycle
 cycle_from_closed [] start some leads once = absurd (omega arith)
 cycle_from_closed (first ∷ cycle) start some leads once = record {
@@ -66,7 +72,8 @@ once_turned front back once i j d before within same =
     let whole : length (front ++ back) ≡ length front + length back = length-append front back in
     ⊎_elim
     (λ low. once (length front + i) (length front + j) d (omega arith) (omega arith)
-    (tail (behind i) ∙ sym (tail (ahead i (omega arith))) ∙ same ∙ tail (ahead j low) ∙ sym (tail (behind j))))
+    (tail (behind i) ∙ sym (tail (ahead i (omega arith))) ∙ same ∙ tail (ahead j low)
+    ∙ sym (tail (behind j))))
     (λ high. ⊎_elim
     (λ low. once (j - length back) (length front + i) d (omega arith) (omega arith)
     (sym (tail (wrapped j high size)) ∙ sym same ∙ tail (ahead i low) ∙ sym (tail (behind i))))
@@ -107,13 +114,15 @@ total_weight-append [] back = nothing (total_weight back)
     nothing : (a : ℤ) → a ≡ pos 0 +ℤ a
     nothing a = omega (arith, ints)
 total_weight-append (first ∷ front) back =
-    joined first.weight (total_weight (front ++ back)) (total_weight front) (total_weight back) (total_weight-append front back)
+    joined first.weight (total_weight (front ++ back)) (total_weight front) (total_weight back)
+    (total_weight-append front back)
   where
     joined : (a b c d : ℤ) → b ≡ c +ℤ d → a +ℤ b ≡ (a +ℤ c) +ℤ d
     joined a b c d is = omega (arith, ints)
 
 -- the constraints of a cycle that is turned
-module _ (constraints : List Constraint) (cycle turned : List ℕ) (turn : ℕ) (is : turned ≡ drop turn cycle ++ take turn cycle) where
+module _ (constraints : List Constraint) (cycle turned : List ℕ) (turn : ℕ)
+    (is : turned ≡ drop turn cycle ++ take turn cycle) where
   parted : constraints_at constraints cycle
       ≡ constraints_at constraints (take turn cycle) ++ constraints_at constraints (drop turn cycle)
   parted = ap (constraints_at constraints) (sym (take-append-drop turn cycle))
@@ -125,13 +134,16 @@ module _ (constraints : List Constraint) (cycle turned : List ℕ) (turn : ℕ) 
       ∙ filter_map-append (slice_get constraints) (drop turn cycle) (take turn cycle)
 
   -- are a cycle
-  pub turned_cycle : IsCycle (constraints_at constraints cycle) → IsCycle (constraints_at constraints turned)
+  pub turned_cycle : IsCycle (constraints_at constraints cycle)
+      → IsCycle (constraints_at constraints turned)
   turned_cycle is_cycle = subst IsCycle (sym swapped)
-      (cycle_turned (constraints_at constraints (take turn cycle)) (constraints_at constraints (drop turn cycle))
+      (cycle_turned (constraints_at constraints (take turn cycle))
+      (constraints_at constraints (drop turn cycle))
       (subst IsCycle parted is_cycle))
 
   -- have the same weights
-  pub turned_weight : total_weight (constraints_at constraints turned) ≡ total_weight (constraints_at constraints cycle)
+  pub turned_weight : total_weight (constraints_at constraints turned)
+      ≡ total_weight (constraints_at constraints cycle)
   turned_weight =
       let front = constraints_at constraints (take turn cycle) in
       let back = constraints_at constraints (drop turn cycle) in
@@ -143,7 +155,8 @@ module _ (constraints : List Constraint) (cycle turned : List ℕ) (turn : ℕ) 
       turned_sum a b = omega (arith, ints)
 
   -- count the period as often
-  pub turned_count : total_count (constraints_at constraints turned) ≡ total_count (constraints_at constraints cycle)
+  pub turned_count : total_count (constraints_at constraints turned)
+      ≡ total_count (constraints_at constraints cycle)
   turned_count =
       let front = constraints_at constraints (take turn cycle) in
       let back = constraints_at constraints (drop turn cycle) in
@@ -155,4 +168,5 @@ module _ (constraints : List Constraint) (cycle turned : List ℕ) (turn : ℕ) 
   pub turned_within : AreWithin constraints cycle → AreWithin constraints turned
   turned_within within =
       let P : ℕ → Type 0 = λ place. place < length constraints in
-      subst (All P) (sym is) (All-append P (drop turn cycle) (take turn cycle) (All-drop P turn cycle within) (All-take P turn cycle within))
+      subst (All P) (sym is) (All-append P (drop turn cycle) (take turn cycle)
+      (All-drop P turn cycle within) (All-take P turn cycle within))

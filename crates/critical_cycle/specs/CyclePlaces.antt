@@ -20,11 +20,13 @@ IsFromLowest cycle =
 
 -- the tail of the constraint at a place
 abbrev pub tail_at : List Constraint → (place : ℕ) → ℕ
-tail_at constraints place = option_map_or (λ constraint. constraint.tail) (slice_get constraints place) 0
+tail_at constraints place = option_map_or (λ constraint. constraint.tail)
+    (slice_get constraints place) 0
 
 -- whoever climbs from some register makes as many steps as there are registers, to this one
-pub record EndsClimb (constraints : List Constraint) (parents : List ℕ) (register : ℕ) : Type 0 where
-  pub from : ℕ
-  pub above : List Constraint
-  pub long : length above ≡ length parents
-  pub climbs : Climbs constraints parents from above register
+pub record EndsClimb (constraints : List Constraint) (parents : List ℕ) (register : ℕ) : Type 0
+  where
+    pub from : ℕ
+    pub above : List Constraint
+    pub long : length above ≡ length parents
+    pub climbs : Climbs constraints parents from above register

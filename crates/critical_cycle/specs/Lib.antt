@@ -2,6 +2,7 @@ pub mod TrialSizes
 pub mod Trials
 pub mod Relaxing
 pub mod Sweeps
+pub mod Floors
 pub mod CyclePlaces
 pub mod Raises
 pub mod ShownPeriods

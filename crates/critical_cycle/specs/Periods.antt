@@ -1,6 +1,7 @@
--- The least period that constraints admit, at or above a floor, and the cycle that shows it. Fishburn,
+-- The least period that constraints admit, at or above a floor, and the cycle that shows it.
+-- Fishburn,
 -- "Clock Skew Optimization", 1990.
-use Rattle.std.specs.Prelude.{◌≡◌, ℕ, ℤ, pos, ◌*ℤ◌, ◌<ℤ◌, List, All, Contains, nat_abs}
+use Rattle.std.specs.Prelude.{ℕ, ℤ, ◌*ℤ◌, ◌<ℤ◌, List, All, Contains, nat_abs}
 use Rattle.cts_base.specs.declared.fraction.Fraction.{Fraction}
 use Rattle.cts_model.specs.declared.constraint.Constraint.{Constraint}
 use Rattle.cts_model.specs.Cycles.{ShowsPeriod, ForbidsPeriods, IsLeastPeriodOf}
@@ -23,7 +24,8 @@ pub record IsForbidden (constraints : List Constraint) (cycle : List ℕ) : Type
   pub forbids : ForbidsPeriods (constraints_at constraints cycle)
   pub lowest : IsFromLowest (constraints_at constraints cycle)
 
--- the answer is right: the least period, shown by a cycle or by the floor, or a cycle that forbids all
+-- the answer is right: the least period, shown by a cycle or by the floor, or a cycle that forbids
+-- all
 abbrev pub IsPeriodOf : List Constraint → (floor : ℤ) → Period → Type 0
 IsPeriodOf constraints floor (Cycle value cycle) = IsShownPeriod constraints floor value cycle
 IsPeriodOf constraints floor Floor = IsLeastPeriodOf constraints floor floor 1

@@ -2,7 +2,8 @@
 use Rattle.std.specs.Prelude.{◌≡◌, ◌≢◌, ◌<◌, ◌≤◌, ◌+◌, ℕ, List, drop, length, slice_index_or}
 use Rattle.cts_model.specs.declared.constraint.Constraint.{Constraint}
 use Rattle.critical_cycle.specs.Relaxing.{HasRoom, IsFarUp}
-use Rattle.critical_cycle.specs.ShownPeriods.{IsSmallFloor, IsShown, IsTrialOf}
+use Rattle.critical_cycle.specs.Floors.{IsSmallFloor}
+use Rattle.critical_cycle.specs.ShownPeriods.{IsShown, IsTrialOf}
 use Rattle.critical_cycle.specs.declared.search.Search.{Search}
 
 -- the places of the cycle that was gone round last

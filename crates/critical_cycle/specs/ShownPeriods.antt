@@ -1,5 +1,5 @@
 -- What the search for the least period has shown so far.
-use Rattle.std.specs.Prelude.{◌≡◌, ◌+◌, ◌*◌, ◌-◌, ◌/◌, ◌^◌, ℕ, ℤ, pos, ◌*ℤ◌, ◌≤ℤ◌, ◌<ℤ◌, List, nat_abs}
+use Rattle.std.specs.Prelude.{◌≡◌, ◌+◌, ◌*◌, ◌-◌, ◌/◌, ◌^◌, ℕ, ℤ, pos, ◌*ℤ◌, ◌<ℤ◌, List, nat_abs}
 use Rattle.cts_base.specs.declared.fraction.Fraction.{Fraction}
 use Rattle.cts_model.specs.declared.constraint.Constraint.{Constraint}
 use Rattle.cts_model.specs.Constraints.{Satisfies}
@@ -11,11 +11,6 @@ use Rattle.critical_cycle.specs.declared.shown.Shown.{Shown}
 use Rattle.critical_cycle.specs.declared.shown.Shown.TheVariants.{Floor, Value, Never}
 use Rattle.critical_cycle.specs.declared.raise.Raise.{Raise}
 use Rattle.critical_cycle.specs.declared.raise.Raise.TheVariants as raise
-
--- a floor from 0 to 1,000,000,000 ticks
-pub record IsSmallFloor (floor : ℤ) : Type 0 where
-  pub positive : pos 0 ≤ℤ floor
-  pub small : floor ≤ℤ pos (10 ^ 9)
 
 -- a cycle at these places shows the value, which is above the floor
 pub record IsValueShown (constraints : List Constraint) (floor : ℤ) (cycle : List ℕ)
@@ -66,7 +61,8 @@ IsSettled constraints floor (Value value) =
     (arrival : ℕ → ℤ) × Satisfies constraints (nat_abs value.den) value.num arrival
 IsSettled constraints floor Never = Unit {0}
 
--- how far a fraction is below the greatest, in steps smaller than two fractions of small denominators
+-- how far a fraction is below the greatest, in steps smaller than two fractions of small
+-- denominators
 -- are apart
 abbrev pub steps_below : (most numerator denominator : ℤ) → ℕ
 steps_below most numerator denominator =

@@ -4,7 +4,8 @@ ghost use Rattle.cts_model.specs.Cycles.{IsLeastPeriodOf};
 ghost use Rattle.critical_cycle.specs.CyclePlaces.{AreWithin, IsFromLowest, constraints_at};
 ghost use Rattle.critical_cycle.specs.Periods.{HasForbidding, IsFloor, IsNever, IsPeriodOf};
 ghost use Rattle.critical_cycle.specs.Searches.{IsSearch};
-ghost use Rattle.critical_cycle.specs.ShownPeriods.{IsSettled, IsSmallFloor};
+ghost use Rattle.critical_cycle.specs.Floors.{IsSmallFloor};
+ghost use Rattle.critical_cycle.specs.ShownPeriods.{IsSettled};
 
 use crate::ring::turn_to_lowest;
 use crate::search::Search;

@@ -4,7 +4,8 @@ ghost use Rattle.cts_model.specs.Constraints.{AreSmallConstraints};
 ghost use Rattle.cts_model.specs.Cycles.{IsCycle};
 ghost use Rattle.critical_cycle.specs.CyclePlaces.{AreWithin, constraints_at};
 ghost use Rattle.critical_cycle.specs.Searches.{ClosesWithNext, IsAtRing, IsSearch};
-ghost use Rattle.critical_cycle.specs.ShownPeriods.{IsSettled, IsSmallFloor, raises_left};
+ghost use Rattle.critical_cycle.specs.Floors.{IsSmallFloor};
+ghost use Rattle.critical_cycle.specs.ShownPeriods.{IsSettled, raises_left};
 
 use crate::raise::{Raise, raise_by};
 use crate::relaxation::Relaxation;

@@ -1,5 +1,6 @@
 ghost use Rattle.std.specs.Prelude.{MatchOption};
-ghost use Rattle.critical_cycle.specs.ShownPeriods.{CanTry, IsNeverAtAll, IsRaisedBy, IsSmallFloor, IsTrialOf};
+ghost use Rattle.critical_cycle.specs.Floors.{IsSmallFloor};
+ghost use Rattle.critical_cycle.specs.ShownPeriods.{CanTry, IsNeverAtAll, IsRaisedBy, IsTrialOf};
 
 use crate::raise::Raise;
 use crate::trial::Trial;

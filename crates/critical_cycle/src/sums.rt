@@ -23,7 +23,8 @@ impl Sums {
         requires few { length cycle.now ≤ 4097 }
         requires small { All (λ constraint. IsBelow (10 ^ 11) constraint.weight) constraints.now }
         ensures weight { result.weight ≡ total_weight (constraints_at constraints.now cycle.now) }
-        ensures count { result.count ≡ pos (total_count (constraints_at constraints.now cycle.now)) }
+        ensures count { result.count
+            ≡ pos (total_count (constraints_at constraints.now cycle.now)) }
     {
         let mut sums = Sums {
             weight: 0,

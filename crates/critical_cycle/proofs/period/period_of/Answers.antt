@@ -7,11 +7,18 @@ use Rattle.critical_cycle.proofs.period.period_of.Goals as goal
 
 pub returns-in-Value : goal.returns-in-Value
 returns-in-Value c =
-    let shown = subst (λ s. IsShown c.args.constraints.now c.args.search.floor (last_cycle c.args.search) s) c.in-Value.is c.requires.search.shown in
-    let settled = subst (λ s. IsSettled c.args.constraints.now c.args.search.floor s) c.in-Value.is c.requires.settled in
-    shown_turned c.args.constraints.now c.args.search.floor (last_cycle c.args.search) c.cycle_of.result c.cycle_of.ensures.turned.0 c.in-Value.value shown settled.0 settled.1 c.cycle_of.ensures.turned.1 c.cycle_of.ensures.lowest
+    let shown = subst (λ s. IsShown c.args.constraints.now c.args.search.floor
+    (last_cycle c.args.search) s) c.in-Value.is c.requires.search.shown in
+    let settled = subst (λ s. IsSettled c.args.constraints.now c.args.search.floor s) c.in-Value.is
+    c.requires.settled in
+    shown_turned c.args.constraints.now c.args.search.floor (last_cycle c.args.search)
+    c.cycle_of.result c.cycle_of.ensures.turned.0 c.in-Value.value shown settled.0 settled.1
+    c.cycle_of.ensures.turned.1 c.cycle_of.ensures.lowest
 
 pub returns-in-Never : goal.returns-in-Never
 returns-in-Never c =
-    let shown = subst (λ s. IsShown c.args.constraints.now c.args.search.floor (last_cycle c.args.search) s) c.in-Never.is c.requires.search.shown in
-    forbidden_turned c.args.constraints.now (last_cycle c.args.search) c.cycle_of-in-Never.result c.cycle_of-in-Never.ensures.turned.0 shown c.cycle_of-in-Never.ensures.turned.1 c.cycle_of-in-Never.ensures.lowest
+    let shown = subst (λ s. IsShown c.args.constraints.now c.args.search.floor
+    (last_cycle c.args.search) s) c.in-Never.is c.requires.search.shown in
+    forbidden_turned c.args.constraints.now (last_cycle c.args.search) c.cycle_of-in-Never.result
+    c.cycle_of-in-Never.ensures.turned.0 shown c.cycle_of-in-Never.ensures.turned.1
+    c.cycle_of-in-Never.ensures.lowest

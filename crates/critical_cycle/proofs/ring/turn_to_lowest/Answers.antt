@@ -4,5 +4,7 @@ use Rattle.critical_cycle.proofs.ring.turn_to_lowest.Goals as goal
 
 pub returns-clause-lowest : goal.returns-clause-lowest
 returns-clause-lowest c =
-    turned_from_lowest c.args.constraints.now c.args.cycle.now c.rotate_left.new.self c.place_of_lowest.result
-    c.requires.within c.place_of_lowest.ensures.within c.rotate_left.ensures.after c.place_of_lowest.ensures.lowest
+    turned_from_lowest c.args.constraints.now c.args.cycle.now c.rotate_left.new.self
+    c.place_of_lowest.result
+    c.requires.within c.place_of_lowest.ensures.within c.rotate_left.ensures.after
+    c.place_of_lowest.ensures.lowest

@@ -7,4 +7,9 @@ pub consider-requires-clause-few : goal.consider-requires-clause-few
 consider-requires-clause-few c =
     let search = c.requires.search in
     let closes = c.if-closes_with_next.ensures refl in
-    omega (arith, two_registers _ c.args.constraints.now c.args.place search.room.small closes, search.room.parents, search.places)
+    omega (
+      arith,
+      two_registers _ c.args.constraints.now c.args.place search.room.small closes,
+      search.room.parents,
+      search.places,
+    )

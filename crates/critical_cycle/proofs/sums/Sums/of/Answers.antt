@@ -6,18 +6,32 @@ use Rattle.critical_cycle.proofs.sums.Sums.of.Goals as goal
 
 pub and-sums-requires-clause-weight : goal.and-sums-requires-clause-weight
 and-sums-requires-clause-weight c =
-    let small = part_small c.args.constraints.now c.args.cycle.now c.loop-place.place-index c.requires.within c.requires.few c.requires.small in
+    let small = part_small c.args.constraints.now c.args.cycle.now c.loop-place.place-index
+    c.requires.within c.requires.few c.requires.small in
     let here = c.loop-place.invariant.0 in
-    record { above = omega (arith, ints, small.above, here); below = omega (arith, ints, small.below, here) }
+    record {
+      above = omega (arith, ints, small.above, here);
+      below =
+          omega (arith, ints, small.below, here);
+    }
 
 pub and-sums-requires-clause-count : goal.and-sums-requires-clause-count
 and-sums-requires-clause-count c =
-    let small = part_small c.args.constraints.now c.args.cycle.now c.loop-place.place-index c.requires.within c.requires.few c.requires.small in
+    let small = part_small c.args.constraints.now c.args.cycle.now c.loop-place.place-index
+    c.requires.within c.requires.few c.requires.small in
     let here = c.loop-place.invariant.1 in
-    record { above = omega (arith, ints, small.count, here); below = omega (arith, ints, small.count, here) }
+    record {
+      above = omega (arith, ints, small.count, here);
+      below =
+          omega (arith, ints, small.count, here);
+    }
 
 pub loop-place-preserved : goal.loop-place-preserved
 loop-place-preserved c = (
-  weight_more c.args.constraints.now c.args.cycle.now c.loop-place.place-index _ c.loop-place.sums.weight _ c.loop-place-test.true c.requires.within c.loop-place.invariant.0 c.and-sums.ensures.weight,
-  count_more c.args.constraints.now c.args.cycle.now c.loop-place.place-index _ c.loop-place.sums.count _ c.loop-place-test.true c.requires.within c.loop-place.invariant.1 c.and-sums.ensures.count,
+  weight_more c.args.constraints.now c.args.cycle.now c.loop-place.place-index _
+      c.loop-place.sums.weight _ c.loop-place-test.true c.requires.within c.loop-place.invariant.0
+      c.and-sums.ensures.weight,
+  count_more c.args.constraints.now c.args.cycle.now c.loop-place.place-index _
+      c.loop-place.sums.count _ c.loop-place-test.true c.requires.within c.loop-place.invariant.1
+      c.and-sums.ensures.count,
 )
