@@ -1,10 +1,8 @@
 use Rattle.std.proofs.Common.{◌∙◌, SFits, rules}
 use Rattle.std.specs.Int.{w128}
 use Rattle.std.proofs.lemmas.Int.{to_z-of_z}
-use Rattle.delay_tables.specs.Fractions.{AreLowestTerms}
-use Rattle.delay_tables.proofs.ToldTables.{is_table, wire_told}
+use Rattle.delay_tables.proofs.ToldTables.{is_table}
 use Rattle.toml.specs.View.{table_view}
-use Rattle.cts_model.specs.TableValues as told
 use Rattle.delay_tables.proofs.FlawlessTables.{is_top_within}
 use Rattle.delay_tables.proofs.table.table_told.Goals as goal
 
@@ -16,18 +14,19 @@ lowest_terms-wire-requires-clause-small c = rw (c.as_bytes.ensures.value, c.text
 
 pub invariant_of-result : goal.invariant_of-result
 invariant_of-result c =
-    let wire : AreLowestTerms (told.numerator_of c.as_bytes.result.now) (told.denominator_of c.as_bytes.result.now) c.lowest_terms-wire.result.num c.lowest_terms-wire.result.den = c.lowest_terms-wire.ensures in
-    let num_fits : SFits w128 c.from.result = search rules in
-    let den_fits : SFits w128 c.from-2.result = search rules in
+    let wire = c.lowest_terms-wire in
+    let num_fits : SFits w128 c.num.result = search rules in
+    let den_fits : SFits w128 c.den.result = search rules in
     let setup_fits : SFits w128 c.number_at.result = search rules in
     let hold_fits : SFits w128 c.number_at-2.result = search rules in
     let least_fits : SFits w128 c.number_at-3.result = search rules in
     let greatest_fits : SFits w128 c.number_at-4.result = search rules in
     let floor_fits : SFits w128 c.number_at-5.result = search rules in
     record {
-      valid = is_table (table_view c.args.document.now) _ _ _ _ _ _ _ _ _ _ _ _ c.requires.keys c.requires.order wire
-          (to_z-of_z w128 c.from.result num_fits ∙ c.from.ensures)
-          (to_z-of_z w128 c.from-2.result den_fits ∙ c.from-2.ensures)
+      valid = is_table (table_view c.args.document.now) wire.result _ _ _ _ _ _ _ _
+          c.requires.keys c.requires.order wire.ensures.num wire.ensures.den
+          (to_z-of_z w128 c.num.result num_fits ∙ c.num.ensures.value)
+          (to_z-of_z w128 c.den.result den_fits ∙ c.den.ensures.value)
           (record {
             setup_is = to_z-of_z w128 c.number_at.result setup_fits ∙ c.number_at.ensures;
             hold_is = to_z-of_z w128 c.number_at-2.result hold_fits ∙ c.number_at-2.ensures;
@@ -40,17 +39,18 @@ invariant_of-result c =
 
 pub returns : goal.returns
 returns c =
-    let num_fits : SFits w128 c.from.result = search rules in
-    let den_fits : SFits w128 c.from-2.result = search rules in
+    let wire = c.lowest_terms-wire.ensures.value in
+    let num_fits : SFits w128 c.num.result = search rules in
+    let den_fits : SFits w128 c.den.result = search rules in
     let setup_fits : SFits w128 c.number_at.result = search rules in
     let hold_fits : SFits w128 c.number_at-2.result = search rules in
     let least_fits : SFits w128 c.number_at-3.result = search rules in
     let greatest_fits : SFits w128 c.number_at-4.result = search rules in
     let floor_fits : SFits w128 c.number_at-5.result = search rules in
     record {
-      wire = wire_told _ c.as_bytes.result.now c.lowest_terms-wire.result.num c.lowest_terms-wire.result.den _ _ (c.as_bytes.ensures.value ∙ c.text_at.ensures) c.lowest_terms-wire.ensures
-          (to_z-of_z w128 c.from.result num_fits ∙ c.from.ensures)
-          (to_z-of_z w128 c.from-2.result den_fits ∙ c.from-2.ensures);
+      wire = rw (to_z-of_z w128 c.num.result num_fits, c.num.ensures.value)
+          (rw (to_z-of_z w128 c.den.result den_fits, c.den.ensures.value)
+          (rw (c.as_bytes.ensures.value, c.text_at.ensures) at wire));
       source = c.in_ok-name_at.ensures;
       setup = to_z-of_z w128 c.number_at.result setup_fits ∙ c.number_at.ensures;
       hold = to_z-of_z w128 c.number_at-2.result hold_fits ∙ c.number_at-2.ensures;
