@@ -1,8 +1,7 @@
-ghost use Rattle.std.specs.Prelude.{◌≡◌, pos, ◌*ℤ◌, true, min, position};
+ghost use Rattle.std.specs.Prelude.{◌≡◌, ◌≤◌, pos, ◌*ℤ◌, ◌≤ℤ◌, nat_abs, true, min, position};
 ghost use Rattle.std.specs.List.{list_all};
 ghost use Rattle.std.specs.Char.{is_ascii_digit};
 ghost use Rattle.std.specs.Str.Parse.{digits_value};
-ghost use Rattle.cts_model.specs.Tables.{IsWithin};
 ghost use Rattle.cts_model.specs.TableValues as told;
 
 use cts_base::Fraction;
@@ -31,8 +30,8 @@ pub(crate) fn lowest_terms(text: &[u8]) -> Fraction
     requires small { told.is_small_fraction text.now ≡ true }
     ensures value { (result.num *ℤ pos (told.denominator_of text.now))
         ≡ (pos (told.numerator_of text.now) *ℤ result.den) }
-    ensures num { IsWithin 1 1000000 result.num }
-    ensures den { IsWithin 1 1000000 result.den }
+    ensures num { nat_abs result.num ≤ told.numerator_of text.now }
+    ensures den { result.den ≤ℤ pos (told.denominator_of text.now) }
 {
     let num = capped_value(numerator_text(text));
     let den = capped_value(denominator_text(text));
