@@ -34,7 +34,7 @@ cross_less : (b more d rest : ℕ) → (b + more) * d ≡ (d + rest) * b → mor
 cross_less b more d rest same = grind arith
 
 -- where one numerator is above 0, so is the other
-some_factor : (a b c d : ℕ) → 0 < a → 0 < d → a * d ≡ c * b → 0 < c
+pub some_factor : (a b c d : ℕ) → 0 < a → 0 < d → a * d ≡ c * b → 0 < c
 some_factor a b (suc c) d some some_d same = omega arith
 some_factor (suc a) b zero (suc d) some some_d same = absurd (grind arith)
 some_factor zero b zero d some some_d same = some
@@ -121,7 +121,7 @@ one_size a b c d some_b some_d same lowest lowest' =
     one_lowest (a + b) a b c d (omega arith) are
 
 -- a number below 0 has no value of 0 or more
-other_sign : (a d c b : ℕ) → 0 < b → pos a *ℤ pos d ≡ negsuc c *ℤ pos b → ⊥
+pub other_sign : (a d c b : ℕ) → 0 < b → pos a *ℤ pos d ≡ negsuc c *ℤ pos b → ⊥
 other_sign a d c (suc b) some same = omega (arith, ints)
 other_sign a d c zero some same = omega arith
 

@@ -39,9 +39,6 @@ pub flaws_more : {X Y : Type 0} (view : X → Y) (flaw : Y → Option TableFlaw)
     → first_flaw flaw (map view (drop place xs)) ≡ option_or (flaw (view (get_or xs place other))) (first_flaw flaw (map view (drop (place + 1) xs)))
 flaws_more view flaw xs place other within = ap (λ rest. first_flaw flaw (map view rest)) (drop_more xs place other within)
 
-pub flaws_all : {X Y : Type 0} (view : X → Y) (flaw : Y → Option TableFlaw) (xs : List X) (place : ℕ) → length xs ≤ place → first_flaw flaw (map view (drop place xs)) ≡ None
-flaws_all view flaw xs place past = ap (λ rest. first_flaw flaw (map view rest)) (drop_all place xs past)
-
 chosen : (test : Bool) (flaw : TableFlaw) (next : Option TableFlaw) → cond test (Some flaw) next ≡ option_or (cond test (Some flaw) None) next
 chosen true flaw next = refl
 chosen false flaw next = refl

@@ -1,6 +1,6 @@
 -- The least of the names in a document that are no keys.
-use Rattle.std.proofs.Common.{◌≡◌, ℕ, ◌+◌, ◌<◌, ◌≤◌, Bool, true, false, not, ◌||◌, cond, List, [], ◌∷◌, ◌++◌, length, drop, get_or, map, Bor, Option, None, codes, String, Global, string_bytes, refl, sym, ap, ◌∙◌}
-use Rattle.std.proofs.lemmas.List.{drop_more, drop_all}
+use Rattle.std.proofs.Common.{◌≡◌, ℕ, ◌+◌, ◌<◌, Bool, true, false, not, ◌||◌, cond, List, [], ◌∷◌, ◌++◌, length, drop, get_or, map, Bor, Option, None, codes, String, Global, string_bytes, refl, sym, ap, ◌∙◌}
+use Rattle.std.proofs.lemmas.List.{drop_more}
 use Rattle.std.proofs.lemmas.List.Sums.{fold-append}
 use Rattle.std.proofs.lemmas.Grind.{flat_map-append}
 use Rattle.std.specs.List.{fold, flat_map, list_any}
@@ -59,10 +59,6 @@ pub least_more : {X Y : Type 0} (view : X → Y) (unknown : Y → List (List ℕ
 least_more view unknown least xs place other within =
     ap (λ rest. fold lesser_name least (flat_map unknown (map view rest))) (drop_more xs place other within)
     ∙ fold-append lesser_name least (unknown (view (get_or xs place other))) (flat_map unknown (map view (drop (place + 1) xs)))
-
-pub least_all : {X Y : Type 0} (view : X → Y) (unknown : Y → List (List ℕ)) (least : Option (List ℕ)) (xs : List X) (place : ℕ) → length xs ≤ place
-    → fold lesser_name least (flat_map unknown (map view (drop place xs))) ≡ least
-least_all view unknown least xs place past = ap (λ rest. fold lesser_name least (flat_map unknown (map view rest))) (drop_all place xs past)
 
 -- what the names that are left give stays
 pub least_next : (least next : Option (List ℕ)) (way known : List (List ℕ)) (name : List ℕ) (names all : List (List ℕ)) (total : Option (List ℕ)) → next ≡ fold lesser_name least (unknown_of way known (name ∷ [])) → all ≡ name ∷ names

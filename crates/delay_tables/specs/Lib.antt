@@ -1,3 +1,2 @@
-pub mod Fractions
 pub mod Keys
 pub mod Refusals

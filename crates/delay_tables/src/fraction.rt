@@ -1,20 +1,13 @@
-ghost use Rattle.std.specs.Prelude.{◌≡◌, ◌<◌, true, min, position};
+ghost use Rattle.std.specs.Prelude.{◌≡◌, ◌≤◌, pos, ◌*ℤ◌, ◌≤ℤ◌, nat_abs, true, min, position};
 ghost use Rattle.std.specs.List.{list_all};
 ghost use Rattle.std.specs.Char.{is_ascii_digit};
-ghost use Rattle.std.specs.Int.{IsGcd};
 ghost use Rattle.std.specs.Str.Parse.{digits_value};
 ghost use Rattle.cts_model.specs.TableValues as told;
-ghost use Rattle.delay_tables.specs.Fractions.{AreLowestTerms};
+
+use cts_base::Fraction;
 
 // The most of either number of a fraction.
 const MOST: u32 = 1_000_000;
-
-/// A fraction of two whole numbers.
-#[derive(Clone, Copy, Debug)]
-pub(crate) struct Ratio {
-    pub(crate) num: u32,
-    pub(crate) den: u32,
-}
 
 /// Whether a text is `a/b` or `a`, in digits.
 pub(crate) fn is_fraction(text: &[u8]) -> bool
@@ -32,19 +25,17 @@ pub(crate) fn is_small_fraction(text: &[u8]) -> bool
 }
 
 /// The fraction that a text writes, in lowest terms.
-pub(crate) fn lowest_terms(text: &[u8]) -> Ratio
+pub(crate) fn lowest_terms(text: &[u8]) -> Fraction
     requires form { told.is_fraction text.now ≡ true }
     requires small { told.is_small_fraction text.now ≡ true }
-    ensures { AreLowestTerms (told.numerator_of text.now) (told.denominator_of text.now)
-        result.num result.den }
+    ensures value { (result.num *ℤ pos (told.denominator_of text.now))
+        ≡ (pos (told.numerator_of text.now) *ℤ result.den) }
+    ensures num { nat_abs result.num ≤ told.numerator_of text.now }
+    ensures den { result.den ≤ℤ pos (told.denominator_of text.now) }
 {
     let num = capped_value(numerator_text(text));
     let den = capped_value(denominator_text(text));
-    let divisor = gcd(num, den);
-    Ratio {
-        num: num / divisor,
-        den: den / divisor,
-    }
+    Fraction::of(i128::from(num), i128::from(den))
 }
 
 fn numerator_text(text: &[u8]) -> &[u8]
@@ -101,19 +92,4 @@ fn capped_value(digits: &[u8]) -> u32
         value = (value * 10 + u32::from(*digit - b'0')).min(MOST + 1);
     }
     value
-}
-
-fn gcd(a: u32, b: u32) -> u32
-    requires { 0 < a }
-    ensures greatest { IsGcd a b result }
-    ensures some { 0 < result }
-{
-    let mut x = a;
-    let mut y = b;
-    while y != 0 {
-        let rest = x % y;
-        x = y;
-        y = rest;
-    }
-    x
 }

@@ -22,8 +22,8 @@ pub(crate) fn table_told(alloc: Global, document: &Table) -> Result<Tech, NoMemo
 {
     let wire = lowest_terms(text_at(document, &["wire"], "delay").as_bytes());
     Ok(Tech {
-        wire_num: i128::from(wire.num),
-        wire_den: i128::from(wire.den),
+        wire_num: wire.num(),
+        wire_den: wire.den(),
         source: name_at(alloc, document, "source")?,
         setup: number_at(document, &["register"], "setup"),
         hold: number_at(document, &["register"], "hold"),

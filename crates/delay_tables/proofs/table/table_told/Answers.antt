@@ -1,62 +1,61 @@
-use Rattle.std.proofs.Common.{◌∙◌, SFits, rules}
-use Rattle.std.specs.Int.{w128}
-use Rattle.std.proofs.lemmas.Int.{to_z-of_z}
-use Rattle.delay_tables.specs.Fractions.{AreLowestTerms}
-use Rattle.delay_tables.proofs.ToldTables.{is_table, wire_told}
+use Rattle.std.proofs.Common.{◌≡◌, [], ◌∷◌, codes, true, arith}
+use Rattle.std.proofs.lemmas.Int.{ints}
+use Rattle.cts_model.specs.TableValues.{text_at, is_small_fraction}
+use Rattle.delay_tables.proofs.Fractions.{numerator_within, denominator_within}
+use Rattle.delay_tables.proofs.ToldTables.{is_table, fraction_told}
 use Rattle.toml.specs.View.{table_view}
-use Rattle.cts_model.specs.TableValues as told
 use Rattle.delay_tables.proofs.FlawlessTables.{is_top_within}
 use Rattle.delay_tables.proofs.table.table_told.Goals as goal
 
 pub lowest_terms-wire-requires-clause-form : goal.lowest_terms-wire-requires-clause-form
-lowest_terms-wire-requires-clause-form c = rw (c.as_bytes.ensures.value, c.text_at.ensures) (is_top_within (table_view c.args.document.now) c.requires.keys).form
+lowest_terms-wire-requires-clause-form c =
+    let top = is_top_within (table_view c.args.document.now) c.requires.keys in
+    rw (c.as_bytes.ensures.value, c.text_at.ensures) top.form
 
 pub lowest_terms-wire-requires-clause-small : goal.lowest_terms-wire-requires-clause-small
-lowest_terms-wire-requires-clause-small c = rw (c.as_bytes.ensures.value, c.text_at.ensures) (is_top_within (table_view c.args.document.now) c.requires.keys).small
+lowest_terms-wire-requires-clause-small c =
+    let top = is_top_within (table_view c.args.document.now) c.requires.keys in
+    rw (c.as_bytes.ensures.value, c.text_at.ensures) top.small
 
 pub invariant_of-result : goal.invariant_of-result
 invariant_of-result c =
-    let wire : AreLowestTerms (told.numerator_of c.as_bytes.result.now) (told.denominator_of c.as_bytes.result.now) c.lowest_terms-wire.result.num c.lowest_terms-wire.result.den = c.lowest_terms-wire.ensures in
-    let num_fits : SFits w128 c.from.result = search rules in
-    let den_fits : SFits w128 c.from-2.result = search rules in
-    let setup_fits : SFits w128 c.number_at.result = search rules in
-    let hold_fits : SFits w128 c.number_at-2.result = search rules in
-    let least_fits : SFits w128 c.number_at-3.result = search rules in
-    let greatest_fits : SFits w128 c.number_at-4.result = search rules in
-    let floor_fits : SFits w128 c.number_at-5.result = search rules in
+    let wire = c.lowest_terms-wire in
+    let bytes = c.as_bytes.result.now in
+    let top = is_top_within (table_view c.args.document.now) c.requires.keys in
+    let small : is_small_fraction bytes ≡ true =
+    rw (c.as_bytes.ensures.value, c.text_at.ensures) top.small in
+    let lowest = wire.result.lowest in
+    let num = numerator_within bytes wire.result.num wire.result.den small lowest.some_den
+    wire.ensures.value wire.ensures.num in
+    let den = denominator_within bytes wire.result.den small lowest.some_den wire.ensures.den in
     record {
-      valid = is_table (table_view c.args.document.now) _ _ _ _ _ _ _ _ _ _ _ _ c.requires.keys c.requires.order wire
-          (to_z-of_z w128 c.from.result num_fits ∙ c.from.ensures)
-          (to_z-of_z w128 c.from-2.result den_fits ∙ c.from-2.ensures)
+      valid = is_table (table_view c.args.document.now) wire.result.num wire.result.den
+          _ _ _ _ _ _ _ _ c.requires.keys c.requires.order num den lowest
+          (omega (arith, ints)) (omega (arith, ints))
           (record {
-            setup_is = to_z-of_z w128 c.number_at.result setup_fits ∙ c.number_at.ensures;
-            hold_is = to_z-of_z w128 c.number_at-2.result hold_fits ∙ c.number_at-2.ensures;
-            least_is = to_z-of_z w128 c.number_at-3.result least_fits ∙ c.number_at-3.ensures;
-            greatest_is = to_z-of_z w128 c.number_at-4.result greatest_fits ∙ c.number_at-4.ensures;
-            floor_is = to_z-of_z w128 c.number_at-5.result floor_fits ∙ c.number_at-5.ensures;
+            setup_is = omega (arith, ints);
+            hold_is = omega (arith, ints);
+            least_is = omega (arith, ints);
+            greatest_is = omega (arith, ints);
+            floor_is = omega (arith, ints);
             gates_are = c.gate_delays.ensures;
           });
     }
 
 pub returns : goal.returns
 returns c =
-    let num_fits : SFits w128 c.from.result = search rules in
-    let den_fits : SFits w128 c.from-2.result = search rules in
-    let setup_fits : SFits w128 c.number_at.result = search rules in
-    let hold_fits : SFits w128 c.number_at-2.result = search rules in
-    let least_fits : SFits w128 c.number_at-3.result = search rules in
-    let greatest_fits : SFits w128 c.number_at-4.result = search rules in
-    let floor_fits : SFits w128 c.number_at-5.result = search rules in
+    let text = text_at (codes "wire" ∷ []) (codes "delay") (table_view c.args.document.now) in
+    let wire = c.lowest_terms-wire in
+    let value = rw (c.as_bytes.ensures.value, c.text_at.ensures) at wire.ensures.value in
     record {
-      wire = wire_told _ c.as_bytes.result.now c.lowest_terms-wire.result.num c.lowest_terms-wire.result.den _ _ (c.as_bytes.ensures.value ∙ c.text_at.ensures) c.lowest_terms-wire.ensures
-          (to_z-of_z w128 c.from.result num_fits ∙ c.from.ensures)
-          (to_z-of_z w128 c.from-2.result den_fits ∙ c.from-2.ensures);
+      wire = fraction_told text wire.result.num wire.result.den _ _ (omega (arith, ints))
+          (omega (arith, ints)) value;
       source = c.in_ok-name_at.ensures;
-      setup = to_z-of_z w128 c.number_at.result setup_fits ∙ c.number_at.ensures;
-      hold = to_z-of_z w128 c.number_at-2.result hold_fits ∙ c.number_at-2.ensures;
-      least = to_z-of_z w128 c.number_at-3.result least_fits ∙ c.number_at-3.ensures;
-      greatest = to_z-of_z w128 c.number_at-4.result greatest_fits ∙ c.number_at-4.ensures;
+      setup = omega (arith, ints);
+      hold = omega (arith, ints);
+      least = omega (arith, ints);
+      greatest = omega (arith, ints);
       host = c.in_ok-name_at-2.ensures;
-      floor = to_z-of_z w128 c.number_at-5.result floor_fits ∙ c.number_at-5.ensures;
+      floor = omega (arith, ints);
       gates = c.gate_delays.ensures;
     }

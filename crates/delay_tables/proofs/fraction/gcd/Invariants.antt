@@ -1,9 +1,0 @@
-use Rattle.std.proofs.Common.{ℕ}
-use Rattle.std.specs.Int.{IsGcd}
-use Rattle.delay_tables.proofs.fraction.gcd.Given as goal
-
-abbrev pub invariant-loop-y : goal.invariant-loop-y
-invariant-loop-y l = (divisor : ℕ) → IsGcd l.x l.y divisor → IsGcd l.fn.a l.fn.b divisor
-
-abbrev pub decreases-loop-y : goal.decreases-loop-y
-decreases-loop-y l = l.y
