@@ -1,6 +1,5 @@
 -- Climbs from register to register by their parents: they go one way only, and one of as many steps
--- as
--- there are registers ends on a ring.
+-- as there are registers ends on a ring.
 use Rattle.std.proofs.Common.{ℕ, suc, ◌≡◌, ◌≢◌, ◌<◌, ◌≤◌, List, [], ◌∷◌, ◌++◌, length, map, Option, Some, None, refl, sym, ◌∙◌, ap, subst, arith, All, AllPairs, ⊎_elim, ◌⊎◌, inl, inr, eqb, true, Contains}
 use Rattle.std.proofs.lemmas.Bool.{cases_eq, eqb-true}
 use Rattle.std.proofs.lemmas.Bool.Decides.{Decides-eqb}

@@ -31,8 +31,7 @@ gains_push trial (first ∷ constraints) next =
     swapped a b c d is = omega (arith, ints)
 
 -- the places from there on are those of constraints that were climbed from the first register,
--- which
--- lead back to it from the register reached
+-- which lead back to it from the register reached
 pub record IsGone (constraints : List Constraint) (parents places : List ℕ)
     (start at register : ℕ) : Type 0 where
   pub climbed : List Constraint
@@ -46,8 +45,7 @@ pub record IsGone (constraints : List Constraint) (parents places : List ℕ)
       → total_gain trial climbed ≡ total_gain trial (constraints_at constraints (drop at places))
 
 -- what is left to climb: a parent of the register reached, and more up to the first register, all
--- by
--- registers that weren't passed
+-- by registers that weren't passed
 pub record IsLeft (constraints : List Constraint) (parents places : List ℕ)
     (start at register : ℕ) : Type 0 where
   pub next : Constraint

@@ -1,6 +1,5 @@
 -- The least period that constraints admit, at or above a floor, and the cycle that shows it.
--- Fishburn,
--- "Clock Skew Optimization", 1990.
+-- Fishburn, "Clock Skew Optimization", 1990.
 use Rattle.std.specs.Prelude.{ℕ, ℤ, ◌*ℤ◌, ◌<ℤ◌, List, All, Contains, nat_abs}
 use Rattle.cts_base.specs.declared.fraction.Fraction.{Fraction}
 use Rattle.cts_model.specs.declared.constraint.Constraint.{Constraint}

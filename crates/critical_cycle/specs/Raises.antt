@@ -1,4 +1,5 @@
--- What a cycle says of a trial period.
+-- What a cycle says of a trial period. The next trial is at the cycle's own value: Dinkelbach, "On
+-- nonlinear fractional programming", 1967.
 use Rattle.std.specs.Prelude.{◌≡◌, ◌≤◌, pos, ◌*ℤ◌, ◌≤ℤ◌, ◌<ℤ◌, List, nat_abs}
 use Rattle.cts_base.specs.declared.fraction.Fraction.{Fraction}
 use Rattle.cts_model.specs.declared.constraint.Constraint.{Constraint}

@@ -62,8 +62,7 @@ IsSettled constraints floor (Value value) =
 IsSettled constraints floor Never = Unit {0}
 
 -- how far a fraction is below the greatest, in steps smaller than two fractions of small
--- denominators
--- are apart
+-- denominators are apart
 abbrev pub steps_below : (most numerator denominator : ℤ) → ℕ
 steps_below most numerator denominator =
     (4097 * 4097 * (nat_abs most * nat_abs denominator - nat_abs numerator)) / nat_abs denominator

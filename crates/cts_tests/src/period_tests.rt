@@ -172,7 +172,8 @@ fn overwrites_what_the_lists_hold(rt: HostRuntime) -> Result<(), Fail> {
     Ok(())
 }
 
-// Setup constraints of the greatest weight round 4,097 registers, and hold constraints of the least.
+// Setup constraints of the greatest weight round 4,097 registers, and hold constraints of the least
+// weight the other way.
 #[test]
 fn goes_round_every_register(rt: HostRuntime) -> Result<(), Fail> {
     let alloc = rt.alloc();
