@@ -58,7 +58,7 @@ raised text = if starts_with_minus (exponent text) then 0 else exponent_size tex
 unfoldable pub lowered : List ℕ → ℕ
 lowered text =
     length (fraction_digits text) + (if starts_with_minus (exponent text) then exponent_size text
-        else 0)
+    else 0)
 
 -- the size of the value is so many millionths
 abbrev pub IsMicrosSize : List ℕ → ℕ → Type 0

@@ -28,8 +28,10 @@ starts inputs name = not (fails_next inputs.plan) && is_some (held_in inputs.fil
 -- after a start, all bytes of the file are left; after a fault, what was left
 abbrev pub after_start : InputsState → List ℕ → InputsState
 after_start inputs name = if starts inputs name
-    then record inputs { plan = after_call inputs.plan;
-        left = unwrap_or (held_in inputs.files name) [] }
+    then record inputs {
+      plan = after_call inputs.plan;
+      left = unwrap_or (held_in inputs.files name) [];
+    }
     else record inputs { plan = with_fault (after_call inputs.plan) }
 
 -- how many bytes a take gives to a buffer of this length
@@ -40,5 +42,7 @@ given inputs room = min (min inputs.piece room) (length inputs.left)
 abbrev pub after_take : InputsState → ℕ → InputsState
 after_take inputs room = if fails_next inputs.plan
     then record inputs { plan = with_fault (after_call inputs.plan) }
-    else record inputs { plan = after_call inputs.plan;
-        left = drop (given inputs room) inputs.left }
+    else record inputs {
+      plan = after_call inputs.plan;
+      left = drop (given inputs room) inputs.left;
+    }

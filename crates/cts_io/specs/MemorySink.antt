@@ -24,5 +24,7 @@ accepted sink offered = min (min sink.piece (length offered)) (sink.room - lengt
 abbrev pub after_write : SinkState → List ℕ → SinkState
 after_write sink offered = if is_refused sink offered
     then record sink { plan = with_fault (after_call sink.plan) }
-    else record sink { plan = after_call sink.plan;
-        bytes = sink.bytes ++ take (accepted sink offered) offered }
+    else record sink {
+      plan = after_call sink.plan;
+      bytes = sink.bytes ++ take (accepted sink offered) offered;
+    }

@@ -33,8 +33,12 @@ pub struct MemoryInputs {
 impl Model for MemoryInputs {
     ghost Value = { InputsState };
 
-    ghost view = { λ inputs. record { files = inputs.files; plan = inputs.plan;
-        piece = inputs.piece; left = drop inputs.taken (bytes_at inputs.files inputs.place) } };
+    ghost view = { λ inputs. record {
+      files = inputs.files;
+      plan = inputs.plan;
+      piece = inputs.piece;
+      left = drop inputs.taken (bytes_at inputs.files inputs.place);
+    } };
 
     ghost invariant = { λ inputs. (1 ≤ inputs.piece)
         × (inputs.taken ≤ length (bytes_at inputs.files inputs.place)) };
@@ -46,8 +50,12 @@ impl MemoryInputs {
     /// gives at most `piece` bytes.
     pub fn new(files: Listed<HeldFile>, fails: Vec<u64>, piece: usize) -> MemoryInputs
         requires { 1 ≤ piece }
-        ensures { result ≡ record { files = files; plan = fresh_plan fails.items; piece = piece;
-            left = [] } }
+        ensures { result ≡ record {
+          files = files;
+          plan = fresh_plan fails.items;
+          piece = piece;
+          left = [];
+        } }
     {
         let place = files.len();
         MemoryInputs {

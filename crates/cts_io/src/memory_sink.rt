@@ -22,8 +22,12 @@ pub struct MemorySink {
 impl Model for MemorySink {
     ghost Value = { SinkState };
 
-    ghost view = { λ sink. record { bytes = sink.bytes.items; room = sink.room; plan = sink.plan;
-        piece = sink.piece } };
+    ghost view = { λ sink. record {
+      bytes = sink.bytes.items;
+      room = sink.room;
+      plan = sink.plan;
+      piece = sink.piece;
+    } };
 
     ghost invariant = { λ sink. (1 ≤ sink.piece) × (vec_len sink.bytes ≤ sink.room)
         × (sink.room ≤ vec_capacity sink.bytes) };
@@ -41,8 +45,12 @@ impl MemorySink {
         piece: usize,
     ) -> Result<MemorySink, NoMemory>
         requires { 1 ≤ piece }
-        ensures { IfOk result (λ sink. sink ≡ record { bytes = []; room = room;
-            plan = fresh_plan fails.items; piece = piece }) }
+        ensures { IfOk result (λ sink. sink ≡ record {
+          bytes = [];
+          room = room;
+          plan = fresh_plan fails.items;
+          piece = piece;
+        }) }
     {
         Ok(MemorySink {
             bytes: Vec::with_capacity(alloc, room)?,

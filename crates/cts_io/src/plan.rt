@@ -15,8 +15,11 @@ pub(crate) struct Plan {
 impl Model for Plan {
     ghost Value = { PlanState };
 
-    ghost view = { λ plan. record { fails = plan.fails.items; calls = plan.calls;
-        faults = plan.faults } };
+    ghost view = { λ plan. record {
+      fails = plan.fails.items;
+      calls = plan.calls;
+      faults = plan.faults;
+    } };
 }
 
 impl Plan {

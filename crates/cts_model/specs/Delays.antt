@@ -9,8 +9,13 @@ use Rattle.cts_model.specs.declared.tech.Tech.{Tech}
 
 -- what a table says of a kind that has no gates
 abbrev pub no_delay : GateDelay
-no_delay = record { given = false; least = pos 0; greatest = pos 0; least_per_input = pos 0;
-    greatest_per_input = pos 0 }
+no_delay = record {
+  given = false;
+  least = pos 0;
+  greatest = pos 0;
+  least_per_input = pos 0;
+  greatest_per_input = pos 0;
+}
 
 -- what the table says of a kind
 abbrev pub delay_of : Tech → Kind → GateDelay

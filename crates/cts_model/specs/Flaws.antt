@@ -78,9 +78,9 @@ abbrev pub statement_flaw : List Definition → Statement → Option Flaw
 statement_flaw earlier statement =
     if not (has_kind statement) then Some UnknownKind
     else if not (option_map_or has_lawful_inputs (definition_of statement) true)
-        then Some WrongInputs
+    then Some WrongInputs
     else if option_map_or (is_defined_before earlier) (definition_of statement) false
-        then Some SignalTwice
+    then Some SignalTwice
     else option_map TooLarge (excess_of earlier statement)
 
 -- what is wrong with a line behind the lines before it, if anything is

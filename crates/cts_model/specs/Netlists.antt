@@ -16,8 +16,11 @@ number_of names name = position (bytes_eq name) names
 
 -- the signal of a definition: its inputs are the numbers of their names
 abbrev pub signal_of : List (List ℕ) → Definition → Signal
-signal_of names definition = record { name = definition.name; kind = definition.kind;
-    fan_in = filter_map (number_of names) definition.inputs }
+signal_of names definition = record {
+  name = definition.name;
+  kind = definition.kind;
+  fan_in = filter_map (number_of names) definition.inputs;
+}
 
 -- each number where it stands first
 abbrev pub first_mentions : List ℕ → List ℕ

@@ -52,7 +52,7 @@ IsInput circuit number = IsSomeAnd (slice_get circuit.signals number)
 abbrev pub Launches : Circuit → ℕ → ℕ → Type 0
 Launches circuit register number = IsSomeAnd (register_signal circuit register)
     (λ signal. MatchBool (is_host signal.kind) (IsInput circuit number)
-        (slice_get circuit.registers register ≡ Some number))
+    (slice_get circuit.registers register ≡ Some number))
 
 -- a register captures each signal of its fan-in: its data input, and the host each primary output
 abbrev pub Captures : Circuit → ℕ → ℕ → Type 0

@@ -23,7 +23,7 @@ pub record Meets (circuit : Circuit) (tech : Tech) (scale : ℕ) (period : ℤ)
     (arrival : ℕ → ℤ) : Type 0 where
   pub setup : (from to : ℕ) (path : List ℕ) → IsPath circuit from to path →
       MeetsSetup (arrival from) (arrival to) (greatest_delay circuit tech path) tech.setup
-          (pos scale) period
+      (pos scale) period
   pub hold : (from to : ℕ) (path : List ℕ) → IsPath circuit from to path →
       MeetsHold (arrival from) (arrival to) (least_delay circuit tech path) tech.hold (pos scale)
 

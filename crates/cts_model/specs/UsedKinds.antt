@@ -9,4 +9,4 @@ pub record AreUsedKinds (signals : List Signal) (used : List Bool) : Type 0 wher
   pub eight : length used ≡ 8
   pub each : (kind : Kind) → IsTrue (is_gate kind)
       → IsTrue (slice_index_or used (place_of kind) false)
-          ↔ Any (λ signal. signal.kind ≡ kind) signals
+      ↔ Any (λ signal. signal.kind ≡ kind) signals

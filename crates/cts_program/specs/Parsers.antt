@@ -23,4 +23,4 @@ rule_for choice = record (new_rule choice.0) {
 abbrev pub parser_for : Form → App
 parser_for form =
     fold (λ app choice. with_rule app (rule_for choice)) (new_app (form_name form))
-        (choices_of form)
+    (choices_of form)

@@ -55,7 +55,7 @@ pub fn run<I: Inputs, O: Sink, E: Sink>(
     ensures read_fault { result ≡ 4 → (command : Command)
         × IsCommand (map string_bytes words.now) command
         × ((kind : FileKind) × CannotRead (I.holds inputs.old) (I.faults inputs.old)
-            (I.faults inputs.new) command kind) }
+        (I.faults inputs.new) command kind) }
     ensures risen { (file : List ℕ) → I.faults inputs.old file < I.faults inputs.new file
         → result ≡ 4 }
 
@@ -82,9 +82,9 @@ pub fn run<I: Inputs, O: Sink, E: Sink>(
     ensures told { is_ending result ≢ true → (failure : Failure) × (result ≡ status_of failure)
         × Fails (map string_bytes words.now) (I.holds inputs.old) (I.faults inputs.old)
         (I.faults inputs.new) (O.written out.old) (O.written out.new) (O.faults out.old)
-            (O.faults out.new) failure
+        (O.faults out.new) failure
         × Reports (failure_line failure) (E.written err.old) (E.faults err.old) (E.written err.new)
-            (E.faults err.new) }
+        (E.faults err.new) }
 {
     match answer(alloc, words, inputs, out) {
         Ok(()) => 0,

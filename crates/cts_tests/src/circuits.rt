@@ -28,7 +28,12 @@ pub(crate) const TWO_WAYS_GATES: &str = "[gate.NOT]\nleast = 3\ngreatest = 4
 pub(crate) const RING: &str = "A = DFF(m)\nB = DFF(A)\nm = BUFF(B)";
 
 // The circuit of a text, which is short enough for a file, with the host or without.
-pub(crate) fn circuit_of(rt: &impl Abort, alloc: Global, text: &str, host: bool) -> Result<Circuit, Fail> {
+pub(crate) fn circuit_of(
+    rt: &impl Abort,
+    alloc: Global,
+    text: &str,
+    host: bool,
+) -> Result<Circuit, Fail> {
     assert!(rt; text.len() <= 16_777_216);
     let circuit = read_bench(alloc, text.as_bytes())?;
     Ok(if host {

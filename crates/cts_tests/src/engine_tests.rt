@@ -1,4 +1,6 @@
-use crate::circuits::{RING, Registers, S27, S27_GATES, TWO_WAYS, TWO_WAYS_GATES, circuit_of, table_of};
+use crate::circuits::{
+    RING, Registers, S27, S27_GATES, TWO_WAYS, TWO_WAYS_GATES, circuit_of, table_of,
+};
 use crate::constraint_tests::constraint;
 use cts_base::Listed;
 use cts_engine::{PeriodOutcome, period_of};

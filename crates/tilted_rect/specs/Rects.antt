@@ -44,7 +44,7 @@ pub record HasRoom (rect : Rect) (by : ℤ) : Type 0 where
 abbrev pub gap_of : Rect → Rect → ℤ
 gap_of rect other =
     int_max (between rect.ulo rect.uhi other.ulo other.uhi)
-        (between rect.vlo rect.vhi other.vlo other.vhi)
+    (between rect.vlo rect.vhi other.vlo other.vhi)
 
 -- no two points of the rectangles are closer, and two are no further apart
 pub record IsLeastDistance (rect other : Rect) (gap : ℤ) : Type 0 where
