@@ -3,7 +3,7 @@
 use bench_reader::read_bench;
 use cts_model::{Circuit, Tech, used_kinds, with_host};
 use delay_tables::read_tech;
-use std::alloc::Global;
+use std::alloc::{AllocError, Global};
 use std::process::Abort;
 use std::test::Fail;
 
@@ -15,8 +15,8 @@ G11 = NOR(G5, G9)\nG12 = NOR(G1, G7)\nG13 = NOR(G2, G12)\n";
 
 // What a table for s27 says of its gates.
 pub(crate) const S27_GATES: &str = "[gate.NOT]\nleast = 1\ngreatest = 2
-[gate.NAND]\nleast = 1\ngreatest = 2\n[gate.NOR]\nleast = 1\ngreatest = 2\n[gate.AND]\nleast = 2\ngreatest = 3
-[gate.OR]\nleast = 2\ngreatest = 3\n";
+[gate.NAND]\nleast = 1\ngreatest = 2\n[gate.NOR]\nleast = 1\ngreatest = 2
+[gate.AND]\nleast = 2\ngreatest = 3\n[gate.OR]\nleast = 2\ngreatest = 3\n";
 
 // A gate that reads a register at once and through another gate.
 pub(crate) const TWO_WAYS: &str = "INPUT(x)\nA = DFF(x)\nB = DFF(z)\np = NOT(A)\nz = OR(A, p)";
@@ -59,4 +59,17 @@ pub(crate) fn table_of(
 hold = {hold}\nleast = {least}\ngreatest = {greatest}\n{rest}"
     )?;
     Ok(read_tech(alloc, text.as_bytes(), &used_kinds(circuit))?)
+}
+
+// A gate that reads 1,024 registers, and so many registers that capture it.
+pub(crate) fn wide(alloc: Global, capturing: u32) -> Result<String, AllocError> {
+    let mut text = format!(in alloc; "g = OR(r0")?;
+    for register in 1..1024u32 {
+        text.push_str(format!(in alloc; ", r{register}")?.as_str())?;
+    }
+    text.push_str(")\n")?;
+    for register in 0..capturing {
+        text.push_str(format!(in alloc; "r{register} = DFF(g)\n")?.as_str())?;
+    }
+    Ok(text)
 }

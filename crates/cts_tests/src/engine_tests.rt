@@ -1,10 +1,10 @@
 use crate::circuits::{
-    RING, Registers, S27, S27_GATES, TWO_WAYS, TWO_WAYS_GATES, circuit_of, table_of,
+    RING, Registers, S27, S27_GATES, TWO_WAYS, TWO_WAYS_GATES, circuit_of, table_of, wide,
 };
 use crate::constraint_tests::constraint;
 use cts_base::Listed;
-use cts_engine::{PeriodOutcome, period_of};
-use cts_model::{Constraint, PeriodShow};
+use cts_engine::{PeriodOutcome, SynthFault, period_of, zero_of};
+use cts_model::{Constraint, PairDelay, PeriodShow, Tech, ZeroSkew};
 use path_delays::levels;
 use std::alloc::Global;
 use std::process::Abort;
@@ -36,7 +36,7 @@ fn is_cycle(cycle: &Listed<Constraint>, rows: &[Row]) -> bool {
     same
 }
 
-// Whether a period is shown by the cycle of these constraints, or by the floor where there are none.
+// Whether the cycle of these constraints shows a period, or the floor where there are none.
 fn is_shown(shown: &PeriodShow, rows: &[Row]) -> bool {
     match shown {
         PeriodShow::Cycle(cycle) => is_cycle(cycle, rows),
@@ -152,5 +152,35 @@ fn tells_that_no_period_will_do(rt: HostRuntime) -> Result<(), Fail> {
             PeriodOutcome::Never { cycle } => assert!(rt; is_cycle(&cycle, rows), "at {text:?}"),
         }
     }
+    Ok(())
+}
+
+#[test]
+fn tells_the_least_period_without_skew(rt: HostRuntime) -> Result<(), Fail> {
+    let alloc = rt.alloc();
+    let circuit = circuit_of(&rt, alloc, S27, false)?;
+    let tech = table_of(alloc, &circuit, (1, 1, 1, 2), S27_GATES)?;
+    let _acyclic = levels(alloc, &circuit)?;
+    let pair = PairDelay {
+        from: 1,
+        to: 0,
+        least: 8,
+        greatest: 14,
+    };
+    let wanted = ZeroSkew::Setup { value: 15, pair };
+    assert_eq!(rt; zero_of(alloc, &circuit, &tech)?, wanted);
+    Ok(())
+}
+
+#[test]
+fn refuses_more_than_1048576_pairs(rt: HostRuntime) -> Result<(), Fail> {
+    let alloc = rt.alloc();
+    let tech = Tech::plain(alloc);
+    let circuit = circuit_of(&rt, alloc, wide(alloc, 1025)?.as_str(), false)?;
+    let _acyclic = levels(alloc, &circuit)?;
+    let refused = zero_of(alloc, &circuit, &tech);
+    assert_eq!(rt; refused.err(), Some(SynthFault::TooManyPairs));
+    let refused = period_of(alloc, &circuit, &tech);
+    assert_eq!(rt; refused.err(), Some(SynthFault::TooManyPairs));
     Ok(())
 }

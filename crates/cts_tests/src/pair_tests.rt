@@ -1,4 +1,4 @@
-use crate::circuits::{RING, S27, S27_GATES, TWO_WAYS, TWO_WAYS_GATES, circuit_of, table_of};
+use crate::circuits::{RING, S27, S27_GATES, TWO_WAYS, TWO_WAYS_GATES, circuit_of, table_of, wide};
 use cts_base::Listed;
 use cts_model::{Circuit, PairDelay, Tech, ZeroSkew};
 use path_delays::{PairFault, levels, pair_delay, pair_delays, path_of};
@@ -436,19 +436,6 @@ fn tells_the_least_period_of_tables(rt: HostRuntime) -> Result<(), Fail> {
         assert_eq!(rt; zero_skew(&pairs, &tech), wanted, "at {text:?}");
     }
     Ok(())
-}
-
-// A gate that reads 1,024 registers, and so many registers that capture it.
-fn wide(alloc: Global, capturing: u32) -> Result<String, AllocError> {
-    let mut text = format!(in alloc; "g = OR(r0")?;
-    for register in 1..1024u32 {
-        text.push_str(format!(in alloc; ", r{register}")?.as_str())?;
-    }
-    text.push_str(")\n")?;
-    for register in 0..capturing {
-        text.push_str(format!(in alloc; "r{register} = DFF(g)\n")?.as_str())?;
-    }
-    Ok(text)
 }
 
 #[test]
