@@ -36,6 +36,8 @@ table=$top/examples/s27.toml
 expect s27 0 $'zero 10\nsetup G6 G5 10' '' "$top/cts" zero --bench "$s27"
 expect 's27 with its table' 0 $'zero 15\nsetup G6 G5 15' '' "$top/cts" zero --bench "$s27" --tech "$table"
 expect 'the options swapped' 0 $'zero 15\nsetup G6 G5 15' '' "$top/cts" zero --tech "$table" --bench "$s27"
+expect 'the least period of s27' 0 $'period 13\nzero 15\ncycle 1\nsetup G6 G6 13' '' \
+    "$top/cts" period --bench "$s27" --tech "$table"
 expect 'a ring of gates' 3 '' 'refused bench 7 g h' "$top/cts" zero --bench "$top/examples/ring_of_gates.bench"
 
 printf 'INPUT(x)\na = DFF(x' >"$work/cut.bench"
@@ -74,6 +76,11 @@ tables 'the netlist comes first' 3 '' 'refused bench 7 g h' "$top/examples/ring_
 printf 'A = DFF(m)\nB = DFF(A)\nm = BUFF(B)\n' >"$work/hold.bench"
 tables 'a hold that fails' 0 $'zero none\nhold A B 1' '' "$work/hold.bench" \
     registers 0 2 1 1 '[gate.BUFF]\nleast = 2\ngreatest = 5\n'
+
+printf 'A = DFF(A)\n' >"$work/itself.bench"
+registers 0 2 1 1 >"$work/itself.toml"
+expect 'no period' 1 $'never\ncycle 1\nhold A A 1' '' \
+    "$top/cts" period --bench "$work/itself.bench" --tech "$work/itself.toml"
 
 printf 'INPUT(x)\nOUTPUT(g)\nA = DFF(x)\ng = NOT(A)\n' >"$work/output.bench"
 inverter='[gate.NOT]\nleast = 1\ngreatest = 3\n'
@@ -123,6 +130,7 @@ expect 'no words' 2 '' "$usage" "$top/cts"
 expect 'the name last' 2 '' "$usage" "$top/cts" --tech F --bench F zero
 expect 'an option twice' 2 '' "$usage" "$top/cts" zero --bench F --tech F --tech F
 expect 'no netlist' 2 '' "$usage" "$top/cts" zero --tech F
+expect 'a period without a table' 2 '' "$usage" "$top/cts" period --bench F
 expect 'one word for both' 2 '' "$usage" "$top/cts" zero --bench=F
 expect 'an end of options' 2 '' "$usage" "$top/cts" zero --bench F --
 

@@ -1,5 +1,5 @@
 -- The parsers of the commands take plain words.
-use Rattle.std.proofs.Common.{◌≡◌, not, ◌||◌, ◌++◌, Bool, true, false, List, [], ◌∷◌, map, cond, Some, None, is_some, IsTrue, refl, sym, ap, ◌∙◌, subst, true≢false, codes}
+use Rattle.std.proofs.Common.{◌≡◌, not, ◌||◌, ◌&&◌, ◌++◌, Bool, true, false, List, [], ◌∷◌, map, cond, Some, None, is_some, IsTrue, refl, sym, ap, ◌∙◌, subst, true≢false, codes}
 use Rattle.std.specs.Prelude.{drop, find, option_and_then, slice_get}
 use Rattle.std.specs.Str.{bytes_eq}
 use Rattle.std.specs.List.{AllByRecursion, list_all}
@@ -16,7 +16,7 @@ use Rattle.clap.specs.declared.parser.matches.Found.{Found}
 use Rattle.clap.proofs.TakesLemmas.{leaf_takes}
 use Rattle.clap.proofs.WalkLemmas.{first_value-rows}
 use Rattle.cts_program.specs.declared.command.table.Form.{Form}
-use Rattle.cts_program.specs.declared.command.table.Form.TheVariants.{Zero}
+use Rattle.cts_program.specs.declared.command.table.Form.TheVariants.{Zero, Period}
 use Rattle.cts_program.specs.Commands.{Word, Given, is_value, option_words}
 use Rattle.cts_program.specs.PlainWords.{form_name, choices_of, is_known, has_option, are_options, has_required, has_values, IsPlain}
 use Rattle.cts_program.specs.Parsers.{parser_for}
@@ -116,6 +116,23 @@ valid_zero given required =
     let there = (both (has_option (codes "--bench") (option_words given)) true required).0 in
     rw (given-rows (codes "--bench") given ∙ sym (has_option-given (codes "--bench") given) ∙ there) refl
 
+-- the options of `period` are read
+reads_period : AllByRecursion (λ choice. IsReadBy (built (parser_for Period)).top.rules choice.0) (choices_of Period)
+reads_period = (
+  record { required = true; by_id = refl; by_long = refl; long = refl; option = refl },
+  (record { required = true; by_id = refl; by_long = refl; long = refl; option = refl }, tt),
+)
+
+-- where `--bench` and `--tech` stand, `period` has what it requires
+valid_period : (given : List Given) → has_required (choices_of Period) (option_words given) ≡ true → is_valid (built (parser_for Period)).top (map row_for given) false ≡ true
+valid_period given required =
+    let there = both (has_option (codes "--bench") (option_words given)) (has_option (codes "--tech") (option_words given) && true) required in
+    let behind = both (has_option (codes "--tech") (option_words given)) true there.1 in
+    rw (
+      given-rows (codes "--bench") given ∙ sym (has_option-given (codes "--bench") given) ∙ there.0,
+      given-rows (codes "--tech") given ∙ sym (has_option-given (codes "--tech") given) ∙ behind.0,
+    ) refl
+
 -- so it is with the parser of each command
 reads : (form : Form) → Reads form
 reads Zero = record {
@@ -126,6 +143,15 @@ reads Zero = record {
   no_request = refl;
   no_defaults = (refl, (refl, (refl, tt)));
   valid = valid_zero;
+}
+reads Period = record {
+  simple = refl;
+  alone = refl;
+  behind_name = λ name others. refl;
+  each = read_known (built (parser_for Period)).top.rules (choices_of Period) reads_period;
+  no_request = refl;
+  no_defaults = (refl, (refl, (refl, tt)));
+  valid = valid_period;
 }
 
 -- the parser reads options that pass the reader's test

@@ -16,7 +16,7 @@ both true b pass = (refl, pass)
 both false b pass = absurd (true≢false (sym pass))
 
 -- neither of two tests passes
-neither : (a b : Bool) → (a || b) ≡ false → (a ≡ false) × (b ≡ false)
+pub neither : (a b : Bool) → (a || b) ≡ false → (a ≡ false) × (b ≡ false)
 neither true b fail = absurd (true≢false fail)
 neither false b fail = (refl, fail)
 

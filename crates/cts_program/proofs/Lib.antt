@@ -1,10 +1,13 @@
 mod LineLemmas
+mod LineBytes
+mod LineFronts
+mod PeriodFronts
 mod PairRegisters
 mod OneText
 mod PieceLemmas
 mod FileLemmas
 mod ResultLemmas
-mod ZeroLemmas
+mod ToldLemmas
 mod PlainWordTests
 mod GivenOptions
 mod PlainCommands

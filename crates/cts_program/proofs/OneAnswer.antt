@@ -1,5 +1,7 @@
--- Contents of files have one answer at the most, and not both an answer and a refusal.
-use Rattle.std.proofs.Common.{ℕ, ◌≡◌, ◌<◌, ◌≤◌, ◌⊎◌, inl, inr, Bool, true, false, ◌==◌, MatchBool, List, [], ◌∷◌, length, refl, ap₂, sym, ◌∙◌, subst, arith}
+-- Contents of files have answers of one status, of which none is a front of another, and not both an
+-- answer and a refusal.
+use Rattle.std.proofs.Common.{ℕ, ◌≡◌, ◌<◌, ◌≤◌, ◌⊎◌, inl, inr, Bool, true, false, ◌==◌, MatchBool, List, [], ◌∷◌, length, take, refl, ap, ap₂, sym, ◌∙◌, subst, arith}
+use Rattle.std.proofs.lemmas.List.{length-take}
 use Rattle.cts_model.specs.declared.circuit.Circuit.{Circuit}
 use Rattle.cts_model.specs.declared.tech.Tech.{Tech}
 use Rattle.cts_model.specs.declared.timing.ZeroSkew.{ZeroSkew}
@@ -18,15 +20,19 @@ use Rattle.delay_tables.specs.Refusals.{Refuses}
 use Rattle.delay_tables.proofs.OneFault.{not_refused}
 use Rattle.delay_tables.proofs.OneTable.{one_table}
 use Rattle.cts_program.specs.declared.command.Command.{Command}
-use Rattle.cts_program.specs.declared.command.Command.TheVariants.{Zero}
+use Rattle.cts_program.specs.declared.command.Command.TheVariants.{Zero, Period}
 use Rattle.cts_program.specs.declared.failure.Failure.{Failure}
 use Rattle.cts_program.specs.declared.failure.Failure.TheVariants as failures
 use Rattle.cts_program.specs.declared.file_kind.FileKind.TheVariants as kinds
-use Rattle.cts_program.specs.Answers.{JoinTooMany, IsZeroAnswer, IsAnswer, IsRefusal}
+use Rattle.cts_program.specs.Answers.{JoinTooMany, TellWith, IsAnswer, IsRefusal}
+use Rattle.cts_program.specs.Commands.{IsSame}
 use Rattle.cts_program.specs.Files.{IsShortFile, AreAll}
 use Rattle.cts_program.specs.Judged.{IsNetlistFile, IsTableFile, AreAccepted, HasFault, HasTableFault, IsFileRefusal, IsHostedBy, TellBoth, Tell}
+use Rattle.cts_program.specs.PeriodTexts.{IsPeriodText}
 use Rattle.cts_program.specs.Texts.{text_of, zero_lines, IsZeroText}
 use Rattle.cts_program.proofs.OneText.{one_text}
+use Rattle.cts_program.proofs.PlainCommands.{names_differ}
+use Rattle.cts_program.proofs.PeriodFronts.{one_period_status, no_period_front, some_period}
 
 -- ---- one circuit and one table
 
@@ -60,27 +66,79 @@ one_told (netlist ∷ []) circuit other tech tech' (accepts, plain) (accepts', p
 one_told (netlist ∷ table ∷ []) circuit other tech tech' tell tell' = one_both netlist table circuit other tech tech' tell tell'
 one_told (netlist ∷ table ∷ more ∷ rest) circuit other tech tech' tell tell' = absurd tell
 
--- ---- one text
+-- ---- what an answer is
 
--- contents have one text
-pub one_zero : (contents : List (List ℕ)) (text other : List ℕ) → IsZeroAnswer contents text → IsZeroAnswer contents other → text ≡ other
-one_zero contents text other answer answer' =
-    let same = one_told contents answer'.circuit answer.circuit answer'.tech answer.tech answer'.tell answer.tell in
-    one_text answer.circuit answer.tech text other answer.spelled
-    (subst (λ t. IsZeroText answer.circuit t other) same.1 (subst (λ c. IsZeroText c answer'.tech other) same.0 answer'.spelled))
+-- the text of a command for a circuit and its delays
+abbrev pub IsTextOf : Command → ℕ → List ℕ → Circuit → Tech → Type 0
+IsTextOf (Zero bench tech) status text circuit delays = (status ≡ 0) × IsZeroText circuit delays text
+IsTextOf (Period bench tech) status text circuit delays = IsPeriodText circuit delays status text
 
--- a text begins with a word
+-- what holds of the circuit that contents tell
+tell_so : (contents : List (List ℕ)) (Holds Other : Circuit → Tech → Type 0) → ((circuit : Circuit) (tech : Tech) → Holds circuit tech → Other circuit tech) → TellWith contents Holds → TellWith contents Other
+tell_so contents Holds Other so tell =
+    record { accepted = tell.accepted; circuit = tell.circuit; tech = tell.tech; tell = tell.tell; few = tell.few; holds = so tell.circuit tell.tech tell.holds }
+
+-- an answer is a text for what the files of the command tell
+pub answer_of : (command : Command) (contents : List (List ℕ)) (status : ℕ) (text : List ℕ) → IsAnswer command contents status text → AreAll command contents × TellWith contents (IsTextOf command status text)
+answer_of (Zero bench tech) contents status text (all, done, answer) = (all, tell_so contents _ (IsTextOf (Zero bench tech) status text) (λ circuit delays spells. (done, spells)) answer)
+answer_of (Period bench tech) contents status text answer = answer
+
+-- commands of one name answer alike
+text_same : (command other : Command) → IsSame command other → (status : ℕ) (text : List ℕ) (circuit : Circuit) (tech : Tech) → IsTextOf other status text circuit tech → IsTextOf command status text circuit tech
+text_same (Zero bench tech) (Zero bench' tech') same status text circuit delays spells = spells
+text_same (Zero bench tech) (Period bench' tech') same status text circuit delays spells = absurd (names_differ same.name)
+text_same (Period bench tech) (Zero bench' tech') same status text circuit delays spells = absurd (names_differ (sym same.name))
+text_same (Period bench tech) (Period bench' tech') same status text circuit delays spells = spells
+
+pub answer_same : (command other : Command) → IsSame command other → (contents : List (List ℕ)) (status : ℕ) (text : List ℕ) → TellWith contents (IsTextOf other status text) → TellWith contents (IsTextOf command status text)
+answer_same command other same contents status text = tell_so contents (IsTextOf other status text) (IsTextOf command status text) (text_same command other same status text)
+
+-- ---- one status, and no text that is a front of another
+
+-- what holds of the circuit that contents tell holds of the one that they tell
+of_one : (contents : List (List ℕ)) (Holds Other : Circuit → Tech → Type 0) (tell : TellWith contents Holds) → TellWith contents Other → Other tell.circuit tell.tech
+of_one contents Holds Other tell other =
+    let same = one_told contents other.circuit tell.circuit other.tech tell.tech other.tell tell.tell in
+    subst (λ t. Other tell.circuit t) same.1 (subst (λ c. Other c other.tech) same.0 other.holds)
+
+-- a circuit has texts of one status
+one_text_status : (command : Command) (status status' : ℕ) (text text' : List ℕ) (circuit : Circuit) (tech : Tech) → IsTextOf command status text circuit tech → IsTextOf command status' text' circuit tech → status ≡ status'
+one_text_status (Zero bench tech) status status' text text' circuit delays spells spells' = spells.0 ∙ sym spells'.0
+one_text_status (Period bench tech) status status' text text' circuit delays spells spells' = one_period_status circuit delays status status' text text' spells spells'
+
+-- no text of a circuit is a front of another
+no_text_front : (command : Command) (status status' : ℕ) (text text' : List ℕ) (circuit : Circuit) (tech : Tech) → IsTextOf command status text circuit tech → IsTextOf command status' text' circuit tech
+    → (count : ℕ) → text ≡ take count text' → count < length text' → ⊥
+no_text_front (Zero bench tech) status status' text text' circuit delays spells spells' count cut short =
+    let same : length text ≡ length text' = ap length (one_text circuit delays text text' spells.1 spells'.1) in
+    let fewer : length text ≡ length (take count text') = ap length cut in
+    omega (arith, length-take count text')
+no_text_front (Period bench tech) status status' text text' circuit delays spells spells' count cut short =
+    no_period_front circuit delays status text spells status' text' spells' count cut short
+
+-- a text for the least period at equal arrivals begins with a word
 some_lines : (circuit : Circuit) (tech : Tech) (outcome : ZeroSkew) → 0 < length (text_of (zero_lines circuit tech outcome))
 some_lines circuit tech (Fails pair) = omega arith
 some_lines circuit tech (Floor value) = omega arith
 some_lines circuit tech (Setup value pair) = omega arith
 
-pub some_text : (contents : List (List ℕ)) (text : List ℕ) → IsZeroAnswer contents text → 0 < length text
-some_text contents text answer = subst (λ t. 0 < length t) (sym answer.spelled.spelled) (some_lines answer.circuit answer.tech answer.spelled.outcome)
+module _ (command : Command) (contents : List (List ℕ)) (status : ℕ) (text : List ℕ) (answer : TellWith contents (IsTextOf command status text)) where
+  -- so it is with the answers for contents
+  pub one_status : (status' : ℕ) (text' : List ℕ) → TellWith contents (IsTextOf command status' text') → status ≡ status'
+  one_status status' text' answer' =
+      one_text_status command status status' text text' answer.circuit answer.tech answer.holds (of_one contents _ (IsTextOf command status' text') answer answer')
 
--- what an answer of the only command is
-pub zero_answer : (command : Command) (contents : List (List ℕ)) (status : ℕ) (text : List ℕ) → IsAnswer command contents status text → AreAll command contents × (status ≡ 0) × IsZeroAnswer contents text
-zero_answer (Zero bench tech) contents status text answer = answer
+  pub no_answer_front : (status' : ℕ) (text' : List ℕ) → TellWith contents (IsTextOf command status' text') → (count : ℕ) → text ≡ take count text' → count < length text' → ⊥
+  no_answer_front status' text' answer' =
+      no_text_front command status status' text text' answer.circuit answer.tech answer.holds (of_one contents _ (IsTextOf command status' text') answer answer')
+
+  -- a text begins with a word
+  pub some_text : 0 < length text
+  some_text = at command answer.holds
+    where
+      at : (command : Command) → IsTextOf command status text answer.circuit answer.tech → 0 < length text
+      at (Zero bench tech) spells = subst (λ t. 0 < length t) (sym spells.1.spelled) (some_lines answer.circuit answer.tech spells.1.outcome)
+      at (Period bench tech) spells = some_period answer.circuit answer.tech status text spells
 
 -- ---- not both
 
@@ -158,16 +216,16 @@ refusal_of command contents (failures.ReadFault kind) refusal = inr refusal
 refusal_of command contents failures.WriteFault refusal = inr refusal
 refusal_of command contents failures.NoMemory refusal = inr refusal
 
-few_not_many : (contents : List (List ℕ)) (text : List ℕ) → IsZeroAnswer contents text → JoinTooMany contents → ⊥
-few_not_many contents text answer too_many =
+few_not_many : (contents : List (List ℕ)) (Holds : Circuit → Tech → Type 0) → TellWith contents Holds → JoinTooMany contents → ⊥
+few_not_many contents Holds answer too_many =
     let same = one_told contents too_many.circuit answer.circuit too_many.tech answer.tech too_many.tell answer.tell in
     answer.few (subst (λ c. JoinsMoreThan c 1048576) same.0 too_many.many)
 
 -- what is answered isn't refused
-pub answer_not_refused : (command : Command) (contents refused : List (List ℕ)) (text : List ℕ) (failure : Failure) → Agree contents refused → length refused ≤ length contents → IsZeroAnswer contents text
+pub answer_not_refused : (command : Command) (contents refused : List (List ℕ)) (Holds : Circuit → Tech → Type 0) (failure : Failure) → Agree contents refused → length refused ≤ length contents → TellWith contents Holds
     → (AreAll command refused → length refused ≡ length contents) → IsRefusal command refused failure → ⊥
-answer_not_refused command contents refused text failure agree within answer all refusal = at (refusal_of command refused failure refusal)
+answer_not_refused command contents refused Holds failure agree within answer all refusal = at (refusal_of command refused failure refusal)
   where
     at : (AreAll command refused × JoinTooMany refused) ⊎ IsFileRefusal refused failure → ⊥
-    at (inl (whole, too_many)) = few_not_many contents text answer (subst JoinTooMany (sym (agree_same contents refused agree (sym (all whole)))) too_many)
+    at (inl (whole, too_many)) = few_not_many contents Holds answer (subst JoinTooMany (sym (agree_same contents refused agree (sym (all whole)))) too_many)
     at (inr refused_file) = accepted_not_refused contents refused failure agree within answer.accepted refused_file

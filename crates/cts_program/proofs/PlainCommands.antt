@@ -1,5 +1,5 @@
 -- Words that mean a command pass the reader's test, and no others do.
-use Rattle.std.proofs.Common.{◌≡◌, ◌≤◌, ◌-◌, ◌++◌, Bool, true, false, List, [], ◌∷◌, is_some, option_map, unwrap_or, length, take, drop, map, Option, Some, None, IsTrue, refl, sym, ap, ap₂, ◌∙◌, arith, get_or, codes}
+use Rattle.std.proofs.Common.{◌≡◌, ◌≤◌, ◌-◌, ◌++◌, ◌&&◌, ℕ, Bool, true, false, List, [], ◌∷◌, is_some, option_map, unwrap_or, length, take, drop, map, Option, Some, None, IsTrue, refl, sym, ap, ap₂, ◌∙◌, arith, get_or, codes}
 use Rattle.std.specs.Borrow.{Bor}
 use Rattle.std.specs.Str.{bytes_eq}
 use Rattle.std.specs.List.{All, AllByRecursion, IsDistinct, list_all}
@@ -15,7 +15,7 @@ use Rattle.std.proofs.lemmas.Map.Views.{Contains-from_lookup, lookup-from_Contai
 use Rattle.cts_program.specs.declared.command.Command.{Command}
 use Rattle.cts_program.specs.declared.command.Command.TheVariants as command
 use Rattle.cts_program.specs.declared.command.table.Form.{Form}
-use Rattle.cts_program.specs.declared.command.table.Form.TheVariants.{Zero}
+use Rattle.cts_program.specs.declared.command.table.Form.TheVariants.{Zero, Period}
 use Rattle.cts_program.specs.Commands.{Word, Given, is_value, name_of, options_of, option_words, IsCommand, IsSame}
 use Rattle.cts_program.specs.PlainWords.{form_of, form_name, choices_of, is_known, has_option, are_options, has_required, listed_one, listed, IsPlain}
 use Rattle.cts_program.proofs.GivenOptions.{both, value_of, has_option-given, given_of, values_pass, IsRow, listed_of, listed-permutes}
@@ -76,20 +76,30 @@ are_options-given choices (one ∷ more) distinct known values =
 -- no command's row has an option twice
 is_row : (form : Form) → IsRow (choices_of form)
 is_row Zero = (refl, (refl, tt))
+is_row Period = (refl, (refl, tt))
 
 -- a command's name is that of its form
 name_of-form : (command : Command) → name_of command ≡ form_name (form_of command)
 name_of-form (command.Zero bench tech) = refl
+name_of-form (command.Period bench tech) = refl
+
+-- the names of the commands differ
+pub names_differ : form_name Zero ≡ form_name Period → ⊥
+names_differ same = let first : ◌≡◌ {A = ℕ} 122 112 = ap (λ (name : Word). get_or name 0 0) same in omega arith
 
 -- forms with one name are one
 one_form : (form other : Form) → form_name form ≡ form_name other → form ≡ other
 one_form Zero Zero same = refl
+one_form Zero Period same = absurd (names_differ same)
+one_form Period Zero same = absurd (names_differ (sym same))
+one_form Period Period same = refl
 
 -- the options of a command differ
 options_differ : (command : Command) → IsDistinct bytes_eq (keys_of (options_of command))
 unfolding IsDistinct
 options_differ (command.Zero bench None) = (tt, tt)
 options_differ (command.Zero bench (Some tech)) = ((refl, tt), (tt, tt))
+options_differ (command.Period bench tech) = ((refl, tt), (tt, tt))
 
 -- options that all pass the test for a row are of that row
 all_known : (choices : List (Word × Bool)) (given : List Given) → list_all (λ one. is_known choices one.0) given ≡ true → All (IsKnownTo choices) given
@@ -102,6 +112,7 @@ all_known choices (one ∷ more) pass =
 options_known : (command : Command) → All (IsKnownTo (choices_of (form_of command))) (options_of command)
 options_known (command.Zero bench None) = all_known (choices_of Zero) (options_of (command.Zero bench None)) refl
 options_known (command.Zero bench (Some tech)) = all_known (choices_of Zero) (options_of (command.Zero bench (Some tech))) refl
+options_known (command.Period bench tech) = all_known (choices_of Period) (options_of (command.Period bench tech)) refl
 
 -- and each option that the row requires has its value
 options_required : (command : Command) (given : List Given) → IsPermutation (options_of command) given → has_required (choices_of (form_of command)) (option_words given) ≡ true
@@ -109,6 +120,9 @@ options_required (command.Zero bench tech) given moved =
     let value : value_of (codes "--bench") given ≡ Some bench.now =
     value_of-permutes (codes "--bench") (options_of (command.Zero bench tech)) given (options_differ (command.Zero bench tech)) moved in
     rw (has_option-given (codes "--bench") given, value) refl
+options_required (command.Period bench tech) given moved =
+    let same = λ (word : Word). value_of-permutes word (options_of (command.Period bench tech)) given (options_differ (command.Period bench tech)) moved in
+    rw (has_option-given (codes "--bench") given, same (codes "--bench"), has_option-given (codes "--tech") given, same (codes "--tech")) refl
 
 -- ---- words that are no command
 
@@ -166,6 +180,9 @@ options_listed (command.Zero bench None) given moved =
 options_listed (command.Zero bench (Some tech)) given moved =
     let same = λ (word : Word). value_of-permutes word (options_of (command.Zero bench (Some tech))) given (options_differ (command.Zero bench (Some tech))) moved in
     rw (same (codes "--bench"), same (codes "--tech")) refl
+options_listed (command.Period bench tech) given moved =
+    let same = λ (word : Word). value_of-permutes word (options_of (command.Period bench tech)) given (options_differ (command.Period bench tech)) moved in
+    rw (same (codes "--bench"), same (codes "--tech")) refl
 
 -- words are options with values in one way
 one_given : (given other : List Given) → option_words given ≡ option_words other → given ≡ other
@@ -195,13 +212,42 @@ zero_options borrowed same None tech some = cc
 zero_options borrowed same (Some bench) None some = ap (λ (word : Word). (codes "--bench", word) ∷ []) (same bench)
 zero_options borrowed same (Some bench) (Some tech) some = ap₂ (λ (word other : Word). (codes "--bench", word) ∷ (codes "--tech", other) ∷ []) (same bench) (same tech)
 
+period_options : (borrowed : Word → Bor Word) → ((word : Word) → (borrowed word).now ≡ word) → (bench tech : Option Word) → is_some bench ≡ true → is_some tech ≡ true
+    → options_of (command.Period (borrowed (unwrap_or bench [])) (borrowed (unwrap_or tech []))) ≡ listed_one (codes "--bench") bench ++ (listed_one (codes "--tech") tech ++ [])
+period_options borrowed same None tech some some' = cc
+period_options borrowed same (Some bench) None some some' = cc
+period_options borrowed same (Some bench) (Some tech) some some' = ap₂ (λ (word other : Word). (codes "--bench", word) ∷ (codes "--tech", other) ∷ []) (same bench) (same tech)
+
+module _ (words : List Word) (form : Form) (plain : IsPlain words form) where
+  -- the options with their values, as they stand in the words
+  given_in : List Given
+  given_in = (given_of (choices_of form) plain.others plain.options).0
+
+  -- they are the only ones
+  only_given : (given : List Given) → words ≡ form_name form ∷ option_words given → (word : Word) → value_of word given_in ≡ value_of word given
+  unfolding given_in
+  only_given given is word =
+      let pairs = given_of (choices_of form) plain.others plain.options in
+      ap (value_of word) (one_given pairs.0 given (sym pairs.1 ∙ ap (λ (ws : List Word). drop 1 ws) (sym plain.words_are ∙ is)))
+
+  -- an option that stands there has a value
+  has_value : (option : Word) → has_option option plain.others ≡ true → is_some (value_of option given_in) ≡ true
+  unfolding given_in
+  has_value option there =
+      let pairs = given_of (choices_of form) plain.others plain.options in
+      sym (has_option-given option pairs.0) ∙ ap (has_option option) (sym pairs.1) ∙ there
+
 pub some_command : (borrowed : Word → Bor Word) → ((word : Word) → (borrowed word).now ≡ word) → (words : List Word) (form : Form) → IsPlain words form → (command : Command) × IsCommand words command
 some_command borrowed same words Zero plain =
-    let pairs = given_of (choices_of Zero) plain.others plain.options in
-    let value = λ (word : Word). value_of word pairs.0 in
-    let given_is = λ (given : List Given) (is : words ≡ form_name Zero ∷ option_words given) (word : Word).
-    ap (value_of word) (one_given pairs.0 given (sym pairs.1 ∙ ap (λ (ws : List Word). drop 1 ws) (sym plain.words_are ∙ is))) in
+    let value = λ (word : Word). value_of word (given_in words Zero plain) in
     let required = both (has_option (codes "--bench") plain.others) true plain.required in
-    let bench : is_some (value (codes "--bench")) ≡ true = sym (has_option-given (codes "--bench") pairs.0) ∙ ap (has_option (codes "--bench")) (sym pairs.1) ∙ required.0 in
+    let bench = has_value words Zero plain (codes "--bench") required.0 in
     let meant = command.Zero (borrowed (unwrap_or (value (codes "--bench")) [])) (option_map borrowed (value (codes "--tech"))) in
-    (meant, means_command words Zero plain value given_is meant refl (zero_options borrowed same (value (codes "--bench")) (value (codes "--tech")) bench))
+    (meant, means_command words Zero plain value (only_given words Zero plain) meant refl (zero_options borrowed same (value (codes "--bench")) (value (codes "--tech")) bench))
+some_command borrowed same words Period plain =
+    let value = λ (word : Word). value_of word (given_in words Period plain) in
+    let required = both (has_option (codes "--bench") plain.others) (has_option (codes "--tech") plain.others && true) plain.required in
+    let bench = has_value words Period plain (codes "--bench") required.0 in
+    let tech = has_value words Period plain (codes "--tech") (both (has_option (codes "--tech") plain.others) true required.1).0 in
+    let meant = command.Period (borrowed (unwrap_or (value (codes "--bench")) [])) (borrowed (unwrap_or (value (codes "--tech")) [])) in
+    (meant, means_command words Period plain value (only_given words Period plain) meant refl (period_options borrowed same (value (codes "--bench")) (value (codes "--tech")) bench tech))

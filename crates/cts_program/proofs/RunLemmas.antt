@@ -1,20 +1,23 @@
 -- What the causes of failures leave of the exit status.
-use Rattle.std.proofs.Common.{ℕ, ◌≡◌, ◌≢◌, ◌<◌, ◌≤◌, ◌⊎◌, inl, inr, true, List, [], ◌++◌, ◌∷◌, length, take, Option, Some, refl, ap, sym, ◌∙◌, subst, arith, length-append, append-nil}
-use Rattle.std.proofs.lemmas.List.{length-take}
+use Rattle.std.proofs.Common.{ℕ, ◌≡◌, ◌≢◌, ◌<◌, ◌≤◌, ◌⊎◌, inl, inr, true, List, [], ◌++◌, ◌∷◌, length, take, Option, Some, refl, ap, sym, ◌∙◌, subst, arith, append-nil}
+use Rattle.std.proofs.lemmas.List.{append_cancel_left}
 use Rattle.std.proofs.lemmas.List.Elements.{All-head, All-drop}
 use Rattle.cts_io.specs.Device.{Rose, appended, WritesPrefix}
 use Rattle.cts_program.specs.declared.command.Command.{Command}
 use Rattle.cts_program.specs.declared.command.WordsFault.{WordsFault}
 use Rattle.cts_program.specs.declared.command.WordsFault.TheVariants as word_faults
+use Rattle.cts_program.specs.declared.ending.Ending.{Ending}
+use Rattle.cts_program.specs.declared.ending.Ending.TheVariants.{Done, Never}
 use Rattle.cts_program.specs.declared.failure.Failure.{Failure}
 use Rattle.cts_program.specs.declared.failure.Failure.TheVariants.{Usage, TooLong, Bench, Tech, Pairs, ReadFault, WriteFault, NoMemory}
 use Rattle.cts_program.specs.declared.file_kind.FileKind.{FileKind}
-use Rattle.cts_program.specs.Answers.{is_ending, IsZeroAnswer, IsAnswer, IsRefusal}
+use Rattle.cts_program.specs.Answers.{is_ending, ending_status, TellWith, IsAnswer, IsRefusal}
 use Rattle.cts_program.specs.Commands.{IsCommand}
 use Rattle.cts_program.specs.Failures.{words_failure_of, status_of}
 use Rattle.cts_program.specs.Files.{files_of, AreContents, AreTold}
 use Rattle.cts_program.specs.Run.{IsNoCommand, TellsText, Refuses, CannotRead, Stops, EndsInPart, Fails, AreUnrisen}
-use Rattle.cts_program.proofs.OneAnswer.{Agree, one_zero, some_text, zero_answer, answer_not_refused, agree_same}
+use Rattle.cts_program.proofs.OneAnswer.{Agree, IsTextOf, answer_of, answer_same, one_status, no_answer_front, some_text, answer_not_refused, agree_same}
+use Rattle.cts_program.proofs.PlainCommands.{one_command}
 use Rattle.cts_program.proofs.SameFiles.{same_files, told_contents, contents_within, told_agree, agree_turned}
 
 -- ---- what is told of files, against what is known of them
@@ -33,27 +36,39 @@ module _ (words : List (List ℕ)) (holds : List ℕ → Option (List ℕ)) (com
   -- a refusal of contents that are told, beside a text
   pub told_not_refused : (failure : Failure) → IsRefusal command contents failure → (status : ℕ) (text : List ℕ) → TellsText holds other status text → ⊥
   told_not_refused failure refusal status text tells =
-      let (all, none, answer) = zero_answer other tells.contents status text tells.answer in
+      let (all, answer) = answer_of other tells.contents status text tells.answer in
       let many = as_many in
       let within = told_within in
-      answer_not_refused command tells.contents contents text failure (agree_turned contents tells.contents (agrees tells.contents tells.are)) (omega arith) answer
+      answer_not_refused command tells.contents contents (IsTextOf other status text) failure (agree_turned contents tells.contents (agrees tells.contents tells.are)) (omega arith) answer
       (λ whole. omega arith) refusal
 
   -- an answer for contents that are told, beside a refusal
   pub refusal_not_told : (status : ℕ) (text : List ℕ) → IsAnswer command contents status text → (failure : Failure) → Refuses holds other failure → ⊥
   refusal_not_told status text answer failure refuses =
-      let (all, none, zero) = zero_answer command contents status text answer in
+      let (all, told_all) = answer_of command contents status text answer in
       let many = as_many in
       let within = contents_within holds (files_of other) refuses.contents refuses.are in
-      answer_not_refused other contents refuses.contents text failure (agrees refuses.contents refuses.are) (omega arith) zero (λ whole. omega arith) refuses.refusal
+      answer_not_refused other contents refuses.contents (IsTextOf command status text) failure (agrees refuses.contents refuses.are) (omega arith) told_all (λ whole. omega arith) refuses.refusal
 
   -- an answer for contents that are told, beside a text
-  pub tells_zero : (status : ℕ) (text : List ℕ) → IsAnswer command contents status text → (status' : ℕ) (text' : List ℕ) → TellsText holds other status' text' → IsZeroAnswer contents text'
-  tells_zero status text answer status' text' tells =
-      let (all, none, zero) = zero_answer command contents status text answer in
-      let (all', none', zero') = zero_answer other tells.contents status' text' tells.answer in
+  tells_alike : (status : ℕ) (text : List ℕ) → IsAnswer command contents status text → (status' : ℕ) (text' : List ℕ) → TellsText holds other status' text' → TellWith contents (IsTextOf command status' text')
+  tells_alike status text answer status' text' tells =
+      let (all, told_all) = answer_of command contents status text answer in
+      let (all', told_all') = answer_of other tells.contents status' text' tells.answer in
       let many = as_many in
-      subst (λ known. IsZeroAnswer known text') (sym (agree_same contents tells.contents (agrees tells.contents tells.are) (omega arith))) zero'
+      let known = sym (agree_same contents tells.contents (agrees tells.contents tells.are) (omega arith)) in
+      answer_same command other (one_command words command other means means') contents status' text' (subst (λ c. TellWith c (IsTextOf other status' text')) known told_all')
+
+  -- has its status
+  pub told_status : (status : ℕ) (text : List ℕ) → IsAnswer command contents status text → (status' : ℕ) (text' : List ℕ) → TellsText holds other status' text' → status' ≡ status
+  told_status status text answer status' text' tells =
+      one_status command contents status' text' (tells_alike status text answer status' text' tells) status text (answer_of command contents status text answer).1
+
+  -- and isn't a front of it
+  pub told_front : (status : ℕ) (text : List ℕ) → IsAnswer command contents status text → (status' : ℕ) (text' : List ℕ) → TellsText holds other status' text'
+      → (count : ℕ) → text ≡ take count text' → count < length text' → ⊥
+  told_front status text answer status' text' tells =
+      no_answer_front command contents status text (answer_of command contents status text answer).1 status' text' (tells_alike status text answer status' text' tells)
 
 -- a file whose count rose is none of those whose counts didn't
 unrisen_read : (reads reads_now : List ℕ → ℕ) (files front : List (FileKind × List ℕ)) (file : FileKind × List ℕ) (behind : List (FileKind × List ℕ)) → files ≡ front ++ file ∷ behind
@@ -62,30 +77,24 @@ unrisen_read reads reads_now files [] file behind is unrisen rose = All-head (λ
 unrisen_read reads reads_now files (first ∷ front) file behind is unrisen rose =
     unrisen_read reads reads_now (front ++ file ∷ behind) front file behind refl (All-drop (λ (f : FileKind × List ℕ). Rose (reads f.1) (reads_now f.1) → ⊥) 1 (first ∷ (front ++ file ∷ behind)) (subst (AreUnrisen reads reads_now) is unrisen)) rose
 
--- what stands behind the same bytes is as long
-as_long : (before text other : List ℕ) → Some (before ++ text) ≡ Some (before ++ other) → length text ≡ length other
-as_long before text other same =
-    let joined : before ++ text ≡ before ++ other = cc same in
-    let lengths : length (before ++ text) ≡ length (before ++ other) = ap length joined in
-    omega (arith, length-append before text, length-append before other)
+-- what stands behind the same bytes is the same
+same_behind : (before text other : List ℕ) → Some (before ++ text) ≡ Some (before ++ other) → text ≡ other
+same_behind before text other same = append_cancel_left before text other (cc same)
 
 -- where nothing was written, the text isn't there
-kept_lacks : (contents : List (List ℕ)) (text front : List ℕ) (before now : Option (List ℕ)) → IsZeroAnswer contents text → before ≡ Some front → now ≡ before → now ≡ appended before text → ⊥
-kept_lacks contents text front before now answer is same whole =
+kept_lacks : (text front : List ℕ) (before now : Option (List ℕ)) → 0 < length text → before ≡ Some front → now ≡ before → now ≡ appended before text → ⊥
+kept_lacks text front before now some is same whole =
     let there : now ≡ Some (front ++ text) = rw is at whole in
-    let none : 0 ≡ length text = as_long front [] text (ap (λ b. Some b) (append-nil front) ∙ (sym is ∙ (sym same ∙ there))) in
-    let some = some_text contents text answer in
+    let none : 0 ≡ length text = ap length (same_behind front [] text (ap (λ b. Some b) (append-nil front) ∙ (sym is ∙ (sym same ∙ there)))) in
     omega arith
 
--- and a front of the text isn't the text
-part_lacks : (contents : List (List ℕ)) (text other front : List ℕ) (before now : Option (List ℕ)) → IsZeroAnswer contents text → IsZeroAnswer contents other → before ≡ Some front → WritesPrefix before other now → now ≡ appended before text → ⊥
-part_lacks contents text other front before now answer answer' is part whole =
+-- and a front of another text isn't the text
+part_lacks : (text other front : List ℕ) (before now : Option (List ℕ)) → ((count : ℕ) → text ≡ take count other → count < length other → ⊥) → before ≡ Some front → WritesPrefix before other now → now ≡ appended before text → ⊥
+part_lacks text other front before now apart is part whole =
     let there : now ≡ Some (front ++ text) = rw is at whole in
     let cut : now ≡ Some (front ++ take part.count other) = rw is at part.written in
-    let lengths : length text ≡ length (take part.count other) = as_long front text (take part.count other) (sym there ∙ cut) in
-    let one : length other ≡ length text = ap length (one_zero contents other text answer' answer) in
     let short = part.short in
-    omega (arith, length-take part.count other)
+    apart part.count (same_behind front text (take part.count other) (sym there ∙ cut)) (omega arith)
 
 -- ---- what a failure's cause is
 
@@ -185,18 +194,25 @@ module _ (words : List (List ℕ)) (holds : List ℕ → Option (List ℕ)) (rea
         → (failure ≢ WriteFault → now ≡ before) → before ≡ Some front → now ≡ appended before text → ⊥
     lacks_text command contents status text front means told answer kept is whole = elim (cause_of failure fails) [
       | usage is' none ↦ absurd (none command means)
-      | refused is' command' means' refuses ↦ kept_lacks contents text front before now (zero_answer command contents status text answer).2 is (kept (not_write 3 is' (λ e. cc e))) whole
-      | unread kind is' command' means' cannot ↦ kept_lacks contents text front before now (zero_answer command contents status text answer).2 is (kept (not_write 4 (ap status_of is') (λ e. cc e))) whole
+      | refused is' command' means' refuses ↦ kept_lacks text front before now some is (kept (not_write 3 is' (λ e. cc e))) whole
+      | unread kind is' command' means' cannot ↦ kept_lacks text front before now some is (kept (not_write 4 (ap status_of is') (λ e. cc e))) whole
       | unwritten is' part rose ↦
-          part_lacks contents text part.text front before now (zero_answer command contents status text answer).2
-          (tells_zero words holds command part.command means part.means contents told status text answer part.status part.text part.tells) is part.front whole
-      | memory is' command' means' ↦ kept_lacks contents text front before now (zero_answer command contents status text answer).2 is (kept (not_write 6 (ap status_of is') (λ e. cc e))) whole
+          part_lacks text part.text front before now (told_front words holds command part.command means part.means contents told status text answer part.status part.text part.tells) is part.front whole
+      | memory is' command' means' ↦ kept_lacks text front before now some is (kept (not_write 6 (ap status_of is') (λ e. cc e))) whole
     ]
       where
+        some : 0 < length text
+        some = some_text command contents status text (answer_of command contents status text answer).1
+
         not_write : (status : ℕ) → status_of failure ≡ status → (status ≡ 5 → ⊥) → failure ≢ WriteFault
         not_write status is apart same = apart (sym is ∙ ap status_of same)
 
 -- ---- statuses
+
+-- a command that answers doesn't end with status 2
+pub not_two : (ending : Ending) → ending_status ending ≡ 2 → ⊥
+not_two Done two = omega arith
+not_two Never two = omega arith
 
 -- no failure has the status of a text
 pub not_ending : (failure : Failure) → is_ending (status_of failure) ≡ true → ⊥

@@ -1,13 +1,13 @@
 -- The words of a command line name files in one way, so what is told of their contents is one.
 use Rattle.std.proofs.Common.{ℕ, ◌≡◌, ◌≤◌, List, [], ◌∷◌, length, get_or, Option, Some, None, IfSome, refl, ap, sym, subst, arith}
 use Rattle.cts_program.specs.declared.command.Command.{Command}
-use Rattle.cts_program.specs.declared.command.Command.TheVariants.{Zero}
+use Rattle.cts_program.specs.declared.command.Command.TheVariants.{Zero, Period}
 use Rattle.cts_program.specs.declared.file_kind.FileKind.{FileKind}
 use Rattle.cts_program.specs.declared.file_kind.FileKind.TheVariants.{Bench, Tech}
 use Rattle.cts_program.specs.Commands.{Given, IsSame, IsCommand}
 use Rattle.cts_program.specs.Files.{files_of, AreContents, AreTold}
 use Rattle.cts_program.proofs.OneAnswer.{Agree}
-use Rattle.cts_program.proofs.PlainCommands.{one_command}
+use Rattle.cts_program.proofs.PlainCommands.{names_differ, one_command}
 
 -- the value of an option
 value_at : List Given → ℕ → List ℕ
@@ -23,6 +23,9 @@ files_same : (command other : Command) → IsSame command other → files_of com
 unfolding value_at option_count
 files_same (Zero bench None) (Zero bench' None) same = ap (λ given. (Bench, value_at given 0) ∷ []) same.options
 files_same (Zero bench (Some tech)) (Zero bench' (Some tech')) same = ap (λ given. (Bench, value_at given 0) ∷ (Tech, value_at given 1) ∷ []) same.options
+files_same (Period bench tech) (Period bench' tech') same = ap (λ given. (Bench, value_at given 0) ∷ (Tech, value_at given 1) ∷ []) same.options
+files_same (Zero bench tech) (Period bench' tech') same = absurd (names_differ same.name)
+files_same (Period bench tech) (Zero bench' tech') same = absurd (names_differ (sym same.name))
 files_same (Zero bench None) (Zero bench' (Some tech')) same = absurd (one_or_two (ap option_count same.options))
 files_same (Zero bench (Some tech)) (Zero bench' None) same = absurd (one_or_two (sym (ap option_count same.options)))
 

@@ -8,6 +8,8 @@ use Rattle.bench_reader.specs.declared.fault.BenchFault.{BenchFault}
 use Rattle.bench_reader.specs.declared.fault.BenchFault.TheVariants as bench
 use Rattle.delay_tables.specs.declared.fault.TechFault.{TechFault}
 use Rattle.delay_tables.specs.declared.fault.TechFault.TheVariants as tech
+use Rattle.cts_engine.specs.declared.fault.SynthFault.{SynthFault}
+use Rattle.cts_engine.specs.declared.fault.SynthFault.TheVariants as synth
 use Rattle.cts_model.specs.declared.kind.Kind.{Kind}
 use Rattle.cts_model.specs.declared.kind.Kind.TheVariants.{And, Nand, Or, Nor, Not, Xor, Xnor, Buff}
 use Rattle.cts_program.specs.declared.failure.Failure.{Failure}
@@ -30,6 +32,11 @@ bench_failure_of fault = Bench fault
 abbrev pub tech_failure_of : TechFault → Failure
 tech_failure_of tech.NoMemory = NoMemory
 tech_failure_of fault = Tech fault
+
+-- the failure where a circuit has no outcome
+abbrev pub synth_failure_of : SynthFault → Failure
+synth_failure_of synth.TooManyPairs = Pairs
+synth_failure_of synth.NoMemory = NoMemory
 
 -- the program's exit status
 abbrev pub status_of : Failure → ℕ

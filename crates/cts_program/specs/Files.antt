@@ -3,7 +3,7 @@ use Rattle.std.specs.Prelude.{◌≡◌, ◌≤◌, ℕ, List, [], ◌∷◌, ma
 use Rattle.cts_program.specs.declared.file_kind.FileKind.{FileKind}
 use Rattle.cts_program.specs.declared.file_kind.FileKind.TheVariants.{Bench, Tech}
 use Rattle.cts_program.specs.declared.command.Command.{Command}
-use Rattle.cts_program.specs.declared.command.Command.TheVariants.{Zero}
+use Rattle.cts_program.specs.declared.command.Command.TheVariants.{Zero, Period}
 
 -- the word for a kind of file on the error output
 abbrev pub kind_word : FileKind → List ℕ
@@ -14,6 +14,7 @@ kind_word Tech = codes "tech"
 abbrev pub files_of : Command → List (FileKind × List ℕ)
 files_of (Zero bench tech) =
     (Bench, bench.now) ∷ map (λ file. (Tech, file.now)) (option_to_list tech)
+files_of (Period bench tech) = (Bench, bench.now) ∷ (Tech, tech.now) ∷ []
 
 -- no file has more bytes
 abbrev pub IsShortFile : List ℕ → Type 0

@@ -4,6 +4,7 @@ pub mod Failures
 pub mod Files
 pub mod Judged
 pub mod Parsers
+pub mod PeriodTexts
 pub mod PlainWords
 pub mod Run
 pub mod Steps

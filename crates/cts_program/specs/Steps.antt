@@ -1,5 +1,5 @@
 -- What one step of a command finds: a file that was read, or why the command stops there.
-use Rattle.std.specs.Prelude.{◌≡◌, ℕ, Bool, List, Option, IfSome, Result, IsErrOf}
+use Rattle.std.specs.Prelude.{◌≡◌, ℕ, Bool, List, ◌∷◌, map, Option, option_to_list, IfSome, Result, IsErrOf}
 use Rattle.cts_io.specs.Device.{Rose}
 use Rattle.cts_model.specs.declared.signal.Signal.{Signal}
 use Rattle.cts_model.specs.declared.circuit.Circuit.{Circuit}
@@ -15,8 +15,10 @@ use Rattle.cts_program.specs.declared.failure.Failure.{Failure}
 use Rattle.cts_program.specs.declared.failure.Failure.TheVariants as failures
 use Rattle.cts_program.specs.declared.file_kind.FileKind.{FileKind}
 use Rattle.cts_program.specs.declared.file_kind.FileKind.TheVariants as kinds
-use Rattle.cts_program.specs.Files.{IsShortFile}
-use Rattle.cts_program.specs.Judged.{HasFault}
+use Rattle.std.specs.Borrow.{Bor}
+use Rattle.cts_program.specs.declared.command.Command.{Command}
+use Rattle.cts_program.specs.Files.{IsShortFile, files_of, AreContents, AreAll}
+use Rattle.cts_program.specs.Judged.{HasFault, AreAccepted, Tell}
 
 -- these bytes are what a file holds, where the device tells it
 abbrev pub IsToldAs : Option (List ℕ) → List ℕ → Type 0
@@ -64,6 +66,20 @@ abbrev pub FailsTable : List Signal → Option (List ℕ) → ℕ → ℕ → Fa
 FailsTable signals held before now (failures.Tech fault) =
     (bytes : List ℕ) × IsToldAs held bytes × IsShortFile bytes × HasFaultFor signals bytes fault
 FailsTable signals held before now failure = FailsToReadFile kinds.Tech held before now failure
+
+-- the files of the command are a netlist and, if one is named, a delay table for it
+abbrev pub ReadsCircuit : Command → Bor (List ℕ) → Option (Bor (List ℕ)) → Type 0
+ReadsCircuit command bench tech = files_of command
+    ≡ (kinds.Bench, bench.now) ∷ map (λ file. (kinds.Tech, file.now)) (option_to_list tech)
+
+-- what the files of the command hold is accepted, and tells this circuit and these delays
+pub record TellsCircuit (holds : List ℕ → Option (List ℕ)) (command : Command) (circuit : Circuit)
+    (tech : Tech) : Type 0 where
+  pub contents : List (List ℕ)
+  pub are : AreContents holds (files_of command) contents
+  pub all : AreAll command contents
+  pub accepted : AreAccepted contents
+  pub tell : Tell contents circuit tech
 
 -- more pairs are joined than a circuit may have, or memory ran out
 abbrev pub FailsCircuit : Circuit → Failure → Type 0

@@ -5,7 +5,6 @@ use Rattle.std.specs.List.{flat_map, join_with_byte}
 use Rattle.std.specs.Fmt.{signed_decimal}
 use Rattle.cts_model.specs.declared.circuit.Circuit.{Circuit}
 use Rattle.cts_model.specs.declared.tech.Tech.{Tech}
-use Rattle.cts_model.specs.declared.timing.PairDelay.{PairDelay}
 use Rattle.cts_model.specs.declared.timing.ZeroSkew.{ZeroSkew}
 use Rattle.cts_model.specs.declared.timing.ZeroSkew.TheVariants.{Fails, Floor, Setup}
 use Rattle.cts_model.specs.Paths.{register_name}
@@ -25,21 +24,32 @@ text_of lines = flat_map line_of lines
 
 -- a requirement between two registers: the one that launches, the one that captures, and the weight
 -- in ticks
-abbrev pub constraint_line : List ℕ → Circuit → PairDelay → ℤ → Words
-constraint_line word circuit pair weight =
-    word ∷ register_name circuit pair.from ∷ register_name circuit pair.to
+abbrev pub constraint_line : List ℕ → Circuit → (launch capture : ℕ) → ℤ → Words
+constraint_line word circuit launch capture weight =
+    word ∷ register_name circuit launch ∷ register_name circuit capture
     ∷ signed_decimal weight ∷ []
+
+-- the least period at equal arrivals, in ticks
+abbrev pub zero_line : ZeroSkew → Words
+zero_line (Fails pair) = codes "zero" ∷ codes "none" ∷ []
+zero_line (Floor value) = codes "zero" ∷ signed_decimal value ∷ []
+zero_line (Setup value pair) = codes "zero" ∷ signed_decimal value ∷ []
+
+-- the line for a period that the floor shows
+abbrev pub floor_line : Words
+floor_line = codes "floor" ∷ []
+
+-- what shows that no period at equal arrivals is less
+abbrev pub reason_line : Circuit → Tech → ZeroSkew → Words
+reason_line circuit tech (Fails pair) =
+    constraint_line (codes "hold") circuit pair.from pair.to (tech.hold -ℤ pair.least)
+reason_line circuit tech (Floor value) = floor_line
+reason_line circuit tech (Setup value pair) =
+    constraint_line (codes "setup") circuit pair.from pair.to (pair.greatest +ℤ tech.setup)
 
 -- the lines for the least period at equal arrivals
 abbrev pub zero_lines : Circuit → Tech → ZeroSkew → List Words
-zero_lines circuit tech (Fails pair) =
-    (codes "zero" ∷ codes "none" ∷ [])
-    ∷ constraint_line (codes "hold") circuit pair (tech.hold -ℤ pair.least) ∷ []
-zero_lines circuit tech (Floor value) =
-    (codes "zero" ∷ signed_decimal value ∷ []) ∷ (codes "floor" ∷ []) ∷ []
-zero_lines circuit tech (Setup value pair) =
-    (codes "zero" ∷ signed_decimal value ∷ [])
-    ∷ constraint_line (codes "setup") circuit pair (pair.greatest +ℤ tech.setup) ∷ []
+zero_lines circuit tech outcome = zero_line outcome ∷ reason_line circuit tech outcome ∷ []
 
 -- the bytes are the text for the least period of this circuit at equal arrivals
 pub record IsZeroText (circuit : Circuit) (tech : Tech) (text : List ℕ) : Type 0 where

@@ -21,6 +21,11 @@ pub enum Command<'a> {
         bench: &'a str,
         tech: Option<&'a str>,
     },
+    /// The least period that any arrivals allow, of a netlist with a delay table.
+    Period {
+        bench: &'a str,
+        tech: &'a str,
+    },
 }
 
 /// Why words aren't read as a command.

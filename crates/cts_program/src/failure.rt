@@ -3,12 +3,13 @@
 ghost use Rattle.std.specs.Prelude.{◌≡◌, ◌++◌, ◌∷◌, [], decimal};
 ghost use Rattle.std.specs.List.{flat_map};
 ghost use Rattle.cts_program.specs.declared.failure.Failure.TheVariants.{NoMemory};
-ghost use Rattle.cts_program.specs.Failures.{words_failure_of, bench_failure_of, tech_failure_of, status_of, limit_word, gate_word, shown_byte, shown, spaced, loop_line, ended, bench_line, tech_line, failure_line, Reports, Writes};
+ghost use Rattle.cts_program.specs.Failures.{words_failure_of, bench_failure_of, tech_failure_of, synth_failure_of, status_of, limit_word, gate_word, shown_byte, shown, spaced, loop_line, ended, bench_line, tech_line, failure_line, Reports, Writes};
 
 use crate::command::WordsFault;
 use crate::file_kind::FileKind;
 use bench_reader::{BenchFault, Which};
 use cts_base::Name;
+use cts_engine::SynthFault;
 use cts_io::{Failed, Sink, write_whole};
 use cts_model::Kind;
 use delay_tables::TechFault;
@@ -259,6 +260,17 @@ impl From<BenchFault> for Failure {
         match fault {
             BenchFault::NoMemory => Failure::NoMemory,
             _ => Failure::Bench(fault),
+        }
+    }
+}
+
+impl From<SynthFault> for Failure {
+    ghost from_gives = { λ fault failure. failure ≡ synth_failure_of fault };
+
+    fn from(fault: SynthFault) -> Failure {
+        match fault {
+            SynthFault::TooManyPairs => Failure::Pairs,
+            SynthFault::NoMemory => Failure::NoMemory,
         }
     }
 }

@@ -2,12 +2,17 @@
 #![tactic(auto)]
 
 mod command;
+mod ending;
 mod failure;
 mod file_kind;
 mod files;
+mod period;
+mod period_text;
 mod run;
 #[cfg(test)]
 mod tests;
+mod text_lines;
+mod told;
 mod zero;
 mod zero_text;
 

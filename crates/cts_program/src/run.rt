@@ -3,7 +3,7 @@ ghost use Rattle.cts_io.specs.Device.{Rose, appended};
 ghost use Rattle.cts_program.specs.declared.command.Command.{Command};
 ghost use Rattle.cts_program.specs.declared.failure.Failure.{Failure};
 ghost use Rattle.cts_program.specs.declared.file_kind.FileKind.{FileKind};
-ghost use Rattle.cts_program.specs.Answers.{is_ending, IsAnswer, IsRefusal};
+ghost use Rattle.cts_program.specs.Answers.{is_ending, ending_status, IsAnswer, IsRefusal};
 ghost use Rattle.cts_program.specs.Commands.{IsCommand};
 ghost use Rattle.cts_program.specs.Failures.{status_of, failure_line, Reports};
 ghost use Rattle.cts_program.specs.Files.{files_of, AreTold};
@@ -11,7 +11,9 @@ ghost use Rattle.cts_program.specs.Run.{IsNoCommand, TellsText, Refuses, CannotR
 ghost use Rattle.cts_program.specs.Steps.{IsAnyReadFault};
 
 use crate::command::{Command, read_command};
+use crate::ending::{Answer, Ending};
 use crate::failure::Failure;
+use crate::period::period;
 use crate::zero::zero;
 use cts_io::{Inputs, Sink, write_whole};
 use std::alloc::Global;
@@ -86,8 +88,8 @@ pub fn run<I: Inputs, O: Sink, E: Sink>(
         × Reports (failure_line failure) (E.written err.old) (E.faults err.old) (E.written err.new)
         (E.faults err.new) }
 {
-    match answer(alloc, words, inputs, out) {
-        Ok(()) => 0,
+    match write_answer(alloc, words, inputs, out) {
+        Ok(ending) => ending.status(),
         Err(failure) => {
             failure.report(err);
             failure.status()
@@ -96,14 +98,14 @@ pub fn run<I: Inputs, O: Sink, E: Sink>(
 }
 
 // Answers the words: the whole text is made before its first byte is written.
-fn answer<I: Inputs, O: Sink>(
+fn write_answer<I: Inputs, O: Sink>(
     alloc: Global,
     words: &[String],
     inputs: &mut I,
     out: &mut O,
-) -> Result<(), Failure>
-    ensures done { IfOk result (λ _. Ends (map string_bytes words.now) (I.holds inputs.old) 0
-        (O.written out.old) (O.written out.new)) }
+) -> Result<Ending, Failure>
+    ensures done { IfOk result (λ ending. Ends (map string_bytes words.now) (I.holds inputs.old)
+        (ending_status ending) (O.written out.old) (O.written out.new)) }
     ensures cause { IfErr result (Fails (map string_bytes words.now) (I.holds inputs.old)
         (I.faults inputs.old) (I.faults inputs.new) (O.written out.old) (O.written out.new)
         (O.faults out.old) (O.faults out.new)) }
@@ -116,20 +118,21 @@ fn answer<I: Inputs, O: Sink>(
     ensures writes { ¬ IsErrOf result Failure.WriteFault → O.faults out.new ≡ O.faults out.old }
 {
     let command = read_command(alloc, words)?;
-    let text = command_text(alloc, inputs, command)?;
-    match write_whole(out, &text) {
-        Ok(()) => Ok(()),
+    let answer = command_answer(alloc, inputs, command)?;
+    match write_whole(out, &answer.text) {
+        Ok(()) => Ok(answer.ending),
         Err(_) => Err(Failure::WriteFault),
     }
 }
 
-// The text that a command answers.
-fn command_text<I: Inputs>(
+// What a command answers.
+fn command_answer<I: Inputs>(
     alloc: Global,
     inputs: &mut I,
     command: Command,
-) -> Result<Vec<u8>, Failure>
-    ensures ok { IfOk result (λ text. TellsText (I.holds inputs.old) command.entry 0 text.items) }
+) -> Result<Answer, Failure>
+    ensures ok { IfOk result (λ answer. TellsText (I.holds inputs.old) command.entry
+        (ending_status answer.ending) answer.text.items) }
     ensures cause { IfErr result (Stops (I.holds inputs.old) (I.faults inputs.old)
         (I.faults inputs.new) command.entry) }
     ensures files { (file : List ℕ) → I.holds inputs.new file ≡ I.holds inputs.old file }
@@ -138,5 +141,6 @@ fn command_text<I: Inputs>(
 {
     match command {
         Command::Zero { bench, tech } => zero(alloc, inputs, bench, tech),
+        Command::Period { bench, tech } => period(alloc, inputs, bench, tech),
     }
 }

@@ -172,6 +172,24 @@ fn zero_with(alloc: Global, bench: &[u8], tech: &[u8]) -> Result<Seen, NoMemory>
     )
 }
 
+// What `period --bench F --tech T` must leave over this netlist and this table.
+fn expect_period(
+    rt: &impl Abort,
+    alloc: Global,
+    bench: &str,
+    tech: &str,
+    status: u8,
+    text: &str,
+) -> Result<(), NoMemory> {
+    let seen = run_on(
+        alloc,
+        &["period", "--bench", "F", "--tech", "T"],
+        files(alloc, bench.as_bytes(), Some(tech.as_bytes()), &[], 100_000)?,
+    )?;
+    seen.expect(rt, status, text, "", bench);
+    Ok(())
+}
+
 // A table with a wire, a source, the setup, hold, least and greatest delay of registers, and more.
 fn table(alloc: Global, registers: [u32; 4], more: &str) -> Result<String, AllocError> {
     let [setup, hold, least, greatest] = registers;
@@ -521,6 +539,63 @@ fn answers_with_a_table(rt: HostRuntime) -> Result<(), Fail> {
         let tech = table(rt.alloc(), registers, more)?;
         let seen = zero_with(rt.alloc(), bench.as_bytes(), tech.as_bytes())?;
         seen.expect(&rt, 0, text, "", bench);
+    }
+    Ok(())
+}
+
+#[test]
+fn finds_the_least_period(rt: HostRuntime) -> Result<(), Fail> {
+    let both = "[gate.NOT]\nleast = 3\ngreatest = 4\n[gate.OR]\nleast = 1\ngreatest = 2\n";
+    let buff = "[gate.BUFF]\nleast = 2\ngreatest = 5\n";
+    let slow = "[gate.NOT]\nleast = 7\ngreatest = 7\n[gate.BUFF]\nleast = 4\ngreatest = 4\n";
+    let joined = "INPUT(x)\nA = DFF(x)\nB = DFF(z)\np = NOT(A)\nz = OR(A, p)\n";
+    let apart = "INPUT(x)\nA = DFF(x)\nB = DFF(x)\n";
+    let lopsided = "A = DFF(m)\nB = DFF(n)\nn = NOT(A)\nm = BUFF(B)\n";
+    for (bench, registers, more, text) in [
+        // A long and a short way to one register leave no room for skew.
+        (
+            joined,
+            [1, 2, 1, 1],
+            both,
+            "period 8\nzero 8\ncycle 2\nsetup A B 8\nhold A B 0\n",
+        ),
+        (apart, [0, 0, 0, 0], "", "period 0\nzero 0\nfloor\n"),
+        // Where a hold fails at equal arrivals, skew mends it.
+        (
+            RING,
+            [0, 2, 1, 1],
+            buff,
+            "period 5\nzero none\ncycle 2\nhold B A -1\nsetup B A 6\n",
+        ),
+        (
+            lopsided,
+            [0, 0, 0, 0],
+            slow,
+            "period 11/2\nzero 7\ncycle 2\nsetup A B 7\nsetup B A 4\n",
+        ),
+    ] {
+        let tech = table(rt.alloc(), registers, more)?;
+        expect_period(&rt, rt.alloc(), bench, &tech, 0, text)?;
+    }
+    Ok(())
+}
+
+#[test]
+fn finds_the_least_period_of_s27(rt: HostRuntime) -> Result<(), Fail> {
+    let text = "period 13\nzero 15\ncycle 1\nsetup G6 G6 13\n";
+    expect_period(&rt, rt.alloc(), S27, S27_TABLE, 0, text)?;
+    Ok(())
+}
+
+#[test]
+fn tells_that_there_is_no_period(rt: HostRuntime) -> Result<(), Fail> {
+    let buff = "[gate.BUFF]\nleast = 1\ngreatest = 5\n";
+    for (bench, more, text) in [
+        ("A = DFF(A)\n", "", "never\ncycle 1\nhold A A 1\n"),
+        (RING, buff, "never\ncycle 2\nhold B A 0\nhold A B 1\n"),
+    ] {
+        let tech = table(rt.alloc(), [0, 2, 1, 1], more)?;
+        expect_period(&rt, rt.alloc(), bench, &tech, 1, text)?;
     }
     Ok(())
 }

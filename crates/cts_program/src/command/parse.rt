@@ -34,6 +34,10 @@ fn command_of<'a>(form: Form, matches: &ArgMatches<'a>) -> Command<'a>
             bench: matches.get_str("--bench").unwrap(),
             tech: matches.get_str("--tech"),
         },
+        Form::Period => Command::Period {
+            bench: matches.get_str("--bench").unwrap(),
+            tech: matches.get_str("--tech").unwrap(),
+        },
     }
 }
 

@@ -8,6 +8,7 @@ ghost use Rattle.cts_program.specs.PlainWords.{choices_of, form_name, row_of};
 #[derive(Clone, Copy, Debug, Drop, PartialEq)]
 pub enum Form {
     Zero,
+    Period,
 }
 
 /// An option that stands at most once behind a command's name.
@@ -17,7 +18,7 @@ pub struct Choice {
     pub is_required: bool,
 }
 
-const FORMS: [Form; 1] = [Form::Zero];
+const FORMS: [Form; 2] = [Form::Zero, Form::Period];
 
 static ZERO: [Choice; 2] = [
     Choice {
@@ -30,12 +31,24 @@ static ZERO: [Choice; 2] = [
     },
 ];
 
+static PERIOD: [Choice; 2] = [
+    Choice {
+        option: "--bench",
+        is_required: true,
+    },
+    Choice {
+        option: "--tech",
+        is_required: true,
+    },
+];
+
 impl Form {
     pub fn name(self) -> &'static str
         ensures { result.now ≡ form_name self }
     {
         match self {
             Form::Zero => "zero",
+            Form::Period => "period",
         }
     }
 
@@ -44,6 +57,7 @@ impl Form {
     {
         match self {
             Form::Zero => &ZERO,
+            Form::Period => &PERIOD,
         }
     }
 

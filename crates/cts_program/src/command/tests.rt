@@ -31,6 +31,21 @@ fn reads_options_in_any_order(rt: HostRuntime) -> Result<(), Fail> {
 }
 
 #[test]
+fn reads_period_with_both_options(rt: HostRuntime) -> Result<(), Fail> {
+    let rows: [&[&str]; 2] = [
+        &["period", "--bench", "F", "--tech", "G"],
+        &["period", "--tech", "G", "--bench", "F"],
+    ];
+    let (bench, tech) = ("F", "G");
+    for row in rows {
+        let words = words(rt.alloc(), row)?;
+        let command = read_command(rt.alloc(), words.as_slice());
+        assert_eq!(rt; command, Ok(Command::Period { bench, tech }), "for {row:?}");
+    }
+    Ok(())
+}
+
+#[test]
 fn refuses_words_that_mean_no_command(rt: HostRuntime) -> Result<(), Fail> {
     let rows: [&[&str]; 19] = [
         &[],
@@ -51,8 +66,7 @@ fn refuses_words_that_mean_no_command(rt: HostRuntime) -> Result<(), Fail> {
         &["zero", "--bench", "-F"],
         &["--help"],
         &["zero", "--help"],
-        // Not built yet.
-        &["period", "--bench", "F", "--tech", "F"],
+        &["period", "--bench", "F"],
     ];
     for row in rows {
         let words = words(rt.alloc(), row)?;

@@ -1,11 +1,26 @@
-use Rattle.std.proofs.Common.{map, string_bytes, sym, ◌∙◌}
-use Rattle.cts_program.proofs.RunLemmas.{told_not_refused, two_is_usage, usage_is_two, refused_status, five_is_unwritten, complete_status, lacks_text, risen_status}
+use Rattle.std.proofs.Common.{map, string_bytes, inl, sym, ◌∙◌}
+use Rattle.cts_program.proofs.RunLemmas.{told_not_refused, told_status, two_is_usage, usage_is_two, three_is_refused, refused_status, five_is_unwritten, complete_status, lacks_text, not_two, risen_status}
 use Rattle.cts_program.proofs.run.run.Goals as goal
 
 pub returns-in-Ok-clause-refuses : goal.returns-in-Ok-clause-refuses
 returns-in-Ok-clause-refuses g c command contents failure means told refusal =
     let ends = c.in-Ok.ensures.done in
-    absurd (told_not_refused (map string_bytes c.args.words.now) (g.I.Inputs.holds c.args.inputs.now) command ends.command means ends.means contents told failure refusal 0 ends.text ends.tells)
+    absurd (told_not_refused (map string_bytes c.args.words.now) (g.I.Inputs.holds c.args.inputs.now) command ends.command means ends.means contents told failure refusal _ ends.text ends.tells)
+
+pub returns-in-Ok-clause-usage : goal.returns-in-Ok-clause-usage
+returns-in-Ok-clause-usage g c =
+    let ends = c.in-Ok.ensures.done in
+    (λ two. absurd (not_two c.in-Ok.ending (sym c.status.ensures ∙ two)), λ none. absurd (none ends.command ends.means))
+
+pub returns-in-Ok-clause-only : goal.returns-in-Ok-clause-only
+returns-in-Ok-clause-only g c command contents status text before means told answer is whole =
+    let ends = c.in-Ok.ensures.done in
+    c.status.ensures ∙ told_status (map string_bytes c.args.words.now) (g.I.Inputs.holds c.args.inputs.now) command ends.command means ends.means contents told status text answer _ ends.text ends.tells
+
+pub returns-in-Ok-clause-complete : goal.returns-in-Ok-clause-complete
+returns-in-Ok-clause-complete g c command contents status text means told answer read wrote =
+    let ends = c.in-Ok.ensures.done in
+    inl (c.status.ensures ∙ told_status (map string_bytes c.args.words.now) (g.I.Inputs.holds c.args.inputs.now) command ends.command means ends.means contents told status text answer _ ends.text ends.tells)
 
 pub returns-in-Err-clause-only : goal.returns-in-Err-clause-only
 returns-in-Err-clause-only g c command contents status text before means told answer is whole =
@@ -13,23 +28,27 @@ returns-in-Err-clause-only g c command contents status text before means told an
     command contents status text before means told answer c.in-Err.ensures.kept is whole)
 
 pub returns-in-Err-clause-usage : goal.returns-in-Err-clause-usage
-returns-in-Err-clause-usage g c = rw c.status.ensures (
+returns-in-Err-clause-usage g c = rw c.status-in-Err.ensures (
   two_is_usage (map string_bytes c.args.words.now) (g.I.Inputs.holds c.args.inputs.now) _ _ _ _ _ _ c.in-Err.failure c.in-Err.ensures.cause,
   usage_is_two (map string_bytes c.args.words.now) (g.I.Inputs.holds c.args.inputs.now) _ _ _ _ _ _ c.in-Err.failure c.in-Err.ensures.cause,
 )
 
 pub returns-in-Err-clause-refuses : goal.returns-in-Err-clause-refuses
 returns-in-Err-clause-refuses g c command contents failure means told refusal =
-    rw c.status.ensures (refused_status (map string_bytes c.args.words.now) (g.I.Inputs.holds c.args.inputs.now) _ _ _ _ _ _ c.in-Err.failure c.in-Err.ensures.cause command contents failure means told refusal)
+    rw c.status-in-Err.ensures (refused_status (map string_bytes c.args.words.now) (g.I.Inputs.holds c.args.inputs.now) _ _ _ _ _ _ c.in-Err.failure c.in-Err.ensures.cause command contents failure means told refusal)
 
 pub returns-in-Err-clause-risen : goal.returns-in-Err-clause-risen
 returns-in-Err-clause-risen g c file rose =
-    rw c.status.ensures (risen_status c.in-Err.failure (g.I.Inputs.faults c.args.inputs.now file) (g.I.Inputs.faults c.answer.new.inputs file) (λ none. c.in-Err.ensures.reads (λ (kind, e). none (kind, cc e)) file) rose)
+    rw c.status-in-Err.ensures (risen_status c.in-Err.failure (g.I.Inputs.faults c.args.inputs.now file) (g.I.Inputs.faults c.write_answer.new.inputs file) (λ none. c.in-Err.ensures.reads (λ (kind, e). none (kind, cc e)) file) rose)
 
 pub returns-in-Err-clause-part : goal.returns-in-Err-clause-part
 returns-in-Err-clause-part g c five =
-    (five_is_unwritten (map string_bytes c.args.words.now) (g.I.Inputs.holds c.args.inputs.now) _ _ _ _ _ _ c.in-Err.failure c.in-Err.ensures.cause (sym c.status.ensures ∙ five)).0
+    (five_is_unwritten (map string_bytes c.args.words.now) (g.I.Inputs.holds c.args.inputs.now) _ _ _ _ _ _ c.in-Err.failure c.in-Err.ensures.cause (sym c.status-in-Err.ensures ∙ five)).0
 
 pub returns-in-Err-clause-complete : goal.returns-in-Err-clause-complete
 returns-in-Err-clause-complete g c command contents status text means told answer read wrote =
-    rw c.status.ensures (complete_status (map string_bytes c.args.words.now) (g.I.Inputs.holds c.args.inputs.now) _ _ _ _ _ _ c.in-Err.failure c.in-Err.ensures.cause command contents status text means told answer read wrote)
+    rw c.status-in-Err.ensures (complete_status (map string_bytes c.args.words.now) (g.I.Inputs.holds c.args.inputs.now) _ _ _ _ _ _ c.in-Err.failure c.in-Err.ensures.cause command contents status text means told answer read wrote)
+
+pub returns-in-Err-clause-refused : goal.returns-in-Err-clause-refused
+returns-in-Err-clause-refused g c three =
+    three_is_refused (map string_bytes c.args.words.now) (g.I.Inputs.holds c.args.inputs.now) _ _ _ _ _ _ c.in-Err.failure c.in-Err.ensures.cause (sym c.status-in-Err.ensures ∙ three)

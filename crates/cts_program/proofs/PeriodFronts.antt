@@ -1,0 +1,234 @@
+-- A circuit and its delays have period texts of one status, and none is a front of another: they
+-- differ in the cycle alone.
+use Rattle.std.proofs.Common.{◌≡◌, ◌<◌, ◌≤◌, ◌^◌, ◌≢◌, ◌+◌, ℕ, suc, pos, Bool, true, false, cond, if◌then◌else◌, List, [], ◌∷◌, length, map, take, drop, get_or, All, AllPairs, refl, sym, ap, ◌∙◌, subst, codes, decimal, arith}
+use Rattle.std.proofs.lemmas.Bool.Decides.{Decides-eqb}
+use Rattle.std.proofs.lemmas.Fmt.{decimal_injective}
+use Rattle.std.proofs.lemmas.List.{length-map}
+use Rattle.std.proofs.lemmas.List.Elements.{All-map, All-contains}
+use Rattle.std.proofs.lemmas.List.Kept.{AllPairs-cons}
+use Rattle.std.proofs.lemmas.Map.Made.{IsDistinct-from_AllPairs}
+use Rattle.std.proofs.lemmas.Map.Views.{Contains-from_any}
+use Rattle.std.proofs.lemmas.Map.Steps.{length-le_from_distinct_below}
+use Rattle.cts_base.specs.declared.fraction.Fraction.{Fraction}
+use Rattle.cts_model.specs.declared.circuit.Circuit.{Circuit}
+use Rattle.cts_model.specs.declared.tech.Tech.{Tech}
+use Rattle.cts_model.specs.declared.constraint.Constraint.{Constraint}
+use Rattle.cts_model.specs.declared.period.PeriodShow.{PeriodShow}
+use Rattle.cts_model.specs.declared.period.PeriodShow.TheVariants.{Cycle, Floor}
+use Rattle.cts_model.specs.declared.timing.ZeroSkew.{ZeroSkew}
+use Rattle.cts_model.specs.declared.timing.ZeroSkew.TheVariants as zero_skew
+use Rattle.cts_model.specs.Circuits.{has_host}
+use Rattle.cts_model.specs.Constraints.{IsConstraintOf}
+use Rattle.cts_model.specs.Cycles.{IsCycle}
+use Rattle.cts_model.specs.LeastPeriods.{IsPeriodShow}
+use Rattle.cts_model.proofs.CircuitConstraints.{forbidding_at_all}
+use Rattle.cts_engine.specs.declared.period.PeriodOutcome.{PeriodOutcome}
+use Rattle.cts_engine.specs.declared.period.PeriodOutcome.TheVariants.{Found, Never}
+use Rattle.cts_engine.specs.Outcomes.{IsPeriodOutcome}
+use Rattle.cts_program.specs.PeriodTexts.{period_line, line_for, count_line, cycle_lines, show_lines, period_lines, outcome_status, IsPeriodText}
+use Rattle.cts_program.specs.Texts.{text_of, constraint_line, zero_line}
+use Rattle.cts_program.proofs.LineBytes.{IsInLine, words_in_line, number_in_line, fraction_in_line, register_in_line}
+use Rattle.cts_program.proofs.LineFronts.{joined, AreLines, AreFront, no_front}
+use Rattle.cts_program.proofs.PairRegisters.{tails_within}
+
+-- ---- one status
+
+-- outcomes have one status
+one_outcome_status : (circuit : Circuit) (tech : Tech) (outcome other : PeriodOutcome)
+    → IsPeriodOutcome circuit tech outcome → IsPeriodOutcome circuit tech other
+    → outcome_status outcome ≡ outcome_status other
+one_outcome_status circuit tech (Found zero period shown)
+    (Found zero' period' shown') found found' = refl
+one_outcome_status circuit tech (Found zero period shown) (Never cycle) found never =
+    absurd (forbidding_at_all circuit tech cycle never _ _ found.least.proper found.least.admitted)
+one_outcome_status circuit tech (Never cycle) (Found zero period shown) never found =
+    absurd (forbidding_at_all circuit tech cycle never _ _ found.least.proper found.least.admitted)
+one_outcome_status circuit tech (Never cycle) (Never cycle') never never' = refl
+
+-- and so have texts
+pub one_period_status : (circuit : Circuit) (tech : Tech) (status status' : ℕ) (text text' : List ℕ)
+    → IsPeriodText circuit tech status text → IsPeriodText circuit tech status' text'
+    → status ≡ status'
+one_period_status circuit tech status status' text text' spells spells' =
+    spells.status_is ∙ one_outcome_status circuit tech spells.outcome spells'.outcome spells.least
+    spells'.least
+    ∙ sym spells'.status_is
+
+-- ---- the lines are lines
+
+-- the line of a constraint is one line
+line_for_in_line : (circuit : Circuit) (constraint : Constraint)
+    → IsInLine (joined (line_for circuit constraint))
+line_for_in_line circuit constraint = at constraint.setup
+  where
+    between : (word : List ℕ) → IsInLine word → (launch capture : ℕ)
+        → IsInLine (joined (constraint_line word circuit launch capture constraint.weight))
+    between word in_line launch capture =
+        words_in_line (constraint_line word circuit launch capture constraint.weight) (
+          in_line,
+          (
+            register_in_line circuit launch,
+            (register_in_line circuit capture, (number_in_line constraint.weight, tt)),
+          ),
+        )
+
+    at : (setup : Bool) → IsInLine (joined (if setup
+        then constraint_line
+        (codes "setup") circuit constraint.tail constraint.head constraint.weight
+        else constraint_line
+        (codes "hold") circuit constraint.head constraint.tail constraint.weight))
+    at true = between (codes "setup") refl constraint.tail constraint.head
+    at false = between (codes "hold") refl constraint.head constraint.tail
+
+-- so are those of constraints
+constraint_lines : (circuit : Circuit) (cycle : List Constraint)
+    → AreLines (map (line_for circuit) cycle)
+constraint_lines circuit [] = tt
+constraint_lines circuit (constraint ∷ cycle) =
+    (line_for_in_line circuit constraint, constraint_lines circuit cycle)
+
+-- those of a cycle
+cycle_lines_are : (circuit : Circuit) (cycle : List Constraint)
+    → AreLines (cycle_lines circuit cycle)
+cycle_lines_are circuit cycle = (
+  words_in_line (count_line cycle)
+      (refl, (number_in_line (pos (length cycle)), tt)),
+  constraint_lines circuit cycle,
+)
+
+-- those of what shows a period
+show_lines_are : (circuit : Circuit) (shown : PeriodShow) → AreLines (show_lines circuit shown)
+show_lines_are circuit (Cycle cycle) = cycle_lines_are circuit cycle
+show_lines_are circuit Floor = (refl, tt)
+
+-- and the line for the least period at equal arrivals
+zero_line_is : (zero : ZeroSkew) → IsInLine (joined (zero_line zero))
+zero_line_is (zero_skew.Fails pair) = refl
+zero_line_is (zero_skew.Floor value) =
+    words_in_line (zero_line (zero_skew.Floor value)) (refl, (number_in_line value, tt))
+zero_line_is (zero_skew.Setup value pair) =
+    words_in_line (zero_line (zero_skew.Setup value pair)) (refl, (number_in_line value, tt))
+
+-- so those of an outcome are lines
+period_lines_are : (circuit : Circuit) (outcome : PeriodOutcome)
+    → AreLines (period_lines circuit outcome)
+period_lines_are circuit (Found zero period shown) = (
+  words_in_line (period_line period) (refl, (fraction_in_line period.num period.den, tt)),
+  (zero_line_is zero, show_lines_are circuit shown),
+)
+period_lines_are circuit (Never cycle) = (refl, cycle_lines_are circuit cycle)
+
+-- ---- the count of lines
+
+-- registers that are tails once are numbers that differ
+tails_apart : (cycle : List Constraint) → AllPairs (λ first second. first.tail ≢ second.tail) cycle
+    → AllPairs (λ x y. x ≢ y) (map (λ constraint. constraint.tail) cycle)
+tails_apart [] apart = λ i j d before within. absurd (omega arith)
+tails_apart (constraint ∷ cycle) apart =
+    AllPairs-cons (λ x y. x ≢ y) constraint.tail (map (λ (c : Constraint). c.tail) cycle)
+    (All-map (λ tail. constraint.tail ≢ tail) (λ (c : Constraint). c.tail) cycle
+    (λ j d within. apart 0 (suc j) d (omega arith) (omega arith)))
+    (tails_apart cycle (λ i j d before within. apart (suc i) (suc j) d (omega arith) (omega arith)))
+
+-- a cycle of a circuit's constraints has at most as many constraints as there are registers
+cycle_within : (circuit : Circuit) (tech : Tech) (cycle : List Constraint)
+    → All (IsConstraintOf circuit tech) cycle → IsCycle cycle
+    → length cycle ≤ length circuit.registers
+cycle_within circuit tech cycle of_circuit is_cycle =
+    let tails = map (λ (constraint : Constraint). constraint.tail) cycle in
+    let within = All-map (λ tail. tail < length circuit.registers)
+    (λ (constraint : Constraint). constraint.tail) cycle
+    (tails_within circuit tech cycle of_circuit) in
+    let few = length-le_from_distinct_below tails (length circuit.registers)
+    (IsDistinct-from_AllPairs Decides-eqb tails (tails_apart cycle is_cycle.once))
+    (λ tail found. All-contains (λ t. t < length circuit.registers) tails tail within
+    (Contains-from_any (λ x y. (Decides-eqb x y).0) tail tails found)) in
+    omega (arith, length-map cycle (λ (constraint : Constraint). constraint.tail))
+
+-- and so fewer than a number of 64 bits may say
+cycle_count : (circuit : Circuit) (tech : Tech) (cycle : List Constraint)
+    → All (IsConstraintOf circuit tech) cycle → IsCycle cycle
+    → length cycle < 2 ^ 64
+cycle_count circuit tech cycle of_circuit is_cycle =
+    let within = cycle_within circuit tech cycle of_circuit is_cycle in
+    let few = few_registers circuit in
+    omega arith
+  where
+    few_registers : (circuit : Circuit) → length circuit.registers ≤ 4097
+    few_registers circuit = at (has_host circuit.signals) circuit.valid.few_registers
+      where
+        at : (host : Bool) → length circuit.registers ≤ 4096 + cond host 1 0
+            → length circuit.registers ≤ 4097
+        at true few = few
+        at false few = omega arith
+
+-- cycles that are spelled with one count have as many constraints
+one_count : (circuit : Circuit) (cycle other : List Constraint) → length cycle < 2 ^ 64
+    → length other < 2 ^ 64
+    → joined (count_line cycle) ≡ joined (count_line other)
+    → length (cycle_lines circuit cycle) ≡ length (cycle_lines circuit other)
+one_count circuit cycle other small small' same =
+    let counts : decimal (length cycle) ≡ decimal (length other) =
+    ap (λ (bytes : List ℕ). drop 6 bytes) same in
+    let count = decimal_injective (length cycle) (length other) small small' counts in
+    omega (arith, length-map cycle (line_for circuit), length-map other (line_for circuit))
+
+-- bytes that begin otherwise differ
+differ : (bytes other : List ℕ) → (get_or bytes 0 0 ≡ get_or other 0 0 → ⊥) → bytes ≡ other → ⊥
+differ bytes other apart same = apart (ap (λ (b : List ℕ). get_or b 0 0) same)
+
+-- what shows a period has one count of lines
+as_many_shown : (circuit : Circuit) (tech : Tech) (period period' : Fraction)
+    (shown shown' : PeriodShow)
+    → IsPeriodShow circuit tech period shown → IsPeriodShow circuit tech period' shown'
+    → AreFront (show_lines circuit shown) (show_lines circuit shown')
+    → length (show_lines circuit shown) ≡ length (show_lines circuit shown')
+as_many_shown circuit tech period period' (Cycle cycle) (Cycle cycle') shows shows' front =
+    one_count circuit cycle cycle'
+    (cycle_count circuit tech cycle shows.of_circuit shows.shows.is_cycle)
+    (cycle_count circuit tech cycle' shows'.of_circuit shows'.shows.is_cycle) front.0
+as_many_shown circuit tech period period' (Cycle cycle) Floor shows shows' front =
+    absurd (differ (joined (count_line cycle)) (codes "floor") (λ e. omega arith) front.0)
+as_many_shown circuit tech period period' Floor (Cycle cycle) shows shows' front =
+    absurd (differ (codes "floor") (joined (count_line cycle)) (λ e. omega arith) front.0)
+as_many_shown circuit tech period period' Floor Floor shows shows' front = refl
+
+-- lines of outcomes of which one are a front of the other are as many
+as_many_lines : (circuit : Circuit) (tech : Tech) (outcome other : PeriodOutcome)
+    → IsPeriodOutcome circuit tech outcome → IsPeriodOutcome circuit tech other
+    → AreFront (period_lines circuit outcome) (period_lines circuit other)
+    → length (period_lines circuit outcome) ≡ length (period_lines circuit other)
+as_many_lines circuit tech (Found zero period shown)
+    (Found zero' period' shown') found found' front =
+    ap (λ count. suc (suc count))
+    (as_many_shown circuit tech period period' shown shown' found.shown found'.shown front.1.1)
+as_many_lines circuit tech (Found zero period shown) (Never cycle) found never front =
+    absurd (differ (joined (period_line period)) (codes "never") (λ e. omega arith) front.0)
+as_many_lines circuit tech (Never cycle) (Found zero period shown) never found front =
+    absurd (differ (codes "never") (joined (period_line period)) (λ e. omega arith) front.0)
+as_many_lines circuit tech (Never cycle) (Never cycle') never never' front =
+    ap suc (one_count circuit cycle cycle'
+    (cycle_count circuit tech cycle never.of_circuit never.forbids.is_cycle)
+    (cycle_count circuit tech cycle' never'.of_circuit never'.forbids.is_cycle) front.1.0)
+
+-- ---- texts
+
+module _ (circuit : Circuit) (tech : Tech) (status : ℕ) (text : List ℕ)
+    (spells : IsPeriodText circuit tech status text) where
+  -- no text is a front of another
+  pub no_period_front : (status' : ℕ) (other : List ℕ) → IsPeriodText circuit tech status' other
+      → (count : ℕ) → text ≡ take count other → count < length other → ⊥
+  no_period_front status' other spells' count cut short =
+      no_front (period_lines circuit spells.outcome) (period_lines circuit spells'.outcome) count
+      (period_lines_are circuit spells.outcome) (period_lines_are circuit spells'.outcome)
+      (as_many_lines circuit tech spells.outcome spells'.outcome spells.least spells'.least)
+      (sym spells.spelled ∙ cut ∙ ap (take count) spells'.spelled)
+      (subst (λ bytes. count < length bytes) spells'.spelled short)
+
+  -- and none is empty
+  pub some_period : 0 < length text
+  some_period = subst (λ bytes. 0 < length bytes) (sym spells.spelled) (at spells.outcome)
+    where
+      at : (outcome : PeriodOutcome) → 0 < length (text_of (period_lines circuit outcome))
+      at (Found zero period shown) = omega arith
+      at (Never cycle) = omega arith

@@ -1,0 +1,318 @@
+-- What the files of a command tell, and how it stops or answers.
+use Rattle.std.proofs.Common.{◌≡◌, ℕ, Bool, true, false, List, [], ◌∷◌, ◌++◌, length, Option, Some, None, IsTrue, IsSomeAnd, MatchBool, Bor, nat_eq, get_or, Contains, inl, inr, refl, sym, ap, ◌∙◌, subst, arith}
+use Rattle.std.specs.List.{slice_get}
+use Rattle.std.proofs.Math.ListN.{get_or-append}
+use Rattle.std.proofs.Math.Seq.{get_or-append_seam}
+use Rattle.std.proofs.lemmas.Bool.{cases_lt}
+use Rattle.std.proofs.lemmas.List.{length_push}
+use Rattle.std.proofs.lemmas.Option.{slice_get_within, slice_get-get_or, get_or_from_slice_get}
+use Rattle.cts_model.specs.declared.signal.Signal.{Signal}
+use Rattle.cts_model.specs.declared.circuit.Circuit.{Circuit}
+use Rattle.cts_model.specs.declared.tech.Tech.{Tech}
+use Rattle.cts_model.specs.Circuits.{host_signal}
+use Rattle.cts_model.specs.Hosts.{IsWithHost}
+use Rattle.cts_model.specs.Kinds.{is_gate}
+use Rattle.cts_model.specs.Netlists.{AcceptsNetlist}
+use Rattle.cts_model.specs.Paths.{Reads, Follows, IsLoop}
+use Rattle.cts_model.specs.PairLists.{JoinsMoreThan}
+use Rattle.cts_model.specs.PlainTable.{IsPlainTable}
+use Rattle.cts_model.specs.UsedKinds.{AreUsedKinds}
+use Rattle.cts_engine.specs.Faults.{IsCaused}
+use Rattle.cts_engine.specs.declared.fault.SynthFault.{SynthFault}
+use Rattle.cts_engine.specs.declared.fault.SynthFault.TheVariants as synth
+use Rattle.cts_program.specs.declared.command.Command.{Command}
+use Rattle.cts_program.specs.declared.failure.Failure.{Failure}
+use Rattle.cts_program.specs.declared.failure.Failure.TheVariants as failures
+use Rattle.cts_program.specs.declared.file_kind.FileKind.TheVariants as kinds
+use Rattle.cts_program.specs.Answers.{TellWith}
+use Rattle.cts_program.specs.Failures.{synth_failure_of}
+use Rattle.cts_program.specs.Files.{files_of, AreContents}
+use Rattle.cts_program.specs.Judged.{IsNetlistFile, IsTableFile, IsHostedBy, Tell}
+use Rattle.cts_program.specs.Run.{Stops}
+use Rattle.cts_program.specs.Steps.{IsToldAs, ReadsNetlist, FailsNetlist, ReadsTable, FailsTable, ReadsCircuit, TellsCircuit, FailsCircuit}
+
+-- a netlist that was read is accepted
+pub accepted_netlist : {held : Option (List ℕ)} {circuit : Circuit}
+    (netlist : ReadsNetlist held circuit) → IsNetlistFile netlist.bytes
+accepted_netlist netlist = record { short = netlist.short; netlist = netlist.accepts.netlist }
+
+-- and so is a table behind it
+pub accepted_table : {held told : Option (List ℕ)} {circuit : Circuit} {tech : Tech}
+    (netlist : ReadsNetlist held circuit) (table : ReadsTable circuit.signals told tech)
+    → IsTableFile netlist.bytes table.bytes
+accepted_table netlist table = record {
+  short = table.short;
+  used = table.used;
+  kinds = subst (λ signals. AreUsedKinds signals table.used) netlist.accepts.signals table.kinds;
+  table = record {
+    document = table.accepts.document;
+    reads = table.accepts.reads;
+    flawless =
+        table.accepts.flawless;
+  };
+}
+
+module _ (holds : List ℕ → Option (List ℕ)) (command : Command) (bench : Bor (List ℕ)) where
+  -- a netlist alone tells its circuit, with the built-in delays
+  pub netlist_tells : ReadsCircuit command bench None
+      → {circuit : Circuit} (netlist : ReadsNetlist (holds bench.now) circuit) → (tech : Tech)
+      → IsPlainTable tech → TellsCircuit holds command circuit tech
+  netlist_tells named netlist tech plain = record {
+    contents = netlist.bytes ∷ [];
+    are = subst (λ files. AreContents holds files (netlist.bytes ∷ [])) (sym named)
+        (netlist.told, tt);
+    all = ap length (sym named);
+    accepted = accepted_netlist netlist;
+    tell = (netlist.accepts, plain);
+  }
+
+  module _ (file : Bor (List ℕ)) (named : ReadsCircuit command bench (Some file)) where
+    -- what is told of both files
+    both_told : (bytes table : List ℕ) → IsToldAs (holds bench.now) bytes
+        → IsToldAs (holds file.now) table
+        → AreContents holds (files_of command) (bytes ∷ table ∷ [])
+    both_told bytes table told told' =
+        subst (λ files. AreContents holds files (bytes ∷ table ∷ [])) (sym named)
+        (told, (told', tt))
+
+    -- both files tell the circuit with the host, where there is one
+    pub both_tell : {bare : Circuit} {tech : Tech} (netlist : ReadsNetlist (holds bench.now) bare)
+        → ReadsTable bare.signals (holds file.now) tech → (circuit : Circuit)
+        → IsHostedBy tech bare circuit → TellsCircuit holds command circuit tech
+    both_tell {bare} {tech} netlist table circuit hosted = record {
+      contents = netlist.bytes ∷ table.bytes ∷ [];
+      are = both_told netlist.bytes table.bytes netlist.told table.told;
+      all = ap length (sym named);
+      accepted = (accepted_netlist netlist, accepted_table netlist table);
+      tell = record {
+        bare = bare;
+        accepts = netlist.accepts;
+        used = table.used;
+        kinds =
+            table.kinds;
+        accepts_table = table.accepts;
+        hosted = hosted;
+      };
+    }
+
+module _ (holds : List ℕ → Option (List ℕ)) (reads reads_now : List ℕ → ℕ) (command : Command)
+    (bench : Bor (List ℕ)) where
+  -- a netlist that isn't read stops the command
+  pub netlist_stops : (tech : Option (Bor (List ℕ))) → ReadsCircuit command bench tech
+      → (failure : Failure)
+      → FailsNetlist (holds bench.now) (reads bench.now) (reads_now bench.now) failure
+      → Stops holds reads reads_now command failure
+  netlist_stops tech named failures.Usage fails = fails
+  netlist_stops tech named (failures.TooLong kinds.Bench) (same, (bytes, told, long)) =
+      record {
+        contents = bytes ∷ [];
+        are =
+            subst (λ files. AreContents holds files (bytes ∷ [])) (sym named) (told, tt);
+        refusal =
+            long;
+      }
+  netlist_stops tech named (failures.TooLong kinds.Tech) (same, (bytes, told, long)) = cc same
+  netlist_stops tech named (failures.Bench fault) (bytes, told, short, has) =
+      record {
+        contents = bytes ∷ [];
+        are =
+            subst (λ files. AreContents holds files (bytes ∷ [])) (sym named) (told, tt);
+        refusal =
+            (short, has);
+      }
+  netlist_stops tech named (failures.Tech fault) fails = absurd fails
+  netlist_stops tech named failures.Pairs fails = absurd fails
+  netlist_stops tech named (failures.ReadFault kinds.Bench) (same, rose) =
+      record {
+        front = [];
+        file = bench.now;
+        behind = _;
+        files = named;
+        rose = rose;
+        contents =
+            [];
+        before = refl;
+        are = tt;
+        accepted = tt;
+      }
+  netlist_stops tech named (failures.ReadFault kinds.Tech) (same, rose) = cc same
+  netlist_stops tech named failures.WriteFault fails = fails
+  netlist_stops tech named failures.NoMemory fails = tt
+
+  module _ (file : Bor (List ℕ)) (named : ReadsCircuit command bench (Some file)) where
+    -- a table that isn't read stops it behind an accepted netlist
+    pub table_stops : {circuit : Circuit} → ReadsNetlist (holds bench.now) circuit
+        → (failure : Failure)
+        → FailsTable circuit.signals (holds file.now) (reads file.now)
+        (reads_now file.now) failure
+        → Stops holds reads reads_now command failure
+    table_stops netlist failures.Usage fails = fails
+    table_stops netlist (failures.TooLong kinds.Bench) (same, (bytes, told, long)) = cc same
+    table_stops netlist (failures.TooLong kinds.Tech) (same, (bytes, told, long)) =
+        record {
+          contents = netlist.bytes ∷ bytes ∷ [];
+          are =
+              both_told holds command bench file named netlist.bytes bytes netlist.told told;
+          refusal = (accepted_netlist netlist, long);
+        }
+    table_stops netlist (failures.Bench fault) fails = absurd fails
+    table_stops netlist (failures.Tech fault) (bytes, told, short, has) = record {
+      contents = netlist.bytes ∷ bytes ∷ [];
+      are = both_told holds command bench file named netlist.bytes bytes netlist.told told;
+      refusal = (
+        accepted_netlist netlist,
+        short,
+        record {
+          named = has.named;
+          used = has.used;
+          kinds =
+              subst (λ signals. AreUsedKinds signals has.used) netlist.accepts.signals has.kinds;
+          cause = has.cause;
+        },
+      );
+    }
+    table_stops netlist failures.Pairs fails = absurd fails
+    table_stops netlist (failures.ReadFault kinds.Bench) (same, rose) = cc same
+    table_stops netlist (failures.ReadFault kinds.Tech) (same, rose) = record {
+      front = (kinds.Bench, bench.now) ∷ [];
+      file = file.now;
+      behind = [];
+      files = named;
+      rose = rose;
+      contents = netlist.bytes ∷ [];
+      before = refl;
+      are = (netlist.told, tt);
+      accepted = accepted_netlist netlist;
+    }
+    table_stops netlist failures.WriteFault fails = fails
+    table_stops netlist failures.NoMemory fails = tt
+
+module _ {holds : List ℕ → Option (List ℕ)}
+    (reads reads_now : List ℕ → ℕ) {command : Command} {circuit : Circuit} {tech : Tech}
+    (told : TellsCircuit holds command circuit tech) where
+  -- too many joined pairs stop a command behind accepted files
+  pub circuit_stops : (failure : Failure) → FailsCircuit circuit failure
+      → Stops holds reads reads_now command failure
+  circuit_stops failures.Usage fails = fails
+  circuit_stops (failures.TooLong kind) fails = absurd fails
+  circuit_stops (failures.Bench fault) fails = absurd fails
+  circuit_stops (failures.Tech fault) fails = absurd fails
+  circuit_stops failures.Pairs many =
+      record {
+        contents = told.contents;
+        are = told.are;
+        refusal =
+            (told.all, record { circuit = circuit; tech = tech; tell = told.tell; many = many });
+      }
+  circuit_stops (failures.ReadFault kind) fails = absurd fails
+  circuit_stops failures.WriteFault fails = fails
+  circuit_stops failures.NoMemory fails = tt
+
+module _ {holds : List ℕ → Option (List ℕ)} {command : Command} {circuit : Circuit} {tech : Tech}
+    (told : TellsCircuit holds command circuit tech) where
+  -- else what holds of the circuit is its answer
+  pub tell_with : (Holds : Circuit → Tech → Type 0) → (JoinsMoreThan circuit 1048576 → ⊥)
+      → Holds circuit tech → TellWith told.contents Holds
+  tell_with Holds few holds =
+      record {
+        accepted = told.accepted;
+        circuit = circuit;
+        tech = tech;
+        tell = told.tell;
+        few =
+            few;
+        holds = holds;
+      }
+
+-- why a circuit has no outcome is why a command fails on it
+pub synth_fails : (circuit : Circuit) (fault : SynthFault) → IsCaused circuit fault
+    → FailsCircuit circuit (synth_failure_of fault)
+synth_fails circuit synth.TooManyPairs many = many
+synth_fails circuit synth.NoMemory any = tt
+
+-- with the host a gate reads what it read
+reads_bare : (signals : List Signal) (outputs : List ℕ) (gate read : ℕ)
+    → Reads (signals ++ host_signal outputs ∷ []) gate read → Reads signals gate read
+reads_bare signals outputs gate read reads =
+    at (slice_get (signals ++ host_signal outputs ∷ []) gate) refl reads
+  where
+    at : (found : Option Signal) → slice_get (signals ++ host_signal outputs ∷ []) gate ≡ found
+        → IsSomeAnd found (λ signal. IsTrue (is_gate signal.kind) × Contains signal.fan_in read)
+        → Reads signals gate read
+    at None none reads = absurd reads
+    at (Some signal) found reads = elim (cases_lt gate (length signals)) [
+      | inl before ↦
+          let same : get_or signals gate signal ≡ signal =
+          sym (get_or-append signals (host_signal outputs ∷ []) signal gate before)
+          ∙ get_or_from_slice_get
+          (signals ++ host_signal outputs ∷ []) gate signal signal found in
+          let here : slice_get signals gate ≡ Some signal =
+          slice_get-get_or signals gate signal before ∙ ap (λ s. Some s) same in
+          rw here reads
+      | inr behind ↦
+          let within = slice_get_within (signals ++ host_signal outputs ∷ []) gate signal found in
+          let last : gate ≡ length signals =
+          omega (arith, length_push signals (host_signal outputs)) in
+          let here : get_or (signals ++ host_signal outputs ∷ []) (length signals) signal ≡ signal =
+          subst (λ n. get_or (signals ++ host_signal outputs ∷ []) n signal ≡ signal) last
+          (get_or_from_slice_get
+          (signals ++ host_signal outputs ∷ []) gate signal signal found) in
+          let same : host_signal outputs ≡ signal =
+          sym (get_or-append_seam signals (host_signal outputs) [] signal) ∙ here in
+          let no_gate : is_gate signal.kind ≡ false = ap (λ s. is_gate s.kind) (sym same) in
+          cc (reads.0)
+    ]
+
+-- so does a chain of gates
+follows_bare : (signals : List Signal) (outputs : List ℕ) (first : ℕ) (gates : List ℕ) (last : ℕ)
+    → Follows (signals ++ host_signal outputs ∷ []) first gates last
+    → Follows signals first gates last
+follows_bare signals outputs first [] last follows = follows
+follows_bare signals outputs first (gate ∷ gates) last follows = (
+  reads_bare signals outputs gate first follows.0,
+  follows_bare signals outputs gate gates last
+      follows.1,
+)
+
+-- so the host is on no ring of gates
+loop_bare : (signals : List Signal) (outputs : List ℕ) (loop : List ℕ)
+    → IsLoop (signals ++ host_signal outputs ∷ []) loop → IsLoop signals loop
+loop_bare signals outputs [] ring = ring
+loop_bare signals outputs (first ∷ gates) (last, follows, closes) = (
+  last,
+  follows_bare signals outputs first gates last follows,
+  reads_bare signals outputs first
+      last closes,
+)
+
+-- with the host there is a ring of gates only where there was one
+acyclic_hosted : (tech : Tech) (bare circuit : Circuit)
+    → ((loop : List ℕ) → IsLoop bare.signals loop → ⊥) → IsHostedBy tech bare circuit
+    → (loop : List ℕ) → IsLoop circuit.signals loop → ⊥
+acyclic_hosted tech bare circuit acyclic hosted loop ring = at (nat_eq (length tech.host) 0) hosted
+  where
+    at : (none : Bool) → MatchBool none (circuit ≡ bare) (IsWithHost bare circuit) → ⊥
+    at true same = acyclic loop (subst (λ c. IsLoop c.signals loop) same ring)
+    at false with_it = acyclic loop
+        (loop_bare bare.signals bare.outputs loop
+        (subst (λ signals. IsLoop signals loop) with_it.signals ring))
+
+-- a circuit of an accepted netlist has no ring of gates
+acyclic : (netlist : List ℕ) (circuit : Circuit) → AcceptsNetlist netlist circuit → (loop : List ℕ)
+    → IsLoop circuit.signals loop → ⊥
+acyclic netlist circuit accepts loop ring =
+    accepts.netlist.no_loop loop (subst (λ signals. IsLoop signals loop) accepts.signals ring)
+
+-- nor has one that a command's files tell
+pub told_acyclic : {holds : List ℕ → Option (List ℕ)} {command : Command} {circuit : Circuit}
+    {tech : Tech} → TellsCircuit holds command circuit tech → (loop : List ℕ)
+    → IsLoop circuit.signals loop → ⊥
+told_acyclic {holds} {command} {circuit} {tech} told = at told.contents told.tell
+  where
+    at : (contents : List (List ℕ)) → Tell contents circuit tech → (loop : List ℕ)
+        → IsLoop circuit.signals loop → ⊥
+    at [] tell = absurd tell
+    at (netlist ∷ []) tell = acyclic netlist circuit tell.0
+    at (netlist ∷ table ∷ []) tell =
+        acyclic_hosted tech tell.bare circuit (acyclic netlist tell.bare tell.accepts) tell.hosted
+    at (netlist ∷ table ∷ more ∷ rest) tell = absurd tell

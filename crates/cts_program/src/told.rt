@@ -1,0 +1,65 @@
+//! What the files of a command tell: a circuit and its delays.
+
+ghost use Rattle.std.specs.Prelude.{◌≡◌, ℕ, List, IfOk, IfErr};
+ghost use Rattle.cts_model.specs.Hosts.{HasNoHost};
+ghost use Rattle.cts_program.specs.declared.command.Command.{Command};
+ghost use Rattle.cts_program.specs.Judged.{IsHostedBy};
+ghost use Rattle.cts_program.specs.Run.{Stops};
+ghost use Rattle.cts_program.specs.Steps.{ReadsCircuit, TellsCircuit, IsAnyReadFault};
+
+use crate::failure::Failure;
+use crate::files::{read_netlist, read_table};
+use cts_base::NoMemory;
+use cts_io::Inputs;
+use cts_model::{Circuit, Tech, with_host};
+use std::alloc::Global;
+
+/// A circuit, with the host where it has one, and its delays.
+#[derive(Drop)]
+pub struct Told {
+    pub circuit: Circuit,
+    pub tech: Tech,
+}
+
+/// What the netlist in a file tells, with the delays in another or the built-in ones.
+pub fn read_circuit<I: Inputs>(
+    alloc: Global,
+    inputs: &mut I,
+    bench: &str,
+    tech: Option<&str>,
+) -> Result<Told, Failure>
+    ensures ok { IfOk result (λ told. (command : Command)
+        → ReadsCircuit command bench.entry tech.entry
+        → TellsCircuit (I.holds inputs.old) command told.circuit told.tech) }
+    ensures cause { IfErr result (λ failure. (command : Command)
+        → ReadsCircuit command bench.entry tech.entry
+        → Stops (I.holds inputs.old) (I.faults inputs.old) (I.faults inputs.new) command failure) }
+    ensures files { (file : List ℕ) → I.holds inputs.new file ≡ I.holds inputs.old file }
+    ensures stays { ¬ IsAnyReadFault result
+        → (file : List ℕ) → I.faults inputs.new file ≡ I.faults inputs.old file }
+{
+    let bare = read_netlist(alloc, inputs, bench)?;
+    match tech {
+        None => Ok(Told {
+            circuit: bare,
+            tech: Tech::plain(alloc),
+        }),
+        Some(file) => {
+            let tech = read_table(alloc, inputs, file, &bare)?;
+            let circuit = hosted(alloc, bare, &tech)?;
+            Ok(Told { circuit, tech })
+        }
+    }
+}
+
+// The circuit with the host, where the table gives it a place.
+fn hosted(alloc: Global, circuit: Circuit, tech: &Tech) -> Result<Circuit, NoMemory>
+    requires { HasNoHost circuit }
+    ensures { IfOk result (IsHostedBy tech.now circuit) }
+{
+    if tech.host.is_empty() {
+        Ok(circuit)
+    } else {
+        with_host(alloc, circuit)
+    }
+}
