@@ -47,8 +47,7 @@ accepted_table netlist table = record {
   table = record {
     document = table.accepts.document;
     reads = table.accepts.reads;
-    flawless =
-        table.accepts.flawless;
+    flawless = table.accepts.flawless;
   };
 }
 
@@ -88,8 +87,7 @@ module _ (holds : List ℕ → Option (List ℕ)) (command : Command) (bench : B
         bare = bare;
         accepts = netlist.accepts;
         used = table.used;
-        kinds =
-            table.kinds;
+        kinds = table.kinds;
         accepts_table = table.accepts;
         hosted = hosted;
       };
@@ -106,19 +104,15 @@ module _ (holds : List ℕ → Option (List ℕ)) (reads reads_now : List ℕ �
   netlist_stops tech named (failures.TooLong kinds.Bench) (same, (bytes, told, long)) =
       record {
         contents = bytes ∷ [];
-        are =
-            subst (λ files. AreContents holds files (bytes ∷ [])) (sym named) (told, tt);
-        refusal =
-            long;
+        are = subst (λ files. AreContents holds files (bytes ∷ [])) (sym named) (told, tt);
+        refusal = long;
       }
   netlist_stops tech named (failures.TooLong kinds.Tech) (same, (bytes, told, long)) = cc same
   netlist_stops tech named (failures.Bench fault) (bytes, told, short, has) =
       record {
         contents = bytes ∷ [];
-        are =
-            subst (λ files. AreContents holds files (bytes ∷ [])) (sym named) (told, tt);
-        refusal =
-            (short, has);
+        are = subst (λ files. AreContents holds files (bytes ∷ [])) (sym named) (told, tt);
+        refusal = (short, has);
       }
   netlist_stops tech named (failures.Tech fault) fails = absurd fails
   netlist_stops tech named failures.Pairs fails = absurd fails
@@ -129,8 +123,7 @@ module _ (holds : List ℕ → Option (List ℕ)) (reads reads_now : List ℕ �
         behind = _;
         files = named;
         rose = rose;
-        contents =
-            [];
+        contents = [];
         before = refl;
         are = tt;
         accepted = tt;
@@ -151,8 +144,7 @@ module _ (holds : List ℕ → Option (List ℕ)) (reads reads_now : List ℕ �
     table_stops netlist (failures.TooLong kinds.Tech) (same, (bytes, told, long)) =
         record {
           contents = netlist.bytes ∷ bytes ∷ [];
-          are =
-              both_told holds command bench file named netlist.bytes bytes netlist.told told;
+          are = both_told holds command bench file named netlist.bytes bytes netlist.told told;
           refusal = (accepted_netlist netlist, long);
         }
     table_stops netlist (failures.Bench fault) fails = absurd fails
@@ -219,8 +211,7 @@ module _ {holds : List ℕ → Option (List ℕ)} {command : Command} {circuit :
         circuit = circuit;
         tech = tech;
         tell = told.tell;
-        few =
-            few;
+        few = few;
         holds = holds;
       }
 
