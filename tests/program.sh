@@ -115,6 +115,26 @@ expect 'more pairs' 3 '' 'refused pairs' "$top/cts" zero --bench "$work/more_pai
 } >"$work/chain.bench"
 expect 'a chain of inverters' 0 $'zero 60005\nsetup A B 60005' '' "$top/cts" zero --bench "$work/chain.bench"
 
+# The largest denominator: one ring of 4,096 registers, with their lines in its order, against it, and mixed.
+ring() {
+    printf 'b = BUFF(r0)\nr0 = DFF(r4095)\nr1 = DFF(b)\n'
+    seq 2 4095 | awk '{ print "r" $1 " = DFF(r" $1 - 1 ")" }'
+}
+cycle() {
+    printf 'period 8193/4096\nzero 3\ncycle 4096\nsetup r0 r1 3\n'
+    seq 1 4095 | awk '{ print "setup r" $1 " r" ($1 + 1) % 4096 " 2" }'
+}
+# Every 1,531st line, from the first on: 1,531 and 4,097 have no common divisor.
+mixed() { awk '{ line[NR - 1] = $0 } END { for (i = 0; i < NR; i++) print line[i * 1531 % NR] }'; }
+sorted() { "$top/cts" period --bench "$1" --tech "$work/ring.toml" | sort; }
+registers 1 0 1 1 '[gate.BUFF]\nleast = 0\ngreatest = 1\n' >"$work/ring.toml"
+ring >"$work/ring.bench"
+tac "$work/ring.bench" >"$work/against.bench"
+mixed <"$work/ring.bench" >"$work/mixed.bench"
+expect 'a ring in its order' 0 "$(cycle)" '' "$top/cts" period --bench "$work/ring.bench" --tech "$work/ring.toml"
+expect 'a ring against its order' 0 "$(cycle | sort)" '' sorted "$work/against.bench"
+expect 'a ring in a mixed order' 0 "$(cycle | sort)" '' sorted "$work/mixed.bench"
+
 # The largest file, and one byte more.
 { printf 'INPUT(x)\na = DFF(x)\n'; head -c $((16777216 - 20)) /dev/zero | tr '\0' '#'; } >"$work/largest.bench"
 { cat "$work/largest.bench"; printf '#'; } >"$work/longer.bench"
