@@ -1,0 +1,4 @@
+mod Levels
+mod BoundLemmas
+mod RiseLemmas
+mod SweepLemmas
