@@ -43,10 +43,14 @@ pub record IsSmallPeriod (period : Fraction) : Type 0 where
   pub small : period.num <ℤ pos (10 ^ 18)
   pub low : period.den ≤ℤ pos 4097
 
--- small constraints that some arrivals satisfy at the period
+-- some arrivals satisfy the constraints at the period
+abbrev pub IsAdmittedBy : List Constraint → Fraction → Type 0
+IsAdmittedBy constraints period = (arrival : ℕ → ℤ)
+    × Satisfies constraints (nat_abs period.den) period.num arrival
+
+-- small constraints between so many registers that admit the period
 pub record CanSchedule (constraints : List Constraint) (period : Fraction)
     (registers : ℕ) : Type 0 where
   pub small : AreSmallConstraints registers constraints
   pub range : IsSmallPeriod period
-  pub admitted : (arrival : ℕ → ℤ)
-      × Satisfies constraints (nat_abs period.den) period.num arrival
+  pub admitted : IsAdmittedBy constraints period

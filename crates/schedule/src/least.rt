@@ -1,5 +1,6 @@
-ghost use Rattle.std.specs.Prelude.{◌≡◌, ℕ, IfOk, length, nat_abs};
-ghost use Rattle.schedule.specs.Schedules.{AreWithinWeights, CanSchedule, IsLeastScheduleOf};
+ghost use Rattle.std.specs.Prelude.{◌≡◌, IfOk, length, nat_abs};
+ghost use Rattle.cts_model.specs.Constraints.{AreSmallConstraints};
+ghost use Rattle.schedule.specs.Schedules.{AreWithinWeights, IsAdmittedBy, IsLeastScheduleOf, IsSmallPeriod};
 
 use crate::sweep::settle;
 use cts_base::{Fraction, Listed, NoMemory};
@@ -23,7 +24,9 @@ pub fn least_schedule_in(
     constraints: &Listed<Constraint>,
     period: Fraction,
 ) -> Schedule
-    requires { CanSchedule constraints.now period (length at) }
+    requires small { AreSmallConstraints (length at) constraints.now }
+    requires period { IsSmallPeriod period }
+    requires admitted { IsAdmittedBy constraints.now period }
     ensures den { result.den ≡ period.den }
     ensures registers { length result.at ≡ length at }
     ensures least { IsLeastScheduleOf constraints.now period.num (nat_abs period.den) result.at }
@@ -45,7 +48,9 @@ pub fn least_schedule(
     constraints: &Listed<Constraint>,
     period: Fraction,
 ) -> Result<Schedule, NoMemory>
-    requires { CanSchedule constraints.now period registers }
+    requires small { AreSmallConstraints registers constraints.now }
+    requires period { IsSmallPeriod period }
+    requires admitted { IsAdmittedBy constraints.now period }
     ensures den { IfOk result (λ schedule. schedule.den ≡ period.den) }
     ensures registers { IfOk result (λ schedule. length schedule.at ≡ registers) }
     ensures least { IfOk result (λ schedule. IsLeastScheduleOf constraints.now period.num
