@@ -1,6 +1,6 @@
 -- Levels of registers moved together until none is far above the next one below, so that all are
 -- low and no constraint is broken.
-use Rattle.std.proofs.Common.{ℕ, zero, suc, ◌≡◌, ◌<◌, ◌≤◌, ◌+◌, ◌-◌, ◌*◌, ℤ, pos, negsuc, ◌+ℤ◌, ◌≤ℤ◌, ◌⊎◌, inl, inr, subst, ap, arith}
+use Rattle.std.proofs.Common.{ℕ, zero, suc, ◌≡◌, ◌<◌, ◌≤◌, ◌+◌, ◌-◌, ◌*◌, ℤ, pos, negsuc, ◌+ℤ◌, ◌≤ℤ◌, inl, inr, subst, ap, arith}
 use Rattle.std.proofs.lemmas.Bool.{cases_eq, cases_lt}
 use Rattle.std.proofs.lemmas.Int.{ints}
 
@@ -118,7 +118,7 @@ module _ (level : ℕ → ℕ) (width : ℕ) where
   lowered_low (suc registers) register within = elim (cases_eq register (suc registers)) [
     | inl last ↦
         let same : lowered (suc (suc registers)) (level register)
-            ≡ lowered (suc (suc registers)) (level (suc registers)) =
+        ≡ lowered (suc (suc registers)) (level (suc registers)) =
         ap (λ r. lowered (suc (suc registers)) (level r)) last in
         let more = one_more (suc registers) (level (suc registers)) in
         let all = all_low (suc registers) (level (suc registers)) in omega arith

@@ -1,5 +1,5 @@
 -- What looking at one constraint makes of the arrivals.
-use Rattle.std.proofs.Common.{◌≡◌, ◌≢◌, ◌<◌, ◌≤◌, ◌+◌, ◌-◌, ◌*◌, ◌^◌, ◌∙◌, ℕ, zero, suc, ℤ, pos, negsuc, ◌+ℤ◌, ◌-ℤ◌, ◌*ℤ◌, ◌≤ℤ◌, ◌<ℤ◌, Bool, true, false, cond, List, [], ◌∷◌, length, get_or, set, All, Contains, inl, inr, sym, subst, ap, FitsSigned, refl, arith}
+use Rattle.std.proofs.Common.{◌≡◌, ◌≢◌, ◌<◌, ◌+◌, ◌-◌, ◌*◌, ◌^◌, ◌∙◌, ℕ, zero, suc, ℤ, pos, negsuc, ◌+ℤ◌, ◌-ℤ◌, ◌*ℤ◌, ◌≤ℤ◌, ◌<ℤ◌, Bool, true, false, cond, List, [], ◌∷◌, length, get_or, set, All, Contains, inl, inr, sym, subst, ap, arith}
 use Rattle.std.specs.Prelude.{nat_abs}
 use Rattle.std.specs.Int.{w128}
 use Rattle.std.proofs.lemmas.Bool.{cases_eq}
@@ -14,7 +14,7 @@ use Rattle.cts_model.specs.declared.constraint.Constraint.{Constraint}
 use Rattle.cts_model.specs.Constraints.{IsSmallConstraint, IsSatisfied}
 use Rattle.cts_model.specs.Points.{IsBelow}
 use Rattle.schedule.specs.Schedules.{arrival_of, AreFromZero, AreLeast}
-use Rattle.schedule.specs.Rises.{gain_of, offer_of, IsRaised, IsRising, room_of}
+use Rattle.schedule.specs.Rises.{offer_of, IsRaised, IsRising, room_of}
 use Rattle.schedule.proofs.BoundLemmas.{size_same}
 use mir.Val.{to_z, of_z}
 use lib.Signed.{le_z}
@@ -34,12 +34,12 @@ pub record IsRead (at : List ℤ) (tail head : ℕ) (wanted from gain to : ℤ) 
   pub to_is : to ≡ get_or at head to
 
 -- the code's sum
-sum_read : (from gain : ℤ) → IsBelow (2 ^ 62) from → IsBelow (2 ^ 61) gain
+pub sum_read : (from gain : ℤ) → IsBelow (2 ^ 62) from → IsBelow (2 ^ 61) gain
     → kept (kept from +ℤ kept gain) ≡ from +ℤ gain
 sum_read from gain small gain_small = omega (arith, ints)
 
 -- what the code's test says where it passes
-test_true : (offer to : ℤ) → IsBelow (2 ^ 62) to → le_z offer (kept to) ≡ true → offer ≤ℤ to
+pub test_true : (offer to : ℤ) → IsBelow (2 ^ 62) to → le_z offer (kept to) ≡ true → offer ≤ℤ to
 test_true offer to small passes = grind (arith, ints)
 
 -- and where it fails
@@ -89,7 +89,7 @@ times_offer : (times : ℕ) (from asked due : ℤ) → pos times *ℤ (from +ℤ
 times_offer times from asked due =
     let offer = from +ℤ (asked -ℤ due) in
     let plain : up offer + down from + down asked + up due
-        ≡ down offer + up from + up asked + down due = omega (arith, ints) in
+    ≡ down offer + up from + up asked + down due = omega (arith, ints) in
     let over = simp mul-add at (ap (λ n. times * n) plain) in
     omega (arith, ints, over)
 
@@ -134,7 +134,7 @@ offered_least setup times scale den num weight from tail head scale_is low met =
     let asked_is : pos (scale * times) *ℤ weight ≡ pos times *ℤ (den *ℤ weight) =
     asked_times scale times weight ∙ ap (λ z. pos times *ℤ (z *ℤ weight)) scale_is in
     let scaled : (tail +ℤ (pos times *ℤ (den *ℤ weight)))
-        ≤ℤ (head +ℤ (pos times *ℤ cond setup num (pos 0))) =
+    ≤ℤ (head +ℤ (pos times *ℤ cond setup num (pos 0))) =
     subst (λ z. (tail +ℤ z) ≤ℤ (head +ℤ (pos times *ℤ cond setup num (pos 0)))) asked_is
     (subst (λ z. (tail +ℤ (pos (scale * times) *ℤ weight)) ≤ℤ (head +ℤ z))
     (due_times setup num (pos times)) met) in
@@ -169,6 +169,7 @@ module _ {it : Constraint} {period : Fraction} {old new : List ℤ}
   IsRising-raised constraints among rising =
       record { from_zero = from_zero; least = least }
     where
+      -- none is below 0
       from_zero : AreFromZero (length new) (arrival_of new)
       from_zero register inside = elim (cases_eq register it.head) [
         | inl same ↦ subst (λ r. pos 0 ≤ℤ arrival_of new r) (sym same)
@@ -178,10 +179,13 @@ module _ {it : Constraint} {period : Fraction} {old new : List ℤ}
             (rising.from_zero register (omega (arith, length-raised)))
       ]
 
+      -- none is later than any others have it
       least : AreLeast constraints period.num (nat_abs period.den) new
       least times other some others satisfied register inside =
           let before : AreFromZero (length old) other =
           subst (λ n. AreFromZero n other) length-raised others in
+          let IsMet : Constraint → Type 0 =
+          IsSatisfied (nat_abs period.den * times) (period.num *ℤ pos times) other in
           elim (cases_eq register it.head) [
             | inl same ↦ subst (λ r. (pos times *ℤ arrival_of new r) ≤ℤ other r) (sym same)
                 (subst (λ z. (pos times *ℤ z) ≤ℤ other it.head) (sym at_head)
@@ -189,8 +193,7 @@ module _ {it : Constraint} {period : Fraction} {old new : List ℤ}
                 (arrival_of old it.tail) (other it.tail) (other it.head)
                 (size_same period.den (omega (arith, ints, period.lowest.some_den)))
                 (rising.least times other some before satisfied it.tail small.tail)
-                (All-contains (IsSatisfied (nat_abs period.den * times) (period.num *ℤ pos times) other)
-                constraints it satisfied among)))
+                (All-contains IsMet constraints it satisfied among)))
             | inr apart ↦ subst (λ z. (pos times *ℤ z) ≤ℤ other register)
                 (sym (elsewhere register apart))
                 (rising.least times other some before satisfied register

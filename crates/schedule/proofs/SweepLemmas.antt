@@ -1,15 +1,15 @@
 -- How far a sweep has come: what one constraint after the other makes of all arrivals.
-use Rattle.std.proofs.Common.{◌≡◌, ◌<◌, ◌≤◌, ◌+◌, ◌^◌, ◌∙◌, ℕ, ℤ, pos, ◌+ℤ◌, ◌-ℤ◌, ◌*ℤ◌, ◌≤ℤ◌, ◌<ℤ◌, Bool, true, false, cond, ◌||◌, List, length, get_or, set, All, ◌⊎◌, inl, inr, Contains, sym, subst, ap, refl, arith}
+use Rattle.std.proofs.Common.{◌≡◌, ◌<◌, ◌≤◌, ◌^◌, ◌∙◌, ℕ, ℤ, pos, ◌+ℤ◌, ◌*ℤ◌, ◌≤ℤ◌, Bool, true, false, cond, ◌||◌, List, length, get_or, set, All, ◌⊎◌, inl, inr, Contains, sym, subst, ap, arith}
 use Rattle.std.specs.Prelude.{nat_abs, MatchBool}
 use Rattle.std.proofs.lemmas.List.{get_or_default}
 use Rattle.std.proofs.lemmas.Int.{ints}
 use Rattle.cts_base.specs.declared.fraction.Fraction.{Fraction}
 use Rattle.cts_model.specs.declared.constraint.Constraint.{Constraint}
-use Rattle.cts_model.specs.Constraints.{IsSmallConstraint, Satisfies, count_of}
+use Rattle.cts_model.specs.Constraints.{IsSatisfied, IsSmallConstraint, Satisfies, count_of}
 use Rattle.cts_model.specs.Points.{IsBelow}
 use Rattle.schedule.specs.Schedules.{arrival_of, CanSchedule}
-use Rattle.schedule.specs.Rises.{offer_of, IsRaised, IsRelaxed, IsRising, IsSweep, room_of}
-use Rattle.schedule.proofs.BoundLemmas.{size_same, small_rising}
+use Rattle.schedule.specs.Rises.{gain_of, offer_of, IsRaised, IsRelaxed, IsRising, IsSweep, room_of}
+use Rattle.schedule.proofs.BoundLemmas.{gain_to, size_same, small_rising}
 use Rattle.schedule.proofs.RiseLemmas.{length-raised, at_head, IsRising-raised, room_less}
 
 -- what stands past the end
@@ -31,30 +31,23 @@ pub record IsUnderWay (constraints : List Constraint) (period : Fraction) (Seen 
   pub outcome : MatchBool changed (room_of now < room_of begun)
       ((now ≡ begun) × AreMet constraints period Seen now)
 
--- what is asked of two arrivals
-asked_of : (from to asked due : ℤ) → (from +ℤ (asked -ℤ due)) ≤ℤ to
-    → (from +ℤ asked) ≤ℤ (to +ℤ due)
-asked_of from to asked due met = omega (arith, ints)
-
 -- what is due counts the period once for a setup constraint, and else never
 due_of : (setup : Bool) (num : ℤ) → cond setup num (pos 0) ≡ num *ℤ pos (cond setup 1 0)
 due_of true num = omega (arith, ints)
 due_of false num = omega (arith, ints)
 
--- where all are met, the arrivals satisfy them
-pub Satisfies-met : (constraints : List Constraint) (period : Fraction) (at : List ℤ)
-    (Seen : ℕ → Type 0) → ((place : ℕ) → place < length constraints → Seen place)
-    → AreMet constraints period Seen at
-    → Satisfies constraints (nat_abs period.den) period.num (arrival_of at)
-Satisfies-met constraints period at Seen all met place default within =
-    let it : Constraint = get_or constraints place default in
-    subst (λ z. (arrival_of at it.tail +ℤ (z *ℤ it.weight))
-    ≤ℤ (arrival_of at it.head +ℤ (period.num *ℤ pos (count_of it))))
+-- what is met is satisfied
+pub IsSatisfied-met : (period : Fraction) (arrival : ℕ → ℤ) (it : Constraint)
+    → (arrival it.tail +ℤ gain_of period it) ≤ℤ arrival it.head
+    → IsSatisfied (nat_abs period.den) period.num arrival it
+IsSatisfied-met period arrival it met =
+    subst (λ z. (arrival it.tail +ℤ (z *ℤ it.weight))
+    ≤ℤ (arrival it.head +ℤ (period.num *ℤ pos (count_of it))))
     (sym (size_same period.den (omega (arith, ints, period.lowest.some_den))))
-    (subst (λ z. (arrival_of at it.tail +ℤ (period.den *ℤ it.weight))
-    ≤ℤ (arrival_of at it.head +ℤ z)) (due_of it.setup period.num)
-    (asked_of (arrival_of at it.tail) (arrival_of at it.head) (period.den *ℤ it.weight)
-    (cond it.setup period.num (pos 0)) (met place default (all place within) within)))
+    (subst (λ z. (arrival it.tail +ℤ (period.den *ℤ it.weight)) ≤ℤ (arrival it.head +ℤ z))
+    (due_of it.setup period.num)
+    (gain_to (arrival it.tail) (arrival it.head) (period.den *ℤ it.weight)
+    (cond it.setup period.num (pos 0)) met))
 
 module _ {constraints : List Constraint} {period : Fraction} {Seen : ℕ → Type 0}
     {begun : List ℤ} {changed : Bool} {now : List ℤ}
@@ -94,7 +87,8 @@ module _ {constraints : List Constraint} {period : Fraction} {Seen : ℕ → Typ
         let rising = IsRising-raised small raised constraints more way.rising in
         let can_later = subst (CanSchedule constraints period)
         (sym (length-raised small raised)) can_now in
-        let inside : it.head < length later = omega (arith, small.head, length-raised small raised) in
+        let inside : it.head < length later =
+        omega (arith, small.head, length-raised small raised) in
         let low : IsBelow (2 ^ 62) (offer_of period now it) =
         subst (IsBelow (2 ^ 62)) (at_head small raised)
         (small_rising constraints period later can_later rising it.head (pos 0) inside) in
@@ -153,4 +147,5 @@ module _ {constraints : List Constraint} {period : Fraction} {Seen : ℕ → Typ
           → MatchBool b (room_of now < room_of begun)
           (Satisfies constraints (nat_abs period.den) period.num (arrival_of now))
       at true less = less
-      at false (same, met) = Satisfies-met constraints period now Seen all met
+      at false (same, met) = λ place default within. IsSatisfied-met period (arrival_of now)
+          (get_or constraints place default) (met place default (all place within) within)

@@ -49,7 +49,7 @@ pub record IsSweep (constraints : List Constraint) (period : Fraction) (old : Li
   pub outcome : MatchBool changed (room_of new < room_of old)
       (Satisfies constraints (nat_abs period.den) period.num (arrival_of new))
 
--- so many arrivals that are the least
+-- as many arrivals as before, and they are the least
 pub record IsLeastAt (constraints : List Constraint) (period : Fraction)
     (old new : List ℤ) : Type 0 where
   pub registers : length new ≡ length old

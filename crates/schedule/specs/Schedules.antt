@@ -1,6 +1,6 @@
--- The least arrivals that satisfy constraints at a period. Fishburn, "Clock Skew Optimization", 1990.
--- Weights are in ticks; the period and the arrivals are in ticks over a denominator.
-use Rattle.std.specs.Prelude.{◌≡◌, ◌<◌, ◌≤◌, ◌*◌, ◌-◌, ◌^◌, ℕ, ℤ, pos, ◌*ℤ◌, ◌≤ℤ◌, ◌<ℤ◌, List, All, length, nat_abs, slice_index_or}
+-- The least arrivals that satisfy constraints at a period. Fishburn, "Clock Skew Optimization",
+-- 1990. Weights are in ticks; the period and the arrivals are in ticks over a denominator.
+use Rattle.std.specs.Prelude.{◌<◌, ◌≤◌, ◌*◌, ◌-◌, ◌^◌, ℕ, ℤ, pos, ◌*ℤ◌, ◌≤ℤ◌, ◌<ℤ◌, List, All, length, nat_abs, slice_index_or}
 use Rattle.cts_base.specs.declared.fraction.Fraction.{Fraction}
 use Rattle.cts_model.specs.declared.constraint.Constraint.{Constraint}
 use Rattle.cts_model.specs.Constraints.{AreSmallConstraints, Satisfies}
@@ -9,7 +9,7 @@ use Rattle.cts_model.specs.Constraints.{AreSmallConstraints, Satisfies}
 abbrev pub arrival_of : List ℤ → ℕ → ℤ
 arrival_of at register = slice_index_or at register (pos 0)
 
--- so many registers have arrivals that aren't below 0
+-- the arrivals at so many registers aren't below 0
 abbrev pub AreFromZero : (registers : ℕ) (arrival : ℕ → ℤ) → Type 0
 AreFromZero registers arrival = (register : ℕ) → register < registers
     → pos 0 ≤ℤ arrival register

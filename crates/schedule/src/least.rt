@@ -1,6 +1,7 @@
 ghost use Rattle.std.specs.Prelude.{◌≡◌, IfOk, length, nat_abs};
 ghost use Rattle.cts_model.specs.Constraints.{AreSmallConstraints};
-ghost use Rattle.schedule.specs.Schedules.{AreWithinWeights, IsAdmittedBy, IsLeastScheduleOf, IsSmallPeriod};
+ghost use Rattle.schedule.specs.Schedules.{AreWithinWeights, IsAdmittedBy, IsLeastScheduleOf};
+ghost use Rattle.schedule.specs.Schedules.{IsSmallPeriod};
 
 use crate::sweep::settle;
 use cts_base::{Fraction, Listed, NoMemory};
