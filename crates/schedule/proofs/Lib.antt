@@ -1,3 +1,4 @@
+mod GainLemmas
 mod Levels
 mod BoundLemmas
 mod RiseLemmas

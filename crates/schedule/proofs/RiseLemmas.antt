@@ -1,5 +1,5 @@
 -- What looking at one constraint makes of the arrivals.
-use Rattle.std.proofs.Common.{◌≡◌, ◌≢◌, ◌<◌, ◌+◌, ◌-◌, ◌*◌, ◌^◌, ◌∙◌, ℕ, zero, suc, ℤ, pos, negsuc, ◌+ℤ◌, ◌-ℤ◌, ◌*ℤ◌, ◌≤ℤ◌, ◌<ℤ◌, Bool, true, false, cond, List, [], ◌∷◌, length, get_or, set, All, Contains, inl, inr, sym, subst, ap, arith}
+use Rattle.std.proofs.Common.{◌≡◌, ◌≢◌, ◌<◌, ◌+◌, ◌-◌, ◌*◌, ◌^◌, ◌∙◌, ℕ, zero, suc, ℤ, pos, negsuc, ◌+ℤ◌, ◌-ℤ◌, ◌*ℤ◌, ◌≤ℤ◌, ◌<ℤ◌, Bool, true, false, cond, List, [], ◌∷◌, length, get_or, set, All, Contains, inl, inr, sym, subst, ap, FitsSigned, arith}
 use Rattle.std.specs.Prelude.{nat_abs}
 use Rattle.std.specs.Int.{w128}
 use Rattle.std.proofs.lemmas.Bool.{cases_eq}
@@ -15,13 +15,9 @@ use Rattle.cts_model.specs.Constraints.{IsSmallConstraint, IsSatisfied}
 use Rattle.cts_model.specs.Points.{IsBelow}
 use Rattle.schedule.specs.Schedules.{arrival_of, AreFromZero, AreLeast}
 use Rattle.schedule.specs.Rises.{offer_of, IsRaised, IsRising, room_of}
+use Rattle.schedule.proofs.GainLemmas.{kept}
 use Rattle.schedule.proofs.BoundLemmas.{size_same}
-use mir.Val.{to_z, of_z}
 use lib.Signed.{le_z}
-
--- a number as the code keeps it
-abbrev pub kept : ℤ → ℤ
-kept number = to_z w128 (of_z w128 number)
 
 -- what the code reads: the arrival at the tail, the gain and the arrival at the head
 pub record IsRead (at : List ℤ) (tail head : ℕ) (wanted from gain to : ℤ) : Type 0 where
@@ -37,6 +33,11 @@ pub record IsRead (at : List ℤ) (tail head : ℕ) (wanted from gain to : ℤ) 
 pub sum_read : (from gain : ℤ) → IsBelow (2 ^ 62) from → IsBelow (2 ^ 61) gain
     → kept (kept from +ℤ kept gain) ≡ from +ℤ gain
 sum_read from gain small gain_small = omega (arith, ints)
+
+-- it fits
+pub sum_fits : (from gain : ℤ) → IsBelow (2 ^ 62) from → IsBelow (2 ^ 61) gain
+    → FitsSigned w128 (kept from +ℤ kept gain)
+sum_fits from gain small gain_small = omega (arith, ints)
 
 -- what the code's test says where it passes
 pub test_true : (offer to : ℤ) → IsBelow (2 ^ 62) to → le_z offer (kept to) ≡ true → offer ≤ℤ to

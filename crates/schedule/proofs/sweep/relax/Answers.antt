@@ -1,9 +1,17 @@
 -- The code's numbers are small, so they are what the definitions say.
-use Rattle.std.proofs.Common.{refl, ap}
+use Rattle.std.proofs.Common.{◌^◌, subst, sym, refl, ap}
 use Rattle.std.proofs.Math.ListN.{set}
+use Rattle.cts_model.specs.Points.{IsBelow}
 use Rattle.schedule.specs.Rises.{gain_of}
-use Rattle.schedule.proofs.RiseLemmas.{IsRead, offer_read, left_read, more_read}
+use Rattle.schedule.proofs.RiseLemmas.{IsRead, sum_fits, offer_read, left_read, more_read}
 use Rattle.schedule.proofs.sweep.relax.Goals as goal
+
+pub overflow_add-offer : goal.overflow_add-offer
+overflow_add-offer c =
+    let small = c.requires.small c.args.constraint.now.tail c.index.result.now
+    c.requires.constraint.tail in
+    sum_fits c.index.result.now c.gain.result
+    (subst (IsBelow (2 ^ 62)) (sym c.index.ensures) small) c.gain.ensures.small
 
 pub returns-then-offer-index : goal.returns-then-offer-index
 returns-then-offer-index c =
