@@ -1,0 +1,5 @@
+mod GainLemmas
+mod Levels
+mod BoundLemmas
+mod RiseLemmas
+mod SweepLemmas

@@ -1,0 +1,64 @@
+ghost use Rattle.std.specs.Prelude.{◌≡◌, IfOk, length, nat_abs};
+ghost use Rattle.cts_model.specs.Constraints.{AreSmallConstraints};
+ghost use Rattle.schedule.specs.Schedules.{AreWithinWeights, IsAdmittedBy, IsLeastScheduleOf};
+ghost use Rattle.schedule.specs.Schedules.{IsSmallPeriod};
+
+use crate::sweep::settle;
+use cts_base::{Fraction, Listed, NoMemory};
+use cts_model::Constraint;
+use std::alloc::Global;
+
+/// An arrival for each register.
+#[derive(Debug, Drop)]
+pub struct Schedule {
+    /// Over this the arrivals are in ticks.
+    pub den: i128,
+    /// The arrival at each register, in ticks over the denominator.
+    pub at: Listed<i128>,
+}
+
+/// The least arrivals that satisfy the constraints at a period in ticks. The list has an entry for
+/// each register, whatever the entries are; it becomes the schedule's, and no other memory is
+/// taken. It sweeps over the constraints until a sweep changes nothing.
+pub fn least_schedule_in(
+    at: Listed<i128>,
+    constraints: &Listed<Constraint>,
+    period: Fraction,
+) -> Schedule
+    requires small { AreSmallConstraints (length at) constraints.now }
+    requires period { IsSmallPeriod period }
+    requires admitted { IsAdmittedBy constraints.now period }
+    ensures den { result.den ≡ period.den }
+    ensures registers { length result.at ≡ length at }
+    ensures least { IsLeastScheduleOf constraints.now period.num (nat_abs period.den) result.at }
+    ensures bound { AreWithinWeights constraints.now (nat_abs period.den) result.at }
+{
+    let mut arrivals = at.into_vec();
+    arrivals.fill(0);
+    settle(&mut arrivals, constraints.as_slice(), period);
+    Schedule {
+        den: period.den(),
+        at: Listed::from_vec(arrivals),
+    }
+}
+
+/// The same in memory of its own: a number for each register.
+pub fn least_schedule(
+    alloc: Global,
+    registers: usize,
+    constraints: &Listed<Constraint>,
+    period: Fraction,
+) -> Result<Schedule, NoMemory>
+    requires small { AreSmallConstraints registers constraints.now }
+    requires period { IsSmallPeriod period }
+    requires admitted { IsAdmittedBy constraints.now period }
+    ensures den { IfOk result (λ schedule. schedule.den ≡ period.den) }
+    ensures registers { IfOk result (λ schedule. length schedule.at ≡ registers) }
+    ensures least { IfOk result (λ schedule. IsLeastScheduleOf constraints.now period.num
+        (nat_abs period.den) schedule.at) }
+    ensures bound { IfOk result (λ schedule. AreWithinWeights constraints.now (nat_abs period.den)
+        schedule.at) }
+{
+    let at = Listed::from_vec(vec![in alloc; 0i128; registers]?);
+    Ok(least_schedule_in(at, constraints, period))
+}
