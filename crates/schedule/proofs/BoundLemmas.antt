@@ -69,7 +69,7 @@ gain_most : (asked due most : ℤ) → asked ≤ℤ most → pos 0 ≤ℤ due �
 gain_most asked due most low from = omega (arith, ints)
 
 -- a number once
-once_is : (a : ℤ) → a ≡ a *ℤ pos 1
+pub once_is : (a : ℤ) → a ≡ a *ℤ pos 1
 once_is a = omega (arith, ints)
 
 -- what is no later once than another, and that than a bound, isn't past the bound

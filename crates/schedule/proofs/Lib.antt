@@ -3,3 +3,8 @@ mod Levels
 mod BoundLemmas
 mod RiseLemmas
 mod SweepLemmas
+mod TightLemmas
+mod TailLemmas
+mod ReachLemmas
+mod HandLemmas
+mod LeadLemmas

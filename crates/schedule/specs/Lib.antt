@@ -1,2 +1,5 @@
 pub mod Schedules
 pub mod Rises
+pub mod Leads
+pub mod Tails
+pub mod Reaching

@@ -1,10 +1,14 @@
-//! The least arrivals at which registers meet constraints between them at a period.
+//! The least arrivals at which registers meet constraints between them at a period, and why.
 #![tactic(auto)]
 
 mod gain;
 mod least;
+mod reach;
 mod sweep;
+mod tails;
 #[cfg(test)]
 mod tests;
+mod tight;
 
 pub use least::{Schedule, least_schedule, least_schedule_in};
+pub use tight::{Lead, leads};

@@ -4,7 +4,7 @@ ghost use Rattle.cts_model.specs.Points.{IsBelow};
 ghost use Rattle.schedule.specs.Schedules.{IsAdmittedBy, IsSmallPeriod, arrival_of};
 
 use crate::gain::gain;
-use crate::{Schedule, least_schedule, least_schedule_in};
+use crate::{Lead, Schedule, leads, least_schedule, least_schedule_in};
 use cts_base::{Fraction, Listed};
 use cts_model::Constraint;
 use std::alloc::Global;
@@ -104,6 +104,26 @@ fn expect_at(rt: &impl Abort, schedule: &Schedule, den: i128, arrivals: &[i128])
     assert_eq!(rt; schedule.at.as_slice(), arrivals);
 }
 
+// The constraints of s27.bench with one delay of each kind of gate, setup and hold time 1.
+fn s27() -> [Constraint; 14] {
+    [
+        setup(0, 0, 7),
+        hold(0, 0, -2),
+        setup(0, 1, 5),
+        hold(1, 0, -1),
+        setup(1, 0, 15),
+        hold(0, 1, -7),
+        setup(1, 1, 13),
+        hold(1, 1, -6),
+        setup(2, 0, 14),
+        hold(0, 2, -6),
+        setup(2, 1, 12),
+        hold(1, 2, -5),
+        setup(2, 2, 7),
+        hold(2, 2, -2),
+    ]
+}
+
 #[test]
 fn finds_the_least_schedule(rt: HostRuntime) -> Result<(), Fail> {
     let alloc = rt.alloc();
@@ -132,29 +152,7 @@ fn finds_the_least_schedule(rt: HostRuntime) -> Result<(), Fail> {
             [setup(0, 1, 6), setup(1, 0, 4)].as_slice(),
             [0, 1].as_slice(),
         ),
-        // The constraints of s27.bench with one delay of each kind of gate, setup and hold time 1.
-        (
-            13,
-            1,
-            [
-                setup(0, 0, 7),
-                hold(0, 0, -2),
-                setup(0, 1, 5),
-                hold(1, 0, -1),
-                setup(1, 0, 15),
-                hold(0, 1, -7),
-                setup(1, 1, 13),
-                hold(1, 1, -6),
-                setup(2, 0, 14),
-                hold(0, 2, -6),
-                setup(2, 1, 12),
-                hold(1, 2, -5),
-                setup(2, 2, 7),
-                hold(2, 2, -2),
-            ]
-            .as_slice(),
-            [2, 0, 0].as_slice(),
-        ),
+        (13, 1, s27().as_slice(), [2, 0, 0].as_slice()),
     ] {
         let period = period_of(&rt, num, den);
         let list = list_of(&rt, alloc, constraints, arrivals, period)?;
@@ -178,4 +176,68 @@ fn overwrites_what_the_list_holds(rt: HostRuntime) -> Result<(), Fail> {
         expect_at(&rt, &schedule, 2, &arrivals);
     }
     Ok(())
+}
+
+// The leads of the least schedule at a whole period.
+fn expect_leads(
+    rt: &impl Abort,
+    alloc: Global,
+    constraints: &[Constraint],
+    arrivals: &[i128],
+    num: i128,
+    expected: &[Lead],
+) -> Result<(), Fail> {
+    let period = period_of(rt, num, 1);
+    let list = list_of(rt, alloc, constraints, arrivals, period)?;
+    let schedule = least_schedule(alloc, arrivals.len(), &list, period)?;
+    let leads = leads(alloc, arrivals.len(), &list, period, &schedule)?;
+    assert_eq!(rt; leads.as_slice(), expected);
+    Ok(())
+}
+
+#[test]
+fn leads_from_a_register_at_0(rt: HostRuntime) -> Result<(), Fail> {
+    let constraint = setup(1, 0, 15);
+    let expected = [
+        Lead::Tight {
+            depth: 1,
+            constraint,
+        },
+        Lead::Zero,
+        Lead::Zero,
+    ];
+    expect_leads(
+        &rt,
+        rt.alloc(),
+        s27().as_slice(),
+        [2, 0, 0].as_slice(),
+        13,
+        &expected,
+    )
+}
+
+// A chain that runs against the list.
+#[test]
+fn counts_the_constraints_of_a_chain(rt: HostRuntime) -> Result<(), Fail> {
+    let last = setup(1, 2, 7);
+    let first = setup(0, 1, 7);
+    let expected = [
+        Lead::Zero,
+        Lead::Tight {
+            depth: 1,
+            constraint: first,
+        },
+        Lead::Tight {
+            depth: 2,
+            constraint: last,
+        },
+    ];
+    expect_leads(
+        &rt,
+        rt.alloc(),
+        &[last, first],
+        [0, 2, 4].as_slice(),
+        5,
+        &expected,
+    )
 }

@@ -1,0 +1,156 @@
+-- What is looked at from each register that is taken.
+use Rattle.std.proofs.Common.{◌≡◌, ◌<◌, ◌≤◌, ◌+◌, ◌∙◌, ℕ, zero, suc, ℤ, pos, negsuc, ◌≤ℤ◌, ◌<ℤ◌, false, List, length, get_or, inl, inr, subst, sym, refl, arith, true≢false}
+use Rattle.std.proofs.lemmas.Bool.{cases_eq, cases_lt}
+use Rattle.std.proofs.lemmas.Int.{ints}
+use Rattle.std.proofs.lemmas.List.{get_or_default}
+use Rattle.std.proofs.lemmas.List.Elements.{Contains-get_or}
+use Rattle.cts_base.specs.declared.fraction.Fraction.{Fraction}
+use Rattle.cts_model.specs.declared.constraint.Constraint.{Constraint}
+use Rattle.schedule.specs.declared.reach.Reach.{Reach}
+use Rattle.schedule.specs.declared.tight.Lead.TheVariants.{Tight}
+use Rattle.schedule.specs.Schedules.{arrival_of}
+use Rattle.schedule.specs.Leads.{IsTight, IsTightLead, depth_of, lead_at}
+use Rattle.schedule.specs.Tails.{IsLastBefore}
+use Rattle.schedule.specs.Reaching.{IsAdded, IsGiven, IsGrown, IsHanded, IsHandedBy, IsKept, IsReached, IsReaching}
+use Rattle.schedule.proofs.SweepLemmas.{nowhere}
+use Rattle.schedule.proofs.ReachLemmas.{IsKept-added, IsReaching-added, flag_here}
+
+-- the constraints that lead from the register are looked at, up to the mark's
+pub record IsHanding (constraints : List Constraint) (period : Fraction) (at : List ℤ)
+    (register mark : ℕ) (old new : Reach) : Type 0 where
+  pub handed : IsHanded constraints period at register mark old new
+  pub next : IsLastBefore constraints mark register mark
+  pub bound : mark ≤ length constraints
+
+-- so many in the queue are taken
+pub record IsTaking (constraints : List Constraint) (period : Fraction) (at : List ℤ)
+    (taken : ℕ) (reach : Reach) : Type 0 where
+  pub reaching : IsReaching constraints period at (length at) reach
+  pub within : taken ≤ length reach.queue.items
+  pub handed : (turn place : ℕ) (default : Constraint) → turn < taken
+      → place < length constraints
+      → (get_or constraints place default).tail ≡ get_or reach.queue.items turn 0
+      → IsHandedBy constraints period at reach place
+
+-- nothing changed
+IsKept-same : (reach : Reach) → IsKept reach reach
+IsKept-same reach = record {
+  kept = λ register reached. reached;
+  longer = omega arith;
+  same = λ place below. refl;
+}
+
+-- one step after the other
+IsKept-then : {first second third : Reach} → IsKept first second → IsKept second third
+    → IsKept first third
+IsKept-then one two = record {
+  kept = λ register reached. two.kept register (one.kept register reached);
+  longer = omega (arith, one.longer, two.longer);
+  same = λ place below.
+      two.same place (omega (arith, below, one.longer)) ∙ one.same place below;
+}
+
+-- a number from 0 on that isn't 0
+above_zero : (z : ℤ) → pos 0 ≤ℤ z → (z ≡ pos 0 → ⊥) → pos 0 <ℤ z
+above_zero (pos zero) from late = absurd (late refl)
+above_zero (pos (suc n)) from late = omega (arith, ints)
+above_zero (negsuc n) from late = absurd (omega (arith, ints))
+
+module _ {constraints : List Constraint} {period : Fraction} {at : List ℤ} {old : Reach}
+    (given : IsGiven constraints period at)
+    (reaching : IsReaching constraints period at (length at) old) (place : ℕ)
+    (within : place < length constraints) where
+  -- the constraint
+  abbrev it : Constraint
+  it = get_or constraints place nowhere
+
+  -- its head is a register
+  head : it.head < length at
+  head = (given.small.each place nowhere within).head
+
+  module _ (tail : IsReached old it.tail)
+      (first : get_or old.reached.items it.head false ≡ false) (tight : IsTight period at it)
+      (depth : ℕ) (depth_is : depth ≡ 1 + depth_of (lead_at old.leads.items it.tail)) where
+    -- it leads to its head
+    led : IsTightLead constraints period at old.leads.items it.head depth it
+    led = record {
+      late = above_zero (arrival_of at it.head) (given.from_zero it.head head)
+          (λ zero. true≢false (sym (reaching.zeros it.head head zero) ∙ first));
+      among = Contains-get_or constraints place nowhere within;
+      head = refl;
+      tight = tight;
+      depth_is = depth_is;
+    }
+
+    -- a tight constraint from a register that is reached gives its head a lead
+    pub IsGrown-offered : {new : Reach} → IsAdded it.head (Tight depth it) old new
+        → IsGrown constraints period at place old new
+    IsGrown-offered {new} added = record {
+      keeps = IsKept-added reaching added head first;
+      reaching = IsReaching-added reaching added head first led tail
+          (omega (arith, depth_is, reaching.low it.tail)) (length at) head (omega arith)
+          (λ other early. inl early);
+      handed = λ default is.
+          subst (λ (c : Constraint). IsReached new c.head)
+          (get_or_default constraints place nowhere default within)
+          (flag_here reaching added head first);
+    }
+
+module _ {constraints : List Constraint} {period : Fraction} {at : List ℤ}
+    {register mark : ℕ} {old : Reach} where
+  -- at first all constraints are left
+  pub IsHanding-none : IsReaching constraints period at (length at) old
+      → IsLastBefore constraints (length constraints) register mark
+      → IsHanding constraints period at register mark old old
+  IsHanding-none reaching last = record {
+    handed = record {
+      keeps = IsKept-same old;
+      reaching = reaching;
+      handed = λ place default past within tail. absurd (last.none place default past within tail);
+    };
+    next = record {
+      within = omega arith;
+      here = last.here;
+      none = λ place default past below. absurd (omega (arith, past, below));
+    };
+    bound = last.within;
+  }
+
+  -- the mark's constraint is looked at
+  pub IsHanding-more : {now new : Reach} → IsHanding constraints period at register mark old now
+      → (place : ℕ) → place + 1 ≡ mark → IsGrown constraints period at place now new
+      → (before : ℕ)
+      → IsLastBefore constraints place (get_or constraints place nowhere).tail before
+      → IsHanding constraints period at register before old new
+  IsHanding-more {now} {new} handing place place_is grown before last = record {
+    handed = record {
+      keeps = IsKept-then handing.handed.keeps grown.keeps;
+      reaching = grown.reaching;
+      handed = handed;
+    };
+    next = record {
+      within = omega arith;
+      here = λ other default next. last.here other default next ∙ tail;
+      none = λ other default past below. absurd (omega (arith, past, below));
+    };
+    bound = omega (arith, last.within, place_is, handing.bound);
+  }
+    where
+      -- its tail is the register
+      tail : (get_or constraints place nowhere).tail ≡ register
+      tail = handing.next.here place nowhere place_is
+
+      -- what is looked at now
+      handed : (other : ℕ) (default : Constraint) → before ≤ other → other < length constraints
+          → (get_or constraints other default).tail ≡ register
+          → IsHandedBy constraints period at new other
+      handed other default past within is = elim (cases_lt place other) [
+        | inl later ↦ λ any tight. grown.keeps.kept (get_or constraints other any).head
+            (handing.handed.handed other default (omega (arith, place_is, later)) within is any
+            tight)
+        | inr not_later ↦ elim (cases_eq other place) [
+          | inl same ↦ subst (IsHandedBy constraints period at new) (sym same) grown.handed
+          | inr apart ↦ absurd (last.none other default past
+              (omega (arith, not_later, apart)) (is ∙ sym tail))
+        ]
+      ]

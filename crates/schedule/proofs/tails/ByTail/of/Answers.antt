@@ -1,0 +1,16 @@
+use Rattle.std.proofs.Common.{subst, arith}
+use Rattle.schedule.specs.Tails.{AreByTail}
+use Rattle.schedule.proofs.SweepLemmas.{nowhere}
+use Rattle.schedule.proofs.TailLemmas.{AreByTail-more}
+use Rattle.schedule.proofs.tails.ByTail.of.Goals as goal
+
+pub loop-place-preserved : goal.loop-place-preserved
+loop-place-preserved c =
+    let place = c.loop-place.place in
+    let small = c.requires.each place nowhere c.loop-place-test.true in
+    AreByTail-more c.loop-place.invariant c.loop-place-test.true small.tail c.index.result.now
+    c.index.ensures
+
+pub returns : goal.returns
+returns c = subst (λ end. AreByTail c.args.constraints.now c.args.registers end
+    c.loop-place.last.items c.loop-place.before.items) (omega arith) c.loop-place.invariant

@@ -1,0 +1,17 @@
+use Rattle.std.proofs.Common.{rules, FitsSigned, ◌*ℤ◌}
+use Rattle.std.specs.Int.{w128}
+use Rattle.schedule.specs.Schedules.{arrival_of}
+use Rattle.schedule.proofs.TightLemmas.{tight_read}
+use Rattle.schedule.proofs.tight.is_tight.Goals as goal
+
+pub returns : goal.returns
+returns c =
+    let at = c.args.at.now in
+    let it = c.args.constraint.now in
+    let to_fits : FitsSigned w128 (arrival_of at it.head) = search rules in
+    let from_fits : FitsSigned w128 (arrival_of at it.tail) = search rules in
+    tight_read (arrival_of at it.head) (arrival_of at it.tail) c.gain.result
+    (c.args.period.den *ℤ it.weight) c.args.period.num it.setup
+    (c.requires.from_zero it.head c.requires.small.head)
+    (c.requires.from_zero it.tail c.requires.small.tail) to_fits from_fits
+    c.gain.ensures.small c.gain.ensures.gain

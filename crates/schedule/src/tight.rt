@@ -1,0 +1,75 @@
+ghost use Rattle.std.specs.Prelude.{◌≡◌, ◌↔◌, IfOk, IsTrue, length, nat_abs};
+ghost use Rattle.cts_model.specs.Constraints.{AreSmallConstraints, IsSmallConstraint};
+ghost use Rattle.schedule.specs.Schedules.{AreFromZero, IsAdmittedBy, IsLeastScheduleOf};
+ghost use Rattle.schedule.specs.Schedules.{IsSmallPeriod, arrival_of};
+ghost use Rattle.schedule.specs.Leads.{EachLead, IsTight, depth_of};
+
+use crate::Schedule;
+use crate::gain::gain;
+use crate::reach::Reach;
+use crate::tails::ByTail;
+use cts_base::{Fraction, Listed, NoMemory};
+use cts_model::Constraint;
+use std::alloc::Global;
+
+/// Why a register's arrival can't be earlier.
+#[derive(Clone, Copy, Debug, PartialEq, Eq)]
+pub enum Lead {
+    /// It is 0.
+    Zero,
+    /// A constraint that leads to it is tight, and so many are from a register at 0 on.
+    Tight {
+        /// How many constraints it takes, this one among them.
+        depth: u32,
+        /// The last of them.
+        constraint: Constraint,
+    },
+}
+
+/// What shows of each register that its arrival in the least schedule can't be earlier. It takes
+/// memory for each register and a number for each constraint, and looks at each constraint twice:
+/// to link it with those of its tail, and when its tail is taken. Registers are taken in the order
+/// in which they are reached, those at 0 first.
+pub fn leads(
+    alloc: Global,
+    registers: usize,
+    constraints: &Listed<Constraint>,
+    period: Fraction,
+    schedule: &Schedule,
+) -> Result<Listed<Lead>, NoMemory>
+    requires small { AreSmallConstraints registers constraints.now }
+    requires period { IsSmallPeriod period }
+    requires admitted { IsAdmittedBy constraints.now period }
+    requires den { schedule.now.den ≡ period.den }
+    requires registers { length schedule.now.at ≡ registers }
+    requires least { IsLeastScheduleOf constraints.now period.num (nat_abs period.den)
+        schedule.now.at }
+    ensures registers { IfOk result (λ leads. length leads ≡ registers) }
+    ensures each { IfOk result (EachLead constraints.now period schedule.now.at) }
+{
+    let tails = ByTail::of(alloc, registers, constraints.as_slice())?;
+    let at = schedule.at.as_slice();
+    let mut reach = Reach::start(alloc, at)?;
+    reach.reach_all(&tails, constraints.as_slice(), at, period)?;
+    Ok(Listed::from_vec(reach.leads))
+}
+
+/// How many constraints a lead takes.
+pub(crate) fn depth_of(lead: &Lead) -> u32
+    ensures { result ≡ depth_of lead.now }
+{
+    match lead {
+        Lead::Zero => 0,
+        Lead::Tight { depth, .. } => *depth,
+    }
+}
+
+/// Whether the head's arrival is just what the constraint asks.
+pub(crate) fn is_tight(constraint: &Constraint, at: &[i128], period: Fraction) -> bool
+    requires small { IsSmallConstraint (length at.now) constraint.now }
+    requires period { IsSmallPeriod period }
+    requires from_zero { AreFromZero (length at.now) (arrival_of at.now) }
+    ensures { IsTrue result ↔ IsTight period at.now constraint.now }
+{
+    at[constraint.head as usize] - at[constraint.tail as usize] == gain(constraint, period)
+}
