@@ -24,6 +24,7 @@ distance_least from to =
     let y = apart_least from.y to.y in
     omega (arith, ints, x, y)
 
+-- such a length is enough
 pub is_enough : (from to : Point) (long : ℤ) → distance from to ≤ℤ long → long <ℤ pos (10 ^ 32)
     → IsEnough long (distance from to)
 is_enough from to long enough below =

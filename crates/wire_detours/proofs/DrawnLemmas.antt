@@ -11,41 +11,48 @@ use Rattle.wire_detours.proofs.PieceLemmas.{same_point, upright_level, level_upr
 
 -- ---- lists of few pieces
 
--- no piece, and one, and so on, are apart two by two
+-- no pieces share no points
 pairs_none : AllPairs AreApart []
 pairs_none = λ i j d before within. absurd (omega arith)
 
+-- one piece has none to share a point with
 pairs_one : (piece : Piece) → AllPairs AreApart (piece ∷ [])
 pairs_one piece = AllPairs-cons AreApart piece [] (All-nil (AreApart piece)) pairs_none
 
--- what holds of each of a few pieces holds of all
+-- what holds of one piece holds of all of one
 all_one : (P : Piece → Type 0) (first : Piece) → P first → All P (first ∷ [])
 all_one P first holds = All-cons P first [] holds (All-nil P)
 
+-- of all of two
 all_two : (P : Piece → Type 0) (first second : Piece) → P first → P second
     → All P (first ∷ second ∷ [])
 all_two P first second holds next = All-cons P first (second ∷ []) holds (all_one P second next)
 
+-- of all of three
 all_three : (P : Piece → Type 0) (first second third : Piece) → P first → P second → P third
     → All P (first ∷ second ∷ third ∷ [])
 all_three P first second third holds next last = All-cons P first (second ∷ third ∷ []) holds
     (all_two P second third next last)
 
+-- and of all of four
 all_four : (P : Piece → Type 0) (first second third fourth : Piece) → P first → P second
     → P third → P fourth → All P (first ∷ second ∷ third ∷ fourth ∷ [])
 all_four P first second third fourth holds next more last = All-cons P first
     (second ∷ third ∷ fourth ∷ []) holds (all_three P second third fourth next more last)
 
+-- two pieces that are apart are so two by two
 pairs_two : (first second : Piece) → AreApart first second → AllPairs AreApart (first ∷ second ∷ [])
 pairs_two first second next = AllPairs-cons AreApart first (second ∷ []) (all_one
     (AreApart first) second next) (pairs_one second)
 
+-- three of which each two are apart
 pairs_three : (first second third : Piece) → AreApart first second → AreApart first third
     → AreApart second third → AllPairs AreApart (first ∷ second ∷ third ∷ [])
 pairs_three first second third next far last = AllPairs-cons AreApart first
     (second ∷ third ∷ []) (all_two (AreApart first) second third next far)
     (pairs_two second third last)
 
+-- and four
 pairs_four : (first second third fourth : Piece) → AreApart first second → AreApart first third
     → AreApart first fourth → AreApart second third → AreApart second fourth
     → AreApart third fourth → AllPairs AreApart (first ∷ second ∷ third ∷ fourth ∷ [])

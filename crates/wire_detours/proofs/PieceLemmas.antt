@@ -7,6 +7,7 @@ use Rattle.cts_model.specs.Points.{apart}
 use Rattle.wire_detours.specs.DrawnWires.{Piece, IsBetween, IsOn, AreApart}
 use borrow.Author.Differences.{up, down}
 
+-- points are the same where their coordinates are
 pub same_point : {a b : Point} → a.x ≡ b.x → a.y ≡ b.y → a ≡ b
 same_point x y = λ i. record { x = x i; y = y i }
 
@@ -38,6 +39,7 @@ upright_level piece other upright level = λ scale one two some one_on one_other
     ∙ sym (on_upright scale two piece upright two_on))
     (on_level scale one other level one_other ∙ sym (on_level scale two other level two_other))
 
+-- and the same the other way round
 pub level_upright : (piece other : Piece) → piece.from.y ≡ piece.to.y
     → other.from.x ≡ other.to.x → AreApart piece other
 level_upright piece other level upright = λ scale one two some one_on one_other two_on two_other.
@@ -85,36 +87,43 @@ both_level piece other level other_level differ =
     absurd (scale_differs scale piece.from.y other.from.y some differ
     (sym (on_level scale one piece level one_on) ∙ on_level scale one other other_level one_other))
 
--- how far two numbers are apart, by their order
+-- a number is not apart from itself
 pub apart_same : (a b : ℤ) → a ≡ b → apart a b ≡ pos 0
 apart_same a b same = omega (arith, ints, clamps)
 
+-- from the lower number to the higher
 pub apart_up : (a b : ℤ) → a ≤ℤ b → apart a b ≡ b -ℤ a
 apart_up a b ordered = omega (arith, ints, clamps)
 
+-- and from the higher to the lower
 pub apart_down : (a b : ℤ) → b ≤ℤ a → apart a b ≡ a -ℤ b
 apart_down a b ordered = omega (arith, ints, clamps)
 
--- a number and what is so far above or below it
+-- what is so far above a number
 pub apart_above : (at by : ℤ) → pos 0 <ℤ by → apart at (at +ℤ by) ≡ by
 apart_above at by some = omega (arith, ints, clamps, some)
 
+-- what is so far below
 pub apart_below : (at by : ℤ) → pos 0 <ℤ by → apart at (at -ℤ by) ≡ by
 apart_below at by some = omega (arith, ints, clamps, some)
 
+-- and the way back from above
 pub apart_back : (at by : ℤ) → pos 0 <ℤ by → apart (at +ℤ by) at ≡ by
 apart_back at by some = omega (arith, ints, clamps, some)
 
+-- what is above a number is another
 pub differs_above : (at by : ℤ) → pos 0 <ℤ by → at ≢ (at +ℤ by)
 differs_above at by some same = omega (arith, ints, some, same)
 
+-- the same, said from above
 pub differs_back : (at by : ℤ) → pos 0 <ℤ by → (at +ℤ by) ≢ at
 differs_back at by some same = omega (arith, ints, some, same)
 
--- no two are apart by less than nothing, and different ones by more
+-- no two numbers are apart by less than nothing
 pub apart_least : (a b : ℤ) → pos 0 ≤ℤ apart a b
 apart_least a b = omega (arith, ints, clamps)
 
+-- and different ones are by more
 pub apart_more : (a b : ℤ) → a ≢ b → pos 0 <ℤ apart a b
 apart_more a b differ =
     by_lt_z a b

@@ -1,6 +1,6 @@
 use cts_model::Point;
 
-/// A drawn wire: the points where it begins, bends and ends. It takes no memory.
+/// A drawn wire: the points where it begins, bends and ends.
 #[derive(Clone, Copy, Debug, PartialEq, Eq)]
 pub struct Wire {
     /// The points in the order of the wire, in grid steps. Those past `used` are (0, 0).

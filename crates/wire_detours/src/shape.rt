@@ -1,4 +1,4 @@
-ghost use Rattle.std.specs.Prelude.{◌≡◌, ◌≢◌, [], ◌∷◌, ◌^◌, ◌<ℤ◌, ◌≤ℤ◌, ◌+ℤ◌, ◌-ℤ◌};
+ghost use Rattle.std.specs.Prelude.{◌≡◌, ◌≢◌, [], ◌∷◌, ◌^◌, ◌<ℤ◌, ◌≤ℤ◌};
 ghost use Rattle.cts_model.specs.Points.{IsBelow, IsPointBelow};
 ghost use Rattle.wire_detours.specs.WirePoints.{beside, bent, over, round, under, shown};
 
