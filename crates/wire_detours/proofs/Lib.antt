@@ -1,0 +1,4 @@
+pub mod DetourLemmas
+pub mod DrawnLemmas
+pub mod PieceLemmas
+pub mod TableLemmas

@@ -1,0 +1,2 @@
+pub mod DrawnWires
+pub mod WirePoints
