@@ -1,8 +1,8 @@
 -- What is looked at from each register that is taken.
-use Rattle.std.proofs.Common.{◌≡◌, ◌<◌, ◌≤◌, ◌+◌, ◌∙◌, ℕ, zero, suc, ℤ, pos, negsuc, ◌≤ℤ◌, ◌<ℤ◌, false, List, length, get_or, inl, inr, subst, sym, refl, arith, true≢false}
+use Rattle.std.proofs.Common.{◌≡◌, ◌<◌, ◌≤◌, ◌+◌, ◌∙◌, ℕ, zero, suc, ℤ, pos, negsuc, ◌≤ℤ◌, ◌<ℤ◌, false, List, length, get_or, inl, inr, subst, sym, refl, arith, true≢false, ap}
 use Rattle.std.proofs.lemmas.Bool.{cases_eq, cases_lt}
 use Rattle.std.proofs.lemmas.Int.{ints}
-use Rattle.std.proofs.lemmas.List.{get_or_default}
+use Rattle.std.proofs.lemmas.List.{get_or_default, get_or_read}
 use Rattle.std.proofs.lemmas.List.Elements.{Contains-get_or}
 use Rattle.cts_base.specs.declared.fraction.Fraction.{Fraction}
 use Rattle.cts_model.specs.declared.constraint.Constraint.{Constraint}
@@ -153,4 +153,35 @@ module _ {constraints : List Constraint} {period : Fraction} {at : List ℤ}
           | inr apart ↦ absurd (last.none other default past
               (omega (arith, not_later, apart)) (is ∙ sym tail))
         ]
+      ]
+
+module _ {constraints : List Constraint} {period : Fraction} {at : List ℤ} {taken : ℕ}
+    {now : Reach} where
+  -- the next register of the queue is taken
+  pub IsTaking-more : {new : Reach} → IsTaking constraints period at taken now
+      → taken < length now.queue.items → (register : ℕ)
+      → register ≡ get_or now.queue.items taken register
+      → IsHanded constraints period at register 0 now new
+      → IsTaking constraints period at (taken + 1) new
+  IsTaking-more {new} taking below register read more = record {
+    reaching = more.reaching;
+    within = omega (arith, below, more.keeps.longer);
+    handed = handed;
+  }
+    where
+      -- what is handed on by those that are taken
+      handed : (turn place : ℕ) (default : Constraint) → turn < taken + 1
+          → place < length constraints
+          → (get_or constraints place default).tail ≡ get_or new.queue.items turn 0
+          → IsHandedBy constraints period at new place
+      handed turn place default early within is = elim (cases_eq turn taken) [
+        | inl same ↦ more.handed place default (omega arith) within
+            (is ∙ (ap (λ t. get_or new.queue.items t 0) same
+            ∙ (more.keeps.same taken below
+            ∙ sym (get_or_read now.queue.items taken register below read 0))))
+        | inr apart ↦
+            let before : turn < taken = omega (arith, early, apart) in
+            λ any tight. more.keeps.kept (get_or constraints place any).head
+            (taking.handed turn place default before within
+            (is ∙ more.keeps.same turn (omega (arith, before, below))) any tight)
       ]
