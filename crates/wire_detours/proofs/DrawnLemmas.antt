@@ -5,7 +5,7 @@ use Rattle.std.proofs.lemmas.List.Elements.{All-nil, All-cons}
 use Rattle.std.proofs.lemmas.List.Kept.{AllPairs-cons}
 use Rattle.cts_model.specs.declared.place.Point.{Point}
 use Rattle.cts_model.specs.Points.{apart, distance}
-use Rattle.wire_detours.specs.DrawnWires.{Piece, IsStraight, AreApart, IsDrawn}
+use Rattle.wire_detours.specs.DrawnWires.{Piece, pieces, total, IsStraight, AreApart, IsDrawn}
 use Rattle.wire_detours.specs.WirePoints.{at, bent, under, over, beside, round, HasDetour}
 use Rattle.wire_detours.proofs.PieceLemmas.{same_point, upright_level, level_upright, both_upright, both_level, apart_same, apart_up, apart_down, apart_above, apart_below, differs_above, differs_back, apart_back, apart_least, apart_more}
 
@@ -137,6 +137,28 @@ drawn_bent from to long x y is =
       no_length = λ none. absurd (omega (arith, ints));
     }
 
+-- to a level above or below both, along x, and back
+drawn_across : (from to : Point) (long y : ℤ) → from.x ≢ to.x → from.y ≢ y → y ≢ to.y
+    → long ≢ pos 0 → total (pieces (from ∷ at from.x y ∷ at to.x y ∷ to ∷ [])) ≡ long
+    → IsDrawn from to long (from ∷ at from.x y ∷ at to.x y ∷ to ∷ [])
+drawn_across from to long y x out back some sum =
+    let turn = at from.x y in
+    let next = at to.x y in
+    record {
+      some = omega arith;
+      few = omega arith;
+      begins = refl;
+      ends = refl;
+      straight = all_three IsStraight (piece from turn) (piece turn next) (piece next to)
+          (inl (refl, out)) (inr (x, refl)) (inl (refl, back));
+      sum = sum;
+      apart = pairs_three (piece from turn) (piece turn next) (piece next to)
+          (upright_level (piece from turn) (piece turn next) refl refl)
+          (both_upright (piece from turn) (piece next to) refl refl x)
+          (level_upright (piece turn next) (piece next to) refl refl);
+      no_length = λ none. absurd (some none);
+    }
+
 -- down, along x, and up
 pub drawn_under : (from to : Point) (long by : ℤ) → HasDetour from to long by → from.x ≢ to.x
     → from.y <ℤ to.y → IsDrawn from to long (under from to by)
@@ -150,23 +172,9 @@ drawn_under from to long by has x less =
     let high : apart from.y to.y ≡ to.y -ℤ from.y =
     apart_up from.y to.y (omega (arith, ints, less)) in
     let more = apart_more from.x to.x x in
-    let turn = at from.x (from.y -ℤ by) in
-    let next = at to.x (from.y -ℤ by) in
-    record {
-      some = omega arith;
-      few = omega arith;
-      begins = refl;
-      ends = refl;
-      straight = all_three IsStraight (piece from turn) (piece turn next) (piece next to)
-          (inl (refl, λ same. omega (arith, ints, has.positive, same))) (inr (x, refl))
-          (inl (refl, λ same. omega (arith, ints, has.positive, less, same)));
-      sum = omega (arith, ints);
-      apart = pairs_three (piece from turn) (piece turn next) (piece next to)
-          (upright_level (piece from turn) (piece turn next) refl refl)
-          (both_upright (piece from turn) (piece next to) refl refl x)
-          (level_upright (piece turn next) (piece next to) refl refl);
-      no_length = λ none. absurd (omega (arith, ints));
-    }
+    drawn_across from to long (from.y -ℤ by) x (λ same. omega (arith, ints, has.positive, same))
+    (λ same. omega (arith, ints, has.positive, less, same)) (λ none. omega (arith, ints))
+    (omega (arith, ints))
 
 -- and up first
 pub drawn_over : (from to : Point) (long by : ℤ) → HasDetour from to long by → from.x ≢ to.x
@@ -180,23 +188,9 @@ drawn_over from to long by has x less =
     apart_down (from.y +ℤ by) to.y (omega (arith, ints, has.positive, less)) in
     let high : apart from.y to.y ≡ from.y -ℤ to.y = apart_down from.y to.y less in
     let more = apart_more from.x to.x x in
-    let turn = at from.x (from.y +ℤ by) in
-    let next = at to.x (from.y +ℤ by) in
-    record {
-      some = omega arith;
-      few = omega arith;
-      begins = refl;
-      ends = refl;
-      straight = all_three IsStraight (piece from turn) (piece turn next) (piece next to)
-          (inl (refl, λ same. omega (arith, ints, has.positive, same))) (inr (x, refl))
-          (inl (refl, λ same. omega (arith, ints, has.positive, less, same)));
-      sum = omega (arith, ints);
-      apart = pairs_three (piece from turn) (piece turn next) (piece next to)
-          (upright_level (piece from turn) (piece turn next) refl refl)
-          (both_upright (piece from turn) (piece next to) refl refl x)
-          (level_upright (piece turn next) (piece next to) refl refl);
-      no_length = λ none. absurd (omega (arith, ints));
-    }
+    drawn_across from to long (from.y +ℤ by) x (λ same. omega (arith, ints, has.positive, same))
+    (λ same. omega (arith, ints, has.positive, less, same)) (λ none. omega (arith, ints))
+    (omega (arith, ints))
 
 -- to the side, along y, and back
 pub drawn_beside : (from to : Point) (long by : ℤ) → HasDetour from to long by → from.x ≡ to.x
