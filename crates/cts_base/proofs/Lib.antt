@@ -6,8 +6,10 @@ mod ScaleLemmas
 mod MicroLemmas
 mod SizeLemmas
 mod OneNumberFault
-mod Quotients
+pub mod OneNumberText
+pub mod Quotients
 pub mod Divisors
+pub mod GreatestDivisors
 pub mod LineSplits
 pub mod ListPlaces
 pub mod ListTests

@@ -52,7 +52,7 @@ cross : (divisor num den a b : ℕ) → divisor * num ≡ a → divisor * den �
 cross divisor num den a b front back = rw (← front, ← back) (omega arith)
 
 -- the product of a number of 0 or less and one of 0 or more
-negative : (a b : ℕ) → neg_ℤ (pos a) *ℤ pos b ≡ neg_ℤ (pos (a * b))
+pub negative : (a b : ℕ) → neg_ℤ (pos a) *ℤ pos b ≡ neg_ℤ (pos (a * b))
 negative zero b = omega (arith, ints)
 negative (suc a) b = refl
 

@@ -1,6 +1,6 @@
 ghost use Rattle.std.specs.Prelude.{◌≡◌, ◌≤◌, ◌^◌, ◌∷◌, ◌++◌, length, pos, ◌*ℤ◌, ◌≤ℤ◌, nat_abs, OnOk, OnErr};
 ghost use Rattle.std.specs.Int.{IsGcd};
-ghost use Rattle.cts_base.specs.Fractions.{HasSizeBelow, IsLowest, fraction_text};
+ghost use Rattle.cts_base.specs.Fractions.{HasSizeBelow, IsLowest, fraction_text, quotient_text};
 
 use crate::NoMemory;
 use crate::divisor::gcd;
@@ -77,6 +77,18 @@ fn product(a: i128, b: i128) -> i128
     a * b
 }
 
+/// Appends the spelling of a quotient of two whole numbers: the fraction of its value. A refusal
+/// leaves the bytes as they were.
+pub fn push_quotient(out: &mut Vec<u8>, num: i128, den: i128) -> Result<(), NoMemory>
+    requires some_den { pos 1 ≤ℤ den }
+    requires small_num { HasSizeBelow (10 ^ 37) num }
+    requires small_den { HasSizeBelow (10 ^ 37) den }
+    ensures ok { OnOk result (out.new.items ≡ out.old.items ++ quotient_text num den) }
+    ensures err { OnErr result (out.new.items ≡ out.old.items) }
+{
+    push_fraction(out, Fraction::of(num, den))
+}
+
 /// Appends the spelling of a fraction. A refusal leaves the bytes as they were.
 pub fn push_fraction(out: &mut Vec<u8>, fraction: Fraction) -> Result<(), NoMemory>
     ensures ok { OnOk result (out.new.items
@@ -90,11 +102,11 @@ pub fn push_fraction(out: &mut Vec<u8>, fraction: Fraction) -> Result<(), NoMemo
         return Ok(());
     }
     let mut den_buffer = Buffer::new();
-    push_quotient(out, num, den_buffer.format(fraction.den).as_bytes())
+    push_parts(out, num, den_buffer.format(fraction.den).as_bytes())
 }
 
 // Appends two numbers with a `/` between them, or nothing.
-fn push_quotient(out: &mut Vec<u8>, num: &[u8], den: &[u8]) -> Result<(), NoMemory>
+fn push_parts(out: &mut Vec<u8>, num: &[u8], den: &[u8]) -> Result<(), NoMemory>
     requires num { length num.now ≤ 40 }
     requires den { length den.now ≤ 40 }
     ensures ok { OnOk result (out.new.items ≡ out.old.items ++ num.now ++ 47 ∷ den.now) }

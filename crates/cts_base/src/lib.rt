@@ -11,7 +11,7 @@ mod text;
 mod word_walk;
 
 pub use divisor::gcd;
-pub use fraction::{Fraction, push_fraction};
+pub use fraction::{Fraction, push_fraction, push_quotient};
 pub use line_walk::{Line, Lines};
 pub use listed::{Listed, Name};
 pub use no_memory::NoMemory;
