@@ -1,14 +1,17 @@
--- The registers that paths join, and that listed pairs name.
-use Rattle.std.proofs.Common.{◌≡◌, ◌<◌, ℕ, List, [], ◌∷◌, length, Option, Some, None, IsSomeAnd, refl}
+-- The registers that paths join, and that listed pairs and constraints name.
+use Rattle.std.proofs.Common.{◌≡◌, ◌<◌, ℕ, ℤ, Bool, true, false, List, [], ◌∷◌, length, Option, Some, None, IsSomeAnd, refl}
+use Rattle.std.specs.Prelude.{MatchBool}
 use Rattle.std.specs.List.{All, slice_get}
 use Rattle.std.specs.Option.{option_and_then}
 use Rattle.std.proofs.lemmas.List.Elements.{All-weaker}
 use Rattle.std.proofs.lemmas.Option.{slice_get_within}
 use Rattle.cts_model.specs.declared.signal.Signal.{Signal}
 use Rattle.cts_model.specs.declared.circuit.Circuit.{Circuit}
+use Rattle.cts_model.specs.declared.constraint.Constraint.{Constraint}
 use Rattle.cts_model.specs.declared.tech.Tech.{Tech}
 use Rattle.cts_model.specs.declared.timing.PairDelay.{PairDelay}
 use Rattle.cts_model.specs.Paths.{register_signal, IsPath}
+use Rattle.cts_model.specs.Constraints.{IsSetupConstraint, IsHoldConstraint, IsConstraintOf}
 use Rattle.cts_model.specs.EqualArrivals.{IsPairDelay}
 use Rattle.cts_model.specs.PairLists.{ListsPairs}
 
@@ -30,15 +33,60 @@ path_within circuit from to [] is_path = absurd is_path
 path_within circuit from to (first ∷ gates) is_path =
     (register_within circuit from _ is_path.0, register_within circuit to _ is_path.1.2)
 
+-- the register that launches is one of the circuit
+pub pair_from : (circuit : Circuit) (tech : Tech) (pair : PairDelay) → IsPairDelay circuit tech pair
+    → pair.from < length circuit.registers
+pair_from circuit tech pair delays =
+    let (path, joins, least_is) = delays.least_shown in
+    (path_within circuit pair.from pair.to path joins).0
+
+-- and so is the one that captures
+pub pair_to : (circuit : Circuit) (tech : Tech) (pair : PairDelay) → IsPairDelay circuit tech pair
+    → pair.to < length circuit.registers
+pair_to circuit tech pair delays =
+    let (path, joins, least_is) = delays.least_shown in
+    (path_within circuit pair.from pair.to path joins).1
+
 module _ {circuit : Circuit} {tech : Tech} {pairs : List PairDelay}
     (lists : ListsPairs circuit tech pairs) where
   -- the registers that listed pairs name are the circuit's
   pub launches_within : All (λ pair. pair.from < length circuit.registers) pairs
-  launches_within = All-weaker (IsPairDelay circuit tech) _
-      (λ pair delays. let (path, joins, least_is) = delays.least_shown in
-      (path_within circuit pair.from pair.to path joins).0) pairs lists.delays
+  launches_within = All-weaker (IsPairDelay circuit tech) _ (pair_from circuit tech) pairs
+      lists.delays
 
   pub captures_within : All (λ pair. pair.to < length circuit.registers) pairs
-  captures_within = All-weaker (IsPairDelay circuit tech) _
-      (λ pair delays. let (path, joins, least_is) = delays.least_shown in
-      (path_within circuit pair.from pair.to path joins).1) pairs lists.delays
+  captures_within = All-weaker (IsPairDelay circuit tech) _ (pair_to circuit tech) pairs
+      lists.delays
+
+-- a constraint of either kind joins registers of the circuit
+joins_registers : (circuit : Circuit) (tech : Tech) (setup : Bool) (tail head : ℕ) (weight : ℤ)
+    → MatchBool setup (IsSetupConstraint circuit tech tail head weight)
+    (IsHoldConstraint circuit tech head tail weight)
+    → (tail < length circuit.registers) × (head < length circuit.registers)
+joins_registers circuit tech true tail head weight its =
+    path_within circuit tail head its.path its.joins
+joins_registers circuit tech false tail head weight its =
+    let (from, to) = path_within circuit head tail its.path its.joins in (to, from)
+
+-- a constraint leads from a register of the circuit
+pub tail_within : (circuit : Circuit) (tech : Tech) (constraint : Constraint)
+    → IsConstraintOf circuit tech constraint → constraint.tail < length circuit.registers
+tail_within circuit tech constraint its = (joins_registers circuit tech constraint.setup
+    constraint.tail constraint.head constraint.weight its).0
+
+-- and leads to one
+pub head_within : (circuit : Circuit) (tech : Tech) (constraint : Constraint)
+    → IsConstraintOf circuit tech constraint → constraint.head < length circuit.registers
+head_within circuit tech constraint its = (joins_registers circuit tech constraint.setup
+    constraint.tail constraint.head constraint.weight its).1
+
+module _ (circuit : Circuit) (tech : Tech) (constraints : List Constraint)
+    (of_circuit : All (IsConstraintOf circuit tech) constraints) where
+  -- so it is with all constraints of a circuit
+  pub tails_within : All (λ constraint. constraint.tail < length circuit.registers) constraints
+  tails_within = All-weaker (IsConstraintOf circuit tech) _
+      (tail_within circuit tech) constraints of_circuit
+
+  pub heads_within : All (λ constraint. constraint.head < length circuit.registers) constraints
+  heads_within = All-weaker (IsConstraintOf circuit tech) _
+      (head_within circuit tech) constraints of_circuit

@@ -1,8 +1,9 @@
--- Distances of points, in plain and in turned coordinates.
-use Rattle.std.proofs.Common.{◌≡◌, ℤ, ◌+ℤ◌, ◌-ℤ◌, arith}
+-- Distances of points, in plain and in turned coordinates, and halves.
+use Rattle.std.proofs.Common.{◌≡◌, ℤ, pos, negsuc, ◌+ℤ◌, ◌-ℤ◌, ◌≤ℤ◌, int_div, ap, ◌∙◌, arith}
 use Rattle.std.proofs.lemmas.Int.{ints, clamps}
 use Rattle.std.specs.Int.{int_max}
-use Rattle.cts_model.specs.Points.{apart}
+use Rattle.cts_model.specs.declared.place.Point.{Point}
+use Rattle.cts_model.specs.Points.{IsMultipleOf, apart, distance, turned, turned_distance}
 
 -- the sum of two differences is the greater of the two turned ones
 pub apart-turned : (x y x' y' : ℤ) → apart x x' +ℤ apart y y' ≡ int_max (apart (x +ℤ y) (x' +ℤ y')) (apart (x -ℤ y) (x' -ℤ y'))
@@ -11,3 +12,54 @@ apart-turned x y x' y' = omega (arith, ints, clamps)
 -- a sum of two values, each known by an equation
 pub sum_of_values : {z r s p q : ℤ} → r ≡ p → s ≡ q → z ≡ r +ℤ s → z ≡ p +ℤ q
 sum_of_values first second sum = cc
+
+-- how far two numbers are apart, where a third is on the way
+apart_by_way : (a b c : ℤ) → apart a c ≤ℤ (apart a b +ℤ apart b c)
+apart_by_way a b c = omega (arith, ints, clamps)
+
+-- no way is shorter than the distance
+pub distance_by_way : (a b c : Point) → distance a c ≤ℤ (distance a b +ℤ distance b c)
+distance_by_way a b c =
+    let x = apart_by_way a.x b.x c.x in
+    let y = apart_by_way a.y b.y c.y in
+    omega (arith, ints, x, y)
+
+-- two numbers are as far apart in either order
+apart_either : (a b : ℤ) → apart a b ≡ apart b a
+apart_either a b = omega (arith, ints, clamps)
+
+-- and so are two points
+pub distance_either : (a b : Point) → distance a b ≡ distance b a
+distance_either a b = ap (λ z. z +ℤ apart a.y b.y) (apart_either a.x b.x)
+    ∙ ap (λ z. apart b.x a.x +ℤ z) (apart_either a.y b.y)
+
+-- no two numbers are less than nothing apart
+apart_from_zero : (a b : ℤ) → pos 0 ≤ℤ apart a b
+apart_from_zero a b = omega (arith, ints, clamps)
+
+-- nor two points
+pub distance_from_zero : (a b : Point) → pos 0 ≤ℤ distance a b
+distance_from_zero a b =
+    let x = apart_from_zero a.x b.x in
+    let y = apart_from_zero a.y b.y in
+    omega (arith, ints, x, y)
+
+-- a number is nothing apart from itself
+apart-itself : (a : ℤ) → apart a a ≡ pos 0
+apart-itself a = omega (arith, ints, clamps)
+
+-- and so is a point
+pub distance-itself : (a : Point) → distance a a ≡ pos 0
+distance-itself a =
+    let x = apart-itself a.x in
+    let y = apart-itself a.y in
+    omega (arith, ints, x, y)
+
+-- the distance by the turned points
+pub distance-turned : (a b : Point) → distance a b ≡ turned_distance (turned a) (turned b)
+distance-turned a b = apart-turned a.x a.y b.x b.y
+
+-- two halves of an even number
+pub halves : (sum : ℤ) → IsMultipleOf 2 sum → int_div sum (pos 2) +ℤ int_div sum (pos 2) ≡ sum
+halves (pos n) even = omega (arith, ints)
+halves (negsuc n) even = omega (arith, ints)

@@ -1,5 +1,5 @@
--- What paths ask of the arrivals at registers, as edges between them. Fishburn, "Clock Skew Optimization",
--- 1990. Weights are in ticks; the period and the arrivals are in ticks over a scale.
+-- What paths ask of the arrivals at registers, as edges between them. Fishburn, "Clock Skew
+-- Optimization", 1990. Weights are in ticks; the period and the arrivals are in ticks over a scale.
 use Rattle.std.specs.Prelude.{◌≡◌, ◌<◌, ◌≤◌, ◌^◌, ℕ, ℤ, pos, ◌+ℤ◌, ◌-ℤ◌, ◌*ℤ◌, ◌≤ℤ◌, MatchBool, if◌then◌else◌, List, All, length}
 use Rattle.cts_model.specs.declared.circuit.Circuit.{Circuit}
 use Rattle.cts_model.specs.declared.tech.Tech.{Tech}
@@ -39,7 +39,8 @@ pub record IsHoldConstraint (circuit : Circuit) (tech : Tech) (from to : ℕ)
   pub least : (other : List ℕ) → IsPath circuit from to other
       → least_delay circuit tech path ≤ℤ least_delay circuit tech other
 
--- a constraint of the circuit: a setup constraint leads along its path, a hold constraint against it
+-- a constraint of the circuit: a setup constraint leads along its path, a hold constraint against
+-- it
 abbrev pub IsConstraintOf : Circuit → Tech → Constraint → Type 0
 IsConstraintOf circuit tech constraint = MatchBool constraint.setup
     (IsSetupConstraint circuit tech constraint.tail constraint.head constraint.weight)

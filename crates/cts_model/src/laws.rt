@@ -2,6 +2,9 @@
 //! is empty.
 
 ghost use Rattle.cts_model.specs.Laws.{CycleBoundsPeriod, ShownPeriodIsLeast, ForbiddenAtAll, MeetsConstraints, CriticalIsLeast, ForbiddingAtAll};
+ghost use Rattle.cts_model.specs.LeadLaws.{LedArrivalsAreLeast};
+ghost use Rattle.cts_model.specs.SkewLaws.{OffsetsAreSkews, SkewsAreOffsets, LeastForSchedule, RealisedMeets};
+ghost use Rattle.cts_model.specs.TreeLaws.{ReachesRealise, ShownReachesAreLeast};
 
 /// A cycle among constraints bounds the periods at which any arrivals satisfy them.
 pub fn cycles()
@@ -16,4 +19,23 @@ pub fn circuits()
     ensures met { MeetsConstraints }
     ensures critical { CriticalIsLeast }
     ensures forbidding { ForbiddingAtAll }
+{}
+
+/// What the shows of a tree say of every tree with its topology.
+pub fn trees()
+    ensures realised { ReachesRealise }
+    ensures least { ShownReachesAreLeast }
+{}
+
+/// What leads say of arrivals that meet a period over every path.
+pub fn leads()
+    ensures least { LedArrivalsAreLeast }
+{}
+
+/// What trees over the sinks of a schedule say of the schedule.
+pub fn skews()
+    ensures realised { OffsetsAreSkews }
+    ensures offsets { SkewsAreOffsets }
+    ensures least { LeastForSchedule }
+    ensures meets { RealisedMeets }
 {}

@@ -1,5 +1,5 @@
-ghost use Rattle.std.specs.Prelude.{◌≡◌, ◌*◌, ◌^◌, pos, ◌≤ℤ◌, ◌<ℤ◌};
-ghost use Rattle.cts_model.specs.Points.{IsBelow, IsPointBelow, apart, distance, turned, turned_distance};
+ghost use Rattle.std.specs.Prelude.{◌≡◌, ◌*◌, ◌^◌, pos, ◌+ℤ◌, ◌≤ℤ◌, ◌<ℤ◌};
+ghost use Rattle.cts_model.specs.Points.{IsBelow, IsMultipleOf, IsPointBelow, apart, distance, turned, turned_distance};
 
 use cts_base::Listed;
 
@@ -57,4 +57,12 @@ fn apart(a: i128, b: i128) -> i128
     ensures high { result <ℤ pos (2 * 10 ^ 33) }
 {
     (a - b).max(b - a)
+}
+
+/// Half of an even number. It takes no memory.
+pub fn half(sum: i128) -> i128
+    requires { IsMultipleOf 2 sum }
+    ensures { result +ℤ result ≡ sum }
+{
+    sum / 2
 }

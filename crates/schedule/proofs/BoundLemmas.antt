@@ -12,7 +12,8 @@ use Rattle.cts_base.specs.declared.fraction.Fraction.{Fraction}
 use Rattle.cts_model.specs.declared.constraint.Constraint.{Constraint}
 use Rattle.cts_model.specs.Points.{IsBelow}
 use Rattle.cts_model.specs.Constraints.{AreSmallConstraints, IsSmallConstraint, Satisfies, count_of}
-use Rattle.schedule.specs.Schedules.{arrival_of, AreFromZero, AreLeast, AreWithinWeights, CanSchedule}
+use Rattle.cts_model.specs.Schedules.{arrival_of, AreFromZero, IsSmallPeriod}
+use Rattle.schedule.specs.Schedules.{AreLeast, AreWithinWeights, CanSchedule}
 use Rattle.schedule.specs.Rises.{IsRising}
 use Rattle.schedule.proofs.Levels.{lowered, lowered_low, lowered_keeps}
 
@@ -167,20 +168,21 @@ AreWithinWeights-least constraints period at can least weight low register withi
     least_low constraints period.num (nat_abs period.den) weight at can.admitted.0 can.small
     can.range.from_zero low can.admitted.1 least register within
 
--- so arrivals that are rising are small
-pub small_rising : (constraints : List Constraint) (period : Fraction) (at : List ℤ)
-    → CanSchedule constraints period (length at) → IsRising constraints period at
-    → All (IsBelow (2 ^ 62)) at
-small_rising constraints period at can rising place default within =
-    subst (IsBelow (2 ^ 62)) (get_or_default at place (pos 0) default within)
-    (below (arrival_of at place) _ (rising.from_zero place within)
-    (AreWithinWeights-least constraints period at can rising.least 100000000000 low place within)
-    (omega (arith, size)))
+-- arrivals from 0 on that are within the weights of small constraints are small
+pub small_within : (constraints : List Constraint) (period : Fraction) (at : List ℤ) (limit : ℕ)
+    → 4096 * (4097 * 100000000000) < limit
+    → AreSmallConstraints (length at) constraints → IsSmallPeriod period
+    → AreFromZero (length at) (arrival_of at)
+    → AreWithinWeights constraints (nat_abs period.den) at → All (IsBelow limit) at
+small_within constraints period at limit enough small range from_zero bound place default within =
+    subst (IsBelow limit) (get_or_default at place (pos 0) default within)
+    (below (arrival_of at place) _ (from_zero place within)
+    (bound 100000000000 low place within) (omega (arith, size, enough)))
   where
     -- no weight is above 10^11
     low : All (λ (constraint : Constraint). constraint.weight ≤ℤ pos 100000000000) constraints
     low constraint_place nothing inside =
-        let it = (can.small.each constraint_place nothing inside).weight in
+        let it = (small.each constraint_place nothing inside).weight in
         omega (arith, ints, it.below)
 
     -- the denominator's size
@@ -191,11 +193,19 @@ small_rising constraints period at can rising place default within =
     -- how large the bound is
     size : (length at - 1) * (nat_abs period.den * 100000000000) ≤ 4096 * (4097 * 100000000000)
     size = mul-le (length at - 1) (nat_abs period.den * 100000000000) 4096 (4097 * 100000000000)
-        (omega (arith, can.small.not_many))
+        (omega (arith, small.not_many))
         (mul-le (nat_abs period.den) 100000000000 4097 100000000000
-        (scale_low period.den can.range.low period.lowest.some_den) (omega arith))
+        (scale_low period.den range.low period.lowest.some_den) (omega arith))
 
     -- what is no greater is small
-    below : (a : ℤ) (n : ℕ) → pos 0 ≤ℤ a → a ≤ℤ pos n → n < 2 ^ 62 → IsBelow (2 ^ 62) a
+    below : (a : ℤ) (n : ℕ) → pos 0 ≤ℤ a → a ≤ℤ pos n → n < limit → IsBelow limit a
     below a n from high few =
         record { above = omega (arith, ints); below = omega (arith, ints) }
+
+-- so arrivals that are rising are small
+pub small_rising : (constraints : List Constraint) (period : Fraction) (at : List ℤ)
+    → CanSchedule constraints period (length at) → IsRising constraints period at
+    → All (IsBelow (2 ^ 62)) at
+small_rising constraints period at can rising =
+    small_within constraints period at (2 ^ 62) (omega arith) can.small can.range rising.from_zero
+    (AreWithinWeights-least constraints period at can rising.least)

@@ -1,5 +1,5 @@
 -- What is looked at from each register that is taken.
-use Rattle.std.proofs.Common.{◌≡◌, ◌<◌, ◌≤◌, ◌+◌, ◌∙◌, ℕ, zero, suc, ℤ, pos, negsuc, ◌≤ℤ◌, ◌<ℤ◌, false, List, length, get_or, inl, inr, subst, sym, refl, arith, true≢false, ap}
+use Rattle.std.proofs.Common.{◌≡◌, ◌<◌, ◌≤◌, ◌+◌, ◌∙◌, ℕ, zero, suc, ℤ, pos, negsuc, ◌≤ℤ◌, ◌<ℤ◌, false, List, Contains, length, get_or, inl, inr, subst, sym, refl, arith, true≢false, ap}
 use Rattle.std.proofs.lemmas.Bool.{cases_eq, cases_lt}
 use Rattle.std.proofs.lemmas.Int.{ints}
 use Rattle.std.proofs.lemmas.List.{get_or_default, get_or_read}
@@ -7,9 +7,9 @@ use Rattle.std.proofs.lemmas.List.Elements.{Contains-get_or}
 use Rattle.cts_base.specs.declared.fraction.Fraction.{Fraction}
 use Rattle.cts_model.specs.declared.constraint.Constraint.{Constraint}
 use Rattle.schedule.specs.declared.reach.Reach.{Reach}
-use Rattle.schedule.specs.declared.tight.Lead.TheVariants.{Tight}
-use Rattle.schedule.specs.Schedules.{arrival_of}
-use Rattle.schedule.specs.Leads.{IsTight, IsTightLead, depth_of, lead_at}
+use Rattle.cts_model.specs.declared.schedule.Lead.TheVariants.{Tight}
+use Rattle.cts_model.specs.Schedules.{arrival_of}
+use Rattle.cts_model.specs.Leads.{IsTight, IsTightLead, depth_of, lead_at}
 use Rattle.schedule.specs.Tails.{IsLastBefore}
 use Rattle.schedule.specs.Reaching.{IsAdded, IsGiven, IsGrown, IsHanded, IsHandedBy, IsKept, IsReached, IsReaching}
 use Rattle.schedule.proofs.SweepLemmas.{nowhere}
@@ -72,11 +72,11 @@ module _ {constraints : List Constraint} {period : Fraction} {at : List ℤ} {ol
       (first : get_or old.reached.items it.head false ≡ false) (tight : IsTight period at it)
       (depth : ℕ) (depth_is : depth ≡ 1 + depth_of (lead_at old.leads.items it.tail)) where
     -- it leads to its head
-    led : IsTightLead constraints period at old.leads.items it.head depth it
+    led : IsTightLead (Contains constraints) period at old.leads.items it.head depth it
     led = record {
       late = above_zero (arrival_of at it.head) (given.from_zero it.head head)
           (λ zero. true≢false (sym (reaching.zeros it.head head zero) ∙ first));
-      among = Contains-get_or constraints place nowhere within;
+      given = Contains-get_or constraints place nowhere within;
       head = refl;
       tight = tight;
       depth_is = depth_is;

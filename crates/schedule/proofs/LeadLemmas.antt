@@ -1,14 +1,15 @@
 -- Where tight constraints reach no further, the least arrivals are all reached: else those that
 -- aren't could all be lowered.
-use Rattle.std.proofs.Common.{◌≡◌, ◌<◌, ◌*◌, ℕ, zero, suc, ℤ, pos, negsuc, ◌+ℤ◌, ◌-ℤ◌, ◌*ℤ◌, ◌≤ℤ◌, Bool, true, false, cond, List, length, get_or, subst, sym, refl, arith, true≢false}
+use Rattle.std.proofs.Common.{◌≡◌, ◌<◌, ◌≤◌, ◌*◌, ℕ, zero, suc, ℤ, pos, negsuc, ◌+ℤ◌, ◌-ℤ◌, ◌*ℤ◌, ◌≤ℤ◌, Bool, true, false, cond, List, Contains, length, get_or, subst, sym, refl, arith, true≢false}
 use Rattle.std.specs.Prelude.{nat_abs}
 use Rattle.std.proofs.lemmas.Int.{ints}
 use Rattle.cts_base.specs.declared.fraction.Fraction.{Fraction}
 use Rattle.cts_model.specs.declared.constraint.Constraint.{Constraint}
 use Rattle.cts_model.specs.Constraints.{Satisfies, count_of}
 use Rattle.schedule.specs.declared.reach.Reach.{Reach}
-use Rattle.schedule.specs.Schedules.{arrival_of, AreFromZero, IsLeastScheduleOf}
-use Rattle.schedule.specs.Leads.{EachLead}
+use Rattle.cts_model.specs.Schedules.{arrival_of, AreFromZero}
+use Rattle.schedule.specs.Schedules.{IsLeastScheduleOf}
+use Rattle.cts_model.specs.Leads.{EachLead, depth_of, lead_at}
 use Rattle.schedule.specs.Reaching.{IsReached, IsWhole}
 use Rattle.schedule.proofs.BoundLemmas.{once_is, size_same}
 
@@ -91,5 +92,9 @@ module _ {constraints : List Constraint} {period : Fraction} {at : List ℤ} {re
       (least.least 1 lowered (omega arith) all_from_zero all_met_once register within)
 
   -- and has its lead
-  pub EachLead-whole : EachLead constraints period at reach.leads.items
+  pub EachLead-whole : EachLead (Contains constraints) period at reach.leads.items
   EachLead-whole register within = whole.reaching.led register (all_reached register within)
+
+  -- which takes no more constraints than there are registers
+  pub low_depth : (register : ℕ) → depth_of (lead_at reach.leads.items register) ≤ length at
+  low_depth register = omega (arith, whole.reaching.low register, whole.reaching.room)

@@ -1,15 +1,15 @@
 -- A register more is reached: what was known of those before it stands.
-use Rattle.std.proofs.Common.{◌≡◌, ◌≢◌, ◌<◌, ◌≤◌, ◌+◌, ◌∙◌, ◌⊎◌, ℕ, ℤ, Bool, true, false, if◌then◌else◌, List, [], ◌∷◌, length, get_or, inl, inr, subst, sym, ap, arith, true≢false}
+use Rattle.std.proofs.Common.{◌≡◌, ◌≢◌, ◌<◌, ◌≤◌, ◌+◌, ◌∙◌, ◌⊎◌, ℕ, ℤ, Bool, true, false, if◌then◌else◌, List, [], ◌∷◌, Contains, length, get_or, inl, inr, subst, sym, ap, arith, true≢false}
 use Rattle.std.proofs.lemmas.Bool.{cases_eq, cases_lt}
 use Rattle.std.proofs.lemmas.List.{get_or-set_same, get_or-set_other, get_or_append_left, length-set, length-append}
 use Rattle.std.proofs.lemmas.List.Sums.{sum_by-set}
 use Rattle.std.proofs.Math.Seq.{get_or-append_seam}
 use Rattle.cts_base.specs.declared.fraction.Fraction.{Fraction}
 use Rattle.cts_model.specs.declared.constraint.Constraint.{Constraint}
-use Rattle.schedule.specs.declared.tight.Lead.{Lead}
-use Rattle.schedule.specs.declared.tight.Lead.TheVariants.{Zero, Tight}
+use Rattle.cts_model.specs.declared.schedule.Lead.{Lead}
+use Rattle.cts_model.specs.declared.schedule.Lead.TheVariants.{Zero, Tight}
 use Rattle.schedule.specs.declared.reach.Reach.{Reach}
-use Rattle.schedule.specs.Leads.{IsLead, depth_of, lead_at}
+use Rattle.cts_model.specs.Leads.{IsLead, depth_of, lead_at}
 use Rattle.schedule.specs.Reaching.{IsAdded, IsFromReached, IsKept, IsReached, IsReaching, unreached}
 
 module _ {constraints : List Constraint} {period : Fraction} {at : List ℤ} {looked : ℕ}
@@ -74,12 +74,12 @@ module _ {constraints : List Constraint} {period : Fraction} {at : List ℤ} {lo
 
   -- a lead from what is reached stands
   led_still : (other : ℕ) (it : Lead) → IsFromReached old it
-      → IsLead constraints period at old.leads.items other it
-      → IsLead constraints period at new.leads.items other it
+      → IsLead (Contains constraints) period at old.leads.items other it
+      → IsLead (Contains constraints) period at new.leads.items other it
   led_still other Zero from led = led
   led_still other (Tight depth constraint) from led = record {
     late = led.late;
-    among = led.among;
+    given = led.given;
     head = led.head;
     tight = led.tight;
     depth_is = led.depth_is ∙ ap (λ (l : Lead). 1 + depth_of l)
@@ -91,19 +91,21 @@ module _ {constraints : List Constraint} {period : Fraction} {at : List ℤ} {lo
   from_still Zero from = from
   from_still (Tight depth constraint) from = still constraint.tail from
 
-  module _ (led : IsLead constraints period at old.leads.items register lead)
+  module _ (led : IsLead (Contains constraints) period at old.leads.items register lead)
       (from : IsFromReached old lead) (low : depth_of lead ≤ length old.queue.items + 1) where
     -- each that is reached has its lead
     led_now : (other : ℕ) → IsReached new other
-        → IsLead constraints period at new.leads.items other (lead_at new.leads.items other)
+        → IsLead (Contains constraints) period at new.leads.items other
+        (lead_at new.leads.items other)
     led_now other reached = elim (cases_eq other register) [
       | inl same ↦
-          subst (λ r. IsLead constraints period at new.leads.items r (lead_at new.leads.items r))
-          (sym same) (subst (IsLead constraints period at new.leads.items register)
+          subst (λ r. IsLead (Contains constraints) period at new.leads.items r
+          (lead_at new.leads.items r))
+          (sym same) (subst (IsLead (Contains constraints) period at new.leads.items register)
           (sym lead_here) (led_still register lead from led))
       | inr apart ↦
           let before = sym (flag_there other apart) ∙ reached in
-          subst (IsLead constraints period at new.leads.items other)
+          subst (IsLead (Contains constraints) period at new.leads.items other)
           (sym (lead_there other apart))
           (led_still other (lead_at old.leads.items other) (reaching.from other before)
           (reaching.led other before))

@@ -13,7 +13,8 @@ use Rattle.cts_base.specs.declared.fraction.Fraction.{Fraction}
 use Rattle.cts_model.specs.declared.constraint.Constraint.{Constraint}
 use Rattle.cts_model.specs.Constraints.{IsSmallConstraint, IsSatisfied}
 use Rattle.cts_model.specs.Points.{IsBelow}
-use Rattle.schedule.specs.Schedules.{arrival_of, AreFromZero, AreLeast}
+use Rattle.cts_model.specs.Schedules.{arrival_of, AreFromZero}
+use Rattle.schedule.specs.Schedules.{AreLeast}
 use Rattle.schedule.specs.Rises.{offer_of, IsRaised, IsRising, room_of}
 use Rattle.schedule.proofs.GainLemmas.{kept}
 use Rattle.schedule.proofs.BoundLemmas.{size_same}

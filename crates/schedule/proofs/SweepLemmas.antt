@@ -7,7 +7,8 @@ use Rattle.cts_base.specs.declared.fraction.Fraction.{Fraction}
 use Rattle.cts_model.specs.declared.constraint.Constraint.{Constraint}
 use Rattle.cts_model.specs.Constraints.{IsSatisfied, IsSmallConstraint, Satisfies, count_of}
 use Rattle.cts_model.specs.Points.{IsBelow}
-use Rattle.schedule.specs.Schedules.{arrival_of, CanSchedule}
+use Rattle.cts_model.specs.Schedules.{arrival_of}
+use Rattle.schedule.specs.Schedules.{CanSchedule}
 use Rattle.schedule.specs.Rises.{gain_of, offer_of, IsRaised, IsRelaxed, IsRising, IsSweep, room_of}
 use Rattle.schedule.proofs.BoundLemmas.{gain_to, size_same, small_rising}
 use Rattle.schedule.proofs.RiseLemmas.{length-raised, at_head, IsRising-raised, room_less}

@@ -1,14 +1,14 @@
 -- How far tight constraints reach from the registers at 0.
-use Rattle.std.specs.Prelude.{◌≡◌, ◌<◌, ◌≤◌, ◌+◌, ◌++◌, ◌∷◌, [], ℕ, ℤ, pos, Bool, true, false, if◌then◌else◌, List, length, slice_index, slice_index_or, slice_set}
+use Rattle.std.specs.Prelude.{◌≡◌, ◌<◌, ◌≤◌, ◌+◌, ◌++◌, ◌∷◌, [], ℕ, ℤ, pos, Bool, true, false, if◌then◌else◌, List, Contains, length, slice_index, slice_index_or, slice_set}
 use Rattle.std.specs.List.{sum_by}
 use Rattle.cts_base.specs.declared.fraction.Fraction.{Fraction}
 use Rattle.cts_model.specs.declared.constraint.Constraint.{Constraint}
 use Rattle.cts_model.specs.Constraints.{AreSmallConstraints}
-use Rattle.schedule.specs.declared.tight.Lead.{Lead}
-use Rattle.schedule.specs.declared.tight.Lead.TheVariants.{Zero, Tight}
+use Rattle.cts_model.specs.declared.schedule.Lead.{Lead}
+use Rattle.cts_model.specs.declared.schedule.Lead.TheVariants.{Zero, Tight}
 use Rattle.schedule.specs.declared.reach.Reach.{Reach}
-use Rattle.schedule.specs.Schedules.{arrival_of, AreFromZero, IsSmallPeriod}
-use Rattle.schedule.specs.Leads.{IsLead, IsTight, depth_of, lead_at}
+use Rattle.cts_model.specs.Schedules.{arrival_of, AreFromZero, IsSmallPeriod}
+use Rattle.cts_model.specs.Leads.{IsLead, IsTight, depth_of, lead_at}
 
 -- what is known of the constraints, the period and the arrivals
 pub record IsGiven (constraints : List Constraint) (period : Fraction) (at : List ℤ) : Type 0 where
@@ -45,7 +45,7 @@ pub record IsReaching (constraints : List Constraint) (period : Fraction) (at : 
   pub fresh : (register : ℕ) → looked ≤ register
       → slice_index_or reach.reached.items register false ≡ false
   pub led : (register : ℕ) → IsReached reach register
-      → IsLead constraints period at reach.leads.items register
+      → IsLead (Contains constraints) period at reach.leads.items register
       (lead_at reach.leads.items register)
   pub from : (register : ℕ) → IsReached reach register
       → IsFromReached reach (lead_at reach.leads.items register)

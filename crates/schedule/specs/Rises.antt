@@ -4,7 +4,8 @@ use Rattle.std.specs.Prelude.{◌≡◌, ◌<◌, ◌+◌, ◌-◌, ◌^◌, ℕ
 use Rattle.cts_base.specs.declared.fraction.Fraction.{Fraction}
 use Rattle.cts_model.specs.declared.constraint.Constraint.{Constraint}
 use Rattle.cts_model.specs.Constraints.{Satisfies}
-use Rattle.schedule.specs.Schedules.{arrival_of, AreFromZero, AreLeast, IsLeastScheduleOf}
+use Rattle.cts_model.specs.Schedules.{arrival_of, AreFromZero}
+use Rattle.schedule.specs.Schedules.{AreLeast, IsLeastScheduleOf}
 
 -- what a constraint asks of the head beyond the tail at this period
 abbrev pub gain_of : Fraction → Constraint → ℤ

@@ -1,18 +1,10 @@
 -- The least arrivals that satisfy constraints at a period. Fishburn, "Clock Skew Optimization",
 -- 1990. Weights are in ticks; the period and the arrivals are in ticks over a denominator.
-use Rattle.std.specs.Prelude.{◌<◌, ◌≤◌, ◌*◌, ◌-◌, ◌^◌, ℕ, ℤ, pos, ◌*ℤ◌, ◌≤ℤ◌, ◌<ℤ◌, List, All, length, nat_abs, slice_index_or}
+use Rattle.std.specs.Prelude.{◌<◌, ◌≤◌, ◌*◌, ◌-◌, ℕ, ℤ, pos, ◌*ℤ◌, ◌≤ℤ◌, List, All, length, nat_abs}
 use Rattle.cts_base.specs.declared.fraction.Fraction.{Fraction}
 use Rattle.cts_model.specs.declared.constraint.Constraint.{Constraint}
 use Rattle.cts_model.specs.Constraints.{AreSmallConstraints, Satisfies}
-
--- the arrival at a register
-abbrev pub arrival_of : List ℤ → ℕ → ℤ
-arrival_of at register = slice_index_or at register (pos 0)
-
--- the arrivals at so many registers aren't below 0
-abbrev pub AreFromZero : (registers : ℕ) (arrival : ℕ → ℤ) → Type 0
-AreFromZero registers arrival = (register : ℕ) → register < registers
-    → pos 0 ≤ℤ arrival register
+use Rattle.cts_model.specs.Schedules.{arrival_of, AreFromZero, IsSmallPeriod}
 
 -- any others from 0 on that satisfy the constraints, at a scale that many times as fine, are at
 -- least as late
@@ -36,12 +28,6 @@ AreWithinWeights constraints denominator at = (weight : ℕ)
     → All (λ constraint. constraint.weight ≤ℤ pos weight) constraints
     → (register : ℕ) → register < length at
     → arrival_of at register ≤ℤ pos ((length at - 1) * (denominator * weight))
-
--- a period from 0 on, below 10^18 over at most 4,097
-pub record IsSmallPeriod (period : Fraction) : Type 0 where
-  pub from_zero : pos 0 ≤ℤ period.num
-  pub small : period.num <ℤ pos (10 ^ 18)
-  pub low : period.den ≤ℤ pos 4097
 
 -- some arrivals satisfy the constraints at the period
 abbrev pub IsAdmittedBy : List Constraint → Fraction → Type 0

@@ -1,6 +1,6 @@
 ghost use Rattle.std.specs.Prelude.{◌≡◌, ◌^◌, ◌*ℤ◌};
 ghost use Rattle.cts_model.specs.Points.{IsBelow};
-ghost use Rattle.schedule.specs.Schedules.{IsSmallPeriod};
+ghost use Rattle.cts_model.specs.Schedules.{IsSmallPeriod};
 ghost use Rattle.schedule.specs.Rises.{gain_of};
 
 use cts_base::Fraction;

@@ -1,21 +1,13 @@
-ghost use Rattle.std.specs.Prelude.{◌≡◌, IfOk, length, nat_abs};
+ghost use Rattle.std.specs.Prelude.{◌≡◌, ◌^◌, All, IfOk, length, nat_abs};
 ghost use Rattle.cts_model.specs.Constraints.{AreSmallConstraints};
+ghost use Rattle.cts_model.specs.Points.{IsBelow};
 ghost use Rattle.schedule.specs.Schedules.{AreWithinWeights, IsAdmittedBy, IsLeastScheduleOf};
-ghost use Rattle.schedule.specs.Schedules.{IsSmallPeriod};
+ghost use Rattle.cts_model.specs.Schedules.{IsSmallPeriod};
 
 use crate::sweep::settle;
 use cts_base::{Fraction, Listed, NoMemory};
-use cts_model::Constraint;
+use cts_model::{Constraint, Schedule};
 use std::alloc::Global;
-
-/// An arrival for each register.
-#[derive(Debug, Drop)]
-pub struct Schedule {
-    /// Over this the arrivals are in ticks.
-    pub den: i128,
-    /// The arrival at each register, in ticks over the denominator.
-    pub at: Listed<i128>,
-}
 
 /// The least arrivals that satisfy the constraints at a period in ticks. The list has an entry for
 /// each register, whatever the entries are; it becomes the schedule's, and no other memory is
@@ -32,6 +24,7 @@ pub fn least_schedule_in(
     ensures registers { length result.at ≡ length at }
     ensures least { IsLeastScheduleOf constraints.now period.num (nat_abs period.den) result.at }
     ensures bound { AreWithinWeights constraints.now (nat_abs period.den) result.at }
+    ensures small { All (IsBelow (10 ^ 19)) result.at }
 {
     let mut arrivals = at.into_vec();
     arrivals.fill(0);
@@ -58,6 +51,7 @@ pub fn least_schedule(
         (nat_abs period.den) schedule.at) }
     ensures bound { IfOk result (λ schedule. AreWithinWeights constraints.now (nat_abs period.den)
         schedule.at) }
+    ensures small { IfOk result (λ schedule. All (IsBelow (10 ^ 19)) schedule.at) }
 {
     let at = Listed::from_vec(vec![in alloc; 0i128; registers]?);
     Ok(least_schedule_in(at, constraints, period))

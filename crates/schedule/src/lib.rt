@@ -6,9 +6,7 @@ mod least;
 mod reach;
 mod sweep;
 mod tails;
-#[cfg(test)]
-mod tests;
 mod tight;
 
-pub use least::{Schedule, least_schedule, least_schedule_in};
-pub use tight::{Lead, leads};
+pub use least::{least_schedule, least_schedule_in};
+pub use tight::leads;

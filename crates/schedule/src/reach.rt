@@ -4,9 +4,9 @@ ghost use Rattle.cts_model.specs.declared.constraint.Constraint.{Constraint};
 ghost use Rattle.schedule.specs.Tails.{AreByTail};
 
 use crate::tails::ByTail;
-use crate::tight::{Lead, depth_of, is_tight};
+use crate::tight::{depth_of, is_tight};
 use cts_base::{Fraction, NoMemory};
-use cts_model::Constraint;
+use cts_model::{Constraint, Lead};
 use std::alloc::Global;
 
 /// The registers that tight constraints reach from those at 0.

@@ -1,7 +1,8 @@
 ghost use Rattle.std.specs.Prelude.{length, ◌^◌, All};
 ghost use Rattle.cts_model.specs.Constraints.{IsSmallConstraint};
 ghost use Rattle.cts_model.specs.Points.{IsBelow};
-ghost use Rattle.schedule.specs.Schedules.{CanSchedule, IsSmallPeriod};
+ghost use Rattle.cts_model.specs.Schedules.{IsSmallPeriod};
+ghost use Rattle.schedule.specs.Schedules.{CanSchedule};
 ghost use Rattle.schedule.specs.Rises.{IsLeastAt, IsRelaxed, IsRising, IsSweep};
 
 use crate::gain::gain;

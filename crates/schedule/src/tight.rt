@@ -1,30 +1,16 @@
-ghost use Rattle.std.specs.Prelude.{◌≡◌, ◌↔◌, IfOk, IsTrue, length, nat_abs};
+ghost use Rattle.std.specs.Prelude.{◌≡◌, ◌≤◌, ◌↔◌, ℕ, Contains, IfOk, IsTrue, length, nat_abs};
 ghost use Rattle.cts_model.specs.Constraints.{AreSmallConstraints, IsSmallConstraint};
-ghost use Rattle.schedule.specs.Schedules.{AreFromZero, IsAdmittedBy, IsLeastScheduleOf};
-ghost use Rattle.schedule.specs.Schedules.{IsSmallPeriod, arrival_of};
-ghost use Rattle.schedule.specs.Leads.{EachLead, IsTight, depth_of};
+ghost use Rattle.cts_model.specs.Schedules.{AreFromZero};
+ghost use Rattle.schedule.specs.Schedules.{IsAdmittedBy, IsLeastScheduleOf};
+ghost use Rattle.cts_model.specs.Schedules.{IsSmallPeriod, arrival_of};
+ghost use Rattle.cts_model.specs.Leads.{EachLead, IsTight, depth_of, lead_at};
 
-use crate::Schedule;
 use crate::gain::gain;
 use crate::reach::Reach;
 use crate::tails::ByTail;
 use cts_base::{Fraction, Listed, NoMemory};
-use cts_model::Constraint;
+use cts_model::{Constraint, Lead, Schedule};
 use std::alloc::Global;
-
-/// Why a register's arrival can't be earlier.
-#[derive(Clone, Copy, Debug, PartialEq, Eq)]
-pub enum Lead {
-    /// It is 0.
-    Zero,
-    /// A constraint that leads to it is tight, and so many are from a register at 0 on.
-    Tight {
-        /// How many constraints it takes, this one among them.
-        depth: u32,
-        /// The last of them.
-        constraint: Constraint,
-    },
-}
 
 /// What shows of each register that its arrival in the least schedule can't be earlier. It takes
 /// memory for each register and a number for each constraint, and looks at each constraint twice:
@@ -45,7 +31,9 @@ pub fn leads(
     requires least { IsLeastScheduleOf constraints.now period.num (nat_abs period.den)
         schedule.now.at }
     ensures registers { IfOk result (λ leads. length leads ≡ registers) }
-    ensures each { IfOk result (EachLead constraints.now period schedule.now.at) }
+    ensures each { IfOk result (EachLead (Contains constraints.now) period schedule.now.at) }
+    ensures low { IfOk result (λ leads. (register : ℕ)
+        → depth_of (lead_at leads register) ≤ registers) }
 {
     let tails = ByTail::of(alloc, registers, constraints.as_slice())?;
     let at = schedule.at.as_slice();

@@ -1,11 +1,11 @@
 -- What a wire with the points of a case promises: they are a drawn wire, and those of the table.
-use Rattle.std.proofs.Common.{◌≡◌, ◌≢◌, ◌⊎◌, ℕ, zero, suc, ◌≤◌, [], ◌∷◌, All, take, drop, replicate, inl, inr, ℤ, pos, ◌+ℤ◌, ◌≤ℤ◌, ◌<ℤ◌, refl, sym, ap, subst, arith}
+use Rattle.std.proofs.Common.{◌≡◌, ◌≢◌, ◌⊎◌, ℕ, zero, suc, ◌≤◌, [], ◌∷◌, All, take, replicate, inl, inr, ℤ, pos, ◌+ℤ◌, ◌≤ℤ◌, ◌<ℤ◌, refl, sym, ap, subst, arith}
 use Rattle.std.proofs.lemmas.Int.{ints, by_lt_z}
 use Rattle.std.proofs.lemmas.List.Elements.{All-nil, All-cons}
 use Rattle.cts_model.specs.declared.place.Point.{Point}
 use Rattle.cts_model.specs.Points.{distance}
-use Rattle.wire_detours.specs.declared.drawn.Wire.{Wire}
-use Rattle.wire_detours.specs.DrawnWires.{IsDrawn}
+use Rattle.cts_model.specs.declared.tree.Wire.{Wire}
+use Rattle.cts_model.specs.DrawnWires.{ArePadded, IsDrawn}
 use Rattle.wire_detours.specs.WirePoints.{ArePoints, HasDetour, origin, shown, bent, under, over, beside, round}
 use Rattle.wire_detours.proofs.PieceLemmas.{apart_least, apart_more, apart_same}
 use Rattle.wire_detours.proofs.DetourLemmas.{distance_least}
@@ -15,7 +15,7 @@ use Rattle.wire_detours.proofs.DrawnLemmas.{drawn_place, drawn_upright, drawn_le
 pub record IsEdgeWire (from to : Point) (long : ℤ) (wire : Wire) : Type 0 where
   pub drawn : IsDrawn from to long (take wire.used wire.corners)
   pub points : ArePoints from to long (take wire.used wire.corners)
-  pub rest : All (λ corner. corner ≡ origin) (drop wire.used wire.corners)
+  pub padded : ArePadded wire
   pub used : (1 ≤ wire.used) × (wire.used ≤ 5)
 
 -- two numbers are the same or not
@@ -76,7 +76,7 @@ wire_place from to long is x y =
         beside = λ by has _ _. absurd (no_detour from to long by is has);
         round = λ side has _ _. absurd (no_detour from to long (side +ℤ side) is has);
       };
-      rest = origins 4;
+      padded = record { all = refl; rest = origins 4 };
       used = (omega arith, omega arith);
     }
 
@@ -106,7 +106,7 @@ wire_upright from to long is x y =
     record {
       drawn = drawn_upright from to long x y is;
       points = points_straight from to long is (omega (arith, ints, is, wide, more)) (inl x);
-      rest = origins 3;
+      padded = record { all = refl; rest = origins 3 };
       used = (omega arith, omega arith);
     }
 
@@ -119,7 +119,7 @@ wire_level from to long is x y =
     record {
       drawn = drawn_level from to long x y is;
       points = points_straight from to long is (omega (arith, ints, is, high, more)) (inr y);
-      rest = origins 3;
+      padded = record { all = refl; rest = origins 3 };
       used = (omega arith, omega arith);
     }
 
@@ -140,7 +140,7 @@ wire_bent from to long is x y =
         beside = λ by has _ _. absurd (no_detour from to long by is has);
         round = λ side has _ _. absurd (no_detour from to long (side +ℤ side) is has);
       };
-      rest = origins 2;
+      padded = record { all = refl; rest = origins 2 };
       used = (omega arith, omega arith);
     }
   where
@@ -187,7 +187,7 @@ wire_under from to long by has x less = record {
     beside = λ _ _ same _. absurd (x same);
     round = λ _ _ same _. absurd (x same);
   };
-  rest = origins 1;
+  padded = record { all = refl; rest = origins 1 };
   used = (omega arith, omega arith);
 }
 
@@ -205,7 +205,7 @@ wire_over from to long by has x no_less = record {
     beside = λ _ _ same _. absurd (x same);
     round = λ _ _ same _. absurd (x same);
   };
-  rest = origins 1;
+  padded = record { all = refl; rest = origins 1 };
   used = (omega arith, omega arith);
 }
 
@@ -236,7 +236,7 @@ wire_beside from to long by has x y = record {
     beside = λ other others _ _. ap (beside from to) (same_detour from to long by other has others);
     round = λ _ _ _ same. absurd (y same);
   };
-  rest = origins 1;
+  padded = record { all = refl; rest = origins 1 };
   used = (omega arith, omega arith);
 }
 
@@ -254,6 +254,6 @@ wire_round from to long side has x y = record {
     beside = λ _ _ _ differ. absurd (differ y);
     round = λ other others _ _. ap (round from) (same_side from to long side other has others);
   };
-  rest = origins 0;
+  padded = record { all = refl; rest = origins 0 };
   used = (omega arith, omega arith);
 }

@@ -1,2 +1,1 @@
-pub mod DrawnWires
 pub mod WirePoints

@@ -4,7 +4,7 @@
 use Rattle.std.specs.Prelude.{◌≡◌, ◌≢◌, ◌⊎◌, ℕ, ◌-◌, List, [], ◌∷◌, ◌++◌, replicate, ℤ, pos, ◌+ℤ◌, ◌-ℤ◌, ◌<ℤ◌, ◌≤ℤ◌}
 use Rattle.cts_model.specs.declared.place.Point.{Point}
 use Rattle.cts_model.specs.Points.{distance}
-use Rattle.wire_detours.specs.declared.drawn.Wire.{Wire}
+use Rattle.cts_model.specs.declared.tree.Wire.{Wire}
 
 -- the point with these coordinates
 abbrev pub at : ℤ → ℤ → Point

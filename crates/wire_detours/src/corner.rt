@@ -1,5 +1,5 @@
 ghost use Rattle.std.specs.Prelude.{◌≡◌, ◌^◌, ◌+ℤ◌, ◌-ℤ◌};
-ghost use Rattle.cts_model.specs.Points.{IsBelow, IsMultipleOf, IsPointBelow};
+ghost use Rattle.cts_model.specs.Points.{IsBelow, IsPointBelow};
 
 use cts_model::Point;
 
@@ -47,12 +47,4 @@ pub(crate) fn crossing(under: Point, beside: Point) -> Point
         x: under.x,
         y: beside.y,
     }
-}
-
-/// Half of an even number.
-pub(crate) fn half(sum: i128) -> i128
-    requires { IsMultipleOf 2 sum }
-    ensures { result +ℤ result ≡ sum }
-{
-    sum / 2
 }

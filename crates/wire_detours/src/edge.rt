@@ -1,12 +1,10 @@
-ghost use Rattle.std.specs.Prelude.{◌≡◌, ◌≤◌, ◌^◌, All, drop, take, pos, ◌+ℤ◌, ◌<ℤ◌, ◌≤ℤ◌};
+ghost use Rattle.std.specs.Prelude.{◌≡◌, ◌≤◌, ◌^◌, take, pos, ◌+ℤ◌, ◌<ℤ◌, ◌≤ℤ◌};
 ghost use Rattle.cts_model.specs.Points.{IsBelow, IsMultipleOf, IsPointBelow, distance};
-ghost use Rattle.wire_detours.specs.DrawnWires.{IsDrawn};
-ghost use Rattle.wire_detours.specs.WirePoints.{ArePoints, origin};
+ghost use Rattle.cts_model.specs.DrawnWires.{ArePadded, IsDrawn};
+ghost use Rattle.wire_detours.specs.WirePoints.{ArePoints};
 
-use crate::corner::half;
-use crate::drawn::Wire;
 use crate::shape::{around, beside, round, shortest};
-use cts_model::{Point, manhattan};
+use cts_model::{Point, Wire, half, manhattan};
 
 /// The wire of an edge from a node's parent to the node, of that length in grid steps. Where the
 /// length is beyond the distance, the detour lies on the side where the node isn't. It takes no
@@ -20,7 +18,7 @@ pub fn wire(from: Point, to: Point, length: i128) -> Wire
     requires below { length <ℤ pos (10 ^ 32) }
     ensures drawn { IsDrawn from to length (take result.used result.corners) }
     ensures points { ArePoints from to length (take result.used result.corners) }
-    ensures rest { All (λ corner. corner ≡ origin) (drop result.used result.corners) }
+    ensures padded { ArePadded result }
     ensures used { (1 ≤ result.used) × (result.used ≤ 5) }
 {
     let detour = detour(from, to, length);

@@ -2,11 +2,7 @@
 #![tactic(auto)]
 
 mod corner;
-mod drawn;
 mod edge;
 mod shape;
-#[cfg(test)]
-mod tests;
 
-pub use drawn::Wire;
 pub use edge::wire;

@@ -3,8 +3,7 @@ ghost use Rattle.cts_model.specs.Points.{IsBelow, IsPointBelow};
 ghost use Rattle.wire_detours.specs.WirePoints.{beside, bent, over, round, under, shown};
 
 use crate::corner::{above, below, crossing, right_of};
-use crate::drawn::Wire;
-use cts_model::Point;
+use cts_model::{Point, Wire};
 
 const ORIGIN: Point = Point { x: 0, y: 0 };
 

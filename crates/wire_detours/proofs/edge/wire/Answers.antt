@@ -13,7 +13,7 @@ returns-then-detour-eq0 c =
     omega (arith, ints, c.detour-detour.ensures.twice, c.if-detour-eq0.true) in
     let made = wire_shortest c.args.from c.args.to c.args.length c.shortest.result is
     shortest.place shortest.upright shortest.level shortest.bent in
-    record { drawn = made.drawn; points = made.points; rest = made.rest; used = made.used }
+    record { drawn = made.drawn; points = made.points; padded = made.padded; used = made.used }
 
 pub returns-then-from-to : goal.returns-then-from-to
 returns-then-from-to c =
@@ -24,7 +24,7 @@ returns-then-from-to c =
     } in
     let made = wire_around c.args.from c.args.to c.args.length by c.around.result has
     (search rules) c.around.ensures.under c.around.ensures.over in
-    record { drawn = made.drawn; points = made.points; rest = made.rest; used = made.used }
+    record { drawn = made.drawn; points = made.points; padded = made.padded; used = made.used }
 
 pub returns-then-from-to-2 : goal.returns-then-from-to-2
 returns-then-from-to-2 c =
@@ -35,7 +35,7 @@ returns-then-from-to-2 c =
     } in
     let made = subst (IsEdgeWire c.args.from c.args.to c.args.length) (sym c.beside.ensures)
     (wire_beside c.args.from c.args.to c.args.length by has (search rules) (search rules)) in
-    record { drawn = made.drawn; points = made.points; rest = made.rest; used = made.used }
+    record { drawn = made.drawn; points = made.points; padded = made.padded; used = made.used }
 
 pub returns-else-from-to-2 : goal.returns-else-from-to-2
 returns-else-from-to-2 c =
@@ -52,4 +52,4 @@ returns-else-from-to-2 c =
     } in
     let made = subst (IsEdgeWire c.args.from c.args.to c.args.length) (sym c.round.ensures)
     (wire_round c.args.from c.args.to c.args.length side has (search rules) (search rules)) in
-    record { drawn = made.drawn; points = made.points; rest = made.rest; used = made.used }
+    record { drawn = made.drawn; points = made.points; padded = made.padded; used = made.used }

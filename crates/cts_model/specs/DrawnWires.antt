@@ -1,8 +1,9 @@
 -- Wires of tree edges as they are drawn, along x and y, with detours where an edge is longer than
 -- the way (snaking): Boese and Kahng 1992; Chao and others 1992. Coordinates are grid steps.
-use Rattle.std.specs.Prelude.{◌≡◌, ◌≢◌, ◌⊎◌, ℕ, ◌<◌, ◌≤◌, ◌-◌, List, [], ◌∷◌, length, All, AllPairs, Some, slice_get, ℤ, pos, ◌+ℤ◌, ◌*ℤ◌, ◌≤ℤ◌}
+use Rattle.std.specs.Prelude.{◌≡◌, ◌≢◌, ◌⊎◌, ℕ, ◌<◌, ◌≤◌, ◌-◌, List, [], ◌∷◌, length, drop, All, AllPairs, Some, slice_get, ℤ, pos, ◌+ℤ◌, ◌*ℤ◌, ◌≤ℤ◌}
 use Rattle.std.specs.Int.{int_max, int_min}
 use Rattle.cts_model.specs.declared.place.Point.{Point}
+use Rattle.cts_model.specs.declared.tree.Wire.{Wire}
 use Rattle.cts_model.specs.Points.{distance}
 
 -- a straight part of a wire, from one point of it to the next
@@ -52,3 +53,9 @@ pub record IsDrawn (from to : Point) (long : ℤ) (points : List Point) : Type 0
   pub sum : total (pieces points) ≡ long
   pub apart : AllPairs AreApart (pieces points)
   pub no_length : long ≡ pos 0 → points ≡ from ∷ []
+
+-- behind the points of a wire there is nothing but (0, 0)
+pub record ArePadded (wire : Wire) : Type 0 where
+  pub all : length wire.corners ≡ 5
+  pub rest : All (λ corner. corner ≡ record { x = pos 0; y = pos 0 })
+      (drop wire.used wire.corners)
