@@ -4,6 +4,7 @@ use Rattle.std.specs.Prelude.{ℕ, ℤ, ◌*ℤ◌, ◌<ℤ◌, List, All, Conta
 use Rattle.cts_base.specs.declared.fraction.Fraction.{Fraction}
 use Rattle.cts_model.specs.declared.constraint.Constraint.{Constraint}
 use Rattle.cts_model.specs.Cycles.{ShowsPeriod, ForbidsPeriods, IsLeastPeriodOf}
+use Rattle.cts_model.specs.Schedules.{IsSmallPeriod}
 use Rattle.critical_cycle.specs.CyclePlaces.{AreWithin, IsFromLowest, constraints_at}
 use Rattle.critical_cycle.specs.declared.period.Period.{Period}
 use Rattle.critical_cycle.specs.declared.period.Period.TheVariants.{Cycle, Floor, Never}
@@ -29,6 +30,12 @@ abbrev pub IsPeriodOf : List Constraint → (floor : ℤ) → Period → Type 0
 IsPeriodOf constraints floor (Cycle value cycle) = IsShownPeriod constraints floor value cycle
 IsPeriodOf constraints floor Floor = IsLeastPeriodOf constraints floor floor 1
 IsPeriodOf constraints floor (Never cycle) = IsForbidden constraints cycle
+
+-- the value of the cycle, if one shows the period, is small
+abbrev pub HasSmallValue : Period → Type 0
+HasSmallValue (Cycle value cycle) = IsSmallPeriod value
+HasSmallValue Floor = Unit {0}
+HasSmallValue (Never cycle) = Unit {0}
 
 -- some cycle of these constraints forbids every period
 abbrev pub HasForbidding : List Constraint → Type 0

@@ -2,7 +2,7 @@ ghost use Rattle.std.specs.Prelude.{◌≡◌, ◌<◌, ◌≤◌, ◌++◌, ◌
 ghost use Rattle.cts_model.specs.Constraints.{AreSmallConstraints};
 ghost use Rattle.cts_model.specs.Cycles.{IsLeastPeriodOf};
 ghost use Rattle.critical_cycle.specs.CyclePlaces.{AreWithin, IsFromLowest, constraints_at};
-ghost use Rattle.critical_cycle.specs.Periods.{HasForbidding, IsFloor, IsNever, IsPeriodOf};
+ghost use Rattle.critical_cycle.specs.Periods.{HasForbidding, HasSmallValue, IsFloor, IsNever, IsPeriodOf};
 ghost use Rattle.critical_cycle.specs.Searches.{IsSearch};
 ghost use Rattle.critical_cycle.specs.Floors.{IsSmallFloor};
 ghost use Rattle.critical_cycle.specs.ShownPeriods.{IsSettled};
@@ -51,6 +51,7 @@ pub fn least_period_in(
     ensures period { IsPeriodOf constraints.now floor result }
     ensures never { IsNever result ↔ HasForbidding constraints.now }
     ensures floor { IsFloor result ↔ IsLeastPeriodOf constraints.now floor floor 1 }
+    ensures small { HasSmallValue result }
 {
     let list = constraints.as_slice();
     let mut search = Search::at_floor(
@@ -79,6 +80,7 @@ pub fn least_period(
     ensures never { IfOk result (λ period. IsNever period ↔ HasForbidding constraints.now) }
     ensures floor { IfOk result (λ period. IsFloor period
         ↔ IsLeastPeriodOf constraints.now floor floor 1) }
+    ensures small { IfOk result HasSmallValue }
 {
     let values = Listed::from_vec(vec![in alloc; 0i128; registers]?);
     let parents = Listed::from_vec(vec![in alloc; 0u32; registers]?);
@@ -90,7 +92,8 @@ pub fn least_period(
 fn period_of(search: Search, constraints: &[Constraint]) -> Period
     requires search { IsSearch constraints.now search }
     requires settled { IsSettled constraints.now search.floor search.shown }
-    ensures { IsPeriodOf constraints.now search.floor result }
+    ensures period { IsPeriodOf constraints.now search.floor result }
+    ensures small { HasSmallValue result }
 {
     match search.shown {
         Shown::Floor => Period::Floor,

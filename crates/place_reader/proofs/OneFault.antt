@@ -181,7 +181,7 @@ module _ (text : List ℕ) (circuit : Circuit) (source host : List ℕ) where
   ]
 
   -- a placement has none
-  no_fault : (fault : PlaceFault) → IsPlacement text circuit source host → Refuses text circuit source host fault → fault ≡ NoMemory
+  pub no_fault : (fault : PlaceFault) → IsPlacement text circuit source host → Refuses text circuit source host fault → fault ≡ NoMemory
   no_fault (BadLine number) placement first = absurd (not_among number _ first placement.flawless)
   no_fault (BadNumber number fault) placement first = absurd (not_among number _ first placement.flawless)
   no_fault (PlaceTwice number) placement first = absurd (not_among number _ first placement.flawless)

@@ -10,7 +10,7 @@ pub returns-clause-never : goal.returns-clause-never
 returns-clause-never c =
     never_exactly c.args.constraints.now c.settle.new.self.floor c.period_of.result
     (subst (λ list. IsPeriodOf list c.settle.new.self.floor c.period_of.result)
-    c.as_slice-list.ensures c.period_of.ensures)
+    c.as_slice-list.ensures c.period_of.ensures.period)
 
 pub returns-clause-floor : goal.returns-clause-floor
 returns-clause-floor c =
@@ -21,4 +21,4 @@ returns-clause-floor c =
     floor_exactly c.args.constraints.now c.args.floor c.period_of.result
     (subst (λ f. IsPeriodOf c.args.constraints.now f c.period_of.result) floor
     (subst (λ list. IsPeriodOf list c.settle.new.self.floor c.period_of.result)
-    c.as_slice-list.ensures c.period_of.ensures))
+    c.as_slice-list.ensures c.period_of.ensures.period))
