@@ -20,7 +20,7 @@ use Rattle.path_delays.specs.Captured.{AreCapturedBy, AreAllCaptures, AreCapture
 use Rattle.path_delays.proofs.NetworkLemmas.{Contains-map, Contains-values_at, All-values_at, distinct_length-le}
 
 -- what isn't the host has few inputs
-few_inputs : (kind : Kind) (inputs : ℕ) → is_host kind ≡ false → IsTrue (is_lawful kind inputs) → inputs ≤ 1024
+pub few_inputs : (kind : Kind) (inputs : ℕ) → is_host kind ≡ false → IsTrue (is_lawful kind inputs) → inputs ≤ 1024
 few_inputs And inputs other lawful = grind (arith, nat_tests)
 few_inputs Nand inputs other lawful = grind (arith, nat_tests)
 few_inputs Or inputs other lawful = grind (arith, nat_tests)

@@ -15,7 +15,7 @@ use Rattle.path_delays.specs.SumParts.{AreWithin, IsAround, AreAround, joined_su
 use Rattle.path_delays.specs.Reaches.{IsChain, AreShown}
 
 -- the lesser of two numbers is one of them, and no greater than either
-min_cases : (x y : ℤ) → ((int_min x y ≡ x) ⊎ (int_min x y ≡ y)) × (int_min x y ≤ℤ x) × (int_min x y ≤ℤ y)
+pub min_cases : (x y : ℤ) → ((int_min x y ≡ x) ⊎ (int_min x y ≡ y)) × (int_min x y ≤ℤ x) × (int_min x y ≤ℤ y)
 min_cases x y = (at (lt_z y x), omega (arith, ints, clamps), omega (arith, ints, clamps))
   where
     at : (b : Bool) → (cond b y x ≡ x) ⊎ (cond b y x ≡ y)
@@ -23,7 +23,7 @@ min_cases x y = (at (lt_z y x), omega (arith, ints, clamps), omega (arith, ints,
     at false = inl refl
 
 -- the greater of two numbers is one of them, and no less than either
-max_cases : (x y : ℤ) → ((int_max x y ≡ x) ⊎ (int_max x y ≡ y)) × (x ≤ℤ int_max x y) × (y ≤ℤ int_max x y)
+pub max_cases : (x y : ℤ) → ((int_max x y ≡ x) ⊎ (int_max x y ≡ y)) × (x ≤ℤ int_max x y) × (y ≤ℤ int_max x y)
 max_cases x y = (at (lt_z y x), omega (arith, ints, clamps), omega (arith, ints, clamps))
   where
     at : (b : Bool) → (cond b x y ≡ x) ⊎ (cond b x y ≡ y)

@@ -29,7 +29,7 @@ listed_register circuit from number listed =
     subst (IsRegisterAt circuit.signals) (get_or_from_slice_get circuit.registers from number 0 listed) (registered circuit from (slice_get_within circuit.registers from number listed))
 
 -- what is launched is a signal that is no gate
-launched_at : (circuit : Circuit) (from number : ℕ) → Launches circuit from number → (signal : Signal) × (slice_get circuit.signals number ≡ Some signal) × (is_gate signal.kind ≡ false)
+pub launched_at : (circuit : Circuit) (from number : ℕ) → Launches circuit from number → (signal : Signal) × (slice_get circuit.signals number ≡ Some signal) × (is_gate signal.kind ≡ false)
 launched_at circuit from number launches = at (register_signal circuit from) launches
   where
     input : (o : Option Signal) → slice_get circuit.signals number ≡ o → IsSomeAnd o (λ signal. IsTrue (is_input signal.kind)) → (signal : Signal) × (slice_get circuit.signals number ≡ Some signal) × (is_gate signal.kind ≡ false)

@@ -28,3 +28,6 @@ mod OrderPlaces
 mod PathsBack
 mod PairWalk
 mod PairCounts
+mod HullLemmas
+pub mod WindowLemmas
+mod SweepLemmas

@@ -82,15 +82,15 @@ reads_within circuit number read reads = at (slice_get circuit.signals number) r
         rw reads.1.2 at (read_within circuit number signal (slice_get_within circuit.signals number signal here) (sym (get_or_from_slice_get circuit.signals number signal signal here)) reads.1.0 read reads.1.1)
 
 -- a chain to a signal is this signal alone, or goes through one that it reads
-record IsBehind (circuit : Circuit) (first : ℕ) (gates : List ℕ) (last : ℕ) : Type 0 where
-  read : ℕ
-  front : List ℕ
-  is : gates ≡ front ++ last ∷ []
-  follows : Follows circuit.signals first front read
-  reads : Reads circuit.signals last read
+pub record IsBehind (circuit : Circuit) (first : ℕ) (gates : List ℕ) (last : ℕ) : Type 0 where
+  pub read : ℕ
+  pub front : List ℕ
+  pub is : gates ≡ front ++ last ∷ []
+  pub follows : Follows circuit.signals first front read
+  pub reads : Reads circuit.signals last read
 
 -- and which of the two it is
-last_of : (circuit : Circuit) (first : ℕ) (gates : List ℕ) (last : ℕ) → Follows circuit.signals first gates last → ((gates ≡ []) × (first ≡ last)) ⊎ IsBehind circuit first gates last
+pub last_of : (circuit : Circuit) (first : ℕ) (gates : List ℕ) (last : ℕ) → Follows circuit.signals first gates last → ((gates ≡ []) × (first ≡ last)) ⊎ IsBehind circuit first gates last
 last_of circuit first [] last follows = inl (refl, follows)
 last_of circuit first (gate ∷ gates) last follows = elim (last_of circuit gate gates last follows.1) [
   | inl end ↦ inr (record { read = first; front = []; is = ap (λ g. gate ∷ g) end.0 ∙ ap (λ g. g ∷ []) end.1; follows = refl; reads = subst (λ g. Reads circuit.signals g first) end.1 follows.0 })

@@ -37,7 +37,7 @@ captured_within circuit register signal found = at (slice_get circuit.registers 
         read_within circuit number signal (slice_get_within circuit.signals number signal found) (sym (get_or_from_slice_get circuit.signals number signal signal found))
 
 -- a chain to a signal that the register captures is a path
-path_of_chain : (circuit : Circuit) (from to signal : ℕ) (chain : List ℕ) → IsChain circuit from signal chain → Captures circuit to signal → IsPath circuit from to chain
+pub path_of_chain : (circuit : Circuit) (from to signal : ℕ) (chain : List ℕ) → IsChain circuit from signal chain → Captures circuit to signal → IsPath circuit from to chain
 path_of_chain circuit from to signal [] is_chain captures = absurd is_chain
 path_of_chain circuit from to signal (first ∷ gates) is_chain captures = (is_chain.0, (signal, is_chain.1, captures))
 

@@ -16,3 +16,5 @@ pub mod Captured
 pub mod CapturedSums
 pub mod JoinedPairs
 pub mod ExtremePaths
+pub mod Windows
+pub mod WindowParts

@@ -26,8 +26,8 @@ pub(crate) fn gate_delays(
     Ok(delays)
 }
 
-// The least and the greatest delay of a signal, 0 if it is no gate.
-fn gate_delay(tech: &Tech, signal: &Signal) -> Sums
+/// The least and the greatest delay of a signal, 0 if it is no gate.
+pub(crate) fn gate_delay(tech: &Tech, signal: &Signal) -> Sums
     requires { IsTrue (is_lawful signal.now.kind (length signal.now.fan_in)) }
     ensures { result ≡ gate_sums tech.now signal.now }
 {

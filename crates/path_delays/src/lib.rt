@@ -1,5 +1,5 @@
 //! Orders the gates of a netlist, or names a loop that they form, and finds the delays over all
-//! paths between its registers.
+//! paths between its registers, and when what the registers launch arrives.
 #![tactic(auto)]
 
 mod captures;
@@ -18,7 +18,9 @@ mod pairs;
 mod reach;
 mod sorting;
 mod sums;
+mod sweep;
 mod walk;
+mod window;
 
 pub use extreme_path::path_of;
 pub use fault::{LevelFault, PairFault};
@@ -26,3 +28,5 @@ pub use level_list::Levels;
 pub use order::levels;
 pub use pair::pair_delay;
 pub use pairs::pair_delays;
+pub use sweep::arrivals;
+pub use window::Window;

@@ -131,8 +131,8 @@ impl Reach {
     }
 }
 
-// The sums to what a register launches.
-fn start_sums(tech: &Tech) -> Sums
+/// The sums to what a register launches.
+pub(crate) fn start_sums(tech: &Tech) -> Sums
     ensures sums { result ≡ walking.start_sums tech.now }
     ensures within { AreWithin 1000000 result }
 {
@@ -142,13 +142,15 @@ fn start_sums(tech: &Tech) -> Sums
     }
 }
 
-fn is_host(kind: Kind) -> bool
+/// Whether it is the host.
+pub(crate) fn is_host(kind: Kind) -> bool
     ensures { result ≡ kinds.is_host kind }
 {
     matches!(kind, Kind::Host)
 }
 
-fn is_input(kind: Kind) -> bool
+/// Whether it is a primary input.
+pub(crate) fn is_input(kind: Kind) -> bool
     ensures { result ≡ kinds.is_input kind }
 {
     matches!(kind, Kind::Input)

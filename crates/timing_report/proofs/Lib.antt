@@ -2,3 +2,4 @@ mod MostDelayedPairs
 mod FirstPairs
 mod ListedPeriods
 mod PairListLemmas
+mod SlackLemmas

@@ -1,1 +1,2 @@
 pub mod ListedPairs
+pub mod SpareTicks

@@ -1,0 +1,197 @@
+-- Times and windows in memory, and those that are put at signals and registers.
+use Rattle.std.proofs.Common.{◌≡◌, ◌+◌, ◌*◌, ◌<◌, ◌≤◌, ◌^◌, ℕ, ℤ, pos, ◌+ℤ◌, ◌*ℤ◌, Bool, true, false, cond, IsTrue, ◌⊎◌, List, [], ◌∷◌, ◌++◌, length, set, Option, Some, None, inl, inr, refl, sym, ◌∙◌, ap, subst, arith}
+use Rattle.std.specs.Int.{w64, w128}
+use Rattle.std.specs.List.{slice_get}
+use Rattle.std.specs.Option.{option_map_or}
+use Rattle.std.proofs.Math.Nat.{mul-add}
+use Rattle.std.proofs.lemmas.Bool.{cases_eq, cases_lt}
+use Rattle.std.proofs.lemmas.Int.{ints, to_z-of_z}
+use Rattle.std.proofs.lemmas.List.{length-set, length_push, get_or-set_same, get_or-set_other, get_or_push, get_or_append_left}
+use Rattle.std.proofs.lemmas.Option.{same_Some, slice_get_within, slice_get-get_or, get_or_from_slice_get}
+use Rattle.cts_model.specs.declared.signal.Signal.{Signal}
+use Rattle.cts_model.specs.declared.circuit.Circuit.{Circuit}
+use Rattle.cts_model.specs.Kinds.{is_gate, is_host, is_input, is_lawful}
+use Rattle.cts_model.specs.declared.kind.Kind.{Kind}
+use Rattle.cts_model.specs.declared.kind.Kind.TheVariants.{Host}
+use Rattle.cts_model.specs.declared.tech.Tech.{Tech}
+use Rattle.cts_model.specs.Circuits.{gate_inputs}
+use Rattle.cts_model.specs.Points.{IsBelow}
+use Rattle.cts_model.specs.Tables.{IsWithin}
+use Rattle.path_delays.specs.declared.window.Window.{Window}
+use Rattle.path_delays.specs.Windows.{IsHullIfAny, IsWindowBelow}
+use Rattle.path_delays.specs.Networks.{gate_sums, weight_of}
+use Rattle.path_delays.specs.SumParts.{AreWithin}
+use Rattle.path_delays.specs.WindowParts.{merged_windows, either_window, window_at, is_input_at, AreInputsStarted, AreCaptures, ComesCaptured}
+use Rattle.path_delays.proofs.CaptureLemmas.{few_inputs}
+use Rattle.path_delays.proofs.DelayLemmas.{gate_within}
+use Rattle.path_delays.proofs.Rooms.{within_higher}
+use Rattle.path_delays.proofs.Chains.{min_cases, max_cases}
+use borrow.Author.Differences.{up, down}
+use mir.Val.{to_z, of_z}
+
+-- a time moves by a delay over the scale
+pub moved : (scale : ℕ) (from delay more whole : ℤ) → whole ≡ delay +ℤ more
+    → (from +ℤ (pos scale *ℤ delay)) +ℤ (pos scale *ℤ more) ≡ from +ℤ (pos scale *ℤ whole)
+moved scale from delay more whole is =
+    let plain : up whole + down delay + down more ≡ down whole + up delay + up more =
+    omega (arith, ints, is) in
+    let over = simp mul-add at (ap (λ n. scale * n) plain) in
+    omega (arith, ints, over)
+
+-- a time as the code keeps it
+abbrev pub kept : ℤ → ℤ
+kept time = to_z w128 (of_z w128 time)
+
+-- it is the time itself, if it is small
+pub kept_time : {bound : ℕ} (time : ℤ) → IsBelow bound time → (low : bound ≤ 10 ^ 20)
+    → kept time ≡ time
+kept_time time below low = to_z-of_z w128 time (omega (arith, ints, low, below.above, below.below))
+
+-- and so are ticks
+pub kept_ticks : {low high : ℕ} (ticks : ℤ) → IsWithin low high ticks → high ≤ 10 ^ 20
+    → kept ticks ≡ ticks
+kept_ticks ticks within few = to_z-of_z w128 ticks
+    (omega (arith, ints, few, within.above, within.below))
+
+-- and a delay
+pub kept_delay : (delay : ℤ) → IsWithin 0 2024000 delay → to_z w64 (of_z w64 delay) ≡ delay
+kept_delay delay within = to_z-of_z w64 delay (omega (arith, ints, within.above, within.below))
+
+-- an edge is a window of one time
+pub edge_below : (bound : ℕ) (time : ℤ) → bound ≤ 10 ^ 20 → IsBelow bound time
+    → IsWindowBelow bound (record { earliest = kept time; latest = kept time })
+edge_below bound time low below =
+    let same = kept_time time below low in
+    record {
+      earliest = subst (IsBelow bound) (sym same) below;
+      latest =
+          subst (IsBelow bound) (sym same) below;
+    }
+
+-- a bound may be wider
+pub below_wider : (bound wider : ℕ) (window : Window) → bound ≤ wider → IsWindowBelow bound window
+    → IsWindowBelow wider window
+below_wider bound wider window low below = record {
+  earliest = record {
+    above = omega (arith, ints, below.earliest.above);
+    below =
+        omega (arith, ints, below.earliest.below);
+  };
+  latest = record {
+    above = omega (arith, ints, below.latest.above);
+    below =
+        omega (arith, ints, below.latest.below);
+  };
+}
+
+-- one signal more, and a window is put there if it is an input
+pub inputs_next : (circuit : Circuit) (window : Window) (number : ℕ) (signal : Signal)
+    (old now next : List (Option Window)) → slice_get circuit.signals number ≡ Some signal
+    → number < length now
+    → next ≡ cond (is_input signal.kind)
+    (set now number (either_window (window_at now number) (Some window))) now
+    → AreInputsStarted circuit window number old now
+    → AreInputsStarted circuit window (number + 1) old next
+inputs_next circuit window number signal old now next here within is so_far =
+    rw is (at (is_input signal.kind) (ap
+    (λ o. option_map_or (λ (s : Signal). is_input s.kind) o false) here))
+  where
+    put : Option Window
+    put = either_window (window_at now number) (Some window)
+
+    at : (b : Bool) → is_input_at circuit number ≡ b
+        → AreInputsStarted circuit window (number + 1) old (cond b (set now number put) now)
+    at true input = record {
+      covers = length-set now number put ∙ so_far.covers;
+      each = λ other below. elim (cases_eq other number) [
+        | inl same ↦ rw (same, input) (get_or-set_same now number put None within
+            ∙ ap (λ o. either_window o (Some window)) (so_far.others number (omega arith)))
+        | inr apart ↦ get_or-set_other now number other put None apart
+            ∙ so_far.each other (omega arith)
+      ];
+      others = λ other beyond.
+          get_or-set_other now number other put None (λ same. absurd (omega (arith, same)))
+          ∙ so_far.others other (omega arith);
+    }
+    at false input = record {
+      covers = so_far.covers;
+      each = λ other below. elim (cases_eq other number) [
+        | inl same ↦ rw (same, input) (so_far.others number (omega arith))
+        | inr apart ↦ so_far.each other (omega arith)
+      ];
+      others = λ other beyond. so_far.others other (omega arith);
+    }
+
+-- the merged window of two small ones is small
+merged_below : (bound : ℕ) (first second : Window) → IsWindowBelow bound first
+    → IsWindowBelow bound second → IsWindowBelow bound (merged_windows first second)
+merged_below bound first second one other = record {
+  earliest = elim (min_cases first.earliest second.earliest).0 [
+    | inl same ↦ subst (IsBelow bound) (sym same) one.earliest
+    | inr same ↦ subst (IsBelow bound) (sym same) other.earliest
+  ];
+  latest = elim (max_cases first.latest second.latest).0 [
+    | inl same ↦ subst (IsBelow bound) (sym same) one.latest
+    | inr same ↦ subst (IsBelow bound) (sym same) other.latest
+  ];
+}
+
+-- so it is where the first may be missing is small
+pub either_below : (bound : ℕ) (known : Option Window) (found window : Window)
+    → ((old : Window) → known ≡ Some old → IsWindowBelow bound old) → IsWindowBelow bound found
+    → either_window known (Some found) ≡ Some window → IsWindowBelow bound window
+either_below bound known found window before now is = at known before is
+  where
+    at : (o : Option Window) → ((old : Window) → o ≡ Some old → IsWindowBelow bound old)
+        → either_window o (Some found) ≡ Some window → IsWindowBelow bound window
+    at None was same = subst (IsWindowBelow bound) (same_Some found window same) now
+    at (Some old) was same = subst (IsWindowBelow bound)
+        (same_Some (merged_windows old found) window same)
+        (merged_below bound old found (was old refl) now)
+
+-- a gate's delays are small
+pub gate_small : (tech : Tech) (signal : Signal) → is_gate signal.kind ≡ true
+    → IsTrue (is_lawful signal.kind (length signal.fan_in))
+    → AreWithin 2024000 (gate_sums tech signal)
+gate_small tech signal is_one lawful =
+    let few = few_inputs signal.kind (length signal.fan_in) (no_host signal.kind is_one) lawful in
+    let inputs : gate_inputs signal ≡ length signal.fan_in =
+    ap (λ b. cond b (length signal.fan_in) 0) is_one in
+    within_higher (weight_of signal) 2024000 (gate_sums tech signal) (omega (arith, inputs, few))
+    (gate_within tech signal)
+  where
+    no_host : (kind : Kind) → is_gate kind ≡ true → is_host kind ≡ false
+    no_host Host e = cc e
+    no_host _ e = refl
+
+-- a list with one item more: an item of it was there, or is the last
+pub pushed_cases : {A : Type 0} (xs : List A) (x y : A) (place : ℕ)
+    → slice_get (xs ++ x ∷ []) place ≡ Some y
+    → (slice_get xs place ≡ Some y) ⊎ ((place ≡ length xs) × (x ≡ y))
+pushed_cases xs x y place here =
+    let within = slice_get_within (xs ++ x ∷ []) place y here in
+    let value = get_or_from_slice_get (xs ++ x ∷ []) place y y here in
+    elim (cases_lt place (length xs)) [
+      | inl before ↦ inl (slice_get-get_or xs place y before
+          ∙ ap (λ v. Some v) (sym (get_or_append_left xs (x ∷ []) y place before) ∙ value))
+      | inr past ↦
+          let last : place ≡ length xs = omega (arith, within, length_push xs x) in
+          inr (last, sym (get_or_push xs x y place (sym last)) ∙ value)
+    ]
+
+-- one register more
+pub captures_next : (circuit : Circuit) (windows captured : List (Option Window)) (register : ℕ)
+    (found : Option Window)
+    → IsHullIfAny (ComesCaptured circuit windows register) found
+    → AreCaptures circuit windows register captured
+    → AreCaptures circuit windows (register + 1) (captured ++ found ∷ [])
+captures_next circuit windows captured register found hull so_far = record {
+  registers = omega (arith, length_push captured found, so_far.registers);
+  each = λ place window here. elim (pushed_cases captured found window place here) [
+    | inl before ↦ so_far.each place window before
+    | inr last ↦
+        let same : register ≡ place = sym (last.0 ∙ so_far.registers) in
+        subst (λ n. IsHullIfAny (ComesCaptured circuit windows n) window) same
+        (subst (IsHullIfAny (ComesCaptured circuit windows register)) last.1 hull)
+  ];
+}

@@ -1,0 +1,109 @@
+-- One gate more.
+use Rattle.std.proofs.Common.{◌*◌, ◌^◌, ℕ, List, length, get_or, ap, subst, arith}
+use Rattle.path_delays.specs.Windows.{IsWindowBelow}
+use Rattle.path_delays.specs.WindowParts.{window_limit, ArePassed}
+use Rattle.path_delays.proofs.NetworkLemmas.{few_gates}
+use Rattle.path_delays.proofs.WindowLemmas.{below_wider, kept_ticks}
+use Rattle.path_delays.proofs.SweepLemmas.{passed_none, passed_next, next_within, next_read}
+use Rattle.path_delays.proofs.sweep.pass_gates.Goals as goal
+
+pub loop-gate-init : goal.loop-gate-init
+loop-gate-init c =
+    passed_none c.args.circuit.now c.args.tech.now c.args.schedule.now c.args.levels.now
+    c.args.windows.now.items c.requires.launched
+
+pub bounds-as_slice-gate : goal.bounds-as_slice-gate
+bounds-as_slice-gate c =
+    let order = c.gates-gate-items.result.now in
+    let place = c.loop-gate.gate-index in
+    rw c.as_slice.ensures
+    (next_within c.args.circuit.now c.args.levels.now place (get_or order place 0) c.requires.levels
+    (rw c.gates-gate-items.ensures at c.loop-gate-test.true)
+    (ap (λ l. get_or l place 0) c.gates-gate-items.ensures))
+
+pub gate_window-window-requires-clause-gate : goal.gate_window-window-requires-clause-gate
+gate_window-window-requires-clause-gate c =
+    let order = c.gates-gate-items.result.now in
+    let place = c.loop-gate.gate-index in
+    (next_read c.args.circuit.now c.args.levels.now place
+    (get_or order place 0) c.index-as_slice-gate.result c.requires.levels
+    (rw c.gates-gate-items.ensures at c.loop-gate-test.true)
+    (ap (λ l. get_or l place 0) c.gates-gate-items.ensures)
+    (rw c.as_slice.ensures at c.index-as_slice-gate.is)).is_one
+
+pub gate_window-window-requires-clause-lawful : goal.gate_window-window-requires-clause-lawful
+gate_window-window-requires-clause-lawful c =
+    let order = c.gates-gate-items.result.now in
+    let place = c.loop-gate.gate-index in
+    (next_read c.args.circuit.now c.args.levels.now place
+    (get_or order place 0) c.index-as_slice-gate.result c.requires.levels
+    (rw c.gates-gate-items.ensures at c.loop-gate-test.true)
+    (ap (λ l. get_or l place 0) c.gates-gate-items.ensures)
+    (rw c.as_slice.ensures at c.index-as_slice-gate.is)).lawful
+
+pub gate_window-window-requires-clause-reads : goal.gate_window-window-requires-clause-reads
+gate_window-window-requires-clause-reads c k d within =
+    let order = c.gates-gate-items.result.now in
+    let place = c.loop-gate.gate-index in
+    let read = next_read c.args.circuit.now c.args.levels.now place
+    (get_or order place 0) c.index-as_slice-gate.result c.requires.levels
+    (rw c.gates-gate-items.ensures at c.loop-gate-test.true)
+    (ap (λ l. get_or l place 0) c.gates-gate-items.ensures)
+    (rw c.as_slice.ensures at c.index-as_slice-gate.is) in
+    rw c.as_slice-in-loop-gate.ensures.value
+    (omega (arith, read.reads k d within, c.loop-gate.invariant.covers))
+
+pub gate_window-window-requires-clause-small : goal.gate_window-window-requires-clause-small
+gate_window-window-requires-clause-small c signal window here =
+    let low = rw c.gates-gate-items.ensures at c.loop-gate-test.true in
+    below_wider (window_limit c.loop-gate.gate-index) (2 * 10 ^ 19) window
+    (omega (arith, low, few_gates c.args.circuit.now c.args.levels.now c.requires.levels))
+    (c.loop-gate.invariant.small signal window (rw c.as_slice-in-loop-gate.ensures.value at here))
+
+pub index_mut-requires : goal.index_mut-requires
+index_mut-requires c =
+    let order = c.gates-gate-items.result.now in
+    let place = c.loop-gate.gate-index in
+    omega (
+      arith,
+      next_within c.args.circuit.now c.args.levels.now place
+          (get_or order place 0) c.requires.levels
+          (rw c.gates-gate-items.ensures at c.loop-gate-test.true)
+          (ap (λ l. get_or l place 0) c.gates-gate-items.ensures),
+      c.loop-gate.invariant.covers,
+      c.loop-gate.windows.ok.0,
+    )
+
+pub loop-gate-preserved : goal.loop-gate-preserved
+loop-gate-preserved c =
+    let order = c.gates-gate-items.result.now in
+    let place = c.loop-gate.gate-index in
+    let gate = get_or order place 0 in
+    let read = next_read c.args.circuit.now c.args.levels.now place gate
+    c.index-as_slice-gate.result c.requires.levels
+    (rw c.gates-gate-items.ensures at c.loop-gate-test.true)
+    (ap (λ l. get_or l place 0) c.gates-gate-items.ensures)
+    (rw c.as_slice.ensures at c.index-as_slice-gate.is) in
+    passed_next c.args.circuit.now c.args.tech.now c.args.schedule.now gate
+    c.index-as_slice-gate.result read.here read.is_one
+    c.args.levels.now place c.loop-gate.windows.items c.gate_window-window.result c.requires.levels
+    read.stands
+    (rw (
+      c.as_slice-in-loop-gate.ensures.value,
+      kept_ticks c.args.schedule.now.den c.requires.schedule.den (omega arith),
+    ) at
+    c.gate_window-window.ensures.behind)
+    (λ window same. subst (λ n. IsWindowBelow n window) (omega arith)
+    (c.gate_window-window.ensures.small (window_limit place) window
+    (rw c.as_slice-in-loop-gate.ensures.value c.loop-gate.invariant.small) same))
+    c.loop-gate.invariant
+
+pub returns : goal.returns
+returns c =
+    subst (λ n. ArePassed c.args.circuit.now c.args.tech.now c.args.schedule.now c.args.levels.now n
+    c.loop-gate.windows.items)
+    (omega (
+      arith,
+      c.loop-gate-test.false,
+      ap (λ (l : List ℕ). length l) c.gates-gate-items.ensures,
+    )) c.loop-gate.invariant

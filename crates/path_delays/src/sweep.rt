@@ -1,0 +1,201 @@
+ghost use Rattle.std.specs.Prelude.{◌≡◌, ◌<◌, ◌≤◌, ◌+◌, ◌*◌, ◌^◌, ℕ, if◌then◌else◌, All, IfOk, IsTrue, Some, length, nat_abs, slice_get, slice_set};
+ghost use Rattle.cts_model.specs.Kinds as kinds;
+ghost use Rattle.cts_model.specs.Kinds.{is_gate, is_lawful};
+ghost use Rattle.cts_model.specs.Tables.{IsWithin};
+ghost use Rattle.path_delays.specs.declared.window.Window.{Window};
+ghost use Rattle.path_delays.specs.LevelParts.{IsLevelsOf};
+ghost use Rattle.path_delays.specs.Networks.{gate_sums};
+ghost use Rattle.path_delays.specs.Windows.{AreWindows, IsHullIfAny, IsSmallSchedule, IsWindowBelow};
+ghost use Rattle.path_delays.specs.WindowParts.{AreBelow, AreCaptures, AreInputsStarted, AreLaunched, ArePassed, ComesFrom, IsGateWindow, either_window, start_window, window_at, window_limit};
+
+use crate::Levels;
+use crate::gate_delays::gate_delay;
+use crate::walk::{is_host, is_input, start_sums};
+use crate::window::Window;
+use cts_base::{Listed, NoMemory};
+use cts_model::{Circuit, Kind, Schedule, Signal, Tech};
+use std::alloc::Global;
+
+/// When what the registers launch by a schedule comes to each register, over all paths that end
+/// there. `None` comes exactly where no path does. One pass over the gates in their order, from all
+/// registers at once.
+pub fn arrivals(
+    alloc: Global,
+    circuit: &Circuit,
+    levels: &Levels,
+    tech: &Tech,
+    schedule: &Schedule,
+) -> Result<Listed<Option<Window>>, NoMemory>
+    requires levels { IsLevelsOf circuit.now levels.now }
+    requires schedule { IsSmallSchedule schedule.now }
+    requires registers { length schedule.now.at ≡ length circuit.now.registers }
+    ensures { IfOk result (AreWindows circuit.now tech.now schedule.now) }
+{
+    let mut windows = vec![in alloc; None; circuit.signals.len()]?;
+    launch_all(&mut windows, circuit, tech, schedule);
+    pass_gates(&mut windows, circuit, levels, tech, schedule);
+    captured_windows(alloc, circuit, windows.as_slice())
+}
+
+// Starts at what each register launches.
+fn launch_all(
+    windows: &mut Vec<Option<Window>>,
+    circuit: &Circuit,
+    tech: &Tech,
+    schedule: &Schedule,
+)
+    requires schedule { IsSmallSchedule schedule.now }
+    requires registers { length schedule.now.at ≡ length circuit.now.registers }
+    requires launched { AreLaunched circuit.now tech.now schedule.now 0 windows.old.items }
+    ensures { AreLaunched circuit.now tech.now schedule.now
+        (length circuit.now.registers) windows.new.items }
+{
+    for from in 0..circuit.registers.len() {
+        launch(windows, circuit, tech, schedule, from);
+    }
+}
+
+// Starts at what a register launches: its own signal, or for the host each input.
+fn launch(
+    windows: &mut Vec<Option<Window>>,
+    circuit: &Circuit,
+    tech: &Tech,
+    schedule: &Schedule,
+    from: usize,
+)
+    requires schedule { IsSmallSchedule schedule.now }
+    requires registers { length schedule.now.at ≡ length circuit.now.registers }
+    requires from { from < length circuit.now.registers }
+    requires launched { AreLaunched circuit.now tech.now schedule.now from windows.old.items }
+    ensures { AreLaunched circuit.now tech.now schedule.now (from + 1) windows.new.items }
+{
+    let window = started(tech, schedule, from);
+    if is_host(circuit.register_signal(from).kind) {
+        start_inputs(windows, circuit, window);
+    } else {
+        let signal = circuit.registers.as_slice()[from];
+        start(windows, signal, window);
+    }
+}
+
+// The window at what a register launches.
+fn started(tech: &Tech, schedule: &Schedule, from: usize) -> Window
+    requires schedule { IsSmallSchedule schedule.now }
+    requires from { from < length schedule.now.at }
+    ensures started { result ≡ start_window tech.now schedule.now from }
+    ensures small { IsWindowBelow (window_limit 0) result }
+{
+    let at = schedule.at.as_slice()[from];
+    let edge = Window {
+        earliest: at,
+        latest: at,
+    };
+    edge.behind(start_sums(tech), schedule.den)
+}
+
+// Starts at each input.
+fn start_inputs(windows: &mut Vec<Option<Window>>, circuit: &Circuit, window: Window)
+    requires { length windows.old.items ≡ length circuit.now.signals }
+    ensures { AreInputsStarted circuit.now window (length circuit.now.signals)
+        windows.old.items windows.new.items }
+{
+    for (number, signal) in circuit.signals.as_slice().iter().enumerate() {
+        start_input(windows, signal.kind, number as u32, window);
+    }
+}
+
+// Starts at a signal, if it is an input.
+fn start_input(windows: &mut Vec<Option<Window>>, kind: Kind, number: u32, window: Window)
+    requires { number < length windows.old.items }
+    ensures { windows.new.items ≡ (if kinds.is_input kind
+        then slice_set windows.old.items number
+        (either_window (window_at windows.old.items number) (Some window))
+        else windows.old.items) }
+{
+    if is_input(kind) {
+        start(windows, number, window);
+    }
+}
+
+// Puts a window at a signal, beside what stands there.
+fn start(windows: &mut Vec<Option<Window>>, number: u32, window: Window)
+    requires { number < length windows.old.items }
+    ensures { windows.new.items ≡ slice_set windows.old.items number
+        (either_window (window_at windows.old.items number) (Some window)) }
+{
+    let known = windows[number as usize];
+    windows[number as usize] = Window::either(known, Some(window));
+}
+
+// Puts its window at each gate, in the order of the levels.
+fn pass_gates(
+    windows: &mut Vec<Option<Window>>,
+    circuit: &Circuit,
+    levels: &Levels,
+    tech: &Tech,
+    schedule: &Schedule,
+)
+    requires levels { IsLevelsOf circuit.now levels.now }
+    requires schedule { IsSmallSchedule schedule.now }
+    requires launched { AreLaunched circuit.now tech.now schedule.now
+        (length circuit.now.registers) windows.old.items }
+    ensures { ArePassed circuit.now tech.now schedule.now levels.now
+        (length levels.now) windows.new.items }
+{
+    for gate in levels.gates() {
+        let signal = &circuit.signals.as_slice()[*gate as usize];
+        let window = gate_window(windows.as_slice(), signal, tech, schedule.den);
+        windows[*gate as usize] = window;
+    }
+}
+
+// The window of a gate, from those of the signals that it reads.
+fn gate_window(
+    windows: &[Option<Window>],
+    gate: &Signal,
+    tech: &Tech,
+    scale: i128,
+) -> Option<Window>
+    requires gate { IsTrue (is_gate gate.now.kind) }
+    requires lawful { IsTrue (is_lawful gate.now.kind (length gate.now.fan_in)) }
+    requires reads { All (λ number. number < length windows.now) gate.now.fan_in }
+    requires scale { IsWithin 1 4097 scale }
+    requires small { AreBelow (2 * 10 ^ 19) windows.now }
+    ensures behind { IsGateWindow windows.now gate.now.fan_in (nat_abs scale)
+        (gate_sums tech.now gate.now) result }
+    ensures small { (bound : ℕ) (window : Window) → AreBelow bound windows.now
+        → result ≡ Some window → IsWindowBelow (bound + 10 ^ 10) window }
+{
+    let read = merged_windows(windows, gate.fan_in.as_slice())?;
+    Some(read.behind(gate_delay(tech, gate), scale))
+}
+
+// The window over some signals.
+fn merged_windows(windows: &[Option<Window>], signals: &[u32]) -> Option<Window>
+    requires { All (λ number. number < length windows.now) signals.now }
+    ensures { IsHullIfAny (ComesFrom windows.now signals.now) result }
+{
+    let mut merged = None;
+    for signal in signals {
+        merged = Window::either(merged, windows[*signal as usize]);
+    }
+    merged
+}
+
+// For each register the window over the signals that it captures.
+fn captured_windows(
+    alloc: Global,
+    circuit: &Circuit,
+    windows: &[Option<Window>],
+) -> Result<Listed<Option<Window>>, NoMemory>
+    requires { length windows.now ≡ length circuit.now.signals }
+    ensures { IfOk result
+        (AreCaptures circuit.now windows.now (length circuit.now.registers)) }
+{
+    let mut captured = Vec::new(alloc);
+    for register in 0..circuit.registers.len() {
+        let signals = circuit.register_signal(register).fan_in.as_slice();
+        captured.push(merged_windows(windows, signals))?;
+    }
+    Ok(Listed::from_vec(captured))
+}

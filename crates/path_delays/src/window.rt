@@ -1,0 +1,76 @@
+ghost use Rattle.std.specs.Prelude.{◌≡◌, ◌≤◌, ◌+◌, ◌*◌, ◌^◌, ℕ, pos, ◌+ℤ◌, ◌*ℤ◌, nat_abs};
+ghost use Rattle.cts_model.specs.Points.{IsBelow};
+ghost use Rattle.cts_model.specs.Tables.{IsWithin};
+
+use crate::sums::Sums;
+
+/// When what is launched comes to a place, in ticks over a scale.
+#[derive(Clone, Copy, Debug, PartialEq, Eq)]
+pub struct Window {
+    /// The first time at which any of it comes.
+    pub earliest: i128,
+    /// The last time.
+    pub latest: i128,
+}
+
+impl Window {
+    ghost use Rattle.path_delays.specs.SumParts.{AreWithin};
+    ghost use Rattle.path_delays.specs.Windows.{IsWindowBelow};
+    ghost use Rattle.path_delays.specs.WindowParts.{either_window, merged_windows, window_behind};
+
+    /// The window behind a delay in ticks.
+    pub(crate) fn behind(self, delay: Sums, scale: i128) -> Window
+        requires window { IsWindowBelow (2 * 10 ^ 19) self }
+        requires delay { AreWithin 2024000 delay }
+        requires scale { IsWithin 1 4097 scale }
+        ensures behind { result ≡ window_behind (nat_abs scale) delay self }
+        ensures small { (bound : ℕ) → IsWindowBelow bound self
+            → IsWindowBelow (bound + 10 ^ 10) result }
+    {
+        Window {
+            earliest: later(self.earliest, scaled(delay.least, scale)),
+            latest: later(self.latest, scaled(delay.greatest, scale)),
+        }
+    }
+
+    /// From the earlier to the later of both.
+    pub(crate) fn merged(self, other: Window) -> Window
+        ensures { result ≡ merged_windows self other }
+    {
+        Window {
+            earliest: self.earliest.min(other.earliest),
+            latest: self.latest.max(other.latest),
+        }
+    }
+
+    /// From the earlier to the later of both, or the one that there is.
+    pub(crate) fn either(known: Option<Window>, found: Option<Window>) -> Option<Window>
+        ensures { result ≡ either_window known found }
+    {
+        match (known, found) {
+            (Some(known), Some(found)) => Some(known.merged(found)),
+            (None, found) => found,
+            (known, None) => known,
+        }
+    }
+}
+
+// A time, and ticks behind it.
+fn later(time: i128, ticks: i128) -> i128
+    requires time { IsBelow (2 * 10 ^ 19) time }
+    requires ticks { IsWithin 0 8292328000 ticks }
+    ensures later { result ≡ (time +ℤ ticks) }
+    ensures small { IsBelow (3 * 10 ^ 19) result }
+{
+    time + ticks
+}
+
+// A delay in ticks over the scale.
+fn scaled(delay: i64, scale: i128) -> i128
+    requires delay { IsWithin 0 2024000 delay }
+    requires scale { IsWithin 1 4097 scale }
+    ensures scaled { result ≡ (pos (nat_abs scale) *ℤ delay) }
+    ensures small { IsWithin 0 8292328000 result }
+{
+    scale * i128::from(delay)
+}
