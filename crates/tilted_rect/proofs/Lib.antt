@@ -1,3 +1,4 @@
+pub mod ClusterLemmas
 pub mod CodeNumbers
 pub mod ExtremeLemmas
 mod IntervalLemmas

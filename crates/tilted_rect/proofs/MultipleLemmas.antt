@@ -7,7 +7,7 @@ use Rattle.cts_model.specs.Points.{IsMultipleOf, apart}
 use Rattle.cts_model.specs.Regions.{span, IsGreatestSpan, IsReach}
 use Rattle.tilted_rect.specs.Extremes.{u_above, u_below, v_above, v_below, Extremes, IsExtremes, IsGreatest, IsLeast, AreMultiplesOf, AreSidesMultiples}
 use Rattle.tilted_rect.proofs.RectLemmas.{max_either}
-use Rattle.tilted_rect.proofs.TurnLemmas.{halves}
+use Rattle.cts_model.proofs.PointLemmas.{halves}
 
 -- ---- on plain numbers
 

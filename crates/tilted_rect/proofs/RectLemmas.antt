@@ -9,7 +9,8 @@ use Rattle.tilted_rect.specs.Corners.{IsSide, IsRect}
 use Rattle.tilted_rect.specs.Intervals.{between, clamped}
 use Rattle.tilted_rect.specs.Rects.{Holds, HoldBoth, IsNear, HasSides, HasRoom, gap_of, IsLeastDistance, clamped_into, IsNearest}
 use Rattle.tilted_rect.proofs.IntervalLemmas.{clamped_ge, clamped_le, clamped_near, near_ge, near_le, clamped_least, between_least, between_shown, between_above, between_none, max_le, le_max_left, le_max_right, max_mono, above_left, above_right, le_min, min_le_left, min_le_right}
-use Rattle.tilted_rect.proofs.Scaling.{scale_le, scale-sub, scale-add, scale-max, scale-min, scale-apart, scale-clamped, scale-between}
+use Rattle.cts_model.proofs.ScaleLemmas.{scale_le, scale-sub, scale-add, scale-max, scale-apart}
+use Rattle.tilted_rect.proofs.Scaling.{scale-min, scale-clamped, scale-between}
 
 -- ---- points near a rectangle
 

@@ -15,7 +15,7 @@ use Rattle.tilted_rect.specs.declared.rect.Rect.{Rect}
 use Rattle.tilted_rect.proofs.ExtremeLemmas.{contains_itself, contains_none, has_extremes}
 use Rattle.tilted_rect.proofs.IntervalLemmas.{clamped_ge, clamped_le, clamped_near, max_le, le_max_left, le_max_right}
 use Rattle.tilted_rect.proofs.RectLemmas.{over_one}
-use Rattle.tilted_rect.proofs.Scaling.{scale_le, scale-sub, scale-add, scale-max, scale-apart}
+use Rattle.cts_model.proofs.ScaleLemmas.{scale_le, scale-sub, scale-add, scale-max, scale-apart}
 use Rattle.tilted_rect.proofs.SpanLemmas.{one_greatest_span, spread_is_reach}
 
 -- ---- one axis, on plain numbers

@@ -1,38 +1,11 @@
--- Numbers taken over a scale: order, sums, and the greater and the smaller of two.
-use Rattle.std.proofs.Common.{◌≡◌, ℕ, ◌+◌, ◌*◌, ◌≤◌, ℤ, pos, ◌+ℤ◌, ◌-ℤ◌, ◌*ℤ◌, ◌≤ℤ◌, sym, ap, ◌∙◌, arith}
-use Rattle.std.proofs.Math.Nat.{mul-add, mul-le-mul_left}
+-- Numbers taken over a scale: the smaller of two, and what is clamped into an interval or between
+-- two.
+use Rattle.std.proofs.Common.{◌≡◌, ℕ, ℤ, pos, ◌-ℤ◌, ◌*ℤ◌, ◌≤ℤ◌, sym, ap, ◌∙◌, arith}
 use Rattle.std.proofs.lemmas.Int.{ints, clamps, by_lt_z}
 use Rattle.std.proofs.Math.IntN.{*ℤ-zero}
 use Rattle.std.specs.Int.{int_max, int_min}
-use Rattle.cts_model.specs.Points.{apart}
+use Rattle.cts_model.proofs.ScaleLemmas.{scale_le, scale-max, scale-sub}
 use Rattle.tilted_rect.specs.Intervals.{between, clamped}
-use borrow.Author.Differences.{up, down}
-
--- a scale keeps the order
-pub scale_le : (scale : ℕ) (a b : ℤ) → a ≤ℤ b → (pos scale *ℤ a) ≤ℤ (pos scale *ℤ b)
-scale_le scale a b below =
-    let plain : up a + down b ≤ up b + down a = omega (arith, ints) in
-    omega (arith, ints, mul-le-mul_left scale plain, mul-add scale (up a) (down b), mul-add scale (up b) (down a))
-
--- a scale goes into a sum
-pub scale-add : (scale : ℕ) (a b : ℤ) → pos scale *ℤ (a +ℤ b) ≡ pos scale *ℤ a +ℤ pos scale *ℤ b
-scale-add scale a b =
-    let plain : up (a +ℤ b) + down a + down b ≡ down (a +ℤ b) + up a + up b = omega (arith, ints) in
-    let over = simp mul-add at (ap (λ n. scale * n) plain) in
-    omega (arith, ints, over)
-
--- and into a difference
-pub scale-sub : (scale : ℕ) (a b : ℤ) → pos scale *ℤ (a -ℤ b) ≡ pos scale *ℤ a -ℤ pos scale *ℤ b
-scale-sub scale a b =
-    let plain : up (a -ℤ b) + down a + up b ≡ down (a -ℤ b) + up a + down b = omega (arith, ints) in
-    let over = simp mul-add at (ap (λ n. scale * n) plain) in
-    omega (arith, ints, over)
-
-max_left : (a b : ℤ) → b ≤ℤ a → int_max a b ≡ a
-max_left a b below = omega (arith, ints, clamps)
-
-max_right : (a b : ℤ) → a ≤ℤ b → int_max a b ≡ b
-max_right a b below = omega (arith, ints, clamps)
 
 min_left : (a b : ℤ) → a ≤ℤ b → int_min a b ≡ a
 min_left a b below = omega (arith, ints, clamps)
@@ -40,28 +13,13 @@ min_left a b below = omega (arith, ints, clamps)
 min_right : (a b : ℤ) → b ≤ℤ a → int_min a b ≡ b
 min_right a b below = omega (arith, ints, clamps)
 
--- a scale goes into the greater of two numbers
-pub scale-max : (scale : ℕ) (a b : ℤ) → pos scale *ℤ int_max a b ≡ int_max (pos scale *ℤ a) (pos scale *ℤ b)
-scale-max scale a b =
-    by_lt_z a b
-    (λ less. let ordered : a ≤ℤ b = omega (arith, ints) in
-    ap (λ z. pos scale *ℤ z) (max_right a b ordered) ∙ sym (max_right (pos scale *ℤ a) (pos scale *ℤ b) (scale_le scale a b ordered)))
-    (λ ordered. ap (λ z. pos scale *ℤ z) (max_left a b ordered) ∙ sym (max_left (pos scale *ℤ a) (pos scale *ℤ b) (scale_le scale b a ordered)))
-
--- and into the smaller
+-- a scale goes into the smaller of two numbers
 pub scale-min : (scale : ℕ) (a b : ℤ) → pos scale *ℤ int_min a b ≡ int_min (pos scale *ℤ a) (pos scale *ℤ b)
 scale-min scale a b =
     by_lt_z a b
     (λ less. let ordered : a ≤ℤ b = omega (arith, ints) in
     ap (λ z. pos scale *ℤ z) (min_left a b ordered) ∙ sym (min_left (pos scale *ℤ a) (pos scale *ℤ b) (scale_le scale a b ordered)))
     (λ ordered. ap (λ z. pos scale *ℤ z) (min_right a b ordered) ∙ sym (min_right (pos scale *ℤ a) (pos scale *ℤ b) (scale_le scale b a ordered)))
-
--- and into how far two numbers are apart
-pub scale-apart : (scale : ℕ) (a b : ℤ) → pos scale *ℤ apart a b ≡ apart (pos scale *ℤ a) (pos scale *ℤ b)
-scale-apart scale a b =
-    scale-max scale (a -ℤ b) (b -ℤ a)
-    ∙ ap (λ z. int_max z (pos scale *ℤ (b -ℤ a))) (scale-sub scale a b)
-    ∙ ap (λ z. int_max (pos scale *ℤ a -ℤ pos scale *ℤ b) z) (scale-sub scale b a)
 
 -- into a number clamped into an interval
 pub scale-clamped : (scale : ℕ) (lo hi to : ℤ) → pos scale *ℤ clamped lo hi to ≡ clamped (pos scale *ℤ lo) (pos scale *ℤ hi) (pos scale *ℤ to)

@@ -1,9 +1,8 @@
 -- Points are the same where their coordinates are.
-use Rattle.std.proofs.Common.{◌≡◌, ℤ, pos, negsuc, ◌+ℤ◌, ◌-ℤ◌, int_div, arith}
-use Rattle.std.proofs.lemmas.Int.{ints}
+use Rattle.std.proofs.Common.{◌≡◌, ◌+ℤ◌, ◌-ℤ◌}
 use Rattle.cts_model.specs.declared.place.Point.{Point}
 use Rattle.cts_model.specs.declared.place.Uv.{Uv}
-use Rattle.cts_model.specs.Points.{IsMultipleOf, turned}
+use Rattle.cts_model.specs.Points.{turned}
 
 pub same_uv : {a b : Uv} → a.u ≡ b.u → a.v ≡ b.v → a ≡ b
 same_uv u v = λ i. record { u = u i; v = v i }
@@ -14,8 +13,3 @@ same_point x y = λ i. record { x = x i; y = y i }
 -- a point has the turned coordinates that its sum and difference are
 pub turned_is : (point : Point) (at : Uv) → point.x +ℤ point.y ≡ at.u → point.x -ℤ point.y ≡ at.v → turned point ≡ at
 turned_is point at u v = λ i. record { u = u i; v = v i }
-
--- two halves of an even number
-pub halves : (sum : ℤ) → IsMultipleOf 2 sum → int_div sum (pos 2) +ℤ int_div sum (pos 2) ≡ sum
-halves (pos n) even = omega (arith, ints)
-halves (negsuc n) even = omega (arith, ints)

@@ -1,3 +1,5 @@
+pub mod Clusters
+pub mod ClusterSets
 pub mod Corners
 pub mod Extremes
 pub mod Intervals

@@ -2,7 +2,7 @@ ghost use Rattle.std.specs.Prelude.{◌≡◌, ◌^◌, pos, ◌+ℤ◌};
 ghost use Rattle.cts_model.specs.Points.{IsMultipleOf, IsPointBelow, IsUvBelow, IsUvMultipleOf, IsPointMultipleOf, distance, turned, turned_distance};
 ghost use Rattle.cts_model.specs.declared.place.Point.{Point};
 
-use cts_model::{Point, Uv};
+use cts_model::{Point, Uv, half};
 
 /// A point in turned coordinates.
 pub fn to_uv(at: Point) -> Uv
@@ -29,12 +29,4 @@ pub fn to_point(at: Uv) -> Point
         x: half(at.u + at.v),
         y: half(at.u - at.v),
     }
-}
-
-/// Half of an even number.
-fn half(sum: i128) -> i128
-    requires { IsMultipleOf 2 sum }
-    ensures { result +ℤ result ≡ sum }
-{
-    sum / 2
 }
