@@ -1,0 +1,5 @@
+mod AddLemmas
+mod GreedyLemmas
+mod JoinLemmas
+mod KeepLemmas
+mod SearchLemmas

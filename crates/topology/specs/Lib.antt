@@ -1,0 +1,2 @@
+pub mod LiveClusters
+pub mod Pairs

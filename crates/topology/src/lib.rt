@@ -1,0 +1,8 @@
+//! Which clusters of sinks a clock tree merges, the cheapest first.
+#![tactic(auto)]
+
+mod live;
+mod merging;
+mod pair;
+
+pub use merging::greedy;
