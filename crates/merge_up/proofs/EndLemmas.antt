@@ -1,0 +1,216 @@
+-- The furthest sinks of a set to the four sides, and what they say of its reach and its shows.
+use Rattle.std.proofs.Common.{◌≡◌, ℕ, ◌≤◌, ◌⊎◌, inl, inr, min, max, List, [], ◌∷◌, ◌++◌, Contains, Some, IsSomeAnd, slice_get, filter_map, ℤ, ◌+ℤ◌, ◌-ℤ◌, neg_ℤ, ◌≤ℤ◌, refl, sym, subst, None, Option, ◌∙◌, arith}
+use Rattle.std.proofs.lemmas.Int.{ints, clamps, to_z-of_z}
+use Rattle.std.proofs.lemmas.List.Elements.{Contains-append_left, Contains-append_right, filter_map-append}
+use Rattle.std.specs.Int.{int_max, w128}
+use Rattle.tilted_rect.specs.Corners.{IsRect, IsSide}
+use Rattle.tilted_rect.proofs.CodeNumbers.{kept, below_fits}
+use Rattle.cts_model.specs.declared.place.Sink.{Sink}
+use Rattle.std.proofs.lemmas.Bool.{cases_lt}
+use Rattle.cts_model.specs.Regions.{span, IsReach}
+use Rattle.cts_model.specs.ShownReaches.{ShowsMerge}
+use Rattle.tilted_rect.proofs.SpanLemmas.{sinks_of_u_show, sinks_of_v_show, span_is_symmetric, spread_is_reach}
+use Rattle.cts_model.proofs.TopologyLemmas.{found_among}
+use Rattle.tilted_rect.specs.Extremes.{IsExtremes, IsGreatest, IsLeast, spread, u_above, u_below, v_above, v_below}
+use Rattle.tilted_rect.proofs.ExtremeLemmas.{append_is_union, greatest_one, greatest_union}
+use Rattle.merge_up.specs.declared.end.End.{End}
+use Rattle.merge_up.specs.declared.ends.Ends.{Ends}
+use Rattle.merge_up.specs.Sides.{IsEnd, AreEnds, extremes_of, pair_of, u_back, v_back}
+
+-- ---- one side
+
+-- a sink alone is its furthest sink
+pub end_alone : (sinks : List Sink) (register : ℕ) (sink : Sink) (far : Sink → ℤ) (end : End)
+    → slice_get sinks register ≡ Some sink → end.sink ≡ register → far sink ≡ end.far
+    → IsEnd sinks (register ∷ []) far end
+end_alone sinks register sink far end here at is = record {
+  among = (0, omega arith, sym at);
+  attained = rw (at, here) is;
+  furthest = rw here (subst (λ number. IsGreatest far (sink ∷ []) number) is
+      (greatest_one far sink));
+}
+
+-- of two sets together the greater of how far their ends are
+furthest_append : (sinks : List Sink) (first second : List ℕ) (far : Sink → ℤ) (one other : End)
+    → IsEnd sinks first far one → IsEnd sinks second far other
+    → IsGreatest far (filter_map (slice_get sinks) (first ++ second)) (int_max one.far other.far)
+furthest_append sinks first second far one other held others =
+    rw (filter_map-append (slice_get sinks) first second)
+    (greatest_union far (filter_map (slice_get sinks) first) (filter_map (slice_get sinks) second)
+    (filter_map (slice_get sinks) first ++ filter_map (slice_get sinks) second) one.far other.far
+    (append_is_union (filter_map (slice_get sinks) first) (filter_map (slice_get sinks) second))
+    held.furthest others.furthest)
+
+max_right : (a b : ℤ) → a ≤ℤ b → int_max a b ≡ b
+max_right a b below = omega (arith, ints, clamps)
+
+max_left : (a b : ℤ) → b ≤ℤ a → int_max a b ≡ a
+max_left a b below = omega (arith, ints, clamps)
+
+-- of two ends the one that is no less far is the end of both sets together
+pub end_further : (sinks : List Sink) (first second : List ℕ) (far : Sink → ℤ)
+    (one other found : End)
+    → IsEnd sinks first far one → IsEnd sinks second far other
+    → ((one.far ≤ℤ other.far) × (found ≡ other)) ⊎ ((other.far ≤ℤ one.far) × (found ≡ one))
+    → IsEnd sinks (first ++ second) far found
+end_further sinks first second far one other found held others (inl (less, is)) =
+    subst (λ end. IsEnd sinks (first ++ second) far end) (sym is) (record {
+      among = Contains-append_right first second other.sink others.among;
+      attained = others.attained;
+      furthest = subst (IsGreatest far (filter_map (slice_get sinks) (first ++ second)))
+          (max_right one.far other.far less) (furthest_append sinks first second far one other held
+          others);
+    })
+end_further sinks first second far one other found held others (inr (less, is)) =
+    subst (λ end. IsEnd sinks (first ++ second) far end) (sym is) (record {
+      among = Contains-append_left first second one.sink held.among;
+      attained = held.attained;
+      furthest = subst (IsGreatest far (filter_map (slice_get sinks) (first ++ second)))
+          (max_left one.far other.far less) (furthest_append sinks first second far one other held
+          others);
+    })
+
+-- ---- the four sides
+
+least_of_back : (sinks : List Sink) (far under : Sink → ℤ) (number : ℤ)
+    → ((sink : Sink) → far sink ≡ neg_ℤ (under sink))
+    → IsGreatest far sinks number → IsLeast under sinks (neg_ℤ number)
+least_of_back sinks far under number back is = record {
+  least = λ sink among. omega (arith, ints, back sink, is.most sink among);
+  sink = is.sink;
+  among = is.among;
+  attained = omega (arith, ints, back is.sink, is.attained);
+}
+
+-- the ends of a set are its extremes
+pub ends_are_extremes : (sinks : List Sink) (numbers : List ℕ) (ends : Ends)
+    → AreEnds sinks numbers ends
+    → IsExtremes (filter_map (slice_get sinks) numbers) (extremes_of ends)
+ends_are_extremes sinks numbers ends are = record {
+  greatest_u = are.high_u.furthest;
+  least_u = least_of_back (filter_map (slice_get sinks) numbers) u_back u_below ends.low_u.far
+      (λ sink. omega (arith, ints)) are.low_u.furthest;
+  greatest_v = are.high_v.furthest;
+  least_v = least_of_back (filter_map (slice_get sinks) numbers) v_back v_below ends.low_v.far
+      (λ sink. omega (arith, ints)) are.low_v.furthest;
+}
+
+-- ---- shows
+
+some_of : (found : Option Sink) (Holds : Sink → Type 0) → IsSomeAnd found Holds
+    → (sink : Sink) × (found ≡ Some sink) × Holds sink
+some_of (Some sink) Holds held = (sink, refl, held)
+some_of None Holds held = absurd held
+
+-- two ends whose sum is twice the reach show it
+pair_shows : (sinks : List Sink) (numbers : List ℕ) (reach : ℤ) (high low : ℕ) (one other : Sink)
+    → Contains numbers high → Contains numbers low
+    → slice_get sinks high ≡ Some one → slice_get sinks low ≡ Some other
+    → reach +ℤ reach ≡ span one other → ShowsMerge sinks numbers reach (pair_of high low)
+pair_shows sinks numbers reach high low one other high_in low_in here there is = elim
+    (cases_lt low high) [
+      | inl less ↦ rw (
+        min_right high low (omega (arith, less)),
+        max_left_of high low
+            (omega (arith, less)),
+      ) (record {
+        ordered = omega (arith, less);
+        first_below = low_in;
+        second_below = high_in;
+        value = rw (there, here) (is ∙ span_is_symmetric one other);
+      })
+      | inr less ↦ rw (min_left high low less, max_right_of high low less) (record {
+        ordered = less;
+        first_below = high_in;
+        second_below = low_in;
+        value = rw (here, there) is;
+      })
+    ]
+  where
+    min_right : (a b : ℕ) → b ≤ a → min a b ≡ b
+    min_right a b less = omega arith
+
+    min_left : (a b : ℕ) → a ≤ b → min a b ≡ a
+    min_left a b less = omega arith
+
+    max_left_of : (a b : ℕ) → b ≤ a → max a b ≡ a
+    max_left_of a b less = omega arith
+
+    max_right_of : (a b : ℕ) → a ≤ b → max a b ≡ b
+    max_right_of a b less = omega arith
+
+-- the sinks that are furthest in u show the reach where the spread in u is no smaller
+pub u_ends_show : (sinks : List Sink) (numbers : List ℕ) (reach : ℤ) (ends : Ends)
+    → AreEnds sinks numbers ends → reach +ℤ reach ≡ spread (extremes_of ends)
+    → (ends.high_v.far +ℤ ends.low_v.far) ≤ℤ (ends.high_u.far +ℤ ends.low_u.far)
+    → ShowsMerge sinks numbers reach (pair_of ends.high_u.sink ends.low_u.sink)
+u_ends_show sinks numbers reach ends are twice wider =
+    let extremes = ends_are_extremes sinks numbers ends are in
+    let set = filter_map (slice_get sinks) numbers in
+    let high = some_of (slice_get sinks ends.high_u.sink) (λ sink. u_above sink ≡ ends.high_u.far)
+    are.high_u.attained in
+    let low = some_of (slice_get sinks ends.low_u.sink) (λ sink. u_back sink ≡ ends.low_u.far)
+    are.low_u.attained in
+    let is : spread (extremes_of ends) ≡ ends.high_u.far -ℤ neg_ℤ ends.low_u.far = omega
+    (arith, ints, clamps, wider) in
+    let reached : IsReach set (ends.high_u.far -ℤ neg_ℤ ends.low_u.far) = subst (IsReach set) is
+    (spread_is_reach set (extremes_of ends) extremes) in
+    pair_shows sinks numbers reach ends.high_u.sink ends.low_u.sink high.0 low.0 are.high_u.among
+    are.low_u.among high.1 low.1
+    (twice ∙ is ∙ sym (sinks_of_u_show set (extremes_of ends) high.0 low.0 reached
+    (found_among (slice_get sinks) numbers ends.high_u.sink high.0 are.high_u.among high.1)
+    (found_among (slice_get sinks) numbers ends.low_u.sink low.0 are.low_u.among low.1)
+    high.2 (omega (arith, ints, low.2))))
+
+-- and those in v where the spread in v is no smaller
+pub v_ends_show : (sinks : List Sink) (numbers : List ℕ) (reach : ℤ) (ends : Ends)
+    → AreEnds sinks numbers ends → reach +ℤ reach ≡ spread (extremes_of ends)
+    → (ends.high_u.far +ℤ ends.low_u.far) ≤ℤ (ends.high_v.far +ℤ ends.low_v.far)
+    → ShowsMerge sinks numbers reach (pair_of ends.high_v.sink ends.low_v.sink)
+v_ends_show sinks numbers reach ends are twice wider =
+    let extremes = ends_are_extremes sinks numbers ends are in
+    let set = filter_map (slice_get sinks) numbers in
+    let high = some_of (slice_get sinks ends.high_v.sink) (λ sink. v_above sink ≡ ends.high_v.far)
+    are.high_v.attained in
+    let low = some_of (slice_get sinks ends.low_v.sink) (λ sink. v_back sink ≡ ends.low_v.far)
+    are.low_v.attained in
+    let is : spread (extremes_of ends) ≡ ends.high_v.far -ℤ neg_ℤ ends.low_v.far = omega
+    (arith, ints, clamps, wider) in
+    let reached : IsReach set (ends.high_v.far -ℤ neg_ℤ ends.low_v.far) = subst (IsReach set) is
+    (spread_is_reach set (extremes_of ends) extremes) in
+    pair_shows sinks numbers reach ends.high_v.sink ends.low_v.sink high.0 low.0 are.high_v.among
+    are.low_v.among high.1 low.1
+    (twice ∙ is ∙ sym (sinks_of_v_show set (extremes_of ends) high.0 low.0 reached
+    (found_among (slice_get sinks) numbers ends.high_v.sink high.0 are.high_v.among high.1)
+    (found_among (slice_get sinks) numbers ends.low_v.sink low.0 are.low_v.among low.1)
+    high.2 (omega (arith, ints, low.2))))
+
+-- ---- regions
+
+-- what the code keeps of a rectangle's sides is a rectangle
+pub rect_kept : (ulo uhi vlo vhi : ℤ) → IsRect ulo uhi vlo vhi
+    → IsRect (kept ulo) (kept uhi) (kept vlo) (kept vhi)
+rect_kept ulo uhi vlo vhi valid =
+    subst (λ z. IsRect z (kept uhi) (kept vlo) (kept vhi)) (side_kept ulo valid.least_u)
+    (subst (λ z. IsRect ulo z (kept vlo) (kept vhi)) (side_kept uhi valid.greatest_u)
+    (subst (λ z. IsRect ulo uhi z (kept vhi)) (side_kept vlo valid.least_v)
+    (subst (λ z. IsRect ulo uhi vlo z) (side_kept vhi valid.greatest_v) valid)))
+  where
+    side_kept : (side : ℤ) → IsSide side → side ≡ kept side
+    side_kept side is = sym (to_z-of_z w128 side (below_fits side is.below))
+
+-- a reach of half the spread leaves the sides in order
+pub region_valid : (ends : Ends) (reach same ulo uhi vlo vhi : ℤ) → same ≡ reach
+    → reach +ℤ reach ≡ spread (extremes_of ends)
+    → ulo ≡ ends.high_u.far -ℤ same → uhi ≡ neg_ℤ ends.low_u.far +ℤ same
+    → vlo ≡ ends.high_v.far -ℤ same → vhi ≡ neg_ℤ ends.low_v.far +ℤ same
+    → IsSide ulo → IsSide uhi → IsSide vlo → IsSide vhi → IsRect ulo uhi vlo vhi
+region_valid ends reach same ulo uhi vlo vhi is twice is_ulo is_uhi is_vlo is_vhi low_u high_u low_v
+    high_v = record {
+      u_ordered = omega (arith, ints, clamps, is, twice, is_ulo, is_uhi);
+      v_ordered = omega (arith, ints, clamps, is, twice, is_vlo, is_vhi);
+      least_u = low_u;
+      greatest_u = high_u;
+      least_v = low_v;
+      greatest_v = high_v;
+    }

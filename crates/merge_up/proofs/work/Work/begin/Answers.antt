@@ -1,0 +1,20 @@
+use Rattle.std.proofs.Common.{arith}
+use Rattle.std.proofs.lemmas.Option.{slice_get-get_or, slice_get_within}
+use Rattle.merge_up.proofs.WorkLemmas.{begun_next}
+use Rattle.merge_up.proofs.work.Work.begin.Goals as goal
+
+pub loop-register-preserved : goal.loop-register-preserved
+loop-register-preserved c =
+    let register = c.loop-register.register in
+    begun_next c.args.sinks.now register _ c.args.self.now c.loop-register.self c.set_sink.new.self
+    (slice_get-get_or c.args.sinks.now register _ c.loop-register-test.true)
+    c.loop-register.invariant c.set_sink.ensures
+
+pub returns-clause-held : goal.returns-clause-held
+returns-clause-held c = λ register sink here. c.loop-register.invariant.held register sink
+    (omega (
+      arith,
+      c.loop-register-test.false,
+      slice_get_within c.args.sinks.now register sink
+          here,
+    )) here

@@ -1,0 +1,5 @@
+pub mod Distances
+pub mod Sides
+pub mod Works
+pub mod Views
+pub mod Merging

@@ -1,0 +1,134 @@
+-- The reaches, regions and shows of a topology's nodes, as a room holds them: Boese and Kahng 1992;
+-- Chao and others 1992.
+use Rattle.std.specs.Prelude.{◌≡◌, ℕ, ◌+◌, ◌-◌, ◌^◌, ◌<◌, min, false, true, All, IsFalse, List, IsSomeAnd, Some, length, replicate, slice_get, slice_set, ℤ, ◌+ℤ◌}
+use Rattle.cts_model.specs.declared.place.Sink.{Sink}
+use Rattle.cts_model.specs.declared.tree.Merge.{Merge}
+use Rattle.cts_model.specs.declared.tree.Show.{Show}
+use Rattle.cts_model.specs.Regions.{IsReach}
+use Rattle.cts_model.specs.ShownReaches.{ShowsMerge}
+use Rattle.cts_model.specs.Topologies.{Joins, numbers_below, sinks_below, source_of}
+use Rattle.cts_model.specs.declared.place.Point.{Point}
+use Rattle.cts_model.specs.declared.place.Uv.{Uv}
+use Rattle.cts_model.specs.Points.{turned}
+use Rattle.tilted_rect.specs.Extremes.{IsRegion}
+use Rattle.tilted_rect.specs.Rects.{HasSides}
+use Rattle.tilted_rect.specs.declared.rect.Rect.{Rect}
+use Rattle.merge_up.specs.Sides.{AreEnds}
+use Rattle.merge_up.specs.Works.{WorkState, IsFit}
+use Rattle.merge_up.specs.declared.ends.Ends.{Ends}
+
+-- the rectangle is the sink's place
+abbrev pub IsPointOf : Rect → Sink → Type 0
+IsPointOf rect sink = HasSides rect sink.at.u sink.at.u sink.at.v sink.at.v
+
+-- the sink's reach is its offset, and its region is its place
+pub record HoldsSink (work : WorkState) (register : ℕ) (sink : Sink) : Type 0 where
+  pub reach : slice_get work.tree.reach register ≡ Some sink.offset
+  pub region : IsSomeAnd (slice_get work.regions register) (λ region. IsPointOf region sink)
+
+-- the reach of the merge at that place is the least that its sinks allow, its region is where it
+-- may stand then, its show shows the reach, and its ends are its furthest sinks
+pub record HoldsMerge (sinks : List Sink) (merges : List Merge) (work : WorkState)
+    (place : ℕ) : Type 0 where
+  pub reach : ℤ
+  pub region : Rect
+  pub show : Show
+  pub ends : Ends
+  pub reach_held : slice_get work.tree.reach (length sinks + place) ≡ Some reach
+  pub region_held : slice_get work.regions (length sinks + place) ≡ Some region
+  pub show_held : slice_get work.shows place ≡ Some show
+  pub ends_held : slice_get work.ends place ≡ Some ends
+  pub is_reach : IsReach (sinks_below sinks merges (length sinks + place)) (reach +ℤ reach)
+  pub is_region : IsRegion region (sinks_below sinks merges (length sinks + place)) reach
+  pub shows : ShowsMerge sinks (numbers_below (length sinks) merges (length sinks + place)) reach
+      show
+  pub are_ends : AreEnds sinks (numbers_below (length sinks) merges (length sinks + place)) ends
+
+-- the work holds all of the sinks
+abbrev pub HoldsSinks : List Sink → WorkState → Type 0
+HoldsSinks sinks work = (register : ℕ) (sink : Sink) → slice_get sinks register ≡ Some sink
+    → HoldsSink work register sink
+
+-- the work holds all the sinks and merges
+pub record IsMerged (sinks : List Sink) (merges : List Merge) (work : WorkState) : Type 0 where
+  pub count : work.sinks ≡ length sinks
+  pub of_sinks : HoldsSinks sinks work
+  pub of_merges : (place : ℕ) → place < length merges → HoldsMerge sinks merges work place
+
+-- the work holds those of the two nodes that this merge joins which are merges
+abbrev pub HoldsJoined : List Sink → List Merge → WorkState → (node : ℕ) → Type 0
+HoldsJoined sinks merges work node = (merge : Merge) (place : ℕ)
+    → slice_get merges (node - length sinks) ≡ Some merge → Joins merge (length sinks + place)
+    → HoldsMerge sinks merges work place
+
+-- nothing is settled
+abbrev pub IsUnsettled : WorkState → Type 0
+IsUnsettled work = All IsFalse work.settled
+
+-- the same work with nothing settled
+abbrev pub unsettled : WorkState → WorkState
+unsettled work = record work { settled = replicate (length work.settled) false }
+
+-- one more renewal is counted, up to the last number of 64 bits
+abbrev pub counted : ℕ → ℕ
+counted renewals = min (renewals + 1) (2 ^ 64 - 1)
+
+-- a sink's reach and region are set; all else stays
+pub record IsSinkSet (register : ℕ) (sink : Sink) (old new : WorkState) : Type 0 where
+  pub fit : IsFit new
+  pub region : Rect
+  pub point : IsPointOf region sink
+  pub rest : new ≡ record (unsettled old) {
+    tree = record old.tree { reach = slice_set old.tree.reach register sink.offset };
+    regions = slice_set old.regions register region;
+  }
+
+-- a merge is held anew, and counted; all else stays
+pub record IsRenewed (sinks : List Sink) (merges : List Merge) (place : ℕ)
+    (old new : WorkState) : Type 0 where
+  pub fit : IsFit new
+  pub held : HoldsMerge sinks merges new place
+  pub rest : new ≡ record (unsettled old) {
+    tree = record old.tree {
+      reach = slice_set old.tree.reach (length sinks + place) held.reach;
+    };
+    regions = slice_set old.regions (length sinks + place) held.region;
+    ends = slice_set old.ends place held.ends;
+    shows = slice_set old.shows place held.show;
+    renewals = counted old.renewals;
+  }
+
+-- a room in which nothing is made yet
+pub record IsFresh (places : ℕ) (work : WorkState) : Type 0 where
+  pub fit : IsFit work
+  pub room : work.room ≡ places
+  pub sinks : work.sinks ≡ 0
+  pub settled : IsUnsettled work
+  pub renewals : work.renewals ≡ 0
+
+-- a node stands there, and its edge has that length; all else stays
+pub record IsPlaced (node : ℕ) (at : Uv) (length : ℤ) (old new : WorkState) : Type 0 where
+  pub fit : IsFit new
+  pub point : Point
+  pub stands : turned point ≡ at
+  pub rest : new ≡ record old {
+    tree = record old.tree {
+      place = slice_set old.tree.place node point;
+      length = slice_set old.tree.length node length;
+    };
+    settled = slice_set old.settled node true;
+  }
+
+-- the source stands there, with that reach and show; all else stays
+pub record IsSourcePlaced (at : Uv) (reach : ℤ) (show : Show) (old new : WorkState) : Type 0 where
+  pub fit : IsFit new
+  pub point : Point
+  pub stands : turned point ≡ at
+  pub rest : new ≡ record old {
+    tree = record old.tree {
+      place = slice_set old.tree.place (source_of old.sinks) point;
+      reach = slice_set old.tree.reach (source_of old.sinks) reach;
+    };
+    shows = slice_set old.shows (old.sinks - 1) show;
+    settled = slice_set old.settled (source_of old.sinks) true;
+  }

@@ -1,0 +1,245 @@
+ghost use Rattle.std.specs.Prelude.{◌≡◌, ◌≤◌, ◌<◌, ◌+◌, ◌*◌, ◌-◌, ◌^◌, ◌⊎◌, ℕ, List, length, IfOk, IsSomeAnd, slice_get, Some};
+
+use crate::ends::Ends;
+use cts_base::{Listed, NoMemory};
+use cts_model::{Point, Show, Sink, Topology, Tree, Uv};
+use std::alloc::Global;
+use std::marker::Model;
+use tilted_rect::{Rect, to_point};
+
+/// The room in which trees are made and renewed.
+#[derive(Drop)]
+pub struct Work {
+    // How many sinks the last merge had, 0 before any.
+    sinks: usize,
+    tree: Tree,
+    // Of each node.
+    regions: Listed<Rect>,
+    // Of each merge.
+    ends: Listed<Ends>,
+    // Of each merge, and then the source's.
+    shows: Listed<Show>,
+    // Whether each node has its place.
+    settled: Vec<bool>,
+    renewals: u64,
+}
+
+impl Model for Work {
+    ghost use Rattle.std.specs.Prelude.{length};
+    ghost use Rattle.merge_up.specs.Works.{WorkState, IsFit};
+
+    ghost Value = { WorkState };
+
+    ghost use Rattle.merge_up.specs.Views.{state_of};
+
+    ghost view = { state_of };
+
+    ghost invariant = { λ work. IsFit (state_of work) };
+}
+
+impl Work {
+    ghost use Rattle.cts_model.specs.declared.place.Point.{Point};
+    ghost use Rattle.cts_model.specs.declared.tree.Merge.{Merge};
+    ghost use Rattle.cts_model.specs.Points.{IsUvBelow, IsUvMultipleOf, turned};
+    ghost use Rattle.cts_model.specs.Sinks.{AreTreeSinks, IsTreeSink};
+    ghost use Rattle.cts_model.specs.Topologies.{IsTopology, numbers_below};
+    ghost use Rattle.tilted_rect.specs.Rects.{Holds};
+    ghost use Rattle.merge_up.specs.Merging.{HoldsJoined, HoldsMerge, HoldsSinks, IsFresh, IsRenewed, IsSinkSet, IsPlaced, IsSourcePlaced, IsUnsettled};
+    ghost use Rattle.merge_up.specs.Sides.{AreEnds};
+    ghost use Rattle.merge_up.specs.Works.{IsFit, IsSettled};
+
+    /// Room for that many sinks. No later call takes memory.
+    pub fn with_room(alloc: Global, sinks: usize) -> Result<Work, NoMemory>
+        requires some { 1 ≤ sinks }
+        requires few { sinks ≤ 4097 }
+        ensures { IfOk result (IsFresh sinks) }
+    {
+        let tree = Tree {
+            reach: Listed::from_vec(vec![in alloc; 0i128; 2 * sinks]?),
+            place: Listed::from_vec(vec![in alloc; Point { x: 0, y: 0 }; 2 * sinks]?),
+            length: Listed::from_vec(vec![in alloc; 0i128; 2 * sinks - 1]?),
+        };
+        let origin = Uv { u: 0, v: 0 };
+        let sink = Sink {
+            at: origin,
+            offset: 0,
+        };
+        Ok(Work {
+            sinks: 0,
+            tree,
+            regions: Listed::from_vec(vec![in alloc; Rect::point(origin); 2 * sinks - 1]?),
+            ends: Listed::from_vec(vec![in alloc; Ends::of(0, sink); sinks - 1]?),
+            shows: Listed::from_vec(vec![in alloc; Show::Root; sinks]?),
+            settled: vec![in alloc; false; 2 * sinks]?,
+            renewals: 0,
+        })
+    }
+
+    /// The reach of a node; a sink's is its offset.
+    pub fn reach(&self, node: u32) -> i128
+        requires { node < 2 * self.now.sinks - 1 }
+        ensures value { slice_get self.now.tree.reach node ≡ Some result }
+        ensures fit { IsFit self.now }
+    {
+        self.tree.reach.as_slice()[node as usize]
+    }
+
+    /// Where a node may stand; a sink's is its place.
+    pub fn region(&self, node: u32) -> Rect
+        requires { node < 2 * self.now.sinks - 1 }
+        ensures value { slice_get self.now.regions node ≡ Some result }
+        ensures fit { IsFit self.now }
+    {
+        self.regions.as_slice()[node as usize]
+    }
+
+    /// Where a node stands by now.
+    pub fn place(&self, node: u32) -> Point
+        requires { node < 2 * self.now.sinks }
+        ensures value { slice_get self.now.tree.place node ≡ Some result }
+        ensures fit { IsFit self.now }
+    {
+        self.tree.place.as_slice()[node as usize]
+    }
+
+    /// How many merges were renewed; 2^64 - 1 for more.
+    pub fn renewals(&self) -> u64
+        ensures { result ≡ self.now.renewals }
+    {
+        self.renewals
+    }
+
+    /// Gives a node its place, and its edge a length. It takes no memory.
+    pub fn settle(&mut self, node: u32, at: Uv, length: i128)
+        requires node { node < 2 * self.old.sinks - 1 }
+        requires within { IsSomeAnd (slice_get self.old.regions node)
+            (λ region. Holds region 1 at) }
+        requires multiple { IsUvMultipleOf 4 at }
+        ensures { IsPlaced node at length self.old self.new }
+    {
+        let node = node as usize;
+        self.tree.place.set(node, to_point(at));
+        self.tree.length.set(node, length);
+        self.settled[node] = true;
+    }
+
+    /// Gives the source its place, its reach and what shows it. It takes no memory.
+    pub fn settle_source(&mut self, at: Uv, reach: i128, show: Show)
+        requires merged { 1 ≤ self.old.sinks }
+        requires below { IsUvBelow (10 ^ 31) at }
+        requires multiple { IsUvMultipleOf 8 at }
+        ensures { IsSourcePlaced at reach show self.old self.new }
+    {
+        let source = 2 * self.sinks - 1;
+        self.tree.place.set(source, to_point(at));
+        self.tree.reach.set(source, reach);
+        self.shows.set(self.sinks - 1, show);
+        self.settled[source] = true;
+    }
+
+    /// The tree.
+    pub fn tree(&self) -> &Tree
+        requires { IsSettled self.now }
+        ensures { result.now ≡ self.now.tree }
+    {
+        &self.tree
+    }
+
+    /// The tree, and the shows of its merges in order and then the source's. It takes no memory.
+    pub fn into_parts(self) -> (Tree, Listed<Show>)
+        requires { IsSettled self }
+        ensures { result ≡ (self.tree, self.shows) }
+    {
+        (self.tree, self.shows)
+    }
+
+    /// Sets a sink's reach and region. It takes no memory.
+    pub fn set_sink(&mut self, register: u32, sink: Sink)
+        requires register { register < self.old.sinks }
+        requires sink { IsTreeSink sink }
+        ensures { IsSinkSet register sink self.old self.new }
+    {
+        let register = register as usize;
+        self.tree.reach.set(register, sink.offset);
+        self.regions.set(register, Rect::point(sink.at));
+        self.settled.fill(false);
+    }
+
+    /// Makes a merge's reach, region and show anew from those of the two nodes that it joins. It
+    /// takes no memory.
+    pub fn renew(&mut self, sinks: &[Sink], topology: &Topology, node: u32)
+        requires sinks { AreTreeSinks sinks.now }
+        requires topology { IsTopology (length sinks.now) topology.now.merges }
+        requires count { self.old.sinks ≡ length sinks.now }
+        requires merge { length sinks.now ≤ node }
+        requires made { node < length sinks.now + length topology.now.merges }
+        requires joined { HoldsJoined sinks.now topology.now.merges self.old node }
+        ensures { IsRenewed sinks.now topology.now.merges (node - length sinks.now)
+            self.old self.new }
+    {
+        let place = node as usize - sinks.len();
+        let merge = topology.merges.as_slice()[place];
+        let ends = self
+            .ends(sinks, merge.first)
+            .joined(self.ends(sinks, merge.second));
+        let reach = ends.reach();
+        self.tree.reach.set(node as usize, reach);
+        self.regions.set(node as usize, ends.region(reach));
+        self.ends.set(place, ends);
+        self.shows.set(place, ends.show());
+        self.settled.fill(false);
+        self.renewals = self.renewals.saturating_add(1);
+    }
+
+    // The furthest sinks of a node.
+    fn ends(&self, sinks: &[Sink], node: u32) -> Ends
+        requires sinks { AreTreeSinks sinks.now }
+        requires count { self.now.sinks ≡ length sinks.now }
+        requires node { node < 2 * length sinks.now - 1 }
+        ensures { (merges : List Merge)
+            → ((place : ℕ) → node ≡ length sinks.now + place
+            → HoldsMerge sinks.now merges self.now place)
+            → AreEnds sinks.now (numbers_below (length sinks.now) merges node) result }
+    {
+        let node_place = node as usize;
+        if node_place < sinks.len() {
+            Ends::of(node, sinks[node_place])
+        } else {
+            self.ends.as_slice()[node_place - sinks.len()]
+        }
+    }
+
+    /// Leaves room for as many sinks as there are, and none of the tree of the last merge.
+    pub(crate) fn begin(&mut self, sinks: &[Sink])
+        requires sinks { AreTreeSinks sinks.now }
+        requires room { length sinks.now ≤ self.old.room }
+        ensures room { self.new.room ≡ length sinks.now }
+        ensures count { self.new.sinks ≡ length sinks.now }
+        ensures renewals { self.new.renewals ≡ self.old.renewals }
+        ensures fit { IsFit self.new }
+        ensures held { HoldsSinks sinks.now self.new }
+        ensures settled { IsUnsettled self.new }
+    {
+        self.shrink(sinks.len());
+        for register in 0..sinks.len() {
+            self.set_sink(register as u32, sinks[register]);
+        }
+    }
+
+    // Cuts each list to what that many sinks need.
+    fn shrink(&mut self, sinks: usize)
+        requires some { 1 ≤ sinks }
+        requires room { sinks ≤ self.old.room }
+        ensures room { self.new.room ≡ sinks }
+        ensures count { self.new.sinks ≡ sinks }
+        ensures renewals { self.new.renewals ≡ self.old.renewals }
+        ensures fit { IsFit self.new }
+    {
+        self.sinks = sinks;
+        self.tree.reach.truncate(2 * sinks);
+        self.tree.place.truncate(2 * sinks);
+        self.tree.length.truncate(2 * sinks - 1);
+        self.shows.truncate(sinks);
+        self.settled.truncate(2 * sinks);
+    }
+}
