@@ -1,0 +1,4 @@
+mod SourceLemmas
+mod RegionBounds
+mod Standing
+mod Placed

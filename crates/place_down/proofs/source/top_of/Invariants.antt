@@ -1,0 +1,6 @@
+use Rattle.std.proofs.Common.{take}
+use Rattle.place_down.specs.Sources.{IsTop}
+use Rattle.place_down.proofs.source.top_of.Given as goal
+
+abbrev pub invariant-loop-register : goal.invariant-loop-register
+invariant-loop-register l = IsTop l.sinks (take l.register l.sinks) l.fn.source l.root l.top

@@ -1,0 +1,3 @@
+pub mod Trees
+pub mod Sources
+pub mod Descents
