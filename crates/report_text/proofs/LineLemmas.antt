@@ -1,0 +1,93 @@
+-- A line's words, one after the other, and lines one after the other.
+use Rattle.std.proofs.Common.{ℕ, ◌≡◌, ◌+◌, ◌==◌, false, List, [], ◌∷◌, ◌++◌, map, length, pos, codes, refl, ap, sym, ◌∙◌, append-nil, append_assoc, true≢false, arith}
+use Rattle.std.specs.Fmt.{signed_decimal}
+use Rattle.std.specs.List.{join_with_byte, flat_map}
+use Rattle.std.proofs.lemmas.Grind.{flat_map-append}
+use Rattle.std.proofs.lemmas.List.FromFn.{map-range_with_len_more}
+use Rattle.cts_model.specs.declared.circuit.Circuit.{Circuit}
+use Rattle.cts_model.specs.PrintedLines.{Words, line_of, text_of}
+use Rattle.cts_model.specs.ReportLines.{lines_below, path_line, signal_name}
+use Rattle.report_text.specs.Pieces.{behind}
+
+-- each word after the first stands behind the byte
+pub join_with_byte-map : {X : Type 0} (read : X → List ℕ) (byte : ℕ) (word : List ℕ)
+    (others : List X) → join_with_byte byte (word ∷ map read others) ≡ word ++ flat_map
+    (λ other. byte ∷ read other) others
+join_with_byte-map read byte word [] = sym (append-nil word)
+join_with_byte-map read byte word (other ∷ others) =
+    ap (λ rest. word ++ byte ∷ rest) (join_with_byte-map read byte (read other) others)
+
+-- a line is its first word, those behind it, and a line feed
+pub line_of-behind : (word : List ℕ) (others : Words)
+    → line_of (word ∷ others) ≡ word ++ (behind others ++ 10 ∷ [])
+line_of-behind word [] = ap (λ bytes. bytes ++ 10 ∷ []) refl
+line_of-behind word (other ∷ others) =
+    append_assoc word (32 ∷ join_with_byte 32 (other ∷ others)) (10 ∷ [])
+    ∙ ap (λ rest. word ++ 32 ∷ rest) (line_of-behind other others
+    ∙ sym (append_assoc other (behind others) (10 ∷ [])))
+
+-- a text with one more line
+pub text_of-push : (lines : List Words) (line : Words)
+    → text_of (lines ++ line ∷ []) ≡ text_of lines ++ line_of line
+text_of-push lines line =
+    flat_map-append line_of lines (line ∷ []) ∙ ap (λ more. text_of lines ++ more)
+    (append-nil (line_of line))
+
+-- the text of the lines below a number, and the line of that number
+pub text_of-more : (line_at : ℕ → Words) (count : ℕ)
+    → text_of (lines_below line_at (count + 1)) ≡ text_of (lines_below line_at count)
+    ++ line_of (line_at count)
+text_of-more line_at count =
+    ap text_of (map-range_with_len_more line_at 0 count count (omega arith))
+    ∙ text_of-push (lines_below line_at count) (line_at count)
+
+-- where the lines below a number are written, the next line makes it those below the next number
+pub more_lines : (line_at : ℕ → Words) (count : ℕ) (before written now : List ℕ)
+    → written ≡ before ++ text_of (lines_below line_at count)
+    → now ≡ written ++ line_of (line_at count)
+    → now ≡ before ++ text_of (lines_below line_at (count + 1))
+more_lines line_at count before written now so_far next =
+    next ∙ ap (λ bytes. bytes ++ line_of (line_at count)) so_far
+    ∙ append_assoc before (text_of (lines_below line_at count)) (line_of (line_at count))
+    ∙ ap (λ bytes. before ++ bytes) (sym (text_of-more line_at count))
+
+-- words behind others, and more behind those
+pub behind_more : (before written now : List ℕ) (words others : Words)
+    → written ≡ before ++ behind words → now ≡ written ++ behind others
+    → now ≡ before ++ behind (words ++ others)
+behind_more before written now words others so_far next =
+    next ∙ ap (λ bytes. bytes ++ behind others) so_far
+    ∙ append_assoc before (behind words) (behind others)
+    ∙ ap (λ bytes. before ++ bytes) (sym (flat_map-append (λ word. 32 ∷ word) words others))
+
+-- a line of a first word and those behind it was appended
+pub whole_line : (before begun written now word : List ℕ) (others : Words)
+    → begun ≡ before ++ word → written ≡ begun ++ behind others → now ≡ written ++ 10 ∷ []
+    → now ≡ before ++ line_of (word ∷ others)
+whole_line before begun written now word others first more last =
+    last ∙ ap (λ bytes. bytes ++ 10 ∷ []) (more ∙ ap (λ bytes. bytes ++ behind others) first)
+    ∙ append_assoc (before ++ word) (behind others) (10 ∷ [])
+    ∙ append_assoc before word (behind others ++ 10 ∷ [])
+    ∙ ap (λ bytes. before ++ bytes) (sym (line_of-behind word others))
+
+-- lines behind others
+pub lines_more : (before written now : List ℕ) (lines others : List Words)
+    → written ≡ before ++ text_of lines → now ≡ written ++ text_of others
+    → now ≡ before ++ text_of (lines ++ others)
+lines_more before written now lines others so_far next =
+    next ∙ ap (λ bytes. bytes ++ text_of others) so_far
+    ∙ append_assoc before (text_of lines) (text_of others)
+    ∙ ap (λ bytes. before ++ bytes) (sym (flat_map-append line_of lines others))
+
+-- the text of one line
+pub one_line : (before now : List ℕ) (line : Words) → now ≡ before ++ line_of line
+    → now ≡ before ++ text_of (line ∷ [])
+one_line before now line written =
+    written ∙ ap (λ bytes. before ++ bytes) (sym (append-nil (line_of line)))
+
+-- a path that has signals is printed
+pub path_line-some : (circuit : Circuit) (path : List ℕ) → (length path == 0) ≡ false
+    → path_line circuit path ≡ codes "path" ∷ signed_decimal (pos (length path))
+    ∷ map (signal_name circuit) path
+path_line-some circuit [] none = absurd (true≢false none)
+path_line-some circuit (first ∷ more) some = refl

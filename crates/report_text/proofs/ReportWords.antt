@@ -1,0 +1,320 @@
+-- The lines of a report are lines: words with no space and no line feed.
+use Rattle.std.proofs.Common.{ℕ, pos, Bool, true, false, List, [], ◌∷◌, ◌++◌, map, take, length, codes, if◌then◌else◌, None, ◌+◌, slice_index_or, arith}
+use Rattle.std.specs.List.{AllByRecursion, flat_map, range_with_len}
+use Rattle.cts_model.specs.declared.circuit.Circuit.{Circuit}
+use Rattle.cts_model.specs.declared.constraint.Constraint.{Constraint}
+use Rattle.cts_model.specs.declared.period.PeriodShow.{PeriodShow}
+use Rattle.cts_model.specs.declared.period.PeriodShow.TheVariants.{Cycle, Floor}
+use Rattle.cts_model.specs.declared.place.Point.{Point}
+use Rattle.cts_model.specs.declared.report.Report.{Report}
+use Rattle.cts_model.specs.declared.report.Version.{Version}
+use Rattle.cts_model.specs.declared.report.Version.TheVariants.{First, Second}
+use Rattle.cts_model.specs.declared.schedule.Lead.{Lead}
+use Rattle.cts_model.specs.declared.schedule.Lead.TheVariants.{Zero, Tight}
+use Rattle.cts_model.specs.declared.tree.Show.{Show}
+use Rattle.cts_model.specs.declared.tree.Show.TheVariants.{Pair, Sink, Root}
+use Rattle.cts_model.specs.PrintedLines.{Words, count_line, period_line, constraint_line, line_for}
+use Rattle.cts_model.specs.ReportLines.{length_text, number_at, no_wire, origin, version_line, path_line, pathed_lines, period_show_lines, register_line_at, lead_line, show_words, merge_line_at, source_line, point_words, node_line_at, lines_below, timing_lines, tree_lines, report_lines, signal_name}
+use Rattle.cts_model.specs.Schedules.{arrival_of}
+use Rattle.cts_model.specs.Topologies.{source_of}
+use Rattle.report_text.proofs.OneLine.{IsWord, IsLine}
+use Rattle.report_text.proofs.WordBytes.{number_word, fraction_word, quotient_word, slack_word, signal_word, register_word}
+
+-- some words
+abbrev AreWords : Words → Type 0
+AreWords words = AllByRecursion IsWord words
+
+-- some lines
+abbrev pub AreLines : List Words → Type 0
+AreLines lines = AllByRecursion IsLine lines
+
+-- one list behind another
+appended : {X : Type 0} (P : X → Type 0) (xs ys : List X) → AllByRecursion P xs
+    → AllByRecursion P ys → AllByRecursion P (xs ++ ys)
+appended P [] ys each each' = each'
+appended P (x ∷ xs) ys each each' = (each.0, appended P xs ys each.1 each')
+
+-- what is so of each image
+mapped : {X Y : Type 0} (P : Y → Type 0) (f : X → Y) (xs : List X) → ((x : X) → P (f x))
+    → AllByRecursion P (map f xs)
+mapped P f [] each = tt
+mapped P f (x ∷ xs) each = (each x, mapped P f xs each)
+
+-- the line of a constraint
+constraint_is : (circuit : Circuit) (constraint : Constraint)
+    → IsLine (line_for circuit constraint)
+constraint_is circuit constraint = at constraint.setup
+  where
+    at : (setup : Bool) → IsLine (if setup
+        then constraint_line
+        (codes "setup") circuit constraint.tail constraint.head constraint.weight
+        else constraint_line
+        (codes "hold") circuit constraint.head constraint.tail constraint.weight)
+    at true = (
+      (omega arith, (omega arith, (omega arith, (omega arith, (omega arith, tt))))),
+      (
+        register_word circuit constraint.tail,
+        (register_word circuit constraint.head, (number_word constraint.weight, tt)),
+      ),
+    )
+    at false = (
+      (omega arith, (omega arith, (omega arith, (omega arith, tt)))),
+      (
+        register_word circuit constraint.head,
+        (register_word circuit constraint.tail, (number_word constraint.weight, tt)),
+      ),
+    )
+
+-- the words that are fixed
+word_of_path : IsWord (codes "path")
+word_of_path = (omega arith, (omega arith, (omega arith, (omega arith, tt))))
+
+word_of_lead : IsWord (codes "lead")
+word_of_lead = (omega arith, (omega arith, (omega arith, (omega arith, tt))))
+
+word_of_wire : IsWord (codes "wire")
+word_of_wire = (omega arith, (omega arith, (omega arith, (omega arith, tt))))
+
+word_of_cycle : IsWord (codes "cycle")
+word_of_cycle = (omega arith, (omega arith, (omega arith, (omega arith, (omega arith, tt)))))
+
+word_of_floor : IsWord (codes "floor")
+word_of_floor = (omega arith, (omega arith, (omega arith, (omega arith, (omega arith, tt)))))
+
+word_of_nodes : IsWord (codes "nodes")
+word_of_nodes = (omega arith, (omega arith, (omega arith, (omega arith, (omega arith, tt)))))
+
+word_of_merges : IsWord (codes "merges")
+word_of_merges =
+    (omega arith, (omega arith, (omega arith, (omega arith, (omega arith, (omega arith, tt))))))
+
+word_of_source : IsWord (codes "source")
+word_of_source =
+    (omega arith, (omega arith, (omega arith, (omega arith, (omega arith, (omega arith, tt))))))
+
+word_of_period : IsWord (codes "period")
+word_of_period =
+    (omega arith, (omega arith, (omega arith, (omega arith, (omega arith, (omega arith, tt))))))
+
+word_of_registers : IsWord (codes "registers")
+word_of_registers = (
+  omega arith,
+  (
+    omega arith,
+    (
+      omega arith,
+      (
+        omega arith,
+        (
+          omega arith,
+          (
+            omega arith,
+            (omega arith, (omega arith, (omega arith, tt))),
+          ),
+        ),
+      ),
+    ),
+  ),
+)
+
+-- the words of a line
+line_words : (words : Words) → IsLine words → AreWords words
+line_words [] is = absurd is
+line_words (word ∷ words) is = is
+
+-- the lines of a cycle's constraints and their paths
+path_is : (circuit : Circuit) (path : List ℕ) → IsLine (path_line circuit path)
+path_is circuit [] = (word_of_path, ((omega arith, tt), tt))
+path_is circuit (first ∷ more) = (
+  word_of_path,
+  (
+    number_word (pos (length (first ∷ more))),
+    mapped IsWord (signal_name circuit) (first ∷ more) (signal_word circuit),
+  ),
+)
+
+pathed_are : (circuit : Circuit) (cycle : List Constraint) (paths : List (List ℕ))
+    → AreLines (pathed_lines circuit cycle paths)
+pathed_are circuit [] paths = tt
+pathed_are circuit (constraint ∷ cycle) [] =
+    (constraint_is circuit constraint, (path_is circuit [], pathed_are circuit cycle []))
+pathed_are circuit (constraint ∷ cycle) (path ∷ paths) =
+    (constraint_is circuit constraint, (path_is circuit path, pathed_are circuit cycle paths))
+
+-- those of what shows a period
+shown_are : (version : Version) (circuit : Circuit) (shown : PeriodShow) (paths : List (List ℕ))
+    → AreLines (period_show_lines version circuit shown paths)
+shown_are First circuit (Cycle cycle) paths = (
+  (word_of_cycle, (number_word (pos (length cycle)), tt)),
+  mapped IsLine (line_for circuit) cycle (constraint_is circuit),
+)
+shown_are First circuit Floor paths = ((word_of_floor, tt), tt)
+shown_are Second circuit (Cycle cycle) paths = (
+  (word_of_cycle, (number_word (pos (length cycle)), tt)),
+  pathed_are circuit cycle paths,
+)
+shown_are Second circuit Floor paths = ((word_of_floor, tt), tt)
+
+-- that of a lead
+lead_is : (circuit : Circuit) (lead : Lead) → IsLine (lead_line circuit lead)
+lead_is circuit Zero = (word_of_lead, ((omega arith, tt), tt))
+lead_is circuit (Tight depth constraint) = (
+  word_of_lead,
+  (
+    number_word (pos depth),
+    line_words (line_for circuit constraint)
+        (constraint_is circuit constraint),
+  ),
+)
+
+-- that of a register
+register_is : (circuit : Circuit) (report : Report) (register : ℕ)
+    → IsLine (register_line_at circuit report register)
+register_is circuit report register =
+    let slack = slice_index_or report.slacks register (record { setup = None; hold = None }) in (
+      register_word circuit register,
+      (
+        quotient_word (arrival_of report.schedule.at register) report.schedule.den,
+        (slack_word slack.setup, (slack_word slack.hold, tt)),
+      ),
+    )
+
+-- the first line
+version_is : (version : Version) → IsLine (version_line version)
+version_is First = ((omega arith, (omega arith, (omega arith, tt))), ((omega arith, tt), tt))
+version_is Second = ((omega arith, (omega arith, (omega arith, tt))), ((omega arith, tt), tt))
+
+-- the line of a count
+count_is : (word : List ℕ) (count : ℕ) → IsWord word → IsLine (count_line word count)
+count_is word count is = (is, (number_word (pos count), tt))
+
+-- the lines of the timing
+timing_are : (circuit : Circuit) (report : Report) → AreLines (timing_lines circuit report)
+timing_are circuit report =
+    let shown = period_show_lines report.version circuit report.shown report.paths in
+    let front = version_line report.version ∷ period_line report.period ∷ shown in
+    let registers = lines_below (register_line_at circuit report) (length report.schedule.at) in
+    let count = count_line (codes "registers") (length report.schedule.at) in
+    let leads = map (lead_line circuit) report.leads in
+    let front_are : AreLines front = (
+      version_is report.version,
+      (
+        (
+          word_of_period,
+          (fraction_word report.period.num report.period.den, tt),
+        ),
+        shown_are report.version circuit report.shown report.paths,
+      ),
+    ) in
+    let registers_are : AreLines (count ∷ registers) = (
+      count_is (codes "registers") (length report.schedule.at)
+          word_of_registers,
+      mapped IsLine (register_line_at circuit report)
+          (range_with_len 0 (length report.schedule.at)) (register_is circuit report),
+    ) in
+    appended IsLine (front ++ count ∷ registers) leads
+    (appended IsLine front (count ∷ registers) front_are registers_are)
+    (mapped IsLine (lead_line circuit) report.leads (lead_is circuit))
+
+-- the words for what shows a reach
+show_are : (circuit : Circuit) (show : Show) → AreWords (show_words circuit show)
+show_are circuit (Pair first second) = (
+  (omega arith, (omega arith, (omega arith, (omega arith, tt)))),
+  (register_word circuit first, (register_word circuit second, tt)),
+)
+show_are circuit (Sink register) = (
+  (omega arith, (omega arith, (omega arith, (omega arith, tt)))),
+  (register_word circuit register, tt),
+)
+show_are circuit Root = ((omega arith, (omega arith, (omega arith, (omega arith, tt)))), tt)
+
+-- the line of a merge
+merge_is : (circuit : Circuit) (report : Report) (place : ℕ)
+    → IsLine (merge_line_at circuit report place)
+merge_is circuit report place =
+    let merge = slice_index_or report.topology.merges place (record { first = 0; second = 0 }) in (
+      number_word (pos (length report.schedule.at + place)),
+      (
+        number_word (pos merge.first),
+        (
+          number_word (pos merge.second),
+          (
+            quotient_word (number_at report.tree.reach (length report.schedule.at + place))
+                report.grid,
+            show_are circuit (slice_index_or report.shows place Root),
+          ),
+        ),
+      ),
+    )
+
+-- the line of the source
+source_is : (circuit : Circuit) (report : Report) → IsLine (source_line circuit report)
+source_is circuit report = (
+  word_of_source,
+  (
+    quotient_word (number_at report.tree.reach (source_of (length report.schedule.at)))
+        report.grid,
+    show_are circuit (slice_index_or report.shows (length report.topology.merges) Root),
+  ),
+)
+
+-- points
+points_are : (report : Report) (points : List Point)
+    → AreWords (flat_map (point_words report) points)
+points_are report [] = tt
+points_are report (point ∷ points) = (
+  quotient_word point.x report.grid,
+  (quotient_word point.y report.grid, points_are report points),
+)
+
+-- the line of a node
+node_is : (circuit : Circuit) (report : Report) (node : ℕ)
+    → IsLine (node_line_at circuit report node)
+node_is circuit report node =
+    let place = slice_index_or report.tree.place node origin in
+    let wire = slice_index_or report.wires node no_wire in (
+      number_word (pos node),
+      (
+        quotient_word place.x report.grid,
+        (
+          quotient_word place.y report.grid,
+          (
+            quotient_word (number_at report.tree.length node) report.grid,
+            (number_word (pos wire.used), points_are report (take wire.used wire.corners)),
+          ),
+        ),
+      ),
+    )
+
+-- the lines of the tree
+tree_are : (circuit : Circuit) (report : Report) → AreLines (tree_lines circuit report)
+tree_are circuit report =
+    let merges = length report.topology.merges in
+    let nodes = length report.tree.length in
+    let front = count_line (codes "merges") merges
+    ∷ lines_below (merge_line_at circuit report) merges in
+    let back = source_line circuit report ∷ count_line (codes "nodes") nodes
+    ∷ lines_below (node_line_at circuit report) nodes in
+    let front_are : AreLines front = (
+      count_is (codes "merges") merges word_of_merges,
+      mapped IsLine (merge_line_at circuit report) (range_with_len 0 merges)
+          (merge_is circuit report),
+    ) in
+    let back_are : AreLines back = (
+      source_is circuit report,
+      (
+        count_is (codes "nodes") nodes word_of_nodes,
+        mapped IsLine (node_line_at circuit report) (range_with_len 0 nodes)
+            (node_is circuit report),
+      ),
+    ) in
+    appended IsLine (front ++ back) ((codes "wire" ∷ length_text report report.total ∷ []) ∷ [])
+    (appended IsLine front back front_are back_are)
+    ((word_of_wire, (quotient_word report.total report.grid, tt)), tt)
+
+-- the lines of a report are lines
+pub report_lines_are : (circuit : Circuit) (report : Report)
+    → AreLines (report_lines circuit report)
+report_lines_are circuit report =
+    appended IsLine (timing_lines circuit report) (tree_lines circuit report)
+    (timing_are circuit report) (tree_are circuit report)

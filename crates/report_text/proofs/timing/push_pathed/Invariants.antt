@@ -1,0 +1,12 @@
+use Rattle.std.proofs.Common.{◌≡◌, ◌++◌, ◌∷◌, drop, length, codes}
+use Rattle.cts_model.specs.PrintedLines.{count_line, text_of}
+use Rattle.cts_model.specs.ReportLines.{pathed_lines}
+use Rattle.report_text.proofs.timing.push_pathed.Given as goal
+
+-- with the lines that are left, all is there
+abbrev pub invariant-loop-place : goal.invariant-loop-place
+invariant-loop-place l =
+    l.out.items
+    ++ text_of (pathed_lines l.circuit (drop l.place l.cycle) (drop l.place l.paths))
+    ≡ l.fn.out.items ++ text_of
+    (count_line (codes "cycle") (length l.cycle) ∷ pathed_lines l.circuit l.cycle l.paths)

@@ -1,0 +1,10 @@
+use Rattle.std.proofs.Common.{◌≡◌, ◌++◌}
+use Rattle.cts_model.specs.PrintedLines.{text_of}
+use Rattle.cts_model.specs.ReportLines.{lines_below, merge_line_at}
+use Rattle.report_text.proofs.tree.push_merges.Given as goal
+
+-- the merges so far
+abbrev pub invariant-loop-place : goal.invariant-loop-place
+invariant-loop-place l =
+    l.out.items
+    ≡ l.fn.out.items ++ text_of (lines_below (merge_line_at l.circuit l.report) l.place)

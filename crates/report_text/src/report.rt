@@ -1,0 +1,24 @@
+ghost use Rattle.std.specs.Prelude.{◌≡◌, IfOk};
+ghost use Rattle.cts_model.specs.declared.tech.Tech.{Tech};
+ghost use Rattle.cts_model.specs.PrintedLines.{text_of};
+ghost use Rattle.cts_model.specs.ReportBounds.{IsOfSize, IsWithinBounds};
+ghost use Rattle.cts_model.specs.ReportLines.{report_lines};
+
+use crate::timing::push_timing;
+use crate::tree::push_tree;
+use cts_base::NoMemory;
+use cts_model::{Circuit, Report};
+use std::alloc::Global;
+
+/// The text of a report over a circuit.
+pub fn write_report(alloc: Global, report: &Report, circuit: &Circuit) -> Result<Vec<u8>, NoMemory>
+    requires size { IsOfSize circuit.now report.now }
+    requires bounds { (tech : Tech) × IsWithinBounds tech report.now }
+    ensures spelled { IfOk result (λ text.
+        text.items ≡ text_of (report_lines circuit.now report.now)) }
+{
+    let mut out = Vec::new(alloc);
+    push_timing(&mut out, circuit, report)?;
+    push_tree(&mut out, circuit, report)?;
+    Ok(out)
+}

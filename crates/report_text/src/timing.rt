@@ -1,0 +1,241 @@
+//! Appending the lines of a report's timing: the period, the schedule, and what shows them.
+
+ghost use Rattle.std.specs.Prelude.{◌≡◌, ◌<◌, ◌≤ℤ◌, ◌^◌, ℤ, pos, ◌++◌, ◌∷◌, [], length, map, codes, All, OnOk};
+ghost use Rattle.cts_model.specs.declared.report.Version.TheVariants.{Second};
+ghost use Rattle.cts_base.specs.Fractions.{HasSizeBelow, quotient_text};
+ghost use Rattle.cts_model.specs.PrintedLines.{line_of, text_of, count_line, register_line, slack_text};
+ghost use Rattle.cts_model.specs.ReportBounds.{IsOfSize, HasTimingBounds, IsBetweenRegisters, ShowsPeriodAmong, LeadsAmong, cycle_length};
+ghost use Rattle.cts_model.specs.ReportLines.{version_line, path_line, pathed_lines, period_show_lines, register_line_at, lead_line, lines_below, timing_lines, signal_name};
+ghost use Rattle.cts_model.specs.Schedules.{arrival_of};
+ghost use Rattle.report_text.specs.Pieces.{behind};
+
+use crate::line::{push_count, push_line, push_line_for, push_number, push_word};
+use crate::period::{push_period, push_show};
+use cts_base::{Fraction, Listed, NoMemory, push_fraction, push_quotient};
+use cts_model::{Circuit, Constraint, Lead, PeriodShow, Report, Schedule, Slack, Version};
+
+/// Appends the lines from the first to the leads.
+pub fn push_timing(out: &mut Vec<u8>, circuit: &Circuit, report: &Report) -> Result<(), NoMemory>
+    requires size { IsOfSize circuit.now report.now }
+    requires bounds { HasTimingBounds report.now }
+    ensures { OnOk result (out.new.items
+        ≡ out.old.items ++ text_of (timing_lines circuit.now report.now)) }
+{
+    push_version(out, report.version)?;
+    push_period(out, report.period)?;
+    push_show_of(out, circuit, report)?;
+    push_count(out, b"registers", report.schedule.at.len())?;
+    push_registers(out, circuit, report)?;
+    push_leads(out, circuit, report.leads.as_slice())
+}
+
+// Appends the first line.
+fn push_version(out: &mut Vec<u8>, version: Version) -> Result<(), NoMemory>
+    ensures { OnOk result (out.new.items ≡ out.old.items ++ line_of (version_line version)) }
+{
+    match version {
+        Version::First => push_line(out, b"cts", &[b"1"]),
+        Version::Second => push_line(out, b"cts", &[b"2"]),
+    }
+}
+
+// Appends the lines of what shows the period, in the second version with paths.
+fn push_show_of(out: &mut Vec<u8>, circuit: &Circuit, report: &Report) -> Result<(), NoMemory>
+    requires size { IsOfSize circuit.now report.now }
+    ensures { OnOk result (out.new.items ≡ out.old.items ++ text_of
+        (period_show_lines report.now.version circuit.now report.now.shown report.now.paths)) }
+{
+    match report.version {
+        Version::First => push_show(out, circuit, &report.shown),
+        Version::Second => {
+            push_pathed_show(out, circuit, &report.shown, report.paths.as_slice())
+        }
+    }
+}
+
+// Appends the lines of what shows the period, with a path for each constraint.
+fn push_pathed_show(
+    out: &mut Vec<u8>,
+    circuit: &Circuit,
+    shown: &PeriodShow,
+    paths: &[Listed<u32>],
+) -> Result<(), NoMemory>
+    requires registers { ShowsPeriodAmong (length circuit.now.registers) shown.now }
+    requires signals { All (All (λ number. number < length circuit.now.signals)) paths.now }
+    requires paths { length paths.now ≡ cycle_length shown.now }
+    ensures { OnOk result (out.new.items ≡ out.old.items ++ text_of
+        (period_show_lines Second circuit.now shown.now paths.now)) }
+{
+    match shown {
+        PeriodShow::Cycle(cycle) => push_pathed(out, circuit, cycle.as_slice(), paths),
+        PeriodShow::Floor => push_line(out, b"floor", &[]),
+    }
+}
+
+// Appends the lines of a cycle with a path after each constraint.
+fn push_pathed(
+    out: &mut Vec<u8>,
+    circuit: &Circuit,
+    cycle: &[Constraint],
+    paths: &[Listed<u32>],
+) -> Result<(), NoMemory>
+    requires registers { All (IsBetweenRegisters (length circuit.now.registers)) cycle.now }
+    requires signals { All (All (λ number. number < length circuit.now.signals)) paths.now }
+    requires paths { length paths.now ≡ length cycle.now }
+    ensures { OnOk result (out.new.items ≡ out.old.items ++ text_of
+        (count_line (codes "cycle") (length cycle.now)
+        ∷ pathed_lines circuit.now cycle.now paths.now)) }
+{
+    push_count(out, b"cycle", cycle.len())?;
+    for place in 0..cycle.len() {
+        push_line_for(out, circuit, cycle[place])?;
+        push_path(out, circuit, paths[place].as_slice())?;
+    }
+    Ok(())
+}
+
+// Appends the line of a path: its signals, or that it isn't printed.
+fn push_path(out: &mut Vec<u8>, circuit: &Circuit, path: &[u32]) -> Result<(), NoMemory>
+    requires { All (λ number. number < length circuit.now.signals) path.now }
+    ensures { OnOk result (out.new.items
+        ≡ out.old.items ++ line_of (path_line circuit.now path.now)) }
+{
+    if path.is_empty() {
+        return push_line(out, b"path", &[b"-"]);
+    }
+    out.extend_from_slice(b"path")?;
+    push_number(out, path.len())?;
+    push_signals(out, circuit, path)?;
+    out.push(b'\n')?;
+    Ok(())
+}
+
+// Appends the names of signals behind other words.
+fn push_signals(out: &mut Vec<u8>, circuit: &Circuit, path: &[u32]) -> Result<(), NoMemory>
+    requires { All (λ number. number < length circuit.now.signals) path.now }
+    ensures { OnOk result (out.new.items
+        ≡ out.old.items ++ behind (map (signal_name circuit.now) path.now)) }
+{
+    for number in path {
+        push_word(out, signal_name(circuit, *number as usize))?;
+    }
+    Ok(())
+}
+
+// The bytes of a signal's name.
+fn signal_name(circuit: &Circuit, number: usize) -> &[u8]
+    requires { number < length circuit.now.signals }
+    ensures { result.now ≡ signal_name circuit.now number }
+{
+    circuit.signals.as_slice()[number].name.as_slice()
+}
+
+// Appends the line of each register.
+fn push_registers(out: &mut Vec<u8>, circuit: &Circuit, report: &Report) -> Result<(), NoMemory>
+    requires size { IsOfSize circuit.now report.now }
+    requires bounds { HasTimingBounds report.now }
+    ensures { OnOk result (out.new.items ≡ out.old.items ++ text_of
+        (lines_below (register_line_at circuit.now report.now) (length report.now.schedule.at))) }
+{
+    for register in 0..report.schedule.at.len() {
+        push_register_at(out, circuit, report, register)?;
+    }
+    Ok(())
+}
+
+// Appends the line of the register with that number.
+fn push_register_at(
+    out: &mut Vec<u8>,
+    circuit: &Circuit,
+    report: &Report,
+    register: usize,
+) -> Result<(), NoMemory>
+    requires within { register < length circuit.now.registers }
+    requires size { IsOfSize circuit.now report.now }
+    requires bounds { HasTimingBounds report.now }
+    ensures { OnOk result (out.new.items
+        ≡ out.old.items ++ line_of (register_line_at circuit.now report.now register)) }
+{
+    let slack = report.slacks.as_slice()[register];
+    push_register(out, circuit, &report.schedule, slack, register)
+}
+
+/// Appends the line of a register: its arrival and its slacks, in ticks.
+pub fn push_register(
+    out: &mut Vec<u8>,
+    circuit: &Circuit,
+    schedule: &Schedule,
+    slack: Slack,
+    register: usize,
+) -> Result<(), NoMemory>
+    requires within { register < length circuit.now.registers }
+    requires arrives { register < length schedule.now.at }
+    requires some_den { pos 1 ≤ℤ schedule.now.den }
+    requires small_den { HasSizeBelow (10 ^ 37) schedule.now.den }
+    requires small { HasSizeBelow (10 ^ 37) (arrival_of schedule.now.at register) }
+    ensures { OnOk result (out.new.items ≡ out.old.items ++ line_of (register_line circuit.now
+        schedule.now.den register (arrival_of schedule.now.at register) slack)) }
+{
+    out.extend_from_slice(circuit.register_name(register))?;
+    push_arrival(out, schedule, register)?;
+    push_slack(out, slack.setup)?;
+    push_slack(out, slack.hold)?;
+    out.push(b'\n')?;
+    Ok(())
+}
+
+// Appends an arrival in ticks behind other words.
+fn push_arrival(out: &mut Vec<u8>, schedule: &Schedule, register: usize) -> Result<(), NoMemory>
+    requires within { register < length schedule.now.at }
+    requires some_den { pos 1 ≤ℤ schedule.now.den }
+    requires small_den { HasSizeBelow (10 ^ 37) schedule.now.den }
+    requires small { HasSizeBelow (10 ^ 37) (arrival_of schedule.now.at register) }
+    ensures { OnOk result (out.new.items ≡ out.old.items ++ behind
+        (quotient_text (arrival_of schedule.now.at register) schedule.now.den ∷ [])) }
+{
+    out.push(b' ')?;
+    push_quotient(out, schedule.at.as_slice()[register], schedule.den)?;
+    Ok(())
+}
+
+// Appends a slack in ticks behind other words.
+fn push_slack(out: &mut Vec<u8>, slack: Option<Fraction>) -> Result<(), NoMemory>
+    ensures { OnOk result (out.new.items ≡ out.old.items ++ behind (slack_text slack ∷ [])) }
+{
+    match slack {
+        None => push_word(out, b"-"),
+        Some(slack) => {
+            out.push(b' ')?;
+            push_fraction(out, slack)?;
+            Ok(())
+        }
+    }
+}
+
+// Appends the line of each lead.
+fn push_leads(out: &mut Vec<u8>, circuit: &Circuit, leads: &[Lead]) -> Result<(), NoMemory>
+    requires { All (LeadsAmong (length circuit.now.registers)) leads.now }
+    ensures { OnOk result (out.new.items
+        ≡ out.old.items ++ text_of (map (lead_line circuit.now) leads.now)) }
+{
+    for lead in leads {
+        push_lead(out, circuit, *lead)?;
+    }
+    Ok(())
+}
+
+// Appends the line of a lead.
+fn push_lead(out: &mut Vec<u8>, circuit: &Circuit, lead: Lead) -> Result<(), NoMemory>
+    requires { LeadsAmong (length circuit.now.registers) lead }
+    ensures { OnOk result (out.new.items ≡ out.old.items ++ line_of (lead_line circuit.now lead)) }
+{
+    match lead {
+        Lead::Zero => push_line(out, b"lead", &[b"0"]),
+        Lead::Tight { depth, constraint } => {
+            out.extend_from_slice(b"lead")?;
+            push_number(out, depth as usize)?;
+            out.push(b' ')?;
+            push_line_for(out, circuit, constraint)
+        }
+    }
+}

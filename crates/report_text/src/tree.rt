@@ -1,0 +1,249 @@
+//! Appending the lines of a report's tree: its merges, its nodes, and what shows their reaches.
+
+ghost use Rattle.std.specs.Prelude.{◌≡◌, ◌<◌, ◌^◌, ◌++◌, ◌∷◌, [], length, All, OnOk, slice_index_or, codes};
+ghost use Rattle.cts_model.specs.declared.tree.Show.TheVariants.{Root};
+ghost use Rattle.std.specs.List.{flat_map};
+ghost use Rattle.cts_model.specs.Points.{IsBelow, IsPointBelow};
+ghost use Rattle.cts_model.specs.PrintedLines.{line_of, text_of};
+ghost use Rattle.cts_model.specs.ReportBounds.{IsOfSize, IsSmallWire, ShowsAmong};
+ghost use Rattle.cts_model.specs.ReportLines.{length_text, lines_below, merge_line_at, merge_words, no_wire, node_line_at, number_at, point_words, show_words, source_line, tree_lines, wire_words};
+ghost use Rattle.report_text.specs.Pieces.{behind, HasSmallLengths};
+
+use crate::line::{push_count, push_node, push_number, push_word};
+use cts_base::{NoMemory, push_quotient};
+use cts_model::{Circuit, Merge, Point, Report, Show, Wire};
+
+/// Appends the lines from the merges to the last.
+pub fn push_tree(out: &mut Vec<u8>, circuit: &Circuit, report: &Report) -> Result<(), NoMemory>
+    requires size { IsOfSize circuit.now report.now }
+    requires small { HasSmallLengths report.now }
+    ensures { OnOk result (out.new.items
+        ≡ out.old.items ++ text_of (tree_lines circuit.now report.now)) }
+{
+    push_count(out, b"merges", report.topology.merges.len())?;
+    push_merges(out, circuit, report)?;
+    push_source(out, circuit, report)?;
+    push_count(out, b"nodes", report.tree.length.len())?;
+    push_nodes(out, circuit, report)?;
+    push_total(out, report)?;
+    Ok(())
+}
+
+// Appends the line of each merge.
+fn push_merges(out: &mut Vec<u8>, circuit: &Circuit, report: &Report) -> Result<(), NoMemory>
+    requires size { IsOfSize circuit.now report.now }
+    requires small { HasSmallLengths report.now }
+    ensures { OnOk result (out.new.items ≡ out.old.items ++ text_of (lines_below
+        (merge_line_at circuit.now report.now) (length report.now.topology.merges))) }
+{
+    for place in 0..report.topology.merges.len() {
+        push_merge(out, circuit, report, place)?;
+    }
+    Ok(())
+}
+
+// Appends the line of a merge: what it joins, its reach and what shows it.
+fn push_merge(
+    out: &mut Vec<u8>,
+    circuit: &Circuit,
+    report: &Report,
+    place: usize,
+) -> Result<(), NoMemory>
+    requires within { place < length report.now.topology.merges }
+    requires size { IsOfSize circuit.now report.now }
+    requires small { HasSmallLengths report.now }
+    ensures { OnOk result (out.new.items
+        ≡ out.old.items ++ line_of (merge_line_at circuit.now report.now place)) }
+{
+    let node = report.schedule.at.len() + place;
+    let merge = report.topology.merges.as_slice()[place];
+    push_merge_line(out, circuit, report, node, merge, show_at(report, place))
+}
+
+// Appends the line of a merge that makes a node and is shown so.
+fn push_merge_line(
+    out: &mut Vec<u8>,
+    circuit: &Circuit,
+    report: &Report,
+    node: usize,
+    merge: Merge,
+    show: Show,
+) -> Result<(), NoMemory>
+    requires within { node < length report.now.tree.reach }
+    requires show { ShowsAmong (length circuit.now.registers) show }
+    requires small { HasSmallLengths report.now }
+    ensures { OnOk result (out.new.items
+        ≡ out.old.items ++ line_of (merge_words circuit.now report.now node merge show)) }
+{
+    push_node(out, node)?;
+    push_number(out, merge.first as usize)?;
+    push_number(out, merge.second as usize)?;
+    push_reach(out, report, node)?;
+    push_shown(out, circuit, show)?;
+    out.push(b'\n')?;
+    Ok(())
+}
+
+// Appends the line of the source: its reach and what shows it.
+fn push_source(out: &mut Vec<u8>, circuit: &Circuit, report: &Report) -> Result<(), NoMemory>
+    requires size { IsOfSize circuit.now report.now }
+    requires small { HasSmallLengths report.now }
+    ensures { OnOk result (out.new.items
+        ≡ out.old.items ++ line_of (source_line circuit.now report.now)) }
+{
+    out.extend_from_slice(b"source")?;
+    push_reach(out, report, 2 * report.schedule.at.len() - 1)?;
+    push_shown(out, circuit, show_at(report, report.topology.merges.len()))?;
+    out.push(b'\n')?;
+    Ok(())
+}
+
+// Appends the reach of a node.
+fn push_reach(out: &mut Vec<u8>, report: &Report, node: usize) -> Result<(), NoMemory>
+    requires within { node < length report.now.tree.reach }
+    requires small { HasSmallLengths report.now }
+    ensures { OnOk result (out.new.items ≡ out.old.items
+        ++ behind (length_text report.now (number_at report.now.tree.reach node) ∷ [])) }
+{
+    push_length(out, report, report.tree.reach.as_slice()[node])
+}
+
+// What shows the reach of a merge, or behind all of them that of the source.
+fn show_at(report: &Report, place: usize) -> Show
+    requires { place < length report.now.shows }
+    ensures { result ≡ slice_index_or report.now.shows place Root }
+{
+    report.shows.as_slice()[place]
+}
+
+// Appends what shows a reach.
+fn push_shown(out: &mut Vec<u8>, circuit: &Circuit, show: Show) -> Result<(), NoMemory>
+    requires show { ShowsAmong (length circuit.now.registers) show }
+    ensures { OnOk result (out.new.items
+        ≡ out.old.items ++ behind (show_words circuit.now show)) }
+{
+    match show {
+        Show::Pair(first, second) => {
+            push_word(out, b"pair")?;
+            push_word(out, circuit.register_name(first as usize))?;
+            push_word(out, circuit.register_name(second as usize))
+        }
+        Show::Sink(register) => {
+            push_word(out, b"sink")?;
+            push_word(out, circuit.register_name(register as usize))
+        }
+        Show::Root => push_word(out, b"root"),
+    }
+}
+
+// Appends the line of each node but the source.
+fn push_nodes(out: &mut Vec<u8>, circuit: &Circuit, report: &Report) -> Result<(), NoMemory>
+    requires size { IsOfSize circuit.now report.now }
+    requires small { HasSmallLengths report.now }
+    ensures { OnOk result (out.new.items ≡ out.old.items ++ text_of
+        (lines_below (node_line_at circuit.now report.now) (length report.now.tree.length))) }
+{
+    for node in 0..report.tree.length.len() {
+        push_node_line(out, circuit, report, node)?;
+    }
+    Ok(())
+}
+
+// Appends the line of a node: its place, the length of its edge and the drawn wire.
+fn push_node_line(
+    out: &mut Vec<u8>,
+    circuit: &Circuit,
+    report: &Report,
+    node: usize,
+) -> Result<(), NoMemory>
+    requires within { node < length report.now.tree.length }
+    requires size { IsOfSize circuit.now report.now }
+    requires small { HasSmallLengths report.now }
+    ensures { OnOk result (out.new.items
+        ≡ out.old.items ++ line_of (node_line_at circuit.now report.now node)) }
+{
+    push_node(out, node)?;
+    push_point(out, report, report.tree.place.as_slice()[node])?;
+    push_edge(out, report, node)?;
+    push_wire(out, report, wire_at(report, node))?;
+    out.push(b'\n')?;
+    Ok(())
+}
+
+// Appends the length of a node's edge.
+fn push_edge(out: &mut Vec<u8>, report: &Report, node: usize) -> Result<(), NoMemory>
+    requires within { node < length report.now.tree.length }
+    requires small { HasSmallLengths report.now }
+    ensures { OnOk result (out.new.items ≡ out.old.items
+        ++ behind (length_text report.now (number_at report.now.tree.length node) ∷ [])) }
+{
+    push_length(out, report, report.tree.length.as_slice()[node])
+}
+
+// The drawn wire of a node's edge.
+fn wire_at(report: &Report, node: usize) -> Wire
+    requires within { node < length report.now.wires }
+    requires wires { All IsSmallWire report.now.wires }
+    ensures value { result ≡ slice_index_or report.now.wires node no_wire }
+    ensures small { IsSmallWire result }
+{
+    report.wires.as_slice()[node]
+}
+
+// Appends a drawn wire: how many points it has, and the points.
+fn push_wire(out: &mut Vec<u8>, report: &Report, wire: Wire) -> Result<(), NoMemory>
+    requires wire { IsSmallWire wire }
+    requires small { HasSmallLengths report.now }
+    ensures { OnOk result (out.new.items ≡ out.old.items ++ behind (wire_words report.now wire)) }
+{
+    push_number(out, wire.used as usize)?;
+    push_points(out, report, wire.corners.split_at(wire.used as usize).0)
+}
+
+// Appends points.
+fn push_points(out: &mut Vec<u8>, report: &Report, points: &[Point]) -> Result<(), NoMemory>
+    requires points { All (IsPointBelow (10 ^ 32)) points.now }
+    requires small { HasSmallLengths report.now }
+    ensures { OnOk result (out.new.items
+        ≡ out.old.items ++ behind (flat_map (point_words report.now) points.now)) }
+{
+    for point in points {
+        push_point(out, report, *point)?;
+    }
+    Ok(())
+}
+
+// Appends the two coordinates of a point.
+fn push_point(out: &mut Vec<u8>, report: &Report, point: Point) -> Result<(), NoMemory>
+    requires point { IsPointBelow (10 ^ 32) point }
+    requires small { HasSmallLengths report.now }
+    ensures { OnOk result (out.new.items
+        ≡ out.old.items ++ behind (point_words report.now point)) }
+{
+    push_length(out, report, point.x)?;
+    push_length(out, report, point.y)
+}
+
+// Appends the last line, the length of all edges.
+fn push_total(out: &mut Vec<u8>, report: &Report) -> Result<(), NoMemory>
+    requires small { HasSmallLengths report.now }
+    ensures { OnOk result (out.new.items ≡ out.old.items
+        ++ line_of (codes "wire" ∷ length_text report.now report.now.total ∷ [])) }
+{
+    out.extend_from_slice(b"wire")?;
+    push_length(out, report, report.total)?;
+    out.push(b'\n')?;
+    Ok(())
+}
+
+// Appends a length, given in grid steps, in length units.
+fn push_length(out: &mut Vec<u8>, report: &Report, steps: i128) -> Result<(), NoMemory>
+    requires steps { IsBelow (10 ^ 36) steps }
+    requires small { HasSmallLengths report.now }
+    ensures { OnOk result (out.new.items
+        ≡ out.old.items ++ behind (length_text report.now steps ∷ [])) }
+{
+    out.push(b' ')?;
+    push_quotient(out, steps, report.grid)?;
+    Ok(())
+}
