@@ -1,2 +1,13 @@
 mod PlaceLemmas
 mod OutcomeLemmas
+mod CyclePathLemmas
+mod GridLemmas
+mod WireLemmas
+mod DrawLemmas
+mod DelayLemmas
+mod CycleLengths
+mod ArrivalLemmas
+mod TimingBounds
+mod TreeBounds
+mod SinkLemmas
+mod ReportLemmas

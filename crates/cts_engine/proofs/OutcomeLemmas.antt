@@ -12,6 +12,8 @@ use Rattle.cts_model.specs.EqualArrivals.{IsZeroSkew}
 use Rattle.cts_model.specs.Timing.{IsLeastPeriod}
 use Rattle.cts_model.specs.Constraints.{IsConstraintOf}
 use Rattle.cts_model.specs.Cycles.{IsLeastPeriodOf}
+use Rattle.cts_model.specs.Schedules.{arrival_of, AreLeastArrivals}
+use Rattle.schedule.specs.Schedules.{IsLeastScheduleOf}
 use Rattle.cts_model.specs.LeastPeriods.{IsFloorPeriod, IsForbidding, HasNoPeriod}
 use Rattle.cts_model.proofs.CircuitConstraints.{forbidding_at_all}
 use Rattle.cts_engine.specs.declared.period.PeriodOutcome.{PeriodOutcome}
@@ -43,6 +45,17 @@ module _ {circuit : Circuit} {tech : Tech} {constraints : List Constraint}
     least = λ scale period proper smaller (floor, (arrival, met)).
         is_least.least scale period proper smaller
         (floor, (arrival, (are.meets scale period arrival).1 met));
+  }
+
+  -- so are their least arrivals
+  pub least_arrivals : (numerator : ℤ) (denominator : ℕ) (at : List ℤ)
+      → IsLeastScheduleOf constraints numerator denominator at
+      → AreLeastArrivals circuit tech numerator denominator at
+  least_arrivals numerator denominator at is_least = record {
+    meets = (are.meets denominator numerator (arrival_of at)).0 is_least.satisfies;
+    from_zero = is_least.from_zero;
+    least = λ times other some from met.
+        is_least.least times other some from ((are.meets _ _ other).1 met);
   }
 
   -- what a cycle of the constraints shows is found

@@ -1,2 +1,9 @@
 pub mod Faults
 pub mod Outcomes
+pub mod ScheduleOutcomes
+pub mod Syntheses
+pub mod SynthesisOutcomes
+pub mod CyclePaths
+pub mod TreeParts
+pub mod ClockTrees
+pub mod RegisterTimes

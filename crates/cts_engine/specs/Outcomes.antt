@@ -1,19 +1,24 @@
 -- The outcome of a circuit: its least period and what shows it, or what forbids every period.
 -- Fishburn, "Clock Skew Optimization", 1990.
-use Rattle.std.specs.Prelude.{◌↔◌, ℕ, ℤ, List, All}
+use Rattle.std.specs.Prelude.{◌↔◌, ℕ, ℤ, List, All, length}
 use Rattle.cts_base.specs.declared.fraction.Fraction.{Fraction}
 use Rattle.cts_model.specs.declared.circuit.Circuit.{Circuit}
 use Rattle.cts_model.specs.declared.tech.Tech.{Tech}
+use Rattle.cts_model.specs.declared.timing.PairDelay.{PairDelay}
 use Rattle.cts_model.specs.declared.timing.ZeroSkew.{ZeroSkew}
 use Rattle.cts_model.specs.declared.constraint.Constraint.{Constraint}
 use Rattle.cts_model.specs.declared.period.PeriodShow.{PeriodShow}
 use Rattle.cts_model.specs.declared.period.PeriodShow.TheVariants.{Cycle, Floor}
 use Rattle.cts_model.specs.EqualArrivals.{IsZeroSkew}
 use Rattle.cts_model.specs.PairLists.{HasSmallDelays}
+use Rattle.cts_model.specs.Paths.{IsPath}
 use Rattle.cts_model.specs.Timing.{Meets}
-use Rattle.cts_model.specs.Constraints.{IsConstraintOf, Satisfies}
+use Rattle.cts_model.specs.Constraints.{AreSmallConstraints, IsConstraintOf, Satisfies}
+use Rattle.cts_model.specs.Schedules.{IsSmallPeriod}
 use Rattle.cts_model.specs.LeastPeriods.{IsLeastFraction, IsPeriodShow, IsForbidding}
 use Rattle.critical_cycle.specs.CyclePlaces.{IsFromLowest}
+use Rattle.path_delays.specs.JoinedPairs.{IsDelayBetween}
+use Rattle.cts_engine.specs.declared.period.Timing.{Timing}
 use Rattle.cts_engine.specs.declared.period.PeriodOutcome.{PeriodOutcome}
 use Rattle.cts_engine.specs.declared.period.PeriodOutcome.TheVariants.{Found, Never}
 
@@ -39,6 +44,11 @@ abbrev pub HasSmallZero : PeriodOutcome → Type 0
 HasSmallZero (Found zero period shown) = HasSmallDelays zero
 HasSmallZero (Never cycle) = Unit {0}
 
+-- the least period, if there is one, is small
+abbrev pub HasSmallPeriod : PeriodOutcome → Type 0
+HasSmallPeriod (Found zero period shown) = IsSmallPeriod period
+HasSmallPeriod (Never cycle) = Unit {0}
+
 -- the cycle that is shown, if any, begins at its lowest register
 abbrev pub BeginsLowest : PeriodOutcome → Type 0
 BeginsLowest (Found zero period (Cycle cycle)) = IsFromLowest cycle
@@ -51,3 +61,18 @@ pub record AreConstraintsOf (circuit : Circuit) (tech : Tech)
   pub each : All (IsConstraintOf circuit tech) constraints
   pub meets : (scale : ℕ) (period : ℤ) (arrival : ℕ → ℤ)
       → Satisfies constraints scale period arrival ↔ Meets circuit tech scale period arrival
+
+-- the delays over all paths of each pair of registers that a path joins are small
+abbrev pub HasSmallPairs : Circuit → Tech → Type 0
+HasSmallPairs circuit tech = (from to : ℕ) (path : List ℕ) → IsPath circuit from to path
+    → (pair : PairDelay) × IsDelayBetween circuit tech from to pair
+
+-- the constraints of the circuit, and its outcome
+pub record IsTiming (circuit : Circuit) (tech : Tech) (timing : Timing) : Type 0 where
+  pub constraints : AreConstraintsOf circuit tech timing.constraints
+  pub small : AreSmallConstraints (length circuit.registers) timing.constraints
+  pub delays : HasSmallPairs circuit tech
+  pub outcome : IsPeriodOutcome circuit tech timing.outcome
+  pub lowest : BeginsLowest timing.outcome
+  pub zero : HasSmallZero timing.outcome
+  pub period : HasSmallPeriod timing.outcome

@@ -1,11 +1,20 @@
 //! From a circuit and its delays to what the program answers: each step of the timing in its order.
 #![tactic(auto)]
 
+mod clock_tree;
+mod cycle_paths;
 mod fault;
 mod pairs;
 mod period;
+mod scheduling;
+mod sinks;
+mod synthesis;
+mod times;
+mod wires;
 mod zero;
 
 pub use fault::SynthFault;
 pub use period::{PeriodOutcome, period_of};
+pub use scheduling::{ScheduleOutcome, schedule_of};
+pub use synthesis::{Outcome, synthesize};
 pub use zero::zero_of;

@@ -5,16 +5,18 @@ ghost use Rattle.cts_model.specs.LeastPeriods.{HasNoPeriod};
 ghost use Rattle.cts_model.specs.PairLists.{HasSmallDelays, JoinsMoreThan};
 ghost use Rattle.cts_model.specs.Paths.{IsLoop};
 ghost use Rattle.critical_cycle.specs.CyclePlaces.{AreWithin, constraints_at};
-ghost use Rattle.critical_cycle.specs.Periods.{IsPeriodOf};
+ghost use Rattle.critical_cycle.specs.Periods.{HasSmallValue, IsPeriodOf};
+ghost use Rattle.path_delays.specs.LevelParts.{IsLevelsOf};
 ghost use Rattle.cts_engine.specs.Faults.{IsCaused};
-ghost use Rattle.cts_engine.specs.Outcomes.{AreConstraintsOf, BeginsLowest, HasSmallZero, IsNever, IsPeriodOutcome};
+ghost use Rattle.cts_engine.specs.Outcomes.{AreConstraintsOf, BeginsLowest, HasSmallPeriod, HasSmallZero, IsNever, IsPeriodOutcome, IsTiming};
 
 use crate::SynthFault;
-use crate::pairs::pairs_of;
+use crate::pairs::{levels_of, pairs_of};
 use constraints::constraints_of;
 use critical_cycle::{Period, least_period};
 use cts_base::{Fraction, Listed, NoMemory};
 use cts_model::{Circuit, Constraint, PeriodShow, Tech, ZeroSkew};
+use path_delays::Levels;
 use std::alloc::Global;
 use timing_report::zero_skew;
 
@@ -45,11 +47,38 @@ pub fn period_of(alloc: Global, circuit: &Circuit, tech: &Tech) -> Result<Period
     ensures few { IfOk result (λ _. JoinsMoreThan circuit.now 1048576 → ⊥) }
     ensures many { IfErr result (IsCaused circuit.now) }
 {
-    let pairs = pairs_of(alloc, circuit, tech)?;
+    let levels = levels_of(alloc, circuit)?;
+    Ok(timing_of(alloc, circuit, &levels, tech)?.outcome)
+}
+
+/// The constraints of a circuit, and what comes of its least period.
+#[derive(Drop)]
+pub(crate) struct Timing {
+    pub(crate) constraints: Listed<Constraint>,
+    pub(crate) outcome: PeriodOutcome,
+}
+
+/// The same of a circuit whose gates are in order.
+pub(crate) fn timing_of(
+    alloc: Global,
+    circuit: &Circuit,
+    levels: &Levels,
+    tech: &Tech,
+) -> Result<Timing, SynthFault>
+    requires { IsLevelsOf circuit.now levels.now }
+    ensures ok { IfOk result (IsTiming circuit.now tech.now) }
+    ensures few { IfOk result (λ _. JoinsMoreThan circuit.now 1048576 → ⊥) }
+    ensures many { IfErr result (IsCaused circuit.now) }
+{
+    let pairs = pairs_of(alloc, circuit, levels, tech)?;
     let zero = zero_skew(&pairs, tech);
     let constraints = constraints_of(alloc, &pairs, tech)?;
     let period = least_period(alloc, circuit.registers.len(), &constraints, tech.floor)?;
-    Ok(outcome(alloc, &constraints, tech, zero, period)?)
+    let outcome = outcome(alloc, &constraints, tech, zero, period)?;
+    Ok(Timing {
+        constraints,
+        outcome,
+    })
 }
 
 // The outcome of a circuit with these constraints, of which this is the least period.
@@ -62,11 +91,13 @@ fn outcome(
 ) -> Result<PeriodOutcome, NoMemory>
     requires period { IsPeriodOf constraints.now tech.now.floor period }
     requires small { HasSmallDelays zero }
+    requires value { HasSmallValue period }
     ensures ok { IfOk result (λ outcome. (circuit : Circuit) → IsZeroSkew circuit tech.now zero
         → AreConstraintsOf circuit tech.now constraints.now
         → IsPeriodOutcome circuit tech.now outcome) }
     ensures lowest { IfOk result BeginsLowest }
     ensures small { IfOk result HasSmallZero }
+    ensures period { IfOk result HasSmallPeriod }
 {
     match period {
         Period::Cycle { value, cycle } => Ok(PeriodOutcome::Found {

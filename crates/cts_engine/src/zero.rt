@@ -5,7 +5,7 @@ ghost use Rattle.cts_model.specs.Paths.{IsLoop};
 ghost use Rattle.cts_engine.specs.Faults.{IsCaused};
 
 use crate::SynthFault;
-use crate::pairs::pairs_of;
+use crate::pairs::{levels_of, pairs_of};
 use cts_model::{Circuit, Tech, ZeroSkew};
 use std::alloc::Global;
 use timing_report::zero_skew;
@@ -18,6 +18,7 @@ pub fn zero_of(alloc: Global, circuit: &Circuit, tech: &Tech) -> Result<ZeroSkew
     ensures few { IfOk result (λ _. JoinsMoreThan circuit.now 1048576 → ⊥) }
     ensures many { IfErr result (IsCaused circuit.now) }
 {
-    let pairs = pairs_of(alloc, circuit, tech)?;
+    let levels = levels_of(alloc, circuit)?;
+    let pairs = pairs_of(alloc, circuit, &levels, tech)?;
     Ok(zero_skew(&pairs, tech))
 }

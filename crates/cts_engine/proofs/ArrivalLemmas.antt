@@ -1,0 +1,89 @@
+-- How late the arrivals of a least schedule are, and its leads.
+use Rattle.std.proofs.Common.{◌⊎◌, ◌<◌, ◌≤◌, ◌-◌, ◌*◌, ℕ, ℤ, pos, ◌≤ℤ◌, List, length, get_or, Contains, inl, inr, arith}
+use Rattle.std.specs.Prelude.{nat_abs}
+use Rattle.std.specs.List.{All}
+use Rattle.std.proofs.lemmas.Bool.{cases_lt}
+use Rattle.std.proofs.lemmas.Int.{ints}
+use Rattle.std.proofs.lemmas.List.{get_or_past}
+use Rattle.std.proofs.lemmas.List.Elements.{All-contains}
+use Rattle.std.proofs.lemmas.Nat.{mul-le}
+use Rattle.cts_base.specs.declared.fraction.Fraction.{Fraction}
+use Rattle.cts_model.specs.declared.circuit.Circuit.{Circuit}
+use Rattle.cts_model.specs.declared.constraint.Constraint.{Constraint}
+use Rattle.cts_model.specs.declared.schedule.Lead.{Lead}
+use Rattle.cts_model.specs.declared.schedule.Lead.TheVariants.{Zero, Tight}
+use Rattle.cts_model.specs.declared.tech.Tech.{Tech}
+use Rattle.cts_model.specs.Constraints.{IsConstraintOf}
+use Rattle.cts_model.specs.Leads.{EachLead, IsLead, lead_at}
+use Rattle.cts_model.specs.LeastPeriods.{IsLeastFraction}
+use Rattle.cts_model.specs.Schedules.{AreFromZero, IsSmallPeriod, arrival_of}
+use Rattle.cts_model.specs.Tables.{IsWithin}
+use Rattle.schedule.specs.Schedules.{AreWithinWeights, IsAdmittedBy}
+use Rattle.cts_engine.specs.Outcomes.{AreConstraintsOf, HasSmallPairs}
+use Rattle.cts_engine.specs.RegisterTimes.{AreTreeArrivals}
+use Rattle.cts_engine.proofs.DelayLemmas.{weight_small}
+
+-- so many weights over a denominator
+weights_bound : (count den : ℕ) → count ≤ 4096 → den ≤ 4097
+    → count * (den * 70000000000) ≤ 1200000000000000000
+weights_bound count den few low =
+    let inner : den * 70000000000 ≤ 286790000000000 = omega arith in
+    omega (arith, mul-le count (den * 70000000000) 4096 286790000000000 few inner)
+
+-- arrivals within the weights of a circuit's constraints are within those of a tree
+pub tree_arrivals : (circuit : Circuit) (tech : Tech) (constraints : List Constraint)
+    → (period : Fraction) (at : List ℤ) → HasSmallPairs circuit tech
+    → All (IsConstraintOf circuit tech) constraints → IsSmallPeriod period → length at ≤ 4097
+    → AreWithinWeights constraints (nat_abs period.den) at → AreFromZero (length at) (arrival_of at)
+    → AreTreeArrivals at
+tree_arrivals circuit tech constraints period at delays each range few within from_zero register =
+    by_place (cases_lt register (length at))
+  where
+    weights : All (λ (constraint : Constraint). constraint.weight ≤ℤ pos 70000000000) constraints
+    weights place default here =
+        let small = weight_small delays (get_or constraints place default)
+        (each place default here) in
+        omega (arith, ints, small)
+
+    den_low : nat_abs period.den ≤ 4097
+    den_low = omega (arith, ints, range.low, period.lowest.some_den)
+
+    by_place : (register < length at) ⊎ (length at ≤ register)
+        → IsWithin 0 1200000000000000000 (arrival_of at register)
+    by_place (inl here) =
+        let late = within 70000000000 weights register here in
+        let most = weights_bound (length at - 1) (nat_abs period.den) (omega arith) den_low in
+        record { above = from_zero register here; below = omega (arith, ints, late, most) }
+    by_place (inr past) =
+        let none = get_or_past at register (pos 0) past in
+        record { above = omega (arith, ints, none); below = omega (arith, ints, none) }
+
+-- leads by constraints of a list are leads by those of the circuit
+pub leads_of_circuit : (circuit : Circuit) (tech : Tech) (constraints : List Constraint)
+    → (period : Fraction) (at : List ℤ) (leads : List Lead)
+    → All (IsConstraintOf circuit tech) constraints
+    → EachLead (Contains constraints) period at leads
+    → EachLead (IsConstraintOf circuit tech) period at leads
+leads_of_circuit circuit tech constraints period at leads of_circuit each register here =
+    by_lead (lead_at leads register) (each register here)
+  where
+    by_lead : (lead : Lead) → IsLead (Contains constraints) period at leads register lead
+        → IsLead (IsConstraintOf circuit tech) period at leads register lead
+    by_lead Zero zero = zero
+    by_lead (Tight depth constraint) tight = record {
+      late = tight.late;
+      given = All-contains (IsConstraintOf circuit tech) constraints constraint of_circuit
+          tight.given;
+      head = tight.head;
+      tight = tight.tight;
+      depth_is = tight.depth_is;
+    }
+
+module _ {circuit : Circuit} {tech : Tech} {constraints : List Constraint}
+    (are : AreConstraintsOf circuit tech constraints) where
+  -- the least period of the circuit is one at which the constraints have arrivals
+  pub admitted_by : (period : Fraction) → IsLeastFraction circuit tech period
+      → IsAdmittedBy constraints period
+  admitted_by period least =
+      let (floor, (arrival, met)) = least.admitted in
+      (arrival, (are.meets (nat_abs period.den) period.num arrival).1 met)

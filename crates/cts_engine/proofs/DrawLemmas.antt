@@ -1,0 +1,189 @@
+-- The wires of a tree, drawn merge by merge.
+use Rattle.std.proofs.Common.{◌≡◌, ◌≢◌, ◌⊎◌, ◌<◌, ◌≤◌, ◌+◌, ◌*◌, ℕ, List, length, get_or, Some, inl, inr, refl, sym, ap, subst, ◌∙◌, arith}
+use Rattle.std.specs.List.{All}
+use Rattle.std.specs.Prelude.{slice_get}
+use Rattle.std.proofs.lemmas.Bool.{cases_eq, cases_lt}
+use Rattle.std.proofs.lemmas.List.{get_or-set_same, get_or-set_other, length-set}
+use Rattle.std.proofs.lemmas.Option.{slice_get_within, slice_get-get_or, get_or_from_slice_get}
+use Rattle.cts_model.specs.declared.tree.Merge.{Merge}
+use Rattle.cts_model.specs.declared.tree.Tree.{Tree}
+use Rattle.cts_model.specs.declared.tree.Wire.{Wire}
+use Rattle.cts_model.specs.Embeddings.{embedding_of}
+use Rattle.cts_model.specs.ReportBounds.{IsSmallWire}
+use Rattle.cts_model.specs.Topologies.{IsParent, IsTopology, Joins, root_of, source_of}
+use Rattle.cts_model.proofs.ParentLemmas.{made_parent, one_parent}
+use Rattle.cts_model.proofs.TopologyLemmas.{first_made, merge_at, merge_here, second_made, some_and}
+use Rattle.cts_engine.specs.Syntheses.{AreDrawn}
+use Rattle.cts_engine.specs.TreeParts.{IsEdgeDrawn, IsWireOf}
+
+-- the wire at the node's number is drawn from the parent
+abbrev pub HasWire : Tree → (node parent : ℕ) → List Wire → Type 0
+HasWire tree node parent wires = (wire : Wire) → slice_get wires node ≡ Some wire
+    → IsWireOf (embedding_of tree) node parent wire
+
+-- there is a wire for each node, and those are drawn whose parents are made before a place
+pub record AreDrawnBefore (sinks : ℕ) (merges : List Merge) (tree : Tree) (place next : ℕ)
+    (wires : List Wire) : Type 0 where
+  pub parent : next ≡ sinks + place
+  pub all : length wires + 1 ≡ 2 * sinks
+  pub small : All IsSmallWire wires
+  pub drawn : (node up : ℕ) → IsParent sinks merges node up → up < sinks + place
+      → HasWire tree node up wires
+
+-- the merge that is read at a place
+pub read_merge : (items merges : List Merge) (place : ℕ) → items ≡ merges
+    → place < length items → slice_get merges place ≡ Some (merge_at items place)
+read_merge items merges place same here =
+    subst (λ list. slice_get list place ≡ Some (merge_at items place)) same
+    (merge_here items place here)
+
+-- the root's parent is the source
+pub root_parent : (sinks : ℕ) (merges : List Merge)
+    → IsParent sinks merges (root_of sinks) (source_of sinks)
+root_parent sinks merges = inr (refl, refl)
+
+module _ {tree : Tree} {node parent : ℕ} {old new : List Wire}
+    (drawn : IsEdgeDrawn tree node parent old new) (within : node < length old) where
+  -- no wire is lost
+  pub drawn_all : length new ≡ length old
+  drawn_all = ap length drawn.rest ∙ length-set old node drawn.wire
+
+  -- all wires stay small
+  pub drawn_small : All IsSmallWire old → All IsSmallWire new
+  drawn_small small place default here = at (cases_eq place node)
+    where
+      at : (place ≡ node) ⊎ (place ≡ node → ⊥) → IsSmallWire (get_or new place default)
+      at (inl same) = subst (λ n. IsSmallWire (get_or new n default)) (sym same)
+          (subst IsSmallWire (sym (ap (λ wires. get_or wires node default) drawn.rest
+          ∙ get_or-set_same old node drawn.wire default within)) drawn.small)
+      at (inr apart) = subst IsSmallWire (sym (ap (λ wires. get_or wires place default) drawn.rest
+          ∙ get_or-set_other old node place drawn.wire default apart))
+          (small place default (omega (arith, here, drawn_all)))
+
+  -- the node has its wire
+  pub drawn_here : HasWire tree node parent new
+  drawn_here wire found = subst (IsWireOf (embedding_of tree) node parent)
+      (sym (ap (λ wires. get_or wires node wire) drawn.rest
+      ∙ get_or-set_same old node drawn.wire wire within)
+      ∙ get_or_from_slice_get new node wire wire found) drawn.is
+
+  -- and the others keep theirs
+  pub drawn_other : (other up : ℕ) → other ≢ node → HasWire tree other up old
+      → HasWire tree other up new
+  drawn_other other up apart had wire found =
+      let here = slice_get_within new other wire found in
+      had wire (slice_get-get_or old other wire (omega (arith, here, drawn_all))
+      ∙ ap Some (sym (ap (λ wires. get_or wires other wire) drawn.rest
+      ∙ get_or-set_other old node other drawn.wire wire apart)
+      ∙ get_or_from_slice_get new other wire wire found))
+
+module _ {sinks : ℕ} {merges : List Merge} (topology : IsTopology sinks merges) where
+  -- what the merge of a parent joins
+  joined_by : (node place : ℕ) (merge : Merge) → slice_get merges place ≡ Some merge
+      → IsParent sinks merges node (sinks + place) → Joins merge node
+  joined_by node place merge here (inl (other, is, found)) =
+      let same : place ≡ other = omega arith in
+      let (item, there, joins) = some_and (slice_get merges other)
+      (λ merge. Joins merge node) found in
+      subst (λ m. Joins m node) (sym (get_or_from_slice_get merges other item merge there)
+      ∙ ap (λ n. get_or merges n merge) (sym same)
+      ∙ get_or_from_slice_get merges place merge merge here) joins
+  joined_by node place merge here (inr (is_root, is)) =
+      absurd (omega (arith, topology.all, slice_get_within merges place merge here))
+
+module _ {sinks : ℕ} {merges : List Merge} (topology : IsTopology sinks merges) {tree : Tree} where
+  -- there is a wire for each node that a merge joins
+  pub joined_low : (place next : ℕ) (merge : Merge) (wires : List Wire)
+      → slice_get merges place ≡ Some merge → AreDrawnBefore sinks merges tree place next wires
+      → (merge.first < length wires) × (merge.second < length wires)
+  joined_low place next merge wires here before =
+      let one = first_made sinks merges topology.each place merge here in
+      let two = second_made sinks merges topology.each place merge here in
+      let within = slice_get_within merges place merge here in
+      (omega (arith, topology.all, before.all), omega (arith, topology.all, before.all))
+
+  -- and for the root
+  pub root_low : (place next : ℕ) (wires : List Wire)
+      → AreDrawnBefore sinks merges tree place next wires → root_of sinks < length wires
+  root_low place next wires before = omega (arith, topology.all, before.all)
+
+  -- one more merge
+  pub drawn_more : (place next : ℕ) (merge : Merge) (old middle new : List Wire)
+      → slice_get merges place ≡ Some merge → AreDrawnBefore sinks merges tree place next old
+      → IsEdgeDrawn tree merge.first next old middle
+      → IsEdgeDrawn tree merge.second next middle new
+      → AreDrawnBefore sinks merges tree (place + 1) (next + 1) new
+  drawn_more place next merge old middle new here before first second =
+      let low = (joined_low place next merge old here before).0 in
+      let kept = drawn_all first low in
+      let high : merge.second < length middle =
+      omega (arith, kept, (joined_low place next merge old here before).1) in
+      record {
+        parent = omega (arith, before.parent);
+        all = omega (arith, before.all, kept, drawn_all second high);
+        small = drawn_small second high (drawn_small first low before.small);
+        drawn = λ node up is below. by_parent low high node up is
+            (cases_lt up (sinks + place)) below;
+      }
+    where
+      up_is : next ≡ sinks + place
+      up_is = before.parent
+
+      -- nodes with other parents are other nodes
+      other_node : (node up child : ℕ) → IsParent sinks merges node up
+          → IsParent sinks merges child (sinks + place) → up < sinks + place → node ≢ child
+      other_node node up child is also low same =
+          let up_same = one_parent topology node up (sinks + place) is
+          (subst (λ n. IsParent sinks merges n (sinks + place)) (sym same) also) in
+          omega arith
+
+      by_parent : merge.first < length old → merge.second < length middle → (node up : ℕ)
+          → IsParent sinks merges node up → (up < sinks + place) ⊎ (sinks + place ≤ up)
+          → up < sinks + (place + 1) → HasWire tree node up new
+      by_parent low high node up is (inl earlier) below =
+          drawn_other second high node up (other_node node up merge.second is
+          (made_parent sinks merges place merge here
+          merge.second (inr refl)) earlier)
+          (drawn_other first low node up (other_node node up merge.first is
+          (made_parent sinks merges place merge here
+          merge.first (inl refl)) earlier)
+          (before.drawn node up is earlier))
+      by_parent low high node up is (inr later) below =
+          let same : up ≡ sinks + place = omega arith in
+          at (up_is ∙ sym same)
+          (joined_by topology node place merge here (subst (IsParent sinks merges node) same is))
+        where
+          at : next ≡ up → Joins merge node → HasWire tree node up new
+          at same (inl first_is) = subst (λ n. HasWire tree n up new) first_is
+              (drawn_other second high merge.first up
+              (λ one. absurd (omega (arith, (topology.each place merge here).ordered)))
+              (subst (λ u. HasWire tree merge.first u middle) same
+              (drawn_here first low)))
+          at same (inr second_is) = subst (λ n. HasWire tree n up new) second_is
+              (subst (λ u. HasWire tree merge.second u new) same
+              (drawn_here second high))
+
+  -- after all merges the root's edge is the last
+  pub all_drawn : (place next : ℕ) (old new : List Wire) → length merges ≤ place
+      → AreDrawnBefore sinks merges tree place next old
+      → IsEdgeDrawn tree (root_of sinks) (source_of sinks) old new
+      → AreDrawn sinks merges (embedding_of tree) new
+  all_drawn place next old new past before last = record {
+    drawn = λ node up wire is found. (each node up is wire found).drawn;
+    points = λ node up wire is found. (each node up is wire found).points;
+  }
+    where
+      low : root_of sinks < length old
+      low = root_low place next old before
+
+      each : (node up : ℕ) → IsParent sinks merges node up → HasWire tree node up new
+      each node up (inl (at, is, found)) =
+          let (merge, here, joins) = some_and (slice_get merges at)
+          (λ merge. Joins merge node) found in
+          let within = slice_get_within merges at merge here in
+          drawn_other last low node up
+          (λ root. let same = one_parent topology node up (source_of sinks)
+          (inl (at, is, found)) (inr (root, refl)) in absurd (omega (arith, topology.all)))
+          (before.drawn node up (inl (at, is, found)) (omega arith))
+      each node up (inr (is_root, is)) = subst (λ n. HasWire tree n up new) (sym is_root)
+          (subst (λ u. HasWire tree (root_of sinks) u new) (sym is) (drawn_here last low))

@@ -1,0 +1,8 @@
+use Rattle.cts_engine.specs.declared.period.PeriodOutcome.TheVariants.{Never}
+use Rattle.cts_engine.proofs.OutcomeLemmas.{never_exactly}
+use Rattle.cts_engine.proofs.synthesis.synthesize.Goals as goal
+
+pub returns-in-Never-clause-never : goal.returns-in-Never-clause-never
+returns-in-Never-clause-never c = never_exactly c.args.problem.now.circuit
+    c.args.problem.now.tech (Never c.in-Never.cycle)
+    (rw c.in-Never.is at c.in_ok-constraints.ensures.ok.outcome)

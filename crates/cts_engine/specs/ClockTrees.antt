@@ -1,0 +1,34 @@
+-- The tree of a report, with what keeps its numbers within the bounds of a report.
+use Rattle.std.specs.Prelude.{◌≡◌, ◌+◌, ◌*◌, ◌^◌, ℕ, List, All, length}
+use Rattle.cts_model.specs.declared.place.Sink.{Sink}
+use Rattle.cts_model.specs.declared.place.Uv.{Uv}
+use Rattle.cts_model.specs.declared.tree.Merge.{Merge}
+use Rattle.cts_model.specs.declared.tree.Show.{Show}
+use Rattle.cts_model.specs.declared.tree.Tree.{Tree}
+use Rattle.cts_model.specs.Points.{IsBelow}
+use Rattle.cts_model.specs.ReportBounds.{IsSmallWire}
+use Rattle.place_down.specs.Trees.{HasTreeNumbers, IsPlacedTree}
+use Rattle.cts_engine.specs.Syntheses.{IsTree}
+use Rattle.cts_engine.specs.declared.clock_tree.ClockTree.{ClockTree}
+
+-- a reach and a place for each node and the source, and a length for each node
+pub record AreTreeLists (sinks : ℕ) (tree : Tree) : Type 0 where
+  pub reaches : length tree.reach ≡ 2 * sinks
+  pub places : length tree.place ≡ 2 * sinks
+  pub lengths : length tree.length + 1 ≡ 2 * sinks
+
+-- the topology's tree with its nodes in their places, and what shows its reaches
+pub record IsPlaced (sinks : List Sink) (merges : List Merge) (source : Uv) (tree : Tree)
+    (shows : List Show) : Type 0 where
+  pub placed : IsPlacedTree sinks merges source tree shows
+  pub numbers : HasTreeNumbers tree
+  pub lists : AreTreeLists (length sinks) tree
+
+-- a report's tree over the sinks
+pub record IsClockTree (sinks : List Sink) (source : Uv) (made : ClockTree) : Type 0 where
+  pub tree : IsTree sinks source made.topology.merges made.tree made.shows made.wires made.total
+  pub numbers : HasTreeNumbers made.tree
+  pub lists : AreTreeLists (length sinks) made.tree
+  pub wires : length made.wires + 1 ≡ 2 * length sinks
+  pub small_wires : All IsSmallWire made.wires
+  pub small_total : IsBelow (10 ^ 36) made.total

@@ -1,0 +1,30 @@
+-- The outcome of a synthesis: the report of the tree, or what forbids every period. Fishburn,
+-- "Clock Skew Optimization", 1990.
+use Rattle.cts_model.specs.declared.period.PeriodShow.{PeriodShow}
+use Rattle.cts_model.specs.declared.period.PeriodShow.TheVariants.{Cycle, Floor}
+use Rattle.cts_model.specs.declared.problem.Problem.{Problem}
+use Rattle.cts_model.specs.LeastPeriods.{IsForbidding}
+use Rattle.critical_cycle.specs.CyclePlaces.{IsFromLowest}
+use Rattle.cts_engine.specs.declared.synthesis.Outcome.{Outcome}
+use Rattle.cts_engine.specs.declared.synthesis.Outcome.TheVariants.{Done, Never}
+use Rattle.cts_engine.specs.Syntheses.{IsReportOf}
+
+-- the report of the problem, or a cycle of its circuit that forbids every period
+abbrev pub IsOutcome : Problem → Outcome → Type 0
+IsOutcome problem (Done report) = IsReportOf problem report
+IsOutcome problem (Never cycle) = IsForbidding problem.circuit problem.tech cycle
+
+-- the outcome is that no period will do
+abbrev pub IsNever : Outcome → Type 0
+IsNever (Done report) = ⊥
+IsNever (Never cycle) = Unit {0}
+
+-- the cycle that shows a period, if one does, begins at its lowest register
+abbrev pub ShowsFromLowest : PeriodShow → Type 0
+ShowsFromLowest (Cycle cycle) = IsFromLowest cycle
+ShowsFromLowest Floor = Unit {0}
+
+-- the cycle that is shown, if any, begins at its lowest register
+abbrev pub BeginsLowest : Outcome → Type 0
+BeginsLowest (Done report) = ShowsFromLowest report.shown
+BeginsLowest (Never cycle) = IsFromLowest cycle

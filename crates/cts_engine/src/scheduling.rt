@@ -1,0 +1,78 @@
+ghost use Rattle.std.specs.Prelude.{◌↔◌, ℕ, List, IfOk, IfErr};
+ghost use Rattle.cts_model.specs.LeastPeriods.{HasNoPeriod};
+ghost use Rattle.cts_model.specs.PairLists.{JoinsMoreThan};
+ghost use Rattle.cts_model.specs.Paths.{IsLoop};
+ghost use Rattle.cts_engine.specs.Faults.{IsCaused};
+ghost use Rattle.cts_engine.specs.Outcomes.{BeginsLowest, IsNever};
+ghost use Rattle.cts_engine.specs.ScheduleOutcomes.{HasSmallTimes, IsScheduleOutcome, period_outcome};
+
+use crate::SynthFault;
+use crate::pairs::levels_of;
+use crate::period::{PeriodOutcome, Timing, timing_of};
+use cts_base::{Fraction, Listed};
+use cts_model::{Circuit, Constraint, PeriodShow, Schedule, Slack, Tech, ZeroSkew};
+use schedule::least_schedule;
+use std::alloc::Global;
+use timing_report::slacks;
+
+/// When the clock is to reach each register of a circuit, in ticks.
+#[derive(Debug, Drop)]
+pub enum ScheduleOutcome {
+    /// Some arrivals meet this period, and none a smaller one.
+    Found {
+        /// The least period where the clock reaches all registers at once.
+        zero: ZeroSkew,
+        period: Fraction,
+        /// What shows that no period is less.
+        shown: PeriodShow,
+        /// The least arrivals from 0 on that meet the period.
+        schedule: Schedule,
+        /// What each register has to spare at these arrivals.
+        slacks: Listed<Slack>,
+    },
+    /// No arrivals meet any period: constraints that lead from a register back to it show it.
+    Never {
+        cycle: Listed<Constraint>,
+    },
+}
+
+/// The least schedule of a circuit at its least period, in ticks.
+pub fn schedule_of(
+    alloc: Global,
+    circuit: &Circuit,
+    tech: &Tech,
+) -> Result<ScheduleOutcome, SynthFault>
+    requires { (loop : List ℕ) → IsLoop circuit.now.signals loop → ⊥ }
+    ensures ok { IfOk result (IsScheduleOutcome circuit.now tech.now) }
+    ensures lowest { IfOk result (λ outcome. BeginsLowest (period_outcome outcome)) }
+    ensures small { IfOk result HasSmallTimes }
+    ensures never { IfOk result (λ outcome.
+        IsNever (period_outcome outcome) ↔ HasNoPeriod circuit.now tech.now) }
+    ensures few { IfOk result (λ _. JoinsMoreThan circuit.now 1048576 → ⊥) }
+    ensures many { IfErr result (IsCaused circuit.now) }
+{
+    let levels = levels_of(alloc, circuit)?;
+    let Timing {
+        constraints,
+        outcome,
+    } = timing_of(alloc, circuit, &levels, tech)?;
+    match outcome {
+        PeriodOutcome::Never { cycle } => Ok(ScheduleOutcome::Never { cycle }),
+        PeriodOutcome::Found {
+            zero,
+            period,
+            shown,
+        } => {
+            let registers = circuit.registers.len();
+            let schedule = least_schedule(alloc, registers, &constraints, period)?;
+            let slacks = slacks(alloc, circuit, &levels, tech, &schedule, period)?;
+            Ok(ScheduleOutcome::Found {
+                zero,
+                period,
+                shown,
+                schedule,
+                slacks,
+            })
+        }
+    }
+}
