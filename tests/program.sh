@@ -38,6 +38,35 @@ expect 's27 with its table' 0 $'zero 15\nsetup G6 G5 15' '' "$top/cts" zero --be
 expect 'the options swapped' 0 $'zero 15\nsetup G6 G5 15' '' "$top/cts" zero --tech "$table" --bench "$s27"
 expect 'the least period of s27' 0 $'period 13\nzero 15\ncycle 1\nsetup G6 G6 13' '' \
     "$top/cts" period --bench "$s27" --tech "$table"
+scheduled=$'period 13\nzero 15\ncycle 1\nsetup G6 G6 13\nregisters 3\nG5 2 0 2\nG6 0 0 3\nG7 0 6 2'
+expect 'the least schedule of s27' 0 "$scheduled" '' "$top/cts" schedule --tech "$table" --bench "$s27"
+places=$top/examples/s27.pl
+# Which path gives the weight and which pair shows a merge is free: here it is these.
+tree='cts 2
+period 13
+cycle 1
+setup G6 G6 13
+path 5 G6 G8 G16 G9 G11
+registers 3
+G5 2 0 2
+G6 0 0 3
+G7 0 6 2
+lead 1 setup G6 G5 15
+lead 0
+lead 0
+merges 2
+3 0 1 2 pair G5 G6
+4 2 3 4 pair G5 G7
+source 15 sink G7
+nodes 5
+0 0 0 4 2 4 0 0 0
+1 4 2 2 2 4 0 4 2
+2 10 0 4 2 6 0 10 0
+3 4 0 2 2 6 0 4 0
+4 6 0 11 3 5 10 6 10 6 0
+wire 23'
+expect 'the tree of s27' 0 "$tree" '' "$top/cts" synth --bench "$s27" --tech "$table" --pl "$places"
+expect 'a missing placement' 4 '' 'read fault pl' "$top/cts" synth --bench "$s27" --tech "$table" --pl "$work/missing.pl"
 expect 'a ring of gates' 3 '' 'refused bench 7 g h' "$top/cts" zero --bench "$top/examples/ring_of_gates.bench"
 
 printf 'INPUT(x)\na = DFF(x' >"$work/cut.bench"
@@ -81,6 +110,8 @@ printf 'A = DFF(A)\n' >"$work/itself.bench"
 registers 0 2 1 1 >"$work/itself.toml"
 expect 'no period' 1 $'never\ncycle 1\nhold A A 1' '' \
     "$top/cts" period --bench "$work/itself.bench" --tech "$work/itself.toml"
+expect 'no schedule' 1 $'never\ncycle 1\nhold A A 1' '' \
+    "$top/cts" schedule --bench "$work/itself.bench" --tech "$work/itself.toml"
 
 printf 'INPUT(x)\nOUTPUT(g)\nA = DFF(x)\ng = NOT(A)\n' >"$work/output.bench"
 inverter='[gate.NOT]\nleast = 1\ngreatest = 3\n'
@@ -124,6 +155,16 @@ cycle() {
     printf 'period 8193/4096\nzero 3\ncycle 4096\nsetup r0 r1 3\n'
     seq 1 4095 | awk '{ print "setup r" $1 " r" ($1 + 1) % 4096 " 2" }'
 }
+# The registers of that ring, each from r2 on 1/4096 of a tick earlier than the one that launches to it.
+arrivals() {
+    printf 'registers 4096\nr0 0 0 4097/4096\nr1 4095/4096 0 1/4096\n'
+    seq 2 4095 | awk '{
+        over = 4096 - $1
+        under = 4096
+        while (over % 2 == 0) { over /= 2; under /= 2 }
+        print "r" $1 " " over "/" under " 0 4097/4096"
+    }'
+}
 # Every 1,531st line, from the first on: 1,531 and 4,097 have no common divisor.
 mixed() { awk '{ line[NR - 1] = $0 } END { for (i = 0; i < NR; i++) print line[i * 1531 % NR] }'; }
 sorted() { "$top/cts" period --bench "$1" --tech "$work/ring.toml" | sort; }
@@ -132,8 +173,26 @@ ring >"$work/ring.bench"
 tac "$work/ring.bench" >"$work/against.bench"
 mixed <"$work/ring.bench" >"$work/mixed.bench"
 expect 'a ring in its order' 0 "$(cycle)" '' "$top/cts" period --bench "$work/ring.bench" --tech "$work/ring.toml"
+expect 'the schedule of a ring' 0 "$(cycle; arrivals)" '' \
+    "$top/cts" schedule --bench "$work/ring.bench" --tech "$work/ring.toml"
 expect 'a ring against its order' 0 "$(cycle | sort)" '' sorted "$work/against.bench"
 expect 'a ring in a mixed order' 0 "$(cycle | sort)" '' sorted "$work/mixed.bench"
+
+# A row of 4,096 registers at equal distances: each pair of neighbours is merged, and so on up.
+row() { printf 'INPUT(x)\n'; seq 0 4095 | awk '{ print "r" $1 " = DFF(x)" }'; }
+row_places() { seq 0 4095 | awk '{ print "r" $1 " " $1 " 0" }'; printf 'CLK 0 0\n'; }
+pairs() { seq 0 4094 | awk '{ print 4096 + $1, 2 * $1, 2 * $1 + 1 }'; }
+merges() {
+    "$top/cts" synth --bench "$1" --tech "$work/row.toml" --pl "$2" | awk '$1 == "merges" { on = 1; next }
+        $1 == "source" { on = 0 } on { print $1, $2, $3 }'
+}
+registers 0 0 0 0 >"$work/row.toml"
+row >"$work/row.bench"
+row_places >"$work/row.pl"
+expect 'a row of registers' 0 "$(pairs)" '' merges "$work/row.bench" "$work/row.pl"
+{ cat "$work/row.pl"; head -c 16777216 /dev/zero | tr '\0' '#'; } >"$work/long.pl"
+expect 'a placement that is too long' 3 '' 'refused pl long' \
+    "$top/cts" synth --bench "$work/row.bench" --tech "$work/row.toml" --pl "$work/long.pl"
 
 # The largest file, and one byte more.
 { printf 'INPUT(x)\na = DFF(x)\n'; head -c $((16777216 - 20)) /dev/zero | tr '\0' '#'; } >"$work/largest.bench"
@@ -150,6 +209,7 @@ expect 'no words' 2 '' "$usage" "$top/cts"
 expect 'the name last' 2 '' "$usage" "$top/cts" --tech F --bench F zero
 expect 'an option twice' 2 '' "$usage" "$top/cts" zero --bench F --tech F --tech F
 expect 'no netlist' 2 '' "$usage" "$top/cts" zero --tech F
+expect 'a schedule without a netlist' 2 '' "$usage" "$top/cts" schedule --tech F
 expect 'a period without a table' 2 '' "$usage" "$top/cts" period --bench F
 expect 'one word for both' 2 '' "$usage" "$top/cts" zero --bench=F
 expect 'an end of options' 2 '' "$usage" "$top/cts" zero --bench F --

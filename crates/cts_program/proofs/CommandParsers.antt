@@ -16,7 +16,7 @@ use Rattle.clap.specs.declared.parser.matches.Found.{Found}
 use Rattle.clap.proofs.TakesLemmas.{leaf_takes}
 use Rattle.clap.proofs.WalkLemmas.{first_value-rows}
 use Rattle.cts_program.specs.declared.command.table.Form.{Form}
-use Rattle.cts_program.specs.declared.command.table.Form.TheVariants.{Zero, Period}
+use Rattle.cts_program.specs.declared.command.table.Form.TheVariants.{Zero, Period, Schedule, Synth}
 use Rattle.cts_program.specs.Commands.{Word, Given, is_value, option_words}
 use Rattle.cts_program.specs.PlainWords.{form_name, choices_of, is_known, has_option, are_options, has_required, has_values, IsPlain}
 use Rattle.cts_program.specs.Parsers.{parser_for}
@@ -133,6 +133,35 @@ valid_period given required =
       given-rows (codes "--tech") given ∙ sym (has_option-given (codes "--tech") given) ∙ behind.0,
     ) refl
 
+-- the options of `synth` are read
+reads_synth : AllByRecursion (λ choice. IsReadBy (built (parser_for Synth)).top.rules choice.0)
+    (choices_of Synth)
+reads_synth = (
+  record { required = true; by_id = refl; by_long = refl; long = refl; option = refl },
+  (
+    record { required = true; by_id = refl; by_long = refl; long = refl; option = refl },
+    (record { required = true; by_id = refl; by_long = refl; long = refl; option = refl }, tt),
+  ),
+)
+
+-- where all three stand, `synth` has what it requires
+valid_synth : (given : List Given)
+    → has_required (choices_of Synth) (option_words given) ≡ true
+    → is_valid (built (parser_for Synth)).top (map row_for given) false ≡ true
+valid_synth given required =
+    let words = option_words given in
+    let bench = both (has_option (codes "--bench") words)
+    (has_option (codes "--tech") words && (has_option (codes "--pl") words && true)) required in
+    let tech = both (has_option (codes "--tech") words)
+    (has_option (codes "--pl") words && true) bench.1 in
+    let pl = both (has_option (codes "--pl") words) true tech.1 in
+    let stands = λ (option : Word). given-rows option given ∙ sym (has_option-given option given) in
+    rw (
+      stands (codes "--bench") ∙ bench.0,
+      stands (codes "--tech") ∙ tech.0,
+      stands (codes "--pl") ∙ pl.0,
+    ) refl
+
 -- so it is with the parser of each command
 reads : (form : Form) → Reads form
 reads Zero = record {
@@ -152,6 +181,24 @@ reads Period = record {
   no_request = refl;
   no_defaults = (refl, (refl, (refl, tt)));
   valid = valid_period;
+}
+reads Schedule = record {
+  simple = refl;
+  alone = refl;
+  behind_name = λ name others. refl;
+  each = read_known (built (parser_for Schedule)).top.rules (choices_of Schedule) reads_period;
+  no_request = refl;
+  no_defaults = (refl, (refl, (refl, tt)));
+  valid = valid_period;
+}
+reads Synth = record {
+  simple = refl;
+  alone = refl;
+  behind_name = λ name others. refl;
+  each = read_known (built (parser_for Synth)).top.rules (choices_of Synth) reads_synth;
+  no_request = refl;
+  no_defaults = (refl, (refl, (refl, (refl, tt))));
+  valid = valid_synth;
 }
 
 -- the parser reads options that pass the reader's test

@@ -2,10 +2,15 @@ mod LineLemmas
 mod LineBytes
 mod LineFronts
 mod PeriodFronts
+mod ScheduleFronts
+mod SynthFronts
+mod RegisterLines
 mod PairRegisters
 mod OneText
 mod PieceLemmas
 mod FileLemmas
+mod ProblemLemmas
+mod PlacementLemmas
 mod ResultLemmas
 mod ToldLemmas
 mod PlainWordTests

@@ -39,7 +39,7 @@ words_in_line (word ∷ next ∷ more) each =
     (words_in_line (next ∷ more) each.1)
 
 -- a byte other than 10 is no line feed
-no_feed : (byte : ℕ) → (byte ≡ 10 → ⊥) → is_line_feed byte ≡ false
+pub no_feed : (byte : ℕ) → (byte ≡ 10 → ⊥) → is_line_feed byte ≡ false
 no_feed byte other = at (byte == 10) refl
   where
     at : (feed : Bool) → (byte == 10) ≡ feed → feed ≡ false

@@ -15,6 +15,13 @@ joined words = join_with_byte 32 words
 abbrev pub AreLines : List Words → Type 0
 AreLines lines = AllByRecursion (λ words. IsInLine (joined words)) lines
 
+-- lines behind lines are lines
+pub lines_behind : (lines others : List Words) → AreLines lines → AreLines others
+    → AreLines (lines ++ others)
+lines_behind [] others each each' = each'
+lines_behind (line ∷ lines) others each each' =
+    (each.0, lines_behind lines others each.1 each')
+
 -- the first lines of the one are those of the other
 abbrev pub AreFront : List Words → List Words → Type 0
 AreFront [] others = Unit {0}

@@ -1,6 +1,6 @@
 -- A circuit and its delays have period texts of one status, and none is a front of another: they
 -- differ in the cycle alone.
-use Rattle.std.proofs.Common.{◌≡◌, ◌<◌, ◌≤◌, ◌^◌, ◌≢◌, ◌+◌, ℕ, suc, pos, Bool, true, false, cond, if◌then◌else◌, List, [], ◌∷◌, length, map, take, drop, get_or, All, AllPairs, refl, sym, ap, ◌∙◌, subst, codes, decimal, arith}
+use Rattle.std.proofs.Common.{◌≡◌, ◌<◌, ◌≤◌, ◌^◌, ◌≢◌, ◌+◌, ◌++◌, ℕ, suc, pos, Bool, true, false, cond, if◌then◌else◌, List, [], ◌∷◌, length, map, take, drop, get_or, All, AllPairs, refl, sym, ap, ◌∙◌, subst, append-nil, length-append, codes, arith}
 use Rattle.std.proofs.lemmas.Bool.Decides.{Decides-eqb}
 use Rattle.std.proofs.lemmas.Fmt.{decimal_injective}
 use Rattle.std.proofs.lemmas.List.{length-map}
@@ -20,13 +20,13 @@ use Rattle.cts_model.specs.declared.timing.ZeroSkew.TheVariants as zero_skew
 use Rattle.cts_model.specs.Circuits.{has_host}
 use Rattle.cts_model.specs.Constraints.{IsConstraintOf}
 use Rattle.cts_model.specs.Cycles.{IsCycle}
-use Rattle.cts_model.specs.LeastPeriods.{IsPeriodShow}
+use Rattle.cts_model.specs.LeastPeriods.{IsForbidding, IsPeriodShow}
 use Rattle.cts_model.proofs.CircuitConstraints.{forbidding_at_all}
 use Rattle.cts_engine.specs.declared.period.PeriodOutcome.{PeriodOutcome}
 use Rattle.cts_engine.specs.declared.period.PeriodOutcome.TheVariants.{Found, Never}
 use Rattle.cts_engine.specs.Outcomes.{IsPeriodOutcome}
-use Rattle.cts_program.specs.PeriodTexts.{period_line, line_for, count_line, cycle_lines, show_lines, period_lines, outcome_status, IsPeriodText}
-use Rattle.cts_program.specs.Texts.{text_of, constraint_line, zero_line}
+use Rattle.cts_program.specs.PeriodTexts.{period_line, line_for, count_line, cycle_lines, show_lines, found_lines, never_lines, period_lines, outcome_status, IsPeriodText}
+use Rattle.cts_program.specs.Texts.{Words, text_of, constraint_line, zero_line}
 use Rattle.cts_program.proofs.LineBytes.{IsInLine, words_in_line, number_in_line, fraction_in_line, register_in_line}
 use Rattle.cts_program.proofs.LineFronts.{joined, AreLines, AreFront, no_front}
 use Rattle.cts_program.proofs.PairRegisters.{tails_within}
@@ -34,7 +34,7 @@ use Rattle.cts_program.proofs.PairRegisters.{tails_within}
 -- ---- one status
 
 -- outcomes have one status
-one_outcome_status : (circuit : Circuit) (tech : Tech) (outcome other : PeriodOutcome)
+pub one_outcome_status : (circuit : Circuit) (tech : Tech) (outcome other : PeriodOutcome)
     → IsPeriodOutcome circuit tech outcome → IsPeriodOutcome circuit tech other
     → outcome_status outcome ≡ outcome_status other
 one_outcome_status circuit tech (Found zero period shown)
@@ -109,14 +109,24 @@ zero_line_is (zero_skew.Floor value) =
 zero_line_is (zero_skew.Setup value pair) =
     words_in_line (zero_line (zero_skew.Setup value pair)) (refl, (number_in_line value, tt))
 
--- so those of an outcome are lines
-period_lines_are : (circuit : Circuit) (outcome : PeriodOutcome)
-    → AreLines (period_lines circuit outcome)
-period_lines_are circuit (Found zero period shown) = (
+-- so those of a period that is found are lines
+pub found_lines_are : (circuit : Circuit) (zero : ZeroSkew) (period : Fraction)
+    (shown : PeriodShow) → AreLines (found_lines circuit zero period shown)
+found_lines_are circuit zero period shown = (
   words_in_line (period_line period) (refl, (fraction_in_line period.num period.den, tt)),
   (zero_line_is zero, show_lines_are circuit shown),
 )
-period_lines_are circuit (Never cycle) = (refl, cycle_lines_are circuit cycle)
+
+-- and those of a cycle that forbids every period
+pub never_lines_are : (circuit : Circuit) (cycle : List Constraint)
+    → AreLines (never_lines circuit cycle)
+never_lines_are circuit cycle = (refl, cycle_lines_are circuit cycle)
+
+-- so it is with an outcome
+period_lines_are : (circuit : Circuit) (outcome : PeriodOutcome)
+    → AreLines (period_lines circuit outcome)
+period_lines_are circuit (Found zero period shown) = found_lines_are circuit zero period shown
+period_lines_are circuit (Never cycle) = never_lines_are circuit cycle
 
 -- ---- the count of lines
 
@@ -146,7 +156,7 @@ cycle_within circuit tech cycle of_circuit is_cycle =
     omega (arith, length-map cycle (λ (constraint : Constraint). constraint.tail))
 
 -- and so fewer than a number of 64 bits may say
-cycle_count : (circuit : Circuit) (tech : Tech) (cycle : List Constraint)
+pub cycle_count : (circuit : Circuit) (tech : Tech) (cycle : List Constraint)
     → All (IsConstraintOf circuit tech) cycle → IsCycle cycle
     → length cycle < 2 ^ 64
 cycle_count circuit tech cycle of_circuit is_cycle =
@@ -163,35 +173,65 @@ cycle_count circuit tech cycle of_circuit is_cycle =
         at false few = omega arith
 
 -- cycles that are spelled with one count have as many constraints
+pub one_cycle_length : (cycle other : List Constraint) → length cycle < 2 ^ 64
+    → length other < 2 ^ 64 → joined (count_line cycle) ≡ joined (count_line other)
+    → length cycle ≡ length other
+one_cycle_length cycle other small small' same =
+    decimal_injective (length cycle) (length other) small small'
+    (ap (λ (bytes : List ℕ). drop 6 bytes) same)
+
+-- and as many lines
 one_count : (circuit : Circuit) (cycle other : List Constraint) → length cycle < 2 ^ 64
     → length other < 2 ^ 64
     → joined (count_line cycle) ≡ joined (count_line other)
     → length (cycle_lines circuit cycle) ≡ length (cycle_lines circuit other)
 one_count circuit cycle other small small' same =
-    let counts : decimal (length cycle) ≡ decimal (length other) =
-    ap (λ (bytes : List ℕ). drop 6 bytes) same in
-    let count = decimal_injective (length cycle) (length other) small small' counts in
+    let count = one_cycle_length cycle other small small' same in
     omega (arith, length-map cycle (line_for circuit), length-map other (line_for circuit))
 
 -- bytes that begin otherwise differ
-differ : (bytes other : List ℕ) → (get_or bytes 0 0 ≡ get_or other 0 0 → ⊥) → bytes ≡ other → ⊥
+pub differ : (bytes other : List ℕ) → (get_or bytes 0 0 ≡ get_or other 0 0 → ⊥) → bytes ≡ other → ⊥
 differ bytes other apart same = apart (ap (λ (b : List ℕ). get_or b 0 0) same)
 
--- what shows a period has one count of lines
-as_many_shown : (circuit : Circuit) (tech : Tech) (period period' : Fraction)
+-- a text of a period and one of a cycle that forbids all begin otherwise
+pub found_not_never : (period : Fraction) → joined (period_line period) ≡ codes "never" → ⊥
+found_not_never period = differ (joined (period_line period)) (codes "never") (λ e. omega arith)
+
+-- what shows a period has one count of lines, where as many stand behind
+pub as_many_shown : (circuit : Circuit) (tech : Tech) (period period' : Fraction)
     (shown shown' : PeriodShow)
     → IsPeriodShow circuit tech period shown → IsPeriodShow circuit tech period' shown'
-    → AreFront (show_lines circuit shown) (show_lines circuit shown')
-    → length (show_lines circuit shown) ≡ length (show_lines circuit shown')
-as_many_shown circuit tech period period' (Cycle cycle) (Cycle cycle') shows shows' front =
-    one_count circuit cycle cycle'
+    → (behind behind' : List Words) → length behind ≡ length behind'
+    → AreFront (show_lines circuit shown ++ behind) (show_lines circuit shown' ++ behind')
+    → length (show_lines circuit shown ++ behind) ≡ length (show_lines circuit shown' ++ behind')
+as_many_shown circuit tech period period' (Cycle cycle) (Cycle cycle') shows shows' behind behind'
+    as_many front =
+    let counts = one_count circuit cycle cycle'
     (cycle_count circuit tech cycle shows.of_circuit shows.shows.is_cycle)
-    (cycle_count circuit tech cycle' shows'.of_circuit shows'.shows.is_cycle) front.0
-as_many_shown circuit tech period period' (Cycle cycle) Floor shows shows' front =
+    (cycle_count circuit tech cycle' shows'.of_circuit shows'.shows.is_cycle) front.0 in
+    omega (
+      arith,
+      length-append (cycle_lines circuit cycle) behind,
+      length-append (cycle_lines circuit cycle') behind',
+    )
+as_many_shown circuit tech period period' (Cycle cycle) Floor shows shows' behind behind'
+    as_many front =
     absurd (differ (joined (count_line cycle)) (codes "floor") (λ e. omega arith) front.0)
-as_many_shown circuit tech period period' Floor (Cycle cycle) shows shows' front =
+as_many_shown circuit tech period period' Floor (Cycle cycle) shows shows' behind behind'
+    as_many front =
     absurd (differ (codes "floor") (joined (count_line cycle)) (λ e. omega arith) front.0)
-as_many_shown circuit tech period period' Floor Floor shows shows' front = refl
+as_many_shown circuit tech period period' Floor Floor shows shows' behind behind' as_many front =
+    ap suc as_many
+
+-- and so have cycles that forbid every period
+pub as_many_never : (circuit : Circuit) (tech : Tech) (cycle cycle' : List Constraint)
+    → IsForbidding circuit tech cycle → IsForbidding circuit tech cycle'
+    → AreFront (never_lines circuit cycle) (never_lines circuit cycle')
+    → length (never_lines circuit cycle) ≡ length (never_lines circuit cycle')
+as_many_never circuit tech cycle cycle' never never' front =
+    ap suc (one_count circuit cycle cycle'
+    (cycle_count circuit tech cycle never.of_circuit never.forbids.is_cycle)
+    (cycle_count circuit tech cycle' never'.of_circuit never'.forbids.is_cycle) front.1.0)
 
 -- lines of outcomes of which one are a front of the other are as many
 as_many_lines : (circuit : Circuit) (tech : Tech) (outcome other : PeriodOutcome)
@@ -200,16 +240,17 @@ as_many_lines : (circuit : Circuit) (tech : Tech) (outcome other : PeriodOutcome
     → length (period_lines circuit outcome) ≡ length (period_lines circuit other)
 as_many_lines circuit tech (Found zero period shown)
     (Found zero' period' shown') found found' front =
-    ap (λ count. suc (suc count))
-    (as_many_shown circuit tech period period' shown shown' found.shown found'.shown front.1.1)
+    let ends = append-nil (show_lines circuit shown) in
+    let ends' = append-nil (show_lines circuit shown') in
+    let shown_as_many = as_many_shown circuit tech period period' shown shown'
+    found.shown found'.shown [] [] refl (rw (ends, ends') front.1.1) in
+    ap (λ count. suc (suc count)) (rw (ends, ends') at shown_as_many)
 as_many_lines circuit tech (Found zero period shown) (Never cycle) found never front =
-    absurd (differ (joined (period_line period)) (codes "never") (λ e. omega arith) front.0)
+    absurd (found_not_never period front.0)
 as_many_lines circuit tech (Never cycle) (Found zero period shown) never found front =
-    absurd (differ (codes "never") (joined (period_line period)) (λ e. omega arith) front.0)
+    absurd (found_not_never period (sym front.0))
 as_many_lines circuit tech (Never cycle) (Never cycle') never never' front =
-    ap suc (one_count circuit cycle cycle'
-    (cycle_count circuit tech cycle never.of_circuit never.forbids.is_cycle)
-    (cycle_count circuit tech cycle' never'.of_circuit never'.forbids.is_cycle) front.1.0)
+    as_many_never circuit tech cycle cycle' never never' front
 
 -- ---- texts
 

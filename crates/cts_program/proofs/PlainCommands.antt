@@ -1,5 +1,5 @@
 -- Words that mean a command pass the reader's test, and no others do.
-use Rattle.std.proofs.Common.{◌≡◌, ◌≤◌, ◌-◌, ◌++◌, ◌&&◌, ℕ, Bool, true, false, List, [], ◌∷◌, is_some, option_map, unwrap_or, length, take, drop, map, Option, Some, None, IsTrue, refl, sym, ap, ap₂, ◌∙◌, arith, get_or, codes}
+use Rattle.std.proofs.Common.{◌≡◌, ◌≤◌, ◌-◌, ◌++◌, ◌&&◌, ◌||◌, ◌==◌, not, if◌then◌else◌, ℕ, Bool, true, false, List, [], ◌∷◌, is_some, option_map, length, take, drop, map, Option, Some, None, IsTrue, refl, sym, ap, ap₂, ◌∙◌, arith, get_or, codes}
 use Rattle.std.specs.Borrow.{Bor}
 use Rattle.std.specs.Str.{bytes_eq}
 use Rattle.std.specs.List.{All, AllByRecursion, IsDistinct, list_all}
@@ -15,9 +15,9 @@ use Rattle.std.proofs.lemmas.Map.Views.{Contains-from_lookup, lookup-from_Contai
 use Rattle.cts_program.specs.declared.command.Command.{Command}
 use Rattle.cts_program.specs.declared.command.Command.TheVariants as command
 use Rattle.cts_program.specs.declared.command.table.Form.{Form}
-use Rattle.cts_program.specs.declared.command.table.Form.TheVariants.{Zero, Period}
-use Rattle.cts_program.specs.Commands.{Word, Given, is_value, name_of, options_of, option_words, IsCommand, IsSame}
-use Rattle.cts_program.specs.PlainWords.{form_of, form_name, choices_of, is_known, has_option, are_options, has_required, listed_one, listed, IsPlain}
+use Rattle.cts_program.specs.declared.command.table.Form.TheVariants.{Zero, Period, Schedule, Synth}
+use Rattle.cts_program.specs.Commands.{Word, Given, always, if_wanted, is_value, name_of, options_of, option_words, IsCommand, IsSame}
+use Rattle.cts_program.specs.PlainWords.{form_of, form_name, choices_of, is_known, has_option, are_options, has_required, has_values, listed_one, listed, IsPlain}
 use Rattle.cts_program.proofs.GivenOptions.{both, value_of, has_option-given, given_of, values_pass, IsRow, listed_of, listed-permutes}
 
 -- ---- values in another order
@@ -77,22 +77,40 @@ are_options-given choices (one ∷ more) distinct known values =
 is_row : (form : Form) → IsRow (choices_of form)
 is_row Zero = (refl, (refl, tt))
 is_row Period = (refl, (refl, tt))
+is_row Schedule = (refl, (refl, tt))
+is_row Synth = (refl, (refl, (refl, tt)))
 
 -- a command's name is that of its form
 name_of-form : (command : Command) → name_of command ≡ form_name (form_of command)
 name_of-form (command.Zero bench tech) = refl
 name_of-form (command.Period bench tech) = refl
+name_of-form (command.Schedule bench tech) = refl
+name_of-form (command.Synth bench tech pl) = refl
 
--- the names of the commands differ
-pub names_differ : form_name Zero ≡ form_name Period → ⊥
-names_differ same = let first : ◌≡◌ {A = ℕ} 122 112 = ap (λ (name : Word). get_or name 0 0) same in omega arith
+-- the form whose name is so long: the names of the commands are not as long as one another
+abbrev form_of_length : ℕ → Form
+form_of_length long = if long == 4 then Zero else if long == 6 then Period
+    else if long == 8 then Schedule else Synth
 
--- forms with one name are one
+-- a form's name tells it
+form_of_length-name : (form : Form) → form_of_length (length (form_name form)) ≡ form
+form_of_length-name Zero = refl
+form_of_length-name Period = refl
+form_of_length-name Schedule = refl
+form_of_length-name Synth = refl
+
+-- so forms with one name are one
 one_form : (form other : Form) → form_name form ≡ form_name other → form ≡ other
-one_form Zero Zero same = refl
-one_form Zero Period same = absurd (names_differ same)
-one_form Period Zero same = absurd (names_differ (sym same))
-one_form Period Period same = refl
+one_form form other same =
+    sym (form_of_length-name form) ∙ ap (λ (name : Word). form_of_length (length name)) same
+    ∙ form_of_length-name other
+
+-- and so are those of commands with one name
+pub same_form : (command other : Command) → name_of command ≡ name_of other
+    → form_of command ≡ form_of other
+same_form command other same =
+    one_form (form_of command) (form_of other)
+    (sym (name_of-form command) ∙ same ∙ name_of-form other)
 
 -- the options of a command differ
 options_differ : (command : Command) → IsDistinct bytes_eq (keys_of (options_of command))
@@ -100,6 +118,8 @@ unfolding IsDistinct
 options_differ (command.Zero bench None) = (tt, tt)
 options_differ (command.Zero bench (Some tech)) = ((refl, tt), (tt, tt))
 options_differ (command.Period bench tech) = ((refl, tt), (tt, tt))
+options_differ (command.Schedule bench tech) = ((refl, tt), (tt, tt))
+options_differ (command.Synth bench tech pl) = ((refl, (refl, tt)), ((refl, tt), (tt, tt)))
 
 -- options that all pass the test for a row are of that row
 all_known : (choices : List (Word × Bool)) (given : List Given) → list_all (λ one. is_known choices one.0) given ≡ true → All (IsKnownTo choices) given
@@ -108,21 +128,46 @@ all_known choices (one ∷ more) pass =
     let known = both (is_known choices one.0) (list_all (λ one. is_known choices one.0) more) pass in
     All-cons (IsKnownTo choices) one more known.0 (all_known choices more known.1)
 
+-- what the options of a command come to by its row: they are of it, it requires no others, and they
+-- stand in its order
+record FitRow (command : Command) : Type 0 where
+  known : list_all (λ one. is_known (choices_of (form_of command)) one.0) (options_of command) ≡ true
+  required : has_required (choices_of (form_of command)) (option_words (options_of command)) ≡ true
+  in_order : options_of command ≡ listed_of (choices_of (form_of command)) (options_of command)
+
+-- the options of each command do
+fit_row : (command : Command) → FitRow command
+unfolding has_option
+fit_row (command.Zero bench None) = record { known = refl; required = refl; in_order = refl }
+fit_row (command.Zero bench (Some tech)) =
+    record { known = refl; required = refl; in_order = refl }
+fit_row (command.Period bench tech) = record { known = refl; required = refl; in_order = refl }
+fit_row (command.Schedule bench tech) = record { known = refl; required = refl; in_order = refl }
+fit_row (command.Synth bench tech pl) =
+    record { known = refl; required = refl; in_order = refl }
+
 -- the options of a command are those of its row
 options_known : (command : Command) → All (IsKnownTo (choices_of (form_of command))) (options_of command)
-options_known (command.Zero bench None) = all_known (choices_of Zero) (options_of (command.Zero bench None)) refl
-options_known (command.Zero bench (Some tech)) = all_known (choices_of Zero) (options_of (command.Zero bench (Some tech))) refl
-options_known (command.Period bench tech) = all_known (choices_of Period) (options_of (command.Period bench tech)) refl
+options_known command = all_known (choices_of (form_of command)) (options_of command) (fit_row command).known
+
+-- in any order they have the same values
+values_same : (command : Command) (given : List Given) → IsPermutation (options_of command) given
+    → (option : Word) → value_of option given ≡ value_of option (options_of command)
+values_same command given moved option =
+    value_of-permutes option (options_of command) given (options_differ command) moved
 
 -- and each option that the row requires has its value
-options_required : (command : Command) (given : List Given) → IsPermutation (options_of command) given → has_required (choices_of (form_of command)) (option_words given) ≡ true
-options_required (command.Zero bench tech) given moved =
-    let value : value_of (codes "--bench") given ≡ Some bench.now =
-    value_of-permutes (codes "--bench") (options_of (command.Zero bench tech)) given (options_differ (command.Zero bench tech)) moved in
-    rw (has_option-given (codes "--bench") given, value) refl
-options_required (command.Period bench tech) given moved =
-    let same = λ (word : Word). value_of-permutes word (options_of (command.Period bench tech)) given (options_differ (command.Period bench tech)) moved in
-    rw (has_option-given (codes "--bench") given, same (codes "--bench"), has_option-given (codes "--tech") given, same (codes "--tech")) refl
+options_required : (command : Command) (given : List Given) → IsPermutation (options_of command) given
+    → has_required (choices_of (form_of command)) (option_words given) ≡ true
+options_required command given moved =
+    (λ i. list_all (λ choice. not choice.1 || stands choice.0 i) (choices_of (form_of command)))
+    ∙ (fit_row command).required
+  where
+    stands : (option : Word) → has_option option (option_words given)
+        ≡ has_option option (option_words (options_of command))
+    stands option =
+        has_option-given option given ∙ ap is_some (values_same command given moved option)
+        ∙ sym (has_option-given option (options_of command))
 
 -- ---- words that are no command
 
@@ -173,16 +218,12 @@ means_command words form plain value same command has options =
 -- ---- words mean one command
 
 -- the options of a command are those of its row that have values
-options_listed : (command : Command) (given : List Given) → IsPermutation (options_of command) given → options_of command ≡ listed_of (choices_of (form_of command)) given
-options_listed (command.Zero bench None) given moved =
-    let same = λ (word : Word). value_of-permutes word (options_of (command.Zero bench None)) given (options_differ (command.Zero bench None)) moved in
-    rw (same (codes "--bench"), same (codes "--tech")) refl
-options_listed (command.Zero bench (Some tech)) given moved =
-    let same = λ (word : Word). value_of-permutes word (options_of (command.Zero bench (Some tech))) given (options_differ (command.Zero bench (Some tech))) moved in
-    rw (same (codes "--bench"), same (codes "--tech")) refl
-options_listed (command.Period bench tech) given moved =
-    let same = λ (word : Word). value_of-permutes word (options_of (command.Period bench tech)) given (options_differ (command.Period bench tech)) moved in
-    rw (same (codes "--bench"), same (codes "--tech")) refl
+options_listed : (command : Command) (given : List Given) → IsPermutation (options_of command) given
+    → options_of command ≡ listed_of (choices_of (form_of command)) given
+options_listed command given moved =
+    (fit_row command).in_order
+    ∙ (λ i. listed (λ option. sym (values_same command given moved option) i)
+    (choices_of (form_of command)))
 
 -- words are options with values in one way
 one_given : (given other : List Given) → option_words given ≡ option_words other → given ≡ other
@@ -197,7 +238,7 @@ pub one_command : (words : List Word) (command other : Command) → IsCommand wo
 one_command words command other means means' =
     let words_same = sym means.words_are ∙ means'.words_are in
     let name : name_of command ≡ name_of other = ap (λ (ws : List Word). get_or ws 0 []) words_same in
-    let form : form_of command ≡ form_of other = one_form (form_of command) (form_of other) (sym (name_of-form command) ∙ name ∙ name_of-form other) in
+    let form = same_form command other name in
     let given : means.given ≡ means'.given = one_given means.given means'.given (ap (λ (ws : List Word). drop 1 ws) words_same) in
     record {
       name = name;
@@ -205,18 +246,6 @@ one_command words command other means means' =
     }
 
 -- ---- plain words mean a command, wherever its values stand
-
-zero_options : (borrowed : Word → Bor Word) → ((word : Word) → (borrowed word).now ≡ word) → (bench tech : Option Word) → is_some bench ≡ true
-    → options_of (command.Zero (borrowed (unwrap_or bench [])) (option_map borrowed tech)) ≡ listed_one (codes "--bench") bench ++ (listed_one (codes "--tech") tech ++ [])
-zero_options borrowed same None tech some = cc
-zero_options borrowed same (Some bench) None some = ap (λ (word : Word). (codes "--bench", word) ∷ []) (same bench)
-zero_options borrowed same (Some bench) (Some tech) some = ap₂ (λ (word other : Word). (codes "--bench", word) ∷ (codes "--tech", other) ∷ []) (same bench) (same tech)
-
-period_options : (borrowed : Word → Bor Word) → ((word : Word) → (borrowed word).now ≡ word) → (bench tech : Option Word) → is_some bench ≡ true → is_some tech ≡ true
-    → options_of (command.Period (borrowed (unwrap_or bench [])) (borrowed (unwrap_or tech []))) ≡ listed_one (codes "--bench") bench ++ (listed_one (codes "--tech") tech ++ [])
-period_options borrowed same None tech some some' = cc
-period_options borrowed same (Some bench) None some some' = cc
-period_options borrowed same (Some bench) (Some tech) some some' = ap₂ (λ (word other : Word). (codes "--bench", word) ∷ (codes "--tech", other) ∷ []) (same bench) (same tech)
 
 module _ (words : List Word) (form : Form) (plain : IsPlain words form) where
   -- the options with their values, as they stand in the words
@@ -230,24 +259,105 @@ module _ (words : List Word) (form : Form) (plain : IsPlain words form) where
       let pairs = given_of (choices_of form) plain.others plain.options in
       ap (value_of word) (one_given pairs.0 given (sym pairs.1 ∙ ap (λ (ws : List Word). drop 1 ws) (sym plain.words_are ∙ is)))
 
-  -- an option that stands there has a value
-  has_value : (option : Word) → has_option option plain.others ≡ true → is_some (value_of option given_in) ≡ true
+  -- so each option that the row requires has one
+  values_given : has_values (λ option. value_of option given_in) (choices_of form) ≡ true
   unfolding given_in
-  has_value option there =
+  values_given =
       let pairs = given_of (choices_of form) plain.others plain.options in
-      sym (has_option-given option pairs.0) ∙ ap (has_option option) (sym pairs.1) ∙ there
+      let stands : (option : Word)
+      → is_some (value_of option pairs.0) ≡ has_option option plain.others =
+      λ option. sym (has_option-given option pairs.0) ∙ ap (has_option option) (sym pairs.1) in
+      (λ i. list_all (λ choice. not choice.1 || stands choice.0 i) (choices_of form))
+      ∙ plain.required
 
-pub some_command : (borrowed : Word → Bor Word) → ((word : Word) → (borrowed word).now ≡ word) → (words : List Word) (form : Form) → IsPlain words form → (command : Command) × IsCommand words command
-some_command borrowed same words Zero plain =
-    let value = λ (word : Word). value_of word (given_in words Zero plain) in
-    let required = both (has_option (codes "--bench") plain.others) true plain.required in
-    let bench = has_value words Zero plain (codes "--bench") required.0 in
-    let meant = command.Zero (borrowed (unwrap_or (value (codes "--bench")) [])) (option_map borrowed (value (codes "--tech"))) in
-    (meant, means_command words Zero plain value (only_given words Zero plain) meant refl (zero_options borrowed same (value (codes "--bench")) (value (codes "--tech")) bench))
-some_command borrowed same words Period plain =
-    let value = λ (word : Word). value_of word (given_in words Period plain) in
-    let required = both (has_option (codes "--bench") plain.others) (has_option (codes "--tech") plain.others && true) plain.required in
-    let bench = has_value words Period plain (codes "--bench") required.0 in
-    let tech = has_value words Period plain (codes "--tech") (both (has_option (codes "--tech") plain.others) true required.1).0 in
-    let meant = command.Period (borrowed (unwrap_or (value (codes "--bench")) [])) (borrowed (unwrap_or (value (codes "--tech")) [])) in
-    (meant, means_command words Period plain value (only_given words Period plain) meant refl (period_options borrowed same (value (codes "--bench")) (value (codes "--tech")) bench tech))
+-- a command of a form whose options have these values
+record Made (form : Form) (value : Word → Option Word) : Type 0 where
+  made : Command
+  has_form : form_of made ≡ form
+  options : options_of made ≡ listed value (choices_of form)
+
+module _ (borrowed : Word → Bor Word) (same : (word : Word) → (borrowed word).now ≡ word) where
+  -- two options that both have to stand
+  both_made : (bench tech : Option Word)
+      → (not true || is_some bench) && ((not true || is_some tech) && true) ≡ true
+      → (first second : Bor Word)
+      × (always (codes "--bench") first ++ always (codes "--tech") second
+      ≡ listed_one (codes "--bench") bench ++ (listed_one (codes "--tech") tech ++ []))
+  both_made None tech has = cc
+  both_made (Some bench) None has = cc
+  both_made (Some bench) (Some tech) has = (
+    borrowed bench,
+    borrowed tech,
+    ap₂ (λ (word other : Word). (codes "--bench", word) ∷ (codes "--tech", other) ∷ [])
+        (same bench) (same tech),
+  )
+
+  -- three of which each has to stand
+  all_made : (bench tech pl : Option Word)
+      → (not true || is_some bench) && ((not true || is_some tech)
+      && ((not true || is_some pl) && true)) ≡ true
+      → (first second third : Bor Word)
+      × (always (codes "--bench") first ++ always (codes "--tech") second
+      ++ always (codes "--pl") third
+      ≡ listed_one (codes "--bench") bench ++ (listed_one (codes "--tech") tech
+      ++ (listed_one (codes "--pl") pl ++ [])))
+  all_made None tech pl has = cc
+  all_made (Some bench) None pl has = cc
+  all_made (Some bench) (Some tech) None has = cc
+  all_made (Some bench) (Some tech) (Some pl) has = (
+    borrowed bench,
+    borrowed tech,
+    borrowed pl,
+    λ i. (codes "--bench", same bench i) ∷ (codes "--tech", same tech i)
+        ∷ (codes "--pl", same pl i) ∷ [],
+  )
+
+  -- one that has to stand, and one that may be left out
+  one_made : (bench tech : Option Word)
+      → (not true || is_some bench) && ((not false || is_some tech) && true) ≡ true
+      → (first : Bor Word) × (always (codes "--bench") first
+      ++ if_wanted (codes "--tech") (option_map borrowed tech)
+      ≡ listed_one (codes "--bench") bench ++ (listed_one (codes "--tech") tech ++ []))
+  one_made None tech has = cc
+  one_made (Some bench) None has =
+      (borrowed bench, ap (λ (word : Word). (codes "--bench", word) ∷ []) (same bench))
+  one_made (Some bench) (Some tech) has = (
+    borrowed bench,
+    ap₂ (λ (word other : Word). (codes "--bench", word) ∷ (codes "--tech", other) ∷ [])
+        (same bench) (same tech),
+  )
+
+  -- there is a command of each form whose options have these values
+  make : (form : Form) (value : Word → Option Word) → has_values value (choices_of form) ≡ true
+      → Made form value
+  make Zero value has =
+      let tech = value (codes "--tech") in
+      let (bench, options) = one_made (value (codes "--bench")) tech has in
+      record {
+        made = command.Zero bench (option_map borrowed tech);
+        has_form = refl;
+        options = options;
+      }
+  make Period value has =
+      let (bench, tech, options) =
+      both_made (value (codes "--bench")) (value (codes "--tech")) has in
+      record { made = command.Period bench tech; has_form = refl; options = options }
+  make Schedule value has =
+      let (bench, tech, options) =
+      both_made (value (codes "--bench")) (value (codes "--tech")) has in
+      record { made = command.Schedule bench tech; has_form = refl; options = options }
+  make Synth value has =
+      let (bench, tech, pl, options) = all_made
+      (value (codes "--bench")) (value (codes "--tech")) (value (codes "--pl")) has in
+      record { made = command.Synth bench tech pl; has_form = refl; options = options }
+
+  -- so plain words mean one
+  pub some_command : (words : List Word) (form : Form) → IsPlain words form
+      → (command : Command) × IsCommand words command
+  some_command words form plain =
+      let value = λ (option : Word). value_of option (given_in words form plain) in
+      let meant = make form value (values_given words form plain) in (
+        meant.made,
+        means_command words form plain value (only_given words form plain) meant.made
+            meant.has_form meant.options,
+      )

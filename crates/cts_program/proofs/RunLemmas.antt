@@ -9,15 +9,16 @@ use Rattle.cts_program.specs.declared.command.WordsFault.TheVariants as word_fau
 use Rattle.cts_program.specs.declared.ending.Ending.{Ending}
 use Rattle.cts_program.specs.declared.ending.Ending.TheVariants.{Done, Never}
 use Rattle.cts_program.specs.declared.failure.Failure.{Failure}
-use Rattle.cts_program.specs.declared.failure.Failure.TheVariants.{Usage, TooLong, Bench, Tech, Pairs, ReadFault, WriteFault, NoMemory}
+use Rattle.cts_program.specs.declared.failure.Failure.TheVariants.{Usage, TooLong, Bench, Tech, Placement, Pairs, ReadFault, WriteFault, NoMemory}
 use Rattle.cts_program.specs.declared.file_kind.FileKind.{FileKind}
 use Rattle.cts_program.specs.Answers.{is_ending, ending_status, TellWith, IsAnswer, IsRefusal}
 use Rattle.cts_program.specs.Commands.{IsCommand}
 use Rattle.cts_program.specs.Failures.{words_failure_of, status_of}
 use Rattle.cts_program.specs.Files.{files_of, AreContents, AreTold}
+use Rattle.cts_program.specs.PlainWords.{form_of}
 use Rattle.cts_program.specs.Run.{IsNoCommand, TellsText, Refuses, CannotRead, Stops, EndsInPart, Fails, AreUnrisen}
-use Rattle.cts_program.proofs.OneAnswer.{Agree, IsTextOf, answer_of, answer_same, one_status, no_answer_front, some_text, answer_not_refused, agree_same}
-use Rattle.cts_program.proofs.PlainCommands.{one_command}
+use Rattle.cts_program.proofs.OneAnswer.{Agree, IsTextOf, answer_of, one_status, no_answer_front, some_text, answer_not_refused, agree_same}
+use Rattle.cts_program.proofs.PlainCommands.{one_command, same_form}
 use Rattle.cts_program.proofs.SameFiles.{same_files, told_contents, contents_within, told_agree, agree_turned}
 
 -- ---- what is told of files, against what is known of them
@@ -39,7 +40,7 @@ module _ (words : List (List ℕ)) (holds : List ℕ → Option (List ℕ)) (com
       let (all, answer) = answer_of other tells.contents status text tells.answer in
       let many = as_many in
       let within = told_within in
-      answer_not_refused command tells.contents contents (IsTextOf other status text) failure (agree_turned contents tells.contents (agrees tells.contents tells.are)) (omega arith) answer
+      answer_not_refused command tells.contents contents (IsTextOf (form_of other) status text) failure (agree_turned contents tells.contents (agrees tells.contents tells.are)) (omega arith) answer
       (λ whole. omega arith) refusal
 
   -- an answer for contents that are told, beside a refusal
@@ -48,27 +49,29 @@ module _ (words : List (List ℕ)) (holds : List ℕ → Option (List ℕ)) (com
       let (all, told_all) = answer_of command contents status text answer in
       let many = as_many in
       let within = contents_within holds (files_of other) refuses.contents refuses.are in
-      answer_not_refused other contents refuses.contents (IsTextOf command status text) failure (agrees refuses.contents refuses.are) (omega arith) told_all (λ whole. omega arith) refuses.refusal
+      answer_not_refused other contents refuses.contents (IsTextOf (form_of command) status text) failure (agrees refuses.contents refuses.are) (omega arith) told_all (λ whole. omega arith) refuses.refusal
 
   -- an answer for contents that are told, beside a text
-  tells_alike : (status : ℕ) (text : List ℕ) → IsAnswer command contents status text → (status' : ℕ) (text' : List ℕ) → TellsText holds other status' text' → TellWith contents (IsTextOf command status' text')
+  tells_alike : (status : ℕ) (text : List ℕ) → IsAnswer command contents status text → (status' : ℕ) (text' : List ℕ) → TellsText holds other status' text' → TellWith contents (IsTextOf (form_of command) status' text')
   tells_alike status text answer status' text' tells =
       let (all, told_all) = answer_of command contents status text answer in
       let (all', told_all') = answer_of other tells.contents status' text' tells.answer in
       let many = as_many in
       let known = sym (agree_same contents tells.contents (agrees tells.contents tells.are) (omega arith)) in
-      answer_same command other (one_command words command other means means') contents status' text' (subst (λ c. TellWith c (IsTextOf other status' text')) known told_all')
+      let form = same_form other command (sym (one_command words command other means means').name) in
+      subst (λ f. TellWith contents (IsTextOf f status' text')) form
+      (subst (λ c. TellWith c (IsTextOf (form_of other) status' text')) known told_all')
 
   -- has its status
   pub told_status : (status : ℕ) (text : List ℕ) → IsAnswer command contents status text → (status' : ℕ) (text' : List ℕ) → TellsText holds other status' text' → status' ≡ status
   told_status status text answer status' text' tells =
-      one_status command contents status' text' (tells_alike status text answer status' text' tells) status text (answer_of command contents status text answer).1
+      one_status (form_of command) contents status' text' (tells_alike status text answer status' text' tells) status text (answer_of command contents status text answer).1
 
   -- and isn't a front of it
   pub told_front : (status : ℕ) (text : List ℕ) → IsAnswer command contents status text → (status' : ℕ) (text' : List ℕ) → TellsText holds other status' text'
       → (count : ℕ) → text ≡ take count text' → count < length text' → ⊥
   told_front status text answer status' text' tells =
-      no_answer_front command contents status text (answer_of command contents status text answer).1 status' text' (tells_alike status text answer status' text' tells)
+      no_answer_front (form_of command) contents status text (answer_of command contents status text answer).1 status' text' (tells_alike status text answer status' text' tells)
 
 -- a file whose count rose is none of those whose counts didn't
 unrisen_read : (reads reads_now : List ℕ → ℕ) (files front : List (FileKind × List ℕ)) (file : FileKind × List ℕ) (behind : List (FileKind × List ℕ)) → files ≡ front ++ file ∷ behind
@@ -111,6 +114,7 @@ module _ (words : List (List ℕ)) (holds : List ℕ → Option (List ℕ)) (rea
   cause_of (TooLong kind) (command, means, refuses) = refused refl command means refuses
   cause_of (Bench fault) (command, means, refuses) = refused refl command means refuses
   cause_of (Tech fault) (command, means, refuses) = refused refl command means refuses
+  cause_of (Placement fault) (command, means, refuses) = refused refl command means refuses
   cause_of Pairs (command, means, refuses) = refused refl command means refuses
   cause_of (ReadFault kind) (command, means, cannot) = unread kind refl command means cannot
   cause_of WriteFault (part, rose) = unwritten refl part rose
@@ -202,7 +206,7 @@ module _ (words : List (List ℕ)) (holds : List ℕ → Option (List ℕ)) (rea
     ]
       where
         some : 0 < length text
-        some = some_text command contents status text (answer_of command contents status text answer).1
+        some = some_text (form_of command) contents status text (answer_of command contents status text answer).1
 
         not_write : (status : ℕ) → status_of failure ≡ status → (status ≡ 5 → ⊥) → failure ≢ WriteFault
         not_write status is apart same = apart (sym is ∙ ap status_of same)
@@ -220,6 +224,7 @@ not_ending Usage is = cc is
 not_ending (TooLong kind) is = cc is
 not_ending (Bench fault) is = cc is
 not_ending (Tech fault) is = cc is
+not_ending (Placement fault) is = cc is
 not_ending Pairs is = cc is
 not_ending (ReadFault kind) is = cc is
 not_ending WriteFault is = cc is
@@ -232,6 +237,7 @@ risen_status Usage before now stays rose = let same = stays (λ (kind, e). cc e)
 risen_status (TooLong kind) before now stays rose = let same = stays (λ (kind, e). cc e) in absurd (omega arith)
 risen_status (Bench fault) before now stays rose = let same = stays (λ (kind, e). cc e) in absurd (omega arith)
 risen_status (Tech fault) before now stays rose = let same = stays (λ (kind, e). cc e) in absurd (omega arith)
+risen_status (Placement fault) before now stays rose = let same = stays (λ (kind, e). cc e) in absurd (omega arith)
 risen_status Pairs before now stays rose = let same = stays (λ (kind, e). cc e) in absurd (omega arith)
 risen_status WriteFault before now stays rose = let same = stays (λ (kind, e). cc e) in absurd (omega arith)
 risen_status NoMemory before now stays rose = let same = stays (λ (kind, e). cc e) in absurd (omega arith)
@@ -242,6 +248,7 @@ written_status Usage before now stays rose = let same = stays (λ e. cc e) in ab
 written_status (TooLong kind) before now stays rose = let same = stays (λ e. cc e) in absurd (omega arith)
 written_status (Bench fault) before now stays rose = let same = stays (λ e. cc e) in absurd (omega arith)
 written_status (Tech fault) before now stays rose = let same = stays (λ e. cc e) in absurd (omega arith)
+written_status (Placement fault) before now stays rose = let same = stays (λ e. cc e) in absurd (omega arith)
 written_status Pairs before now stays rose = let same = stays (λ e. cc e) in absurd (omega arith)
 written_status (ReadFault kind) before now stays rose = let same = stays (λ e. cc e) in absurd (omega arith)
 written_status NoMemory before now stays rose = let same = stays (λ e. cc e) in absurd (omega arith)
@@ -254,6 +261,7 @@ stopped words holds reads reads_now before now writes writes_now command means W
 stopped words holds reads reads_now before now writes writes_now command means (TooLong kind) stops = (command, means, stops)
 stopped words holds reads reads_now before now writes writes_now command means (Bench fault) stops = (command, means, stops)
 stopped words holds reads reads_now before now writes writes_now command means (Tech fault) stops = (command, means, stops)
+stopped words holds reads reads_now before now writes writes_now command means (Placement fault) stops = (command, means, stops)
 stopped words holds reads reads_now before now writes writes_now command means Pairs stops = (command, means, stops)
 stopped words holds reads reads_now before now writes writes_now command means (ReadFault kind) stops = (command, means, stops)
 stopped words holds reads reads_now before now writes writes_now command means NoMemory stops = (command, means, stops)

@@ -1,33 +1,34 @@
 -- The words of a command line name files in one way, so what is told of their contents is one.
-use Rattle.std.proofs.Common.{ℕ, ◌≡◌, ◌≤◌, List, [], ◌∷◌, length, get_or, Option, Some, None, IfSome, refl, ap, sym, subst, arith}
+use Rattle.std.proofs.Common.{ℕ, ◌≡◌, ◌≤◌, if◌then◌else◌, List, [], ◌∷◌, map, length, Option, Some, None, IfSome, codes, refl, ap, sym, ◌∙◌, subst, arith}
+use Rattle.std.specs.Str.{bytes_eq}
 use Rattle.cts_program.specs.declared.command.Command.{Command}
-use Rattle.cts_program.specs.declared.command.Command.TheVariants.{Zero, Period}
+use Rattle.cts_program.specs.declared.command.Command.TheVariants.{Zero, Period, Schedule, Synth}
 use Rattle.cts_program.specs.declared.file_kind.FileKind.{FileKind}
-use Rattle.cts_program.specs.declared.file_kind.FileKind.TheVariants.{Bench, Tech}
-use Rattle.cts_program.specs.Commands.{Given, IsSame, IsCommand}
+use Rattle.cts_program.specs.declared.file_kind.FileKind.TheVariants.{Bench, Tech, Placement}
+use Rattle.cts_program.specs.Commands.{Given, options_of, IsSame, IsCommand}
 use Rattle.cts_program.specs.Files.{files_of, AreContents, AreTold}
 use Rattle.cts_program.proofs.OneAnswer.{Agree}
-use Rattle.cts_program.proofs.PlainCommands.{names_differ, one_command}
+use Rattle.cts_program.proofs.PlainCommands.{one_command}
 
--- the value of an option
-value_at : List Given → ℕ → List ℕ
-value_at given place = (get_or given place ([], [])).1
+-- the file that an option names
+abbrev file_of : Given → FileKind × List ℕ
+file_of one = (
+  if bytes_eq one.0 (codes "--bench") then Bench
+      else if bytes_eq one.0 (codes "--tech") then Tech else Placement,
+  one.1,
+)
 
-option_count : List Given → ℕ
-option_count given = length given
-
-one_or_two : ◌≡◌ {A = ℕ} 1 2 → ⊥
-one_or_two same = omega arith
+-- the files of a command are those that its options name, in their order
+files_named : (command : Command) → files_of command ≡ map file_of (options_of command)
+files_named (Zero bench None) = refl
+files_named (Zero bench (Some tech)) = refl
+files_named (Period bench tech) = refl
+files_named (Schedule bench tech) = refl
+files_named (Synth bench tech pl) = refl
 
 files_same : (command other : Command) → IsSame command other → files_of command ≡ files_of other
-unfolding value_at option_count
-files_same (Zero bench None) (Zero bench' None) same = ap (λ given. (Bench, value_at given 0) ∷ []) same.options
-files_same (Zero bench (Some tech)) (Zero bench' (Some tech')) same = ap (λ given. (Bench, value_at given 0) ∷ (Tech, value_at given 1) ∷ []) same.options
-files_same (Period bench tech) (Period bench' tech') same = ap (λ given. (Bench, value_at given 0) ∷ (Tech, value_at given 1) ∷ []) same.options
-files_same (Zero bench tech) (Period bench' tech') same = absurd (names_differ same.name)
-files_same (Period bench tech) (Zero bench' tech') same = absurd (names_differ (sym same.name))
-files_same (Zero bench None) (Zero bench' (Some tech')) same = absurd (one_or_two (ap option_count same.options))
-files_same (Zero bench (Some tech)) (Zero bench' None) same = absurd (one_or_two (sym (ap option_count same.options)))
+files_same command other same =
+    files_named command ∙ ap (map file_of) same.options ∙ sym (files_named other)
 
 -- commands that the same words mean read the same files
 pub same_files : (words : List (List ℕ)) (command other : Command) → IsCommand words command → IsCommand words other → files_of command ≡ files_of other

@@ -1,5 +1,5 @@
 -- What the files of a command tell, and how it stops or answers.
-use Rattle.std.proofs.Common.{◌≡◌, ℕ, Bool, true, false, List, [], ◌∷◌, ◌++◌, length, Option, Some, None, IsTrue, IsSomeAnd, MatchBool, Bor, nat_eq, get_or, Contains, inl, inr, refl, sym, ap, ◌∙◌, subst, arith}
+use Rattle.std.proofs.Common.{◌≡◌, ℕ, Bool, true, false, List, [], ◌∷◌, ◌++◌, length, Option, Some, None, Result, IfOk, IsTrue, IsSomeAnd, MatchBool, Bor, nat_eq, get_or, Contains, inl, inr, refl, sym, ap, ◌∙◌, subst, arith}
 use Rattle.std.specs.List.{slice_get}
 use Rattle.std.proofs.Math.ListN.{get_or-append}
 use Rattle.std.proofs.Math.Seq.{get_or-append_seam}
@@ -21,15 +21,18 @@ use Rattle.cts_engine.specs.Faults.{IsCaused}
 use Rattle.cts_engine.specs.declared.fault.SynthFault.{SynthFault}
 use Rattle.cts_engine.specs.declared.fault.SynthFault.TheVariants as synth
 use Rattle.cts_program.specs.declared.command.Command.{Command}
+use Rattle.cts_program.specs.declared.ending.Answer.{Answer}
 use Rattle.cts_program.specs.declared.failure.Failure.{Failure}
 use Rattle.cts_program.specs.declared.failure.Failure.TheVariants as failures
 use Rattle.cts_program.specs.declared.file_kind.FileKind.TheVariants as kinds
-use Rattle.cts_program.specs.Answers.{TellWith}
+use Rattle.cts_program.specs.Answers.{ending_status, TellWith, IsAnswer}
 use Rattle.cts_program.specs.Failures.{synth_failure_of}
-use Rattle.cts_program.specs.Files.{files_of, AreContents}
+use Rattle.cts_program.specs.declared.file_kind.FileKind.{FileKind}
+use Rattle.cts_program.specs.Files.{circuit_files, files_of, AreAll, AreContents}
 use Rattle.cts_program.specs.Judged.{IsNetlistFile, IsTableFile, IsHostedBy, Tell}
-use Rattle.cts_program.specs.Run.{Stops}
+use Rattle.cts_program.specs.Run.{TellsText, Stops}
 use Rattle.cts_program.specs.Steps.{IsToldAs, ReadsNetlist, FailsNetlist, ReadsTable, FailsTable, ReadsCircuit, TellsCircuit, FailsCircuit}
+use Rattle.cts_program.proofs.ResultLemmas.{if_ok_from}
 
 -- a netlist that was read is accepted
 pub accepted_netlist : {held : Option (List ℕ)} {circuit : Circuit}
@@ -51,47 +54,39 @@ accepted_table netlist table = record {
   };
 }
 
-module _ (holds : List ℕ → Option (List ℕ)) (command : Command) (bench : Bor (List ℕ)) where
+module _ (holds : List ℕ → Option (List ℕ)) (bench : Bor (List ℕ)) where
   -- a netlist alone tells its circuit, with the built-in delays
-  pub netlist_tells : ReadsCircuit command bench None
-      → {circuit : Circuit} (netlist : ReadsNetlist (holds bench.now) circuit) → (tech : Tech)
-      → IsPlainTable tech → TellsCircuit holds command circuit tech
-  netlist_tells named netlist tech plain = record {
+  pub netlist_tells : {circuit : Circuit} (netlist : ReadsNetlist (holds bench.now) circuit)
+      → (tech : Tech) → IsPlainTable tech
+      → TellsCircuit holds (circuit_files bench None) circuit tech
+  netlist_tells netlist tech plain = record {
     contents = netlist.bytes ∷ [];
-    are = subst (λ files. AreContents holds files (netlist.bytes ∷ [])) (sym named)
-        (netlist.told, tt);
-    all = ap length (sym named);
+    are = (netlist.told, tt);
+    all = refl;
     accepted = accepted_netlist netlist;
     tell = (netlist.accepts, plain);
   }
 
-  module _ (file : Bor (List ℕ)) (named : ReadsCircuit command bench (Some file)) where
-    -- what is told of both files
-    both_told : (bytes table : List ℕ) → IsToldAs (holds bench.now) bytes
-        → IsToldAs (holds file.now) table
-        → AreContents holds (files_of command) (bytes ∷ table ∷ [])
-    both_told bytes table told told' =
-        subst (λ files. AreContents holds files (bytes ∷ table ∷ [])) (sym named)
-        (told, (told', tt))
-
-    -- both files tell the circuit with the host, where there is one
-    pub both_tell : {bare : Circuit} {tech : Tech} (netlist : ReadsNetlist (holds bench.now) bare)
-        → ReadsTable bare.signals (holds file.now) tech → (circuit : Circuit)
-        → IsHostedBy tech bare circuit → TellsCircuit holds command circuit tech
-    both_tell {bare} {tech} netlist table circuit hosted = record {
-      contents = netlist.bytes ∷ table.bytes ∷ [];
-      are = both_told netlist.bytes table.bytes netlist.told table.told;
-      all = ap length (sym named);
-      accepted = (accepted_netlist netlist, accepted_table netlist table);
-      tell = record {
-        bare = bare;
-        accepts = netlist.accepts;
-        used = table.used;
-        kinds = table.kinds;
-        accepts_table = table.accepts;
-        hosted = hosted;
-      };
-    }
+  -- both files tell the circuit with the host, where there is one
+  pub both_tell : (file : Bor (List ℕ)) {bare : Circuit} {tech : Tech}
+      (netlist : ReadsNetlist (holds bench.now) bare)
+      → ReadsTable bare.signals (holds file.now) tech → (circuit : Circuit)
+      → IsHostedBy tech bare circuit
+      → TellsCircuit holds (circuit_files bench (Some file)) circuit tech
+  both_tell file {bare} {tech} netlist table circuit hosted = record {
+    contents = netlist.bytes ∷ table.bytes ∷ [];
+    are = (netlist.told, (table.told, tt));
+    all = refl;
+    accepted = (accepted_netlist netlist, accepted_table netlist table);
+    tell = record {
+      bare = bare;
+      accepts = netlist.accepts;
+      used = table.used;
+      kinds = table.kinds;
+      accepts_table = table.accepts;
+      hosted = hosted;
+    };
+  }
 
 module _ (holds : List ℕ → Option (List ℕ)) (reads reads_now : List ℕ → ℕ) (command : Command)
     (bench : Bor (List ℕ)) where
@@ -104,24 +99,26 @@ module _ (holds : List ℕ → Option (List ℕ)) (reads reads_now : List ℕ �
   netlist_stops tech named (failures.TooLong kinds.Bench) (same, (bytes, told, long)) =
       record {
         contents = bytes ∷ [];
-        are = subst (λ files. AreContents holds files (bytes ∷ [])) (sym named) (told, tt);
+        are = subst (λ files. AreContents holds files (bytes ∷ [])) (sym named.1) (told, tt);
         refusal = long;
       }
   netlist_stops tech named (failures.TooLong kinds.Tech) (same, (bytes, told, long)) = cc same
+  netlist_stops tech named (failures.TooLong kinds.Placement) (same, (bytes, told, long)) = cc same
   netlist_stops tech named (failures.Bench fault) (bytes, told, short, has) =
       record {
         contents = bytes ∷ [];
-        are = subst (λ files. AreContents holds files (bytes ∷ [])) (sym named) (told, tt);
+        are = subst (λ files. AreContents holds files (bytes ∷ [])) (sym named.1) (told, tt);
         refusal = (short, has);
       }
   netlist_stops tech named (failures.Tech fault) fails = absurd fails
+  netlist_stops tech named (failures.Placement fault) fails = absurd fails
   netlist_stops tech named failures.Pairs fails = absurd fails
   netlist_stops tech named (failures.ReadFault kinds.Bench) (same, rose) =
       record {
         front = [];
         file = bench.now;
         behind = _;
-        files = named;
+        files = named.1;
         rose = rose;
         contents = [];
         before = refl;
@@ -129,10 +126,19 @@ module _ (holds : List ℕ → Option (List ℕ)) (reads reads_now : List ℕ �
         accepted = tt;
       }
   netlist_stops tech named (failures.ReadFault kinds.Tech) (same, rose) = cc same
+  netlist_stops tech named (failures.ReadFault kinds.Placement) (same, rose) = cc same
   netlist_stops tech named failures.WriteFault fails = fails
   netlist_stops tech named failures.NoMemory fails = tt
 
   module _ (file : Bor (List ℕ)) (named : ReadsCircuit command bench (Some file)) where
+    -- what is told of both files
+    both_told : (bytes table : List ℕ) → IsToldAs (holds bench.now) bytes
+        → IsToldAs (holds file.now) table
+        → AreContents holds (files_of command) (bytes ∷ table ∷ [])
+    both_told bytes table told told' =
+        subst (λ files. AreContents holds files (bytes ∷ table ∷ [])) (sym named.1)
+        (told, (told', tt))
+
     -- a table that isn't read stops it behind an accepted netlist
     pub table_stops : {circuit : Circuit} → ReadsNetlist (holds bench.now) circuit
         → (failure : Failure)
@@ -141,16 +147,17 @@ module _ (holds : List ℕ → Option (List ℕ)) (reads reads_now : List ℕ �
         → Stops holds reads reads_now command failure
     table_stops netlist failures.Usage fails = fails
     table_stops netlist (failures.TooLong kinds.Bench) (same, (bytes, told, long)) = cc same
+    table_stops netlist (failures.TooLong kinds.Placement) (same, (bytes, told, long)) = cc same
     table_stops netlist (failures.TooLong kinds.Tech) (same, (bytes, told, long)) =
         record {
           contents = netlist.bytes ∷ bytes ∷ [];
-          are = both_told holds command bench file named netlist.bytes bytes netlist.told told;
+          are = both_told netlist.bytes bytes netlist.told told;
           refusal = (accepted_netlist netlist, long);
         }
     table_stops netlist (failures.Bench fault) fails = absurd fails
     table_stops netlist (failures.Tech fault) (bytes, told, short, has) = record {
       contents = netlist.bytes ∷ bytes ∷ [];
-      are = both_told holds command bench file named netlist.bytes bytes netlist.told told;
+      are = both_told netlist.bytes bytes netlist.told told;
       refusal = (
         accepted_netlist netlist,
         short,
@@ -163,13 +170,15 @@ module _ (holds : List ℕ → Option (List ℕ)) (reads reads_now : List ℕ �
         },
       );
     }
+    table_stops netlist (failures.Placement fault) fails = absurd fails
     table_stops netlist failures.Pairs fails = absurd fails
     table_stops netlist (failures.ReadFault kinds.Bench) (same, rose) = cc same
+    table_stops netlist (failures.ReadFault kinds.Placement) (same, rose) = cc same
     table_stops netlist (failures.ReadFault kinds.Tech) (same, rose) = record {
       front = (kinds.Bench, bench.now) ∷ [];
       file = file.now;
-      behind = [];
-      files = named;
+      behind = named.0;
+      files = named.1;
       rose = rose;
       contents = netlist.bytes ∷ [];
       before = refl;
@@ -180,8 +189,8 @@ module _ (holds : List ℕ → Option (List ℕ)) (reads reads_now : List ℕ �
     table_stops netlist failures.NoMemory fails = tt
 
 module _ {holds : List ℕ → Option (List ℕ)}
-    (reads reads_now : List ℕ → ℕ) {command : Command} {circuit : Circuit} {tech : Tech}
-    (told : TellsCircuit holds command circuit tech) where
+    (reads reads_now : List ℕ → ℕ) (command : Command) {circuit : Circuit} {tech : Tech}
+    (told : TellsCircuit holds (files_of command) circuit tech) where
   -- too many joined pairs stop a command behind accepted files
   pub circuit_stops : (failure : Failure) → FailsCircuit circuit failure
       → Stops holds reads reads_now command failure
@@ -189,6 +198,7 @@ module _ {holds : List ℕ → Option (List ℕ)}
   circuit_stops (failures.TooLong kind) fails = absurd fails
   circuit_stops (failures.Bench fault) fails = absurd fails
   circuit_stops (failures.Tech fault) fails = absurd fails
+  circuit_stops (failures.Placement fault) fails = absurd fails
   circuit_stops failures.Pairs many =
       record {
         contents = told.contents;
@@ -200,8 +210,8 @@ module _ {holds : List ℕ → Option (List ℕ)}
   circuit_stops failures.WriteFault fails = fails
   circuit_stops failures.NoMemory fails = tt
 
-module _ {holds : List ℕ → Option (List ℕ)} {command : Command} {circuit : Circuit} {tech : Tech}
-    (told : TellsCircuit holds command circuit tech) where
+module _ {holds : List ℕ → Option (List ℕ)} {files : List (FileKind × List ℕ)}
+    {circuit : Circuit} {tech : Tech} (told : TellsCircuit holds files circuit tech) where
   -- else what holds of the circuit is its answer
   pub tell_with : (Holds : Circuit → Tech → Type 0) → (JoinsMoreThan circuit 1048576 → ⊥)
       → Holds circuit tech → TellWith told.contents Holds
@@ -214,6 +224,30 @@ module _ {holds : List ℕ → Option (List ℕ)} {command : Command} {circuit :
         few = few;
         holds = holds;
       }
+
+-- and where the circuit has a text, the command has its answer
+pub told_answer : {holds : List ℕ → Option (List ℕ)} (command : Command) {circuit : Circuit}
+    {tech : Tech} (told : TellsCircuit holds (files_of command) circuit tech)
+    (Says : Circuit → Tech → ℕ → List ℕ → Type 0)
+    → ((status : ℕ) (text : List ℕ) → AreAll command told.contents
+    × TellWith told.contents (λ circuit tech. Says circuit tech status text)
+    → IsAnswer command told.contents status text)
+    → (result : Result Answer Failure)
+    → IfOk result (λ answer. JoinsMoreThan circuit 1048576 → ⊥)
+    → IfOk result (λ answer. Says circuit tech (ending_status answer.ending) answer.text.items)
+    → IfOk result (λ answer. TellsText holds command (ending_status answer.ending)
+    answer.text.items)
+told_answer command told Says is_answer result few says =
+    if_ok_from result _ _ _ few says (λ answer few_here said. record {
+      contents = told.contents;
+      are = told.are;
+      answer = is_answer (ending_status answer.ending) answer.text.items (
+        told.all,
+        tell_with told
+            (λ circuit tech. Says circuit tech (ending_status answer.ending) answer.text.items)
+            few_here said,
+      );
+    })
 
 -- why a circuit has no outcome is why a command fails on it
 pub synth_fails : (circuit : Circuit) (fault : SynthFault) → IsCaused circuit fault
@@ -295,10 +329,10 @@ acyclic netlist circuit accepts loop ring =
     accepts.netlist.no_loop loop (subst (λ signals. IsLoop signals loop) accepts.signals ring)
 
 -- nor has one that a command's files tell
-pub told_acyclic : {holds : List ℕ → Option (List ℕ)} {command : Command} {circuit : Circuit}
-    {tech : Tech} → TellsCircuit holds command circuit tech → (loop : List ℕ)
+pub told_acyclic : {holds : List ℕ → Option (List ℕ)} {files : List (FileKind × List ℕ)}
+    {circuit : Circuit} {tech : Tech} → TellsCircuit holds files circuit tech → (loop : List ℕ)
     → IsLoop circuit.signals loop → ⊥
-told_acyclic {holds} {command} {circuit} {tech} told = at told.contents told.tell
+told_acyclic {holds} {files} {circuit} {tech} told = at told.contents told.tell
   where
     at : (contents : List (List ℕ)) → Tell contents circuit tech → (loop : List ℕ)
         → IsLoop circuit.signals loop → ⊥
@@ -306,4 +340,6 @@ told_acyclic {holds} {command} {circuit} {tech} told = at told.contents told.tel
     at (netlist ∷ []) tell = acyclic netlist circuit tell.0
     at (netlist ∷ table ∷ []) tell =
         acyclic_hosted tech tell.bare circuit (acyclic netlist tell.bare tell.accepts) tell.hosted
-    at (netlist ∷ table ∷ more ∷ rest) tell = absurd tell
+    at (netlist ∷ table ∷ places ∷ []) tell =
+        acyclic_hosted tech tell.bare circuit (acyclic netlist tell.bare tell.accepts) tell.hosted
+    at (netlist ∷ table ∷ places ∷ more ∷ rest) tell = absurd tell

@@ -4,7 +4,7 @@ use Rattle.std.specs.Borrow.{Bor}
 use Rattle.std.specs.List.{All, flat_map}
 use Rattle.std.specs.List.Sorted.{IsPermutation}
 use Rattle.cts_program.specs.declared.command.Command.{Command}
-use Rattle.cts_program.specs.declared.command.Command.TheVariants.{Zero, Period}
+use Rattle.cts_program.specs.declared.command.Command.TheVariants.{Zero, Period, Schedule, Synth}
 
 -- a word of a command line
 abbrev pub Word : Type 0
@@ -26,11 +26,16 @@ if_wanted option value = option_to_list (option_map (λ word. (option, word.now)
 abbrev pub name_of : Command → Word
 name_of (Zero bench tech) = codes "zero"
 name_of (Period bench tech) = codes "period"
+name_of (Schedule bench tech) = codes "schedule"
+name_of (Synth bench tech pl) = codes "synth"
 
 -- the options of a command, with their values
 abbrev pub options_of : Command → List Given
 options_of (Zero bench tech) = always (codes "--bench") bench ++ if_wanted (codes "--tech") tech
 options_of (Period bench tech) = always (codes "--bench") bench ++ always (codes "--tech") tech
+options_of (Schedule bench tech) = always (codes "--bench") bench ++ always (codes "--tech") tech
+options_of (Synth bench tech pl) =
+    always (codes "--bench") bench ++ always (codes "--tech") tech ++ always (codes "--pl") pl
 
 -- a value is one or more bytes, of which the first is no `-`
 abbrev pub is_value : Word → Bool

@@ -13,9 +13,13 @@ use Rattle.cts_engine.specs.declared.fault.SynthFault.TheVariants as synth
 use Rattle.cts_model.specs.declared.kind.Kind.{Kind}
 use Rattle.cts_model.specs.declared.kind.Kind.TheVariants.{And, Nand, Or, Nor, Not, Xor, Xnor, Buff}
 use Rattle.cts_program.specs.declared.failure.Failure.{Failure}
-use Rattle.cts_program.specs.declared.failure.Failure.TheVariants.{Usage, TooLong, Bench, Tech, Pairs, ReadFault, WriteFault, NoMemory}
+use Rattle.cts_program.specs.declared.failure.Failure.TheVariants.{Usage, TooLong, Bench, Tech, Placement, Pairs, ReadFault, WriteFault, NoMemory}
 use Rattle.cts_program.specs.declared.command.WordsFault.{WordsFault}
 use Rattle.cts_program.specs.declared.command.WordsFault.TheVariants as words
+use Rattle.cts_base.specs.declared.number.NumberFault.{NumberFault}
+use Rattle.cts_base.specs.declared.number.NumberFault.TheVariants.{NotNumber, TooFine, TooLarge}
+use Rattle.cts_program.specs.declared.placement.PlacementFault.{PlacementFault}
+use Rattle.cts_program.specs.declared.placement.PlacementFault.TheVariants as places
 use Rattle.cts_program.specs.Files.{kind_word}
 
 -- the failure where the words aren't read
@@ -44,6 +48,7 @@ status_of Usage = 2
 status_of (TooLong kind) = 3
 status_of (Bench fault) = 3
 status_of (Tech fault) = 3
+status_of (Placement fault) = 3
 status_of Pairs = 3
 status_of (ReadFault kind) = 4
 status_of WriteFault = 5
@@ -120,12 +125,35 @@ tech_line (tech.MissingKind kind) = ended (codes "refused tech 6 " ++ gate_word 
 tech_line (tech.UnknownKey name) = line_about (codes "refused tech 7 ") name
 tech_line tech.NoMemory = ended (codes "no memory")
 
+-- the word for what is wrong with a number, after a space
+abbrev pub number_word : NumberFault → List ℕ
+number_word NotNumber = codes " 1"
+number_word TooFine = codes " 2"
+number_word TooLarge = codes " 3"
+
+-- the line for a fault of a placement, with the number of the fault
+abbrev pub placement_line : PlacementFault → List ℕ
+placement_line (places.BadLine line) = line_at (codes "refused pl 1 line ") line []
+placement_line (places.BadNumber line fault) =
+    line_at (codes "refused pl 2 line ") line (number_word fault)
+placement_line (places.PlaceTwice line) = line_at (codes "refused pl 3 line ") line []
+placement_line (places.NoPlace name) = ended (codes "refused pl 4 " ++ name)
+placement_line places.NoSource = ended (codes "refused pl 5")
+
+-- what the words of each command are
+abbrev pub usage : List ℕ
+usage = codes "usage: cts zero --bench F [--tech F] | cts period --bench F --tech F"
+    ++ codes " | cts schedule --bench F --tech F | cts synth --bench F --tech F --pl F"
+    ++ codes " | cts check --bench F --tech F --pl F --report F"
+    ++ codes " | cts demo --registers N --seed S"
+
 -- the line that says why
 abbrev pub failure_line : Failure → List ℕ
-failure_line Usage = ended (codes "usage: cts zero --bench F [--tech F] | cts period --bench F --tech F | cts schedule --bench F --tech F | cts synth --bench F --tech F --pl F | cts check --bench F --tech F --pl F --report F | cts demo --registers N --seed S")
+failure_line Usage = ended usage
 failure_line (TooLong kind) = ended (codes "refused " ++ kind_word kind ++ codes " long")
 failure_line (Bench fault) = bench_line fault
 failure_line (Tech fault) = tech_line fault
+failure_line (Placement fault) = placement_line fault
 failure_line Pairs = ended (codes "refused pairs")
 failure_line (ReadFault kind) = ended (codes "read fault " ++ kind_word kind)
 failure_line WriteFault = ended (codes "write fault")

@@ -2,10 +2,13 @@ pub mod Answers
 pub mod Commands
 pub mod Failures
 pub mod Files
+pub mod Headline
 pub mod Judged
 pub mod Parsers
 pub mod PeriodTexts
 pub mod PlainWords
 pub mod Run
+pub mod ScheduleTexts
 pub mod Steps
+pub mod SynthTexts
 pub mod Texts

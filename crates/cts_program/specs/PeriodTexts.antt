@@ -7,6 +7,7 @@ use Rattle.cts_base.specs.Fractions.{fraction_text}
 use Rattle.cts_model.specs.declared.circuit.Circuit.{Circuit}
 use Rattle.cts_model.specs.declared.tech.Tech.{Tech}
 use Rattle.cts_model.specs.declared.constraint.Constraint.{Constraint}
+use Rattle.cts_model.specs.declared.timing.ZeroSkew.{ZeroSkew}
 use Rattle.cts_model.specs.declared.period.PeriodShow.{PeriodShow}
 use Rattle.cts_model.specs.declared.period.PeriodShow.TheVariants.{Cycle, Floor}
 use Rattle.cts_engine.specs.declared.period.PeriodOutcome.{PeriodOutcome}
@@ -38,11 +39,19 @@ abbrev pub show_lines : Circuit → PeriodShow → List Words
 show_lines circuit (Cycle cycle) = cycle_lines circuit cycle
 show_lines circuit Floor = floor_line ∷ []
 
+-- the lines for the least period, with and without skew, and for what shows the one with it
+abbrev pub found_lines : Circuit → ZeroSkew → Fraction → PeriodShow → List Words
+found_lines circuit zero period shown =
+    period_line period ∷ zero_line zero ∷ show_lines circuit shown
+
+-- the lines for a cycle that forbids every period
+abbrev pub never_lines : Circuit → List Constraint → List Words
+never_lines circuit cycle = (codes "never" ∷ []) ∷ cycle_lines circuit cycle
+
 -- the lines for an outcome
 abbrev pub period_lines : Circuit → PeriodOutcome → List Words
-period_lines circuit (Found zero period shown) =
-    period_line period ∷ zero_line zero ∷ show_lines circuit shown
-period_lines circuit (Never cycle) = (codes "never" ∷ []) ∷ cycle_lines circuit cycle
+period_lines circuit (Found zero period shown) = found_lines circuit zero period shown
+period_lines circuit (Never cycle) = never_lines circuit cycle
 
 -- the exit status for an outcome
 abbrev pub outcome_status : PeriodOutcome → ℕ

@@ -5,7 +5,7 @@ use Rattle.std.specs.List.{list_all, list_any}
 use Rattle.cts_program.specs.declared.command.Command.{Command}
 use Rattle.cts_program.specs.declared.command.Command.TheVariants as command
 use Rattle.cts_program.specs.declared.command.table.Form.{Form}
-use Rattle.cts_program.specs.declared.command.table.Form.TheVariants.{Zero, Period}
+use Rattle.cts_program.specs.declared.command.table.Form.TheVariants.{Zero, Period, Schedule, Synth}
 use Rattle.cts_program.specs.declared.command.table.Choice.{Choice}
 use Rattle.cts_program.specs.Commands.{Word, Given, is_value}
 
@@ -13,16 +13,23 @@ use Rattle.cts_program.specs.Commands.{Word, Given, is_value}
 abbrev pub form_of : Command → Form
 form_of (command.Zero bench tech) = Zero
 form_of (command.Period bench tech) = Period
+form_of (command.Schedule bench tech) = Schedule
+form_of (command.Synth bench tech pl) = Synth
 
 -- the name of a command
 abbrev pub form_name : Form → Word
 form_name Zero = codes "zero"
 form_name Period = codes "period"
+form_name Schedule = codes "schedule"
+form_name Synth = codes "synth"
 
 -- the options that may stand behind the name, and whether each is required
 abbrev pub choices_of : Form → List (Word × Bool)
 choices_of Zero = (codes "--bench", true) ∷ (codes "--tech", false) ∷ []
 choices_of Period = (codes "--bench", true) ∷ (codes "--tech", true) ∷ []
+choices_of Schedule = (codes "--bench", true) ∷ (codes "--tech", true) ∷ []
+choices_of Synth =
+    (codes "--bench", true) ∷ (codes "--tech", true) ∷ (codes "--pl", true) ∷ []
 
 -- a choice of the program's table
 abbrev pub row_of : Choice → Word × Bool

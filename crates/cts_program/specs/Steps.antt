@@ -1,24 +1,27 @@
 -- What one step of a command finds: a file that was read, or why the command stops there.
-use Rattle.std.specs.Prelude.{◌≡◌, ℕ, Bool, List, ◌∷◌, map, Option, option_to_list, IfSome, Result, IsErrOf}
+use Rattle.std.specs.Prelude.{◌≡◌, ℕ, Bool, List, ◌++◌, length, Option, IfSome, Result, IsErrOf}
 use Rattle.cts_io.specs.Device.{Rose}
 use Rattle.cts_model.specs.declared.signal.Signal.{Signal}
 use Rattle.cts_model.specs.declared.circuit.Circuit.{Circuit}
+use Rattle.cts_model.specs.declared.place.Places.{Places}
 use Rattle.cts_model.specs.declared.tech.Tech.{Tech}
 use Rattle.cts_model.specs.AcceptedTables.{AcceptsTable}
 use Rattle.cts_model.specs.Netlists.{AcceptsNetlist}
 use Rattle.cts_model.specs.PairLists.{JoinsMoreThan}
+use Rattle.cts_model.specs.Placements.{AcceptsPlacement}
 use Rattle.cts_model.specs.UsedKinds.{AreUsedKinds}
 use Rattle.delay_tables.specs.declared.fault.TechFault.{TechFault}
 use Rattle.delay_tables.specs.declared.fault.TechFault.TheVariants as tech
 use Rattle.delay_tables.specs.Refusals.{Refuses}
+use Rattle.place_reader.specs.declared.fault.PlaceFault.{PlaceFault}
 use Rattle.cts_program.specs.declared.failure.Failure.{Failure}
 use Rattle.cts_program.specs.declared.failure.Failure.TheVariants as failures
 use Rattle.cts_program.specs.declared.file_kind.FileKind.{FileKind}
 use Rattle.cts_program.specs.declared.file_kind.FileKind.TheVariants as kinds
 use Rattle.std.specs.Borrow.{Bor}
 use Rattle.cts_program.specs.declared.command.Command.{Command}
-use Rattle.cts_program.specs.Files.{IsShortFile, files_of, AreContents, AreAll}
-use Rattle.cts_program.specs.Judged.{HasFault, AreAccepted, Tell}
+use Rattle.cts_program.specs.Files.{IsShortFile, circuit_files, files_of, AreContents}
+use Rattle.cts_program.specs.Judged.{HasFault, HasPlaceFault, IsNamedFault, AreAccepted, Tell}
 
 -- these bytes are what a file holds, where the device tells it
 abbrev pub IsToldAs : Option (List ℕ) → List ℕ → Type 0
@@ -67,17 +70,39 @@ FailsTable signals held before now (failures.Tech fault) =
     (bytes : List ℕ) × IsToldAs held bytes × IsShortFile bytes × HasFaultFor signals bytes fault
 FailsTable signals held before now failure = FailsToReadFile kinds.Tech held before now failure
 
--- the files of the command are a netlist and, if one is named, a delay table for it
-abbrev pub ReadsCircuit : Command → Bor (List ℕ) → Option (Bor (List ℕ)) → Type 0
-ReadsCircuit command bench tech = files_of command
-    ≡ (kinds.Bench, bench.now) ∷ map (λ file. (kinds.Tech, file.now)) (option_to_list tech)
+-- the placement in a file tells these places of the circuit's registers and of the source
+pub record ReadsPlaces (circuit : Circuit) (tech : Tech) (held : Option (List ℕ))
+    (places : Places) : Type 0 where
+  pub bytes : List ℕ
+  pub told : IsToldAs held bytes
+  pub short : IsShortFile bytes
+  pub accepts : AcceptsPlacement bytes circuit tech.source tech.host places
 
--- what the files of the command hold is accepted, and tells this circuit and these delays
-pub record TellsCircuit (holds : List ℕ → Option (List ℕ)) (command : Command) (circuit : Circuit)
-    (tech : Tech) : Type 0 where
+-- a placement isn't read, or has a fault
+abbrev pub FailsPlaces : Circuit → Tech → Option (List ℕ) → ℕ → ℕ → Failure → Type 0
+FailsPlaces circuit tech held before now (failures.Placement fault) =
+    (bytes : List ℕ) × IsToldAs held bytes × IsShortFile bytes
+    × HasPlaceFault circuit tech bytes fault
+FailsPlaces circuit tech held before now failure =
+    FailsToReadFile kinds.Placement held before now failure
+
+-- a failure that tells a placement's fault; memory may run out at any fault
+abbrev pub TellsFault : Circuit → PlaceFault → Failure → Type 0
+TellsFault circuit fault (failures.Placement named) = IsNamedFault circuit fault named
+TellsFault circuit fault failures.NoMemory = Unit {0}
+TellsFault circuit fault _ = ⊥
+
+-- the first files of the command are a netlist and, if one is named, a delay table for it
+abbrev pub ReadsCircuit : Command → Bor (List ℕ) → Option (Bor (List ℕ)) → Type 0
+ReadsCircuit command bench tech = (behind : List (FileKind × List ℕ))
+    × (files_of command ≡ circuit_files bench tech ++ behind)
+
+-- what these files hold is accepted, and tells this circuit and these delays
+pub record TellsCircuit (holds : List ℕ → Option (List ℕ)) (files : List (FileKind × List ℕ))
+    (circuit : Circuit) (tech : Tech) : Type 0 where
   pub contents : List (List ℕ)
-  pub are : AreContents holds (files_of command) contents
-  pub all : AreAll command contents
+  pub are : AreContents holds files contents
+  pub all : length contents ≡ length files
   pub accepted : AreAccepted contents
   pub tell : Tell contents circuit tech
 

@@ -1,5 +1,5 @@
--- What the command `zero` prints: words with one space between them, and a line feed after each
--- line.
+-- What the commands print: words with one space between them, and a line feed after each line. The
+-- lines of `zero` serve `period` and `schedule` too.
 use Rattle.std.specs.Prelude.{◌≡◌, ℕ, ℤ, ◌+ℤ◌, ◌-ℤ◌, List, [], ◌∷◌, ◌++◌, codes}
 use Rattle.std.specs.List.{flat_map, join_with_byte}
 use Rattle.std.specs.Fmt.{signed_decimal}

@@ -26,6 +26,17 @@ pub enum Command<'a> {
         bench: &'a str,
         tech: &'a str,
     },
+    /// That period, and when the clock is to reach each register.
+    Schedule {
+        bench: &'a str,
+        tech: &'a str,
+    },
+    /// The clock tree that realises that schedule, of registers with a placement.
+    Synth {
+        bench: &'a str,
+        tech: &'a str,
+        pl: &'a str,
+    },
 }
 
 /// Why words aren't read as a command.

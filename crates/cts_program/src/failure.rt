@@ -3,12 +3,13 @@
 ghost use Rattle.std.specs.Prelude.{◌≡◌, ◌++◌, ◌∷◌, [], decimal};
 ghost use Rattle.std.specs.List.{flat_map};
 ghost use Rattle.cts_program.specs.declared.failure.Failure.TheVariants.{NoMemory};
-ghost use Rattle.cts_program.specs.Failures.{words_failure_of, bench_failure_of, tech_failure_of, synth_failure_of, status_of, limit_word, gate_word, shown_byte, shown, spaced, loop_line, ended, bench_line, tech_line, failure_line, Reports, Writes};
+ghost use Rattle.cts_program.specs.Failures.{words_failure_of, bench_failure_of, tech_failure_of, synth_failure_of, status_of, limit_word, gate_word, number_word, shown_byte, shown, spaced, loop_line, ended, bench_line, tech_line, placement_line, failure_line, Reports, Writes};
 
 use crate::command::WordsFault;
 use crate::file_kind::FileKind;
+use crate::placement::PlacementFault;
 use bench_reader::{BenchFault, Which};
-use cts_base::Name;
+use cts_base::{Name, NumberFault};
 use cts_engine::SynthFault;
 use cts_io::{Failed, Sink, write_whole};
 use cts_model::Kind;
@@ -26,6 +27,8 @@ pub enum Failure {
     Bench(BenchFault),
     /// The delay table is refused.
     Tech(TechFault),
+    /// The placement is refused.
+    Placement(PlacementFault),
     /// More than 1,048,576 pairs of registers are joined by paths.
     Pairs,
     /// A file couldn't be read.
@@ -36,8 +39,9 @@ pub enum Failure {
     NoMemory,
 }
 
-const USAGE: &[u8] =
-    b"usage: cts zero --bench F [--tech F] | cts period --bench F --tech F | cts schedule --bench F --tech F | cts synth --bench F --tech F --pl F | cts check --bench F --tech F --pl F --report F | cts demo --registers N --seed S";
+const USAGE: &[u8] = b"usage: cts zero --bench F [--tech F] | cts period --bench F --tech F \
+    | cts schedule --bench F --tech F | cts synth --bench F --tech F --pl F \
+    | cts check --bench F --tech F --pl F --report F | cts demo --registers N --seed S";
 
 impl Failure {
     /// The program's exit status.
@@ -46,7 +50,8 @@ impl Failure {
     {
         match self {
             Failure::Usage => 2,
-            Failure::TooLong(_) | Failure::Bench(_) | Failure::Tech(_) | Failure::Pairs => 3,
+            Failure::TooLong(_) | Failure::Bench(_) | Failure::Tech(_) => 3,
+            Failure::Placement(_) | Failure::Pairs => 3,
             Failure::ReadFault(_) => 4,
             Failure::WriteFault => 5,
             Failure::NoMemory => 6,
@@ -71,6 +76,7 @@ impl Failure {
             Failure::TooLong(kind) => write_line(&[b"refused ", kind.word(), b" long"], err),
             Failure::Bench(fault) => write_bench_refusal(fault, err),
             Failure::Tech(fault) => write_tech_refusal(fault, err),
+            Failure::Placement(fault) => write_placement_refusal(fault, err),
             Failure::Pairs => write_line(&[b"refused pairs"], err),
             Failure::ReadFault(kind) => write_line(&[b"read fault ", kind.word()], err),
             Failure::WriteFault => write_line(&[b"write fault"], err),
@@ -111,6 +117,32 @@ fn write_tech_refusal<E: Sink>(fault: &TechFault, err: &mut E) -> Result<(), Fai
         TechFault::MissingKind(kind) => write_line(&[b"refused tech 6 ", gate_word(*kind)], err),
         TechFault::UnknownKey(name) => write_shown(b"refused tech 7 ", name, err),
         TechFault::NoMemory => write_line(&[b"no memory"], err),
+    }
+}
+
+fn write_placement_refusal<E: Sink>(fault: &PlacementFault, err: &mut E) -> Result<(), Failed>
+    ensures { Writes (placement_line fault.now)
+        (E.written err.old) (E.faults err.old) (E.written err.new) (E.faults err.new) result }
+{
+    match fault {
+        PlacementFault::BadLine(line) => write_at(b"refused pl 1 line ", *line, b"", err),
+        PlacementFault::BadNumber(line, fault) => {
+            write_at(b"refused pl 2 line ", *line, number_word(*fault), err)
+        }
+        PlacementFault::PlaceTwice(line) => write_at(b"refused pl 3 line ", *line, b"", err),
+        PlacementFault::NoPlace(name) => write_line(&[b"refused pl 4 ", name.as_slice()], err),
+        PlacementFault::NoSource => write_line(&[b"refused pl 5"], err),
+    }
+}
+
+// What is wrong with a number, behind a space.
+fn number_word(fault: NumberFault) -> &'static [u8]
+    ensures { result.now ≡ number_word fault }
+{
+    match fault {
+        NumberFault::NotNumber => b" 1",
+        NumberFault::TooFine => b" 2",
+        NumberFault::TooLarge => b" 3",
     }
 }
 

@@ -8,6 +8,8 @@ pub enum FileKind {
     Bench,
     /// A delay table.
     Tech,
+    /// A placement.
+    Placement,
 }
 
 impl FileKind {
@@ -18,6 +20,7 @@ impl FileKind {
         match self {
             FileKind::Bench => b"bench",
             FileKind::Tech => b"tech",
+            FileKind::Placement => b"pl",
         }
     }
 }

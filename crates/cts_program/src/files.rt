@@ -1,16 +1,20 @@
 //! Reading a command's files.
 
-ghost use Rattle.std.specs.Prelude.{◌≡◌, ◌≤◌, ℕ, List, IfOk, IfErr};
+ghost use Rattle.std.specs.Prelude.{◌≡◌, ◌≢◌, ◌≤◌, ◌↔◌, ℕ, IsTrue, List, [], IfOk, IfErr};
+ghost use Rattle.cts_model.specs.Circuits.{has_host};
+ghost use Rattle.cts_model.specs.Problems.{GivesUsedKinds};
 ghost use Rattle.cts_model.specs.Hosts.{HasNoHost};
 ghost use Rattle.cts_program.specs.Files.{IsShortFile};
-ghost use Rattle.cts_program.specs.Steps.{IsToldAs, FailsToReadFile, ReadsNetlist, FailsNetlist, ReadsTable, FailsTable, IsReadFault};
+ghost use Rattle.cts_program.specs.Steps.{IsToldAs, FailsToReadFile, ReadsNetlist, FailsNetlist, ReadsTable, FailsTable, ReadsPlaces, FailsPlaces, IsReadFault};
 
 use crate::failure::Failure;
 use crate::file_kind::FileKind;
+use crate::placement::placement_failure;
 use bench_reader::read_bench;
 use cts_io::{Inputs, ReadWhole, read_whole};
-use cts_model::{Circuit, Tech, used_kinds};
+use cts_model::{Circuit, Places, Tech, used_kinds};
 use delay_tables::read_tech;
+use place_reader::read_places;
 use std::alloc::Global;
 
 // The most bytes that a file may have.
@@ -43,6 +47,7 @@ pub fn read_table<I: Inputs>(
     circuit: &Circuit,
 ) -> Result<Tech, Failure>
     ensures ok { IfOk result (ReadsTable circuit.now.signals (I.holds inputs.old file.now)) }
+    ensures kinds { IfOk result (GivesUsedKinds circuit.now) }
     ensures cause { IfErr result (FailsTable circuit.now.signals (I.holds inputs.old file.now)
         (I.faults inputs.old file.now) (I.faults inputs.new file.now)) }
     ensures files { (other : List ℕ) → I.holds inputs.new other ≡ I.holds inputs.old other }
@@ -52,6 +57,36 @@ pub fn read_table<I: Inputs>(
 {
     let bytes = read_file(alloc, inputs, FileKind::Tech, file)?;
     Ok(read_tech(alloc, &bytes, &used_kinds(circuit))?)
+}
+
+/// Where the placement in a file has the circuit's registers and the table's source.
+pub fn read_placement<I: Inputs>(
+    alloc: Global,
+    inputs: &mut I,
+    file: &str,
+    circuit: &Circuit,
+    tech: &Tech,
+) -> Result<Places, Failure>
+    requires { IsTrue (has_host circuit.now.signals) ↔ (tech.now.host ≢ []) }
+    ensures ok { IfOk result (ReadsPlaces circuit.now tech.now (I.holds inputs.old file.now)) }
+    ensures cause { IfErr result (FailsPlaces circuit.now tech.now (I.holds inputs.old file.now)
+        (I.faults inputs.old file.now) (I.faults inputs.new file.now)) }
+    ensures files { (other : List ℕ) → I.holds inputs.new other ≡ I.holds inputs.old other }
+    ensures counts { (other : List ℕ) → I.faults inputs.old other ≤ I.faults inputs.new other }
+    ensures stays { ¬ IsReadFault FileKind.Placement result
+        → (other : List ℕ) → I.faults inputs.new other ≡ I.faults inputs.old other }
+{
+    let bytes = read_file(alloc, inputs, FileKind::Placement, file)?;
+    match read_places(
+        alloc,
+        &bytes,
+        circuit,
+        tech.source.as_slice(),
+        tech.host.as_slice(),
+    ) {
+        Ok(places) => Ok(places),
+        Err(fault) => Err(placement_failure(alloc, circuit, fault)),
+    }
 }
 
 // The bytes of a file.

@@ -8,7 +8,11 @@ mod file_kind;
 mod files;
 mod period;
 mod period_text;
+mod placement;
 mod run;
+mod schedule_text;
+mod scheduling;
+mod synth;
 #[cfg(test)]
 mod tests;
 mod text_lines;

@@ -1,15 +1,15 @@
 ghost use Rattle.std.specs.Prelude.{◌≡◌, ◌<◌, ◌++◌, length, All, OnOk, IfOk};
 ghost use Rattle.cts_base.specs.declared.fraction.Fraction.{Fraction};
 ghost use Rattle.cts_model.specs.declared.tech.Tech.{Tech};
-ghost use Rattle.cts_model.specs.LeastPeriods.{IsPeriodShow};
+ghost use Rattle.cts_model.specs.LeastPeriods.{IsForbidding, IsPeriodShow};
 ghost use Rattle.cts_engine.specs.Outcomes.{IsPeriodOutcome};
-ghost use Rattle.cts_program.specs.PeriodTexts.{period_line, line_for, cycle_lines, show_lines, period_lines};
+ghost use Rattle.cts_program.specs.PeriodTexts.{period_line, line_for, cycle_lines, show_lines, found_lines, never_lines, period_lines};
 ghost use Rattle.cts_program.specs.Texts.{line_of, text_of};
 
 use crate::text_lines::{push_constraint, push_line, push_value, push_zero};
 use cts_base::{Fraction, NoMemory, push_fraction};
 use cts_engine::PeriodOutcome;
-use cts_model::{Circuit, Constraint, PeriodShow};
+use cts_model::{Circuit, Constraint, PeriodShow, ZeroSkew};
 use std::alloc::Global;
 
 /// The text for the least period that any arrivals allow, or for that there is none.
@@ -28,17 +28,45 @@ pub fn period_text(
             period,
             shown,
         } => {
-            push_period(&mut out, *period)?;
-            push_zero(&mut out, zero)?;
-            push_show(&mut out, circuit, shown)?;
+            push_found(&mut out, circuit, zero, *period, shown)?;
             Ok(out)
         }
         PeriodOutcome::Never { cycle } => {
-            push_line(&mut out, b"never", &[])?;
-            push_cycle(&mut out, circuit, cycle.as_slice())?;
+            push_never(&mut out, circuit, cycle.as_slice())?;
             Ok(out)
         }
     }
+}
+
+/// Appends the lines of a least period, with and without skew, and of what shows the one with it.
+pub fn push_found(
+    out: &mut Vec<u8>,
+    circuit: &Circuit,
+    zero: &ZeroSkew,
+    period: Fraction,
+    shown: &PeriodShow,
+) -> Result<(), NoMemory>
+    requires { (tech : Tech) × IsPeriodShow circuit.now tech period shown.now }
+    ensures { OnOk result (out.new.items
+        ≡ out.old.items ++ text_of (found_lines circuit.now zero.now period shown.now)) }
+{
+    push_period(out, period)?;
+    push_zero(out, zero)?;
+    push_show(out, circuit, shown)
+}
+
+/// Appends the lines of constraints that forbid every period.
+pub fn push_never(
+    out: &mut Vec<u8>,
+    circuit: &Circuit,
+    cycle: &[Constraint],
+) -> Result<(), NoMemory>
+    requires { (tech : Tech) × IsForbidding circuit.now tech cycle.now }
+    ensures { OnOk result (out.new.items
+        ≡ out.old.items ++ text_of (never_lines circuit.now cycle.now)) }
+{
+    push_line(out, b"never", &[])?;
+    push_cycle(out, circuit, cycle)
 }
 
 // Appends the line of the least period.

@@ -14,6 +14,8 @@ use crate::command::{Command, read_command};
 use crate::ending::{Answer, Ending};
 use crate::failure::Failure;
 use crate::period::period;
+use crate::scheduling::schedule;
+use crate::synth::synth;
 use crate::zero::zero;
 use cts_io::{Inputs, Sink, write_whole};
 use std::alloc::Global;
@@ -142,5 +144,7 @@ fn command_answer<I: Inputs>(
     match command {
         Command::Zero { bench, tech } => zero(alloc, inputs, bench, tech),
         Command::Period { bench, tech } => period(alloc, inputs, bench, tech),
+        Command::Schedule { bench, tech } => schedule(alloc, inputs, bench, tech),
+        Command::Synth { bench, tech, pl } => synth(alloc, inputs, bench, tech, pl),
     }
 }

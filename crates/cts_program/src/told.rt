@@ -1,8 +1,11 @@
 //! What the files of a command tell: a circuit and its delays.
 
-ghost use Rattle.std.specs.Prelude.{◌≡◌, ℕ, List, IfOk, IfErr};
+ghost use Rattle.std.specs.Prelude.{◌≡◌, ◌≢◌, ◌↔◌, ℕ, IsTrue, List, [], Some, IfOk, IfErr};
+ghost use Rattle.cts_model.specs.Circuits.{has_host};
 ghost use Rattle.cts_model.specs.Hosts.{HasNoHost};
+ghost use Rattle.cts_model.specs.Problems.{GivesUsedKinds};
 ghost use Rattle.cts_program.specs.declared.command.Command.{Command};
+ghost use Rattle.cts_program.specs.Files.{circuit_files};
 ghost use Rattle.cts_program.specs.Judged.{IsHostedBy};
 ghost use Rattle.cts_program.specs.Run.{Stops};
 ghost use Rattle.cts_program.specs.Steps.{ReadsCircuit, TellsCircuit, IsAnyReadFault};
@@ -28,9 +31,11 @@ pub fn read_circuit<I: Inputs>(
     bench: &str,
     tech: Option<&str>,
 ) -> Result<Told, Failure>
-    ensures ok { IfOk result (λ told. (command : Command)
-        → ReadsCircuit command bench.entry tech.entry
-        → TellsCircuit (I.holds inputs.old) command told.circuit told.tech) }
+    ensures ok { IfOk result (λ told. TellsCircuit (I.holds inputs.old)
+        (circuit_files bench.entry tech.entry) told.circuit told.tech) }
+    ensures kinds { IfOk result (λ told. GivesUsedKinds told.circuit told.tech) }
+    ensures host { IfOk result (λ told.
+        IsTrue (has_host told.circuit.signals) ↔ (told.tech.host ≢ [])) }
     ensures cause { IfErr result (λ failure. (command : Command)
         → ReadsCircuit command bench.entry tech.entry
         → Stops (I.holds inputs.old) (I.faults inputs.old) (I.faults inputs.new) command failure) }

@@ -38,6 +38,15 @@ fn command_of<'a>(form: Form, matches: &ArgMatches<'a>) -> Command<'a>
             bench: matches.get_str("--bench").unwrap(),
             tech: matches.get_str("--tech").unwrap(),
         },
+        Form::Schedule => Command::Schedule {
+            bench: matches.get_str("--bench").unwrap(),
+            tech: matches.get_str("--tech").unwrap(),
+        },
+        Form::Synth => Command::Synth {
+            bench: matches.get_str("--bench").unwrap(),
+            tech: matches.get_str("--tech").unwrap(),
+            pl: matches.get_str("--pl").unwrap(),
+        },
     }
 }
 

@@ -9,6 +9,8 @@ ghost use Rattle.cts_program.specs.PlainWords.{choices_of, form_name, row_of};
 pub enum Form {
     Zero,
     Period,
+    Schedule,
+    Synth,
 }
 
 /// An option that stands at most once behind a command's name.
@@ -18,9 +20,10 @@ pub struct Choice {
     pub is_required: bool,
 }
 
-const FORMS: [Form; 2] = [Form::Zero, Form::Period];
+const FORMS: [Form; 4] = [Form::Zero, Form::Period, Form::Schedule, Form::Synth];
 
-static ZERO: [Choice; 2] = [
+// A netlist, and a delay table that may be left out.
+static TABLE_IF_WANTED: [Choice; 2] = [
     Choice {
         option: "--bench",
         is_required: true,
@@ -31,13 +34,30 @@ static ZERO: [Choice; 2] = [
     },
 ];
 
-static PERIOD: [Choice; 2] = [
+// A netlist and a delay table.
+static TABLE: [Choice; 2] = [
     Choice {
         option: "--bench",
         is_required: true,
     },
     Choice {
         option: "--tech",
+        is_required: true,
+    },
+];
+
+// A netlist, a delay table and a placement.
+static PLACEMENT: [Choice; 3] = [
+    Choice {
+        option: "--bench",
+        is_required: true,
+    },
+    Choice {
+        option: "--tech",
+        is_required: true,
+    },
+    Choice {
+        option: "--pl",
         is_required: true,
     },
 ];
@@ -49,6 +69,8 @@ impl Form {
         match self {
             Form::Zero => "zero",
             Form::Period => "period",
+            Form::Schedule => "schedule",
+            Form::Synth => "synth",
         }
     }
 
@@ -56,8 +78,9 @@ impl Form {
         ensures { map row_of result.now ≡ choices_of self }
     {
         match self {
-            Form::Zero => &ZERO,
-            Form::Period => &PERIOD,
+            Form::Zero => &TABLE_IF_WANTED,
+            Form::Period | Form::Schedule => &TABLE,
+            Form::Synth => &PLACEMENT,
         }
     }
 

@@ -46,8 +46,46 @@ fn reads_period_with_both_options(rt: HostRuntime) -> Result<(), Fail> {
 }
 
 #[test]
+fn reads_schedule_with_both_options(rt: HostRuntime) -> Result<(), Fail> {
+    let rows: [&[&str]; 2] = [
+        &["schedule", "--bench", "F", "--tech", "G"],
+        &["schedule", "--tech", "G", "--bench", "F"],
+    ];
+    let (bench, tech) = ("F", "G");
+    for row in rows {
+        let words = words(rt.alloc(), row)?;
+        let command = read_command(rt.alloc(), words.as_slice());
+        assert_eq!(rt;
+            command,
+            Ok(Command::Schedule { bench, tech }),
+            "for {row:?}"
+        );
+    }
+    Ok(())
+}
+
+#[test]
+fn reads_synth_with_all_options(rt: HostRuntime) -> Result<(), Fail> {
+    let rows: [&[&str]; 2] = [
+        &["synth", "--bench", "F", "--tech", "G", "--pl", "H"],
+        &["synth", "--pl", "H", "--tech", "G", "--bench", "F"],
+    ];
+    let (bench, tech, pl) = ("F", "G", "H");
+    for row in rows {
+        let words = words(rt.alloc(), row)?;
+        let command = read_command(rt.alloc(), words.as_slice());
+        assert_eq!(rt;
+            command,
+            Ok(Command::Synth { bench, tech, pl }),
+            "for {row:?}"
+        );
+    }
+    Ok(())
+}
+
+#[test]
 fn refuses_words_that_mean_no_command(rt: HostRuntime) -> Result<(), Fail> {
-    let rows: [&[&str]; 19] = [
+    let rows: [&[&str]; 21] = [
         &[],
         &["zero"],
         &["zero", "--bench"],
@@ -67,6 +105,8 @@ fn refuses_words_that_mean_no_command(rt: HostRuntime) -> Result<(), Fail> {
         &["--help"],
         &["zero", "--help"],
         &["period", "--bench", "F"],
+        &["schedule", "--bench", "F"],
+        &["synth", "--tech", "F", "--pl", "F"],
     ];
     for row in rows {
         let words = words(rt.alloc(), row)?;

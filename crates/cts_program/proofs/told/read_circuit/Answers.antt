@@ -1,5 +1,6 @@
 use Rattle.std.proofs.Common.{◌∙◌}
 use Rattle.std.proofs.lemmas.Result.{err_from_is_err_and}
+use Rattle.cts_program.proofs.ProblemLemmas.{gives_plain, gives_hosted, has_host-plain, has_host-hosted}
 use Rattle.cts_program.proofs.ToldLemmas.{netlist_stops, table_stops, netlist_tells, both_tell}
 use Rattle.cts_program.proofs.told.read_circuit.Goals as goal
 
@@ -37,18 +38,33 @@ returns-in_err-circuit-in-Some-clause-stays g c none file =
 
 pub returns-in-None-clause-ok : goal.returns-in-None-clause-ok
 returns-in-None-clause-ok g c =
-    rw c.in-None.is (λ command named. netlist_tells
-    (g.I.Inputs.holds c.args.inputs.now) command c.args.bench named c.in_ok-bare.ensures.ok
-    c.plain.result c.plain.ensures)
+    rw c.in-None.is (netlist_tells (g.I.Inputs.holds c.args.inputs.now) c.args.bench
+    c.in_ok-bare.ensures.ok c.plain.result c.plain.ensures)
+
+pub returns-in-None-clause-kinds : goal.returns-in-None-clause-kinds
+returns-in-None-clause-kinds g c = gives_plain c.in_ok-bare.bare c.plain.result c.plain.ensures
+
+pub returns-in-None-clause-host : goal.returns-in-None-clause-host
+returns-in-None-clause-host g c =
+    has_host-plain c.plain.result c.in_ok-bare.bare c.in_ok-bare.ensures.hostless c.plain.ensures
 
 pub returns-in_ok-circuit-in-Some-clause-ok : goal.returns-in_ok-circuit-in-Some-clause-ok
 returns-in_ok-circuit-in-Some-clause-ok g c =
     let table = rw (c.in_ok-bare.ensures.files c.in-Some.file.now) at
     c.in_ok-tech-in-Some.ensures.ok in
-    rw c.in-Some.is (λ command named.
-    both_tell (g.I.Inputs.holds c.args.inputs.now) command c.args.bench c.in-Some.file named
+    rw c.in-Some.is (both_tell (g.I.Inputs.holds c.args.inputs.now) c.args.bench c.in-Some.file
     c.in_ok-bare.ensures.ok table c.in_ok-circuit-in-Some.circuit
     c.in_ok-circuit-in-Some.ensures)
+
+pub returns-in_ok-circuit-in-Some-clause-kinds : goal.returns-in_ok-circuit-in-Some-clause-kinds
+returns-in_ok-circuit-in-Some-clause-kinds g c =
+    gives_hosted c.in_ok-tech-in-Some.tech c.in_ok-bare.bare c.in_ok-circuit-in-Some.circuit
+    c.in_ok-tech-in-Some.ensures.kinds c.in_ok-circuit-in-Some.ensures
+
+pub returns-in_ok-circuit-in-Some-clause-host : goal.returns-in_ok-circuit-in-Some-clause-host
+returns-in_ok-circuit-in-Some-clause-host g c =
+    has_host-hosted c.in_ok-tech-in-Some.tech c.in_ok-bare.bare c.in_ok-circuit-in-Some.circuit
+    c.in_ok-bare.ensures.hostless c.in_ok-circuit-in-Some.ensures
 
 pub returns-in_ok-circuit-in-Some-clause-files : goal.returns-in_ok-circuit-in-Some-clause-files
 returns-in_ok-circuit-in-Some-clause-files g c file =

@@ -1,0 +1,286 @@
+-- A circuit and its delays have texts of clock trees of one status, and none is a front of another:
+-- up to the count of the cycle they tell how many lines they have.
+use Rattle.std.proofs.Common.{◌≡◌, ◌<◌, ◌+◌, ◌*◌, ◌++◌, ℕ, suc, zero, List, [], ◌∷◌, length, map, take, refl, sym, ap, ◌∙◌, subst, codes, length-append, arith}
+use Rattle.std.specs.List.{AllByRecursion}
+use Rattle.std.proofs.lemmas.List.{length-map}
+use Rattle.std.proofs.lemmas.List.FromFn.{length-map-range_with_len}
+use Rattle.cts_model.specs.declared.circuit.Circuit.{Circuit}
+use Rattle.cts_model.specs.declared.constraint.Constraint.{Constraint}
+use Rattle.cts_model.specs.declared.period.PeriodShow.{PeriodShow}
+use Rattle.cts_model.specs.declared.period.PeriodShow.TheVariants.{Cycle, Floor}
+use Rattle.cts_model.specs.declared.problem.Problem.{Problem}
+use Rattle.cts_model.specs.declared.report.Report.{Report}
+use Rattle.cts_model.specs.declared.report.Version.TheVariants.{Second}
+use Rattle.cts_model.specs.declared.tech.Tech.{Tech}
+use Rattle.cts_model.specs.LeastPeriods.{IsLeastFraction, IsPeriodShow}
+use Rattle.cts_model.specs.PrintedLines.{count_line, period_line}
+use Rattle.cts_model.specs.ReportBounds.{count_in, IsOfSize}
+use Rattle.cts_model.specs.ReportLines.{version_line, pathed_lines, period_show_lines, lines_below, register_line_at, lead_line, merge_line_at, source_line, node_line_at, length_text, tree_lines, report_lines}
+use Rattle.cts_model.proofs.CircuitConstraints.{forbidding_at_all}
+use Rattle.report_text.proofs.OneLine.{IsWord, IsLine}
+use Rattle.report_text.proofs.ReportWords.{report_lines_are}
+use Rattle.cts_program.specs.PeriodTexts.{never_lines}
+use Rattle.cts_program.specs.SynthTexts.{IsNeverText, IsSynthText}
+use Rattle.cts_program.specs.Texts.{Words, text_of}
+use Rattle.cts_program.proofs.LineBytes.{IsInLine, no_feed, words_in_line}
+use Rattle.cts_program.proofs.LineFronts.{joined, AreLines, AreFront, no_front}
+use Rattle.cts_program.proofs.PeriodFronts.{differ, cycle_count, one_cycle_length, never_lines_are, as_many_never}
+
+-- what a text says of the circuit and its delays alone
+pub record SpellsReport (circuit : Circuit) (tech : Tech) (text : List ℕ) : Type 0 where
+  pub report : Report
+  pub size : IsOfSize circuit report
+  pub version : report.version ≡ Second
+  pub least : IsLeastFraction circuit tech report.period
+  pub shown : IsPeriodShow circuit tech report.period report.shown
+  pub spelled : text ≡ text_of (report_lines circuit report)
+
+-- by its status
+abbrev pub IsSynthTextOf : Circuit → Tech → (status : ℕ) → List ℕ → Type 0
+IsSynthTextOf circuit tech zero text = SpellsReport circuit tech text
+IsSynthTextOf circuit tech (suc zero) text = IsNeverText circuit tech text
+IsSynthTextOf circuit tech (suc (suc more)) text = ⊥
+
+-- a text of a problem says so
+pub text_of_problem : (problem : Problem) (status : ℕ) (text : List ℕ)
+    → IsSynthText problem status text → IsSynthTextOf problem.circuit problem.tech status text
+text_of_problem problem zero text says = record {
+  report = says.report;
+  size = says.spelled.size;
+  version = says.version;
+  least = says.least_period;
+  shown = says.shown;
+  spelled = says.spelled.lines;
+}
+text_of_problem problem (suc zero) text says = says
+text_of_problem problem (suc (suc more)) text says = says
+
+-- ---- one status
+
+-- the circuit has a period or none
+found_or_never : (circuit : Circuit) (tech : Tech) (text text' : List ℕ)
+    → SpellsReport circuit tech text → IsNeverText circuit tech text' → ⊥
+found_or_never circuit tech text text' found never =
+    forbidding_at_all circuit tech never.cycle never.forbids _ _ found.least.proper
+    found.least.admitted
+
+-- so texts have one status
+pub one_synth_status : (circuit : Circuit) (tech : Tech) (status status' : ℕ)
+    (text text' : List ℕ) → IsSynthTextOf circuit tech status text
+    → IsSynthTextOf circuit tech status' text' → status ≡ status'
+one_synth_status circuit tech zero zero text text' says says' = refl
+one_synth_status circuit tech zero (suc zero) text text' says says' =
+    absurd (found_or_never circuit tech text text' says says')
+one_synth_status circuit tech zero (suc (suc more)) text text' says says' = absurd says'
+one_synth_status circuit tech (suc zero) zero text text' says says' =
+    absurd (found_or_never circuit tech text' text says' says)
+one_synth_status circuit tech (suc zero) (suc zero) text text' says says' = refl
+one_synth_status circuit tech (suc zero) (suc (suc more)) text text' says says' = absurd says'
+one_synth_status circuit tech (suc (suc more)) status' text text' says says' = absurd says
+
+-- ---- the lines are lines
+
+-- a word has no line feed
+word_in_line : (bytes : List ℕ) → IsWord bytes → IsInLine bytes
+word_in_line [] is = refl
+word_in_line (byte ∷ bytes) is =
+    rw (no_feed byte (λ ten. omega (arith, is.0))) (word_in_line bytes is.1)
+
+-- nor have words
+words_in : (words : Words) → AllByRecursion IsWord words → AllByRecursion IsInLine words
+words_in [] are = tt
+words_in (word ∷ words) are = (word_in_line word are.0, words_in words are.1)
+
+-- so lines of words are lines
+lines_in : (lines : List Words) → AllByRecursion IsLine lines → AreLines lines
+lines_in [] are = tt
+lines_in ([] ∷ lines) are = absurd are.0
+lines_in ((word ∷ words) ∷ lines) are = (
+  words_in_line (word ∷ words) (words_in (word ∷ words) are.0),
+  lines_in lines are.1,
+)
+
+-- ---- the count of lines
+
+-- two lines for each constraint
+length-pathed_lines : (circuit : Circuit) (cycle : List Constraint) (paths : List (List ℕ))
+    → length (pathed_lines circuit cycle paths) ≡ length cycle + length cycle
+length-pathed_lines circuit [] paths = refl
+length-pathed_lines circuit (constraint ∷ cycle) [] =
+    let more = length-pathed_lines circuit cycle [] in omega arith
+length-pathed_lines circuit (constraint ∷ cycle) (path ∷ paths) =
+    let more = length-pathed_lines circuit cycle paths in omega arith
+
+-- the lines of a report of the second version, what shows the period apart from the others
+abbrev lines_behind_show : Circuit → Report → List Words → List Words
+lines_behind_show circuit report show =
+    (version_line Second ∷ period_line report.period ∷ show)
+    ++ count_line (codes "registers") (length report.schedule.at)
+    ∷ lines_below (register_line_at circuit report) (length report.schedule.at)
+    ++ map (lead_line circuit) report.leads
+    ++ tree_lines circuit report
+
+abbrev second_lines : Circuit → Report → List Words
+second_lines circuit report = lines_behind_show circuit report
+    (period_show_lines Second circuit report.shown report.paths)
+
+second_is : (circuit : Circuit) (report : Report) → report.version ≡ Second
+    → report_lines circuit report ≡ second_lines circuit report
+second_is circuit report second =
+    λ i. (version_line (second i) ∷ period_line report.period
+    ∷ period_show_lines (second i) circuit report.shown report.paths)
+    ++ count_line (codes "registers") (length report.schedule.at)
+    ∷ lines_below (register_line_at circuit report) (length report.schedule.at)
+    ++ map (lead_line circuit) report.leads
+    ++ tree_lines circuit report
+
+-- how many lines the tree has, by the number of registers
+length-tree_lines : (circuit : Circuit) (report : Report) → IsOfSize circuit report
+    → length (tree_lines circuit report) + 1 ≡ 3 * length circuit.registers + 3
+length-tree_lines circuit report size =
+    let merges = length report.topology.merges in
+    let nodes = length report.tree.length in
+    let front = count_line (codes "merges") merges
+    ∷ lines_below (merge_line_at circuit report) merges in
+    let back = source_line circuit report ∷ count_line (codes "nodes") nodes
+    ∷ lines_below (node_line_at circuit report) nodes in
+    omega (
+      arith,
+      length-append (front ++ back) ((codes "wire" ∷ length_text report report.total ∷ []) ∷ []),
+      length-append front back,
+      length-map-range_with_len (merge_line_at circuit report) 0 merges,
+      length-map-range_with_len (node_line_at circuit report) 0 nodes,
+      size.merges,
+      size.lengths,
+    )
+
+-- and how many a report has, by that number and the lines of what shows the period
+length-second_lines : (circuit : Circuit) (report : Report) → IsOfSize circuit report
+    → report.version ≡ Second → (show : List Words)
+    → length (lines_behind_show circuit report show)
+    ≡ length show + 5 * length circuit.registers + 5
+length-second_lines circuit report size second show =
+    let registers = length report.schedule.at in
+    let top = version_line Second ∷ period_line report.period ∷ show in
+    let table = count_line (codes "registers") registers
+    ∷ lines_below (register_line_at circuit report) registers in
+    let leads = map (lead_line circuit) report.leads in
+    let as_many : length report.leads ≡ length circuit.registers =
+    size.leads ∙ ap (λ version. count_in version (length circuit.registers)) second in
+    omega (
+      arith,
+      length-append (top ++ table ++ leads) (tree_lines circuit report),
+      length-append (top ++ table) leads,
+      length-append top table,
+      length-map-range_with_len (register_line_at circuit report) 0 registers,
+      length-map report.leads (lead_line circuit),
+      length-tree_lines circuit report size,
+      size.arrivals,
+      as_many,
+    )
+
+-- reports of which the lines of one are a front of those of the other have as many lines
+as_many_second : (circuit : Circuit) (tech : Tech) (report other : Report)
+    → IsOfSize circuit report → IsOfSize circuit other
+    → report.version ≡ Second → other.version ≡ Second
+    → (shown shown' : PeriodShow) → IsPeriodShow circuit tech report.period shown
+    → IsPeriodShow circuit tech other.period shown'
+    → AreFront
+    (lines_behind_show circuit report (period_show_lines Second circuit shown report.paths))
+    (lines_behind_show circuit other (period_show_lines Second circuit shown' other.paths))
+    → length
+    (lines_behind_show circuit report (period_show_lines Second circuit shown report.paths))
+    ≡ length
+    (lines_behind_show circuit other (period_show_lines Second circuit shown' other.paths))
+as_many_second circuit tech report other size size' second second' (Cycle cycle) (Cycle cycle')
+    shows shows' front =
+    let same : length cycle ≡ length cycle' = one_cycle_length cycle cycle'
+    (cycle_count circuit tech cycle shows.of_circuit shows.shows.is_cycle)
+    (cycle_count circuit tech cycle' shows'.of_circuit shows'.shows.is_cycle) front.1.1.0 in
+    omega (
+      arith,
+      length-second_lines circuit report size second
+          (period_show_lines Second circuit (Cycle cycle) report.paths),
+      length-second_lines circuit other size' second'
+          (period_show_lines Second circuit (Cycle cycle') other.paths),
+      length-pathed_lines circuit cycle report.paths,
+      length-pathed_lines circuit cycle' other.paths,
+    )
+as_many_second circuit tech report other size size' second second' (Cycle cycle) Floor
+    shows shows' front =
+    absurd (differ (joined (count_line (codes "cycle") (length cycle))) (codes "floor")
+    (λ e. omega arith) front.1.1.0)
+as_many_second circuit tech report other size size' second second' Floor (Cycle cycle)
+    shows shows' front =
+    absurd (differ (codes "floor") (joined (count_line (codes "cycle") (length cycle)))
+    (λ e. omega arith) front.1.1.0)
+as_many_second circuit tech report other size size' second second' Floor Floor
+    shows shows' front =
+    omega (
+      arith,
+      length-second_lines circuit report size second
+          (period_show_lines Second circuit Floor report.paths),
+      length-second_lines circuit other size' second'
+          (period_show_lines Second circuit Floor other.paths),
+    )
+
+-- so texts of reports are no fronts of one another
+no_report_front : (circuit : Circuit) (tech : Tech) (text other : List ℕ)
+    → SpellsReport circuit tech text → SpellsReport circuit tech other
+    → (count : ℕ) → text ≡ take count other → count < length other → ⊥
+no_report_front circuit tech text other spells spells' count cut short =
+    let report = spells.report in
+    let report' = spells'.report in
+    no_front (report_lines circuit report) (report_lines circuit report') count
+    (lines_in (report_lines circuit report) (report_lines_are circuit report))
+    (lines_in (report_lines circuit report') (report_lines_are circuit report'))
+    (λ front. ap length (second_is circuit report spells.version)
+    ∙ as_many_second circuit tech report report' spells.size spells'.size spells.version
+    spells'.version report.shown report'.shown spells.shown spells'.shown
+    (subst (AreFront (second_lines circuit report)) (second_is circuit report' spells'.version)
+    (subst (λ lines. AreFront lines (report_lines circuit report'))
+    (second_is circuit report spells.version) front))
+    ∙ sym (ap length (second_is circuit report' spells'.version)))
+    (sym spells.spelled ∙ cut ∙ ap (take count) spells'.spelled)
+    (subst (λ bytes. count < length bytes) spells'.spelled short)
+
+-- ---- texts
+
+module _ (circuit : Circuit) (tech : Tech) where
+  -- nor are those of cycles that forbid every period
+  no_never_front : (text other : List ℕ) → IsNeverText circuit tech text
+      → IsNeverText circuit tech other
+      → (count : ℕ) → text ≡ take count other → count < length other → ⊥
+  no_never_front text other spells spells' count cut short =
+      no_front (never_lines circuit spells.cycle) (never_lines circuit spells'.cycle) count
+      (never_lines_are circuit spells.cycle) (never_lines_are circuit spells'.cycle)
+      (as_many_never circuit tech spells.cycle spells'.cycle spells.forbids spells'.forbids)
+      (sym spells.spelled ∙ cut ∙ ap (take count) spells'.spelled)
+      (subst (λ bytes. count < length bytes) spells'.spelled short)
+
+  -- no text is a front of another
+  pub no_synth_front : (status : ℕ) (text : List ℕ) → IsSynthTextOf circuit tech status text
+      → (status' : ℕ) (other : List ℕ) → IsSynthTextOf circuit tech status' other
+      → (count : ℕ) → text ≡ take count other → count < length other → ⊥
+  no_synth_front zero text says zero other says' count cut short =
+      no_report_front circuit tech text other says says' count cut short
+  no_synth_front zero text says (suc zero) other says' count cut short =
+      found_or_never circuit tech text other says says'
+  no_synth_front zero text says (suc (suc more)) other says' count cut short = says'
+  no_synth_front (suc zero) text says zero other says' count cut short =
+      found_or_never circuit tech other text says' says
+  no_synth_front (suc zero) text says (suc zero) other says' count cut short =
+      no_never_front text other says says' count cut short
+  no_synth_front (suc zero) text says (suc (suc more)) other says' count cut short = says'
+  no_synth_front (suc (suc more)) text says status' other says' count cut short = says
+
+  -- and none is empty
+  pub some_synth : (status : ℕ) (text : List ℕ) → IsSynthTextOf circuit tech status text
+      → 0 < length text
+  some_synth zero text says =
+      subst (λ bytes. 0 < length bytes)
+      (sym (says.spelled ∙ ap text_of (second_is circuit says.report says.version)))
+      (omega arith)
+  some_synth (suc zero) text says =
+      subst (λ bytes. 0 < length bytes) (sym says.spelled) (omega arith)
+  some_synth (suc (suc more)) text says = absurd says

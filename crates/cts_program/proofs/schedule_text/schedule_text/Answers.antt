@@ -1,0 +1,10 @@
+use Rattle.cts_program.proofs.schedule_text.schedule_text.Goals as goal
+
+pub push_found-requires : goal.push_found-requires
+push_found-requires c =
+    (c.requires.outcome.0, (rw c.in-Found.is at c.requires.outcome.1).found.shown)
+
+pub push_never-requires : goal.push_never-requires
+push_never-requires c =
+    rw c.as_slice-in-Never.ensures
+    (c.requires.outcome.0, rw c.in-Never.is at c.requires.outcome.1)

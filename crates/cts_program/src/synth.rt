@@ -1,0 +1,91 @@
+//! The command `synth`: the clock tree that realises the least schedule.
+
+ghost use Rattle.std.specs.Prelude.{◌≡◌, ℕ, List, IfOk, IfErr};
+ghost use Rattle.cts_model.specs.PairLists.{JoinsMoreThan};
+ghost use Rattle.cts_engine.specs.SynthesisOutcomes.{IsOutcome};
+ghost use Rattle.cts_program.specs.Answers.{ending_status};
+ghost use Rattle.cts_program.specs.Run.{TellsText, Stops};
+ghost use Rattle.cts_program.specs.Steps.{FailsCircuit, IsAnyReadFault};
+ghost use Rattle.cts_program.specs.SynthTexts.{IsSynthText, synth_lines, synth_status};
+ghost use Rattle.cts_program.specs.Texts.{text_of};
+
+use crate::command::Command;
+use crate::ending::{Answer, Ending};
+use crate::failure::Failure;
+use crate::files::read_placement;
+use crate::period_text::push_never;
+use crate::told::{Told, read_circuit};
+use cts_base::NoMemory;
+use cts_engine::{Outcome, synthesize};
+use cts_io::Inputs;
+use cts_model::{Circuit, Problem};
+use report_text::write_report;
+use std::alloc::Global;
+
+/// The text for the netlist in a file, with the delays in another and the places in a third.
+pub fn synth<I: Inputs>(
+    alloc: Global,
+    inputs: &mut I,
+    bench: &str,
+    tech: &str,
+    pl: &str,
+) -> Result<Answer, Failure>
+    ensures ok { IfOk result (λ answer. TellsText (I.holds inputs.old)
+        (Command.Synth bench.entry tech.entry pl.entry) (ending_status answer.ending)
+        answer.text.items) }
+    ensures cause { IfErr result (Stops (I.holds inputs.old) (I.faults inputs.old)
+        (I.faults inputs.new) (Command.Synth bench.entry tech.entry pl.entry)) }
+    ensures files { (file : List ℕ) → I.holds inputs.new file ≡ I.holds inputs.old file }
+    ensures stays { ¬ IsAnyReadFault result
+        → (file : List ℕ) → I.faults inputs.new file ≡ I.faults inputs.old file }
+{
+    let Told { circuit, tech } = read_circuit(alloc, inputs, bench, Some(tech))?;
+    let places = read_placement(alloc, inputs, pl, &circuit, &tech)?;
+    let problem = Problem {
+        circuit,
+        tech,
+        places,
+    };
+    problem_answer(alloc, &problem)
+}
+
+// The answer for a problem.
+fn problem_answer(alloc: Global, problem: &Problem) -> Result<Answer, Failure>
+    ensures few { IfOk result (λ _. JoinsMoreThan problem.now.circuit 1048576 → ⊥) }
+    ensures text { IfOk result (λ answer.
+        IsSynthText problem.now (ending_status answer.ending) answer.text.items) }
+    ensures cause { IfErr result (FailsCircuit problem.now.circuit) }
+{
+    let outcome = synthesize(alloc, problem)?;
+    let text = outcome_text(alloc, problem, &outcome)?;
+    Ok(Answer {
+        ending: ending_of(&outcome),
+        text,
+    })
+}
+
+// The text of an outcome.
+fn outcome_text(alloc: Global, problem: &Problem, outcome: &Outcome) -> Result<Vec<u8>, NoMemory>
+    requires { IsOutcome problem.now outcome.now }
+    ensures { IfOk result (λ text.
+        text.items ≡ text_of (synth_lines problem.now.circuit outcome.now)) }
+{
+    match outcome {
+        Outcome::Done(report) => write_report(alloc, report, &problem.circuit),
+        Outcome::Never(cycle) => {
+            let mut out = Vec::new(alloc);
+            push_never(&mut out, &problem.circuit, cycle.as_slice())?;
+            Ok(out)
+        }
+    }
+}
+
+// How a command ends with this outcome.
+fn ending_of(outcome: &Outcome) -> Ending
+    ensures { ending_status result ≡ synth_status outcome.now }
+{
+    match outcome {
+        Outcome::Never(_) => Ending::Never,
+        Outcome::Done(_) => Ending::Done,
+    }
+}

@@ -1,0 +1,57 @@
+use crate::tests::{LOPSIDED, RING, S27, S27_TABLE, SLOW, expect_answer, table};
+use std::test::Fail;
+
+#[test]
+fn finds_the_least_period(rt: HostRuntime) -> Result<(), Fail> {
+    let both = "[gate.NOT]\nleast = 3\ngreatest = 4\n[gate.OR]\nleast = 1\ngreatest = 2\n";
+    let buff = "[gate.BUFF]\nleast = 2\ngreatest = 5\n";
+    let joined = "INPUT(x)\nA = DFF(x)\nB = DFF(z)\np = NOT(A)\nz = OR(A, p)\n";
+    let apart = "INPUT(x)\nA = DFF(x)\nB = DFF(x)\n";
+    for (bench, registers, more, text) in [
+        // A long and a short way to one register leave no room for skew.
+        (
+            joined,
+            [1, 2, 1, 1],
+            both,
+            "period 8\nzero 8\ncycle 2\nsetup A B 8\nhold A B 0\n",
+        ),
+        (apart, [0, 0, 0, 0], "", "period 0\nzero 0\nfloor\n"),
+        // Where a hold fails at equal arrivals, skew mends it.
+        (
+            RING,
+            [0, 2, 1, 1],
+            buff,
+            "period 5\nzero none\ncycle 2\nhold B A -1\nsetup B A 6\n",
+        ),
+        (
+            LOPSIDED,
+            [0, 0, 0, 0],
+            SLOW,
+            "period 11/2\nzero 7\ncycle 2\nsetup A B 7\nsetup B A 4\n",
+        ),
+    ] {
+        let tech = table(rt.alloc(), registers, more)?;
+        expect_answer(&rt, rt.alloc(), "period", bench, &tech, 0, text)?;
+    }
+    Ok(())
+}
+
+#[test]
+fn finds_the_least_period_of_s27(rt: HostRuntime) -> Result<(), Fail> {
+    let text = "period 13\nzero 15\ncycle 1\nsetup G6 G6 13\n";
+    expect_answer(&rt, rt.alloc(), "period", S27, S27_TABLE, 0, text)?;
+    Ok(())
+}
+
+#[test]
+fn tells_that_there_is_no_period(rt: HostRuntime) -> Result<(), Fail> {
+    let buff = "[gate.BUFF]\nleast = 1\ngreatest = 5\n";
+    for (bench, more, text) in [
+        ("A = DFF(A)\n", "", "never\ncycle 1\nhold A A 1\n"),
+        (RING, buff, "never\ncycle 2\nhold B A 0\nhold A B 1\n"),
+    ] {
+        let tech = table(rt.alloc(), [0, 2, 1, 1], more)?;
+        expect_answer(&rt, rt.alloc(), "period", bench, &tech, 1, text)?;
+    }
+    Ok(())
+}

@@ -1,0 +1,5 @@
+UCLA pl 1.0
+G5 0 0 : N
+G6 4 2 : N
+G7 10 0 : N
+CLK 5 10 : N /FIXED
