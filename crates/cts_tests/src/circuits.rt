@@ -27,6 +27,9 @@ pub(crate) const TWO_WAYS_GATES: &str = "[gate.NOT]\nleast = 3\ngreatest = 4
 // Two registers in a ring, one of whose two ways has a gate.
 pub(crate) const RING: &str = "A = DFF(m)\nB = DFF(A)\nm = BUFF(B)";
 
+// A netlist with a path from its input to a register and one from the register to its output.
+pub(crate) const TO_OUTPUT: &str = "INPUT(x)\nOUTPUT(g)\nA = DFF(x)\ng = NOT(A)";
+
 // The circuit of a text, which is short enough for a file, with the host or without.
 pub(crate) fn circuit_of(
     rt: &impl Abort,

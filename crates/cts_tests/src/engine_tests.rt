@@ -11,7 +11,7 @@ use std::process::Abort;
 use std::test::Fail;
 
 // A constraint: whether it is a setup constraint, its tail, its head and its weight.
-type Row = (bool, u32, u32, i128);
+pub(crate) type Row = (bool, u32, u32, i128);
 
 // The outcome of a netlist without the host and a table.
 fn outcome_of(
@@ -28,7 +28,7 @@ fn outcome_of(
 }
 
 // Whether a cycle has these constraints in this order.
-fn is_cycle(cycle: &Listed<Constraint>, rows: &[Row]) -> bool {
+pub(crate) fn is_cycle(cycle: &Listed<Constraint>, rows: &[Row]) -> bool {
     let mut same = cycle.len() == rows.len();
     for (found, row) in cycle.as_slice().iter().zip(rows) {
         same = same && *found == constraint(*row);
@@ -37,7 +37,7 @@ fn is_cycle(cycle: &Listed<Constraint>, rows: &[Row]) -> bool {
 }
 
 // Whether the cycle of these constraints shows a period, or the floor where there are none.
-fn is_shown(shown: &PeriodShow, rows: &[Row]) -> bool {
+pub(crate) fn is_shown(shown: &PeriodShow, rows: &[Row]) -> bool {
     match shown {
         PeriodShow::Cycle(cycle) => is_cycle(cycle, rows),
         PeriodShow::Floor => rows.is_empty(),

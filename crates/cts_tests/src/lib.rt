@@ -8,6 +8,8 @@ mod bench_tests;
 #[cfg(test)]
 mod circuits;
 #[cfg(test)]
+mod constraint_lists;
+#[cfg(test)]
 mod constraint_tests;
 #[cfg(test)]
 mod delay_tests;
@@ -18,6 +20,10 @@ mod fraction_tests;
 #[cfg(test)]
 mod io_tests;
 #[cfg(test)]
+mod leads_tests;
+#[cfg(test)]
+mod merge_tests;
+#[cfg(test)]
 mod model_tests;
 #[cfg(test)]
 mod number_tests;
@@ -26,8 +32,22 @@ mod pair_tests;
 #[cfg(test)]
 mod period_tests;
 #[cfg(test)]
+mod place_down_tests;
+#[cfg(test)]
 mod place_tests;
 #[cfg(test)]
 mod rect_tests;
 #[cfg(test)]
+mod schedule_tests;
+#[cfg(test)]
+mod scheduling_tests;
+#[cfg(test)]
+mod slack_tests;
+#[cfg(test)]
 mod table_tests;
+#[cfg(test)]
+mod topology_tests;
+#[cfg(test)]
+mod trees;
+#[cfg(test)]
+mod wire_tests;

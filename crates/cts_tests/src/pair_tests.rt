@@ -1,13 +1,12 @@
-use crate::circuits::{RING, S27, S27_GATES, TWO_WAYS, TWO_WAYS_GATES, circuit_of, table_of, wide};
+use crate::circuits::{
+    RING, S27, S27_GATES, TO_OUTPUT, TWO_WAYS, TWO_WAYS_GATES, circuit_of, table_of, wide,
+};
 use cts_base::Listed;
 use cts_model::{Circuit, PairDelay, Tech, ZeroSkew};
 use path_delays::{PairFault, levels, pair_delay, pair_delays, path_of};
 use std::alloc::{AllocError, Global};
 use std::test::Fail;
 use timing_report::zero_skew;
-
-// A netlist whose only path ends at an output.
-const TO_OUTPUT: &str = "INPUT(x)\nOUTPUT(g)\nA = DFF(x)\ng = NOT(A)";
 
 fn pair(row: (u32, u32, i128, i128)) -> PairDelay {
     PairDelay {

@@ -1,62 +1,8 @@
-ghost use Rattle.std.specs.Prelude.{◌≡◌, IfOk};
-ghost use Rattle.cts_model.specs.Constraints.{AreSmallConstraints, IsSmallConstraint};
-
+use crate::constraint_lists::{hold, list_of, setup};
 use critical_cycle::{Period, least_period, least_period_in};
 use cts_base::Listed;
-use cts_model::Constraint;
 use std::alloc::Global;
-use std::process::Abort;
 use std::test::Fail;
-
-// A setup constraint: its tail, its head and its weight.
-fn setup(tail: u32, head: u32, weight: i128) -> Constraint {
-    Constraint {
-        setup: true,
-        tail,
-        head,
-        weight,
-    }
-}
-
-// A hold constraint.
-fn hold(tail: u32, head: u32, weight: i128) -> Constraint {
-    Constraint {
-        setup: false,
-        tail,
-        head,
-        weight,
-    }
-}
-
-// The constraint, which is small.
-fn small(rt: &impl Abort, registers: usize, constraint: Constraint) -> Constraint
-    ensures { IsSmallConstraint registers result }
-{
-    assert!(rt; (constraint.tail as usize) < registers);
-    assert!(rt; (constraint.head as usize) < registers);
-    assert!(rt; constraint.weight < 100_000_000_000);
-    assert!(rt; constraint.weight > -100_000_000_000);
-    constraint
-}
-
-// A list of small constraints between so many registers.
-fn list_of(
-    rt: &impl Abort,
-    alloc: Global,
-    registers: usize,
-    constraints: &[Constraint],
-) -> Result<Listed<Constraint>, Fail>
-    ensures { IfOk result (AreSmallConstraints registers) }
-{
-    assert!(rt; registers >= 1);
-    assert!(rt; registers <= 4097);
-    assert!(rt; constraints.len() <= 2_097_152);
-    let mut list = Listed::new(alloc);
-    for constraint in constraints {
-        list.push(small(rt, registers, *constraint))?;
-    }
-    Ok(list)
-}
 
 // What the answer says: `floor`, or a value and the places of its cycle, or `never` and the places.
 fn text_of(alloc: Global, period: &Period) -> Result<String, Fail> {

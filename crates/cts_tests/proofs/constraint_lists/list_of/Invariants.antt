@@ -1,7 +1,7 @@
 use Rattle.std.proofs.Common.{◌≡◌, length}
 use Rattle.std.specs.Prelude.{All}
 use Rattle.cts_model.specs.Constraints.{IsSmallConstraint}
-use Rattle.cts_tests.proofs.period_tests.list_of.Given as goal
+use Rattle.cts_tests.proofs.constraint_lists.list_of.Given as goal
 
 abbrev pub invariant-loop-constraint : goal.invariant-loop-constraint
 invariant-loop-constraint g l = All (IsSmallConstraint l.registers) l.list

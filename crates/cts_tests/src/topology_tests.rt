@@ -1,0 +1,94 @@
+ghost use Rattle.cts_model.specs.Sinks.{IsTreeSink};
+
+use cts_model::{Merge, Sink, Uv};
+use std::alloc::Global;
+use std::process::Abort;
+use std::test::Fail;
+use topology::greedy;
+
+// The sink on the line y = 0 so many times 8 steps to the right, with no offset.
+fn sink(place: u64) -> Sink
+    ensures { IsTreeSink result }
+{
+    let x = 8 * i128::from(place);
+    Sink {
+        at: Uv { u: x, v: x },
+        offset: 0,
+    }
+}
+
+fn merge(row: (u32, u32)) -> Merge {
+    Merge {
+        first: row.0,
+        second: row.1,
+    }
+}
+
+// The sinks at those places are merged so.
+fn assert_merged(
+    rt: &impl Abort,
+    alloc: Global,
+    places: &[u64],
+    wanted: &[(u32, u32)],
+) -> Result<(), Fail> {
+    let mut sinks = Vec::new(alloc);
+    for place in places {
+        sinks.push(sink(*place))?;
+    }
+    assert!(rt; !sinks.is_empty());
+    assert!(rt; sinks.len() <= 4097);
+    let topology = greedy(alloc, &sinks)?;
+    assert_eq!(rt; topology.merges.len(), wanted.len(), "at {places:?}");
+    for (found, row) in topology.merges.as_slice().iter().zip(wanted) {
+        assert_eq!(rt; *found, merge(*row), "at {places:?}");
+    }
+    Ok(())
+}
+
+#[test]
+fn merges_the_cheapest_first(rt: HostRuntime) -> Result<(), Fail> {
+    for (places, wanted) in [
+        // Joining in the order of the sinks would begin with (0, 1).
+        ([0, 10, 11].as_slice(), [(1, 2), (0, 3)].as_slice()),
+        // Of equally cheap pairs the lower numbers come first.
+        ([0, 1, 2, 3].as_slice(), [(0, 1), (2, 3), (4, 5)].as_slice()),
+        ([0].as_slice(), [].as_slice()),
+        // All at one place.
+        ([5, 5, 5, 5].as_slice(), [(0, 1), (2, 3), (4, 5)].as_slice()),
+    ] {
+        assert_merged(&rt, rt.alloc(), places, wanted)?;
+    }
+    Ok(())
+}
+
+// Forty sinks, each twice as far as the one before: the root of those so far is merged with the
+// next.
+#[test]
+fn merges_a_row_that_doubles(rt: HostRuntime) -> Result<(), Fail> {
+    let alloc = rt.alloc();
+    let mut places = Vec::new(alloc);
+    let mut wanted = Vec::new(alloc);
+    for sink in 0u32..40 {
+        places.push(1u64 << sink)?;
+    }
+    wanted.push((0, 1))?;
+    for place in 1..39 {
+        wanted.push((place + 1, 39 + place))?;
+    }
+    assert_merged(&rt, alloc, &places, &wanted)
+}
+
+// As many sinks as there may be, 8 steps from one to the next: each merge takes the next two nodes.
+#[test]
+fn merges_an_even_row(rt: HostRuntime) -> Result<(), Fail> {
+    let alloc = rt.alloc();
+    let mut places = Vec::new(alloc);
+    let mut wanted = Vec::new(alloc);
+    for sink in 0..4096 {
+        places.push(sink)?;
+    }
+    for place in 0..4095 {
+        wanted.push((2 * place, 2 * place + 1))?;
+    }
+    assert_merged(&rt, alloc, &places, &wanted)
+}
