@@ -6,7 +6,11 @@ mod ScaleLemmas
 mod MicroLemmas
 mod SizeLemmas
 mod OneNumberFault
+mod WholeReading
+mod QuotientReading
+pub mod FractionReading
 pub mod OneNumberText
+pub mod OneSpelling
 pub mod Quotients
 pub mod Divisors
 pub mod GreatestDivisors

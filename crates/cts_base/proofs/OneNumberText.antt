@@ -75,7 +75,7 @@ one_number_text (negsuc a) (negsuc b) small small' same =
 -- ---- fractions
 
 -- no byte is a slash
-abbrev HasNoSlash : List ℕ → Type 0
+abbrev pub HasNoSlash : List ℕ → Type 0
 HasNoSlash bytes = AllByRecursion (λ byte. byte ≢ 47) bytes
 
 -- digits have none
@@ -91,7 +91,7 @@ no_slash (negsuc number) =
     (λ is. omega (arith, is), digits_no_slash (decimal (suc number)) (decimal_digits (suc number)))
 
 -- the bytes before the first slash, and those behind it, are told by all
-one_split : (front front' back back' : List ℕ) → HasNoSlash front → HasNoSlash front'
+pub one_split : (front front' back back' : List ℕ) → HasNoSlash front → HasNoSlash front'
     → front ++ 47 ∷ back ≡ front' ++ 47 ∷ back' → (front ≡ front') × (back ≡ back')
 one_split [] [] back back' none none' same = (refl, ap (λ (b : List ℕ). drop 1 b) same)
 one_split [] (byte ∷ front') back back' none none' same =
@@ -104,7 +104,7 @@ one_split (byte ∷ front) (byte' ∷ front') back back' none none' same =
     (ap₂ (λ b bs. b ∷ bs) (ap (λ (b : List ℕ). get_or b 0 0) same) rest.0, rest.1)
 
 -- bytes with a slash aren't bytes without
-slash_differs : (bytes front back : List ℕ) → HasNoSlash bytes → bytes ≡ front ++ 47 ∷ back → ⊥
+pub slash_differs : (bytes front back : List ℕ) → HasNoSlash bytes → bytes ≡ front ++ 47 ∷ back → ⊥
 slash_differs [] [] back none same = omega (arith, ap (λ (b : List ℕ). get_or b 0 0) same)
 slash_differs [] (byte ∷ front) back none same = omega (arith, ap length same)
 slash_differs (byte ∷ bytes) [] back none same =

@@ -1,4 +1,5 @@
 pub mod Decimals
 pub mod Fractions
 pub mod Lines
+pub mod NumberTexts
 pub mod Words

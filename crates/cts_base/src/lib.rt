@@ -15,6 +15,6 @@ pub use fraction::{Fraction, push_fraction, push_quotient};
 pub use line_walk::{Line, Lines};
 pub use listed::{Listed, Name};
 pub use no_memory::NoMemory;
-pub use number::{NumberFault, read_micro};
+pub use number::{NumberFault, Quotient, read_fraction, read_micro, read_quotient, read_whole};
 pub use text::{before_comment, lines, words};
 pub use word_walk::Words;

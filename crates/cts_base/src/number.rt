@@ -6,8 +6,13 @@ use crate::number::parts::{begins_with_minus, is_decimal};
 use crate::number::size::size_of;
 
 mod parts;
+mod quotient;
 mod scale;
 mod size;
+mod whole;
+
+pub use quotient::{Quotient, read_fraction, read_quotient};
+pub use whole::read_whole;
 
 /// Why a text is refused as a number, in the order in which the faults are judged.
 #[derive(Clone, Copy, Debug, PartialEq, Eq)]
@@ -16,7 +21,7 @@ pub enum NumberFault {
     NotNumber,
     /// The value is no multiple of 10^-6.
     TooFine,
-    /// The size of the value is above 10^9.
+    /// The size is above what the call takes: a value above 10^9, or a fraction's number of 10^37.
     TooLarge,
 }
 

@@ -139,7 +139,8 @@ fn all_ascii_digits(bytes: &[u8]) -> bool
     bytes.iter().all(|byte| byte.is_ascii_digit())
 }
 
-fn is_numeral(bytes: &[u8]) -> bool
+/// Whether bytes are digits, and at least one.
+pub fn is_numeral(bytes: &[u8]) -> bool
     ensures { IsTrue result ↔ IsNumeral 10 bytes.now }
 {
     !bytes.is_empty() && are_digits(bytes)

@@ -4,24 +4,24 @@ ghost use Rattle.std.specs.Str.Parse.{AllDigits, digits_value, digits_value_afte
 ghost use Rattle.cts_base.specs.Decimals.{is_zero};
 
 /// One millionth past the greatest size: what grows beyond it is kept there.
-pub const CEILING: u64 = 1_000_000_000_000_001;
+pub const CEILING: u128 = 1_000_000_000_000_001;
 
 /// The number that digits write behind another number, or the ceiling where that is less.
-pub fn number_after(start: u64, digits: &[u8], ceiling: u64) -> u64
+pub fn number_after(start: u128, digits: &[u8], ceiling: u128) -> u128
     requires digits { AllDigits 10 digits.now }
     requires start { start ≤ ceiling }
-    requires ceiling { ceiling < 2 ^ 60 }
+    requires ceiling { ceiling < 2 ^ 124 }
     ensures { result ≡ min (digits_value_after 10 start digits.now) ceiling }
 {
     let mut number = start;
     for byte in digits {
-        number = (number * 10 + u64::from(byte.saturating_sub(b'0'))).min(ceiling);
+        number = (number * 10 + u128::from(byte.saturating_sub(b'0'))).min(ceiling);
     }
     number
 }
 
 /// The number that the first so many of the digits write, or the ceiling where that is less.
-pub fn kept_number(whole: &[u8], fraction: &[u8], kept: usize) -> u64
+pub fn kept_number(whole: &[u8], fraction: &[u8], kept: usize) -> u128
     requires whole { AllDigits 10 whole.now }
     requires fraction { AllDigits 10 fraction.now }
     requires kept { kept ≤ length whole.now + length fraction.now }
@@ -48,7 +48,7 @@ fn are_zeros(digits: &[u8]) -> bool
 }
 
 /// A number times a power of ten, or the ceiling where that is less.
-pub fn raised_number(number: u64, places: usize) -> u64
+pub fn raised_number(number: u128, places: usize) -> u128
     requires { number ≤ CEILING }
     ensures { result ≡ min (number * 10 ^ places) CEILING }
 {

@@ -7,7 +7,7 @@ use crate::number::parts::{begins_with_minus, parts_of, without_sign};
 use crate::number::scale::{CEILING, is_zero_behind, kept_number, number_after, raised_number};
 
 /// What an exponent is taken for if it is larger: no text has so many digits.
-const GREATEST_EXPONENT: u64 = 1_099_511_627_776;
+const GREATEST_EXPONENT: u128 = 1_099_511_627_776;
 
 /// The size of a number in millionths.
 pub fn size_of(text: &[u8]) -> Result<u64, NumberFault>
@@ -27,7 +27,7 @@ pub fn size_of(text: &[u8]) -> Result<u64, NumberFault>
     if size == CEILING {
         return Err(NumberFault::TooLarge);
     }
-    Ok(size)
+    Ok(size as u64)
 }
 
 fn exponent_of(exponent: &[u8]) -> usize
