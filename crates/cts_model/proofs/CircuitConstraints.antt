@@ -11,6 +11,7 @@ use Rattle.cts_model.specs.declared.constraint.Constraint.{Constraint}
 use Rattle.cts_model.specs.Delays.{least_delay, greatest_delay}
 use Rattle.cts_model.specs.Timing.{MeetsSetup, MeetsHold, Meets, IsAdmitted}
 use Rattle.cts_model.specs.Constraints.{IsSatisfied, Satisfies, IsSetupConstraint, IsHoldConstraint, IsConstraintOf}
+use Rattle.cts_model.specs.Cycles.{ShowsPeriod}
 use Rattle.cts_model.specs.LeastPeriods.{IsCritical, IsForbidding, HasNoPeriod}
 use Rattle.cts_model.proofs.CycleLemmas.{shown_period_is_least, forbidden_at_all}
 use borrow.Author.Differences.{up, down}
@@ -58,17 +59,28 @@ module _ (circuit : Circuit) (tech : Tech) (scale : ℕ) (period : ℤ) (arrival
   met_all constraints = All-weaker (IsConstraintOf circuit tech)
       (IsSatisfied scale period arrival) met_constraint constraints
 
--- no period below the one that a cycle shows is admitted
+-- no period below the one that a cycle of the circuit's constraints shows is admitted
+pub cycle_is_least : (circuit : Circuit) (tech : Tech) (numerator : ℤ) (denominator : ℕ)
+    → (cycle : List Constraint) → All (IsConstraintOf circuit tech) cycle
+    → ShowsPeriod cycle numerator denominator → (scale : ℕ) (period : ℤ)
+    → (period *ℤ pos denominator) <ℤ (numerator *ℤ pos scale)
+    → IsAdmitted circuit tech scale period → ⊥
+cycle_is_least circuit tech numerator denominator cycle of_circuit shows scale period small
+    admitted =
+    let (floor, (arrival, meets)) = admitted in
+    shown_period_is_least cycle cycle numerator denominator scale period arrival
+    (All-contains_itself cycle) shows small
+    (met_all circuit tech scale period arrival meets cycle of_circuit)
+
+-- so it is with a critical cycle
 pub critical_is_least : (circuit : Circuit) (tech : Tech) (shown : Fraction)
     → (cycle : List Constraint) → IsCritical circuit tech shown cycle
     → (scale : ℕ) (period : ℤ) → 1 ≤ scale
     → (period *ℤ pos (nat_abs shown.den)) <ℤ (shown.num *ℤ pos scale)
     → IsAdmitted circuit tech scale period → ⊥
 critical_is_least circuit tech shown cycle critical scale period proper small admitted =
-    let (floor, (arrival, meets)) = admitted in
-    shown_period_is_least cycle cycle shown.num (nat_abs shown.den) scale period arrival
-    (All-contains_itself cycle) critical.shows small
-    (met_all circuit tech scale period arrival meets cycle critical.of_circuit)
+    cycle_is_least circuit tech shown.num (nat_abs shown.den) cycle critical.of_circuit
+    critical.shows scale period small admitted
 
 -- and none at all where a cycle forbids every period
 pub forbidding_at_all : (circuit : Circuit) (tech : Tech) (cycle : List Constraint)

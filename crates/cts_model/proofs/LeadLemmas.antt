@@ -9,7 +9,7 @@ use Rattle.cts_model.specs.declared.tech.Tech.{Tech}
 use Rattle.cts_model.specs.declared.schedule.Lead.{Lead}
 use Rattle.cts_model.specs.declared.schedule.Lead.TheVariants.{Zero, Tight}
 use Rattle.cts_model.specs.Constraints.{IsConstraintOf, count_of}
-use Rattle.cts_model.specs.Leads.{IsLead, EachLead, depth_of, lead_at}
+use Rattle.cts_model.specs.Leads.{ShowsEarliest, EachShowsEarliest, depth_of, lead_at}
 use Rattle.cts_model.specs.Schedules.{arrival_of, AreFromZero, AreLeastArrivals}
 use Rattle.cts_model.specs.Timing.{Meets}
 use Rattle.cts_model.proofs.CircuitConstraints.{met_constraint}
@@ -37,12 +37,12 @@ IsLow times at other register = (pos times *ℤ arrival_of at register) ≤ℤ o
 
 module _ (circuit : Circuit) (tech : Tech) (period : Fraction) (at : List ℤ) (leads : List Lead)
     (all : length at ≡ length circuit.registers)
-    (led : EachLead (IsConstraintOf circuit tech) period at leads) (times : ℕ) (other : ℕ → ℤ)
-    (from_zero : AreFromZero (length at) other)
+    (led : EachShowsEarliest (IsConstraintOf circuit tech) period at leads) (times : ℕ)
+    (other : ℕ → ℤ) (from_zero : AreFromZero (length at) other)
     (meets : Meets circuit tech (nat_abs period.den * times) (period.num *ℤ pos times) other) where
   -- what a lead says, where it holds of the registers whose leads take fewer constraints
   low_by_lead : (register : ℕ) → register < length at → (lead : Lead)
-      → IsLead (IsConstraintOf circuit tech) period at leads register lead
+      → ShowsEarliest (IsConstraintOf circuit tech) period at leads register lead
       → ((tail : ℕ) → tail < length at → 1 + depth_of (lead_at leads tail) ≤ depth_of lead
       → IsLow times at other tail)
       → IsLow times at other register
@@ -75,7 +75,7 @@ pub led_arrivals_are_least : (circuit : Circuit) (tech : Tech) (period : Fractio
     → (leads : List Lead) → length at ≡ length circuit.registers
     → Meets circuit tech (nat_abs period.den) period.num (arrival_of at)
     → AreFromZero (length at) (arrival_of at)
-    → EachLead (IsConstraintOf circuit tech) period at leads
+    → EachShowsEarliest (IsConstraintOf circuit tech) period at leads
     → AreLeastArrivals circuit tech period.num (nat_abs period.den) at
 led_arrivals_are_least circuit tech period at leads all meets from_zero led = record {
   meets = meets;

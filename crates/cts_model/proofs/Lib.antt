@@ -11,10 +11,15 @@ pub mod OneRecord
 pub mod PathRegisters
 pub mod TopologyLemmas
 pub mod ScaleLemmas
-mod TotalLemmas
+pub mod TotalLemmas
 mod WithoutLemmas
 mod EmbeddingLemmas
 pub mod SkewLemmas
 pub mod TreeLemmas
+pub mod RoundLemmas
+mod ShownLemmas
+mod ShownTimings
+pub mod ShownTrees
 pub mod LeadLemmas
 pub mod ParentLemmas
+pub mod GridLemmas

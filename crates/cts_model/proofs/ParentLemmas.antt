@@ -9,7 +9,7 @@ use Rattle.std.proofs.lemmas.Option.{slice_get_within, get_or_from_slice_get}
 use Rattle.cts_model.specs.declared.tree.Merge.{Merge}
 use Rattle.cts_model.specs.Embeddings.{total_length}
 use Rattle.cts_model.specs.Topologies.{IsTopology, IsLive, IsMerge, IsParent, Joins, root_of, source_of}
-use Rattle.cts_model.proofs.TotalLemmas.{all_zero, all_nothing, all_ones}
+use Rattle.cts_model.proofs.TotalLemmas.{all_zero, all_nothing, all_ones, total_from_zero}
 use Rattle.cts_model.proofs.TopologyLemmas.{some_and, merge_at, merge_here, EachMerge, first_made, second_made}
 use Rattle.cts_model.proofs.WithoutLemmas.{without_both, without_both-joined, without_both-nothing, nothing_without_both, without_both-other, without_both-from_zero, total_length-without_both}
 
@@ -85,6 +85,30 @@ module _ (sinks : ℕ) (merges : List Merge) (each : EachMerge sinks merges) whe
     left_from_zero from_zero zero node = from_zero node
     left_from_zero from_zero (suc count) node = without_both-from_zero (left count)
         (merge_at merges count) node (left_from_zero from_zero count node)
+
+    -- where what is made has what the two have of which it is made, no two that a merge joins
+    -- have more than all the sinks
+    pub pair_within : ((node : ℕ) → pos 0 ≤ℤ value node) → (count : ℕ) → count < length merges
+        → total_length value (sinks + count)
+        ≡ pos sinks +ℤ total_length (both_at merges value) count
+        → both_at merges value count ≤ℤ pos sinks
+    pair_within from_zero count within sum =
+        let merge : Merge = merge_at merges count in
+        let joins = joins_at count within in
+        let first = left_live count count merge.first joins.first (omega arith) within in
+        let second = left_live count count merge.second joins.second (omega arith) within in
+        let low : merge.second < sinks + count = omega (
+          arith,
+          joins.second.made,
+          length-take count merges,
+        ) in
+        let rest = left_and_joined count (omega arith) (sinks + count) (omega arith) in
+        let missing = total_length-without_both (left count) merge (sinks + count) joins.ordered
+        low in
+        let others = total_from_zero (without_both (left count) merge) (sinks + count)
+        (λ node. without_both-from_zero (left count) merge node
+        (left_from_zero from_zero count node)) in
+        omega (arith, ints)
 
     -- what is joined isn't left
     left_joined : (count node place : ℕ) → place < count → Joins (merge_at merges place) node

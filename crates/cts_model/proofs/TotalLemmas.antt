@@ -1,12 +1,13 @@
 -- Sums of the values of so many nodes.
-use Rattle.std.proofs.Common.{◌≡◌, ℕ, zero, suc, ◌<◌, ◌+◌, ◌*◌, ℤ, pos, ◌+ℤ◌, ◌*ℤ◌, ◌≤ℤ◌, inl, inr, refl, sym, ap, subst, ◌∙◌, arith}
+use Rattle.std.proofs.Common.{◌≡◌, ℕ, zero, suc, ◌<◌, ◌+◌, ◌*◌, ◌^◌, ℤ, pos, neg_ℤ, ◌+ℤ◌, ◌*ℤ◌, ◌≤ℤ◌, inl, inr, refl, sym, ap, subst, ◌∙◌, arith}
 use Rattle.std.proofs.lemmas.Bool.{cases_lt}
 use Rattle.std.proofs.lemmas.Int.{ints}
 use Rattle.cts_model.specs.Embeddings.{total_length}
+use Rattle.cts_model.specs.Points.{IsBelow}
 use Rattle.cts_model.proofs.ScaleLemmas.{scale-add}
 
 -- a sum of values from 0 on is from 0 on
-total_from_zero : (value : ℕ → ℤ) (bound : ℕ) → ((node : ℕ) → pos 0 ≤ℤ value node)
+pub total_from_zero : (value : ℕ → ℤ) (bound : ℕ) → ((node : ℕ) → pos 0 ≤ℤ value node)
     → pos 0 ≤ℤ total_length value bound
 total_from_zero value zero from_zero = omega (arith, ints)
 total_from_zero value (suc bound) from_zero =
@@ -91,3 +92,21 @@ total_length-twice one other half (suc bound) each =
     (λ node before. each node (omega arith)) in
     let last = each bound (omega arith) in
     omega (arith, ints)
+
+-- one more
+pub total_more : (value : ℕ → ℤ) (count : ℕ)
+    → total_length value (count + 1) ≡ total_length value count +ℤ value count
+total_more value count =
+    let next : suc count ≡ count + 1 = omega arith in
+    ap (total_length value) (sym next)
+
+-- so many lengths are together no larger than as many times the greatest
+pub total_within : (value : ℕ → ℤ) (count : ℕ)
+    → ((node : ℕ) → node < count → IsBelow (10 ^ 32) (value node))
+    → (neg_ℤ (pos (count * 10 ^ 32)) ≤ℤ total_length value count)
+    × (total_length value count ≤ℤ pos (count * 10 ^ 32))
+total_within value zero each = (omega (arith, ints), omega (arith, ints))
+total_within value (suc count) each =
+    let before = total_within value count (λ node here. each node (omega arith)) in
+    let last = each count (omega arith) in
+    (omega (arith, ints, before, last), omega (arith, ints, before, last))

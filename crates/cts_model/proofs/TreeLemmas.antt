@@ -1,5 +1,5 @@
 -- What the shows of a tree say of every embedding that realises the offsets.
-use Rattle.std.proofs.Common.{◌≡◌, ℕ, suc, ◌<◌, ◌+◌, ◌-◌, ℤ, pos, ◌+ℤ◌, ◌-ℤ◌, ◌*ℤ◌, ◌≤ℤ◌, List, length, inl, inr, refl, sym, ap, subst, ◌∙◌, arith}
+use Rattle.std.proofs.Common.{◌≡◌, ℕ, zero, suc, ◌<◌, ◌≤◌, ◌+◌, ◌-◌, ℤ, pos, ◌+ℤ◌, ◌-ℤ◌, ◌*ℤ◌, ◌≤ℤ◌, List, length, inl, inr, refl, sym, ap, subst, ◌∙◌, arith}
 use Rattle.std.specs.Prelude.{IfSome, IsSomeAnd}
 use Rattle.std.specs.List.{slice_get}
 use Rattle.std.proofs.lemmas.Bool.{cases_lt}
@@ -16,7 +16,7 @@ use Rattle.cts_model.specs.Regions.{span}
 use Rattle.cts_model.specs.ShownReaches.{AreReaches, AreShown, ShowsMerge, ShowsSource}
 use Rattle.cts_model.specs.Topologies.{IsTopology, numbers_below, root_of, source_of}
 use Rattle.cts_model.proofs.EmbeddingLemmas.{realised, realised_reaches, realised_of_sink, span_low, source_low, root_low}
-use Rattle.cts_model.proofs.ParentLemmas.{both_at, made_parent, total_by_merges}
+use Rattle.cts_model.proofs.ParentLemmas.{both_at, has_parent, made_parent, parent_above, parent_stands, total_by_merges}
 use Rattle.cts_model.proofs.ScaleLemmas.{scale-add}
 use Rattle.cts_model.proofs.TopologyLemmas.{some_and, merge_at, merge_here}
 use Rattle.cts_model.proofs.TotalLemmas.{total_length-le, total_length-scaled, total_length-parts, total_length-twice}
@@ -31,6 +31,37 @@ wires_left sinks merges lengths reach reaches = record {
       let long = reaches node parent is in
       omega (arith, ints);
 }
+
+module _ {sinks : ℕ} {merges : List Merge} (topology : IsTopology sinks merges)
+    (lengths reach wire : ℕ → ℤ) (reaches : AreReaches sinks merges lengths reach)
+    (wires : AreWiresDown sinks merges lengths wire) where
+  -- what the wire down to a node leaves of the source's reach is the node's
+  abbrev IsLeft : ℕ → Type 0
+  IsLeft node = wire node ≡ reach (source_of sinks) -ℤ reach node
+
+  source_left : IsLeft (source_of sinks)
+  source_left = omega (arith, ints, wires.source)
+
+  -- of a node so far below the source
+  left_from : (rest node : ℕ) → source_of sinks ≤ node + rest → node ≤ source_of sinks
+      → IsLeft node
+  left_from zero node near low =
+      let same : source_of sinks ≡ node = omega arith in subst IsLeft same source_left
+  left_from (suc rest) node near low = elim (cases_lt node (source_of sinks)) [
+    | inl below ↦
+        let (parent, is) = has_parent topology node below in
+        let above = parent_above topology node parent is in
+        let left = left_from rest parent (omega arith) (parent_stands topology node parent is) in
+        let down = wires.each node parent is in
+        let long = reaches node parent is in
+        omega (arith, ints)
+    | inr there ↦
+        let same : source_of sinks ≡ node = omega arith in subst IsLeft same source_left
+  ]
+
+  -- so it is with all nodes, whichever the wires down
+  pub wires_are_left : (node : ℕ) → node ≤ source_of sinks → IsLeft node
+  wires_are_left node low = left_from (source_of sinks) node (omega arith) low
 
 -- edges as long as their ends' reaches differ realise the offsets, where a sink's reach is its
 -- offset

@@ -7,7 +7,7 @@ use Rattle.cts_model.specs.declared.circuit.Circuit.{Circuit}
 use Rattle.cts_model.specs.declared.tech.Tech.{Tech}
 use Rattle.cts_model.specs.declared.schedule.Lead.{Lead}
 use Rattle.cts_model.specs.Constraints.{IsConstraintOf}
-use Rattle.cts_model.specs.Leads.{EachLead}
+use Rattle.cts_model.specs.Leads.{EachShowsEarliest}
 use Rattle.cts_model.specs.Schedules.{arrival_of, AreFromZero, AreLeastArrivals}
 use Rattle.cts_model.specs.Timing.{Meets}
 
@@ -18,5 +18,5 @@ LedArrivalsAreLeast = (circuit : Circuit) (tech : Tech) (period : Fraction) (at 
     (leads : List Lead) → length at ≡ length circuit.registers
     → Meets circuit tech (nat_abs period.den) period.num (arrival_of at)
     → AreFromZero (length at) (arrival_of at)
-    → EachLead (IsConstraintOf circuit tech) period at leads
+    → EachShowsEarliest (IsConstraintOf circuit tech) period at leads
     → AreLeastArrivals circuit tech period.num (nat_abs period.den) at

@@ -25,13 +25,18 @@ lead_at leads register = slice_index_or leads register Zero
 
 -- the constraint is one that is given, leads to the register and is tight, and the depth is 1 more
 -- than that of its tail's lead
-pub record IsTightLead (Given : Constraint → Type 0) (period : Fraction) (at : List ℤ)
+pub record IsLedBy (Given : Constraint → Type 0) (period : Fraction) (at : List ℤ)
     (leads : List Lead) (register depth : ℕ) (constraint : Constraint) : Type 0 where
-  pub late : pos 0 <ℤ arrival_of at register
   pub given : Given constraint
   pub head : constraint.head ≡ register
   pub tight : IsTight period at constraint
   pub depth_is : depth ≡ 1 + depth_of (lead_at leads constraint.tail)
+
+-- the same of a register that isn't at 0
+pub record IsTightLead (Given : Constraint → Type 0) (period : Fraction) (at : List ℤ)
+    (leads : List Lead) (register depth : ℕ) (constraint : Constraint) : Type 0 where
+  pub late : pos 0 <ℤ arrival_of at register
+  pub led : IsLedBy Given period at leads register depth constraint
 
 -- what a lead says of the register: it is at 0, or else a tight constraint leads to it
 abbrev pub IsLead : (Given : Constraint → Type 0) → Fraction → List ℤ → List Lead
@@ -44,3 +49,16 @@ IsLead Given period at leads register (Tight depth constraint) =
 abbrev pub EachLead : (Given : Constraint → Type 0) → Fraction → List ℤ → List Lead → Type 0
 EachLead Given period at leads = (register : ℕ) → register < length at
     → IsLead Given period at leads register (lead_at leads register)
+
+-- what shows that nothing is earlier at the register: it is at 0, or a tight constraint leads to it
+abbrev pub ShowsEarliest : (Given : Constraint → Type 0) → Fraction → List ℤ → List Lead
+    → (register : ℕ) → Lead → Type 0
+ShowsEarliest Given period at leads register Zero = arrival_of at register ≡ pos 0
+ShowsEarliest Given period at leads register (Tight depth constraint) =
+    IsLedBy Given period at leads register depth constraint
+
+-- and so it is with each register
+abbrev pub EachShowsEarliest : (Given : Constraint → Type 0) → Fraction → List ℤ → List Lead
+    → Type 0
+EachShowsEarliest Given period at leads = (register : ℕ) → register < length at
+    → ShowsEarliest Given period at leads register (lead_at leads register)

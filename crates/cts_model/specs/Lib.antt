@@ -46,3 +46,5 @@ pub mod PrintedLines
 pub mod ReportLines
 pub mod ReportBounds
 pub mod ConstraintPaths
+pub mod Judgements
+pub mod Shown

@@ -3,6 +3,7 @@
 
 ghost use Rattle.cts_model.specs.Laws.{CycleBoundsPeriod, ShownPeriodIsLeast, ForbiddenAtAll, MeetsConstraints, CriticalIsLeast, ForbiddingAtAll};
 ghost use Rattle.cts_model.specs.LeadLaws.{LedArrivalsAreLeast};
+ghost use Rattle.cts_model.specs.Shown.{ShownIsLeast};
 ghost use Rattle.cts_model.specs.SkewLaws.{OffsetsAreSkews, SkewsAreOffsets, LeastForSchedule, RealisedMeets};
 ghost use Rattle.cts_model.specs.TreeLaws.{ReachesRealise, ShownReachesAreLeast};
 
@@ -38,4 +39,9 @@ pub fn skews()
     ensures offsets { SkewsAreOffsets }
     ensures least { LeastForSchedule }
     ensures meets { RealisedMeets }
+{}
+
+/// What a report shows of a problem is so, whoever made the report.
+pub fn reports()
+    ensures least { ShownIsLeast }
 {}

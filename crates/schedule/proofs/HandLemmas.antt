@@ -76,10 +76,12 @@ module _ {constraints : List Constraint} {period : Fraction} {at : List ℤ} {ol
     led = record {
       late = above_zero (arrival_of at it.head) (given.from_zero it.head head)
           (λ zero. true≢false (sym (reaching.zeros it.head head zero) ∙ first));
-      given = Contains-get_or constraints place nowhere within;
-      head = refl;
-      tight = tight;
-      depth_is = depth_is;
+      led = record {
+        given = Contains-get_or constraints place nowhere within;
+        head = refl;
+        tight = tight;
+        depth_is = depth_is;
+      };
     }
 
     -- a tight constraint from a register that is reached gives its head a lead

@@ -79,11 +79,13 @@ module _ {constraints : List Constraint} {period : Fraction} {at : List ℤ} {lo
   led_still other Zero from led = led
   led_still other (Tight depth constraint) from led = record {
     late = led.late;
-    given = led.given;
-    head = led.head;
-    tight = led.tight;
-    depth_is = led.depth_is ∙ ap (λ (l : Lead). 1 + depth_of l)
-        (sym (lead_there constraint.tail (others constraint.tail from)));
+    led = record {
+      given = led.led.given;
+      head = led.led.head;
+      tight = led.led.tight;
+      depth_is = led.led.depth_is ∙ ap (λ (l : Lead). 1 + depth_of l)
+          (sym (lead_there constraint.tail (others constraint.tail from)));
+    };
   }
 
   -- and comes from it still

@@ -1,0 +1,69 @@
+-- What a report shows of a problem is so.
+use Rattle.std.proofs.Common.{◌≡◌, ◌⊎◌, ℕ, ◌<◌, ◌≤◌, ◌+◌, ◌*◌, List, length, inl, inr, sym, subst, ◌∙◌, arith}
+use Rattle.std.specs.Prelude.{IfSome, slice_get}
+use Rattle.std.proofs.lemmas.Bool.{cases_lt}
+use Rattle.std.proofs.lemmas.Option.{slice_get_past}
+use Rattle.cts_model.specs.declared.place.Sink.{Sink}
+use Rattle.cts_model.specs.declared.problem.Problem.{Problem}
+use Rattle.cts_model.specs.declared.report.Report.{Report}
+use Rattle.cts_model.specs.Embeddings.{embedding_of}
+use Rattle.cts_model.specs.ReportBounds.{IsOfSize, IsWithinBounds}
+use Rattle.cts_model.specs.ReportLines.{number_at, origin}
+use Rattle.cts_model.specs.Shown.{IsLeast, IsShown, sinks_in, source_in}
+use Rattle.cts_model.proofs.ShownTimings.{shown_meets, shown_period, shown_schedule}
+use Rattle.cts_model.proofs.ShownTrees.{shown_embedding, shown_offsets, shown_topology, shown_wire}
+use Rattle.cts_model.proofs.SkewLemmas.{least_for_schedule, length-sinks_of, offsets_are_skews, sink_at}
+
+module _ (problem : Problem) (report : Report) (size : IsOfSize problem.circuit report)
+    (bounds : IsWithinBounds problem.tech report) (shown : IsShown problem report) where
+  abbrev sinks : List Sink
+  sinks = sinks_in problem report
+
+  -- there is a place for each arrival
+  same : length problem.places.registers ≡ length report.schedule.at
+  same = problem.valid.registers ∙ sym size.arrivals
+
+  -- and a sink for each register
+  count : length sinks ≡ length report.schedule.at
+  count = length-sinks_of report.period problem.tech problem.places.registers report.schedule.at
+      same
+
+  all : length sinks ≡ length report.topology.merges + 1
+  all = count ∙ size.arrivals ∙ sym size.merges
+
+  edges : length report.tree.length + 1 ≡ 2 * length sinks
+  edges = omega (arith, size.lengths, size.arrivals, count)
+
+  -- whose reach is its offset
+  level : (register : ℕ)
+      → (register < length report.schedule.at) ⊎ (length report.schedule.at ≤ register)
+      → IfSome (slice_get sinks register)
+      (λ sink. number_at report.tree.reach register ≡ sink.offset)
+  level register (inl within) = subst (λ found. IfSome found
+      (λ sink. number_at report.tree.reach register ≡ sink.offset))
+      (sym (sink_at report.period problem.tech problem.places.registers report.schedule.at origin
+      register same within)) (bounds.tree.sinks register within)
+  level register (inr past) = subst (λ found. IfSome found
+      (λ sink. number_at report.tree.reach register ≡ sink.offset))
+      (sym (slice_get_past sinks register (omega (arith, count)))) tt
+
+  each_level : (register : ℕ) → IfSome (slice_get sinks register)
+      (λ sink. number_at report.tree.reach register ≡ sink.offset)
+  each_level register = level register (cases_lt register (length report.schedule.at))
+
+  -- so all that it says is the least is so
+  pub shown_is_least : IsLeast problem report
+  shown_is_least = record {
+    period = shown_period problem.circuit problem.tech report shown.timing;
+    meets = shown_meets problem.circuit problem.tech report shown.timing;
+    topology = shown_topology report all edges shown.tree;
+    embedding = shown_embedding report all edges shown.tree;
+    realises = offsets_are_skews 1 report.period problem.tech problem.places.registers
+        report.schedule report.topology.merges (embedding_of report.tree) same
+        (shown_offsets report all edges shown.tree each_level);
+    wire = least_for_schedule report.period problem.tech problem.places.registers report.schedule
+        report.topology.merges (source_in problem report) report.total same
+        (shown_wire report all edges shown.tree each_level);
+    schedule = λ second. shown_schedule problem.circuit problem.tech report shown.timing
+        size.arrivals bounds.timing.den (shown.least second);
+  }
