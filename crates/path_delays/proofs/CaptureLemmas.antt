@@ -1,8 +1,8 @@
--- What each register captures: from the pairs, register by register, to the groups.
-use Rattle.std.proofs.Common.{ℕ, ◌≡◌, ◌<◌, ◌≤◌, ◌+◌, Bool, true, false, cond, IsTrue, List, [], ◌++◌, length, map, get_or, Contains, Option, Some, None, refl, subst, arith, inl, inr}
+-- What registers capture: from the pairs, register by register, to the groups by signal.
+use Rattle.std.proofs.Common.{ℕ, ◌≡◌, ◌<◌, ◌≤◌, ◌+◌, ◌*◌, Bool, true, false, cond, IsTrue, List, [], ◌++◌, length, map, get_or, All, Contains, Option, Some, None, IsSomeAnd, refl, sym, ◌∙◌, subst, arith, inl, inr}
 use Rattle.std.specs.List.{slice_get}
 use Rattle.std.specs.Option.{option_and_then}
-use Rattle.std.proofs.lemmas.Bool.{cases_lt}
+use Rattle.std.proofs.lemmas.Bool.{cases_lt, true≢false}
 use Rattle.std.proofs.lemmas.Bool.Decides.{nat_tests}
 use Rattle.std.proofs.lemmas.List.{length-append, length-map}
 use Rattle.std.proofs.lemmas.List.Elements.{All-nil, All-map, All-append, All-contains, All-contains_itself, Contains-append_left, Contains-append_right}
@@ -16,7 +16,9 @@ use Rattle.cts_model.specs.Circuits.{has_host}
 use Rattle.cts_model.specs.Paths.{register_signal, Captures}
 use Rattle.path_delays.specs.declared.groups.Groups.{Groups}
 use Rattle.path_delays.specs.GroupParts.{group_of, HasGroups}
-use Rattle.path_delays.specs.Captured.{AreCapturedBy, AreAllCaptures, AreCapturesOf}
+use Rattle.path_delays.specs.NumberSets.{has_number, AreInserted}
+use Rattle.path_delays.specs.Captured.{AreCapturedBy, AreAllCaptures, AreCapturersOf, AreCapturedBelow}
+use Rattle.path_delays.proofs.ReachedPairs.{captured_within}
 use Rattle.path_delays.proofs.NetworkLemmas.{Contains-map, Contains-values_at, All-values_at, distinct_length-le}
 
 -- what isn't the host has few inputs
@@ -33,14 +35,22 @@ few_inputs Input inputs other lawful = grind (arith, nat_tests)
 few_inputs Dff inputs other lawful = grind (arith, nat_tests)
 few_inputs Host inputs other lawful = cc other
 
+-- the host is one at most
+one_host : (b : Bool) → cond {A = ℕ} b 1 0 ≤ 1
+one_host true = omega arith
+one_host false = omega arith
+
 module _ (circuit : Circuit) where
-  -- there are few outputs, as there are few signals
+  -- there are few signals and registers, the host counted
+  pub few_signals : length circuit.signals ≤ 65537
+  few_signals = omega (arith, circuit.valid.few_signals, one_host (has_host circuit.signals))
+
+  pub few_registers : length circuit.registers ≤ 4097
+  few_registers = omega (arith, circuit.valid.few_registers, one_host (has_host circuit.signals))
+
+  -- so there are few outputs
   few_outputs : length circuit.outputs ≤ 65537
-  few_outputs = omega (arith, distinct_length-le (length circuit.signals) circuit.outputs circuit.valid.outputs_once circuit.valid.outputs_are, circuit.valid.few_signals, one (has_host circuit.signals))
-    where
-      one : (b : Bool) → (cond b 1 0) ≤ 1
-      one true = omega arith
-      one false = omega arith
+  few_outputs = omega (arith, distinct_length-le (length circuit.signals) circuit.outputs circuit.valid.outputs_once circuit.valid.outputs_are, few_signals)
 
   -- a register captures few signals
   pub few_captured : (register : ℕ) (signal : Signal) → register_signal circuit register ≡ Some signal → length signal.fan_in ≤ 65537
@@ -59,40 +69,83 @@ module _ (circuit : Circuit) where
   -- no registers capture nothing
   pub no_captures : AreAllCaptures circuit 0 []
   no_captures = record {
-    registers = All-nil (λ (pair : ℕ × ℕ). pair.0 < length circuit.registers);
-    each = All-nil (λ (pair : ℕ × ℕ). Captures circuit pair.0 pair.1);
+    signals = All-nil (λ (pair : ℕ × ℕ). pair.0 < length circuit.signals);
+    each = All-nil (λ (pair : ℕ × ℕ). Captures circuit pair.1 pair.0);
     all = λ register signal lower captures. absurd (omega arith);
     few = omega arith;
   }
 
   -- one register more
-  pub captures_more : (register : ℕ) (pairs : List (ℕ × ℕ)) (captured : List ℕ) → register < length circuit.registers → AreCapturedBy circuit register captured → length captured ≤ 65537
-      → AreAllCaptures circuit register pairs → AreAllCaptures circuit (register + 1) (pairs ++ map (λ signal. (register, signal)) captured)
-  captures_more register pairs captured within exact few so_far = record {
-    registers = All-append (λ (pair : ℕ × ℕ). pair.0 < length circuit.registers) pairs more so_far.registers (All-map (λ (pair : ℕ × ℕ). pair.0 < length circuit.registers) with captured (λ i d inside. within));
-    each = All-append (λ (pair : ℕ × ℕ). Captures circuit pair.0 pair.1) pairs more so_far.each
-        (All-map (λ (pair : ℕ × ℕ). Captures circuit pair.0 pair.1) with captured (λ i d inside. (exact (get_or captured i d)).0 (All-contains_itself captured i d inside)));
+  pub captures_more : (register : ℕ) (pairs : List (ℕ × ℕ)) (captured : List ℕ) → AreCapturedBy circuit register captured → All (λ signal. signal < length circuit.signals) captured → length captured ≤ 65537
+      → AreAllCaptures circuit register pairs → AreAllCaptures circuit (register + 1) (pairs ++ map (λ signal. (signal, register)) captured)
+  captures_more register pairs captured exact within few so_far = record {
+    signals = All-append (λ (pair : ℕ × ℕ). pair.0 < length circuit.signals) pairs more so_far.signals (All-map (λ (pair : ℕ × ℕ). pair.0 < length circuit.signals) with captured within);
+    each = All-append (λ (pair : ℕ × ℕ). Captures circuit pair.1 pair.0) pairs more so_far.each
+        (All-map (λ (pair : ℕ × ℕ). Captures circuit pair.1 pair.0) with captured (λ i d inside. (exact (get_or captured i d)).0 (All-contains_itself captured i d inside)));
     all = λ other signal lower captures. elim (cases_lt other register) [
-      | inl earlier ↦ Contains-append_left pairs more (other, signal) (so_far.all other signal earlier captures)
+      | inl earlier ↦ Contains-append_left pairs more (signal, other) (so_far.all other signal earlier captures)
       | inr last ↦
           let same : register ≡ other = omega arith in
-          Contains-append_right pairs more (other, signal) (subst (λ n. Contains more (n, signal)) same (Contains-map with captured signal ((exact signal).1 (rw (← same) at captures))))
+          Contains-append_right pairs more (signal, other) (subst (λ n. Contains more (signal, n)) same (Contains-map with captured signal ((exact signal).1 (rw (← same) at captures))))
     ];
     few = omega (arith, length-append pairs more, length-map captured with, so_far.few);
   }
     where
       with : ℕ → ℕ × ℕ
-      with signal = (register, signal)
+      with signal = (signal, register)
 
       more : List (ℕ × ℕ)
       more = map with captured
 
-  -- grouped by register they are what each register captures
-  pub captures_grouped : (pairs : List (ℕ × ℕ)) (groups : Groups) → AreAllCaptures circuit (length circuit.registers) pairs → HasGroups (length circuit.registers) pairs groups → AreCapturesOf circuit groups
+  -- what captures a signal is a register, and what it captures a signal
+  pub capture_within : (register signal : ℕ) → Captures circuit register signal → (register < length circuit.registers) × (signal < length circuit.signals)
+  capture_within register signal captures = at (register_signal circuit register) refl captures
+    where
+      listed : (o : Option ℕ) → slice_get circuit.registers register ≡ o → (found : Signal) → option_and_then (slice_get circuit.signals) o ≡ Some found → register < length circuit.registers
+      listed None here found is = cc is
+      listed (Some number) here found is = slice_get_within circuit.registers register number here
+
+      at : (o : Option Signal) → register_signal circuit register ≡ o → IsSomeAnd o (λ found. Contains found.fan_in signal) → (register < length circuit.registers) × (signal < length circuit.signals)
+      at None here none = absurd none
+      at (Some found) here captured = (
+        listed (slice_get circuit.registers register) refl found here,
+        All-contains (λ number. number < length circuit.signals) found.fan_in signal (captured_within circuit register found here) captured,
+      )
+
+  -- grouped by signal they are the registers that capture each
+  pub captures_grouped : (pairs : List (ℕ × ℕ)) (groups : Groups) → AreAllCaptures circuit (length circuit.registers) pairs → HasGroups (length circuit.signals) pairs groups → AreCapturersOf circuit groups
   captures_grouped pairs groups captures grouped = record {
     long = grouped.long;
-    each = λ register within signal. (
-      λ listed. All-contains (Captures circuit register) (group_of groups register) signal (rw (grouped.each register within) (All-values_at (Captures circuit) pairs register captures.each)) listed,
-      λ captured. rw (grouped.each register within) (Contains-values_at pairs register signal (captures.all register signal within captured)),
-    );
+    each = λ signal register inside listed.
+        All-contains (λ register. Captures circuit register signal) (group_of groups signal) register (rw (grouped.each signal inside) (All-values_at (λ signal register. Captures circuit register signal) pairs signal captures.each)) listed;
+    all = λ signal register captured.
+        let within = capture_within register signal captured in
+        rw (grouped.each signal within.1) (Contains-values_at pairs signal register (captures.all register signal within.0 captured));
+  }
+
+  -- no register captures none of an empty set
+  pub none_captured : (words : List ℕ) → length circuit.signals < 64 * length words → 64 * length words ≤ length circuit.signals + 64 → ((number : ℕ) → has_number words number ≡ false) → AreCapturedBelow circuit 0 words
+  none_captured words room small empty = record {
+    room = room;
+    small = small;
+    each = λ signal held. absurd (true≢false (sym held ∙ empty signal));
+    all = λ register signal lower captures. absurd (omega arith);
+  }
+
+  -- what one register more captures is put in
+  pub captured_more : (register : ℕ) (captured words later : List ℕ) → AreCapturedBy circuit register captured → All (λ signal. signal < length circuit.signals) captured → AreInserted captured words later
+      → AreCapturedBelow circuit register words → AreCapturedBelow circuit (register + 1) later
+  captured_more register captured words later exact within inserted so_far = record {
+    room = omega (arith, so_far.room, inserted.covers);
+    small = omega (arith, so_far.small, inserted.covers);
+    each = λ signal held. elim ((inserted.each signal).0 held) [
+      | inl listed ↦ All-contains (λ number. number < length circuit.signals) captured signal within listed
+      | inr earlier ↦ so_far.each signal earlier
+    ];
+    all = λ other signal lower captures. elim (cases_lt other register) [
+      | inl earlier ↦ (inserted.each signal).1 (inr (so_far.all other signal earlier captures))
+      | inr last ↦
+          let same : other ≡ register = omega arith in
+          (inserted.each signal).1 (inl ((exact signal).1 (rw same at captures)))
+    ];
   }

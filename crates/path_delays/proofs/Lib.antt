@@ -19,15 +19,18 @@ mod Chains
 mod Rooms
 mod Launching
 mod WalkSteps
-mod CaptureLemmas
 mod CapturedLemmas
 mod ReachedPairs
+mod CaptureLemmas
+mod CapturingLemmas
 mod FurthestSignals
 mod ExtremeDelays
 mod OrderPlaces
 mod PathsBack
 mod PairWalk
 mod PairCounts
+mod PendingPairs
+mod BetweenLemmas
 mod HullLemmas
 pub mod WindowLemmas
 mod SweepLemmas

@@ -29,30 +29,31 @@ module _ (circuit : Circuit) (tech : Tech) where
     all = λ launch capture path before is_path. absurd (grind arith);
   }
 
-  -- what comes before the next pair comes before this one or is this one
-  before_next : (launch capture from to : ℕ) → ComesBefore launch capture from (to + 1) → ComesBefore launch capture from to ⊎ ((launch ≡ from) × (capture ≡ to))
-  before_next launch capture from to before = elim before [
+  -- what comes before a later pair of the same register comes before this one or is between the two
+  before_later : (launch capture from low high : ℕ) → ComesBefore launch capture from high → ComesBefore launch capture from low ⊎ ((launch ≡ from) × (low ≤ capture) × (capture < high))
+  before_later launch capture from low high before = elim before [
     | inl lower ↦ inl (inl lower)
-    | inr level ↦ elim (cases_lt capture to) [
-      | inl low ↦ inl (inr (level.0, low))
-      | inr high ↦ inr (level.0, omega arith)
+    | inr level ↦ elim (cases_lt capture low) [
+      | inl less ↦ inl (inr (level.0, less))
+      | inr more ↦ inr (level.0, more, level.1)
     ]
   ]
 
-  -- what comes before a pair comes before the next one
-  still_before : (launch capture from to : ℕ) → ComesBefore launch capture from to → ComesBefore launch capture from (to + 1)
-  still_before launch capture from to before = grind arith
+  -- what comes before a pair comes before a later one
+  still_before : (launch capture from low high : ℕ) → low ≤ high → ComesBefore launch capture from low → ComesBefore launch capture from high
+  still_before launch capture from low high above before = grind arith
 
-  -- a pair that isn't joined leaves the list as it is
-  skip_pair : (from to : ℕ) (pairs : List PairDelay) → ((path : List ℕ) → IsPath circuit from to path → ⊥) → ListsPairsBefore circuit tech from to pairs → ListsPairsBefore circuit tech from (to + 1) pairs
-  skip_pair from to pairs apart lists = record {
+  -- pairs that aren't joined leave the list as it is
+  pub skip_pairs : (from low high : ℕ) (pairs : List PairDelay) → low ≤ high → ((to : ℕ) (path : List ℕ) → low ≤ to → to < high → IsPath circuit from to path → ⊥)
+      → ListsPairsBefore circuit tech from low pairs → ListsPairsBefore circuit tech from high pairs
+  skip_pairs from low high pairs above apart lists = record {
     ordered = lists.ordered;
-    before = λ k d within. still_before (get_or pairs k d).from (get_or pairs k d).to from to (lists.before k d within);
+    before = λ k d within. still_before (get_or pairs k d).from (get_or pairs k d).to from low high above (lists.before k d within);
     delays = lists.delays;
     small = lists.small;
-    all = λ launch capture path before is_path. elim (before_next launch capture from to before) [
+    all = λ launch capture path before is_path. elim (before_later launch capture from low high before) [
       | inl earlier ↦ lists.all launch capture path earlier is_path
-      | inr here ↦ absurd (apart path (rw (here.0, here.1) at is_path))
+      | inr here ↦ absurd (apart capture path here.1 here.2 (rw here.0 at is_path))
     ];
   }
 
@@ -60,31 +61,38 @@ module _ (circuit : Circuit) (tech : Tech) where
   add_pair : (from to : ℕ) (pairs : List PairDelay) (pair : PairDelay) → IsDelayBetween circuit tech from to pair → ListsPairsBefore circuit tech from to pairs → ListsPairsBefore circuit tech from (to + 1) (pairs ++ pair ∷ [])
   add_pair from to pairs pair joined lists = record {
     ordered = all_pairs_push (λ first second. ComesBefore first.from first.to second.from second.to) pairs pair lists.ordered (λ k d within. rw (joined.from_is, joined.to_is) (lists.before k d within));
-    before = All-push (λ p. ComesBefore p.from p.to from (to + 1)) pairs pair (λ k d within. still_before (get_or pairs k d).from (get_or pairs k d).to from to (lists.before k d within)) (inr (joined.from_is, omega (arith, joined.to_is)));
+    before = All-push (λ p. ComesBefore p.from p.to from (to + 1)) pairs pair (λ k d within. still_before (get_or pairs k d).from (get_or pairs k d).to from to (to + 1) (omega arith) (lists.before k d within)) (inr (joined.from_is, omega (arith, joined.to_is)));
     delays = All-push (IsPairDelay circuit tech) pairs pair lists.delays joined.delays;
     small = All-push IsSmallPair pairs pair lists.small joined.small;
-    all = λ launch capture path before is_path. elim (before_next launch capture from to before) [
+    all = λ launch capture path before is_path. elim (before_later launch capture from to (to + 1) before) [
       | inl earlier ↦ any_before (λ p. (p.from ≡ launch) × (p.to ≡ capture)) pairs pair (lists.all launch capture path earlier is_path)
-      | inr here ↦ Any-push (λ p. (p.from ≡ launch) × (p.to ≡ capture)) pairs pair (joined.from_is ∙ sym here.0, joined.to_is ∙ sym here.1)
+      | inr here ↦ Any-push (λ p. (p.from ≡ launch) × (p.to ≡ capture)) pairs pair (joined.from_is ∙ sym here.0, omega (arith, joined.to_is, here.1, here.2))
     ];
   }
 
   -- so the list goes on with the next pair, joined or not
   pub pair_next : (from to : ℕ) (pairs later : List PairDelay) (joined : Option PairDelay) → IsJoinedBy circuit tech from to joined → later ≡ pairs ++ option_to_list joined
       → ListsPairsBefore circuit tech from to pairs → ListsPairsBefore circuit tech from (to + 1) later
-  pair_next from to pairs later None apart is lists = subst (ListsPairsBefore circuit tech from (to + 1)) (sym (is ∙ append-nil pairs)) (skip_pair from to pairs apart lists)
+  pair_next from to pairs later None apart is lists = subst (ListsPairsBefore circuit tech from (to + 1)) (sym (is ∙ append-nil pairs)) (skip_pairs from to (to + 1) pairs (omega arith) (λ capture path low high is_path.
+      let same : capture ≡ to = omega arith in apart path (rw same at is_path)) lists)
   pair_next from to pairs later (Some pair) joined is lists = subst (ListsPairsBefore circuit tech from (to + 1)) (sym is) (add_pair from to pairs pair joined lists)
 
-  -- past the last register that captures, the next one launches
-  pub register_next : (from to : ℕ) (pairs : List PairDelay) → length circuit.registers ≤ to → ListsPairsBefore circuit tech from to pairs → ListsPairsBefore circuit tech (from + 1) 0 pairs
-  register_next from to pairs past lists = record {
+  -- where no later register is joined, the next one launches
+  pub register_next : (from to : ℕ) (pairs : List PairDelay) → ((capture : ℕ) (path : List ℕ) → to ≤ capture → IsPath circuit from capture path → ⊥) → ListsPairsBefore circuit tech from to pairs → ListsPairsBefore circuit tech (from + 1) 0 pairs
+  register_next from to pairs apart lists = record {
     ordered = lists.ordered;
     before = λ k d within. let earlier = lists.before k d within in inl (grind arith);
     delays = lists.delays;
     small = lists.small;
-    all = λ launch capture path before is_path.
-        let capture_within : capture < length circuit.registers = (path_within circuit launch capture path is_path).1 in
-        lists.all launch capture path (grind arith) is_path;
+    all = λ launch capture path before is_path. elim (cases_lt launch from) [
+      | inl lower ↦ lists.all launch capture path (inl lower) is_path
+      | inr last ↦
+          let same : launch ≡ from = grind arith in
+          elim (cases_lt capture to) [
+            | inl earlier ↦ lists.all launch capture path (inr (same, earlier)) is_path
+            | inr later ↦ absurd (apart capture path later (rw same at is_path))
+          ]
+    ];
   }
 
   -- past the last register, all are listed

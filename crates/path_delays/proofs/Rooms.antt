@@ -46,7 +46,7 @@ module _ (circuit : Circuit) (tech : Tech) (network : Network) (is : IsNetworkOf
       within_higher (weight_of (get_or circuit.signals i d)) delay_limit (gate_sums tech (get_or circuit.signals i d)) (omega (arith, get_or-le-sum_by weight_of circuit.signals i d inside, weights_within circuit)) (gate_within tech (get_or circuit.signals i d))))
 
   -- room for as many signals and gates is room for the network
-  pub HasRoom-made : (reach : Reach) (gates : ℕ) → length network.order.items ≤ gates → length reach.sums.items ≡ length circuit.signals → length circuit.signals ≤ 64 * length reach.reached.words.items
+  pub HasRoom-made : (reach : Reach) (gates : ℕ) → length network.order.items ≤ gates → length reach.sums.items ≡ length circuit.signals → length circuit.signals < 64 * length reach.reached.words.items
       → gates < 64 * length reach.waiting.words.items → 64 * length reach.waiting.words.items < 2 ^ 32 → HasRoom network reach
   HasRoom-made reach gates few sums reached waiting small =
       let covers : length circuit.signals ≡ length network.ranks.items = sym is.ranks.covers in

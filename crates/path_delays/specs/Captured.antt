@@ -1,26 +1,37 @@
--- The signals that each register captures, grouped by register.
-use Rattle.std.specs.Prelude.{◌≡◌, ◌<◌, ◌≤◌, ◌+◌, ◌*◌, ◌↔◌, ℕ, List, length, All, Contains, vec_len}
+-- Which registers capture each signal.
+use Rattle.std.specs.Prelude.{◌≡◌, ◌<◌, ◌≤◌, ◌+◌, ◌*◌, ◌↔◌, ℕ, IsTrue, List, length, All, Contains, vec_len}
 use Rattle.cts_model.specs.declared.circuit.Circuit.{Circuit}
 use Rattle.cts_model.specs.Paths.{Captures}
 use Rattle.path_delays.specs.declared.groups.Groups.{Groups}
 use Rattle.path_delays.specs.GroupParts.{group_of}
+use Rattle.path_delays.specs.NumberSets.{has_number}
 
 -- the register captures these signals and no others
 abbrev pub AreCapturedBy : Circuit → ℕ → List ℕ → Type 0
 AreCapturedBy circuit register captured =
     (signal : ℕ) → Contains captured signal ↔ Captures circuit register signal
 
--- the pairs of a register and a signal that it captures, of all registers below a number
+-- the pairs of a signal and a register that captures it, of all registers below a number
 pub record AreAllCaptures (circuit : Circuit) (below : ℕ) (pairs : List (ℕ × ℕ)) : Type 0 where
-  pub registers : All (λ pair. pair.0 < length circuit.registers) pairs
-  pub each : All (λ pair. Captures circuit pair.0 pair.1) pairs
+  pub signals : All (λ pair. pair.0 < length circuit.signals) pairs
+  pub each : All (λ pair. Captures circuit pair.1 pair.0) pairs
   pub all : (register signal : ℕ) → register < below → Captures circuit register signal
-      → Contains pairs (register, signal)
+      → Contains pairs (signal, register)
   -- a register captures one signal, and the host at most each signal
   pub few : length pairs ≤ below * 65537
 
--- what each register captures
-pub record AreCapturesOf (circuit : Circuit) (captures : Groups) : Type 0 where
-  pub long : vec_len captures.starts ≡ length circuit.registers + 1
-  pub each : (register : ℕ) → register < length circuit.registers
-      → AreCapturedBy circuit register (group_of captures register)
+-- the registers that capture each signal
+pub record AreCapturersOf (circuit : Circuit) (capturers : Groups) : Type 0 where
+  pub long : vec_len capturers.starts ≡ length circuit.signals + 1
+  pub each : (signal register : ℕ) → signal < length circuit.signals
+      → Contains (group_of capturers signal) register → Captures circuit register signal
+  pub all : (signal register : ℕ) → Captures circuit register signal
+      → Contains (group_of capturers signal) register
+
+-- the signals that the registers below a number capture, as a set
+pub record AreCapturedBelow (circuit : Circuit) (below : ℕ) (words : List ℕ) : Type 0 where
+  pub room : length circuit.signals < 64 * length words
+  pub small : 64 * length words ≤ length circuit.signals + 64
+  pub each : (signal : ℕ) → IsTrue (has_number words signal) → signal < length circuit.signals
+  pub all : (register signal : ℕ) → register < below → Captures circuit register signal
+      → IsTrue (has_number words signal)

@@ -1,6 +1,6 @@
 -- Sums of delays that a walk holds, and how they are handed from a signal to the gates that read
 -- it.
-use Rattle.std.specs.Prelude.{◌≡◌, ◌≢◌, ◌<◌, ◌≤◌, ◌+◌, ◌*◌, ◌^◌, ◌==◌, ◌&&◌, ◌||◌, ℕ, Bool, false, pos, List, [], ◌∷◌, length, All, Option, Some, None, is_none, if◌then◌else◌, slice_get, slice_index, slice_index_or, vec_len}
+use Rattle.std.specs.Prelude.{◌≡◌, ◌≢◌, ◌<◌, ◌+◌, ◌*◌, ◌^◌, ◌==◌, ◌&&◌, ◌||◌, ℕ, Bool, false, pos, List, [], ◌∷◌, length, All, Option, Some, None, is_none, if◌then◌else◌, slice_get, slice_index, slice_index_or, vec_len}
 use Rattle.path_delays.specs.declared.sums.Sums.{Sums}
 use Rattle.path_delays.specs.declared.network.Network.{Network}
 use Rattle.path_delays.specs.declared.reach.Reach.{Reach}
@@ -32,7 +32,7 @@ pub record HasRoom (network : Network) (reach : Reach) : Type 0 where
   pub delays : length network.delays.items ≡ length network.ranks.items
   pub small_delays : All (AreWithin delay_limit) network.delays.items
   pub sums : length reach.sums.items ≡ length network.ranks.items
-  pub reached : length network.ranks.items ≤ 64 * length reach.reached.words.items
+  pub reached : length network.ranks.items < 64 * length reach.reached.words.items
   pub waiting : (gate : ℕ) → rank_at network gate < 64 * length reach.waiting.words.items
   pub small : 64 * length reach.waiting.words.items < 2 ^ 32
 

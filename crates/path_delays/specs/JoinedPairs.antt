@@ -1,5 +1,5 @@
 -- The pairs that paths join, from one register after the other.
-use Rattle.std.specs.Prelude.{◌≡◌, ◌≤◌, ℕ, List, length, All, Option, IsSome, MatchOption}
+use Rattle.std.specs.Prelude.{◌≡◌, ◌≤◌, ℕ, List, length, All, Option, Some, IsSome, IsSomeAnd, MatchOption, slice_get}
 use Rattle.cts_model.specs.declared.circuit.Circuit.{Circuit}
 use Rattle.cts_model.specs.declared.tech.Tech.{Tech}
 use Rattle.cts_model.specs.declared.timing.PairDelay.{PairDelay}
@@ -22,6 +22,13 @@ abbrev pub IsJoinedBy : Circuit → Tech → ℕ → ℕ → Option PairDelay �
 IsJoinedBy circuit tech from to joined =
     MatchOption joined ((path : List ℕ) → IsPath circuit from to path → ⊥)
     (IsDelayBetween circuit tech from to)
+
+-- for each pair of registers, in order, what joins them
+pub record AreDelaysBetween (circuit : Circuit) (tech : Tech) (pairs : List (ℕ × ℕ))
+    (delays : List (Option PairDelay)) : Type 0 where
+  pub all : length delays ≡ length pairs
+  pub each : (place from to : ℕ) → slice_get pairs place ≡ Some (from, to)
+      → IsSomeAnd (slice_get delays place) (IsJoinedBy circuit tech from to)
 
 -- each joined pair that comes before this one, once and in order
 pub record ListsPairsBefore (circuit : Circuit) (tech : Tech) (from to : ℕ)

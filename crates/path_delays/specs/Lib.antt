@@ -13,6 +13,7 @@ pub mod Reaches
 pub mod Walking
 pub mod WalkParts
 pub mod Captured
+pub mod Capturings
 pub mod CapturedSums
 pub mod JoinedPairs
 pub mod ExtremePaths

@@ -1,14 +1,12 @@
 -- Windows of signals: how they move behind a gate, and how several become one.
-use Rattle.std.specs.Prelude.{Bool, false, if◌then◌else◌, ◌≡◌, ◌<◌, ◌≤◌, ◌+◌, ◌*◌, ◌^◌, ℕ, pos, ◌+ℤ◌, ◌*ℤ◌, List, length, take, All, Contains, Option, Some, None, nat_abs, slice_get, slice_index_or}
+use Rattle.std.specs.Prelude.{Bool, false, if◌then◌else◌, ◌≡◌, ◌<◌, ◌≤◌, ◌+◌, ◌*◌, ◌^◌, ℕ, pos, ◌+ℤ◌, ◌*ℤ◌, List, length, take, Contains, Option, Some, None, nat_abs, slice_get, slice_index_or}
 use Rattle.std.specs.Option.{option_map, option_map_or}
 use Rattle.std.specs.Int.{int_min, int_max}
 use Rattle.cts_model.specs.declared.circuit.Circuit.{Circuit}
 use Rattle.cts_model.specs.declared.tech.Tech.{Tech}
 use Rattle.cts_model.specs.declared.schedule.Schedule.{Schedule}
 use Rattle.cts_model.specs.Kinds.{is_input}
-use Rattle.cts_model.specs.Tables.{IsWithin}
 use Rattle.cts_model.specs.Paths.{IsGate, Launches, Captures}
-use Rattle.cts_model.specs.Points.{IsBelow}
 use Rattle.cts_model.specs.Schedules.{arrival_of}
 use Rattle.path_delays.specs.declared.sums.Sums.{Sums}
 use Rattle.path_delays.specs.declared.window.Window.{Window}

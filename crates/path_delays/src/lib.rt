@@ -2,7 +2,9 @@
 //! paths between its registers, and when what the registers launch arrives.
 #![tactic(auto)]
 
+mod between;
 mod captures;
+mod capturing;
 mod extreme_path;
 mod fault;
 mod gate_delays;
@@ -22,6 +24,7 @@ mod sweep;
 mod walk;
 mod window;
 
+pub use between::delays_between;
 pub use extreme_path::path_of;
 pub use fault::{LevelFault, PairFault};
 pub use level_list::Levels;

@@ -2,7 +2,7 @@ ghost use Rattle.std.specs.Prelude.{◌≡◌, ◌<◌, length, IfOk};
 ghost use Rattle.cts_model.specs.declared.circuit.Circuit.{Circuit};
 ghost use Rattle.cts_model.specs.declared.tech.Tech.{Tech};
 ghost use Rattle.path_delays.specs.LevelParts.{IsLevelsOf};
-ghost use Rattle.path_delays.specs.WalkParts.{HasReach};
+ghost use Rattle.path_delays.specs.WalkParts.{HasReach, IsRoomFor};
 ghost use Rattle.path_delays.specs.Captured.{AreCapturedBy};
 ghost use Rattle.path_delays.specs.CapturedSums.{AreCaptured, either_sums};
 ghost use Rattle.path_delays.specs.JoinedPairs.{IsJoinedBy};
@@ -30,12 +30,29 @@ pub fn pair_delay(
     ensures { IfOk result (IsJoinedBy circuit.now tech.now from to) }
 {
     let mut walk = Walk::new(alloc, circuit, levels, tech)?;
-    walk.walk_from(circuit, tech, from);
-    let captured = circuit.register_signal(to as usize).fan_in.as_slice();
-    Ok(joined_pair(&walk, captured, from, to))
+    Ok(delay_between(&mut walk, circuit, tech, from, to))
 }
 
-// The delays from the register that a walk came from to another, which captures these signals.
+/// Walks from a register, and finds the delays to another. It takes no memory.
+pub(crate) fn delay_between(
+    walk: &mut Walk,
+    circuit: &Circuit,
+    tech: &Tech,
+    from: u32,
+    to: u32,
+) -> Option<PairDelay>
+    requires room { IsRoomFor circuit.now tech.now walk.old }
+    requires from { from < length circuit.now.registers }
+    requires to { to < length circuit.now.registers }
+    ensures joined { IsJoinedBy circuit.now tech.now from to result }
+    ensures room { IsRoomFor circuit.now tech.now walk.new }
+{
+    walk.walk_from(circuit, tech, from);
+    let captured = circuit.register_signal(to as usize).fan_in.as_slice();
+    joined_pair(walk, captured, from, to)
+}
+
+/// The delays from the register that a walk came from to another, which captures these signals.
 pub(crate) fn joined_pair(walk: &Walk, captured: &[u32], from: u32, to: u32) -> Option<PairDelay>
     ensures { (circuit : Circuit) (tech : Tech) → AreCapturedBy circuit to captured.now
         → HasReach circuit tech from walk.now → IsJoinedBy circuit tech from to result }

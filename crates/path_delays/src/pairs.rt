@@ -3,11 +3,10 @@ ghost use Rattle.std.specs.Option.{option_to_list};
 ghost use Rattle.cts_model.specs.PairLists.{JoinsMoreThan};
 ghost use Rattle.path_delays.specs.LevelParts.{IsLevelsOf};
 ghost use Rattle.path_delays.specs.WalkParts.{IsRoomFor};
-ghost use Rattle.path_delays.specs.Captured.{AreCapturesOf};
+ghost use Rattle.path_delays.specs.Capturings.{IsCapturingOf};
 ghost use Rattle.path_delays.specs.JoinedPairs.{ListsPairsBefore, ArePairs, ShowsTooMany, MeetsLimit, pair_limit};
 
-use crate::captures::captures;
-use crate::groups::Groups;
+use crate::capturing::Capturing;
 use crate::pair::joined_pair;
 use crate::walk::Walk;
 use crate::{Levels, PairFault};
@@ -32,10 +31,17 @@ pub fn pair_delays(
     ensures many { IfErr result (ShowsTooMany circuit.now) }
 {
     let mut walk = Walk::new(alloc, circuit, levels, tech)?;
-    let captures = captures(alloc, circuit)?;
+    let mut capturing = Capturing::new(alloc, circuit)?;
     let mut pairs = Vec::new(alloc);
     for from in 0..circuit.registers.len() {
-        push_pairs_from(&mut pairs, &mut walk, circuit, &captures, tech, from as u32)?;
+        push_pairs_from(
+            &mut pairs,
+            &mut walk,
+            &mut capturing,
+            circuit,
+            tech,
+            from as u32,
+        )?;
     }
     Ok(Listed::from_vec(pairs))
 }
@@ -44,28 +50,30 @@ pub fn pair_delays(
 fn push_pairs_from(
     pairs: &mut Vec<PairDelay>,
     walk: &mut Walk,
+    capturing: &mut Capturing,
     circuit: &Circuit,
-    captures: &Groups,
     tech: &Tech,
     from: u32,
 ) -> Result<(), PairFault>
     requires from { from < length circuit.now.registers }
     requires room { IsRoomFor circuit.now tech.now walk.old }
-    requires captures { AreCapturesOf circuit.now captures.now }
+    requires capturing { IsCapturingOf circuit.now capturing.old }
     requires listed { ListsPairsBefore circuit.now tech.now from 0 pairs.old.items }
     requires few { vec_len pairs.old ≤ pair_limit }
     ensures room { IsRoomFor circuit.now tech.now walk.new }
+    ensures capturing { OnOk result (IsCapturingOf circuit.now capturing.new) }
     ensures listed { OnOk result (ListsPairsBefore circuit.now tech.now (from + 1) 0
         pairs.new.items) }
     ensures few { OnOk result (vec_len pairs.new ≤ pair_limit) }
     ensures many { IfErr result (ShowsTooMany circuit.now) }
 {
     walk.walk_from(circuit, tech, from);
-    for to in 0..circuit.registers.len() {
-        push_joined(
-            pairs,
-            joined_pair(walk, captures.group(to), from, to as u32),
-        )?;
+    capturing.gather(walk);
+    let mut next = 0;
+    while let Some(to) = capturing.registers.take_lowest(next) {
+        let captured = circuit.register_signal(to as usize).fan_in.as_slice();
+        push_joined(pairs, joined_pair(walk, captured, from, to))?;
+        next = to + 1;
     }
     Ok(())
 }

@@ -25,7 +25,7 @@ impl Reach {
     /// Nothing reached yet, with room for so many signals and gates.
     pub(crate) fn new(alloc: Global, signals: u32, gates: u32) -> Result<Reach, NoMemory>
         ensures sums { IfOk result (λ reach. length reach.sums.items ≡ signals) }
-        ensures reached { IfOk result (λ reach. signals ≤ 64 * length reach.reached.words.items) }
+        ensures reached { IfOk result (λ reach. signals < 64 * length reach.reached.words.items) }
         ensures waiting { IfOk result (λ reach. gates < 64 * length reach.waiting.words.items) }
         ensures small { gates < 2 ^ 31
             → IfOk result (λ reach. 64 * length reach.waiting.words.items < 2 ^ 32) }

@@ -1,4 +1,4 @@
-ghost use Rattle.std.specs.Prelude.{◌≡◌, ◌<◌, ◌↔◌, ℕ, IfOk, MatchBool, length};
+ghost use Rattle.std.specs.Prelude.{◌≡◌, ◌<◌, ◌≤◌, ◌↔◌, ℕ, IfOk, MatchBool, length};
 ghost use Rattle.cts_model.specs.Kinds as kinds;
 ghost use Rattle.cts_model.specs.Paths.{IsInput, Launches};
 ghost use Rattle.path_delays.specs.SumParts.{AreWithin, delay_limit};
@@ -6,6 +6,7 @@ ghost use Rattle.path_delays.specs.Walking as walking;
 
 use crate::Levels;
 use crate::network::Network;
+use crate::number_set::NumberSet;
 use crate::reach::Reach;
 use crate::sums::Sums;
 use cts_base::NoMemory;
@@ -21,6 +22,7 @@ pub(crate) struct Walk {
 
 impl Walk {
     ghost use Rattle.path_delays.specs.LevelParts.{IsLevelsOf};
+    ghost use Rattle.path_delays.specs.NumberSets.{IsCommon};
     ghost use Rattle.path_delays.specs.WalkParts.{HasReach, IsRoomFor, sums_to};
 
     /// Room for walks over a circuit.
@@ -49,6 +51,18 @@ impl Walk {
         ensures room { IsRoomFor circuit.now tech.now self.new }
     {
         self.reach.reach_all(&self.network, circuit, tech, from);
+    }
+
+    /// Finds which of some signals the register reaches.
+    pub(crate) fn reached_among(&self, signals: &NumberSet, reached: &mut NumberSet)
+        requires signals { length reached.old.words.items ≤ length signals.now.words.items }
+        requires walk { length reached.old.words.items
+            ≤ length self.now.reach.reached.words.items }
+        ensures covers { length reached.new.words.items ≡ length reached.old.words.items }
+        ensures common { IsCommon signals.now.words.items self.now.reach.reached.words.items
+            reached.new.words.items }
+    {
+        reached.become_common(signals, &self.reach.reached);
     }
 
     /// The sums to a signal, `None` where the register doesn't reach it.

@@ -6,6 +6,7 @@ use Rattle.path_delays.proofs.pairs.pair_delays.Goals as goal
 pub loop-from-init : goal.loop-from-init
 loop-from-init c = record {
   room = c.in_ok-walk.ensures;
+  capturing = c.in_ok-capturing.ensures;
   listed = rw c.new-pairs.ensures.items (none_before c.args.circuit.now c.args.tech.now);
   few = omega arith;
 }

@@ -1,0 +1,47 @@
+-- The registers that capture what a walk reached.
+use Rattle.std.specs.Prelude.{◌≡◌, ◌<◌, ◌+◌, ◌*◌, ◌^◌, ℕ, IsTrue, IsSome, length, Contains, vec_len}
+use Rattle.cts_model.specs.declared.circuit.Circuit.{Circuit}
+use Rattle.path_delays.specs.declared.capturing.Capturing.{Capturing}
+use Rattle.path_delays.specs.declared.walk.Walk.{Walk}
+use Rattle.path_delays.specs.GroupParts.{group_of}
+use Rattle.path_delays.specs.NumberSets.{has_number}
+use Rattle.path_delays.specs.WalkParts.{sums_to}
+use Rattle.path_delays.specs.Captured.{AreCapturersOf, AreCapturedBelow}
+
+-- the signal is one that is captured, and the register among those that capture it
+pub record IsCapturer (capturing : Capturing) (signal register : ℕ) : Type 0 where
+  pub captured : IsTrue (has_number capturing.captured.words.items signal)
+  pub listed : Contains (group_of capturing.capturers signal) register
+
+-- room for the signals and the registers
+pub record HasCaptureRoom (capturing : Capturing) : Type 0 where
+  pub groups : (signal : ℕ) → IsTrue (has_number capturing.captured.words.items signal)
+      → signal + 1 < vec_len capturing.capturers.starts
+  pub registers : (signal register : ℕ) → IsCapturer capturing signal register
+      → register < 64 * length capturing.registers.words.items
+  pub reached : length capturing.reached.words.items ≡ length capturing.captured.words.items
+  pub small_reached : 64 * length capturing.reached.words.items < 2 ^ 32
+  pub small_registers : 64 * length capturing.registers.words.items < 2 ^ 32
+
+-- as much room as before, for the same registers and signals
+pub record IsSameCapturing (old new : Capturing) : Type 0 where
+  pub capturers : new.capturers ≡ old.capturers
+  pub captured : new.captured ≡ old.captured
+  pub reached : length new.reached.words.items ≡ length old.reached.words.items
+  pub registers : length new.registers.words.items ≡ length old.registers.words.items
+
+-- the registers are those that capture a signal that the walk reached, and maybe others that
+-- capture one
+pub record AreGathered (walk : Walk) (old new : Capturing) : Type 0 where
+  pub same : IsSameCapturing old new
+  pub all : (signal register : ℕ) → IsCapturer old signal register → IsSome (sums_to walk signal)
+      → IsTrue (has_number new.registers.words.items register)
+  pub each : (register : ℕ) → IsTrue (has_number new.registers.words.items register)
+      → (signal : ℕ) × IsCapturer old signal register
+
+-- the signals and registers of a circuit
+pub record IsCapturingOf (circuit : Circuit) (capturing : Capturing) : Type 0 where
+  pub capturers : AreCapturersOf circuit capturing.capturers
+  pub captured : AreCapturedBelow circuit (length circuit.registers)
+      capturing.captured.words.items
+  pub room : HasCaptureRoom capturing
