@@ -2,4 +2,5 @@ mod AddLemmas
 mod GreedyLemmas
 mod JoinLemmas
 mod KeepLemmas
+mod OfferLemmas
 mod SearchLemmas

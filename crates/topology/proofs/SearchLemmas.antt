@@ -1,11 +1,12 @@
 -- A search through the clusters of a slab for the pair that is to be merged first.
-use Rattle.std.proofs.Common.{◌≡◌, ◌⊎◌, ℕ, List, [], ◌∷◌, Option, Some, None, Contains, inl, inr, refl, sym, subst, ◌∙◌, arith}
+use Rattle.std.proofs.Common.{◌≡◌, ◌⊎◌, ℕ, List, [], ◌∷◌, Option, Some, None, Contains, ◌<◌, ◌≤◌, inl, inr, refl, sym, ap, subst, ◌∙◌, arith}
+use Rattle.std.proofs.lemmas.Bool.{cases_lt}
 use Rattle.std.proofs.lemmas.Int.{ints}
 use Rattle.slab.specs.Slab.{Slab, get, entries}
 use Rattle.slab.proofs.SlabLemmas.{Contains-cons, Contains-cons_cases, Contains-entries}
 use Rattle.topology.specs.declared.live.Live.{Live}
 use Rattle.topology.specs.declared.pair.Pair.{Pair}
-use Rattle.topology.specs.LiveClusters.{IsGiven, IsLeast}
+use Rattle.topology.specs.LiveClusters.{IsGiven, IsLeast, IsPairBefore, Pairs, pair_of}
 use Rattle.topology.specs.Pairs.{IsBefore, IsAtMost, IsCheaperOf}
 
 -- ---- the order of pairs
@@ -91,3 +92,34 @@ module _ {Gives : ℕ → Live → Pair → Type 0} {slab : Slab Live} where
     ];
     there = held.there;
   }
+
+-- one cluster more, after those that were passed on the way to the nearest
+pub searched_next : (key : ℕ) (live : Live) (slab : Slab Live) (before rest : List (ℕ × Live))
+    (other_key : ℕ) (other : Live) (least next : Option Pair) → before ≡ (other_key, other) ∷ rest
+    → ((found : Option Pair) → IsPairBefore key live other_key other found
+    → IsCheaperOf least found next)
+    → IsSearched (Pairs key live) slab before least → IsSearched (Pairs key live) slab rest next
+searched_next key live slab before rest other_key other least next split cheaper held =
+    at (cases_lt live.node other.node)
+  where
+    one : (pair found : Pair) → Some pair ≡ Some found → pair ≡ found
+    one pair found is = cc
+
+    at : (live.node < other.node) ⊎ (other.node ≤ live.node)
+        → IsSearched (Pairs key live) slab rest next
+    at (inl later) =
+        let pair = pair_of key live other_key other in
+        search_next before rest other_key other least (Some pair) next split
+        (λ found pairs. ap Some (sym pairs.1)) (λ found is. (later, sym (one pair found is)))
+        (cheaper (Some pair) (λ found. (
+          λ is. (later, sym (one pair found is)),
+          λ pairs. ap Some (sym pairs.1),
+        )))
+        held
+    at (inr not_later) = search_next before rest other_key other least None next split
+        (λ found pairs. absurd (omega (arith, not_later, pairs.0))) (λ found is. absurd (cc))
+        (cheaper None (λ found. (
+          λ is. absurd (cc),
+          λ pairs. absurd (omega (arith, not_later, pairs.0)),
+        )))
+        held

@@ -1,5 +1,5 @@
 -- The live clusters, as a slab keeps them, each with a pair that it may be the first of.
-use Rattle.std.specs.Prelude.{◌≡◌, ◌≢◌, ℕ, ◌<◌, Bool, false, ◌==◌, Option, Some, None, IsSomeAnd, option_map, List, length, take, slice_get}
+use Rattle.std.specs.Prelude.{◌≡◌, ◌↔◌, ◌≢◌, ℕ, ◌<◌, Bool, false, ◌==◌, Option, Some, None, IsSomeAnd, option_map, List, length, take, slice_get, ◌≤ℤ◌}
 use Rattle.std.specs.Option.{option_map_or}
 use Rattle.cts_model.specs.declared.place.Sink.{Sink}
 use Rattle.cts_model.specs.declared.tree.Merge.{Merge}
@@ -74,6 +74,11 @@ abbrev pub Pairs : (key : ℕ) → Live → (other_key : ℕ) → Live → Pair 
 Pairs key live other_key other pair =
     (live.node < other.node) × (pair ≡ pair_of key live other_key other)
 
+-- the pair of a cluster and another, if that one is later
+abbrev pub IsPairBefore : (key : ℕ) → Live → (other_key : ℕ) → Live → Option Pair → Type 0
+IsPairBefore key live other_key other found = (pair : Pair)
+    → (found ≡ Some pair) ↔ Pairs key live other_key other pair
+
 -- the second cluster of the pair is still there
 abbrev pub has_second : Slab Live → Pair → Bool
 has_second slab pair =
@@ -136,6 +141,20 @@ pub record AreBelow (number : ℕ) (slab : Slab Live) : Type 0 where
   pub nodes : (key : ℕ) (live : Live) → get slab key ≡ Some live → live.node < number
   pub seconds : (key : ℕ) (live : Live) (pair : Pair) → get slab key ≡ Some live
       → live.kept ≡ Some pair → pair.merge.second < number
+
+-- the cluster keeps a pair that costs no more than that with the other
+abbrev pub KeepsAsCheap : Live → Live → Type 0
+KeepsAsCheap live other = IsSomeAnd live.kept
+    (λ pair. pair.cost ≤ℤ cost_of live.cluster other.cluster)
+
+-- the pair that the cluster keeps, if it keeps one, is its own, and is with one below the number
+abbrev pub KeepsEarlier : (number : ℕ) → Live → Type 0
+KeepsEarlier number live = (pair : Pair) → live.kept ≡ Some pair
+    → (pair.merge.first ≡ live.node) × (pair.merge.second < number)
+
+-- so it is for what a key may have
+abbrev pub KeepsEarlierAt : (number : ℕ) → Option Live → Type 0
+KeepsEarlierAt number here = (live : Live) → here ≡ Some live → KeepsEarlier number live
 
 -- ---- how they change
 

@@ -11,6 +11,10 @@ IsBefore pair other = IsCheaper pair.cost pair.merge other.cost other.merge
 abbrev pub IsAtMost : Option Pair → Pair → Type 0
 IsAtMost kept pair = IsSomeAnd kept (λ least. ¬ IsBefore pair least)
 
+-- the one pair is there, and is to be merged before the other or that one isn't there
+abbrev pub ComesFirst : Option Pair → Option Pair → Type 0
+ComesFirst pair kept = IsSomeAnd pair (λ first. ¬ IsAtMost kept first)
+
 -- it is one of the two, and neither of them is to be merged before it
 pub record IsCheaperOf (one other least : Option Pair) : Type 0 where
   pub either : (least ≡ one) ⊎ (least ≡ other)

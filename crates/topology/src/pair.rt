@@ -1,6 +1,6 @@
 ghost use Rattle.std.specs.Prelude.{◌↔◌, IsTrue};
 ghost use Rattle.cts_model.specs.GreedyMerges.{IsCheaper, IsLower};
-ghost use Rattle.topology.specs.Pairs.{IsCheaperOf};
+ghost use Rattle.topology.specs.Pairs.{ComesFirst, IsCheaperOf};
 
 use cts_model::Merge;
 
@@ -34,12 +34,22 @@ fn is_lower(merge: Merge, other: Merge) -> bool
     merge.first < other.first || (merge.first == other.first && merge.second < other.second)
 }
 
-/// The cheaper one of two pairs, where they are there.
-pub(crate) fn cheaper(kept: Option<Pair>, other: Option<Pair>) -> Option<Pair>
-    ensures { IsCheaperOf kept other result }
+/// Keeps another pair instead, where that one is to be merged first.
+pub(crate) fn keep_cheaper(kept: &mut Option<Pair>, other: &Option<Pair>)
+    ensures { IsCheaperOf kept.old other.now kept.new }
 {
-    let (Some(one), Some(two)) = (kept, other) else {
-        return kept.or(other);
-    };
-    if two.is_cheaper(&one) { other } else { kept }
+    if comes_first(other, kept) {
+        *kept = *other;
+    }
+}
+
+// Whether the one pair is there and to be merged before the other.
+fn comes_first(pair: &Option<Pair>, kept: &Option<Pair>) -> bool
+    ensures { IsTrue result ↔ ComesFirst pair.now kept.now }
+{
+    match (pair, kept) {
+        (Some(pair), Some(kept)) => pair.is_cheaper(kept),
+        (Some(_), None) => true,
+        (None, _) => false,
+    }
 }

@@ -15,7 +15,7 @@ loop-key-preserved c = (
   tt,
   tt,
   search_next _ _ _ _ _ _ _ c.in-Some.ensures.steps (λ pair same. same)
-      (λ pair same. same) c.cheaper-least.ensures c.loop-key.invariant.2,
+      (λ pair same. same) c.keep_cheaper.ensures c.loop-key.invariant.2,
 )
 
 pub returns : goal.returns
