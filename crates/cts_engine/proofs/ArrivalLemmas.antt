@@ -72,11 +72,13 @@ leads_of_circuit circuit tech constraints period at leads of_circuit each regist
     by_lead Zero zero = zero
     by_lead (Tight depth constraint) tight = record {
       late = tight.late;
-      given = All-contains (IsConstraintOf circuit tech) constraints constraint of_circuit
-          tight.given;
-      head = tight.head;
-      tight = tight.tight;
-      depth_is = tight.depth_is;
+      led = record {
+        given = All-contains (IsConstraintOf circuit tech) constraints constraint of_circuit
+            tight.led.given;
+        head = tight.led.head;
+        tight = tight.led.tight;
+        depth_is = tight.led.depth_is;
+      };
     }
 
 module _ {circuit : Circuit} {tech : Tech} {constraints : List Constraint}

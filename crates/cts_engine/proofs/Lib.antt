@@ -1,7 +1,6 @@
 mod PlaceLemmas
 mod OutcomeLemmas
 mod CyclePathLemmas
-mod GridLemmas
 mod WireLemmas
 mod DrawLemmas
 mod DelayLemmas
@@ -11,3 +10,4 @@ mod TimingBounds
 mod TreeBounds
 mod SinkLemmas
 mod ReportLemmas
+mod ShownReports

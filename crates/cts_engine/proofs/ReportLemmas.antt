@@ -17,7 +17,8 @@ use Rattle.cts_model.proofs.TreeLemmas.{reaches_realise}
 use Rattle.place_down.specs.Trees.{reach_in}
 use Rattle.cts_engine.specs.ClockTrees.{IsClockTree}
 use Rattle.cts_engine.specs.RegisterTimes.{AreTimes, HasLeastPeriod}
-use Rattle.cts_engine.specs.Syntheses.{IsReportOf, IsTimed, sinks_in, source_in}
+use Rattle.cts_model.specs.Shown.{sinks_in, source_in}
+use Rattle.cts_engine.specs.Syntheses.{IsReportOf, IsTimed}
 use Rattle.cts_engine.specs.declared.clock_tree.ClockTree.{ClockTree}
 use Rattle.cts_engine.specs.declared.times.Times.{Times}
 use Rattle.cts_engine.proofs.CycleLengths.{few_registers}

@@ -16,7 +16,7 @@ use Rattle.cts_model.proofs.ScaleLemmas.{scale-finer, size_same}
 use Rattle.cts_model.proofs.SkewLemmas.{length-sinks_of, sink_at}
 use Rattle.place_down.specs.Trees.{IsTreeSource}
 use Rattle.cts_engine.specs.RegisterTimes.{AreTreeArrivals}
-use Rattle.cts_engine.proofs.GridLemmas.{on_grid_below, scheduled_size}
+use Rattle.cts_model.proofs.GridLemmas.{on_grid_below, scheduled_size}
 
 -- ---- plain numbers
 

@@ -81,9 +81,9 @@ module _ {circuit : Circuit} {tech : Tech} (delays : HasSmallPairs circuit tech)
         → depth_of lead ≤ length circuit.registers → IsSmallLead lead
     small_lead register Zero is few = tt
     small_lead register (Tight depth constraint) is few = (
-      omega (arith, is.depth_is),
+      omega (arith, is.led.depth_is),
       omega (arith, few, few_registers circuit),
-      weight_below constraint is.given,
+      weight_below constraint is.led.given,
     )
 
     lead_among : (register : ℕ) (lead : Lead)
@@ -91,8 +91,8 @@ module _ {circuit : Circuit} {tech : Tech} (delays : HasSmallPairs circuit tech)
         → LeadsAmong (length circuit.registers) lead
     lead_among register Zero is = tt
     lead_among register (Tight depth constraint) is = record {
-      tail = tail_within circuit tech constraint is.given;
-      head = head_within circuit tech constraint is.given;
+      tail = tail_within circuit tech constraint is.led.given;
+      head = head_within circuit tech constraint is.led.given;
     }
 
     pub leads_small : All IsSmallLead leads

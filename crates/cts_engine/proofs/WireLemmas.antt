@@ -1,11 +1,10 @@
 -- How far drawn wires go, and how long they are together.
-use Rattle.std.proofs.Common.{◌≡◌, ◌<◌, ◌+◌, ◌-◌, ◌*◌, ◌^◌, ℕ, zero, suc, ℤ, pos, ◌+ℤ◌, neg_ℤ, ◌≤ℤ◌, ◌<ℤ◌, List, [], ◌∷◌, length, get_or, sym, ap, subst, arith}
+use Rattle.std.proofs.Common.{◌≡◌, ◌<◌, ◌+◌, ◌-◌, ◌*◌, ◌^◌, ℕ, zero, suc, ℤ, pos, ◌+ℤ◌, ◌≤ℤ◌, ◌<ℤ◌, List, [], ◌∷◌, length, get_or, subst, arith}
 use Rattle.std.specs.List.{All}
 use Rattle.std.proofs.lemmas.Int.{ints, clamps}
 use Rattle.std.proofs.lemmas.Option.{get_or_from_slice_get}
 use Rattle.cts_model.specs.declared.place.Point.{Point}
 use Rattle.cts_model.specs.DrawnWires.{IsDrawn, pieces, total}
-use Rattle.cts_model.specs.Embeddings.{total_length}
 use Rattle.cts_model.specs.Points.{IsBelow, IsPointBelow, distance}
 use Rattle.cts_model.proofs.PointLemmas.{distance_by_way, distance-itself}
 
@@ -84,21 +83,3 @@ drawn_below from to long (first ∷ more) drawn from_below to_below short place 
     default)) ≤ℤ z) drawn.sum (way_through first more place default here)))) short
 
 -- ---- sums of lengths
-
--- one more
-pub total_more : (value : ℕ → ℤ) (count : ℕ)
-    → total_length value (count + 1) ≡ total_length value count +ℤ value count
-total_more value count =
-    let next : suc count ≡ count + 1 = omega arith in
-    ap (total_length value) (sym next)
-
--- so many lengths are together no larger than as many times the greatest
-pub total_within : (value : ℕ → ℤ) (count : ℕ)
-    → ((node : ℕ) → node < count → IsBelow (10 ^ 32) (value node))
-    → (neg_ℤ (pos (count * 10 ^ 32)) ≤ℤ total_length value count)
-    × (total_length value count ≤ℤ pos (count * 10 ^ 32))
-total_within value zero each = (omega (arith, ints), omega (arith, ints))
-total_within value (suc count) each =
-    let before = total_within value count (λ node here. each node (omega arith)) in
-    let last = each count (omega arith) in
-    (omega (arith, ints, before, last), omega (arith, ints, before, last))

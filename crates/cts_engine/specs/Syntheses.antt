@@ -20,25 +20,16 @@ use Rattle.cts_model.specs.Embeddings.{Embedding, IsLeastWire, embedding_of, tot
 use Rattle.cts_model.specs.GreedyMerges.{IsGreedy}
 use Rattle.cts_model.specs.Leads.{EachLead}
 use Rattle.cts_model.specs.LeastPeriods.{IsLeastFraction, IsPeriodShow}
-use Rattle.cts_model.specs.Points.{turned}
-use Rattle.cts_model.specs.Problems.{on_grid, sinks_of}
 use Rattle.cts_model.specs.RealisedSchedules.{RealisesSchedule}
 use Rattle.cts_model.specs.ReportBounds.{IsOfSize, IsWithinBounds}
 use Rattle.cts_model.specs.Schedules.{IsLeastSchedule}
+use Rattle.cts_model.specs.Shown.{sinks_in, source_in}
 use Rattle.cts_model.specs.SkewLaws.{IsLeastForSchedule}
 use Rattle.cts_model.specs.Slacks.{AreSlacks}
 use Rattle.cts_model.specs.Topologies.{IsParent}
 use Rattle.cts_model.specs.WireDelays.{MeetsByWire}
 pub use Rattle.place_down.specs.Trees.{IsPlacedTree}
 use Rattle.wire_detours.specs.WirePoints.{ArePoints}
-
--- the registers as the report's tree has them, and where its source stands
-abbrev pub sinks_in : Problem → Report → List Sink
-sinks_in problem report =
-    sinks_of report.period problem.tech problem.places.registers report.schedule.at
-
-abbrev pub source_in : Problem → Report → Uv
-source_in problem report = turned (on_grid report.period problem.tech problem.places.source)
 
 -- the least period, the least schedule that meets it, what shows both, and what each register has
 -- to spare

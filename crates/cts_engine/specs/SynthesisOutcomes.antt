@@ -4,6 +4,7 @@ use Rattle.cts_model.specs.declared.period.PeriodShow.{PeriodShow}
 use Rattle.cts_model.specs.declared.period.PeriodShow.TheVariants.{Cycle, Floor}
 use Rattle.cts_model.specs.declared.problem.Problem.{Problem}
 use Rattle.cts_model.specs.LeastPeriods.{IsForbidding}
+use Rattle.cts_model.specs.Shown.{IsShown}
 use Rattle.critical_cycle.specs.CyclePlaces.{IsFromLowest}
 use Rattle.cts_engine.specs.declared.synthesis.Outcome.{Outcome}
 use Rattle.cts_engine.specs.declared.synthesis.Outcome.TheVariants.{Done, Never}
@@ -13,6 +14,11 @@ use Rattle.cts_engine.specs.Syntheses.{IsReportOf}
 abbrev pub IsOutcome : Problem → Outcome → Type 0
 IsOutcome problem (Done report) = IsReportOf problem report
 IsOutcome problem (Never cycle) = IsForbidding problem.circuit problem.tech cycle
+
+-- a report that is made shows what it says of the problem
+abbrev pub IsShownOutcome : Problem → Outcome → Type 0
+IsShownOutcome problem (Done report) = IsShown problem report
+IsShownOutcome problem (Never cycle) = Unit {0}
 
 -- the outcome is that no period will do
 abbrev pub IsNever : Outcome → Type 0

@@ -5,7 +5,7 @@ ghost use Rattle.path_delays.specs.LevelParts.{IsLevelsOf};
 ghost use Rattle.cts_engine.specs.Faults.{IsCaused};
 ghost use Rattle.cts_engine.specs.RegisterTimes.{HasLeastPeriod};
 ghost use Rattle.cts_engine.specs.Syntheses.{IsReportOf};
-ghost use Rattle.cts_engine.specs.SynthesisOutcomes.{BeginsLowest, IsNever, IsOutcome};
+ghost use Rattle.cts_engine.specs.SynthesisOutcomes.{BeginsLowest, IsNever, IsOutcome, IsShownOutcome};
 
 use crate::SynthFault;
 use crate::clock_tree::tree_for;
@@ -32,6 +32,7 @@ pub enum Outcome {
 /// least.
 pub fn synthesize(alloc: Global, problem: &Problem) -> Result<Outcome, SynthFault>
     ensures ok { IfOk result (IsOutcome problem.now) }
+    ensures shown { IfOk result (IsShownOutcome problem.now) }
     ensures lowest { IfOk result BeginsLowest }
     ensures never { IfOk result (λ outcome.
         IsNever outcome ↔ HasNoPeriod problem.now.circuit problem.now.tech) }

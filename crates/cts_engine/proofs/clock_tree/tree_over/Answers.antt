@@ -6,7 +6,7 @@ use Rattle.cts_model.specs.Topologies.{source_of}
 use Rattle.cts_model.proofs.TreeLemmas.{shown_reaches_are_least}
 use Rattle.place_down.specs.Trees.{reach_in}
 use Rattle.cts_engine.proofs.TreeBounds.{are_shown, can_draw, greedy_topology, lengths_small}
-use Rattle.cts_engine.proofs.WireLemmas.{total_within}
+use Rattle.cts_model.proofs.TotalLemmas.{total_within}
 use Rattle.cts_engine.proofs.clock_tree.tree_over.Goals as goal
 
 pub placed-requires-clause-topology : goal.placed-requires-clause-topology

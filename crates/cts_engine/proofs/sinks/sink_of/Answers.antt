@@ -3,7 +3,7 @@ use Rattle.std.specs.Prelude.{unsigned_abs}
 use Rattle.std.proofs.lemmas.Int.{ints, to_z-of_z}
 use mir.Syntax.{w128}
 use Rattle.cts_model.specs.Problems.{scheduled_length}
-use Rattle.cts_engine.proofs.GridLemmas.{neg_read, scheduled_size}
+use Rattle.cts_model.proofs.GridLemmas.{neg_read, scheduled_size}
 use Rattle.cts_engine.proofs.sinks.sink_of.Goals as goal
 
 pub returns : goal.returns

@@ -2,7 +2,7 @@ use Rattle.std.proofs.Common.{◌≡◌, ◌<◌, ◌^◌, length, pos, get_or, 
 use mir.Syntax.{w128}
 use Rattle.std.proofs.lemmas.Int.{ints}
 use Rattle.cts_model.specs.Points.{IsBelow}
-use Rattle.cts_engine.proofs.GridLemmas.{sinks_of_more}
+use Rattle.cts_model.proofs.GridLemmas.{sinks_of_more}
 use Rattle.cts_engine.proofs.sinks.sinks_of.Goals as goal
 
 pub sink_of-requires-clause-small : goal.sink_of-requires-clause-small

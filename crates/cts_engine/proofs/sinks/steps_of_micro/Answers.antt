@@ -1,6 +1,6 @@
 use Rattle.std.proofs.Common.{◌≤◌, rules, sym, subst}
 use Rattle.std.specs.Prelude.{unsigned_abs}
-use Rattle.cts_engine.proofs.GridLemmas.{steps_size}
+use Rattle.cts_model.proofs.GridLemmas.{steps_size}
 use Rattle.cts_engine.proofs.sinks.steps_of_micro.Goals as goal
 
 pub returns-clause-value : goal.returns-clause-value

@@ -2,7 +2,7 @@ use Rattle.std.proofs.Common.{◌≡◌, ◌≤◌, ◌^◌, ◌∙◌, to_z, of
 use Rattle.std.specs.Prelude.{unsigned_abs}
 use mir.Syntax.{w128}
 use Rattle.std.proofs.lemmas.Int.{ints}
-use Rattle.cts_engine.proofs.GridLemmas.{grid_size, number_read}
+use Rattle.cts_model.proofs.GridLemmas.{grid_size, number_read}
 use Rattle.cts_engine.proofs.ReportLemmas.{is_report}
 use Rattle.cts_engine.proofs.synthesis.report_at.Goals as goal
 

@@ -1,6 +1,6 @@
 use Rattle.std.proofs.Common.{pos, slice_index_or, arith}
 use Rattle.std.proofs.lemmas.Int.{ints}
-use Rattle.cts_engine.proofs.WireLemmas.{total_more, total_within}
+use Rattle.cts_model.proofs.TotalLemmas.{total_more, total_within}
 use Rattle.cts_engine.proofs.wires.total_of.Goals as goal
 
 pub overflow_add-total : goal.overflow_add-total

@@ -1,0 +1,214 @@
+-- The report of a problem shows what it says.
+use Rattle.std.proofs.Common.{◌≡◌, ◌⊎◌, ◌<◌, ◌-◌, ℕ, zero, suc, ℤ, ◌*ℤ◌, ◌≤ℤ◌, List, [], ◌∷◌, length, Bool, true, false, Option, Some, None, inl, inr, refl, sym, ap, subst, ◌∙◌, arith}
+use Rattle.std.specs.List.{All}
+use Rattle.std.specs.Prelude.{IfSome, IsSomeAnd, MatchBool, nat_le, slice_get}
+use Rattle.std.proofs.Math.IntN.{*ℤ_comm}
+use Rattle.std.proofs.lemmas.Int.{ints}
+use Rattle.std.proofs.lemmas.Option.{IfSome_then, get_or_from_slice_get, slice_get_within}
+use Rattle.cts_base.specs.declared.fraction.Fraction.{Fraction}
+use Rattle.cts_model.specs.declared.circuit.Circuit.{Circuit}
+use Rattle.cts_model.specs.declared.constraint.Constraint.{Constraint}
+use Rattle.cts_model.specs.declared.period.PeriodShow.{PeriodShow}
+use Rattle.cts_model.specs.declared.period.PeriodShow.TheVariants.{Cycle, Floor}
+use Rattle.cts_model.specs.declared.place.Sink.{Sink}
+use Rattle.cts_model.specs.declared.place.Uv.{Uv}
+use Rattle.cts_model.specs.declared.problem.Problem.{Problem}
+use Rattle.cts_model.specs.declared.report.Report.{Report}
+use Rattle.cts_model.specs.declared.schedule.Lead.{Lead}
+use Rattle.cts_model.specs.declared.schedule.Lead.TheVariants.{Zero, Tight}
+use Rattle.cts_model.specs.declared.tech.Tech.{Tech}
+use Rattle.cts_model.specs.declared.tree.Merge.{Merge}
+use Rattle.cts_model.specs.declared.tree.Show.{Show}
+use Rattle.cts_model.specs.declared.tree.Tree.{Tree}
+use Rattle.cts_model.specs.ConstraintPaths.{ArePathsOf, ArePathsWithin, GivesWeight}
+use Rattle.cts_model.specs.Constraints.{IsConstraintOf}
+use Rattle.cts_model.specs.Embeddings.{Embedding, embedding_of}
+use Rattle.cts_model.specs.Judgements.{GivesPeriod, HasShape, HoldsTogether, IsGivenPath, IsOfCircuit, IsReachShown, IsSkewed}
+use Rattle.cts_model.specs.Leads.{IsLead, ShowsEarliest, lead_at}
+use Rattle.cts_model.specs.LeastPeriods.{IsPeriodShow}
+use Rattle.cts_model.specs.Points.{turned}
+use Rattle.cts_model.specs.Shown.{AtEach, IsShown, IsShownLeast, IsShownTiming, IsShownTree, cycle_of}
+use Rattle.cts_model.specs.ShownReaches.{ShowsMerge, ShowsSource}
+use Rattle.cts_model.specs.Topologies.{IsTopology, numbers_below, root_of}
+use Rattle.cts_model.proofs.RoundLemmas.{cycle_holds_together}
+use Rattle.cts_model.proofs.ScaleLemmas.{size_same}
+use Rattle.cts_model.proofs.ShownTrees.{scaled-once}
+use Rattle.cts_model.proofs.TreeLemmas.{wires_are_left}
+use Rattle.place_down.specs.Trees.{IsPlacedTree, reach_in}
+use Rattle.cts_engine.specs.Syntheses.{IsReportOf, IsTimed, IsTree}
+use Rattle.cts_engine.proofs.TreeBounds.{greedy_topology}
+
+-- what holds of the value that is there, if any
+if_some : {X : Type 0} (found : Option X) {Holds : X → Type 0}
+    → ((value : X) → found ≡ Some value → Holds value) → IfSome found Holds
+if_some None holds = tt
+if_some (Some value) holds = holds value refl
+
+-- ---- timing
+
+module _ (circuit : Circuit) (tech : Tech) where
+  -- each constraint of a critical cycle is one of the circuit
+  each_of_circuit : (cycle : List Constraint) → All (IsConstraintOf circuit tech) cycle
+      → (place : ℕ) → IsOfCircuit circuit tech cycle place
+  each_of_circuit cycle all place = if_some (slice_get cycle place)
+      (λ constraint here. subst (IsConstraintOf circuit tech)
+      (get_or_from_slice_get cycle place constraint constraint here)
+      (all place constraint (slice_get_within cycle place constraint here)))
+
+  -- what shows the period gives it
+  module _ (period : Fraction) where
+    shown_together : (shown : PeriodShow) → IsPeriodShow circuit tech period shown
+        → AtEach (length (cycle_of shown)) (HoldsTogether (cycle_of shown))
+    shown_together (Cycle cycle) is place within =
+        cycle_holds_together cycle is.shows.is_cycle place within
+    shown_together Floor is place within = absurd (omega arith)
+
+    shown_of_circuit : (shown : PeriodShow) → IsPeriodShow circuit tech period shown
+        → AtEach (length (cycle_of shown)) (IsOfCircuit circuit tech (cycle_of shown))
+    shown_of_circuit (Cycle cycle) is place within = each_of_circuit cycle is.of_circuit place
+    shown_of_circuit Floor is place within = absurd (omega arith)
+
+    shown_gives : (shown : PeriodShow) → IsPeriodShow circuit tech period shown
+        → GivesPeriod tech period shown
+    shown_gives (Cycle cycle) is = (is.shows.counts, is.shows.value)
+    shown_gives Floor is = is
+
+  -- a path that is kept gives its constraint's weight
+  given_within : (room : ℕ) (cycle : List Constraint) (paths : List (List ℕ))
+      → ArePathsWithin circuit tech room cycle paths → (place : ℕ)
+      → IsGivenPath circuit tech cycle paths place
+  given_within room [] paths within place = tt
+  given_within room (constraint ∷ cycle) [] within place = absurd within
+  given_within room (constraint ∷ cycle) (path ∷ paths) (whole, gives, rest) zero =
+      first (nat_le (length whole) room) rest
+    where
+      first : (fits : Bool) → MatchBool fits ((path ≡ whole)
+          × ArePathsWithin circuit tech (room - length whole) cycle paths)
+          ((path ≡ []) × ArePathsWithin circuit tech room cycle paths)
+          → (path ≡ []) ⊎ GivesWeight circuit tech constraint path
+      first true (same, later) = inr (subst (GivesWeight circuit tech constraint) (sym same) gives)
+      first false (none, later) = inl none
+  given_within room (constraint ∷ cycle) (path ∷ paths) (whole, gives, rest) (suc place) =
+      later (nat_le (length whole) room) rest
+      (λ left within. given_within left cycle paths within place)
+    where
+      later : (fits : Bool) → MatchBool fits ((path ≡ whole)
+          × ArePathsWithin circuit tech (room - length whole) cycle paths)
+          ((path ≡ []) × ArePathsWithin circuit tech room cycle paths)
+          → ((left : ℕ) → ArePathsWithin circuit tech left cycle paths
+          → IsGivenPath circuit tech cycle paths place)
+          → IsGivenPath circuit tech cycle paths place
+      later true (same, within) given = given (room - length whole) within
+      later false (none, within) given = given room within
+
+  -- so it is with the paths of what shows the period
+  given_paths : (shown : PeriodShow) (paths : List (List ℕ))
+      → ArePathsOf circuit tech shown paths → AtEach (length (cycle_of shown))
+      (IsGivenPath circuit tech (cycle_of shown) paths)
+  given_paths (Cycle cycle) paths are place within = given_within 4096 cycle paths are place
+  given_paths Floor paths are place within = absurd (omega arith)
+
+  -- a lead shows that nothing is earlier
+  led : (period : Fraction) (at : List ℤ) (leads : List Lead) (register : ℕ) (lead : Lead)
+      → IsLead (IsConstraintOf circuit tech) period at leads register lead
+      → ShowsEarliest (IsConstraintOf circuit tech) period at leads register lead
+  led period at leads register Zero is = is
+  led period at leads register (Tight depth constraint) is = is.led
+
+  module _ (report : Report) (timed : IsTimed circuit tech report) where
+    is_shown_timing : IsShownTiming circuit tech report
+    is_shown_timing =
+        let met = timed.schedule.least.meets in
+        let den = size_same report.period.den
+        (omega (arith, ints, report.period.lowest.some_den)) in
+        let floor = ap (λ z. z *ℤ tech.floor) den ∙ *ℤ_comm report.period.den tech.floor in
+        record {
+          from_floor = subst (λ z. z ≤ℤ report.period.num) floor timed.period.admitted.0;
+          together = shown_together report.period report.shown timed.shown;
+          of_circuit = shown_of_circuit report.period report.shown timed.shown;
+          gives = shown_gives report.period report.shown timed.shown;
+          meets = λ register within. record {
+            setup = λ from path joins. met.setup from register path joins;
+            hold = λ from path joins. met.hold from register path joins;
+          };
+          slacks = λ register within. if_some (slice_get report.slacks register)
+              (timed.slacks.each register);
+        }
+
+    is_shown_least : IsShownLeast circuit tech report
+    is_shown_least =
+        let at = report.schedule.at in
+        record {
+          paths = given_paths report.shown report.paths timed.paths;
+          earliest = λ register within. record {
+            from_zero = timed.schedule.least.from_zero register
+                (omega (arith, timed.schedule.registers));
+            led = led report.period at report.leads register (lead_at report.leads register)
+                (timed.leads register (omega (arith, timed.schedule.registers)));
+          };
+        }
+
+-- ---- trees
+
+module _ {sinks : List Sink} {merges : List Merge} {source : Uv} {tree : Tree} {shows : List Show}
+    (topology : IsTopology (length sinks) merges)
+    (placed : IsPlacedTree sinks merges source tree shows) where
+  abbrev embedding : Embedding
+  embedding = embedding_of tree
+
+  has_shape : (node : ℕ) → HasShape sinks merges source embedding node
+  has_shape node = record {
+    sink_stands = IfSome_then (slice_get sinks node) (placed.embedded.sinks_stand node)
+        (λ sink stands. stands ∙ sym (scaled-once sink.at));
+    joins = λ place merge is here. topology.each place merge here;
+    source_stands = λ is. ap (λ n. turned (embedding.place n)) is
+        ∙ placed.embedded.source_stands ∙ sym (scaled-once source);
+  }
+
+  -- whichever the wires down, they differ as the offsets do
+  is_skewed : (register : ℕ) → register < length sinks → IsSkewed sinks merges embedding register
+  is_skewed register within wire wires =
+      let left = wires_are_left topology embedding.length (reach_in tree) wire
+      placed.reaches wires in
+      let here = left register (omega arith) in
+      let there = left 0 (omega arith) in
+      IfSome_then (slice_get sinks register) (placed.shown.of_sinks register)
+      (λ sink is. IfSome_then (slice_get sinks 0) (placed.shown.of_sinks 0)
+      (λ first first_is. omega (arith, ints)))
+
+  is_reach_shown : (node : ℕ)
+      → IsReachShown sinks merges source embedding (reach_in tree) shows node
+  is_reach_shown node = record {
+    reach_is = λ below is. placed.reaches below node is;
+    of_merge = λ place within is. subst (λ n. IsSomeAnd (slice_get shows place)
+        (ShowsMerge sinks (numbers_below (length sinks) merges n) (reach_in tree n))) (sym is)
+        (placed.shown.of_merges place within);
+    of_source = λ is. subst (λ n. IsSomeAnd (slice_get shows (length merges))
+        (ShowsSource sinks source (reach_in tree (root_of (length sinks))) (reach_in tree n)))
+        (sym is) placed.shown.of_source;
+  }
+
+module _ {sinks : List Sink} {source : Uv} (report : Report) (made : IsTree sinks source
+    report.topology.merges report.tree report.shows report.wires report.total) where
+  is_shown_tree : IsShownTree sinks source report
+  is_shown_tree =
+      let topology = greedy_topology sinks report.topology.merges made.greedy in
+      record {
+        shape = λ node within. has_shape topology made.placed node;
+        long_enough = λ edge within parent is. made.placed.embedded.long_enough edge parent is;
+        drawn = λ edge within parent wire is here. made.drawn.drawn edge parent wire is here;
+        skewed = is_skewed topology made.placed;
+        reaches = λ node within. is_reach_shown topology made.placed node;
+        total = made.total_is;
+      }
+
+-- ---- reports
+
+-- the report of a problem shows what it says
+pub report_is_shown : (problem : Problem) (report : Report) → IsReportOf problem report
+    → IsShown problem report
+report_is_shown problem report is = record {
+  timing = is_shown_timing problem.circuit problem.tech report is.timed;
+  tree = is_shown_tree report is.tree;
+  least = λ second. is_shown_least problem.circuit problem.tech report is.timed;
+}
