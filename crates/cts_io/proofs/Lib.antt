@@ -1,2 +1,3 @@
 mod WholeLemmas
 mod HeldLemmas
+mod TriedLemmas

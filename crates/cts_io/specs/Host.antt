@@ -1,6 +1,11 @@
--- What devices of the host tell of their bytes.
+-- What devices of the host tell: of their bytes nothing.
 use Rattle.std.specs.Prelude.{ℕ, List, Option, None}
 
 -- nothing, since nobody knows them
 abbrev pub untold : Option (List ℕ)
 untold = None
+
+-- a stream, and the count of its faults
+pub record Counted (S : Type 0) : Type 0 where
+  pub stream : S
+  pub faults : ℕ

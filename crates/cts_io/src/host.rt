@@ -1,17 +1,19 @@
 // Files and writers of the host. They tell none of their bytes.
-ghost use Rattle.std.specs.Prelude.{◌≡◌, ◌≤◌, ◌<◌, ℕ, List, length, Some, IfSome, IsOk, OnOk, OnErr, IfOk, IsErrOf};
+ghost use Rattle.std.specs.Prelude.{◌≡◌, ◌≤◌, ◌<◌, ℕ, List, length, Option, Some, None, Ok, is_some, IfSome, IsSome, IsNone, IsOk, OnOk, OnErr, IfOk, IsErrOf};
 ghost use Rattle.cts_io.specs.Device.{Rose, Takes};
 ghost use Rattle.cts_io.specs.Host.{untold};
+ghost use Rattle.cts_io.specs.Stream.{TellsRead, TellsWrite, Tried};
 ghost use Rattle.cts_io.specs.Plan.{raised};
 
 use crate::device::{Failed, Inputs, Sink, StartFault};
+use crate::stream::{ByteReader, ByteWriter, read_next, write_front};
 use std::fs;
-use std::io::{ErrorKind, Read, Write};
+use std::io::ErrorKind;
 use std::marker::Model;
-use std::rt::Files;
+use std::rt::{Files, Stderr, Stdout};
 
-/// Files of the host, each opened where it is started. Contracts see the count of its faults,
-/// which is the count of every name.
+/// Files of the host, each opened where it is started. Contracts see the started
+/// file and the count of the faults, which is the count of every name.
 #[derive(Drop)]
 pub struct HostInputs<'a, R: Files> {
     rt: &'a R,
@@ -21,15 +23,18 @@ pub struct HostInputs<'a, R: Files> {
 }
 
 impl<'a, R: Files> Model for HostInputs<'a, R> {
-    ghost Value = { ℕ };
+    ghost use Rattle.std.specs.Prelude.{Option};
+    ghost use Rattle.cts_io.specs.Host.{Counted};
 
-    ghost view = { λ inputs. inputs.faults };
+    ghost Value = { Counted (Option R.File) };
+
+    ghost view = { λ inputs. record { stream = inputs.file; faults = inputs.faults } };
 }
 
 impl<'a, R: Files> HostInputs<'a, R> {
     /// The files that the runtime opens, none of which is started.
     pub fn new(rt: &'a R) -> HostInputs<'a, R>
-        ensures { result ≡ 0 }
+        ensures { result ≡ record { stream = None; faults = 0 } }
     {
         HostInputs {
             rt,
@@ -44,19 +49,21 @@ impl<'a, R: Files> Inputs for HostInputs<'a, R> {
 
     ghost left = { λ _. untold };
 
-    ghost faults = { λ inputs _. inputs };
+    ghost faults = { λ inputs _. inputs.faults };
 
     fn start(&mut self, name: &str) -> Result<(), StartFault>
-        ensures counted { IsErrOf result StartFault.Failed → self.new ≡ raised self.old }
-        ensures no_fault { OnOk result (self.new ≡ self.old) }
-        ensures no_memory { IsErrOf result StartFault.NoMemory → self.new ≡ self.old }
+        ensures opened { OnOk result (IsSome self.new.stream) }
+        ensures not_opened { OnErr result (self.new.stream ≡ self.old.stream) }
+        ensures counted { IsErrOf result StartFault.Failed
+            → self.new.faults ≡ raised self.old.faults }
 
         // The trait's clauses, where nothing is told of the bytes.
         ensures ok { OnOk result (untold ≡ untold) }
-        ensures failed { IsErrOf result StartFault.Failed → Rose self.old self.new }
+        ensures failed { IsErrOf result StartFault.Failed → Rose self.old.faults self.new.faults }
         ensures files { (file : List ℕ) → untold ≡ untold }
-        ensures counts { (file : List ℕ) → self.old ≤ self.new }
-        ensures stays { ¬ IsErrOf result StartFault.Failed → (file : List ℕ) → self.new ≡ self.old }
+        ensures counts { (file : List ℕ) → self.old.faults ≤ self.new.faults }
+        ensures stays { ¬ IsErrOf result StartFault.Failed
+            → (file : List ℕ) → self.new.faults ≡ self.old.faults }
     {
         match fs::open(self.rt, name) {
             Ok(file) => {
@@ -73,32 +80,35 @@ impl<'a, R: Files> Inputs for HostInputs<'a, R> {
 
     fn take(&mut self, name: &str, into: &mut [u8]) -> Result<usize, Failed>
         requires { 0 < length into.old }
-        ensures counted { OnErr result (self.new ≡ raised self.old) }
-        ensures no_fault { OnOk result (self.new ≡ self.old) }
+        ensures told { IfSome self.old.stream (λ file. IfSome self.new.stream (λ now.
+            Tried ⟦<R::File as ByteReader>⟧.reads TellsRead
+            (file, into.old) result (now, into.new))) }
+        ensures started { is_some self.new.stream ≡ is_some self.old.stream }
+        ensures none { IsNone self.old.stream → result ≡ Ok 0 }
+        ensures counted { OnErr result (self.new.faults ≡ raised self.old.faults) }
 
         // The trait's clauses.
         ensures within { IfOk result (λ n. n ≤ length into.new) }
         ensures ok { IfOk result (λ n. (rest : List ℕ) → untold ≡ Some rest
             → Takes rest n into.new untold) }
-        ensures failed { OnErr result (Rose self.old self.new) }
+        ensures failed { OnErr result (Rose self.old.faults self.new.faults) }
         ensures files { (file : List ℕ) → untold ≡ untold }
-        ensures counts { (file : List ℕ) → self.old ≤ self.new }
-        ensures stays { OnOk result ((file : List ℕ) → self.new ≡ self.old) }
+        ensures counts { (file : List ℕ) → self.old.faults ≤ self.new.faults }
+        ensures stays { OnOk result ((file : List ℕ) → self.new.faults ≡ self.old.faults) }
     {
         let Some(file) = &mut self.file else {
             return Ok(0);
         };
-        match read_some(file, into) {
-            Some(count) => Ok(count),
-            None => {
-                self.faults = self.faults.saturating_add(1);
-                Err(Failed)
-            }
+        let read = read_next(file, into);
+        if read.is_err() {
+            self.faults = self.faults.saturating_add(1);
         }
+        read
     }
 }
 
-/// A writer of the host, as standard output. Contracts see the count of its faults. Each piece
+/// A writer of the host, as standard output. Contracts see the
+/// writer and the count of its faults. Each piece
 /// goes to the writer at once, so a writer that keeps nothing back tells a fault at its own write.
 #[derive(Debug, Drop)]
 pub struct HostSink<W> {
@@ -106,77 +116,53 @@ pub struct HostSink<W> {
     faults: u64,
 }
 
-impl<W> Model for HostSink<W> {
-    ghost Value = { ℕ };
+/// Standard output. Its type isn't that of standard error, so neither stands where the other is
+/// meant.
+pub type HostOut = HostSink<Stdout>;
 
-    ghost view = { λ sink. sink.faults };
+/// Standard error.
+pub type HostErr = HostSink<Stderr>;
+
+impl<W> Model for HostSink<W> {
+    ghost use Rattle.cts_io.specs.Host.{Counted};
+
+    ghost Value = { Counted W };
+
+    ghost view = { λ sink. record { stream = sink.writer; faults = sink.faults } };
 }
 
 impl<W> HostSink<W> {
     /// A sink over a writer, which has to keep no bytes back.
     pub fn new(writer: W) -> HostSink<W>
-        ensures { result ≡ 0 }
+        ensures { result ≡ record { stream = writer; faults = 0 } }
     {
         HostSink { writer, faults: 0 }
     }
 }
 
-impl<W: Write> Sink for HostSink<W> {
+impl<W: ByteWriter> Sink for HostSink<W> {
     ghost written = { λ _. untold };
 
-    ghost faults = { λ sink. sink };
+    ghost faults = { λ sink. sink.faults };
 
     fn write(&mut self, piece: &[u8]) -> Result<usize, Failed>
-        ensures counted { OnErr result (self.new ≡ raised self.old) }
-        ensures no_fault { OnOk result (self.new ≡ self.old) }
+        ensures told { 0 < length piece.now → Tried (W.writes piece.now)
+            TellsWrite self.old.stream result self.new.stream }
+        ensures nothing { length piece.now ≡ 0 → (result ≡ Ok 0) × (self.new ≡ self.old) }
+        ensures counted { OnErr result (self.new.faults ≡ raised self.old.faults) }
 
         // The trait's clauses.
         ensures within { IfOk result (λ n. n ≤ length piece.now) }
         ensures some { 0 < length piece.now → IfOk result (λ n. 0 < n) }
         ensures none { length piece.now ≡ 0 → IsOk result }
-        ensures failed { OnErr result (Rose self.old self.new) }
-        ensures count { self.old ≤ self.new }
-        ensures stays { OnOk result (self.new ≡ self.old) }
+        ensures failed { OnErr result (Rose self.old.faults self.new.faults) }
+        ensures count { self.old.faults ≤ self.new.faults }
+        ensures stays { OnOk result (self.new.faults ≡ self.old.faults) }
     {
-        if piece.is_empty() {
-            return Ok(0);
+        let written = write_front(&mut self.writer, piece);
+        if written.is_err() {
+            self.faults = self.faults.saturating_add(1);
         }
-        match write_some(&mut self.writer, piece) {
-            Some(count) => Ok(count),
-            None => {
-                self.faults = self.faults.saturating_add(1);
-                Err(Failed)
-            }
-        }
+        written
     }
-}
-
-// Reads what there is, and again where a signal came between.
-fn read_some<F: Read>(file: &mut F, into: &mut [u8]) -> Option<usize>
-    ensures { IfSome result (λ n. n ≤ length into.new) }
-{
-    for _ in 0..u64::MAX {
-        match file.read(into) {
-            Ok(count) => return Some(count),
-            Err(fault) if fault.kind() == ErrorKind::Interrupted => {}
-            Err(_) => return None,
-        }
-    }
-    None
-}
-
-// Writes a front of the piece, and again where a signal came between. To take nothing is a fault.
-fn write_some<W: Write>(writer: &mut W, piece: &[u8]) -> Option<usize>
-    ensures within { IfSome result (λ n. n ≤ length piece.now) }
-    ensures some { IfSome result (λ n. 0 < n) }
-{
-    for _ in 0..u64::MAX {
-        match writer.write(piece) {
-            Ok(0) => return None,
-            Ok(count) => return Some(count),
-            Err(fault) if fault.kind() == ErrorKind::Interrupted => {}
-            Err(_) => return None,
-        }
-    }
-    None
 }

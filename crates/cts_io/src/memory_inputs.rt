@@ -136,7 +136,7 @@ impl Inputs for MemoryInputs {
 }
 
 // The place of the first file of a name.
-fn place_of(files: &[HeldFile], name: &str) -> Option<usize>
+pub(crate) fn place_of(files: &[HeldFile], name: &str) -> Option<usize>
     ensures found { IfSome result
         (λ place. held_in files.now name.now ≡ Some (bytes_at files.now place)) }
     ensures none { IfNone result (held_in files.now name.now ≡ None) }
@@ -152,7 +152,7 @@ fn first_named(files: &[HeldFile], name: &[u8]) -> Option<usize>
 }
 
 // What is left of the file at a place, behind the bytes that are taken.
-fn left_of(files: &[HeldFile], place: usize, taken: usize) -> &[u8]
+pub(crate) fn left_of(files: &[HeldFile], place: usize, taken: usize) -> &[u8]
     requires { taken ≤ length (bytes_at files.now place) }
     ensures rest { result.now ≡ drop taken (bytes_at files.now place) }
     ensures small { taken + length result.now < 2 ^ 64 }
