@@ -1,0 +1,10 @@
+use Rattle.std.proofs.Common.{◌≡◌, ◌++◌}
+use Rattle.demo_input.specs.Lines.{lines_below, text_of}
+use Rattle.demo_input.specs.PlacementLines.{place_line}
+use Rattle.demo_input.proofs.placement.push_places.Given as goal
+
+-- the lines so far
+abbrev pub invariant-loop-register : goal.invariant-loop-register
+invariant-loop-register l =
+    l.out.items
+    ≡ l.fn.out.items ++ text_of (lines_below (place_line l.seed) l.register)
