@@ -1,0 +1,79 @@
+-- Constraints by the delays of their pairs.
+use Rattle.std.proofs.Common.{◌≡◌, ◌<◌, ◌↔◌, ℕ, ℤ, ◌+ℤ◌, ◌-ℤ◌, Bool, true, false, IsTrue, List, length, Some, ap, ◌∙◌, arith}
+use Rattle.std.specs.Prelude.{MatchBool, slice_get, slice_index_or}
+use Rattle.std.proofs.lemmas.Int.{ints}
+use Rattle.cts_model.specs.declared.circuit.Circuit.{Circuit}
+use Rattle.cts_model.specs.declared.constraint.Constraint.{Constraint}
+use Rattle.cts_model.specs.declared.tech.Tech.{Tech}
+use Rattle.cts_model.specs.declared.timing.PairDelay.{PairDelay}
+use Rattle.cts_model.specs.Constraints.{IsConstraintOf, IsHoldConstraint, IsSetupConstraint}
+use Rattle.path_delays.specs.JoinedPairs.{IsDelayBetween, IsJoinedBy}
+use Rattle.cert_check.specs.GivenConstraints.{pair_of, weight_by}
+
+-- for each constraint before a place whether it is one of the circuit
+pub record AreTested (circuit : Circuit) (tech : Tech) (constraints : List Constraint)
+    (place : ℕ) (tests : List Bool) : Type 0 where
+  pub long : length tests ≡ place
+  pub each : (at : ℕ) (constraint : Constraint) → at < place
+      → slice_get constraints at ≡ Some constraint
+      → IsTrue (slice_index_or tests at false) ↔ IsConstraintOf circuit tech constraint
+
+module _ (circuit : Circuit) (tech : Tech) (from to : ℕ) (weight : ℤ) where
+  -- a pair's greatest delay gives the weight exactly where it is that of a setup constraint
+  setup_by : (delays : PairDelay) → IsDelayBetween circuit tech from to delays
+      → (delays.greatest +ℤ tech.setup ≡ weight) ↔ IsSetupConstraint circuit tech from to weight
+  setup_by delays is =
+      let from_is = is.from_is in
+      let to_is = is.to_is in
+      let (path, joins, shown) = is.delays.greatest_shown in (
+        λ same. record {
+          path = path;
+          joins = rw (from_is, to_is) at joins;
+          weight_is = ap (λ z. z +ℤ tech.setup) shown ∙ same;
+          greatest = λ other other_joins. rw shown
+              (is.delays.greatest other (rw (from_is, to_is) other_joins));
+        },
+        λ its.
+            let first = its.greatest path (rw (from_is, to_is) at joins) in
+            let second = is.delays.greatest its.path (rw (from_is, to_is) its.joins) in
+            omega (arith, ints, first, second, shown, its.weight_is),
+      )
+
+  -- and its least delay that of a hold constraint
+  hold_by : (delays : PairDelay) → IsDelayBetween circuit tech from to delays
+      → (tech.hold -ℤ delays.least ≡ weight) ↔ IsHoldConstraint circuit tech from to weight
+  hold_by delays is =
+      let from_is = is.from_is in
+      let to_is = is.to_is in
+      let (path, joins, shown) = is.delays.least_shown in (
+        λ same. record {
+          path = path;
+          joins = rw (from_is, to_is) at joins;
+          weight_is = ap (λ z. tech.hold -ℤ z) shown ∙ same;
+          least = λ other other_joins. rw shown
+              (is.delays.least other (rw (from_is, to_is) other_joins));
+        },
+        λ its.
+            let first = its.least path (rw (from_is, to_is) at joins) in
+            let second = is.delays.least its.path (rw (from_is, to_is) its.joins) in
+            omega (arith, ints, first, second, shown, its.weight_is),
+      )
+
+module _ (circuit : Circuit) (tech : Tech) where
+  -- a constraint is one of the circuit exactly where its pair's delays give its weight
+  given_either : (setup : Bool) (tail head : ℕ) (weight : ℤ) (delays : PairDelay)
+      → IsDelayBetween circuit tech
+      (pair_of (record { setup = setup; tail = tail; head = head; weight = weight })).0
+      (pair_of (record { setup = setup; tail = tail; head = head; weight = weight })).1 delays
+      → (weight_by tech setup delays ≡ weight) ↔ MatchBool setup
+      (IsSetupConstraint circuit tech tail head weight)
+      (IsHoldConstraint circuit tech head tail weight)
+  given_either true tail head weight delays is = setup_by circuit tech tail head weight delays is
+  given_either false tail head weight delays is = hold_by circuit tech head tail weight delays is
+
+  pub given_by : (constraint : Constraint) (delays : PairDelay)
+      → IsJoinedBy circuit tech (pair_of constraint).0 (pair_of constraint).1 (Some delays)
+      → (weight_by tech constraint.setup delays ≡ constraint.weight)
+      ↔ IsConstraintOf circuit tech constraint
+  given_by constraint delays =
+      given_either constraint.setup constraint.tail constraint.head constraint.weight delays

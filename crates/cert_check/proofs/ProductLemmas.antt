@@ -1,0 +1,31 @@
+-- The size of a product.
+use Rattle.std.proofs.Common.{◌≤◌, ◌*◌, ◌^◌, ℕ, ℤ, pos, negsuc, ◌*ℤ◌, neg_ℤ, ◌≤ℤ◌, arith}
+use Rattle.std.proofs.lemmas.Int.{ints, unsigned_abs-mul}
+use Rattle.std.proofs.lemmas.Nat.{mul-le}
+use Rattle.std.specs.Prelude.{unsigned_abs}
+use Rattle.cts_model.specs.Points.{IsBelow}
+
+-- a number lies within its size
+within_size : (size : ℕ) (number : ℤ) → unsigned_abs number ≤ size → (neg_ℤ (pos size) ≤ℤ number)
+    × (number ≤ℤ pos size)
+within_size size (pos n) small = (omega (arith, ints), omega (arith, ints))
+within_size size (negsuc n) small = (omega (arith, ints), omega (arith, ints))
+
+-- the size of a number below a bound
+size_below : (bound : ℕ) (number : ℤ) → IsBelow bound number → unsigned_abs number ≤ bound
+size_below bound (pos n) small = omega (arith, ints, small.below)
+size_below bound (negsuc n) small = omega (arith, ints, small.above)
+
+-- a product of two small numbers is small
+pub product_small : (a b : ℤ) → IsBelow (10 ^ 18) a → IsBelow (10 ^ 18) b
+    → IsBelow (10 ^ 37) (a *ℤ b)
+product_small a b small_a small_b =
+    let size : unsigned_abs (a *ℤ b) ≤ 10 ^ 18 * 10 ^ 18 =
+    omega (
+      arith,
+      unsigned_abs-mul a b,
+      mul-le (unsigned_abs a) (unsigned_abs b) (10 ^ 18) (10 ^ 18)
+          (size_below (10 ^ 18) a small_a) (size_below (10 ^ 18) b small_b),
+    ) in
+    let both = within_size (10 ^ 18 * 10 ^ 18) (a *ℤ b) size in
+    record { above = omega (arith, ints, both.0); below = omega (arith, ints, both.1) }

@@ -1,0 +1,361 @@
+-- What a report's tree gives to the judgement of its reaches, and what that comes to.
+use Rattle.std.proofs.Common.{◌≡◌, ◌↔◌, ℕ, ◌<◌, ◌≤◌, ◌+◌, ◌*◌, ◌^◌, ℤ, pos, ◌-ℤ◌, List, length, get_or, FitsSigned, to_z, of_z, Option, Some, None, inl, inr, refl, sym, ap, subst, ◌∙◌, arith}
+use Rattle.std.specs.Prelude.{IfSome, IsSomeAnd, slice_get}
+use Rattle.std.specs.List.{All}
+use mir.Syntax.{w128}
+use Rattle.std.proofs.lemmas.Int.{ints, to_z-of_z}
+use Rattle.std.proofs.lemmas.Option.{get_or_from_slice_get, slice_get_within}
+use Rattle.cts_model.specs.declared.circuit.Circuit.{Circuit}
+use Rattle.cts_model.specs.declared.place.Point.{Point}
+use Rattle.cts_model.specs.declared.place.Sink.{Sink}
+use Rattle.cts_model.specs.declared.place.Uv.{Uv}
+use Rattle.cts_model.specs.declared.problem.Problem.{Problem}
+use Rattle.cts_model.specs.declared.report.Report.{Report}
+use Rattle.cts_model.specs.declared.tree.Merge.{Merge}
+use Rattle.cts_model.specs.Embeddings.{AreWiresDown, Embedding, embedding_of, total_length, total_wire}
+use Rattle.cts_model.specs.Judgements.{IsReachShown, IsSkewed}
+use Rattle.cts_model.specs.Points.{IsBelow, IsPointBelow, IsUvBelow, turned}
+use Rattle.cts_model.specs.Problems.{on_grid, sink_of}
+use Rattle.cts_model.specs.ReportBounds.{IsOfSize, IsWithinBounds, ShowsAmong}
+use Rattle.cts_model.specs.ReportLines.{number_at}
+use Rattle.cts_model.specs.Schedules.{arrival_of}
+use Rattle.cts_model.specs.Shown.{AtEach, sinks_in, source_in}
+use Rattle.cts_model.specs.ShownReaches.{ShowsMerge, ShowsSource}
+use Rattle.cts_model.specs.Topologies.{IsTopology, IsParent, Joins, numbers_below, root_of, source_of}
+use Rattle.cts_model.proofs.GridLemmas.{on_grid_below, scheduled_size}
+use Rattle.cts_model.proofs.ParentLemmas.{made_parent}
+use Rattle.cts_model.proofs.SkewLemmas.{length-sinks_of, sink_at}
+use Rattle.cts_model.proofs.TopologyLemmas.{some_and}
+use Rattle.cts_model.proofs.TotalLemmas.{total_within}
+use Rattle.cert_check.specs.declared.verdict.Reason.TheVariants.{SkewDiffers, Total, Unshown}
+use Rattle.cert_check.specs.Judged.{FailsFirst}
+use Rattle.cert_check.specs.ReachParts.{HasReachParts, IsLevel, IsMergeShown, IsReachOver, IsSmallSink, IsSourceShown}
+use Rattle.cert_check.specs.Verdicts.{ReachesFound}
+use Rattle.cert_check.proofs.DownLemmas.{one_wire}
+
+-- ---- sizes
+
+-- a point below a bound has turned coordinates below a higher one
+turned_below : (point : Point) → IsPointBelow (10 ^ 26) point → IsUvBelow (10 ^ 31) (turned point)
+turned_below point below =
+    let x = below.x in
+    let y = below.y in
+    record {
+      u = record { above = omega (arith, ints, x, y); below = omega (arith, ints, x, y) };
+      v = record { above = omega (arith, ints, x, y); below = omega (arith, ints, x, y) };
+    }
+
+-- a circuit has few registers
+pub few_registers : (circuit : Circuit) → length circuit.registers ≤ 4097
+few_registers circuit = grind (arith, circuit.valid.few_registers)
+
+module _ (problem : Problem) (report : Report) (size : IsOfSize problem.circuit report)
+    (bounds : IsWithinBounds problem.tech report) where
+  same : length problem.places.registers ≡ length report.schedule.at
+  same = omega (arith, problem.valid.registers, size.arrivals)
+
+  -- there is a sink for each register
+  pub sinks_count : length (sinks_in problem report) ≡ length problem.circuit.registers
+  sinks_count = length-sinks_of report.period problem.tech problem.places.registers
+      report.schedule.at same ∙ size.arrivals
+
+  -- the source has small coordinates
+  pub source_small : IsUvBelow (10 ^ 31) (source_in problem report)
+  source_small = turned_below (on_grid report.period problem.tech problem.places.source)
+      (on_grid_below report.period problem.tech bounds.timing.period problem.places.source
+      problem.valid.source_near)
+
+  -- so has a register, and its offset is small
+  small_sink : (place : Point) (arrival : ℤ) → IsPointBelow 1000000000000001 place
+      → IsBelow (10 ^ 19) arrival → IsSmallSink (sink_of report.period problem.tech place arrival)
+  small_sink place arrival near below =
+      let long = scheduled_size problem.tech arrival (10 ^ 19)
+      (omega (arith, ints, below.above, below.below)) in
+      record {
+        at = turned_below (on_grid report.period problem.tech place)
+            (on_grid_below report.period problem.tech bounds.timing.period place near);
+        offset = record { above = omega (arith, ints, long); below = omega (arith, ints, long) };
+      }
+
+  small_sinks : All IsSmallSink (sinks_in problem report)
+  small_sinks register default here =
+      let origin : Point = record { x = pos 0; y = pos 0 } in
+      let low : register < length report.schedule.at = omega (
+        arith,
+        here,
+        sinks_count,
+        size.arrivals,
+      ) in
+      let found = sink_at report.period problem.tech problem.places.registers report.schedule.at
+      origin register same low in
+      subst IsSmallSink (sym (get_or_from_slice_get (sinks_in problem report) register
+      (sink_of report.period problem.tech (get_or problem.places.registers register origin)
+      (arrival_of report.schedule.at register)) default found))
+      (small_sink (get_or problem.places.registers register origin)
+      (arrival_of report.schedule.at register)
+      (problem.valid.near register origin (omega (arith, same, low)))
+      (bounds.timing.arrivals register (pos 0) low))
+
+  -- what the judgement stands on
+  pub reach_parts : IsTopology (length (sinks_in problem report)) report.topology.merges
+      → HasReachParts (sinks_in problem report) report
+  reach_parts topology = record {
+    few = omega (arith, sinks_count, few_registers problem.circuit);
+    topology = topology;
+    lengths = omega (arith, sinks_count, size.lengths);
+    reaches = omega (arith, sinks_count, size.reaches);
+    shows = omega (arith, sinks_count, size.shows);
+    named = subst (λ count. All (ShowsAmong count) report.shows) (sym sinks_count) size.each_show;
+    small_lengths = bounds.tree.lengths;
+    small_reaches = bounds.tree.reaches;
+    small_sinks = small_sinks;
+  }
+
+  -- by the sinks as they are made
+  pub parts_of : (sinks : List Sink) → sinks ≡ sinks_in problem report
+      → IsTopology (length sinks) report.topology.merges → HasReachParts sinks report
+  parts_of sinks same topology = subst (λ sinks. HasReachParts sinks report) (sym same)
+      (reach_parts (subst (λ sinks. IsTopology (length sinks) report.topology.merges) same
+      topology))
+
+-- ---- skews
+
+-- wires down are one, so a register's skew is that of any
+pub skewed_level : (sinks : List Sink) (merges : List Merge) (tree : Embedding) (wire : ℕ → ℤ)
+    → IsTopology (length sinks) merges → AreWiresDown (length sinks) merges tree.length wire
+    → (register : ℕ) → register < length sinks
+    → IsLevel sinks wire register ↔ IsSkewed sinks merges tree register
+skewed_level sinks merges tree wire topology down register within = (
+  λ level other also.
+      let here = one_wire topology tree.length wire other down also (source_of (length sinks))
+      register (omega arith) (omega arith) in
+      let first = one_wire topology tree.length wire other down also (source_of (length sinks)) 0
+      (omega arith) (omega arith) in
+      subst (λ z. IfSome (slice_get sinks register) (λ sink. IfSome (slice_get sinks 0)
+      (λ first. z -ℤ other 0 ≡ first.offset -ℤ sink.offset))) here
+      (subst (λ z. IfSome (slice_get sinks register) (λ sink. IfSome (slice_get sinks 0)
+      (λ first. wire register -ℤ z ≡ first.offset -ℤ sink.offset))) first level),
+  λ skewed. skewed wire down,
+)
+
+-- ---- reaches
+
+-- what is judged of a node's reach
+abbrev pub Reached : List Sink → (source : Uv) → Report → ℕ → Type 0
+Reached sinks source report = IsReachShown sinks report.topology.merges source
+    (embedding_of report.tree) (number_at report.tree.reach) report.shows
+
+module _ (sinks : List Sink) (source : Uv) (report : Report)
+    (parts : HasReachParts sinks report) where
+  -- a sink has nothing below it
+  pub sink_shown : (register : ℕ) → register < length sinks → Reached sinks source report register
+  sink_shown register within =
+      let all = parts.topology.all in
+      record {
+        reach_is = λ below is. absurd (nothing_below below is);
+        of_merge = λ place low same. absurd (omega arith);
+        of_source = λ same. absurd (omega arith);
+      }
+    where
+      nothing_below : (below : ℕ)
+          → IsParent (length sinks) report.topology.merges below register → ⊥
+      nothing_below below (inl (place, is, found)) = omega arith
+      nothing_below below (inr (is_root, is)) = omega arith
+
+  -- where the edge to each of the two that a merge joins is as long as reaches differ
+  both_over : (place : ℕ) (merge : Merge) → slice_get report.topology.merges place ≡ Some merge
+      → (below : ℕ)
+      → Joins merge below → IsMergeShown sinks report place
+      → IsReachOver report.tree (length sinks + place) below
+  both_over place merge here below (inl same) shown =
+      subst (IsReachOver report.tree (length sinks + place)) same
+      (subst (λ found. IfSome found
+      (λ merge. IsReachOver report.tree (length sinks + place) merge.first)) here shown.first)
+  both_over place merge here below (inr same) shown =
+      subst (IsReachOver report.tree (length sinks + place)) same
+      (subst (λ found. IfSome found
+      (λ merge. IsReachOver report.tree (length sinks + place) merge.second)) here shown.second)
+
+  -- a merge's reach, by the two that it joins
+  pub merge_shown : (place : ℕ) → place < length report.topology.merges
+      → IsMergeShown sinks report place ↔ Reached sinks source report (length sinks + place)
+  merge_shown place within = (there, back)
+    where
+      all : length sinks ≡ length report.topology.merges + 1
+      all = parts.topology.all
+
+      there : IsMergeShown sinks report place → Reached sinks source report (length sinks + place)
+      there shown = record {
+        reach_is = below_is shown;
+        of_merge = λ other low same.
+            let at : place ≡ other = omega arith in
+            subst (λ n. IsSomeAnd (slice_get report.shows n) (ShowsMerge sinks
+            (numbers_below (length sinks) report.topology.merges (length sinks + place))
+            (number_at report.tree.reach (length sinks + place)))) at shown.shown;
+        of_source = λ same. absurd (omega (arith, all, same, within));
+      }
+        where
+          below_is : IsMergeShown sinks report place → (below : ℕ)
+              → IsParent (length sinks) report.topology.merges below (length sinks + place)
+              → IsReachOver report.tree (length sinks + place) below
+          below_is shown below (inl (other, is, found)) =
+              let at : other ≡ place = omega arith in
+              let (merge, here, joins) = some_and (slice_get report.topology.merges place)
+              (λ merge. Joins merge below)
+              (subst (λ n. IsSomeAnd (slice_get report.topology.merges n)
+              (λ merge. Joins merge below)) at found) in
+              both_over place merge here below joins shown
+          below_is shown below (inr (is_root, is)) = absurd (omega (arith, all, is, within))
+
+      back : Reached sinks source report (length sinks + place) → IsMergeShown sinks report place
+      back shown = record {
+        first = over (λ merge. merge.first) (λ merge. inl refl);
+        second = over (λ merge. merge.second) (λ merge. inr refl);
+        shown = shown.of_merge place within refl;
+      }
+        where
+          over : (pick : Merge → ℕ) → ((merge : Merge) → Joins merge (pick merge))
+              → IfSome (slice_get report.topology.merges place)
+              (λ merge. IsReachOver report.tree (length sinks + place) (pick merge))
+          over pick joins = at (slice_get report.topology.merges place) refl
+            where
+              at : (found : Option Merge) → slice_get report.topology.merges place ≡ found
+                  → IfSome found
+                  (λ merge. IsReachOver report.tree (length sinks + place) (pick merge))
+              at None here = tt
+              at (Some merge) here = shown.reach_is (pick merge)
+                  (made_parent (length sinks) report.topology.merges place merge here
+                  (pick merge) (joins merge))
+
+  -- the source's, by the root
+  pub source_shown : (node : ℕ) → node + 1 ≡ 2 * length sinks
+      → IsSourceShown sinks source report ↔ Reached sinks source report node
+  source_shown node last = (
+    λ shown. record {
+      reach_is = root_is shown;
+      of_merge = λ place low same. absurd (omega (arith, parts.topology.all));
+      of_source = λ same. subst (λ node. IsSomeAnd (slice_get report.shows
+          (length report.topology.merges))
+          (ShowsSource sinks source (number_at report.tree.reach (root_of (length sinks)))
+          (number_at report.tree.reach node))) (sym same) shown.shown;
+    },
+    λ shown. record {
+      root = subst (λ node. IsReachOver report.tree node (root_of (length sinks))) is_source
+          (shown.reach_is (root_of (length sinks)) (inr (refl, is_source)));
+      shown = subst (λ node. IsSomeAnd (slice_get report.shows (length report.topology.merges))
+          (ShowsSource sinks source (number_at report.tree.reach (root_of (length sinks)))
+          (number_at report.tree.reach node))) is_source (shown.of_source is_source);
+    },
+  )
+    where
+      is_source : node ≡ source_of (length sinks)
+      is_source = omega arith
+
+      root_is : IsSourceShown sinks source report → (below : ℕ)
+          → IsParent (length sinks) report.topology.merges below node
+          → IsReachOver report.tree node below
+      root_is shown below (inl (place, is, found)) =
+          let (merge, here, joins) = some_and (slice_get report.topology.merges place)
+          (λ merge. Joins merge below) found in
+          absurd (omega
+          (arith, slice_get_within report.topology.merges place merge here, parts.topology.all))
+      root_is shown below (inr (is_root, is)) =
+          subst (λ node. IsReachOver report.tree node below) (sym is_source)
+          (subst (IsReachOver report.tree (source_of (length sinks))) (sym is_root) shown.root)
+
+-- ---- the wire
+
+module _ (sinks : List Sink) (report : Report) (parts : HasReachParts sinks report) where
+  abbrev pub wire : ℤ
+  wire = total_wire (length sinks) (embedding_of report.tree)
+
+  -- it fits
+  wire_fits : FitsSigned w128 wire
+  wire_fits =
+      let sum = total_within (number_at report.tree.length) (source_of (length sinks))
+      (λ node here. parts.small_lengths node (pos 0) (omega (arith, here, parts.lengths))) in
+      let few = parts.few in
+      omega (arith, ints, sum, few)
+
+  -- so a test of the sum tells of the wire
+  pub total_told : (lengths : List ℤ) → lengths ≡ report.tree.length → (sum : ℤ)
+      → sum ≡ total_length (number_at lengths) (length lengths) → IsBelow (10 ^ 36) report.total
+      → (of_z w128 report.total ≡ of_z w128 sum) ↔ (report.total ≡ wire)
+  total_told lengths same sum is small =
+      let edges : length report.tree.length ≡ source_of (length sinks) =
+      omega (arith, parts.lengths) in
+      let whole : sum ≡ wire = is
+      ∙ ap (λ list. total_length (number_at list) (length list)) same
+      ∙ ap (total_length (number_at report.tree.length)) edges in
+      let plain = to_z-of_z w128 report.total (omega (arith, ints, small.above, small.below)) in (
+        λ told. sym plain ∙ ap (to_z w128) told ∙ ap (λ z. to_z w128 (of_z w128 z)) whole
+            ∙ to_z-of_z w128 wire wire_fits,
+        λ total. ap (of_z w128) (total ∙ sym whole),
+      )
+
+-- ---- the group
+
+-- what is judged of a register's skew
+abbrev pub Skewed : List Sink → Report → ℕ → Type 0
+Skewed sinks report = IsSkewed sinks report.topology.merges (embedding_of report.tree)
+
+module _ (problem : Problem) (report : Report) (sinks : List Sink)
+    (same : sinks ≡ sinks_in problem report) where
+  -- a skew that differs
+  pub skew_found : (register : ℕ) → FailsFirst (length sinks) (Skewed sinks report) register
+      → ReachesFound problem report (Some (SkewDiffers register))
+  skew_found register first = inl (
+    register,
+    subst (λ sinks. FailsFirst (length sinks) (Skewed sinks report) register) same first,
+    refl,
+  )
+
+  -- a reach that isn't shown
+  pub reach_found : (node : ℕ) → AtEach (length sinks) (Skewed sinks report)
+      → FailsFirst (2 * length sinks) (Reached sinks (source_in problem report) report) node
+      → ReachesFound problem report (Some (Unshown node))
+  reach_found node skewed first = inr (
+    subst (λ sinks. AtEach (length sinks) (Skewed sinks report)) same skewed,
+    inl (
+      node,
+      subst (λ sinks. FailsFirst (2 * length sinks) (Reached sinks
+          (source_in problem report) report) node) same first,
+      refl,
+    ),
+  )
+
+  -- a wire that isn't the sum
+  pub total_found : AtEach (length sinks) (Skewed sinks report)
+      → AtEach (2 * length sinks) (Reached sinks (source_in problem report) report)
+      → (report.total ≡ total_wire (length sinks) (embedding_of report.tree) → ⊥)
+      → ReachesFound problem report (Some Total)
+  total_found skewed reached differs = inr (
+    subst (λ sinks. AtEach (length sinks) (Skewed sinks report)) same skewed,
+    inr (
+      subst (λ sinks. AtEach (2 * length sinks) (Reached sinks
+          (source_in problem report) report)) same reached,
+      inl (
+        subst (λ sinks. report.total ≡ total_wire (length sinks) (embedding_of report.tree) → ⊥)
+            same differs,
+        refl,
+      ),
+    ),
+  )
+
+  -- nothing
+  pub none_found : AtEach (length sinks) (Skewed sinks report)
+      → AtEach (2 * length sinks) (Reached sinks (source_in problem report) report)
+      → report.total ≡ total_wire (length sinks) (embedding_of report.tree)
+      → ReachesFound problem report None
+  none_found skewed reached total = inr (
+    subst (λ sinks. AtEach (length sinks) (Skewed sinks report)) same skewed,
+    inr (
+      subst (λ sinks. AtEach (2 * length sinks) (Reached sinks
+          (source_in problem report) report)) same reached,
+      inr (
+        subst (λ sinks. report.total ≡ total_wire (length sinks) (embedding_of report.tree))
+            same total,
+        tt,
+      ),
+    ),
+  )

@@ -1,0 +1,111 @@
+-- The shape of a tree, by its sinks, its merges and its source.
+use Rattle.std.proofs.Common.{◌≡◌, ◌<◌, ◌≤◌, ◌+◌, ◌-◌, ◌*◌, ℕ, List, length, take, inl, inr, refl, sym, subst, arith}
+use Rattle.std.specs.Prelude.{IfSome, slice_get}
+use Rattle.std.proofs.lemmas.Bool.{cases_lt}
+use Rattle.std.proofs.lemmas.Option.{slice_get_past, slice_get_within}
+use Rattle.cts_model.specs.declared.place.Sink.{Sink}
+use Rattle.cts_model.specs.declared.place.Uv.{Uv}
+use Rattle.cts_model.specs.declared.tree.Merge.{Merge}
+use Rattle.cts_model.specs.Embeddings.{Embedding}
+use Rattle.cts_model.specs.Judgements.{HasShape}
+use Rattle.cts_model.specs.Points.{turned}
+use Rattle.cts_model.specs.Shown.{AtEach}
+use Rattle.cts_model.specs.Topologies.{IsMerge, source_of}
+use Rattle.cert_check.specs.EmbeddingParts.{JoinsAt, StandsAt}
+use Rattle.cert_check.specs.Judged.{FailsFirst}
+use Rattle.cert_check.proofs.MarkLemmas.{if_some, some_if}
+
+module _ (sinks : List Sink) (merges : List Merge) (source : Uv) (tree : Embedding)
+    (all : length merges + 1 ≡ length sinks) where
+  -- where no sink has that number, nothing is asked
+  no_sink : (node : ℕ) → length sinks ≤ node → StandsAt sinks tree node
+  no_sink node past = subst (λ found. IfSome found (λ sink. turned (tree.place node) ≡ sink.at))
+      (sym (slice_get_past sinks node past)) tt
+
+  -- a sink
+  of_sink : (node : ℕ) → node < length sinks → StandsAt sinks tree node
+      → HasShape sinks merges source tree node
+  of_sink node low stands = record {
+    sink_stands = stands;
+    joins = λ place merge is here. absurd (omega (arith, low, is));
+    source_stands = λ is. absurd (omega (arith, low, is, all));
+  }
+
+  -- a merge
+  of_merge : (place : ℕ) → place < length merges → JoinsAt (length sinks) merges place
+      → HasShape sinks merges source tree (length sinks + place)
+  of_merge place low joins = record {
+    sink_stands = no_sink (length sinks + place) (omega arith);
+    joins = λ other merge is here.
+        let same : place ≡ other = omega (arith, is) in
+        some_if (slice_get merges other) (IsMerge (length sinks) (take other merges)) merge
+        (subst (JoinsAt (length sinks) merges) same joins) here;
+    source_stands = λ is. absurd (omega (arith, low, is, all));
+  }
+
+  -- the source
+  of_source : turned (tree.place (source_of (length sinks))) ≡ source
+      → HasShape sinks merges source tree (source_of (length sinks))
+  of_source stands = record {
+    sink_stands = no_sink (source_of (length sinks)) (omega (arith, all));
+    joins = λ place merge is here.
+        absurd (omega (arith, is, all, slice_get_within merges place merge here));
+    source_stands = λ _. stands;
+  }
+
+  -- all sinks, and merges before a place
+  before_merge : (count : ℕ) → count ≤ length merges → AtEach (length sinks) (StandsAt sinks tree)
+      → AtEach count (JoinsAt (length sinks) merges)
+      → AtEach (length sinks + count) (HasShape sinks merges source tree)
+  before_merge count some stand join node low = elim (cases_lt node (length sinks)) [
+    | inl below ↦ of_sink node below (stand node below)
+    | inr past ↦
+        let is : length sinks + (node - length sinks) ≡ node = omega arith in
+        subst (HasShape sinks merges source tree) is
+        (of_merge (node - length sinks) (omega arith) (join (node - length sinks) (omega arith)))
+  ]
+
+  -- the first sink that is moved is the first node
+  pub moved : (register : ℕ) → FailsFirst (length sinks) (StandsAt sinks tree) register
+      → FailsFirst (2 * length sinks) (HasShape sinks merges source tree) register
+  moved register first = record {
+    within = omega (arith, first.within);
+    fails = λ shape. first.fails shape.sink_stands;
+    before = λ node low. of_sink node (omega (arith, first.within)) (first.before node low);
+  }
+
+  module _ (stand : AtEach (length sinks) (StandsAt sinks tree)) where
+    -- and else the first merge that doesn't join what it may
+    pub unjoined : (place : ℕ) → FailsFirst (length merges) (JoinsAt (length sinks) merges) place
+        → FailsFirst (2 * length sinks) (HasShape sinks merges source tree) (length sinks + place)
+    unjoined place first = record {
+      within = omega (arith, first.within, all);
+      fails = λ shape. first.fails (if_some (slice_get merges place)
+          (IsMerge (length sinks) (take place merges))
+          (λ merge here. shape.joins place merge refl here));
+      before = before_merge place (omega (arith, first.within)) stand first.before;
+    }
+
+    module _ (join : AtEach (length merges) (JoinsAt (length sinks) merges)) where
+      before_source : AtEach (source_of (length sinks)) (HasShape sinks merges source tree)
+      before_source node low = before_merge (length merges) (omega arith) stand join node
+          (omega (arith, all, low))
+
+      -- and else the source
+      pub source_moved : (turned (tree.place (source_of (length sinks))) ≡ source → ⊥)
+          → FailsFirst (2 * length sinks) (HasShape sinks merges source tree)
+          (source_of (length sinks))
+      source_moved fails = record {
+        within = omega (arith, all);
+        fails = λ shape. fails (shape.source_stands refl);
+        before = before_source;
+      }
+
+      pub all_shaped : turned (tree.place (source_of (length sinks))) ≡ source
+          → AtEach (2 * length sinks) (HasShape sinks merges source tree)
+      all_shaped stands node low = elim (cases_lt node (source_of (length sinks))) [
+        | inl below ↦ before_source node below
+        | inr past ↦
+            let is : source_of (length sinks) ≡ node = omega (arith, all) in
+            subst (HasShape sinks merges source tree) is (of_source stands)
+      ]

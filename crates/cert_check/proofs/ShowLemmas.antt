@@ -1,0 +1,138 @@
+-- Shows and sinks as they are read from lists.
+use Rattle.std.proofs.Common.{◌≡◌, ◌↔◌, ◌<◌, ◌≤◌, ◌+◌, ◌^◌, ℕ, ℤ, pos, ◌+ℤ◌, ◌-ℤ◌, Bool, IsTrue, List, length, get_or, to_z, of_z, sym, ap, subst, ◌∙◌, arith}
+use mir.Syntax.{w128}
+use Rattle.std.specs.List.{All}
+use Rattle.std.specs.Prelude.{IfSome, IsSomeAnd, slice_get}
+use Rattle.std.proofs.lemmas.Int.{ints, to_z-of_z}
+use Rattle.std.proofs.lemmas.Option.{slice_get-get_or}
+use Rattle.cts_model.specs.declared.place.Sink.{Sink}
+use Rattle.cts_model.specs.declared.place.Uv.{Uv}
+use Rattle.cts_model.specs.declared.tree.Merge.{Merge}
+use Rattle.cts_model.specs.declared.tree.Show.{Show}
+use Rattle.cts_model.specs.declared.tree.Show.TheVariants as shows
+use Rattle.cts_model.specs.Points.{IsBelow}
+use Rattle.cts_model.specs.Regions.{span}
+use Rattle.cts_model.specs.ReportBounds.{ShowsAmong}
+use Rattle.cts_model.specs.ShownReaches.{ShowsMerge, ShowsSource}
+use Rattle.cts_model.specs.Topologies.{numbers_below}
+use Rattle.cert_check.specs.declared.order.SinkOrder.{SinkOrder}
+use Rattle.cert_check.specs.ReachParts.{IsLevel, ShowsPlaced}
+use Rattle.cert_check.specs.SinkOrders.{IsSinkOrder}
+
+-- a small number, as the code keeps it, is small
+pub kept_below : (low high : ℕ) (number : ℤ) → low ≤ high → high ≤ 10 ^ 36 → IsBelow low number
+    → IsBelow high (to_z w128 (of_z w128 number))
+kept_below low high number less few below =
+    let plain = to_z-of_z w128 number (omega (arith, ints, below.above, below.below)) in
+    subst (IsBelow high) (sym plain) (record {
+      above = omega (arith, ints, below.above);
+      below = omega (arith, ints, below.below);
+    })
+
+-- what a test tells of an item of a list, it tells of what is found there
+pub tells_found : {X : Type 0} (Holds : X → Type 0) (items : List X) (place : ℕ) (default : X)
+    → (test : Bool) → place < length items → IsTrue test ↔ Holds (get_or items place default)
+    → IsTrue test ↔ IsSomeAnd (slice_get items place) Holds
+tells_found Holds items place default test within tells =
+    subst (λ found. IsTrue test ↔ IsSomeAnd found Holds)
+    (sym (slice_get-get_or items place default within)) tells
+
+-- so it is with a register's skew
+pub tells_level : (sinks : List Sink) (wire : ℕ → ℤ) (register : ℕ) (default : Sink)
+    → (test : Bool) → register < length sinks
+    → IsTrue test ↔ (wire register -ℤ wire 0
+    ≡ (get_or sinks 0 default).offset -ℤ (get_or sinks register default).offset)
+    → IsTrue test ↔ IsLevel sinks wire register
+tells_level sinks wire register default test within tells =
+    subst (λ found. IsTrue test ↔ IfSome found (λ sink. IfSome (slice_get sinks 0)
+    (λ first. wire register -ℤ wire 0 ≡ first.offset -ℤ sink.offset)))
+    (sym (slice_get-get_or sinks register default within))
+    (subst (λ found. IsTrue test ↔ IfSome found
+    (λ first. wire register -ℤ wire 0 ≡ first.offset -ℤ (get_or sinks register default).offset))
+    (sym (slice_get-get_or sinks 0 default (omega arith))) tells)
+
+-- and with the span of two sinks
+pub tells_span : (sinks : List Sink) (reach : ℤ) (first second : ℕ) (default : Sink)
+    → (test : Bool) → first < length sinks → second < length sinks
+    → IsTrue test ↔ (reach +ℤ reach
+    ≡ span (get_or sinks first default) (get_or sinks second default))
+    → IsTrue test ↔ IsSomeAnd (slice_get sinks first) (λ one. IsSomeAnd (slice_get sinks second)
+    (λ other. reach +ℤ reach ≡ span one other))
+tells_span sinks reach first second default test low also_low tells =
+    tells_found (λ one. IsSomeAnd (slice_get sinks second)
+    (λ other. reach +ℤ reach ≡ span one other)) sinks first default test low
+    (tells_found (λ other. reach +ℤ reach ≡ span (get_or sinks first default) other) sinks second
+    default test also_low tells)
+
+-- what is placed below a node is below it, so the same shows give its reach
+pub placed_shows : (sinks : List Sink) (merges : List Merge) (order : SinkOrder)
+    → IsSinkOrder (length sinks) merges order → (node : ℕ) → node < length sinks + length merges
+    → (reach : ℤ) (show : Show) → ShowsAmong (length sinks) show
+    → ShowsPlaced sinks order node reach show
+    ↔ ShowsMerge sinks (numbers_below (length sinks) merges node) reach show
+placed_shows sinks merges order is node made reach (shows.Pair first second) (low, also_low) = (
+  λ shown. record {
+    ordered = shown.placed.ordered;
+    first_below = (is.below node first made low).1 shown.placed.first_below;
+    second_below = (is.below node second made also_low).1 shown.placed.second_below;
+    value = shown.value;
+  },
+  λ shown. record {
+    placed = record {
+      ordered = shown.ordered;
+      first_below = (is.below node first made low).0 shown.first_below;
+      second_below = (is.below node second made also_low).0 shown.second_below;
+    };
+    value = shown.value;
+  },
+)
+placed_shows sinks merges order is node made reach (shows.Sink register) among = (λ x. x, λ x. x)
+placed_shows sinks merges order is node made reach shows.Root among = (λ x. x, λ x. x)
+
+-- so what is told of a merge's show, as it is read
+pub tells_merge : (sinks : List Sink) (merges : List Merge) (order : SinkOrder)
+    → IsSinkOrder (length sinks) merges order → (place : ℕ) → place < length merges
+    → (list other : List Show) → other ≡ list → place < length list
+    → All (ShowsAmong (length sinks)) list → (reach number : ℤ) → number ≡ reach
+    → (default : Show) (test : Bool)
+    → IsTrue test ↔ ShowsPlaced sinks order (length sinks + place) number
+    (get_or other place default)
+    → IsTrue test ↔ IsSomeAnd (slice_get list place)
+    (ShowsMerge sinks (numbers_below (length sinks) merges (length sinks + place)) reach)
+tells_merge sinks merges order is place low list other same within among reach number plain
+    default test tells =
+    let node = length sinks + place in
+    let read = subst (λ list. IsTrue test ↔ ShowsPlaced sinks order node number
+    (get_or list place default)) same tells in
+    let placed = subst (λ z. IsTrue test ↔ ShowsPlaced sinks order node z
+    (get_or list place default)) plain read in
+    let both = placed_shows sinks merges order is node (omega arith) reach
+    (get_or list place default) (among place default within) in
+    tells_found (ShowsMerge sinks (numbers_below (length sinks) merges node) reach) list place
+    default test within
+    (λ holds. both.0 (placed.0 holds), λ shown. placed.1 (both.1 shown))
+
+-- and of the source's
+pub tells_source : (sinks : List Sink) (source : Uv) (place : ℕ) (list other : List Show)
+    → other ≡ list → place < length list → (root reach top number : ℤ) → top ≡ root
+    → number ≡ reach → (default : Show) (test : Bool)
+    → IsTrue test ↔ ShowsSource sinks source top number (get_or other place default)
+    → IsTrue test ↔ IsSomeAnd (slice_get list place) (ShowsSource sinks source root reach)
+tells_source sinks source place list other same within root reach top number root_is reach_is
+    default test tells =
+    let read = subst (λ list. IsTrue test ↔ ShowsSource sinks source top number
+    (get_or list place default)) same tells in
+    let at_root = subst (λ z. IsTrue test ↔ ShowsSource sinks source z number
+    (get_or list place default)) root_is read in
+    tells_found (ShowsSource sinks source root reach) list place default test within
+    (subst (λ z. IsTrue test ↔ ShowsSource sinks source root z (get_or list place default))
+    reach_is at_root)
+
+-- a number of a list, as the code keeps it
+pub kept_at : (list other : List ℤ) (place : ℕ) → other ≡ list → All (IsBelow (10 ^ 32)) list
+    → place < length list
+    → to_z w128 (of_z w128 (get_or other place (pos 0))) ≡ get_or list place (pos 0)
+kept_at list other place same small within =
+    let below = small place (pos 0) within in
+    ap (λ list. to_z w128 (of_z w128 (get_or list place (pos 0)))) same
+    ∙ to_z-of_z w128 (get_or list place (pos 0)) (omega (arith, ints, below.above, below.below))

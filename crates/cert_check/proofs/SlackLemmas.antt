@@ -1,0 +1,195 @@
+-- What true slacks say of the period, and of those that are printed.
+use Rattle.std.proofs.Common.{◌≡◌, ◌<◌, ◌↔◌, ◌*◌, ◌/◌, ℕ, suc, ℤ, pos, negsuc, ◌-ℤ◌, ◌*ℤ◌, ◌≤ℤ◌, List, length, get_or, Option, Some, None, sym, ap, subst, ◌∙◌, arith}
+use Rattle.std.specs.Prelude.{nat_abs}
+use Rattle.std.proofs.Math.Nat.{mul-div_cancel, mul_right_comm}
+use Rattle.std.proofs.lemmas.Int.{ints}
+use Rattle.std.proofs.lemmas.Option.{slice_get-get_or}
+use Rattle.cts_base.specs.declared.fraction.Fraction.{Fraction}
+use Rattle.cts_base.proofs.OneFraction.{one_fraction, other_sign}
+use Rattle.cts_model.specs.declared.circuit.Circuit.{Circuit}
+use Rattle.cts_model.specs.declared.schedule.Schedule.{Schedule}
+use Rattle.cts_model.specs.declared.schedule.Slack.{Slack}
+use Rattle.cts_model.specs.declared.tech.Tech.{Tech}
+use Rattle.cts_model.specs.Judgements.{HasSlack, MeetsAt}
+use Rattle.cts_model.specs.Paths.{IsPath}
+use Rattle.cts_model.specs.Schedules.{arrival_of}
+use Rattle.cts_model.specs.Slacks.{AreSlacks, IsSlack, IsSlackOf, hold_spare, setup_spare}
+use Rattle.cert_check.specs.ComparedSlacks.{AreOneSlack, HasOneSlack, HasRoom, IsFromZero, SparesTime}
+
+-- ---- fractions that are numbers over a scale
+
+-- a factor that isn't 0 cancels
+cancel : (a b scale : ℕ) → 0 < scale → a * scale ≡ b * scale → a ≡ b
+cancel a b scale some same =
+    sym (mul-div_cancel a some) ∙ ap (λ n. n / scale) same ∙ mul-div_cancel b some
+
+-- two fractions that are one number over a scale have one value
+one_size : (scale a b c d least : ℕ) → 0 < scale → a * scale ≡ least * b → c * scale ≡ least * d
+    → a * d ≡ c * b
+one_size scale a b c d least some one other = cancel (a * d) (c * b) scale some
+    (mul_right_comm a d scale ∙ ap (λ n. n * d) one ∙ mul_right_comm least b d
+    ∙ sym (mul_right_comm c b scale ∙ ap (λ n. n * b) other))
+
+one_value : (scale : ℕ) (a b c d least : ℤ) → 0 < scale → pos 1 ≤ℤ b → pos 1 ≤ℤ d
+    → a *ℤ pos scale ≡ least *ℤ b → c *ℤ pos scale ≡ least *ℤ d → a *ℤ d ≡ c *ℤ b
+one_value scale (pos a) (pos b) (pos c) (pos d) (pos l) some some_b some_d one other =
+    let same = one_size scale a b c d l some (omega (arith, ints, one)) (omega (
+      arith,
+      ints,
+      other,
+    )) in
+    omega (arith, ints, same)
+one_value scale (negsuc a) (pos b) (negsuc c) (pos d) (negsuc l) some some_b some_d one other =
+    let same = one_size scale (suc a) b (suc c) d (suc l) some (omega (arith, ints, one))
+    (omega (arith, ints, other)) in
+    omega (arith, ints, same)
+one_value scale (pos a) (pos b) c d (negsuc l) some some_b some_d one other =
+    absurd (other_sign a scale l b (omega (arith, ints, some_b)) one)
+one_value scale (negsuc a) (pos b) c d (pos l) some some_b some_d one other =
+    absurd (other_sign l b a scale some (sym one))
+one_value scale a b (pos c) (pos d) (negsuc l) some some_b some_d one other =
+    absurd (other_sign c scale l d (omega (arith, ints, some_d)) other)
+one_value scale a b (negsuc c) (pos d) (pos l) some some_b some_d one other =
+    absurd (other_sign l d c scale some (sym other))
+one_value scale a (negsuc b) c d l some some_b some_d one other = absurd (omega (
+  arith,
+  ints,
+  some_b,
+))
+one_value scale a b c (negsuc d) l some some_b some_d one other = absurd (omega (
+  arith,
+  ints,
+  some_d,
+))
+
+-- a fraction isn't below 0 exactly where the number isn't
+from_zero : (scale : ℕ) (num den least : ℤ) → 0 < scale → pos 1 ≤ℤ den
+    → num *ℤ pos scale ≡ least *ℤ den → (pos 0 ≤ℤ num) ↔ (pos 0 ≤ℤ least)
+from_zero scale (pos a) (pos b) (pos l) some some_b one =
+    (λ _. omega (arith, ints), λ _. omega (arith, ints))
+from_zero scale (negsuc a) (pos b) (negsuc l) some some_b one =
+    (λ low. absurd (omega (arith, ints, low)), λ low. absurd (omega (arith, ints, low)))
+from_zero scale (pos a) (pos b) (negsuc l) some some_b one =
+    absurd (other_sign a scale l b (omega (arith, ints, some_b)) one)
+from_zero scale (negsuc a) (pos b) (pos l) some some_b one =
+    absurd (other_sign l b a scale some (sym one))
+from_zero scale a (negsuc b) l some some_b one = absurd (omega (arith, ints, some_b))
+
+-- the scale of a period isn't 0
+some_scale : (den : ℤ) → pos 1 ≤ℤ den → 0 < nat_abs den
+some_scale (pos n) some = omega (arith, ints, some)
+some_scale (negsuc n) some = absurd (omega (arith, ints, some))
+
+-- ---- slacks of a register
+
+module _ (circuit : Circuit) (scale : ℕ) (some : 0 < scale)
+    (spare : (from to : ℕ) (path : List ℕ) → ℤ) (to : ℕ) where
+  -- no path spares less than nothing exactly where the slack isn't below 0
+  spares : (slack : Option Fraction) → IsSlackOf circuit scale spare to slack
+      → IsFromZero slack
+      ↔ ((from : ℕ) (path : List ℕ) → IsPath circuit from to path → pos 0 ≤ℤ spare from to path)
+  spares None is = (λ _ from path joins. absurd (is from path joins), λ _. tt)
+  spares (Some slack) (least, shown, value) =
+      let sign = from_zero scale slack.num slack.den least some slack.lowest.some_den value in (
+        λ low from path joins.
+            let first = sign.0 low in
+            let second = shown.each from path joins in
+            omega (arith, ints, first, second),
+        λ each. sign.1
+            (subst (λ z. pos 0 ≤ℤ z) shown.shown (each shown.from shown.path shown.joins)),
+      )
+
+  -- a slack is right exactly where it is the true one
+  one_slack : (slack own : Option Fraction) → IsSlackOf circuit scale spare to own
+      → AreOneSlack slack own ↔ IsSlackOf circuit scale spare to slack
+  one_slack None None is = (λ _. is, λ _. tt)
+  one_slack None (Some own) (least, shown, value) =
+      (λ none. absurd none, λ none. absurd (none shown.from shown.path shown.joins))
+  one_slack (Some slack) None is = (
+    λ none. absurd none,
+    λ (least, shown, value). absurd (is shown.from shown.path shown.joins),
+  )
+  one_slack (Some slack) (Some own) (least, shown, value) = (
+    λ (num, den). (
+      least,
+      shown,
+      ap (λ z. z *ℤ pos scale) num ∙ value ∙ ap (λ z. least *ℤ z) (sym den),
+    ),
+    λ (low, lowest, is).
+        let first = lowest.each shown.from shown.path shown.joins in
+        let second = shown.each lowest.from lowest.path lowest.joins in
+        let same : low ≡ least =
+        omega (arith, ints, first, second, shown.shown, lowest.shown) in
+        one_fraction slack.num slack.den own.num own.den slack.lowest own.lowest
+        (one_value scale slack.num slack.den own.num own.den least some slack.lowest.some_den
+        own.lowest.some_den (is ∙ ap (λ z. z *ℤ slack.den) same) value),
+  )
+
+-- what is left isn't below 0 exactly where the one isn't above the other
+not_below : (one other : ℤ) → (pos 0 ≤ℤ (other -ℤ one)) ↔ (one ≤ℤ other)
+not_below one other = (λ left. omega (arith, ints, left), λ low. omega (arith, ints, low))
+
+-- ---- slacks of all registers
+
+module _ (circuit : Circuit) (tech : Tech) (period : Fraction) (at : List ℤ) (register : ℕ)
+    (own : Slack)
+    (is : IsSlack circuit tech (nat_abs period.den) period.num (arrival_of at) register own) where
+  -- the scale isn't 0
+  some : 0 < nat_abs period.den
+  some = some_scale period.den period.lowest.some_den
+
+  -- paths meet the period exactly where neither slack is below 0
+  room_meets : HasRoom own ↔ MeetsAt circuit tech period at register
+  room_meets =
+      let setup = spares circuit (nat_abs period.den) some
+      (setup_spare circuit tech (nat_abs period.den) period.num (arrival_of at)) register own.setup
+      is.setup in
+      let hold = spares circuit (nat_abs period.den) some
+      (hold_spare circuit tech (nat_abs period.den) (arrival_of at)) register own.hold is.hold in (
+        λ room. record {
+          setup = λ from path joins. (not_below _ _).0 (setup.0 room.0 from path joins);
+          hold = λ from path joins. (not_below _ _).0 (hold.0 room.1 from path joins);
+        },
+        λ meets. (
+          setup.1 (λ from path joins. (not_below _ _).1 (meets.setup from path joins)),
+          hold.1 (λ from path joins. (not_below _ _).1 (meets.hold from path joins)),
+        ),
+      )
+
+  -- other slacks are right exactly where they are these
+  same_slack : (slack : Slack)
+      → (AreOneSlack slack.setup own.setup × AreOneSlack slack.hold own.hold)
+      ↔ IsSlack circuit tech (nat_abs period.den) period.num (arrival_of at) register slack
+  same_slack slack =
+      let setup = one_slack circuit (nat_abs period.den) some
+      (setup_spare circuit tech (nat_abs period.den) period.num (arrival_of at)) register
+      slack.setup own.setup is.setup in
+      let hold = one_slack circuit (nat_abs period.den) some
+      (hold_spare circuit tech (nat_abs period.den) (arrival_of at)) register slack.hold own.hold
+      is.hold in (
+        λ both. record { setup = setup.0 both.0; hold = hold.0 both.1 },
+        λ right. (setup.1 right.setup, hold.1 right.hold),
+      )
+
+module _ (circuit : Circuit) (tech : Tech) (period : Fraction) (schedule : Schedule)
+    (slacks : List Slack) (are : AreSlacks circuit tech period schedule slacks) (register : ℕ)
+    (within : register < length slacks) where
+  -- so it is by the list of all slacks
+  pub spares_meets : SparesTime slacks register ↔ MeetsAt circuit tech period schedule.at register
+  spares_meets =
+      let none : Slack = record { setup = None; hold = None } in
+      let here = slice_get-get_or slacks register none within in
+      rw here (room_meets circuit tech period schedule.at register (get_or slacks register none)
+      (are.each register (get_or slacks register none) here))
+
+  -- and printed slacks are right exactly where they are the same
+  pub same_right : (printed : List Slack) → register < length printed
+      → HasOneSlack printed slacks register
+      ↔ HasSlack circuit tech period schedule.at printed register
+  same_right printed within' =
+      let none : Slack = record { setup = None; hold = None } in
+      let here = slice_get-get_or slacks register none within in
+      let there = slice_get-get_or printed register none within' in
+      rw (there, here) (same_slack circuit tech period schedule.at register
+      (get_or slacks register none) (are.each register (get_or slacks register none) here)
+      (get_or printed register none))

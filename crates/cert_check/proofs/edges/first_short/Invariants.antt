@@ -1,0 +1,7 @@
+use Rattle.cts_model.specs.Embeddings.{embedding_of}
+use Rattle.cts_model.specs.Shown.{AtEach}
+use Rattle.cert_check.specs.EmbeddingParts.{ReachesAt}
+use Rattle.cert_check.proofs.edges.first_short.Given as goal
+
+abbrev pub invariant-loop-edge : goal.invariant-loop-edge
+invariant-loop-edge l = AtEach l.edge (ReachesAt (embedding_of l.tree) l.parents)

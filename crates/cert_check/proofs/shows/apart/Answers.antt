@@ -1,0 +1,13 @@
+-- The greater of two differences.
+use Rattle.std.proofs.Common.{arith}
+use Rattle.std.proofs.lemmas.Int.{ints, clamps}
+use Rattle.cert_check.proofs.shows.apart.Goals as goal
+
+pub returns-clause-value : goal.returns-clause-value
+returns-clause-value c = omega (arith, ints, clamps)
+
+pub returns-clause-below : goal.returns-clause-below
+returns-clause-below c = record {
+  above = omega (arith, ints, clamps);
+  below = omega (arith, ints, clamps);
+}

@@ -1,0 +1,28 @@
+use Rattle.std.proofs.Common.{◌≡◌, ◌<◌, ◌^◌, length, pos, get_or, to_z, of_z, subst, sym, arith}
+use mir.Syntax.{w128}
+use Rattle.std.proofs.lemmas.Int.{ints}
+use Rattle.cts_model.specs.Points.{IsBelow}
+use Rattle.cts_model.proofs.GridLemmas.{sinks_of_more}
+use Rattle.cert_check.proofs.sinks.sinks_at.Goals as goal
+
+pub sink_of-requires-clause-small : goal.sink_of-requires-clause-small
+sink_of-requires-clause-small c =
+    let register = c.loop-register.register in
+    let there : register < length c.args.arrivals.now =
+    omega (arith, c.requires.all, c.loop-register-test.true) in
+    let small = c.requires.small register (pos 0) there in
+    let plain : to_z w128 (of_z w128 (get_or c.args.arrivals.now register (pos 0)))
+    ≡ get_or c.args.arrivals.now register (pos 0) = omega (arith, ints, small) in
+    subst (IsBelow (10 ^ 19)) (sym plain) small
+
+pub loop-register-preserved : goal.loop-register-preserved
+loop-register-preserved c =
+    let register = c.loop-register.register in
+    let there : register < length c.args.arrivals.now =
+    omega (arith, c.requires.all, c.loop-register-test.true) in
+    let small = c.requires.small register (pos 0) there in
+    let plain : to_z w128 (of_z w128 (get_or c.args.arrivals.now register (pos 0)))
+    ≡ get_or c.args.arrivals.now register (pos 0) = omega (arith, ints, small) in
+    rw (c.in_ok-push.ensures.items, c.loop-register.invariant, c.sink_of.ensures, plain)
+    (sym (sinks_of_more c.args.period c.args.tech.now c.args.places.now c.args.arrivals.now
+    register (record { x = pos 0; y = pos 0 }) (pos 0) c.loop-register-test.true there))

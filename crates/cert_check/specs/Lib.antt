@@ -1,0 +1,13 @@
+pub mod ComparedSlacks
+pub mod CyclePlaces
+pub mod CycleSums
+pub mod Earliest
+pub mod GivenConstraints
+pub mod Judged
+pub mod ReachParts
+pub mod SinkOrders
+pub mod Verdicts
+pub mod Parents
+pub mod DrawnParts
+pub mod EmbeddingParts
+pub mod WalkedPaths

@@ -1,0 +1,83 @@
+-- What the judgement of reaches stands on, and what it compares in one tree. Boese and Kahng 1992;
+-- Chao and others 1992.
+use Rattle.std.specs.Prelude.{◌≡◌, ◌≤◌, ◌+◌, ◌*◌, ◌^◌, ℕ, ℤ, ◌+ℤ◌, ◌-ℤ◌, List, length, All, IfSome, IsSomeAnd, slice_get}
+use Rattle.cts_model.specs.declared.place.Sink.{Sink}
+use Rattle.cts_model.specs.declared.place.Uv.{Uv}
+use Rattle.cts_model.specs.declared.report.Report.{Report}
+use Rattle.cts_model.specs.declared.tree.Show.{Show}
+use Rattle.cts_model.specs.declared.tree.Show.TheVariants as shows
+use Rattle.cts_model.specs.declared.tree.Tree.{Tree}
+use Rattle.cts_model.specs.Points.{IsBelow, IsUvBelow}
+use Rattle.cts_model.specs.Regions.{span}
+use Rattle.cts_model.specs.ReportBounds.{ShowsAmong}
+use Rattle.cts_model.specs.ReportLines.{number_at}
+use Rattle.cts_model.specs.ShownReaches.{ShowsMerge, ShowsSource}
+use Rattle.cts_model.specs.Topologies.{IsTopology, numbers_below, root_of, source_of}
+use Rattle.cert_check.specs.declared.order.SinkOrder.{SinkOrder}
+use Rattle.cert_check.specs.SinkOrders.{IsPlaced}
+
+-- a sink of a problem, in grid steps
+pub record IsSmallSink (sink : Sink) : Type 0 where
+  pub at : IsUvBelow (10 ^ 31) sink.at
+  pub offset : IsBelow (10 ^ 32) sink.offset
+
+-- the merges are a topology of the sinks, and the lists have a small entry for each node
+pub record HasReachParts (sinks : List Sink) (report : Report) : Type 0 where
+  pub few : length sinks ≤ 4097
+  pub topology : IsTopology (length sinks) report.topology.merges
+  pub lengths : length report.tree.length + 1 ≡ 2 * length sinks
+  pub reaches : length report.tree.reach ≡ 2 * length sinks
+  pub shows : length report.shows ≡ length sinks
+  pub named : All (ShowsAmong (length sinks)) report.shows
+  pub small_lengths : All (IsBelow (10 ^ 32)) report.tree.length
+  pub small_reaches : All (IsBelow (10 ^ 32)) report.tree.reach
+  pub small_sinks : All IsSmallSink sinks
+
+-- with this wire down to each node, those to a register and to the first one differ as their
+-- offsets do
+abbrev pub IsLevel : List Sink → (wire : ℕ → ℤ) → (register : ℕ) → Type 0
+IsLevel sinks wire register = IfSome (slice_get sinks register)
+    (λ sink. IfSome (slice_get sinks 0)
+    (λ first. wire register -ℤ wire 0 ≡ first.offset -ℤ sink.offset))
+
+-- the edge down to the lower node is as long as the two reaches differ
+abbrev pub IsReachOver : Tree → (node below : ℕ) → Type 0
+IsReachOver tree node below =
+    number_at tree.length below ≡ number_at tree.reach node -ℤ number_at tree.reach below
+
+-- so it is from a merge's node down to both that it joins, and its show gives its reach
+pub record IsMergeShown (sinks : List Sink) (report : Report) (place : ℕ) : Type 0 where
+  pub first : IfSome (slice_get report.topology.merges place)
+      (λ merge. IsReachOver report.tree (length sinks + place) merge.first)
+  pub second : IfSome (slice_get report.topology.merges place)
+      (λ merge. IsReachOver report.tree (length sinks + place) merge.second)
+  pub shown : IsSomeAnd (slice_get report.shows place) (ShowsMerge sinks
+      (numbers_below (length sinks) report.topology.merges (length sinks + place))
+      (number_at report.tree.reach (length sinks + place)))
+
+-- and from the source down to the root
+pub record IsSourceShown (sinks : List Sink) (source : Uv) (report : Report) : Type 0 where
+  pub root : IsReachOver report.tree (source_of (length sinks)) (root_of (length sinks))
+  pub shown : IsSomeAnd (slice_get report.shows (length report.topology.merges))
+      (ShowsSource sinks source (number_at report.tree.reach (root_of (length sinks)))
+      (number_at report.tree.reach (source_of (length sinks))))
+
+-- two sinks, in order, are placed below the node
+pub record ArePlaced (order : SinkOrder) (node first second : ℕ) : Type 0 where
+  pub ordered : first ≤ second
+  pub first_below : IsPlaced order node first
+  pub second_below : IsPlaced order node second
+
+-- and twice the reach is their span
+pub record IsPairPlaced (sinks : List Sink) (order : SinkOrder) (node : ℕ) (reach : ℤ)
+    (first second : ℕ) : Type 0 where
+  pub placed : ArePlaced order node first second
+  pub value : IsSomeAnd (slice_get sinks first) (λ one. IsSomeAnd (slice_get sinks second)
+      (λ other. reach +ℤ reach ≡ span one other))
+
+-- such a pair shows the node's reach
+abbrev pub ShowsPlaced : List Sink → SinkOrder → (node : ℕ) → (reach : ℤ) → Show → Type 0
+ShowsPlaced sinks order node reach (shows.Pair first second) =
+    IsPairPlaced sinks order node reach first second
+ShowsPlaced sinks order node reach (shows.Sink register) = ⊥
+ShowsPlaced sinks order node reach shows.Root = ⊥

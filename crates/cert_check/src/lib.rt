@@ -1,0 +1,31 @@
+//! Checks a report: accepts it exactly where it shows that its period, its schedule and its wire
+//! are the least, whoever made it.
+#![tactic(auto)]
+
+mod below;
+mod checking;
+mod cycle;
+mod delay;
+mod down;
+mod drawn;
+mod earliest;
+mod edges;
+mod embedding;
+mod given_path;
+mod least;
+mod of_circuit;
+mod order;
+mod parents;
+mod path;
+mod period;
+mod product;
+mod reaches;
+mod shape;
+mod shows;
+mod sinks;
+mod slacks;
+mod value;
+mod verdict;
+
+pub use checking::check;
+pub use verdict::{Reason, Verdict};

@@ -1,0 +1,31 @@
+ghost use Rattle.std.specs.Prelude.{◌≡◌, ◌↔◌, ◌^◌, ◌-ℤ◌, ◌*ℤ◌, IsTrue};
+ghost use Rattle.cts_model.specs.Points.{IsBelow};
+
+/// The product of two numbers.
+pub(crate) fn product(a: i128, b: i128) -> i128
+    requires a { IsBelow (10 ^ 18) a }
+    requires b { IsBelow (10 ^ 18) b }
+    ensures value { result ≡ a *ℤ b }
+    ensures small { IsBelow (10 ^ 37) result }
+{
+    a * b
+}
+
+/// What one number is more than another.
+pub(crate) fn difference(number: i128, other: i128) -> i128
+    requires number { IsBelow (10 ^ 37) number }
+    requires other { IsBelow (10 ^ 37) other }
+    ensures value { result ≡ number -ℤ other }
+    ensures small { IsBelow (10 ^ 38) result }
+{
+    number - other
+}
+
+/// Whether two numbers are one.
+pub(crate) fn are_same(number: i128, other: i128) -> bool
+    requires number { IsBelow (10 ^ 38) number }
+    requires other { IsBelow (10 ^ 38) other }
+    ensures { IsTrue result ↔ (number ≡ other) }
+{
+    number == other
+}

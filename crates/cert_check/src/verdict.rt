@@ -1,0 +1,45 @@
+/// What a report comes to.
+#[derive(Clone, Copy, Debug, PartialEq, Eq)]
+pub enum Verdict {
+    /// It shows what it says.
+    Shown,
+    /// It doesn't, for this reason.
+    Not(Reason),
+}
+
+/// Why a report doesn't show what it says, in the order in which the reasons are judged. A place of
+/// the cycle is counted from 0; registers and nodes have their numbers, and an edge has that of its
+/// lower node.
+#[derive(Clone, Copy, Debug, PartialEq, Eq)]
+pub enum Reason {
+    /// The period is below the floor of the delay table.
+    BelowFloor,
+    /// At this place of the cycle the constraint doesn't end where the next one begins, or begins
+    /// where an earlier one does.
+    CycleBroken(u32),
+    /// The constraint at this place of the cycle isn't one of the circuit.
+    NotOfCircuit(u32),
+    /// The cycle doesn't give the period, or it isn't the floor that is printed.
+    CycleValue,
+    /// A path that ends at this register misses setup or hold.
+    ScheduleMisses(u32),
+    /// This merge doesn't join two nodes that are there, the lower first; or this sink or the
+    /// source isn't at its given place.
+    TreeShape(u32),
+    /// This edge is shorter than the distance of its ends.
+    TooShort(u32),
+    /// The points of this edge aren't those of a wire of its length between its ends.
+    WireSum(u32),
+    /// The wires down to this register and to the first one don't differ as scheduled.
+    SkewDiffers(u32),
+    /// The reach of this merge or of the source isn't the printed one, or its show doesn't give it.
+    Unshown(u32),
+    /// The printed wire isn't the sum of the lengths.
+    Total,
+    /// A slack of this register differs.
+    SlackDiffers(u32),
+    /// The path at this place of the cycle doesn't give the constraint its weight.
+    PathBroken(u32),
+    /// The arrival at this register is negative, or its lead doesn't show that none is earlier.
+    NotLeast(u32),
+}
