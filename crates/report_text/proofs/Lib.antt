@@ -1,5 +1,7 @@
+mod PlainWords
 mod GridLemmas
 mod LineLemmas
+mod NumberWords
 mod OneField
 pub mod OneLine
 mod OneList
@@ -8,4 +10,26 @@ mod OneRecord
 mod OneTiming
 mod OneTree
 pub mod ReportWords
+mod TreeValues
 mod WordBytes
+mod NameNumbers
+mod RegisterNames
+pub mod FlawLemmas
+mod NamedRegisters
+mod FractionFlaws
+mod CoprimeFactors
+mod FieldWords
+mod TimingTold
+mod TimingFlawless
+mod LineCuts
+mod WalkLemmas
+mod LineReading
+mod FlawlessReport
+mod WholeTexts
+mod ToldForms
+mod SectionLemmas
+mod HeadingLemmas
+mod BodyLemmas
+mod PartLemmas
+mod AssemblyLemmas
+mod PartsTold

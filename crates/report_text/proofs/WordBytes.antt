@@ -22,7 +22,7 @@ use Rattle.cts_model.specs.ReportLines.{signal_name}
 use Rattle.report_text.proofs.OneLine.{IsWord}
 
 -- both of two tests pass
-both : (a b : Bool) → (a && b) ≡ true → (a ≡ true) × (b ≡ true)
+pub both : (a b : Bool) → (a && b) ≡ true → (a ≡ true) × (b ≡ true)
 both true b pass = (refl, pass)
 both false b pass = absurd (true≢false (sym pass))
 

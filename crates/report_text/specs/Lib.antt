@@ -1,2 +1,17 @@
 pub mod Laws
 pub mod Pieces
+pub mod Keywords
+pub mod Fields
+pub mod Forms
+pub mod ReportFaults
+pub mod Values
+pub mod NamesOf
+pub mod TimingValues
+pub mod FlawOrder
+pub mod JudgedFractions
+pub mod Walks
+pub mod Sections
+pub mod Headings
+pub mod Bodies
+pub mod Parts
+pub mod ToldReports

@@ -1,8 +1,14 @@
 //! What the texts of reports keep: a function's clauses are laws, and its body is empty.
 
-ghost use Rattle.report_text.specs.Laws.{OneReport};
+ghost use Rattle.report_text.specs.Laws.{OneReport, OneFault, NoFaultOfReport};
 
 /// A text spells at most one report.
 pub fn one_report()
     ensures { OneReport }
+{}
+
+/// As a report a text has one fault at the most, and none where it spells one.
+pub fn faults()
+    ensures one { OneFault }
+    ensures none { NoFaultOfReport }
 {}

@@ -1,14 +1,33 @@
 //! The report of a clock tree as a text.
 #![tactic(auto)]
 
+mod assembly;
+mod cursor;
+mod fault;
+mod field;
+mod form;
+mod forms;
+mod grid;
+mod judging;
+mod known;
 pub mod laws;
 mod line;
+mod name_set;
+mod names;
+mod number;
 mod period;
+mod reader;
 mod report;
+mod sections;
 mod timing;
+mod timing_values;
 mod tree;
+mod tree_values;
+mod words;
 
+pub use fault::ReportFault;
 pub use line::{push_constraint, push_count, push_line, push_line_for, push_value};
 pub use period::{push_cycle, push_period, push_show};
+pub use reader::read_report;
 pub use report::write_report;
 pub use timing::push_register;

@@ -122,8 +122,8 @@ fn push_signals(out: &mut Vec<u8>, circuit: &Circuit, path: &[u32]) -> Result<()
     Ok(())
 }
 
-// The bytes of a signal's name.
-fn signal_name(circuit: &Circuit, number: usize) -> &[u8]
+/// The bytes of a signal's name.
+pub(crate) fn signal_name(circuit: &Circuit, number: usize) -> &[u8]
     requires { number < length circuit.now.signals }
     ensures { result.now ≡ signal_name circuit.now number }
 {

@@ -1,0 +1,255 @@
+-- What is wrong with a word that is to be a fraction, by what is read of it.
+use Rattle.std.proofs.Common.{◌≡◌, ◌↔◌, ◌^◌, ℕ, ℤ, pos, negsuc, ◌*ℤ◌, ◌+ℤ◌, ◌≤ℤ◌, ◌<ℤ◌, Bool, true, false, IsTrue, inl, inr, List, Option, Some, None, refl, sym, subst, arith, codes}
+use Rattle.std.specs.Int.RustNames.{int_div, int_rem}
+use Rattle.std.proofs.lemmas.Int.{ints}
+use Rattle.cts_base.specs.Fractions.{IsLowest, fraction_text}
+use Rattle.cts_base.specs.NumberTexts.{SpellsQuotient, HaveSmallSizes, IsLargeQuotient, IsNoFraction, RefusesFraction, kept_size}
+use Rattle.cts_base.specs.declared.fraction.Fraction.{Fraction}
+use Rattle.cts_base.specs.declared.number.NumberFault.{NumberFault}
+use Rattle.cts_base.specs.declared.number.NumberFault.TheVariants.{NotNumber, TooFine, TooLarge}
+use Rattle.cts_base.proofs.FractionReading.{few_digits}
+use Rattle.cts_base.proofs.OneSpelling.{fraction_spelled, one_quotient, quotient_some}
+use Rattle.cts_model.specs.declared.circuit.Circuit.{Circuit}
+use Rattle.report_text.specs.declared.field.Field.TheVariants.{Period, Slack, Steps}
+use Rattle.report_text.specs.declared.field.Flaw.{Flaw}
+use Rattle.report_text.specs.declared.field.Flaw.TheVariants.{Form, Unknown, Unfit, Large}
+use Rattle.report_text.specs.Fields.{AreFewSteps, AreSteps, IsFormed, IsFractionForm, IsWholeSteps, WordHasFlaw}
+use Rattle.report_text.specs.FlawOrder.{large_flaw}
+use Rattle.report_text.specs.JudgedFractions.{HasStepsFlaw, IsNegativeQuotient, fault_flaw}
+use Rattle.report_text.proofs.CoprimeFactors.{divides_steps, one_number_of_steps, steps_are}
+
+-- ---- what is read
+
+-- a fraction that is read is spelled as a quotient
+pub read_quotient_is : (text : List ℕ) (fraction : Fraction)
+    → HaveSmallSizes fraction.num fraction.den
+    → text ≡ fraction_text fraction.num fraction.den
+    → SpellsQuotient text fraction.num fraction.den
+read_quotient_is text fraction small same =
+    let lowest = fraction.lowest in
+    fraction_spelled text fraction.num fraction.den (few_digits fraction.num small.0)
+    (few_digits fraction.den small.1) lowest.some_den same
+
+-- and a fault that is told is one of the text
+pub refused : (text : List ℕ) (fault : NumberFault)
+    → ((fault ≡ NotNumber) → IsNoFraction text) → ((fault ≡ TooLarge) → IsLargeQuotient text)
+    → ((fault ≡ TooFine) → ⊥) → RefusesFraction text fault
+refused text NotNumber none large fine = none refl
+refused text TooFine none large fine = fine refl
+refused text TooLarge none large fine = large refl
+
+-- ---- of a quotient that is spelled
+
+module _ (text : List ℕ) (num den : ℤ) (spells : SpellsQuotient text num den) where
+  -- what holds of it holds of each quotient that the text spells
+  of_each : (Holds : ℤ → ℤ → Type 0) → Holds num den → (num' den' : ℤ)
+      → SpellsQuotient text num' den' → Holds num' den'
+  of_each Holds holds num' den' spells' =
+      let both = one_quotient text num den num' den' spells spells' in
+      subst (λ d. Holds num' d) both.1 (subst (λ n. Holds n den) both.0 holds)
+
+  -- a small quotient in lowest terms, by what is wrong with its number of steps
+  pub steps_told : (over bound : ℤ) → HaveSmallSizes num den → IsLowest num den
+      → (flaw : Option Flaw) → HasStepsFlaw over bound num den flaw → (circuit : Circuit)
+      → WordHasFlaw circuit (Steps over bound) text flaw
+  steps_told over bound small lowest flaw has circuit = at flaw has
+    where
+      formed : IsFormed (Steps over bound) text
+      formed = (num, den, (spells, λ _. lowest))
+
+      whole : (steps : ℤ) × AreSteps over num den steps → IsWholeSteps over text
+      whole steps num' den' spells' small' =
+          of_each (λ n d. (s : ℤ) × AreSteps over n d s) steps num' den' spells'
+
+      few : ((steps : ℤ) → AreSteps over num den steps
+          → (bound ≤ℤ steps → ⊥) × ((steps +ℤ bound) ≤ℤ pos 0 → ⊥)) → AreFewSteps over bound text
+      few within num' den' spells' =
+          of_each (λ n d. HaveSmallSizes n d × ((steps : ℤ) → AreSteps over n d steps
+          → (bound ≤ℤ steps → ⊥) × ((steps +ℤ bound) ≤ℤ pos 0 → ⊥))) (small, within) num' den'
+          spells'
+
+      at : (flaw : Option Flaw) → HasStepsFlaw over bound num den flaw
+          → WordHasFlaw circuit (Steps over bound) text flaw
+      at None has = (formed, tt, whole has.2, few has.3)
+      at (Some Form) has = absurd (has tt)
+      at (Some Unknown) has = absurd (has.1 tt)
+      at (Some Unfit) has = (formed, tt, λ are. has.2 (are num den spells small))
+      at (Some Large) has = (formed, tt, whole has.2, λ are. has.3 (are num den spells).1)
+
+  -- a small quotient in lowest terms that is to be a period
+  pub period_told : HaveSmallSizes num den → IsLowest num den
+      → (IsNegativeQuotient text → ⊥) → (within : Bool)
+      → IsTrue within ↔ ((num <ℤ pos (10 ^ 18)) × (den ≤ℤ pos 4097)) → (circuit : Circuit)
+      → WordHasFlaw circuit Period text (large_flaw within)
+  period_told small lowest not_negative within is circuit = at within is
+    where
+      formed : IsFormed Period text
+      formed = (
+        num,
+        den,
+        (spells, λ _. lowest),
+        from_zero num (λ below. not_negative (num, den, spells, below)),
+      )
+        where
+          from_zero : (n : ℤ) → (n <ℤ pos 0 → ⊥) → pos 0 ≤ℤ n
+          from_zero n differs = grind (arith, ints)
+
+      at : (b : Bool) → IsTrue b ↔ ((num <ℤ pos (10 ^ 18)) × (den ≤ℤ pos 4097))
+          → WordHasFlaw circuit Period text (large_flaw b)
+      at true is = (
+        formed,
+        tt,
+        tt,
+        of_each (λ n d. (n <ℤ pos (10 ^ 18)) × (d ≤ℤ pos 4097)) (is.0 refl),
+      )
+      at false is = (
+        formed,
+        tt,
+        tt,
+        λ all. let bad : false ≡ true = is.1 (all num den spells) in cc,
+      )
+
+-- ---- of a text that is refused
+
+no_form : (text : List ℕ) → IsNoFraction text → (num den : ℤ) → IsFractionForm text num den → ⊥
+no_form text (inl none) num den form = none num den form.0
+no_form text (inr (num', den', spells', small', not_lowest)) num den form =
+    let both = one_quotient text num den num' den' form.0 spells' in
+    not_lowest (subst (λ d. IsLowest num' d) both.1 (subst (λ n. IsLowest n den) both.0
+    (form.1 (subst (λ d. HaveSmallSizes num d) (sym both.1)
+    (subst (λ n. HaveSmallSizes n den') (sym both.0) small')))))
+
+pub steps_refused : (over bound : ℤ) (text : List ℕ) (fault : NumberFault)
+    → RefusesFraction text fault → (circuit : Circuit)
+    → WordHasFlaw circuit (Steps over bound) text (Some (fault_flaw fault))
+steps_refused over bound text NotNumber none circuit =
+    λ form. no_form text none form.0 form.1 form.2
+steps_refused over bound text TooFine none circuit = absurd none
+steps_refused over bound text TooLarge (num, den, spells, large) circuit = (
+  (num, den, (spells, λ small. absurd (large small))),
+  tt,
+  λ num' den' spells' small'.
+      absurd (large (of_each text num' den' spells' HaveSmallSizes small' num den spells)),
+  λ few. large (few num den spells).0,
+)
+
+pub period_refused : (text : List ℕ) (fault : NumberFault) → RefusesFraction text fault
+    → (IsNegativeQuotient text → ⊥) → (circuit : Circuit)
+    → WordHasFlaw circuit Period text (Some (fault_flaw fault))
+period_refused text NotNumber none not_negative circuit =
+    λ form. no_form text none form.0 form.1 form.2
+period_refused text TooFine none not_negative circuit = absurd none
+period_refused text TooLarge (num, den, spells, large) not_negative circuit = (
+  (num, den, (spells, λ small. absurd (large small)), above),
+  tt,
+  tt,
+  λ all.
+      let within = all num den spells in
+      large (small num den above (quotient_some text num den spells) within.0 within.1),
+)
+  where
+    from_zero : (n : ℤ) → (n <ℤ pos 0 → ⊥) → pos 0 ≤ℤ n
+    from_zero n differs = grind (arith, ints)
+
+    above : pos 0 ≤ℤ num
+    above = from_zero num (λ below. not_negative (num, den, spells, below))
+
+    small : (n d : ℤ) → pos 0 ≤ℤ n → pos 1 ≤ℤ d → n <ℤ pos (10 ^ 18) → d ≤ℤ pos 4097
+        → HaveSmallSizes n d
+    small n d some some' few few' = (
+      record { above = omega (arith, ints, some); below = omega (arith, ints, few) },
+      record { above = omega (arith, ints, some'); below = omega (arith, ints, few') },
+    )
+
+-- a quotient below 0 is no period
+pub negative_refused : (text : List ℕ) → IsNegativeQuotient text → IsFormed Period text → ⊥
+negative_refused text (num, den, spells, below) (num', den', form, above) =
+    let below' = of_each text num den spells (λ n d. n <ℤ pos 0) below num' den' form.0 in
+    omega (arith, ints, above, below')
+
+-- whether a quotient is below 0 is told by the number that is kept of it
+pub negative_kept : (text : List ℕ) (num den kept : ℤ) (below : Bool)
+    → SpellsQuotient text num den → kept ≡ kept_size num → IsTrue below ↔ (kept <ℤ pos 0)
+    → IsTrue below ↔ IsNegativeQuotient text
+negative_kept text num den kept below spells is told = (
+  λ yes. (num, den, spells, kept_below num (subst (λ n. n <ℤ pos 0) is (told.0 yes))),
+  λ other. told.1 (subst (λ n. n <ℤ pos 0) (sym is) (below_kept num
+      (of_each text other.0 other.1 other.2 (λ n d. n <ℤ pos 0) other.3 num den spells))),
+)
+  where
+    kept_below : (n : ℤ) → kept_size n <ℤ pos 0 → n <ℤ pos 0
+    kept_below (pos n) below = absurd (omega (arith, ints, below))
+    kept_below (negsuc n) below = omega (arith, ints)
+
+    below_kept : (n : ℤ) → n <ℤ pos 0 → kept_size n <ℤ pos 0
+    below_kept (pos n) below = absurd (omega (arith, ints, below))
+    below_kept (negsuc n) below = omega (arith, ints)
+
+-- ---- slacks
+
+-- a word that isn't `-` has the flaw that it has as a number of steps
+pub slack_told : (over bound : ℤ) (text : List ℕ) → (text ≡ codes "-" → ⊥)
+    → (flaw : Option Flaw) (circuit : Circuit)
+    → WordHasFlaw circuit (Steps over bound) text flaw
+    → WordHasFlaw circuit (Slack over bound) text flaw
+slack_told over bound text differs None circuit has = (inr has.0, has.1, has.2, has.3)
+slack_told over bound text differs (Some Form) circuit has = at
+  where
+    at : IsFormed (Slack over bound) text → ⊥
+    at (inl dash) = differs dash
+    at (inr form) = has form
+slack_told over bound text differs (Some Unknown) circuit has = absurd (has.1 tt)
+slack_told over bound text differs (Some Unfit) circuit has = (inr has.0, has.1, has.2)
+slack_told over bound text differs (Some Large) circuit has = (inr has.0, has.1, has.2, has.3)
+
+-- ---- numbers of steps
+
+module _ (over bound : ℤ) (num den : ℤ) (lowest : IsLowest num den) where
+  -- a fraction whose denominator doesn't divide the steps of one
+  pub steps_unfit : (int_rem over den ≡ pos 0 → ⊥) → HasStepsFlaw over bound num den (Some Unfit)
+  steps_unfit rest =
+      (tt, tt, λ steps. rest (divides_steps over num den steps.0 lowest steps.1))
+
+  -- one whose denominator does
+  pub steps_fit : int_rem over den ≡ pos 0 → (within : Bool)
+      → IsTrue within ↔ (((num *ℤ int_div over den) <ℤ bound)
+      × (pos 0 <ℤ ((num *ℤ int_div over den) +ℤ bound)))
+      → HasStepsFlaw over bound num den (large_flaw within)
+  steps_fit none within is = at within is
+    where
+      number : (steps : ℤ) × AreSteps over num den steps
+      number = (num *ℤ int_div over den, steps_are over num den lowest.some_den none)
+
+      few : (n m : ℤ) → n ≡ m → n <ℤ bound → pos 0 <ℤ (n +ℤ bound)
+          → (bound ≤ℤ m → ⊥) × ((m +ℤ bound) ≤ℤ pos 0 → ⊥)
+      few n m same below above = (
+        λ past. omega (arith, ints, same, below, past),
+        λ past. omega (arith, ints, same, above, past),
+      )
+
+      less : (n m : ℤ) → (m ≤ℤ n → ⊥) → n <ℤ m
+      less n m differs = grind (arith, ints)
+
+      at : (b : Bool) → IsTrue b ↔ (((num *ℤ int_div over den) <ℤ bound)
+          × (pos 0 <ℤ ((num *ℤ int_div over den) +ℤ bound)))
+          → HasStepsFlaw over bound num den (large_flaw b)
+      at true is =
+          let within = is.0 refl in (
+            tt,
+            tt,
+            number,
+            λ steps are.
+                few (num *ℤ int_div over den) steps (one_number_of_steps over num den
+                (num *ℤ int_div over den) steps lowest.some_den number.1 are) within.0 within.1,
+          )
+      at false is = (
+        tt,
+        tt,
+        number,
+        λ all.
+            let within = all (num *ℤ int_div over den) number.1 in
+            let bad : false ≡ true = is.1 (
+              less (num *ℤ int_div over den) bound within.0,
+              less (pos 0) ((num *ℤ int_div over den) +ℤ bound) within.1,
+            ) in cc,
+      )

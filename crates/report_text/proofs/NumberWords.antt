@@ -1,0 +1,252 @@
+-- The word of a number and the number: whole numbers, and fractions that are whole steps.
+use Rattle.std.proofs.Common.{◌≡◌, ◌<◌, ◌≤◌, ◌*◌, ◌/◌, ◌^◌, ℕ, suc, ℤ, pos, negsuc, neg_ℤ, ◌+ℤ◌, ◌*ℤ◌, ◌≤ℤ◌, ◌<ℤ◌, nat_abs, List, Result, Ok, MatchResult, FitsSigned, of_z, to_z, refl, sym, ap, ap₂, ◌∙◌, subst, arith}
+use mir.Syntax.{w128}
+use Rattle.std.proofs.Math.Nat.{mul-div_cancel, mul-div_cancel'}
+use Rattle.std.proofs.lemmas.Int.{ints, quot_fits}
+use Rattle.std.specs.Fmt.{signed_decimal}
+use Rattle.std.specs.Int.{◌∣◌}
+use Rattle.std.specs.Int.RustNames.{int_div}
+use Rattle.cts_base.specs.declared.fraction.Fraction.{Fraction}
+use Rattle.cts_base.specs.declared.number.NumberFault.{NumberFault}
+use Rattle.cts_base.specs.Fractions.{HasSizeBelow, divisor_up_to, fraction_text, quotient_text}
+use Rattle.cts_base.specs.NumberTexts.{SpellsWhole, SpellsQuotient, HaveSmallSizes, kept_size}
+use Rattle.cts_base.proofs.FractionReading.{few_digits, held_same, kept_same}
+use Rattle.cts_base.proofs.GreatestDivisors.{up_to_second, quotient_text_is}
+use Rattle.cts_base.proofs.OneSpelling.{one_quotient, one_whole, whole_text, whole_spelled, quotient_text_spelled, fraction_spelled}
+use Rattle.cts_base.proofs.Quotients.{int_div-le, lowest_quotients, negative, quotient_is, same_value}
+use Rattle.cts_model.specs.Points.{IsBelow}
+use Rattle.report_text.proofs.CoprimeFactors.{one_number_of_steps}
+use Rattle.report_text.specs.Fields.{IsFractionForm, AreSteps, IsWholeSteps, AreFewSteps}
+use Rattle.report_text.specs.Values.{SpellsNumber, SpellsSteps}
+
+-- ---- whole numbers
+
+-- the word of a number below 10^37 in size is what a report has for it
+pub whole_word : (word : List ℕ) (value : ℤ) → HasSizeBelow (10 ^ 37) value
+    → SpellsWhole word value → word ≡ signed_decimal value
+whole_word word value small spells = whole_text word value (few_digits value small) spells
+
+-- and what a report has for such a number spells it
+pub spelled_whole : (value : ℤ) → HasSizeBelow (10 ^ 37) value
+    → SpellsWhole (signed_decimal value) value
+spelled_whole value small = whole_spelled value (few_digits value small)
+
+-- a number that 32 bits hold is such a number
+pub number_small : (number : ℕ) → number < 2 ^ 32 → HasSizeBelow (10 ^ 37) (pos number)
+number_small number small =
+    record { above = omega (arith, ints, small); below = omega (arith, ints, small) }
+
+-- the word of such a number spells it
+pub number_spelled : (word : List ℕ) (number : ℕ) → SpellsNumber word number
+    → SpellsWhole word (pos number)
+number_spelled word number spells =
+    subst (λ w. SpellsWhole w (pos number)) (sym spells.1)
+    (spelled_whole (pos number) (number_small number spells.0))
+
+-- ---- steps
+
+-- an i128 holds a number below 10^37 in size
+pub fits : (n : ℤ) → HasSizeBelow (10 ^ 37) n → FitsSigned w128 n
+fits (pos n) small = let below = small.below in record { sfits = omega (arith, ints, below) }
+fits (negsuc n) small = let above = small.above in record { sfits = omega (arith, ints, above) }
+
+-- a number that is no larger in size
+smaller : (bound : ℕ) (a b : ℤ) → nat_abs a ≤ nat_abs b → HasSizeBelow bound b
+    → HasSizeBelow bound a
+smaller bound (pos a) (pos b) less small =
+    let below = small.below in
+    record { above = omega (arith, ints, less, below); below = omega (arith, ints, less, below) }
+smaller bound (pos a) (negsuc b) less small =
+    let above = small.above in
+    record { above = omega (arith, ints, less, above); below = omega (arith, ints, less, above) }
+smaller bound (negsuc a) (pos b) less small =
+    let below = small.below in
+    record { above = omega (arith, ints, less, below); below = omega (arith, ints, less, below) }
+smaller bound (negsuc a) (negsuc b) less small =
+    let above = small.above in
+    record { above = omega (arith, ints, less, above); below = omega (arith, ints, less, above) }
+
+-- the word of a fraction that is so many steps is what a report has for those steps
+pub steps_word : (word : List ℕ) (over num den steps : ℤ) → pos 1 ≤ℤ over
+    → IsFractionForm word num den → HaveSmallSizes num den → AreSteps over num den steps
+    → word ≡ quotient_text steps over
+steps_word word over num den steps some form small are =
+    let fraction : Fraction = record { num = num; den = den; lowest = form.1 small } in
+    quotient_text_spelled word num den (few_digits num small.0) (few_digits den small.1) form.0
+    ∙ quotient_text_is steps over fraction some are
+
+-- a number is a divisor times what that divides it into
+exact : (number : ℤ) (divisor : ℕ) → divisor ∣ nat_abs number
+    → int_div number (pos divisor) *ℤ pos divisor ≡ number
+exact (pos n) divisor divides =
+    let back = mul-div_cancel' divisor divides in
+    ap pos (omega (arith, back))
+exact (negsuc n) divisor divides =
+    let back = mul-div_cancel' divisor divides in
+    let size : (suc n / divisor) * divisor ≡ suc n = omega (arith, back) in
+    negative (suc n / divisor) divisor ∙ ap (λ s. neg_ℤ (pos s)) size
+
+-- what a divisor divides a number into divides it into that divisor
+exact_back : (over divisor : ℕ) → pos 1 ≤ℤ pos (over / divisor) → divisor ∣ over
+    → over / (over / divisor) ≡ divisor
+exact_back over divisor some divides =
+    ap (λ n. n / (over / divisor)) (sym (mul-div_cancel' divisor divides))
+    ∙ mul-div_cancel divisor (omega (arith, ints, some))
+
+-- the fraction that a report has for so many steps
+pub record HasFraction (over steps num den : ℤ) : Type 0 where
+  pub form : IsFractionForm (quotient_text steps over) num den
+  pub small : HaveSmallSizes num den
+  pub some_den : pos 1 ≤ℤ den
+  pub are : AreSteps over num den steps
+  pub back : (num *ℤ int_div over den) ≡ steps
+
+-- what a report has for so many steps is a fraction, of that many steps
+pub spelled_steps : (over steps : ℤ) → pos 1 ≤ℤ over → HasSizeBelow (10 ^ 37) over
+    → HasSizeBelow (10 ^ 37) steps → (num : ℤ) × (den : ℤ) × HasFraction over steps num den
+unfolding quotient_text
+spelled_steps (negsuc over) steps some small small' = absurd (omega (arith, ints, some))
+spelled_steps (pos over) steps some small small' =
+    let divisor = divisor_up_to over (nat_abs steps) over in
+    let (least, greatest) = up_to_second (nat_abs steps) over (omega (arith, ints, some)) in
+    let positive : pos 1 ≤ℤ pos divisor = omega (arith, ints, least) in
+    let num = int_div steps (pos divisor) in
+    let den = int_div (pos over) (pos divisor) in
+    let lowest = lowest_quotients steps (pos over) (pos divisor) some positive greatest in
+    let small_num = smaller (10 ^ 37) num steps (int_div-le steps (pos divisor) positive) small' in
+    let small_den =
+    smaller (10 ^ 37) den (pos over) (int_div-le (pos over) (pos divisor) positive) small in (
+      num,
+      den,
+      record {
+        form = (
+          fraction_spelled (quotient_text steps (pos over)) num den (few_digits num small_num)
+              (few_digits den small_den) lowest.some_den refl,
+          λ _. lowest,
+        );
+        small = (small_num, small_den);
+        some_den = lowest.some_den;
+        are = same_value steps (pos over) (pos divisor) some positive greatest;
+        back = ap (λ n. num *ℤ pos n) (exact_back over divisor lowest.some_den greatest.1)
+            ∙ exact steps divisor greatest.0;
+      },
+    )
+
+module _ (over steps num den : ℤ) (fraction : HasFraction over steps num den) where
+  -- the steps of any fraction that the word spells
+  pub same_steps : (num' den' steps' : ℤ) → SpellsQuotient (quotient_text steps over) num' den'
+      → AreSteps over num' den' steps' → steps ≡ steps'
+  same_steps num' den' steps' spells are =
+      let both = one_quotient (quotient_text steps over) num den num' den' fraction.form.0 spells in
+      one_number_of_steps over num den steps steps' fraction.some_den fraction.are
+      (subst (λ d. AreSteps over num d steps') (sym both.1)
+      (subst (λ n. AreSteps over n den' steps') (sym both.0) are))
+
+  -- the word is a whole number of steps
+  pub whole_steps : IsWholeSteps over (quotient_text steps over)
+  whole_steps num' den' spells small =
+      let both =
+      one_quotient (quotient_text steps over) num den num' den' fraction.form.0 spells in (
+        steps,
+        subst (λ d. AreSteps over num' d steps) both.1
+            (subst (λ n. AreSteps over n den steps) both.0 fraction.are),
+      )
+
+  -- and within each bound of theirs
+  pub few_steps : (bound : ℕ) → IsBelow bound steps
+      → AreFewSteps over (pos bound) (quotient_text steps over)
+  few_steps bound below num' den' spells =
+      let both =
+      one_quotient (quotient_text steps over) num den num' den' fraction.form.0 spells in (
+        subst (λ d. HaveSmallSizes num' d) both.1
+            (subst (λ n. HaveSmallSizes n den) both.0 fraction.small),
+        λ steps' are.
+            within steps' (subst (IsBelow bound) (same_steps num' den' steps' spells are) below),
+      )
+    where
+      within : (s : ℤ) → IsBelow bound s
+          → (pos bound ≤ℤ s → ⊥) × ((s +ℤ pos bound) ≤ℤ pos 0 → ⊥)
+      within s small =
+          let above = small.above in
+          let low = small.below in (
+            λ high. omega (arith, ints, high, low),
+            λ deep. omega (arith, ints, deep, above),
+          )
+
+-- a word of whole steps within the bound is what a report has for some
+pub told_steps : (word : List ℕ) (over num den : ℤ) (bound : ℕ) → pos 1 ≤ℤ over
+    → IsFractionForm word num den → IsWholeSteps over word → AreFewSteps over (pos bound) word
+    → (steps : ℤ) × IsBelow bound steps × (word ≡ quotient_text steps over)
+told_steps word over num den bound some form whole few =
+    let (small, each) = few num den form.0 in
+    let (steps, are) = whole num den form.0 small in
+    let (low, high) = each steps are in (
+      steps,
+      below steps low high,
+      steps_word word over num den steps some form small are,
+    )
+  where
+    below : (s : ℤ) → (pos bound ≤ℤ s → ⊥) → ((s +ℤ pos bound) ≤ℤ pos 0 → ⊥) → IsBelow bound s
+    below s low high =
+        let above : neg_ℤ (pos bound) <ℤ s = grind (arith, ints) in
+        let less : s <ℤ pos bound = grind (arith, ints) in
+        record { above = above; below = less }
+
+-- ---- what is read of them
+
+-- what is read of a number's word is the number
+pub number_read : (word : List ℕ) (number : ℕ) (value read : ℤ) → SpellsNumber word number
+    → SpellsWhole word value → read ≡ kept_size value → to_z w128 (of_z w128 read) ≡ pos number
+number_read word number value read spells is kept =
+    let same = one_whole word value (pos number) is (number_spelled word number spells) in
+    let small = number_small number spells.0 in
+    let whole : read ≡ pos number =
+    kept ∙ ap kept_size same ∙ kept_same (pos number) small in
+    ap (λ n. to_z w128 (of_z w128 n)) whole ∙ held_same (pos number) small
+
+-- of a word of steps a fraction is read, and its steps are those
+pub steps_read : (word : List ℕ) (over steps : ℤ) (read : Result Fraction NumberFault)
+    → pos 1 ≤ℤ over → HasSizeBelow (10 ^ 37) over → SpellsSteps over word steps
+    → ((fraction : Fraction) → HasSizeBelow (10 ^ 37) fraction.num
+    → HasSizeBelow (10 ^ 37) fraction.den → word ≡ fraction_text fraction.num fraction.den
+    → read ≡ Ok fraction)
+    → MatchResult read (λ fraction. HasSizeBelow (10 ^ 37) fraction.den
+    × HasSizeBelow (10 ^ 37) fraction.num
+    × ((fraction.num *ℤ int_div over fraction.den) ≡ steps)) (λ _. ⊥)
+steps_read word over steps read some small spells each =
+    let (num, den, has) = spelled_steps over steps some small spells.0 in
+    let fraction : Fraction = record { num = num; den = den; lowest = has.form.1 has.small } in
+    let same = spells.1
+    ∙ quotient_text_spelled (quotient_text steps over) num den (few_digits num has.small.0)
+    (few_digits den has.small.1) has.form.0 in
+    subst (λ r. MatchResult r (λ f. HasSizeBelow (10 ^ 37) f.den × HasSizeBelow (10 ^ 37) f.num
+    × ((f.num *ℤ int_div over f.den) ≡ steps)) (λ _. ⊥))
+    (sym (each fraction has.small.0 has.small.1 same)) (has.small.1, has.small.0, has.back)
+
+-- what the code computes of the fraction are the steps
+pub steps_computed : (over steps num den num' den' : ℤ) → HasSizeBelow (10 ^ 37) over
+    → HasSizeBelow (10 ^ 37) num → HasSizeBelow (10 ^ 37) den → pos 1 ≤ℤ den
+    → (num *ℤ int_div over den) ≡ steps → num' ≡ num → den' ≡ den
+    → to_z w128 (of_z w128 num')
+    *ℤ to_z w128 (of_z w128 (int_div (to_z w128 (of_z w128 over)) (to_z w128 (of_z w128 den'))))
+    ≡ steps
+steps_computed over steps num den num' den' small small_num small_den some back same same' =
+    rw (same, same') (ap₂ (λ a b. a *ℤ b) (held_same num small_num)
+    (quotient_is over den (fits over small) (fits den small_den) some) ∙ back)
+
+-- and the code can divide for them
+pub quotient_fits : (over den den' : ℤ) → HasSizeBelow (10 ^ 37) over → HasSizeBelow (10 ^ 37) den
+    → pos 1 ≤ℤ den → den' ≡ den
+    → (0 < of_z w128 den')
+    × FitsSigned w128 (int_div (to_z w128 (of_z w128 over)) (to_z w128 (of_z w128 den')))
+quotient_fits over den den' small small_den some same =
+    let held = held_same den small_den in
+    let positive : 0 < of_z w128 den = omega (arith, ints, some, held) in
+    let quotient = quot_fits w128 over den (fits over small) (omega (arith, ints, some)) in
+    rw same (positive, rw (held_same over small, held) quotient)
+
+-- the steps as the code passes them are the same
+pub kept_spelled : (over : ℤ) (word : List ℕ) (steps : ℤ) → SpellsSteps over word steps
+    → SpellsSteps over word (to_z w128 (of_z w128 steps))
+kept_spelled over word steps spells =
+    subst (SpellsSteps over word) (sym (held_same steps spells.0)) spells

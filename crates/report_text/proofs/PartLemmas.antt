@@ -1,0 +1,161 @@
+-- What the first lines of a text tell of the lines behind them, and where its first fault is.
+use Rattle.std.proofs.Common.{◌≡◌, ◌≢◌, ◌≤◌, ◌^◌, ℕ, zero, suc, pos, ◌*ℤ◌, Option, Some, None, List, [], ◌∷◌, ◌++◌, map, length, get_or, codes, if◌then◌else◌, refl, sym, ap, subst, ◌∙◌, append-nil, arith}
+use Rattle.std.specs.List.{slice_split}
+use Rattle.std.specs.Str.{bytes_eq}
+use Rattle.std.proofs.lemmas.Int.{ints}
+use Rattle.std.proofs.lemmas.List.{length-replicate}
+use Rattle.cts_model.specs.declared.circuit.Circuit.{Circuit}
+use Rattle.cts_model.specs.declared.report.Version.{Version}
+use Rattle.cts_model.specs.declared.report.Version.TheVariants.{First, Second}
+use Rattle.cts_model.specs.declared.tech.Tech.{Tech}
+use Rattle.cts_model.specs.PrintedLines.{Words, period_line}
+use Rattle.cts_model.specs.ReportLines.{version_line}
+use Rattle.report_text.specs.declared.fault.ReportFault.{ReportFault}
+use Rattle.report_text.specs.declared.fault.ReportFault.TheVariants.{NoMemory}
+use Rattle.report_text.specs.declared.form.Form.TheVariants as form
+use Rattle.report_text.specs.declared.form.Scale.{Scale}
+use Rattle.report_text.specs.declared.sections.Heading.{Heading}
+use Rattle.report_text.specs.declared.sections.Shown.{Shown}
+use Rattle.report_text.specs.Forms.{cycle_forms, forms_behind, forms_of}
+use Rattle.report_text.specs.Headings.{HasHeading, HasShown, IsSmallCount, count_of, heading_forms, shown_line}
+use Rattle.report_text.specs.Parts.{scale_in, whole}
+use Rattle.report_text.specs.ReportFaults.{HasFault, HasFirstFault, cycle_told, den_told, is_line_feed, scale_told, version_told, word_at, words_of}
+use Rattle.report_text.specs.Walks.{Left, Stops}
+use Rattle.report_text.proofs.SectionLemmas.{length_pathed}
+use Rattle.report_text.proofs.ToldForms.{cycle_of, den_of, fraction_den, small_count, value_of}
+
+-- the image of an item
+map_at : (xs : List (List ℕ)) (place : ℕ)
+    → get_or (map words_of xs) place (words_of []) ≡ words_of (get_or xs place [])
+map_at [] place = refl
+map_at (x ∷ xs) zero = refl
+map_at (x ∷ xs) (suc place) = map_at xs place
+
+-- what is told of the line that shows the period
+shown_count : (count : Option ℕ) → IsSmallCount count
+    → cycle_of (get_or (shown_line count) 0 []) (get_or (shown_line count) 1 []) ≡ count_of count
+shown_count None small = refl
+shown_count (Some count) small = value_of count (small_count count small.1)
+
+-- a cycle has few lines
+pub cycle_few : (version : Version) (count : Option ℕ) → IsSmallCount count
+    → length (cycle_forms version (count_of count)) ≤ 19998
+cycle_few First None small = omega arith
+cycle_few Second None small = omega arith
+cycle_few First (Some count) small = omega (arith, length-replicate count form.Constraint, small.1)
+cycle_few Second (Some count) small = omega (arith, length_pathed count, small.1)
+
+module _ {circuit : Circuit} {text : List ℕ} {new : Left} {heading : Heading}
+    (has : HasHeading circuit (whole text) new heading) where
+  abbrev rest : List Words
+  rest = map words_of (slice_split is_line_feed new.text)
+
+  abbrev lines : List Words
+  lines = version_line heading.version ∷ period_line heading.period ∷ shown_line heading.count
+      ∷ rest
+
+  -- the words of the lines
+  told : (line place : ℕ)
+      → word_at text line place ≡ get_or (get_or lines line (words_of [])) place []
+  told line place =
+      let read = has.lines (record { den = pos 1; grid = pos 1 }) in
+      ap (λ ws. get_or ws place [])
+      (sym (map_at (slice_split is_line_feed text) line)
+      ∙ ap (λ ls. get_or ls line (words_of [])) read.words)
+
+  told_version : version_told text ≡ heading.version
+  told_version =
+      ap (λ word. if bytes_eq word (codes "1") then First else Second) (told 0 1)
+      ∙ at heading.version
+    where
+      at : (version : Version)
+          → (if bytes_eq (get_or (version_line version) 1 []) (codes "1") then First else Second)
+          ≡ version
+      at First = refl
+      at Second = refl
+
+  told_den : den_told text ≡ heading.period.den
+  told_den =
+      let some = heading.period.lowest.some_den in
+      let from = has.small.from_zero in
+      let below = has.small.small in
+      let low = has.small.low in
+      ap den_of (told 1 1)
+      ∙ fraction_den heading.period.num heading.period.den some
+      (record { above = omega (arith, ints, from); below = omega (arith, ints, below) })
+      (record { above = omega (arith, ints, some); below = omega (arith, ints, low) })
+
+  told_scale : (tech : Tech) → scale_told tech text ≡ scale_in tech heading.period
+  told_scale tech = λ i. record {
+    den = told_den i;
+    grid = pos (10 ^ 6) *ℤ (pos 8 *ℤ told_den i *ℤ tech.wire_num);
+  }
+
+  told_cycle : cycle_told text ≡ count_of heading.count
+  told_cycle =
+      ap (λ word. cycle_of word (word_at text 2 1)) (told 2 0)
+      ∙ ap (λ count. cycle_of (get_or (shown_line heading.count) 0 []) count) (told 2 1)
+      ∙ shown_count heading.count has.count
+
+  -- the first fault by the forms that the heading tells
+  pub told_fault : (tech : Tech) (fault : Option ReportFault)
+      → HasFirstFault circuit (scale_in tech heading.period)
+      (forms_of heading.version (count_of heading.count) (length circuit.registers)) 1 text fault
+      → HasFault circuit tech text fault
+  told_fault tech fault found =
+      subst (λ (scale : Scale). HasFirstFault circuit scale
+      (forms_of (version_told text) (cycle_told text) (length circuit.registers)) 1 text fault)
+      (sym (told_scale tech))
+      (subst (λ (version : Version). HasFirstFault circuit (scale_in tech heading.period)
+      (forms_of version (cycle_told text) (length circuit.registers)) 1 text fault)
+      (sym told_version)
+      (subst (λ (count : ℕ). HasFirstFault circuit (scale_in tech heading.period)
+      (forms_of heading.version count (length circuit.registers)) 1 text fault)
+      (sym told_cycle) found))
+
+  -- a fault in what shows the period
+  pub shown_fault : (tech : Tech) (fault : ReportFault)
+      → Stops circuit (scale_in tech heading.period)
+      (cycle_forms heading.version (count_of heading.count)) new fault
+      → fault ≢ NoMemory → HasFault circuit tech text (Some fault)
+  shown_fault tech fault stops named =
+      let behind = forms_behind heading.version (length circuit.registers) in
+      let read = has.lines (scale_in tech heading.period) in
+      told_fault tech (Some fault)
+      (read.faults (cycle_forms heading.version (count_of heading.count) ++ behind) (Some fault)
+      (stops named behind))
+
+  module _ (tech : Tech) {further : Left} {shown : Shown}
+      (next : HasShown circuit (scale_in tech heading.period) heading.version heading.count new
+      further shown) where
+    -- a fault behind that
+    pub behind_fault : (fault : Option ReportFault)
+        → HasFirstFault circuit (scale_in tech heading.period)
+        (forms_behind heading.version (length circuit.registers)) further.line further.text fault
+        → HasFault circuit tech text fault
+    behind_fault fault found =
+        let behind = forms_behind heading.version (length circuit.registers) in
+        let read = has.lines (scale_in tech heading.period) in
+        told_fault tech fault
+        (read.faults (cycle_forms heading.version (count_of heading.count) ++ behind) fault
+        (next.lines.faults behind fault found))
+
+    pub body_fault : (fault : ReportFault)
+        → Stops circuit (scale_in tech heading.period)
+        (forms_behind heading.version (length circuit.registers)) further fault
+        → fault ≢ NoMemory → HasFault circuit tech text (Some fault)
+    body_fault fault stops named =
+        behind_fault (Some fault)
+        (subst (λ forms. HasFirstFault circuit (scale_in tech heading.period) forms further.line
+        further.text (Some fault))
+        (append-nil (forms_behind heading.version (length circuit.registers)))
+        (stops named []))
+
+-- a fault in the heading
+pub heading_fault : (circuit : Circuit) (tech : Tech) (text : List ℕ) (fault : ReportFault)
+    → ((scale : Scale) → Stops circuit scale heading_forms (whole text) fault)
+    → fault ≢ NoMemory → HasFault circuit tech text (Some fault)
+heading_fault circuit tech text fault stops named =
+    stops (scale_told tech text) named
+    (cycle_forms (version_told text) (cycle_told text)
+    ++ forms_behind (version_told text) (length circuit.registers))

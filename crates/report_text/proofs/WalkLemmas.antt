@@ -1,0 +1,238 @@
+-- Lines that are taken from a text one after the other.
+use Rattle.std.proofs.Common.{ℕ, zero, suc, ◌≡◌, ◌<◌, ◌+◌, ◌-◌, ◌==◌, Bool, true, false, Option, Some, None, Bor, Result, Ok, Err, IfErr, IsErrAnd, List, [], ◌∷◌, ◌++◌, map, length, take, drop, get_or, MatchBool, MatchOption, refl, sym, ap, ap₂, subst, ◌∙◌, append_assoc, append-nil, arith}
+use Rattle.std.proofs.lemmas.List.FromFn.{map-range_with_len_more, fill_by_all, length-map-range_with_len, get_or-map-range_with_len}
+use Rattle.std.specs.List.{range_with_len, slice_split, position}
+use Rattle.std.proofs.lemmas.Bool.Decides.{nat_tests}
+use Rattle.std.proofs.lemmas.Grind.{flat_map-append}
+use Rattle.std.proofs.lemmas.List.{take-append-drop, drop-drop, length-append}
+use Rattle.std.proofs.lemmas.List.Splits.{join_with_byte-slice_split, length-slice_split}
+use Rattle.std.proofs.lemmas.List.Sums.{passes_at_first}
+use Rattle.cts_model.specs.declared.circuit.Circuit.{Circuit}
+use Rattle.cts_model.specs.PrintedLines.{Words, line_of, text_of}
+use Rattle.report_text.specs.declared.fault.ReportFault.{ReportFault}
+use Rattle.report_text.specs.declared.fault.ReportFault.TheVariants.{BadLine, Missing}
+use Rattle.report_text.specs.declared.field.Flaw.{Flaw}
+use Rattle.report_text.specs.declared.form.Form.{Form}
+use Rattle.report_text.specs.declared.form.Scale.{Scale}
+use Rattle.report_text.specs.Fields.{LineHasFlaw}
+use Rattle.report_text.specs.Forms.{fields_of}
+use Rattle.report_text.specs.ReportFaults.{HasFirstFault, is_line_feed, is_space, words_of, fault_of}
+use Rattle.report_text.specs.TimingValues.{IsFlawless}
+use Rattle.report_text.specs.Walks.{Left, TakesLine, Reads, ReadsLine, Stops, StopsLine, TellsLine}
+use Rattle.report_text.proofs.LineCuts.{byte_then, cut_within, first_part}
+
+-- the first line feed, and what stands behind it
+feed_then : (text : List ℕ) (end : ℕ) → position is_line_feed text ≡ Some end
+    → drop end text ≡ 10 ∷ drop (end + 1) text
+feed_then text end found =
+    let place = cut_within is_line_feed text end found in
+    let passes = passes_at_first is_line_feed text 0
+    (subst (λ n. n < length text) (sym place.0) place.1) in
+    let feed : get_or text end 0 ≡ 10 = subst (λ n. get_or text n 0 ≡ 10) place.0
+    (grind (arith, nat_tests, passes)) in
+    byte_then text end place.1
+    ∙ ap₂ (λ byte rest. byte ∷ rest) feed (drop-drop 1 end text)
+
+module _ {old new : Left} {line : List ℕ} (taken : TakesLine old line new) where
+  -- what was left is the line, its line feed and what is left now
+  line_then : old.text ≡ line ++ 10 ∷ new.text
+  line_then =
+      sym (take-append-drop (length line) old.text)
+      ∙ ap₂ (λ front rest. front ++ rest) (sym taken.line_is)
+      (feed_then old.text (length line) taken.end
+      ∙ ap (λ rest. 10 ∷ rest) (sym taken.text))
+
+  -- the line is the first of those that were left
+  line_cut : slice_split is_line_feed old.text ≡ line ∷ slice_split is_line_feed new.text
+  line_cut =
+      first_part is_line_feed old.text (length line) taken.end
+      ∙ ap₂ (λ first rest. first ∷ slice_split is_line_feed rest) (sym taken.line_is)
+      (drop-drop 1 (length line) old.text ∙ sym taken.text)
+
+  -- a line that has no flaw by the form that is due
+  pub line_read : (circuit : Circuit) (scale : Scale) (form : Form) (words : Words)
+      → words ≡ words_of line → IsFlawless circuit scale form words
+      → ReadsLine circuit scale form words old new
+  line_read circuit scale form words words_are flawless =
+      let is_line : line_of words ≡ line ++ 10 ∷ []
+      = ap line_of words_are
+      ∙ ap (λ bytes. bytes ++ 10 ∷ []) (join_with_byte-slice_split 32 line) in
+      record {
+        some = subst (λ ws. 0 < length ws) (sym words_are)
+            (omega (arith, length-slice_split is_space line));
+        flawless = flawless;
+        read = λ other flawless'. record {
+          text =
+              line_then
+              ∙ sym (append_assoc line (10 ∷ []) new.text)
+              ∙ ap (λ bytes. bytes ++ new.text) (sym is_line ∙ sym (append-nil (line_of words)));
+          words =
+              ap (map words_of) line_cut
+              ∙ ap (λ ws. ws ∷ map words_of (slice_split is_line_feed new.text)) (sym words_are);
+          number = taken.number;
+          faults = λ more fault found. rw (taken.some, taken.end) (
+            None,
+            subst (λ ws. IsFlawless circuit other form ws)
+                (words_are ∙ ap words_of taken.line_is) flawless',
+            subst (λ n. HasFirstFault circuit other more n (drop (length line + 1) old.text) fault)
+                taken.number
+                (subst (λ t. HasFirstFault circuit other more new.line t fault) taken.text found),
+          );
+        };
+      }
+
+-- nothing is read
+pub read_none : (circuit : Circuit) (scale : Scale) (left : Left)
+    → Reads circuit scale [] [] left left
+read_none circuit scale left = record {
+  text = refl;
+  words = refl;
+  number = omega arith;
+  faults = λ more fault found. found;
+}
+
+module _ {circuit : Circuit} {scale : Scale} {forms : List Form} {lines : List Words}
+    {old between : Left} (first : Reads circuit scale forms lines old between) where
+  -- lines, and more behind them
+  pub read_more : (forms' : List Form) (lines' : List Words) (new : Left)
+      → Reads circuit scale forms' lines' between new
+      → Reads circuit scale (forms ++ forms') (lines ++ lines') old new
+  read_more forms' lines' new second = record {
+    text =
+        first.text ∙ ap (λ bytes. text_of lines ++ bytes) second.text
+        ∙ sym (append_assoc (text_of lines) (text_of lines') new.text)
+        ∙ ap (λ bytes. bytes ++ new.text) (sym (flat_map-append line_of lines lines'));
+    words =
+        first.words ∙ ap (λ ws. lines ++ ws) second.words
+        ∙ sym (append_assoc lines lines' (map words_of (slice_split is_line_feed new.text)));
+    number = omega (arith, first.number, second.number, length-append forms forms');
+    faults = λ more fault found.
+        subst (λ fs. HasFirstFault circuit scale fs old.line old.text fault)
+        (sym (append_assoc forms forms' more))
+        (first.faults (forms' ++ more) fault (second.faults more fault found));
+  }
+
+  -- lines, and a fault behind them
+  pub stop_behind : (forms' : List Form) (fault : ReportFault)
+      → Stops circuit scale forms' between fault
+      → Stops circuit scale (forms ++ forms') old fault
+  stop_behind forms' fault stops memory more =
+      subst (λ fs. HasFirstFault circuit scale fs old.line old.text (Some fault))
+      (sym (append_assoc forms forms' more))
+      (first.faults (forms' ++ more) (Some fault) (stops memory more))
+
+-- a fault is the first whatever is to follow
+pub stop_before : (circuit : Circuit) (scale : Scale) (forms forms' : List Form) (left : Left)
+    (fault : ReportFault) → Stops circuit scale forms left fault
+    → Stops circuit scale (forms ++ forms') left fault
+stop_before circuit scale forms forms' left fault stops memory more =
+    subst (λ fs. HasFirstFault circuit scale fs left.line left.text (Some fault))
+    (sym (append_assoc forms forms' more)) (stops memory (forms' ++ more))
+
+-- a fault of the next line is the first, whatever is to follow
+pub stop_line : (circuit : Circuit) (scale : Scale) (form : Form) (left : Left)
+    (fault : ReportFault) → StopsLine circuit scale form left fault
+    → Stops circuit scale (form ∷ []) left fault
+stop_line circuit scale form left fault stops memory more =
+    at (length left.text == 0) (position is_line_feed left.text) (stops memory)
+  where
+    judged : ℕ → Option Flaw → Type 0
+    judged end flaw =
+        LineHasFlaw circuit (fields_of circuit scale form (words_of (take end left.text)))
+        (words_of (take end left.text)) flaw
+
+    at : (none : Bool) (end : Option ℕ)
+        → MatchBool none (fault ≡ Missing left.line)
+        (MatchOption end (fault ≡ BadLine left.line)
+        (λ n. (flaw : Flaw) × judged n (Some flaw) × (fault ≡ fault_of form left.line flaw)))
+        → MatchBool none (Some fault ≡ Some (Missing left.line))
+        (MatchOption end (Some fault ≡ Some (BadLine left.line))
+        (λ n. (flaw : Option Flaw) × judged n flaw × MatchOption flaw
+        (HasFirstFault circuit scale more (left.line + 1) (drop (n + 1) left.text) (Some fault))
+        (λ found. Some fault ≡ Some (fault_of form left.line found))))
+    at true end is = ap Some is
+    at false None is = ap Some is
+    at false (Some n) (flaw, has, is) = (Some flaw, has, ap Some is)
+
+-- `?` passes a fault on as it is
+pub passed_on : {T E : Type 0} (result : Result T E) (fault : E) (P : E → Type 0)
+    → IsErrAnd result (λ passed. passed ≡ fault) → P fault → IfErr result P
+passed_on (Ok value) fault P is p = tt
+passed_on (Err passed) fault P is p = subst P (sym is) p
+
+module _ (circuit : Circuit) (scale : Scale) (form : Form) {old new : Left}
+    (items slice : List (Bor (List ℕ))) (same : slice ≡ items)
+    (line : ReadsLine circuit scale form (map (λ word. word.now) items) old new) where
+  -- the words of a line that is read have no flaw
+  pub line_flawless : IsFlawless circuit scale form (map (λ word. word.now) slice)
+  line_flawless =
+      subst (λ words. IsFlawless circuit scale form (map (λ word. word.now) words)) (sym same)
+      line.flawless
+
+  -- and tell what they say
+  pub line_told : {X : Type 0} (Tells : Words → X → Type 0) (value : X)
+      → (IsFlawless circuit scale form (map (λ word. word.now) slice)
+      → Tells (map (λ word. word.now) slice) value)
+      → TellsLine circuit scale form Tells old new value
+  line_told Tells value tells = record {
+    words = map (λ word. word.now) slice;
+    line = subst (λ words. ReadsLine circuit scale form (map (λ word. word.now) words) old new)
+        (sym same) line;
+    told = tells line_flawless;
+  }
+
+-- what is said alike of numbers below another
+pub lines_same : (line line' : ℕ → Words) (count : ℕ)
+    → ((before : ℕ) → before < count → line before ≡ line' before)
+    → map line (range_with_len 0 count) ≡ map line' (range_with_len 0 count)
+lines_same line line' count same =
+    fill_by_all line' (map line (range_with_len 0 count)) count []
+    (length-map-range_with_len line 0 count)
+    (λ k within. get_or-map-range_with_len line 0 count k k [] within (omega arith)
+    ∙ same k within)
+
+-- the lines of numbers below one, and a further line
+pub numbered_more : (line line' : ℕ → Words) (count : ℕ) (words : Words)
+    → ((before : ℕ) → before < count → line before ≡ line' before) → words ≡ line' count
+    → map line' (range_with_len 0 (count + 1)) ≡ map line (range_with_len 0 count) ++ words ∷ []
+numbered_more line line' count words same is =
+    map-range_with_len_more line' 0 count count (omega arith)
+    ∙ ap₂ (λ front last. front ++ last ∷ []) (sym (lines_same line line' count same)) (sym is)
+
+-- forms that are due one after the other
+module _ (forms due : ℕ → List Form) (step : (n : ℕ) → forms (n + 1) ≡ forms n ++ due n) where
+  forms_behind : (place more : ℕ) → (rest : List Form)
+      × (forms (place + more) ≡ forms place ++ rest)
+  forms_behind place zero =
+      ([], ap forms (omega arith) ∙ sym (append-nil (forms place)))
+  forms_behind place (suc more) =
+      let behind = forms_behind place more in (
+        behind.0 ++ due (place + more),
+        ap forms (omega arith) ∙ step (place + more)
+            ∙ ap (λ front. front ++ due (place + more)) behind.1
+            ∙ append_assoc (forms place) behind.0 (due (place + more)),
+      )
+
+-- and are read
+module _ {circuit : Circuit} {scale : Scale} (forms due : ℕ → List Form)
+    (step : (n : ℕ) → forms (n + 1) ≡ forms n ++ due n) where
+  -- the next of them are read
+  pub next_read : (place : ℕ) (lines next all : List Words) (old between new : Left)
+      → Reads circuit scale (forms place) lines old between
+      → Reads circuit scale (due place) next between new → all ≡ lines ++ next
+      → Reads circuit scale (forms (place + 1)) all old new
+  next_read place lines next all old between new read further is =
+      subst (λ fs. Reads circuit scale fs all old new) (sym (step place))
+      (subst (λ ls. Reads circuit scale (forms place ++ due place) ls old new) (sym is)
+      (read_more read (due place) next new further))
+
+  -- the next of them have the first fault
+  pub next_stops : (place count : ℕ) (lines : List Words) (old between : Left)
+      (fault : ReportFault) → place < count → Reads circuit scale (forms place) lines old between
+      → Stops circuit scale (due place) between fault → Stops circuit scale (forms count) old fault
+  next_stops place count lines old between fault within read stops =
+      let behind = forms_behind forms due step (place + 1) (count - (place + 1)) in
+      subst (λ fs. Stops circuit scale fs old fault)
+      (ap (λ front. front ++ behind.0) (sym (step place)) ∙ sym behind.1 ∙ ap forms (omega arith))
+      (stop_before circuit scale (forms place ++ due place) behind.0 old fault
+      (stop_behind read (due place) fault stops))

@@ -1,0 +1,25 @@
+use Rattle.std.proofs.Common.{◌≡◌, ◌^◌, ◌∷◌, ◌++◌, ◌∙◌, [], pos, get_or, take, to_z, of_z, ap, subst, sym, arith}
+use mir.Syntax.{w128}
+use Rattle.std.proofs.lemmas.Int.{ints}
+use Rattle.std.proofs.lemmas.List.{map_more}
+use Rattle.cts_model.specs.Points.{IsBelow}
+use Rattle.report_text.specs.ToldReports.{sink_reach, sink_reaches}
+use Rattle.report_text.proofs.AssemblyLemmas.{sink_below, small_read}
+use Rattle.report_text.proofs.assembly.sink_reaches.Goals as goal
+
+pub loop-arrival-preserved : goal.loop-arrival-preserved
+loop-arrival-preserved c =
+    let place = c.loop-arrival.arrival-index in
+    let tech = c.args.tech.now in
+    let arrivals = c.args.arrivals.now in
+    let small = c.requires place (pos 0) c.loop-arrival-test.true in
+    let plain : to_z w128 (of_z w128 (get_or arrivals place (pos 0)))
+    ≡ get_or arrivals place (pos 0) = omega (arith, ints, small) in
+    let is = c.sink_reach.ensures ∙ ap (sink_reach tech) plain in
+    let below = subst (IsBelow (10 ^ 32)) (sym is)
+    (sink_below tech (get_or arrivals place (pos 0)) small) in
+    c.in_ok-push.ensures.items
+    ∙ ap (λ l. l ++ to_z w128 (of_z w128 c.sink_reach.result) ∷ []) c.loop-arrival.invariant
+    ∙ ap (λ reach. sink_reaches tech (take place arrivals) ++ reach ∷ [])
+    (small_read c.sink_reach.result below ∙ is)
+    ∙ sym (map_more (sink_reach tech) arrivals place (pos 0) c.loop-arrival-test.true)

@@ -1,0 +1,8 @@
+use Rattle.std.proofs.Common.{◌≡◌, take}
+use Rattle.report_text.specs.ToldReports.{sink_reaches}
+use Rattle.report_text.proofs.assembly.sink_reaches.Given as goal
+
+-- the reaches of the sinks so far
+abbrev pub invariant-loop-arrival : goal.invariant-loop-arrival
+invariant-loop-arrival l =
+    l.reaches.items ≡ sink_reaches l.tech (take l.arrival-index l.arrivals)

@@ -1,0 +1,22 @@
+use Rattle.std.proofs.Common.{◌^◌, ◌∙◌, sym, subst}
+use Rattle.cts_base.specs.Fractions.{HasSizeBelow}
+use Rattle.cts_base.proofs.FractionReading.{held_same}
+use Rattle.report_text.specs.Values.{IsSmallScale}
+use Rattle.report_text.proofs.GridLemmas.{scale_small}
+use Rattle.report_text.proofs.grid.scale_of.Goals as goal
+
+pub returns-clause-value : goal.returns-clause-value
+returns-clause-value c =
+    let small = scale_small c.args.tech.now c.args.period c.requires in
+    let den = held_same c.den.result
+    (subst (HasSizeBelow (10 ^ 37)) (sym c.den.ensures.value) small.small_den)
+    ∙ c.den.ensures.value in
+    let grid = held_same c.grid_of.result
+    (subst (HasSizeBelow (10 ^ 37)) (sym c.grid_of.ensures) small.small_grid)
+    ∙ c.grid_of.ensures in
+    λ i. record { den = den i; grid = grid i }
+
+pub returns-clause-small : goal.returns-clause-small
+returns-clause-small c =
+    subst IsSmallScale (sym (returns-clause-value c))
+    (scale_small c.args.tech.now c.args.period c.requires)

@@ -1,0 +1,19 @@
+use Rattle.std.proofs.Common.{sym, ◌∙◌, arith}
+use Rattle.report_text.proofs.OneName.{one_register}
+use Rattle.report_text.proofs.judging.name.from_flaw.Goals as goal
+
+pub returns-in-Some : goal.returns-in-Some
+returns-in-Some c =
+    let circuit = c.args.circuit.now in
+    let told = c.in-Some.ensures circuit c.requires.names in (
+      tt,
+      (c.in-Some.found, told.0, told.1),
+      λ register within same.
+          omega (
+            arith,
+            c.if-first-found.true,
+            one_register circuit c.in-Some.found register told.0
+                within (told.1 ∙ sym same),
+          ),
+      tt,
+    )

@@ -1,0 +1,26 @@
+use Rattle.std.proofs.Common.{◌<◌, ◌++◌, ◌∷◌, [], length, sym, ap, ◌∙◌, rules, arith}
+use Rattle.std.proofs.lemmas.List.FromFn.{map-range_with_len_more}
+use Rattle.cts_model.specs.ReportLines.{signal_name}
+use Rattle.report_text.proofs.NameNumbers.{signal_new, signals_few}
+use Rattle.report_text.proofs.names.signal_names.Goals as goal
+
+pub push-requires-clause-new : goal.push-requires-clause-new
+push-requires-clause-new c =
+    let within : c.loop-signal.signal < length c.args.circuit.now.signals = search rules in
+    rw (c.signal_name.ensures, c.loop-signal.invariant)
+    (signal_new c.args.circuit.now c.loop-signal.signal within)
+
+pub push-requires-clause-room : goal.push-requires-clause-room
+push-requires-clause-room c =
+    let within : c.loop-signal.signal < length c.args.circuit.now.signals = search rules in
+    signals_few c.args.circuit.now c.loop-signal.names c.loop-signal.signal within
+    c.loop-signal.invariant
+
+pub loop-signal-preserved : goal.loop-signal-preserved
+loop-signal-preserved c =
+    c.in_ok-push.ensures
+    ∙ ap (λ n. c.loop-signal.names ++ n ∷ []) c.signal_name.ensures
+    ∙ ap (λ ns. ns ++ signal_name c.args.circuit.now c.loop-signal.signal ∷ [])
+    c.loop-signal.invariant
+    ∙ sym (map-range_with_len_more (signal_name c.args.circuit.now) 0 c.loop-signal.signal
+    c.loop-signal.signal (omega arith))

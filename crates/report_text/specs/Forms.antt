@@ -1,0 +1,129 @@
+-- Which fields a line of each form has, and which forms a report's lines have in order. Where a
+-- form has several kinds of lines, a fixed word tells which. The forms are this project's choice.
+use Rattle.std.specs.Prelude.{ℕ, zero, suc, ◌+◌, ◌-◌, ◌*◌, ◌/◌, ◌^◌, ◌==◌, ◌&&◌, nat_le, Bool, pos, List, [], ◌∷◌, ◌++◌, length, map, replicate, get_or, if◌then◌else◌}
+use Rattle.std.specs.List.{position_or_len, range_with_len}
+use Rattle.std.specs.Str.{bytes_eq}
+use Rattle.cts_model.specs.declared.circuit.Circuit.{Circuit}
+use Rattle.cts_model.specs.declared.report.Version.{Version}
+use Rattle.cts_model.specs.declared.report.Version.TheVariants as version
+use Rattle.cts_model.specs.Paths.{register_name}
+use Rattle.report_text.specs.declared.field.Field.{Field}
+use Rattle.report_text.specs.declared.field.Field.TheVariants as field
+use Rattle.report_text.specs.declared.field.Keyword.{Keyword}
+use Rattle.report_text.specs.declared.field.Keyword.TheVariants as word
+use Rattle.report_text.specs.declared.form.Form.{Form}
+use Rattle.report_text.specs.declared.form.Form.TheVariants as form
+use Rattle.report_text.specs.declared.form.Scale.{Scale}
+use Rattle.report_text.specs.Keywords.{keyword_text}
+
+-- the word at a place is that fixed one
+abbrev pub is_word : List (List ℕ) → ℕ → Keyword → Bool
+is_word words place keyword = bytes_eq (get_or words place []) (keyword_text keyword)
+
+-- the number of the register of that name, and how many there are where none has it
+abbrev pub register_named : Circuit → List ℕ → ℕ
+register_named circuit name = position_or_len
+    (λ register. bytes_eq (register_name circuit register) name)
+    (range_with_len 0 (length circuit.registers))
+
+-- a length, in grid steps
+abbrev pub length_field : Scale → Field
+length_field scale = field.Steps scale.grid (pos (10 ^ 32))
+
+abbrev pub slack_field : Scale → Field
+slack_field scale = field.Slack scale.den (pos (10 ^ 20))
+
+-- setup or hold, the register that launches, the one that captures, and the weight
+abbrev pub constraint_fields : List Field
+constraint_fields = field.Kind ∷ field.Register ∷ field.Register ∷ field.Weight ∷ []
+
+-- a path has as many signals as it says, or isn't printed
+abbrev pub path_fields : List (List ℕ) → List Field
+path_fields words = if is_word words 1 word.Dash
+    then field.Word word.Path ∷ field.Word word.Dash ∷ []
+    else field.Word word.Path ∷ field.Counted (length words - 2) 65536
+    ∷ replicate (length words - 2) field.Signal
+
+abbrev pub lead_fields : List (List ℕ) → List Field
+lead_fields words = if is_word words 1 word.Zero
+    then field.Word word.Lead ∷ field.Word word.Zero ∷ []
+    else field.Word word.Lead ∷ field.Number 1 9999 ∷ constraint_fields
+
+abbrev pub merge_fields : Circuit → Scale → (node : ℕ) → List (List ℕ) → List Field
+merge_fields circuit scale node words = field.Exactly node ∷ field.Number 0 9999
+    ∷ field.Number 0 9999 ∷ length_field scale ∷ field.Word word.Pair ∷ field.Register
+    ∷ field.From (register_named circuit (get_or words 5 [])) ∷ []
+
+abbrev pub source_fields : Scale → List (List ℕ) → List Field
+source_fields scale words = field.Word word.Source ∷ length_field scale
+    ∷ (if is_word words 2 word.Root
+    then field.Word word.Root ∷ [] else field.Word word.Sink ∷ field.Register ∷ [])
+
+-- a node's place, the length of its edge, and 1 to 5 points, by the number of words
+abbrev pub node_fields : Scale → (node points : ℕ) → List Field
+node_fields scale node points = field.Exactly node ∷ length_field scale ∷ length_field scale
+    ∷ length_field scale ∷ field.Exactly points ∷ replicate (2 * points) (length_field scale)
+
+abbrev pub points_of : List (List ℕ) → ℕ
+points_of words = (length words - 5) / 2
+
+abbrev pub has_points : List (List ℕ) → Bool
+has_points words = (length words == 5 + 2 * points_of words)
+    && (nat_le 1 (points_of words) && nat_le (points_of words) 5)
+
+-- what shows the period: the floor, or how many constraints the cycle has
+abbrev pub show_fields : List (List ℕ) → List Field
+show_fields words = if is_word words 0 word.Floor
+    then field.Word word.Floor ∷ [] else field.Word word.Cycle ∷ field.Number 1 9999 ∷ []
+
+abbrev pub register_fields : Scale → (register : ℕ) → List Field
+register_fields scale register = field.Named register
+    ∷ field.Steps scale.den (pos (10 ^ 19)) ∷ slack_field scale ∷ slack_field scale ∷ []
+
+-- none where there is a number of words that no node has
+abbrev pub pointed_fields : Scale → (node : ℕ) → List (List ℕ) → List Field
+pointed_fields scale node words =
+    if has_points words then node_fields scale node (points_of words) else []
+
+abbrev pub total_fields : Scale → List Field
+total_fields scale = field.Word word.Wire ∷ field.Steps scale.grid (pos (10 ^ 36)) ∷ []
+
+-- the fields of a line of that form
+abbrev pub fields_of : Circuit → Scale → Form → List (List ℕ) → List Field
+fields_of circuit scale form.Version words = field.Word word.Cts ∷ field.Version ∷ []
+fields_of circuit scale form.Period words = field.Word word.Period ∷ field.Period ∷ []
+fields_of circuit scale form.Show words = show_fields words
+fields_of circuit scale form.Constraint words = constraint_fields
+fields_of circuit scale form.Path words = path_fields words
+fields_of circuit scale (form.Count word count) words = field.Word word ∷ field.Exactly count ∷ []
+fields_of circuit scale (form.Register register) words = register_fields scale register
+fields_of circuit scale form.Lead words = lead_fields words
+fields_of circuit scale (form.Merge node) words = merge_fields circuit scale node words
+fields_of circuit scale form.Source words = source_fields scale words
+fields_of circuit scale (form.Node node) words = pointed_fields scale node words
+fields_of circuit scale form.Total words = total_fields scale
+
+-- each constraint of a cycle, in the second version with its path
+abbrev pub cycle_forms : Version → (count : ℕ) → List Form
+cycle_forms version.First count = replicate count form.Constraint
+cycle_forms version.Second zero = []
+cycle_forms version.Second (suc count) =
+    form.Constraint ∷ form.Path ∷ cycle_forms version.Second count
+
+abbrev pub lead_forms : Version → (count : ℕ) → List Form
+lead_forms version.First count = []
+lead_forms version.Second count = replicate count form.Lead
+
+-- the lines behind what shows the period
+abbrev pub forms_behind : Version → (registers : ℕ) → List Form
+forms_behind version registers = form.Count word.Registers registers
+    ∷ map form.Register (range_with_len 0 registers) ++ lead_forms version registers
+    ++ form.Count word.Merges (registers - 1)
+    ∷ map form.Merge (range_with_len registers (registers - 1))
+    ++ form.Source ∷ form.Count word.Nodes (2 * registers - 1)
+    ∷ map form.Node (range_with_len 0 (2 * registers - 1)) ++ form.Total ∷ []
+
+-- all lines, with a cycle of so many constraints
+abbrev pub forms_of : Version → (cycle registers : ℕ) → List Form
+forms_of version cycle registers = form.Version ∷ form.Period ∷ form.Show
+    ∷ cycle_forms version cycle ++ forms_behind version registers

@@ -1,0 +1,54 @@
+-- What the first lines of a report tell: its version, its period and what shows it.
+use Rattle.std.specs.Prelude.{◌≡◌, ◌<◌, ◌≤◌, ℕ, Option, Some, None, List, [], ◌∷◌, All, codes, drop, length}
+use Rattle.cts_model.specs.declared.circuit.Circuit.{Circuit}
+use Rattle.cts_model.specs.declared.report.Version.{Version}
+use Rattle.cts_model.specs.PrintedLines.{Words, count_line, floor_line, period_line}
+use Rattle.cts_model.specs.ReportBounds.{HasSmallWeights, ShowsPeriodAmong, count_in, cycle_length}
+use Rattle.cts_model.specs.ReportLines.{period_show_lines, version_line}
+use Rattle.cts_model.specs.Schedules.{IsSmallPeriod}
+use Rattle.report_text.specs.declared.form.Form.{Form}
+use Rattle.report_text.specs.declared.form.Form.TheVariants as form
+use Rattle.report_text.specs.declared.form.Scale.{Scale}
+use Rattle.report_text.specs.declared.sections.Heading.{Heading}
+use Rattle.report_text.specs.declared.sections.Shown.{Shown}
+use Rattle.report_text.specs.Forms.{cycle_forms}
+use Rattle.report_text.specs.Walks.{Left, Reads}
+
+abbrev pub heading_forms : List Form
+heading_forms = form.Version ∷ form.Period ∷ form.Show ∷ []
+
+-- the line for what shows the period: how many constraints the cycle has, or the floor
+abbrev pub shown_line : Option ℕ → Words
+shown_line None = floor_line
+shown_line (Some count) = count_line (codes "cycle") count
+
+abbrev pub IsSmallCount : Option ℕ → Type 0
+IsSmallCount None = Unit {0}
+IsSmallCount (Some count) = (1 ≤ count) × (count ≤ 9999)
+
+-- how many constraints the cycle has, none where there is no cycle
+abbrev pub count_of : Option ℕ → ℕ
+count_of None = 0
+count_of (Some count) = count
+
+-- the first three lines, which are read by any scale
+pub record HasHeading (circuit : Circuit) (old new : Left) (heading : Heading) : Type 0 where
+  pub lines : (scale : Scale) → Reads circuit scale heading_forms
+      (version_line heading.version ∷ period_line heading.period ∷ shown_line heading.count ∷ [])
+      old new
+  pub small : IsSmallPeriod heading.period
+  pub count : IsSmallCount heading.count
+
+-- the lines behind these, as far as they show the period
+pub record HasShown (circuit : Circuit) (scale : Scale) (version : Version) (count : Option ℕ)
+    (old new : Left) (shown : Shown) : Type 0 where
+  pub lines : Reads circuit scale (cycle_forms version (count_of count))
+      (drop 1 (period_show_lines version circuit shown.shown shown.paths)) old new
+  pub first : period_show_lines version circuit shown.shown shown.paths
+      ≡ shown_line count ∷ drop 1 (period_show_lines version circuit shown.shown shown.paths)
+  pub counted : cycle_length shown.shown ≡ count_of count
+  pub paths : length shown.paths ≡ count_in version (cycle_length shown.shown)
+  pub among : ShowsPeriodAmong (length circuit.registers) shown.shown
+  pub weights : HasSmallWeights shown.shown
+  pub signals : All (All (λ number. number < length circuit.signals)) shown.paths
+  pub few : All (λ path. length path ≤ 65536) shown.paths

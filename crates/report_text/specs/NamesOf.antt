@@ -1,0 +1,32 @@
+-- Registers and signals that are told by their names.
+use Rattle.std.specs.Prelude.{◌≡◌, ◌<◌, ℕ, List, Option, Some, None, length, map}
+use Rattle.std.specs.List.{range_with_len}
+use Rattle.cts_model.specs.declared.circuit.Circuit.{Circuit}
+use Rattle.cts_model.specs.Paths.{register_name}
+use Rattle.cts_model.specs.ReportLines.{signal_name}
+use Rattle.report_text.specs.declared.names.Names.{Names}
+use Rattle.report_text.specs.Fields.{NamesRegister, NamesSignal}
+
+-- the names of the circuit's registers and signals, in order
+abbrev pub register_names : Circuit → List (List ℕ)
+register_names circuit = map (register_name circuit) (range_with_len 0 (length circuit.registers))
+
+abbrev pub signal_names : Circuit → List (List ℕ)
+signal_names circuit = map (signal_name circuit) (range_with_len 0 (length circuit.signals))
+
+-- these are the names of the circuit
+pub record AreNamesOf (circuit : Circuit) (names : Names) : Type 0 where
+  pub registers : names.registers ≡ register_names circuit
+  pub signals : names.signals ≡ signal_names circuit
+
+-- the register of that name, or that no register has it; a circuit has at most one
+abbrev pub TellsRegister : Circuit → List ℕ → Option ℕ → Type 0
+TellsRegister circuit name None = NamesRegister circuit name → ⊥
+TellsRegister circuit name (Some register) =
+    (register < length circuit.registers) × (register_name circuit register ≡ name)
+
+-- and likewise the signal
+abbrev pub TellsSignal : Circuit → List ℕ → Option ℕ → Type 0
+TellsSignal circuit name None = NamesSignal circuit name → ⊥
+TellsSignal circuit name (Some number) =
+    (number < length circuit.signals) × (signal_name circuit number ≡ name)

@@ -1,0 +1,32 @@
+-- The parts of a whole report, one behind the other.
+use Rattle.std.specs.Prelude.{◌≡◌, ℕ, List, [], length}
+use Rattle.cts_base.specs.declared.fraction.Fraction.{Fraction}
+use Rattle.cts_model.specs.declared.circuit.Circuit.{Circuit}
+use Rattle.cts_model.specs.declared.tech.Tech.{Tech}
+use Rattle.cts_model.specs.Problems.{grid_of}
+use Rattle.report_text.specs.declared.form.Scale.{Scale}
+use Rattle.report_text.specs.declared.sections.Parts.{Parts}
+use Rattle.report_text.specs.Bodies.{HasBody}
+use Rattle.report_text.specs.Headings.{HasHeading, HasShown}
+use Rattle.report_text.specs.Walks.{Left}
+
+-- the steps of a report of that period
+abbrev pub scale_in : Tech → Fraction → Scale
+scale_in tech period = record { den = period.den; grid = grid_of period tech }
+
+-- a whole text
+abbrev pub whole : List ℕ → Left
+whole text = record { line = 1; text = text }
+
+-- the heading, what shows the period, and all sections behind these, up to the end of the text
+pub record HasParts (circuit : Circuit) (tech : Tech) (text : List ℕ) (parts : Parts)
+    : Type 0 where
+  pub behind_heading : Left
+  pub behind_shown : Left
+  pub end : Left
+  pub heading : HasHeading circuit (whole text) behind_heading parts.heading
+  pub shown : HasShown circuit (scale_in tech parts.heading.period) parts.heading.version
+      parts.heading.count behind_heading behind_shown parts.shown
+  pub body : HasBody circuit (scale_in tech parts.heading.period) parts.heading.version
+      (length circuit.registers) behind_shown end parts.body
+  pub ended : end.text ≡ []

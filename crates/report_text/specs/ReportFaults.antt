@@ -1,0 +1,88 @@
+-- What is wrong with a text that spells no report: its lines are judged in order, each by the form
+-- that is due. The order and the faults are this project's choice.
+use Rattle.std.specs.Prelude.{◌≡◌, ◌+◌, Bool, ◌==◌, ◌^◌, ℕ, ℤ, pos, ◌*ℤ◌, ◌∷◌, [], List, Option, Some, None, length, take, drop, get_or, if◌then◌else◌, codes, MatchBool, MatchOption}
+use Rattle.std.specs.List.{after_first, position, slice_split, list_any}
+use Rattle.std.specs.Str.{bytes_eq}
+use Rattle.std.specs.Str.Parse.{digits_value}
+use Rattle.cts_base.specs.NumberTexts.{is_slash}
+use Rattle.cts_model.specs.declared.circuit.Circuit.{Circuit}
+use Rattle.cts_model.specs.declared.report.Version.{Version}
+use Rattle.cts_model.specs.declared.report.Version.TheVariants as version
+use Rattle.cts_model.specs.declared.tech.Tech.{Tech}
+use Rattle.report_text.specs.declared.fault.ReportFault.{ReportFault}
+use Rattle.report_text.specs.declared.fault.ReportFault.TheVariants.{BadLine, UnknownRegister, Missing, Extra, TooLarge, UnknownSignal}
+use Rattle.report_text.specs.declared.field.Flaw.{Flaw}
+use Rattle.report_text.specs.declared.field.Flaw.TheVariants.{Form, Unknown, Unfit, Large}
+use Rattle.report_text.specs.declared.field.Keyword.TheVariants as word
+use Rattle.report_text.specs.declared.form.Form as forms
+use Rattle.report_text.specs.declared.form.Form.TheVariants as form
+use Rattle.report_text.specs.declared.form.Scale.{Scale}
+use Rattle.report_text.specs.Fields.{LineHasFlaw}
+use Rattle.report_text.specs.Forms.{fields_of, forms_of, is_word}
+
+abbrev pub is_line_feed : ℕ → Bool
+is_line_feed byte = byte == 10
+
+abbrev pub is_space : ℕ → Bool
+is_space byte = byte == 32
+
+-- the words of a line: it is cut at each space, so a word may have no bytes
+abbrev pub words_of : List ℕ → List (List ℕ)
+words_of line = slice_split is_space line
+
+-- the fault that a line has with a flaw
+abbrev pub unknown_on : forms.Form → (line : ℕ) → ReportFault
+unknown_on form.Path line = UnknownSignal line
+unknown_on form line = UnknownRegister line
+
+abbrev pub fault_of : forms.Form → (line : ℕ) → Flaw → ReportFault
+fault_of form line Form = BadLine line
+fault_of form line Unknown = unknown_on form line
+fault_of form line Unfit = BadLine line
+fault_of form line Large = TooLarge line
+
+-- the first fault of a text whose lines from that number on are to have these forms, if there is
+-- one: a line that is due is missing, has no line feed or has a flaw, or more lines stand there
+abbrev pub HasFirstFault : Circuit → Scale → List forms.Form → (line : ℕ) → (text : List ℕ)
+    → Option ReportFault → Type 0
+HasFirstFault circuit scale [] line text fault =
+    fault ≡ (if length text == 0 then None else Some (Extra line))
+HasFirstFault circuit scale (due ∷ more) line text fault =
+    MatchBool (length text == 0) (fault ≡ Some (Missing line))
+    (MatchOption (position is_line_feed text) (fault ≡ Some (BadLine line))
+    (λ end. (flaw : Option Flaw)
+    × LineHasFlaw circuit (fields_of circuit scale due (words_of (take end text)))
+    (words_of (take end text)) flaw
+    × MatchOption flaw
+    (HasFirstFault circuit scale more (line + 1) (drop (end + 1) text) fault)
+    (λ found. fault ≡ Some (fault_of due line found))))
+
+-- a word of a line of the text, and no bytes where there is none
+abbrev pub word_at : List ℕ → (line place : ℕ) → List ℕ
+word_at text line place =
+    get_or (words_of (get_or (slice_split is_line_feed text) line [])) place []
+
+-- what the first three lines tell of the lines behind them: the version, the steps, and how many
+-- constraints the cycle has
+abbrev pub version_told : List ℕ → Version
+version_told text =
+    if bytes_eq (word_at text 0 1) (codes "1") then version.First else version.Second
+
+abbrev pub den_told : List ℕ → ℤ
+den_told text = if list_any is_slash (word_at text 1 1)
+    then pos (digits_value 10 (after_first is_slash (word_at text 1 1))) else pos 1
+
+abbrev pub scale_told : Tech → List ℕ → Scale
+scale_told tech text = record {
+  den = den_told text;
+  grid = pos (10 ^ 6) *ℤ (pos 8 *ℤ den_told text *ℤ tech.wire_num);
+}
+
+abbrev pub cycle_told : List ℕ → ℕ
+cycle_told text = if is_word (word_at text 2 0 ∷ []) 0 word.Floor
+    then 0 else digits_value 10 (word_at text 2 1)
+
+-- the text has this fault first as a report of the circuit with these delays, or none
+abbrev pub HasFault : Circuit → Tech → List ℕ → Option ReportFault → Type 0
+HasFault circuit tech text fault = HasFirstFault circuit (scale_told tech text)
+    (forms_of (version_told text) (cycle_told text) (length circuit.registers)) 1 text fault

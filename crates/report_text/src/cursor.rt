@@ -1,0 +1,93 @@
+//! What is left of a text that is read line by line.
+
+ghost use Rattle.std.specs.Prelude.{◌≡◌, ◌==◌, map, position, IfOk};
+ghost use Rattle.std.specs.List.{slice_split};
+ghost use Rattle.report_text.specs.ReportFaults.{is_line_feed, words_of};
+
+use crate::fault::ReportFault;
+use cts_base::NoMemory;
+use std::alloc::{AllocError, Global};
+use std::marker::Model;
+
+/// What is left of a text, and the number of its first line.
+#[derive(Drop)]
+pub(crate) struct Cursor<'a> {
+    line: u32,
+    rest: &'a [u8],
+}
+
+impl<'a> Model for Cursor<'a> {
+    ghost use Rattle.report_text.specs.Walks.{Left};
+
+    ghost Value = { Left };
+
+    ghost view = { λ cursor. record { line = cursor.line; text = cursor.rest.now } };
+}
+
+impl<'a> Cursor<'a> {
+    ghost use Rattle.std.specs.Prelude.{◌≡◌, ◌<◌, ◌==◌, length, IfOk, IfErr};
+    ghost use Rattle.report_text.specs.Walks.{TakesLine, HasNoLine};
+
+    /// All of a text, whose first line is line 1.
+    pub(crate) fn of(text: &'a [u8]) -> Cursor<'a>
+        ensures { result ≡ record { line = 1; text = text.now } }
+    {
+        Cursor {
+            line: 1,
+            rest: text,
+        }
+    }
+
+    /// The number of the next line.
+    pub(crate) fn line(&self) -> u32
+        ensures { result ≡ self.now.line }
+    {
+        self.line
+    }
+
+    /// Whether nothing is left.
+    pub(crate) fn is_at_end(&self) -> bool
+        ensures { result ≡ (length self.now.text == 0) }
+    {
+        self.rest.is_empty()
+    }
+
+    /// Takes the next line, without its line feed.
+    pub(crate) fn next_line(&mut self) -> Result<&'a [u8], ReportFault>
+        requires { self.old.line < 1000000 }
+        ensures ok { IfOk result (λ line. TakesLine self.old line.now self.new) }
+        ensures fault { IfErr result (HasNoLine self.old) }
+    {
+        if self.rest.is_empty() {
+            return Err(ReportFault::Missing(self.line));
+        }
+        let Some(end) = first_line_feed(self.rest) else {
+            return Err(ReportFault::BadLine(self.line));
+        };
+        let (line, rest) = self.rest.split_at(end);
+        self.rest = rest.split_at(1).1;
+        self.line += 1;
+        Ok(line)
+    }
+}
+
+fn first_line_feed(text: &[u8]) -> Option<usize>
+    ensures { result ≡ position is_line_feed text.now }
+{
+    text.iter().position(|byte| *byte == b'\n')
+}
+
+/// The words of a line.
+pub(crate) fn words_of(alloc: Global, line: &[u8]) -> Result<Vec<&[u8]>, NoMemory>
+    ensures { IfOk result (λ words. map (λ word. word.now) words.items ≡ words_of line.now) }
+{
+    Ok(cut_at_spaces(alloc, line)?)
+}
+
+// The parts of a line between its spaces.
+fn cut_at_spaces(alloc: Global, line: &[u8]) -> Result<Vec<&[u8]>, AllocError>
+    ensures { IfOk result (λ words. map (λ word. word.now) words.items
+        ≡ slice_split (λ byte. byte == 32) line.now) }
+{
+    line.split(|byte| *byte == b' ').collect(alloc)
+}

@@ -1,0 +1,44 @@
+//! Reading a report: its lines one after the other, each by the form that is due.
+
+ghost use Rattle.std.specs.Prelude.{◌≡◌, ◌≢◌, ◌⊎◌, Some, Ok, Err, IfOk, IfErr};
+ghost use Rattle.cts_model.specs.declared.report.Report as model;
+ghost use Rattle.cts_model.specs.ReportBounds.{Spells};
+ghost use Rattle.report_text.specs.declared.fault.ReportFault as faults;
+ghost use Rattle.report_text.specs.declared.fault.ReportFault.TheVariants as fault;
+ghost use Rattle.report_text.specs.ReportFaults.{HasFault};
+
+mod body;
+mod heading;
+mod line;
+mod parts;
+mod section;
+mod timing;
+mod tree;
+
+use crate::assembly::report_of;
+use crate::fault::ReportFault;
+use crate::reader::parts::read_parts;
+use cts_model::{Circuit, Report, Tech};
+use std::alloc::Global;
+
+/// Reads the text of a report over a circuit, made for a delay table. A text that isn't one is
+/// refused with its first fault.
+pub fn read_report(
+    alloc: Global,
+    bytes: &[u8],
+    circuit: &Circuit,
+    tech: &Tech,
+) -> Result<Report, ReportFault>
+    ensures ok { IfOk result (Spells circuit.now tech.now bytes.now) }
+    ensures fault { IfErr result (λ found. found ≢ fault.NoMemory
+        → HasFault circuit.now tech.now bytes.now (Some found)) }
+    ensures read { (report : model.Report) → Spells circuit.now tech.now bytes.now report
+        → (result ≡ Ok report) ⊎ (result ≡ Err fault.NoMemory) }
+    ensures faulty { (found : faults.ReportFault)
+        → HasFault circuit.now tech.now bytes.now (Some found)
+        → (result ≡ Err found) ⊎ (result ≡ Err fault.NoMemory) }
+{
+    let parts = read_parts(alloc, bytes, circuit, tech)?;
+    let report = report_of(alloc, tech, parts)?;
+    Ok(report)
+}
