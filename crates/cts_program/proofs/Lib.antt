@@ -1,11 +1,10 @@
 mod LineLemmas
-mod LineBytes
+mod TimingLines
 mod LineFronts
 mod PeriodFronts
 mod ScheduleFronts
 mod SynthFronts
-mod RegisterLines
-mod PairRegisters
+mod CycleRegisters
 mod OneText
 mod PieceLemmas
 mod FileLemmas

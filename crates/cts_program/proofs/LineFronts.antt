@@ -1,26 +1,14 @@
 -- Texts of lines, of which one is a front of the other.
-use Rattle.std.proofs.Common.{◌≡◌, ◌<◌, ℕ, false, List, [], ◌∷◌, ◌++◌, length, take, drop, get_or, refl, sym, ap, ap₂, ◌∙◌, subst, true≢false, append_assoc, length-append, arith}
-use Rattle.std.specs.List.{AllByRecursion, list_any, join_with_byte}
+use Rattle.std.proofs.Common.{◌≡◌, ◌<◌, ℕ, List, [], ◌∷◌, ◌++◌, length, take, drop, get_or, refl, sym, ap, ap₂, ◌∙◌, subst, append_assoc, append-nil, length-append, arith}
+use Rattle.std.specs.List.{AllByRecursion, join_with_byte}
 use Rattle.std.proofs.lemmas.List.{length-take, take-append-drop}
-use Rattle.cts_base.specs.Lines.{is_line_feed}
-use Rattle.cts_program.specs.Texts.{Words, text_of}
-use Rattle.cts_program.proofs.GivenOptions.{neither}
-use Rattle.cts_program.proofs.LineBytes.{IsInLine}
+use Rattle.cts_model.specs.PrintedLines.{Words, text_of}
+use Rattle.report_text.proofs.OneLine.{IsWord, IsLine}
+use Rattle.report_text.proofs.ReportWords.{AreLines}
 
 -- the words of a line with the spaces between them
 abbrev pub joined : Words → List ℕ
 joined words = join_with_byte 32 words
-
--- each of these is one line
-abbrev pub AreLines : List Words → Type 0
-AreLines lines = AllByRecursion (λ words. IsInLine (joined words)) lines
-
--- lines behind lines are lines
-pub lines_behind : (lines others : List Words) → AreLines lines → AreLines others
-    → AreLines (lines ++ others)
-lines_behind [] others each each' = each'
-lines_behind (line ∷ lines) others each each' =
-    (each.0, lines_behind lines others each.1 each')
 
 -- the first lines of the one are those of the other
 abbrev pub AreFront : List Words → List Words → Type 0
@@ -28,11 +16,28 @@ AreFront [] others = Unit {0}
 AreFront (line ∷ lines) [] = ⊥
 AreFront (line ∷ lines) (other ∷ others) = (joined line ≡ joined other) × AreFront lines others
 
--- what begins with a line feed isn't in a line
-begins : (byte : ℕ) (bytes : List ℕ) → IsInLine (byte ∷ bytes) → 10 ≡ byte → ⊥
-begins byte bytes in_line is =
-    true≢false (subst (λ b. is_line_feed b ≡ false) (sym is)
-    (neither (is_line_feed byte) (list_any is_line_feed bytes) in_line).0)
+-- each byte is above the line feed
+abbrev IsInLine : List ℕ → Type 0
+IsInLine bytes = AllByRecursion (λ byte. 10 < byte) bytes
+
+-- a word before others in a line
+word_before : (word others : List ℕ) → IsWord word → IsInLine others → IsInLine (word ++ others)
+word_before [] others is in_line = in_line
+word_before (byte ∷ word) others is in_line =
+    (omega (arith, is.0), word_before word others is.1 in_line)
+
+-- no line has a line feed before its end
+joined_in_line : (words : Words) → IsLine words → IsInLine (joined words)
+joined_in_line [] is = absurd is
+joined_in_line (word ∷ []) is =
+    subst IsInLine (append-nil word) (word_before word [] is.0 tt)
+joined_in_line (word ∷ next ∷ more) is =
+    word_before word (32 ∷ joined (next ∷ more)) is.0
+    (omega arith, joined_in_line (next ∷ more) is.1)
+
+-- the first bytes of two texts that are one
+first_byte : (bytes others : List ℕ) → bytes ≡ others → get_or bytes 0 0 ≡ get_or others 0 0
+first_byte bytes others same = ap (λ (b : List ℕ). get_or b 0 0) same
 
 -- where two texts are one, so are their first lines, and what stands behind those
 first_line : (line other behind behind' : List ℕ) → IsInLine line → IsInLine other
@@ -40,15 +45,13 @@ first_line : (line other behind behind' : List ℕ) → IsInLine line → IsInLi
 first_line [] [] behind behind' in_line in_line' same =
     (refl, ap (λ (bytes : List ℕ). drop 1 bytes) same)
 first_line [] (byte ∷ other) behind behind' in_line in_line' same =
-    absurd (begins byte other in_line' (ap (λ (bytes : List ℕ). get_or bytes 0 0) same))
+    let is : 10 ≡ byte = first_byte _ _ same in absurd (omega (arith, in_line'.0))
 first_line (byte ∷ line) [] behind behind' in_line in_line' same =
-    absurd (begins byte line in_line (ap (λ (bytes : List ℕ). get_or bytes 0 0) (sym same)))
+    let is : byte ≡ 10 = first_byte _ _ same in absurd (omega (arith, in_line.0))
 first_line (byte ∷ line) (byte' ∷ other) behind behind' in_line in_line' same =
-    let rest = first_line line other behind behind'
-    (neither (is_line_feed byte) (list_any is_line_feed line) in_line).1
-    (neither (is_line_feed byte') (list_any is_line_feed other) in_line').1
+    let rest = first_line line other behind behind' in_line.1 in_line'.1
     (ap (λ (bytes : List ℕ). drop 1 bytes) same) in
-    (ap₂ (λ b bs. b ∷ bs) (ap (λ (bytes : List ℕ). get_or bytes 0 0) same) rest.0, rest.1)
+    (ap₂ (λ b bs. b ∷ bs) (first_byte _ _ same) rest.0, rest.1)
 
 -- a line in front of two texts
 line_before : (line behind more : List ℕ)
@@ -71,7 +74,8 @@ front_lines (line ∷ lines) [] rest each each' same =
     (line_before (joined line) (text_of lines) rest ∙ same))
 front_lines (line ∷ lines) (other ∷ others) rest each each' same =
     let first = first_line (joined line) (joined other) (text_of lines ++ rest) (text_of others)
-    each.0 each'.0 (line_before (joined line) (text_of lines) rest ∙ same
+    (joined_in_line line each.0) (joined_in_line other each'.0)
+    (line_before (joined line) (text_of lines) rest ∙ same
     ∙ append_assoc (joined other) (10 ∷ []) (text_of others)) in
     (first.0, front_lines lines others rest each.1 each'.1 first.1)
 

@@ -23,6 +23,7 @@ use Rattle.delay_tables.proofs.OneTable.{one_table}
 use Rattle.place_reader.specs.declared.fault.PlaceFault.TheVariants as place
 use Rattle.place_reader.specs.Refusals as placement
 use Rattle.place_reader.proofs.OneFault as placement_faults
+use Rattle.cts_model.specs.PrintedLines.{text_of}
 use Rattle.cts_program.specs.declared.command.Command.{Command}
 use Rattle.cts_program.specs.declared.command.Command.TheVariants.{Zero, Period, Schedule, Synth}
 use Rattle.cts_program.specs.declared.command.table.Form.{Form}
@@ -38,7 +39,7 @@ use Rattle.cts_program.specs.Judged.{IsNetlistFile, IsTableFile, IsPlacementFile
 use Rattle.cts_program.specs.PeriodTexts.{IsPeriodText}
 use Rattle.cts_program.specs.PlainWords.{form_of}
 use Rattle.cts_program.specs.ScheduleTexts.{IsScheduleText}
-use Rattle.cts_program.specs.Texts.{text_of, zero_lines, IsZeroText}
+use Rattle.cts_program.specs.Texts.{zero_lines, IsZeroText}
 use Rattle.cts_program.proofs.OneText.{one_text}
 use Rattle.cts_program.proofs.PeriodFronts.{one_period_status, no_period_front, some_period}
 use Rattle.cts_program.proofs.SynthFronts.{IsSynthTextOf, text_of_problem, one_synth_status, no_synth_front, some_synth}

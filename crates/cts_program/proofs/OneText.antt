@@ -9,7 +9,8 @@ use Rattle.cts_model.specs.declared.timing.ZeroSkew.{ZeroSkew}
 use Rattle.cts_model.specs.declared.timing.ZeroSkew.TheVariants.{Fails, Floor, Setup}
 use Rattle.cts_model.specs.Paths.{IsPath}
 use Rattle.cts_model.specs.EqualArrivals.{IsPairDelay, IsFirstPair, NeedsPeriod, IsEnough, IsFailing, IsFloor, IsSetup, IsZeroSkew}
-use Rattle.cts_program.specs.Texts.{text_of, zero_lines, IsZeroText}
+use Rattle.cts_model.specs.PrintedLines.{text_of}
+use Rattle.cts_program.specs.Texts.{zero_lines, IsZeroText}
 
 -- one pair at the most is the first
 one_first : (Property : ℕ → ℕ → Type 0) (from to from' to' : ℕ) → IsFirstPair Property from to → IsFirstPair Property from' to' → (from ≡ from') × (to ≡ to')

@@ -1,6 +1,6 @@
 -- A circuit and its delays have period texts of one status, and none is a front of another: they
 -- differ in the cycle alone.
-use Rattle.std.proofs.Common.{◌≡◌, ◌<◌, ◌≤◌, ◌^◌, ◌≢◌, ◌+◌, ◌++◌, ℕ, suc, pos, Bool, true, false, cond, if◌then◌else◌, List, [], ◌∷◌, length, map, take, drop, get_or, All, AllPairs, refl, sym, ap, ◌∙◌, subst, append-nil, length-append, codes, arith}
+use Rattle.std.proofs.Common.{◌≡◌, ◌<◌, ◌≤◌, ◌^◌, ◌≢◌, ◌+◌, ◌++◌, ℕ, suc, Bool, true, false, cond, List, [], ◌∷◌, length, map, take, drop, get_or, All, AllPairs, refl, sym, ap, ◌∙◌, subst, append-nil, length-append, codes, arith}
 use Rattle.std.proofs.lemmas.Bool.Decides.{Decides-eqb}
 use Rattle.std.proofs.lemmas.Fmt.{decimal_injective}
 use Rattle.std.proofs.lemmas.List.{length-map}
@@ -15,21 +15,20 @@ use Rattle.cts_model.specs.declared.tech.Tech.{Tech}
 use Rattle.cts_model.specs.declared.constraint.Constraint.{Constraint}
 use Rattle.cts_model.specs.declared.period.PeriodShow.{PeriodShow}
 use Rattle.cts_model.specs.declared.period.PeriodShow.TheVariants.{Cycle, Floor}
-use Rattle.cts_model.specs.declared.timing.ZeroSkew.{ZeroSkew}
-use Rattle.cts_model.specs.declared.timing.ZeroSkew.TheVariants as zero_skew
 use Rattle.cts_model.specs.Circuits.{has_host}
 use Rattle.cts_model.specs.Constraints.{IsConstraintOf}
 use Rattle.cts_model.specs.Cycles.{IsCycle}
 use Rattle.cts_model.specs.LeastPeriods.{IsForbidding, IsPeriodShow}
+use Rattle.cts_model.specs.PrintedLines.{Words, text_of, count_line, period_line, line_for, cycle_lines, show_lines}
 use Rattle.cts_model.proofs.CircuitConstraints.{forbidding_at_all}
+use Rattle.cts_model.proofs.PathRegisters.{tails_within}
 use Rattle.cts_engine.specs.declared.period.PeriodOutcome.{PeriodOutcome}
 use Rattle.cts_engine.specs.declared.period.PeriodOutcome.TheVariants.{Found, Never}
 use Rattle.cts_engine.specs.Outcomes.{IsPeriodOutcome}
-use Rattle.cts_program.specs.PeriodTexts.{period_line, line_for, count_line, cycle_lines, show_lines, found_lines, never_lines, period_lines, outcome_status, IsPeriodText}
-use Rattle.cts_program.specs.Texts.{Words, text_of, constraint_line, zero_line}
-use Rattle.cts_program.proofs.LineBytes.{IsInLine, words_in_line, number_in_line, fraction_in_line, register_in_line}
-use Rattle.cts_program.proofs.LineFronts.{joined, AreLines, AreFront, no_front}
-use Rattle.cts_program.proofs.PairRegisters.{tails_within}
+use Rattle.report_text.proofs.ReportWords.{AreLines}
+use Rattle.cts_program.specs.PeriodTexts.{never_lines, period_lines, outcome_status, IsPeriodText}
+use Rattle.cts_program.proofs.LineFronts.{joined, AreFront, no_front}
+use Rattle.cts_program.proofs.TimingLines.{found_lines_are, never_lines_are}
 
 -- ---- one status
 
@@ -56,73 +55,7 @@ one_period_status circuit tech status status' text text' spells spells' =
 
 -- ---- the lines are lines
 
--- the line of a constraint is one line
-line_for_in_line : (circuit : Circuit) (constraint : Constraint)
-    → IsInLine (joined (line_for circuit constraint))
-line_for_in_line circuit constraint = at constraint.setup
-  where
-    between : (word : List ℕ) → IsInLine word → (launch capture : ℕ)
-        → IsInLine (joined (constraint_line word circuit launch capture constraint.weight))
-    between word in_line launch capture =
-        words_in_line (constraint_line word circuit launch capture constraint.weight) (
-          in_line,
-          (
-            register_in_line circuit launch,
-            (register_in_line circuit capture, (number_in_line constraint.weight, tt)),
-          ),
-        )
-
-    at : (setup : Bool) → IsInLine (joined (if setup
-        then constraint_line
-        (codes "setup") circuit constraint.tail constraint.head constraint.weight
-        else constraint_line
-        (codes "hold") circuit constraint.head constraint.tail constraint.weight))
-    at true = between (codes "setup") refl constraint.tail constraint.head
-    at false = between (codes "hold") refl constraint.head constraint.tail
-
--- so are those of constraints
-constraint_lines : (circuit : Circuit) (cycle : List Constraint)
-    → AreLines (map (line_for circuit) cycle)
-constraint_lines circuit [] = tt
-constraint_lines circuit (constraint ∷ cycle) =
-    (line_for_in_line circuit constraint, constraint_lines circuit cycle)
-
--- those of a cycle
-cycle_lines_are : (circuit : Circuit) (cycle : List Constraint)
-    → AreLines (cycle_lines circuit cycle)
-cycle_lines_are circuit cycle = (
-  words_in_line (count_line cycle)
-      (refl, (number_in_line (pos (length cycle)), tt)),
-  constraint_lines circuit cycle,
-)
-
--- those of what shows a period
-show_lines_are : (circuit : Circuit) (shown : PeriodShow) → AreLines (show_lines circuit shown)
-show_lines_are circuit (Cycle cycle) = cycle_lines_are circuit cycle
-show_lines_are circuit Floor = (refl, tt)
-
--- and the line for the least period at equal arrivals
-zero_line_is : (zero : ZeroSkew) → IsInLine (joined (zero_line zero))
-zero_line_is (zero_skew.Fails pair) = refl
-zero_line_is (zero_skew.Floor value) =
-    words_in_line (zero_line (zero_skew.Floor value)) (refl, (number_in_line value, tt))
-zero_line_is (zero_skew.Setup value pair) =
-    words_in_line (zero_line (zero_skew.Setup value pair)) (refl, (number_in_line value, tt))
-
--- so those of a period that is found are lines
-pub found_lines_are : (circuit : Circuit) (zero : ZeroSkew) (period : Fraction)
-    (shown : PeriodShow) → AreLines (found_lines circuit zero period shown)
-found_lines_are circuit zero period shown = (
-  words_in_line (period_line period) (refl, (fraction_in_line period.num period.den, tt)),
-  (zero_line_is zero, show_lines_are circuit shown),
-)
-
--- and those of a cycle that forbids every period
-pub never_lines_are : (circuit : Circuit) (cycle : List Constraint)
-    → AreLines (never_lines circuit cycle)
-never_lines_are circuit cycle = (refl, cycle_lines_are circuit cycle)
-
--- so it is with an outcome
+-- those of an outcome are lines
 period_lines_are : (circuit : Circuit) (outcome : PeriodOutcome)
     → AreLines (period_lines circuit outcome)
 period_lines_are circuit (Found zero period shown) = found_lines_are circuit zero period shown
@@ -172,9 +105,13 @@ cycle_count circuit tech cycle of_circuit is_cycle =
         at true few = few
         at false few = omega arith
 
+-- the line of that count
+abbrev pub cycle_count_line : List Constraint → Words
+cycle_count_line cycle = count_line (codes "cycle") (length cycle)
+
 -- cycles that are spelled with one count have as many constraints
 pub one_cycle_length : (cycle other : List Constraint) → length cycle < 2 ^ 64
-    → length other < 2 ^ 64 → joined (count_line cycle) ≡ joined (count_line other)
+    → length other < 2 ^ 64 → joined (cycle_count_line cycle) ≡ joined (cycle_count_line other)
     → length cycle ≡ length other
 one_cycle_length cycle other small small' same =
     decimal_injective (length cycle) (length other) small small'
@@ -183,7 +120,7 @@ one_cycle_length cycle other small small' same =
 -- and as many lines
 one_count : (circuit : Circuit) (cycle other : List Constraint) → length cycle < 2 ^ 64
     → length other < 2 ^ 64
-    → joined (count_line cycle) ≡ joined (count_line other)
+    → joined (cycle_count_line cycle) ≡ joined (cycle_count_line other)
     → length (cycle_lines circuit cycle) ≡ length (cycle_lines circuit other)
 one_count circuit cycle other small small' same =
     let count = one_cycle_length cycle other small small' same in
@@ -216,10 +153,10 @@ as_many_shown circuit tech period period' (Cycle cycle) (Cycle cycle') shows sho
     )
 as_many_shown circuit tech period period' (Cycle cycle) Floor shows shows' behind behind'
     as_many front =
-    absurd (differ (joined (count_line cycle)) (codes "floor") (λ e. omega arith) front.0)
+    absurd (differ (joined (cycle_count_line cycle)) (codes "floor") (λ e. omega arith) front.0)
 as_many_shown circuit tech period period' Floor (Cycle cycle) shows shows' behind behind'
     as_many front =
-    absurd (differ (codes "floor") (joined (count_line cycle)) (λ e. omega arith) front.0)
+    absurd (differ (codes "floor") (joined (cycle_count_line cycle)) (λ e. omega arith) front.0)
 as_many_shown circuit tech period period' Floor Floor shows shows' behind behind' as_many front =
     ap suc as_many
 

@@ -8,6 +8,7 @@ use Rattle.cts_model.specs.declared.place.Places.{Places}
 use Rattle.cts_model.specs.declared.tech.Tech.{Tech}
 use Rattle.cts_model.specs.declared.problem.Problem.{Problem}
 use Rattle.cts_model.specs.PairLists.{JoinsMoreThan}
+use Rattle.cts_model.specs.PrintedLines.{text_of}
 use Rattle.cts_model.specs.Placements.{register_nodes}
 use Rattle.cts_engine.specs.declared.synthesis.Outcome.{Outcome}
 use Rattle.cts_engine.specs.declared.synthesis.Outcome.TheVariants as outcomes
@@ -26,7 +27,6 @@ use Rattle.cts_program.specs.Judged.{IsNetlistFile, IsTableFile, AreAccepted, Te
 use Rattle.cts_program.specs.Run.{TellsText, Stops}
 use Rattle.cts_program.specs.Steps.{IsToldAs, ReadsPlaces, FailsPlaces, TellsFault, TellsCircuit}
 use Rattle.cts_program.specs.SynthTexts.{IsSynthText, synth_lines, synth_status}
-use Rattle.cts_program.specs.Texts.{text_of}
 use Rattle.cts_program.proofs.ResultLemmas.{if_ok_from}
 
 -- a register that has no place is one of the circuit

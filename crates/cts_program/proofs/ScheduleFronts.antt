@@ -1,21 +1,21 @@
 -- A circuit and its delays have schedule texts of one status, and none is a front of another: they
 -- differ in the cycle alone.
-use Rattle.std.proofs.Common.{◌≡◌, ◌<◌, ℕ, suc, pos, List, [], ◌∷◌, length, take, Option, Some, None, refl, sym, ap, ◌∙◌, subst, arith}
-use Rattle.cts_base.specs.declared.fraction.Fraction.{Fraction}
+use Rattle.std.proofs.Common.{◌≡◌, ◌<◌, ℕ, suc, List, length, take, sym, ap, ◌∙◌, subst, arith}
+use Rattle.std.proofs.lemmas.List.FromFn.{length-map-range_with_len}
 use Rattle.cts_model.specs.declared.circuit.Circuit.{Circuit}
-use Rattle.cts_model.specs.declared.tech.Tech.{Tech}
+use Rattle.cts_model.specs.declared.schedule.Schedule.{Schedule}
 use Rattle.cts_model.specs.declared.schedule.Slack.{Slack}
+use Rattle.cts_model.specs.declared.tech.Tech.{Tech}
+use Rattle.cts_model.specs.PrintedLines.{text_of}
 use Rattle.cts_engine.specs.declared.scheduling.ScheduleOutcome.{ScheduleOutcome}
 use Rattle.cts_engine.specs.declared.scheduling.ScheduleOutcome.TheVariants.{Found, Never}
 use Rattle.cts_engine.specs.Outcomes.{IsPeriodOutcome}
 use Rattle.cts_engine.specs.ScheduleOutcomes.{period_outcome, IsScheduleOutcome}
-use Rattle.cts_program.specs.PeriodTexts.{found_lines}
-use Rattle.cts_program.specs.ScheduleTexts.{slack_word, register_line, lines_from, count_line, register_lines, schedule_lines, AreArrivalsOf, IsScheduleText}
-use Rattle.cts_program.specs.Texts.{text_of}
-use Rattle.cts_program.proofs.LineBytes.{IsInLine, words_in_line, number_in_line, fraction_in_line, register_in_line}
-use Rattle.cts_program.proofs.LineFronts.{AreLines, AreFront, no_front, lines_behind}
-use Rattle.cts_program.proofs.PeriodFronts.{one_outcome_status, found_lines_are, never_lines_are, found_not_never, as_many_shown, as_many_never}
-use Rattle.cts_program.proofs.RegisterLines.{length-lines_from}
+use Rattle.report_text.proofs.ReportWords.{AreLines}
+use Rattle.cts_program.specs.ScheduleTexts.{register_line_at, register_lines, schedule_lines, IsScheduleText}
+use Rattle.cts_program.proofs.LineFronts.{AreFront, no_front}
+use Rattle.cts_program.proofs.PeriodFronts.{one_outcome_status, found_not_never, as_many_shown, as_many_never}
+use Rattle.cts_program.proofs.TimingLines.{scheduled_lines_are, never_lines_are}
 
 -- ---- one status
 
@@ -39,77 +39,43 @@ one_schedule_status circuit tech status status' text text' spells spells' =
 
 -- ---- the lines are lines
 
--- a slack is in a line
-slack_in_line : (slack : Option Fraction) → IsInLine (slack_word slack)
-slack_in_line None = refl
-slack_in_line (Some slack) = fraction_in_line slack.num slack.den
-
--- so the lines of registers are lines
-lines_from_are : (circuit : Circuit) (register : ℕ) (arrivals : List Fraction)
-    (slacks : List Slack) → AreLines (lines_from circuit register arrivals slacks)
-lines_from_are circuit register [] slacks = tt
-lines_from_are circuit register (arrival ∷ arrivals) [] = tt
-lines_from_are circuit register (arrival ∷ arrivals) (slack ∷ slacks) = (
-  words_in_line (register_line circuit register arrival slack) (
-    register_in_line circuit register,
-    (
-      fraction_in_line arrival.num arrival.den,
-      (slack_in_line slack.setup, (slack_in_line slack.hold, tt)),
-    ),
-  ),
-  lines_from_are circuit (suc register) arrivals slacks,
-)
-
-register_lines_are : (circuit : Circuit) (arrivals : List Fraction) (slacks : List Slack)
-    → AreLines (register_lines circuit arrivals slacks)
-register_lines_are circuit arrivals slacks = (
-  words_in_line (count_line slacks) (refl, (number_in_line (pos (length slacks)), tt)),
-  lines_from_are circuit 0 arrivals slacks,
-)
-
--- and those of an outcome
-schedule_lines_are : (circuit : Circuit) (arrivals : List Fraction) (outcome : ScheduleOutcome)
-    → AreLines (schedule_lines circuit arrivals outcome)
-schedule_lines_are circuit arrivals (Found zero period shown schedule slacks) =
-    lines_behind (found_lines circuit zero period shown) (register_lines circuit arrivals slacks)
-    (found_lines_are circuit zero period shown) (register_lines_are circuit arrivals slacks)
-schedule_lines_are circuit arrivals (Never cycle) = never_lines_are circuit cycle
+-- those of an outcome are lines
+schedule_lines_are : (circuit : Circuit) (outcome : ScheduleOutcome)
+    → AreLines (schedule_lines circuit outcome)
+schedule_lines_are circuit (Found zero period shown schedule slacks) =
+    scheduled_lines_are circuit zero period shown schedule slacks
+schedule_lines_are circuit (Never cycle) = never_lines_are circuit cycle
 
 -- ---- the count of lines
 
--- as many lines for the registers as they are, and one
-length-register_lines : (circuit : Circuit) (arrivals : List Fraction) (slacks : List Slack)
-    → length arrivals ≡ length circuit.registers → length slacks ≡ length circuit.registers
-    → length (register_lines circuit arrivals slacks) ≡ suc (length circuit.registers)
-length-register_lines circuit arrivals slacks each each' =
-    ap suc (length-lines_from circuit 0 arrivals slacks (each ∙ sym each') ∙ each')
+-- as many lines for the registers as there are, and one
+length-register_lines : (circuit : Circuit) (schedule : Schedule) (slacks : List Slack)
+    → length schedule.at ≡ length circuit.registers
+    → length (register_lines circuit schedule slacks) ≡ suc (length circuit.registers)
+length-register_lines circuit schedule slacks each =
+    ap suc (length-map-range_with_len (register_line_at circuit schedule slacks) 0
+    (length schedule.at) ∙ each)
 
 -- lines of outcomes of which one are a front of the other are as many
-as_many_lines : (circuit : Circuit) (tech : Tech) (arrivals arrivals' : List Fraction)
-    (outcome other : ScheduleOutcome)
+as_many_lines : (circuit : Circuit) (tech : Tech) (outcome other : ScheduleOutcome)
     → IsScheduleOutcome circuit tech outcome → IsScheduleOutcome circuit tech other
-    → AreArrivalsOf outcome arrivals → AreArrivalsOf other arrivals'
-    → AreFront (schedule_lines circuit arrivals outcome) (schedule_lines circuit arrivals' other)
-    → length (schedule_lines circuit arrivals outcome)
-    ≡ length (schedule_lines circuit arrivals' other)
-as_many_lines circuit tech arrivals arrivals' (Found zero period shown schedule slacks)
-    (Found zero' period' shown' schedule' slacks') found found' are are' front =
-    let registers = length-register_lines circuit arrivals slacks
-    (are.registers ∙ found.least.registers) found.spared.registers in
-    let registers' = length-register_lines circuit arrivals' slacks'
-    (are'.registers ∙ found'.least.registers) found'.spared.registers in
+    → AreFront (schedule_lines circuit outcome) (schedule_lines circuit other)
+    → length (schedule_lines circuit outcome) ≡ length (schedule_lines circuit other)
+as_many_lines circuit tech (Found zero period shown schedule slacks)
+    (Found zero' period' shown' schedule' slacks') found found' front =
+    let registers = length-register_lines circuit schedule slacks found.least.registers in
+    let registers' = length-register_lines circuit schedule' slacks' found'.least.registers in
     ap (λ count. suc (suc count))
     (as_many_shown circuit tech period period' shown shown' found.found.shown found'.found.shown
-    (register_lines circuit arrivals slacks) (register_lines circuit arrivals' slacks')
+    (register_lines circuit schedule slacks) (register_lines circuit schedule' slacks')
     (registers ∙ sym registers') front.1.1)
-as_many_lines circuit tech arrivals arrivals' (Found zero period shown schedule slacks)
-    (Never cycle) found never are are' front =
-    absurd (found_not_never period front.0)
-as_many_lines circuit tech arrivals arrivals' (Never cycle)
-    (Found zero period shown schedule slacks) never found are are' front =
-    absurd (found_not_never period (sym front.0))
-as_many_lines circuit tech arrivals arrivals' (Never cycle) (Never cycle') never never' are are'
+as_many_lines circuit tech (Found zero period shown schedule slacks) (Never cycle) found never
     front =
+    absurd (found_not_never period front.0)
+as_many_lines circuit tech (Never cycle) (Found zero period shown schedule slacks) never found
+    front =
+    absurd (found_not_never period (sym front.0))
+as_many_lines circuit tech (Never cycle) (Never cycle') never never' front =
     as_many_never circuit tech cycle cycle' never never' front
 
 -- ---- texts
@@ -121,24 +87,17 @@ module _ (circuit : Circuit) (tech : Tech) (status : ℕ) (text : List ℕ)
       → IsScheduleText circuit tech status' other
       → (count : ℕ) → text ≡ take count other → count < length other → ⊥
   no_schedule_front status' other spells' count cut short =
-      let arrivals = spells.spelled.arrivals in
-      let arrivals' = spells'.spelled.arrivals in
-      no_front (schedule_lines circuit arrivals spells.outcome)
-      (schedule_lines circuit arrivals' spells'.outcome) count
-      (schedule_lines_are circuit arrivals spells.outcome)
-      (schedule_lines_are circuit arrivals' spells'.outcome)
-      (as_many_lines circuit tech arrivals arrivals' spells.outcome spells'.outcome spells.least
-      spells'.least spells.spelled.are spells'.spelled.are)
-      (sym spells.spelled.text_is ∙ cut ∙ ap (take count) spells'.spelled.text_is)
-      (subst (λ bytes. count < length bytes) spells'.spelled.text_is short)
+      no_front (schedule_lines circuit spells.outcome) (schedule_lines circuit spells'.outcome)
+      count
+      (schedule_lines_are circuit spells.outcome) (schedule_lines_are circuit spells'.outcome)
+      (as_many_lines circuit tech spells.outcome spells'.outcome spells.least spells'.least)
+      (sym spells.spelled ∙ cut ∙ ap (take count) spells'.spelled)
+      (subst (λ bytes. count < length bytes) spells'.spelled short)
 
   -- and none is empty
   pub some_schedule : 0 < length text
-  some_schedule =
-      subst (λ bytes. 0 < length bytes) (sym spells.spelled.text_is)
-      (at spells.spelled.arrivals spells.outcome)
+  some_schedule = subst (λ bytes. 0 < length bytes) (sym spells.spelled) (at spells.outcome)
     where
-      at : (arrivals : List Fraction) (outcome : ScheduleOutcome)
-          → 0 < length (text_of (schedule_lines circuit arrivals outcome))
-      at arrivals (Found zero period shown schedule slacks) = omega arith
-      at arrivals (Never cycle) = omega arith
+      at : (outcome : ScheduleOutcome) → 0 < length (text_of (schedule_lines circuit outcome))
+      at (Found zero period shown schedule slacks) = omega arith
+      at (Never cycle) = omega arith

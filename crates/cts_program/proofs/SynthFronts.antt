@@ -1,7 +1,6 @@
 -- A circuit and its delays have texts of clock trees of one status, and none is a front of another:
 -- up to the count of the cycle they tell how many lines they have.
 use Rattle.std.proofs.Common.{◌≡◌, ◌<◌, ◌+◌, ◌*◌, ◌++◌, ℕ, suc, zero, List, [], ◌∷◌, length, map, take, refl, sym, ap, ◌∙◌, subst, codes, length-append, arith}
-use Rattle.std.specs.List.{AllByRecursion}
 use Rattle.std.proofs.lemmas.List.{length-map}
 use Rattle.std.proofs.lemmas.List.FromFn.{length-map-range_with_len}
 use Rattle.cts_model.specs.declared.circuit.Circuit.{Circuit}
@@ -13,18 +12,16 @@ use Rattle.cts_model.specs.declared.report.Report.{Report}
 use Rattle.cts_model.specs.declared.report.Version.TheVariants.{Second}
 use Rattle.cts_model.specs.declared.tech.Tech.{Tech}
 use Rattle.cts_model.specs.LeastPeriods.{IsLeastFraction, IsPeriodShow}
-use Rattle.cts_model.specs.PrintedLines.{count_line, period_line}
+use Rattle.cts_model.specs.PrintedLines.{Words, text_of, count_line, period_line}
 use Rattle.cts_model.specs.ReportBounds.{count_in, IsOfSize}
 use Rattle.cts_model.specs.ReportLines.{version_line, pathed_lines, period_show_lines, lines_below, register_line_at, lead_line, merge_line_at, source_line, node_line_at, length_text, tree_lines, report_lines}
 use Rattle.cts_model.proofs.CircuitConstraints.{forbidding_at_all}
-use Rattle.report_text.proofs.OneLine.{IsWord, IsLine}
 use Rattle.report_text.proofs.ReportWords.{report_lines_are}
 use Rattle.cts_program.specs.PeriodTexts.{never_lines}
 use Rattle.cts_program.specs.SynthTexts.{IsNeverText, IsSynthText}
-use Rattle.cts_program.specs.Texts.{Words, text_of}
-use Rattle.cts_program.proofs.LineBytes.{IsInLine, no_feed, words_in_line}
-use Rattle.cts_program.proofs.LineFronts.{joined, AreLines, AreFront, no_front}
-use Rattle.cts_program.proofs.PeriodFronts.{differ, cycle_count, one_cycle_length, never_lines_are, as_many_never}
+use Rattle.cts_program.proofs.LineFronts.{joined, AreFront, no_front}
+use Rattle.cts_program.proofs.PeriodFronts.{differ, cycle_count, cycle_count_line, one_cycle_length, as_many_never}
+use Rattle.cts_program.proofs.TimingLines.{never_lines_are}
 
 -- what a text says of the circuit and its delays alone
 pub record SpellsReport (circuit : Circuit) (tech : Tech) (text : List ℕ) : Type 0 where
@@ -77,28 +74,6 @@ one_synth_status circuit tech (suc zero) zero text text' says says' =
 one_synth_status circuit tech (suc zero) (suc zero) text text' says says' = refl
 one_synth_status circuit tech (suc zero) (suc (suc more)) text text' says says' = absurd says'
 one_synth_status circuit tech (suc (suc more)) status' text text' says says' = absurd says
-
--- ---- the lines are lines
-
--- a word has no line feed
-word_in_line : (bytes : List ℕ) → IsWord bytes → IsInLine bytes
-word_in_line [] is = refl
-word_in_line (byte ∷ bytes) is =
-    rw (no_feed byte (λ ten. omega (arith, is.0))) (word_in_line bytes is.1)
-
--- nor have words
-words_in : (words : Words) → AllByRecursion IsWord words → AllByRecursion IsInLine words
-words_in [] are = tt
-words_in (word ∷ words) are = (word_in_line word are.0, words_in words are.1)
-
--- so lines of words are lines
-lines_in : (lines : List Words) → AllByRecursion IsLine lines → AreLines lines
-lines_in [] are = tt
-lines_in ([] ∷ lines) are = absurd are.0
-lines_in ((word ∷ words) ∷ lines) are = (
-  words_in_line (word ∷ words) (words_in (word ∷ words) are.0),
-  lines_in lines are.1,
-)
 
 -- ---- the count of lines
 
@@ -208,11 +183,11 @@ as_many_second circuit tech report other size size' second second' (Cycle cycle)
     )
 as_many_second circuit tech report other size size' second second' (Cycle cycle) Floor
     shows shows' front =
-    absurd (differ (joined (count_line (codes "cycle") (length cycle))) (codes "floor")
+    absurd (differ (joined (cycle_count_line cycle)) (codes "floor")
     (λ e. omega arith) front.1.1.0)
 as_many_second circuit tech report other size size' second second' Floor (Cycle cycle)
     shows shows' front =
-    absurd (differ (codes "floor") (joined (count_line (codes "cycle") (length cycle)))
+    absurd (differ (codes "floor") (joined (cycle_count_line cycle))
     (λ e. omega arith) front.1.1.0)
 as_many_second circuit tech report other size size' second second' Floor Floor
     shows shows' front =
@@ -232,8 +207,7 @@ no_report_front circuit tech text other spells spells' count cut short =
     let report = spells.report in
     let report' = spells'.report in
     no_front (report_lines circuit report) (report_lines circuit report') count
-    (lines_in (report_lines circuit report) (report_lines_are circuit report))
-    (lines_in (report_lines circuit report') (report_lines_are circuit report'))
+    (report_lines_are circuit report) (report_lines_are circuit report')
     (λ front. ap length (second_is circuit report spells.version)
     ∙ as_many_second circuit tech report report' spells.size spells'.size spells.version
     spells'.version report.shown report'.shown spells.shown spells'.shown

@@ -17,7 +17,8 @@ use Rattle.cts_model.specs.Schedules.{IsLeastSchedule}
 use Rattle.cts_model.specs.SkewLaws.{IsLeastForSchedule}
 use Rattle.cts_model.specs.Slacks.{AreSlacks}
 use Rattle.cts_model.specs.WireDelays.{MeetsByWire}
-use Rattle.cts_engine.specs.Syntheses.{AreDrawn, IsPlacedTree, sinks_in, source_in}
+use Rattle.cts_model.specs.Shown.{sinks_in, source_in}
+use Rattle.cts_engine.specs.Syntheses.{AreDrawn, IsPlacedTree}
 use Rattle.cts_engine.specs.SynthesisOutcomes.{ShowsFromLowest}
 
 -- the bytes spell a clock tree for the problem

@@ -6,13 +6,13 @@ use Rattle.cts_model.specs.declared.constraint.Constraint.{Constraint}
 use Rattle.cts_model.specs.declared.problem.Problem.{Problem}
 use Rattle.cts_model.specs.declared.tech.Tech.{Tech}
 use Rattle.cts_model.specs.LeastPeriods.{IsForbidding}
+use Rattle.cts_model.specs.PrintedLines.{Words, text_of}
 use Rattle.cts_model.specs.ReportLines.{report_lines}
 use Rattle.cts_engine.specs.declared.synthesis.Outcome.{Outcome}
 use Rattle.cts_engine.specs.declared.synthesis.Outcome.TheVariants.{Done, Never}
 use Rattle.cts_engine.specs.SynthesisOutcomes.{BeginsLowest}
 use Rattle.cts_program.specs.Headline.{IsSynthesisText}
 use Rattle.cts_program.specs.PeriodTexts.{never_lines}
-use Rattle.cts_program.specs.Texts.{Words, text_of}
 
 -- the bytes are a text for a cycle that forbids every period; it begins at its lowest register
 pub record IsNeverText (circuit : Circuit) (tech : Tech) (text : List ℕ) : Type 0 where

@@ -1,43 +1,18 @@
--- What the commands print: words with one space between them, and a line feed after each line. The
--- lines of `zero` serve `period` and `schedule` too.
-use Rattle.std.specs.Prelude.{◌≡◌, ℕ, ℤ, ◌+ℤ◌, ◌-ℤ◌, List, [], ◌∷◌, ◌++◌, codes}
-use Rattle.std.specs.List.{flat_map, join_with_byte}
+-- What the command `zero` prints. Its first line serves `period` and `schedule` too.
+use Rattle.std.specs.Prelude.{◌≡◌, ℕ, ◌+ℤ◌, ◌-ℤ◌, List, [], ◌∷◌, codes}
 use Rattle.std.specs.Fmt.{signed_decimal}
 use Rattle.cts_model.specs.declared.circuit.Circuit.{Circuit}
 use Rattle.cts_model.specs.declared.tech.Tech.{Tech}
 use Rattle.cts_model.specs.declared.timing.ZeroSkew.{ZeroSkew}
 use Rattle.cts_model.specs.declared.timing.ZeroSkew.TheVariants.{Fails, Floor, Setup}
-use Rattle.cts_model.specs.Paths.{register_name}
 use Rattle.cts_model.specs.EqualArrivals.{IsZeroSkew}
-
--- the words of a line
-abbrev pub Words : Type 0
-Words = List (List ℕ)
-
--- the bytes of a line
-abbrev pub line_of : Words → List ℕ
-line_of words = join_with_byte 32 words ++ 10 ∷ []
-
--- the bytes of some lines
-abbrev pub text_of : List Words → List ℕ
-text_of lines = flat_map line_of lines
-
--- a requirement between two registers: the one that launches, the one that captures, and the weight
--- in ticks
-abbrev pub constraint_line : List ℕ → Circuit → (launch capture : ℕ) → ℤ → Words
-constraint_line word circuit launch capture weight =
-    word ∷ register_name circuit launch ∷ register_name circuit capture
-    ∷ signed_decimal weight ∷ []
+use Rattle.cts_model.specs.PrintedLines.{Words, text_of, floor_line, constraint_line}
 
 -- the least period at equal arrivals, in ticks
 abbrev pub zero_line : ZeroSkew → Words
 zero_line (Fails pair) = codes "zero" ∷ codes "none" ∷ []
 zero_line (Floor value) = codes "zero" ∷ signed_decimal value ∷ []
 zero_line (Setup value pair) = codes "zero" ∷ signed_decimal value ∷ []
-
--- the line for a period that the floor shows
-abbrev pub floor_line : Words
-floor_line = codes "floor" ∷ []
 
 -- what shows that no period at equal arrivals is less
 abbrev pub reason_line : Circuit → Tech → ZeroSkew → Words

@@ -15,12 +15,11 @@ mod scheduling;
 mod synth;
 #[cfg(test)]
 mod tests;
-mod text_lines;
 mod told;
 mod zero;
 mod zero_text;
 
-use cts_io::{HostInputs, HostSink};
+use cts_io::{HostErr, HostInputs, HostOut};
 use failure::Failure;
 use run::run;
 use std::process::ExitCode;
@@ -30,15 +29,18 @@ use std::{env, io};
 fn main(rt: HostRuntime) -> ExitCode {
     let alloc = rt.alloc();
     let mut inputs = HostInputs::new(&rt);
-    let mut out = HostSink::new(rt.stdout());
-    let mut err = HostSink::new(rt.stderr());
+    let mut out = HostOut::new(rt.stdout());
+    let mut err = HostErr::new(rt.stderr());
     let failure = match words(&rt) {
-        Ok(words) => return ExitCode::from(run(alloc, &words, &mut inputs, &mut out, &mut err)),
+        Ok(words) => {
+            let status = run::<_, HostOut, HostErr>(alloc, &words, &mut inputs, &mut out, &mut err);
+            return ExitCode::from(status);
+        }
         Err(error) if error.kind() == io::ErrorKind::OutOfMemory => Failure::NoMemory,
         // Words that are no text are wrong words.
         Err(_) => Failure::Usage,
     };
-    failure.report(&mut err);
+    failure.report::<HostErr>(&mut err);
     ExitCode::from(failure.status())
 }
 

@@ -1,15 +1,16 @@
-ghost use Rattle.std.specs.Prelude.{◌≡◌, ◌<◌, ◌++◌, length, All, OnOk, IfOk};
+ghost use Rattle.std.specs.Prelude.{◌≡◌, ◌++◌, OnOk, IfOk};
 ghost use Rattle.cts_base.specs.declared.fraction.Fraction.{Fraction};
 ghost use Rattle.cts_model.specs.declared.tech.Tech.{Tech};
 ghost use Rattle.cts_model.specs.LeastPeriods.{IsForbidding, IsPeriodShow};
+ghost use Rattle.cts_model.specs.PrintedLines.{text_of};
 ghost use Rattle.cts_engine.specs.Outcomes.{IsPeriodOutcome};
-ghost use Rattle.cts_program.specs.PeriodTexts.{period_line, line_for, cycle_lines, show_lines, found_lines, never_lines, period_lines};
-ghost use Rattle.cts_program.specs.Texts.{line_of, text_of};
+ghost use Rattle.cts_program.specs.PeriodTexts.{found_lines, never_lines, period_lines};
 
-use crate::text_lines::{push_constraint, push_line, push_value, push_zero};
-use cts_base::{Fraction, NoMemory, push_fraction};
+use crate::zero_text::push_zero;
+use cts_base::{Fraction, NoMemory};
 use cts_engine::PeriodOutcome;
 use cts_model::{Circuit, Constraint, PeriodShow, ZeroSkew};
+use report_text::{push_cycle, push_line, push_period, push_show};
 use std::alloc::Global;
 
 /// The text for the least period that any arrivals allow, or for that there is none.
@@ -67,65 +68,4 @@ pub fn push_never(
 {
     push_line(out, b"never", &[])?;
     push_cycle(out, circuit, cycle)
-}
-
-// Appends the line of the least period.
-fn push_period(out: &mut Vec<u8>, period: Fraction) -> Result<(), NoMemory>
-    ensures { OnOk result (out.new.items ≡ out.old.items ++ line_of (period_line period)) }
-{
-    out.extend_from_slice(b"period ")?;
-    push_fraction(out, period)?;
-    out.push(b'\n')?;
-    Ok(())
-}
-
-// Appends the lines of what shows that no period is less.
-fn push_show(out: &mut Vec<u8>, circuit: &Circuit, shown: &PeriodShow) -> Result<(), NoMemory>
-    requires { (tech : Tech) × ((period : Fraction)
-        × IsPeriodShow circuit.now tech period shown.now) }
-    ensures { OnOk result (out.new.items
-        ≡ out.old.items ++ text_of (show_lines circuit.now shown.now)) }
-{
-    match shown {
-        PeriodShow::Cycle(cycle) => push_cycle(out, circuit, cycle.as_slice()),
-        PeriodShow::Floor => push_line(out, b"floor", &[]),
-    }
-}
-
-// Appends the lines of a cycle: how many constraints it has, and each of them in order.
-fn push_cycle(out: &mut Vec<u8>, circuit: &Circuit, cycle: &[Constraint]) -> Result<(), NoMemory>
-    requires tails { All (λ constraint. constraint.tail < length circuit.now.registers) cycle.now }
-    requires heads { All (λ constraint. constraint.head < length circuit.now.registers) cycle.now }
-    ensures { OnOk result (out.new.items
-        ≡ out.old.items ++ text_of (cycle_lines circuit.now cycle.now)) }
-{
-    push_value(out, b"cycle", cycle.len() as i128)?;
-    for constraint in cycle {
-        push_line_for(out, circuit, *constraint)?;
-    }
-    Ok(())
-}
-
-// Appends the line of a constraint: of a hold constraint the head launches.
-fn push_line_for(
-    out: &mut Vec<u8>,
-    circuit: &Circuit,
-    constraint: Constraint,
-) -> Result<(), NoMemory>
-    requires tail { constraint.tail < length circuit.now.registers }
-    requires head { constraint.head < length circuit.now.registers }
-    ensures { OnOk result (out.new.items
-        ≡ out.old.items ++ line_of (line_for circuit.now constraint)) }
-{
-    let Constraint {
-        setup,
-        tail,
-        head,
-        weight,
-    } = constraint;
-    if setup {
-        push_constraint(out, b"setup", circuit, tail, head, weight)
-    } else {
-        push_constraint(out, b"hold", circuit, head, tail, weight)
-    }
 }

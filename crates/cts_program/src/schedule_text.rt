@@ -1,15 +1,14 @@
-ghost use Rattle.std.specs.Prelude.{◌≡◌, ◌<◌, ◌∷◌, ◌++◌, List, length, OnOk, IfOk};
-ghost use Rattle.cts_base.specs.declared.fraction.Fraction.{Fraction};
+ghost use Rattle.std.specs.Prelude.{◌≡◌, ◌<◌, ◌++◌, length, OnOk, IfOk};
 ghost use Rattle.cts_model.specs.declared.tech.Tech.{Tech};
+ghost use Rattle.cts_model.specs.PrintedLines.{line_of, text_of};
 ghost use Rattle.cts_engine.specs.ScheduleOutcomes.{HasSmallTimes, IsScheduleOutcome};
-ghost use Rattle.cts_program.specs.ScheduleTexts.{IsSmallSchedule, IsArrival, AreArrivals, Spells, register_line, register_lines, slack_word};
-ghost use Rattle.cts_program.specs.Texts.{line_of, text_of};
+ghost use Rattle.cts_program.specs.ScheduleTexts.{IsSmallSchedule, register_line_at, register_lines, schedule_lines};
 
 use crate::period_text::{push_found, push_never};
-use crate::text_lines::push_value;
-use cts_base::{Fraction, NoMemory, push_fraction};
+use cts_base::NoMemory;
 use cts_engine::ScheduleOutcome;
 use cts_model::{Circuit, Schedule, Slack};
+use report_text::{push_count, push_register};
 use std::alloc::Global;
 
 /// The text for the least schedule of a circuit, or for that no period will do.
@@ -20,7 +19,8 @@ pub fn schedule_text(
 ) -> Result<Vec<u8>, NoMemory>
     requires outcome { (tech : Tech) × IsScheduleOutcome circuit.now tech outcome.now }
     requires small { HasSmallTimes outcome.now }
-    ensures { IfOk result (λ text. Spells circuit.now outcome.now text.items) }
+    ensures { IfOk result (λ text. text.items
+        ≡ text_of (schedule_lines circuit.now outcome.now)) }
 {
     let mut out = Vec::new(alloc);
     match outcome {
@@ -52,59 +52,30 @@ fn push_registers(
     requires small { IsSmallSchedule schedule.now }
     requires registers { length schedule.now.at ≡ length circuit.now.registers }
     requires slacks { length slacks.now ≡ length circuit.now.registers }
-    ensures { OnOk result ((arrivals : List Fraction) × AreArrivals schedule.now arrivals
-        × (out.new.items
-        ≡ out.old.items ++ text_of (register_lines circuit.now arrivals slacks.now))) }
+    ensures { OnOk result (out.new.items
+        ≡ out.old.items ++ text_of (register_lines circuit.now schedule.now slacks.now)) }
 {
-    push_value(out, b"registers", slacks.len() as i128)?;
-    for (register, slack) in slacks.iter().enumerate() {
-        push_register(out, circuit, schedule, register, slack)?;
+    push_count(out, b"registers", schedule.at.len())?;
+    for register in 0..schedule.at.len() {
+        push_register_at(out, circuit, schedule, slacks, register)?;
     }
     Ok(())
 }
 
-// Appends the line of a register.
-fn push_register(
+// Appends the line of the register with that number.
+fn push_register_at(
     out: &mut Vec<u8>,
     circuit: &Circuit,
     schedule: &Schedule,
+    slacks: &[Slack],
     register: usize,
-    slack: &Slack,
 ) -> Result<(), NoMemory>
     requires small { IsSmallSchedule schedule.now }
-    requires at { register < length schedule.now.at }
-    requires register { register < length circuit.now.registers }
-    ensures { OnOk result ((arrival : Fraction) × IsArrival schedule.now register arrival
-        × (out.new.items
-        ≡ out.old.items ++ line_of (register_line circuit.now register arrival slack.now))) }
+    requires within { register < length circuit.now.registers }
+    requires registers { length schedule.now.at ≡ length circuit.now.registers }
+    requires slacks { length slacks.now ≡ length circuit.now.registers }
+    ensures { OnOk result (out.new.items ≡ out.old.items
+        ++ line_of (register_line_at circuit.now schedule.now slacks.now register)) }
 {
-    out.extend_from_slice(circuit.register_name(register))?;
-    push_time(out, Some(arrival_at(schedule, register)))?;
-    push_time(out, slack.setup)?;
-    push_time(out, slack.hold)?;
-    out.push(b'\n')?;
-    Ok(())
-}
-
-// The arrival at a register, in ticks.
-fn arrival_at(schedule: &Schedule, register: usize) -> Fraction
-    requires small { IsSmallSchedule schedule.now }
-    requires within { register < length schedule.now.at }
-    ensures { IsArrival schedule.now register result }
-{
-    Fraction::of(schedule.at.as_slice()[register], schedule.den)
-}
-
-// Appends a space, and behind it a time in ticks or that there is none.
-fn push_time(out: &mut Vec<u8>, time: Option<Fraction>) -> Result<(), NoMemory>
-    ensures { OnOk result (out.new.items ≡ out.old.items ++ 32 ∷ slack_word time) }
-{
-    out.push(b' ')?;
-    match time {
-        Some(time) => push_fraction(out, time),
-        None => {
-            out.push(b'-')?;
-            Ok(())
-        }
-    }
+    push_register(out, circuit, schedule, slacks[register], register)
 }

@@ -2,12 +2,12 @@
 
 ghost use Rattle.std.specs.Prelude.{◌≡◌, ℕ, List, IfOk, IfErr};
 ghost use Rattle.cts_model.specs.PairLists.{JoinsMoreThan};
+ghost use Rattle.cts_model.specs.PrintedLines.{text_of};
 ghost use Rattle.cts_engine.specs.SynthesisOutcomes.{IsOutcome};
 ghost use Rattle.cts_program.specs.Answers.{ending_status};
 ghost use Rattle.cts_program.specs.Run.{TellsText, Stops};
 ghost use Rattle.cts_program.specs.Steps.{FailsCircuit, IsAnyReadFault};
 ghost use Rattle.cts_program.specs.SynthTexts.{IsSynthText, synth_lines, synth_status};
-ghost use Rattle.cts_program.specs.Texts.{text_of};
 
 use crate::command::Command;
 use crate::ending::{Answer, Ending};

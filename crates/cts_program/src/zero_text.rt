@@ -1,11 +1,12 @@
 ghost use Rattle.std.specs.Prelude.{◌≡◌, ◌++◌, OnOk, IfOk};
 ghost use Rattle.cts_model.specs.EqualArrivals.{IsZeroSkew};
 ghost use Rattle.cts_model.specs.PairLists.{HasSmallDelays};
-ghost use Rattle.cts_program.specs.Texts.{line_of, text_of, reason_line, zero_lines};
+ghost use Rattle.cts_model.specs.PrintedLines.{line_of, text_of};
+ghost use Rattle.cts_program.specs.Texts.{zero_line, reason_line, zero_lines};
 
-use crate::text_lines::{push_constraint, push_line, push_zero};
 use cts_base::NoMemory;
 use cts_model::{Circuit, Tech, ZeroSkew};
+use report_text::{push_constraint, push_line, push_value};
 use std::alloc::Global;
 
 /// The text for the least period at equal arrivals.
@@ -24,6 +25,17 @@ pub fn zero_text(
     push_zero(&mut out, outcome)?;
     push_reason(&mut out, circuit, tech, outcome)?;
     Ok(out)
+}
+
+/// Appends the line for the least period at equal arrivals, in ticks.
+pub fn push_zero(out: &mut Vec<u8>, outcome: &ZeroSkew) -> Result<(), NoMemory>
+    ensures { OnOk result (out.new.items ≡ out.old.items ++ line_of (zero_line outcome.now)) }
+{
+    match outcome {
+        ZeroSkew::Fails { .. } => push_line(out, b"zero", &[b"none"]),
+        ZeroSkew::Floor { value } => push_value(out, b"zero", *value),
+        ZeroSkew::Setup { value, .. } => push_value(out, b"zero", *value),
+    }
 }
 
 // Appends the line of what shows that no period is less.

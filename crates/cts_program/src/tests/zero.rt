@@ -17,7 +17,8 @@ fn prints_the_least_period_at_equal_arrivals(rt: HostRuntime) -> Result<(), Fail
         ),
         // Comments, blank lines, a name in UTF-8, spaces and tabs.
         (
-            "# top\n\n \t \nq2 = DFF(q1) # late\nINPUT(é)\nq1=DFF(q0)\n  q0\t=\tdff ( é )\nOUTPUT(q2)#x\n",
+            "# top\n\n \t \nq2 = DFF(q1) # late\nINPUT(é)\n\
+            q1=DFF(q0)\n  q0\t=\tdff ( é )\nOUTPUT(q2)#x\n",
             "zero 5\nsetup q1 q2 5\n",
         ),
         // Keywords as names.

@@ -1,4 +1,5 @@
+use Rattle.cts_program.proofs.CycleRegisters.{shown_among}
 use Rattle.cts_program.proofs.period_text.push_found.Goals as goal
 
 pub push_show-requires : goal.push_show-requires
-push_show-requires c = (c.requires.0, (c.args.period, c.requires.1))
+push_show-requires c = shown_among _ c.requires.0 _ _ c.requires.1

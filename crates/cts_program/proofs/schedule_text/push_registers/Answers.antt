@@ -1,9 +1,9 @@
-use Rattle.cts_program.proofs.RegisterLines.{next_written}
+use Rattle.cts_program.specs.ScheduleTexts.{register_line_at}
+use Rattle.cts_program.proofs.LineLemmas.{next_line}
 use Rattle.cts_program.proofs.schedule_text.push_registers.Goals as goal
 
 pub loop-register-preserved : goal.loop-register-preserved
 loop-register-preserved c =
-    let (arrival, at, appended) = c.in_ok-push_register.ensures in
-    next_written c.args.circuit.now c.args.schedule.now c.args.slacks.now _ _ _
-    c.loop-register.invariant c.index-slacks-register.result c.index-slacks-register.is
-    c.loop-register-test.true arrival at _ appended
+    next_line (register_line_at c.args.circuit.now c.args.schedule.now c.args.slacks.now)
+    c.loop-register.register _ c.loop-register.out.items c.push_register_at.new.out.items
+    c.loop-register.invariant c.in_ok-push_register_at.ensures

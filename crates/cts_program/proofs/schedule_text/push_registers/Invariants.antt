@@ -1,11 +1,12 @@
--- The lines of the registers passed so far.
-use Rattle.std.proofs.Common.{◌++◌}
-use Rattle.cts_program.specs.ScheduleTexts.{count_line}
-use Rattle.cts_program.specs.Texts.{line_of}
-use Rattle.cts_program.proofs.RegisterLines.{AreWritten}
+use Rattle.std.proofs.Common.{◌≡◌, ◌++◌, codes, length}
+use Rattle.cts_model.specs.PrintedLines.{line_of, text_of, count_line}
+use Rattle.cts_model.specs.ReportLines.{lines_below}
+use Rattle.cts_program.specs.ScheduleTexts.{register_line_at}
 use Rattle.cts_program.proofs.schedule_text.push_registers.Given as goal
 
+-- the count, and the registers so far
 abbrev pub invariant-loop-register : goal.invariant-loop-register
 invariant-loop-register l =
-    AreWritten l.circuit l.schedule l.slacks l.register
-    (l.fn.out.items ++ line_of (count_line l.slacks)) l.out.items
+    l.out.items
+    ≡ (l.fn.out.items ++ line_of (count_line (codes "registers") (length l.schedule.at)))
+    ++ text_of (lines_below (register_line_at l.circuit l.schedule l.slacks) l.register)

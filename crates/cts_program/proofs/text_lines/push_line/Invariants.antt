@@ -1,9 +1,0 @@
-use Rattle.std.proofs.Common.{◌≡◌, ◌++◌, ◌∷◌, take}
-use Rattle.std.specs.List.{flat_map}
-use Rattle.cts_program.proofs.text_lines.push_line.Given as goal
-
--- the words so far, each but the first after a space
-abbrev pub invariant-loop-other : goal.invariant-loop-other
-invariant-loop-other l =
-    l.out.items ≡ (l.fn.out.items ++ l.fn.word) ++ flat_map (λ other. 32 ∷ other.now)
-    (take l.other-index l.others)
