@@ -14,6 +14,10 @@ mod constraint_tests;
 #[cfg(test)]
 mod delay_tests;
 #[cfg(test)]
+mod demo_tests;
+#[cfg(test)]
+mod device_tests;
+#[cfg(test)]
 mod engine_tests;
 #[cfg(test)]
 mod fraction_tests;
@@ -43,6 +47,8 @@ mod schedule_tests;
 mod scheduling_tests;
 #[cfg(test)]
 mod slack_tests;
+#[cfg(test)]
+mod spelling_tests;
 #[cfg(test)]
 mod table_tests;
 #[cfg(test)]

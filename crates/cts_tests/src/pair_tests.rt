@@ -3,7 +3,7 @@ use crate::circuits::{
 };
 use cts_base::Listed;
 use cts_model::{Circuit, PairDelay, Tech, ZeroSkew};
-use path_delays::{PairFault, levels, pair_delay, pair_delays, path_of};
+use path_delays::{PairFault, delays_between, levels, pair_delay, pair_delays, path_of};
 use std::alloc::{AllocError, Global};
 use std::test::Fail;
 use timing_report::zero_skew;
@@ -189,6 +189,21 @@ a1 = NAND(r1, r1)\nb0 = XOR(a0, x)\nb1 = BUFF(a1)",
             }
         }
     }
+    Ok(())
+}
+
+// Pairs that are asked for in any order, of which paths join two.
+#[test]
+fn finds_the_delays_of_given_pairs(rt: HostRuntime) -> Result<(), Fail> {
+    let alloc = rt.alloc();
+    let circuit = circuit_of(&rt, alloc, S27, false)?;
+    let tech = table_of(alloc, &circuit, (1, 1, 1, 2), S27_GATES)?;
+    let order = levels(alloc, &circuit)?;
+    assert!(rt; circuit.registers.len() == 3);
+    let asked = [(2, 0), (0, 2), (1, 1)];
+    let found = delays_between(alloc, &circuit, &order, &tech, &asked)?;
+    let wanted = [Some(pair((2, 0, 7, 13))), None, Some(pair((1, 1, 7, 12)))];
+    assert_eq!(rt; found.as_slice(), wanted.as_slice());
     Ok(())
 }
 
