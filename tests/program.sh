@@ -213,6 +213,22 @@ expect 'a schedule without a netlist' 2 '' "$usage" "$top/cts" schedule --tech F
 expect 'a period without a table' 2 '' "$usage" "$top/cts" period --bench F
 expect 'one word for both' 2 '' "$usage" "$top/cts" zero --bench=F
 expect 'an end of options' 2 '' "$usage" "$top/cts" zero --bench F --
+expect 'a word behind a whole command' 2 '' "$usage" "$top/cts" synth --bench F --tech F --pl F F
+expect 'a hundred words' 2 '' "$usage" "$top/cts" zero --bench "$s27" $(seq 100)
+expect 'an empty word' 2 '' "$usage" "$top/cts" zero --bench "$s27" ''
+expect 'an empty first word' 2 '' "$usage" "$top/cts" '' zero --bench "$s27"
+expect 'a word that is no text' 2 '' "$usage" "$top/cts" zero --bench $'\xff'
+
+# Each word goes on as it is, and the name by which the program is called is none of them.
+cp "$s27" "$work/ two  words.bench"
+expect 'a name with blanks' 0 $'zero 10\nsetup G6 G5 10' '' "$top/cts" zero --bench "$work/ two  words.bench"
+named() { (exec -a zero "$top/crates/cts_program/out/cts_program" "$@"); }
+expect 'a command as the name' 2 '' "$usage" named --bench "$s27"
+expect 'another name' 0 $'zero 10\nsetup G6 G5 10' '' named zero --bench "$s27"
+
+# Want of memory: the largest file doesn't fit.
+scarce() { (ulimit -v 16384 && "$top/crates/cts_program/out/cts_program" "$@"); }
+expect 'too little memory' 6 '' 'no memory' scarce zero --bench "$work/largest.bench"
 
 # A copy with no program answers all the same, by a run that isn't proved.
 mkdir "$work/copy"
