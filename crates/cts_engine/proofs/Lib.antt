@@ -11,3 +11,8 @@ mod TreeBounds
 mod SinkLemmas
 mod ReportLemmas
 mod ShownReports
+pub mod ProblemLemmas
+pub mod HostedLoops
+mod OnePlaces
+pub mod OneProblem
+mod RefusalLemmas

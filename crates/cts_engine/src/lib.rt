@@ -1,11 +1,13 @@
 //! From a circuit and its delays to what the program answers: each step of the timing in its order.
 #![tactic(auto)]
 
+mod acceptance;
 mod clock_tree;
 mod cycle_paths;
 mod fault;
 mod pairs;
 mod period;
+mod refusals;
 mod scheduling;
 mod sinks;
 mod synthesis;
@@ -13,8 +15,10 @@ mod times;
 mod wires;
 mod zero;
 
+pub use acceptance::{Told, accept, accept_circuit, hosted};
 pub use fault::SynthFault;
 pub use period::{PeriodOutcome, period_of};
+pub use refusals::Refusal;
 pub use scheduling::{ScheduleOutcome, schedule_of};
 pub use synthesis::{Outcome, synthesize};
 pub use zero::zero_of;

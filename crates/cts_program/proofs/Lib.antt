@@ -8,7 +8,7 @@ mod CycleRegisters
 mod OneText
 mod PieceLemmas
 mod FileLemmas
-mod ProblemLemmas
+mod PlainDelays
 mod PlacementLemmas
 mod ResultLemmas
 mod ToldLemmas

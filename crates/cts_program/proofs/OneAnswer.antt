@@ -1,28 +1,21 @@
 -- Contents of files have answers of one status, of which none is a front of another, and not both an
 -- answer and a refusal.
-use Rattle.std.proofs.Common.{ℕ, ◌≡◌, ◌<◌, ◌≤◌, ◌⊎◌, inl, inr, Bool, true, false, ◌==◌, MatchBool, List, [], ◌∷◌, length, take, refl, ap, ap₂, sym, ◌∙◌, subst, arith}
+use Rattle.std.proofs.Common.{ℕ, ◌≡◌, ◌<◌, ◌≤◌, ◌⊎◌, inl, inr, List, [], ◌∷◌, length, take, refl, ap, ap₂, sym, ◌∙◌, subst, arith}
 use Rattle.std.proofs.lemmas.List.{length-take}
 use Rattle.cts_model.specs.declared.circuit.Circuit.{Circuit}
 use Rattle.cts_model.specs.declared.problem.Problem.{Problem}
 use Rattle.cts_model.specs.declared.tech.Tech.{Tech}
 use Rattle.cts_model.specs.declared.timing.ZeroSkew.{ZeroSkew}
 use Rattle.cts_model.specs.declared.timing.ZeroSkew.TheVariants.{Fails, Floor, Setup}
-use Rattle.cts_model.specs.AcceptedTables.{AcceptsTable}
-use Rattle.cts_model.specs.Hosts.{IsWithHost}
-use Rattle.cts_model.specs.Netlists.{AcceptsNetlist}
 use Rattle.cts_model.specs.PairLists.{JoinsMoreThan}
 use Rattle.cts_model.specs.PlainTable.{IsPlainTable}
-use Rattle.cts_model.specs.UsedKinds.{AreUsedKinds}
-use Rattle.cts_model.proofs.OneRecord.{same_circuit, same_tech, one_use}
+use Rattle.cts_model.proofs.OneRecord.{same_tech}
 use Rattle.bench_reader.specs.declared.fault.BenchFault.{BenchFault}
 use Rattle.bench_reader.proofs.OneFault.{no_fault}
 use Rattle.delay_tables.specs.declared.fault.TechFault.{TechFault}
-use Rattle.delay_tables.specs.Refusals.{Refuses}
-use Rattle.delay_tables.proofs.OneFault.{not_refused}
-use Rattle.delay_tables.proofs.OneTable.{one_table}
 use Rattle.place_reader.specs.declared.fault.PlaceFault.TheVariants as place
-use Rattle.place_reader.specs.Refusals as placement
-use Rattle.place_reader.proofs.OneFault as placement_faults
+use Rattle.cts_engine.specs.Accepted.{HasFault, HasTableFault}
+use Rattle.cts_engine.proofs.OneProblem.{one_netlist, one_both, table_fine, placement_fine}
 use Rattle.cts_model.specs.PrintedLines.{text_of}
 use Rattle.cts_program.specs.declared.command.Command.{Command}
 use Rattle.cts_program.specs.declared.command.Command.TheVariants.{Zero, Period, Schedule, Synth}
@@ -35,7 +28,7 @@ use Rattle.cts_program.specs.declared.placement.PlacementFault.{PlacementFault}
 use Rattle.cts_program.specs.declared.placement.PlacementFault.TheVariants as placements
 use Rattle.cts_program.specs.Answers.{JoinTooMany, TellWith, IsAnswer, IsRefusal}
 use Rattle.cts_program.specs.Files.{IsShortFile, AreAll}
-use Rattle.cts_program.specs.Judged.{IsNetlistFile, IsTableFile, IsPlacementFile, AreAccepted, HasFault, HasTableFault, HasPlacementFault, IsNamedFault, IsFileRefusal, IsHostedBy, TellBoth, Tell, TellProblem}
+use Rattle.cts_program.specs.Judged.{IsNetlistFile, IsTableFile, IsPlacementFile, AreAccepted, HasPlacementFault, IsNamedFault, IsFileRefusal, Tell, TellProblem}
 use Rattle.cts_program.specs.PeriodTexts.{IsPeriodText}
 use Rattle.cts_program.specs.PlainWords.{form_of}
 use Rattle.cts_program.specs.ScheduleTexts.{IsScheduleText}
@@ -47,28 +40,10 @@ use Rattle.cts_program.proofs.ScheduleFronts.{one_schedule_status, no_schedule_f
 
 -- ---- one circuit and one table
 
-one_netlist : (bytes : List ℕ) (circuit other : Circuit) → AcceptsNetlist bytes circuit → AcceptsNetlist bytes other → circuit ≡ other
-one_netlist bytes circuit other accepts accepts' =
-    same_circuit circuit other (accepts.signals ∙ sym accepts'.signals) (accepts.registers ∙ sym accepts'.registers) (accepts.outputs ∙ sym accepts'.outputs)
-
 one_plain : (tech other : Tech) → IsPlainTable tech → IsPlainTable other → tech ≡ other
 one_plain tech other plain plain' =
     same_tech tech other (plain.wire_num ∙ sym plain'.wire_num) (plain.wire_den ∙ sym plain'.wire_den) (plain.source ∙ sym plain'.source) (plain.setup ∙ sym plain'.setup) (plain.hold ∙ sym plain'.hold)
     (plain.least ∙ sym plain'.least) (plain.greatest ∙ sym plain'.greatest) (plain.host ∙ sym plain'.host) (plain.floor ∙ sym plain'.floor) (plain.gates ∙ sym plain'.gates)
-
-one_hosted : (hostless : Bool) (bare circuit other : Circuit) → MatchBool hostless (circuit ≡ bare) (IsWithHost bare circuit) → MatchBool hostless (other ≡ bare) (IsWithHost bare other) → circuit ≡ other
-one_hosted true bare circuit other hosted hosted' = hosted ∙ sym hosted'
-one_hosted false bare circuit other hosted hosted' =
-    same_circuit circuit other (hosted.signals ∙ sym hosted'.signals) (hosted.registers ∙ sym hosted'.registers) (hosted.outputs ∙ sym hosted'.outputs)
-
-one_both : (netlist table : List ℕ) (circuit other : Circuit) (tech tech' : Tech) → TellBoth netlist table circuit tech → TellBoth netlist table other tech' → (circuit ≡ other) × (tech ≡ tech')
-one_both netlist table circuit other tech tech' tell tell' =
-    let bare : tell'.bare ≡ tell.bare = one_netlist netlist tell'.bare tell.bare tell'.accepts tell.accepts in
-    let kinds' = subst (λ (c : Circuit). AreUsedKinds c.signals tell'.used) bare tell'.kinds in
-    let used : tell'.used ≡ tell.used = one_use tell.bare.signals tell'.used tell.used kinds' tell.kinds in
-    let same : tech' ≡ tech = one_table tell.used table tech' tech (subst (λ u. AcceptsTable u table tech') used tell'.accepts_table) tell.accepts_table in
-    let hosted' = subst (λ c. IsHostedBy tech c other) bare (subst (λ t. IsHostedBy t tell'.bare other) same tell'.hosted) in
-    (one_hosted (length tech.host == 0) tell.bare circuit other tell.hosted hosted', sym same)
 
 -- contents tell one circuit and one table
 one_told : (contents : List (List ℕ)) (circuit other : Circuit) (tech tech' : Tech) → Tell contents circuit tech → Tell contents other tech' → (circuit ≡ other) × (tech ≡ tech')
@@ -98,7 +73,7 @@ problem_told : (contents : List (List ℕ)) (problem : Problem) → TellProblem 
 problem_told [] problem tell = absurd tell
 problem_told (netlist ∷ []) problem tell = absurd tell
 problem_told (netlist ∷ table ∷ []) problem tell = absurd tell
-problem_told (netlist ∷ table ∷ places ∷ []) problem tell = tell.0
+problem_told (netlist ∷ table ∷ places ∷ []) problem tell = tell.tell
 problem_told (netlist ∷ table ∷ places ∷ more ∷ rest) problem tell = absurd tell
 
 -- an answer is a text for what the files of the command tell
@@ -253,9 +228,7 @@ first_fine netlist file (inr (fault, has)) = has.named (no_fault netlist fault f
 
 second_fine : (netlist table : List ℕ) → IsTableFile netlist table → (IsShortFile table → ⊥) ⊎ ((fault : TechFault) × HasTableFault netlist table fault) → ⊥
 second_fine netlist table file (inl long) = long file.short
-second_fine netlist table file (inr (fault, has)) =
-    let used = one_use _ has.used file.used has.kinds file.kinds in
-    has.named (not_refused file.used table fault file.table (subst (λ u. Refuses u table fault) used has.cause))
+second_fine netlist table file (inr (fault, has)) = table_fine netlist table fault file.table has
 
 -- want of memory is no fault of a placement
 not_memory : (circuit : Circuit) (fault : PlacementFault)
@@ -271,14 +244,14 @@ third_fine : (netlist table places : List ℕ) → IsPlacementFile netlist table
     ⊎ ((fault : PlacementFault) × HasPlacementFault netlist table places fault) → ⊥
 third_fine netlist table places file (inl long) = long file.short
 third_fine netlist table places file (inr (fault, refused)) =
-    let (circuit, tech) = one_both netlist table refused.circuit file.circuit refused.tech
-    file.tech refused.tell file.tell in
-    let cause = subst (λ t. placement.Refuses places file.circuit t.source t.host refused.has.found)
-    tech (subst (λ c. placement.Refuses places c refused.tech.source refused.tech.host
-    refused.has.found) circuit refused.has.cause) in
-    not_memory refused.circuit fault (subst (λ found. IsNamedFault refused.circuit found fault)
-    (placement_faults.no_fault places file.circuit file.tech.source file.tech.host
-    refused.has.found file.placement cause) refused.has.named)
+    placement_fine netlist table places refused.has.found file.placement (record {
+      named = λ memory. not_memory refused.circuit fault
+          (subst (λ found. IsNamedFault refused.circuit found fault) memory refused.has.named);
+      circuit = refused.circuit;
+      tech = refused.tech;
+      tell = refused.tell;
+      cause = refused.has.cause;
+    })
 
 first_accepted : (netlist : List ℕ) (rest : List (List ℕ)) → AreAccepted (netlist ∷ rest) → IsNetlistFile netlist
 first_accepted netlist [] accepted = accepted

@@ -10,6 +10,7 @@ use Rattle.cts_model.specs.declared.problem.Problem.{Problem}
 use Rattle.cts_model.specs.PairLists.{JoinsMoreThan}
 use Rattle.cts_model.specs.PrintedLines.{text_of}
 use Rattle.cts_model.specs.Placements.{register_nodes}
+use Rattle.cts_engine.specs.Accepted.{TellBoth}
 use Rattle.cts_engine.specs.declared.synthesis.Outcome.{Outcome}
 use Rattle.cts_engine.specs.declared.synthesis.Outcome.TheVariants as outcomes
 use Rattle.cts_engine.specs.SynthesisOutcomes.{BeginsLowest, IsOutcome}
@@ -23,7 +24,7 @@ use Rattle.cts_program.specs.declared.failure.Failure.TheVariants as failures
 use Rattle.cts_program.specs.declared.file_kind.FileKind.TheVariants as kinds
 use Rattle.cts_program.specs.Answers.{ending_status}
 use Rattle.cts_program.specs.Files.{IsShortFile, circuit_files, files_of, AreContents}
-use Rattle.cts_program.specs.Judged.{IsNetlistFile, IsTableFile, AreAccepted, TellBoth, Tell}
+use Rattle.cts_program.specs.Judged.{IsNetlistFile, IsTableFile, AreAccepted, Tell}
 use Rattle.cts_program.specs.Run.{TellsText, Stops}
 use Rattle.cts_program.specs.Steps.{IsToldAs, ReadsPlaces, FailsPlaces, TellsFault, TellsCircuit}
 use Rattle.cts_program.specs.SynthTexts.{IsSynthText, synth_lines, synth_status}
@@ -162,10 +163,12 @@ module _ {holds : List ℕ → Option (List ℕ)} (bench file : Bor (List ℕ)) 
         two_told.table_accepted,
         record {
           short = placed.short;
-          circuit = circuit;
-          tech = tech;
-          tell = two_told.tell;
-          placement = placed.accepts.placement;
+          placement = record {
+            circuit = circuit;
+            tech = tech;
+            tell = two_told.tell;
+            placement = placed.accepts.placement;
+          };
         },
       )
 
@@ -199,7 +202,7 @@ synth_answer bench file pl problem told placed result few says =
         record {
           accepted = three_accepted bench file told pl problem.places placed;
           problem = problem;
-          tell = (two.tell, placed.accepts);
+          tell = record { tell = two.tell; places = placed.accepts };
           few = few_here;
           says = said;
         },

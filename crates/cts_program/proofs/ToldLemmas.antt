@@ -1,25 +1,17 @@
 -- What the files of a command tell, and how it stops or answers.
-use Rattle.std.proofs.Common.{◌≡◌, ℕ, Bool, true, false, List, [], ◌∷◌, ◌++◌, length, Option, Some, None, Result, IfOk, IsTrue, IsSomeAnd, MatchBool, Bor, nat_eq, get_or, Contains, inl, inr, refl, sym, ap, ◌∙◌, subst, arith}
-use Rattle.std.specs.List.{slice_get}
-use Rattle.std.proofs.Math.ListN.{get_or-append}
-use Rattle.std.proofs.Math.Seq.{get_or-append_seam}
-use Rattle.std.proofs.lemmas.Bool.{cases_lt}
-use Rattle.std.proofs.lemmas.List.{length_push}
-use Rattle.std.proofs.lemmas.Option.{slice_get_within, slice_get-get_or, get_or_from_slice_get}
-use Rattle.cts_model.specs.declared.signal.Signal.{Signal}
+use Rattle.std.proofs.Common.{ℕ, List, [], ◌∷◌, Option, Some, None, Result, IfOk, Bor, refl, sym, subst, arith}
 use Rattle.cts_model.specs.declared.circuit.Circuit.{Circuit}
 use Rattle.cts_model.specs.declared.tech.Tech.{Tech}
-use Rattle.cts_model.specs.Circuits.{host_signal}
-use Rattle.cts_model.specs.Hosts.{IsWithHost}
-use Rattle.cts_model.specs.Kinds.{is_gate}
-use Rattle.cts_model.specs.Netlists.{AcceptsNetlist}
-use Rattle.cts_model.specs.Paths.{Reads, Follows, IsLoop}
+use Rattle.cts_model.specs.Paths.{IsLoop}
 use Rattle.cts_model.specs.PairLists.{JoinsMoreThan}
 use Rattle.cts_model.specs.PlainTable.{IsPlainTable}
 use Rattle.cts_model.specs.UsedKinds.{AreUsedKinds}
+use Rattle.cts_engine.specs.Accepted.{IsHostedBy}
 use Rattle.cts_engine.specs.Faults.{IsCaused}
 use Rattle.cts_engine.specs.declared.fault.SynthFault.{SynthFault}
 use Rattle.cts_engine.specs.declared.fault.SynthFault.TheVariants as synth
+use Rattle.cts_engine.proofs.HostedLoops.{acyclic, both_acyclic}
+use Rattle.cts_engine.proofs.OneProblem.{table_accepted}
 use Rattle.cts_program.specs.declared.command.Command.{Command}
 use Rattle.cts_program.specs.declared.ending.Answer.{Answer}
 use Rattle.cts_program.specs.declared.failure.Failure.{Failure}
@@ -29,7 +21,7 @@ use Rattle.cts_program.specs.Answers.{ending_status, TellWith, IsAnswer}
 use Rattle.cts_program.specs.Failures.{synth_failure_of}
 use Rattle.cts_program.specs.declared.file_kind.FileKind.{FileKind}
 use Rattle.cts_program.specs.Files.{circuit_files, files_of, AreAll, AreContents}
-use Rattle.cts_program.specs.Judged.{IsNetlistFile, IsTableFile, IsHostedBy, Tell}
+use Rattle.cts_program.specs.Judged.{IsNetlistFile, IsTableFile, Tell}
 use Rattle.cts_program.specs.Run.{TellsText, Stops}
 use Rattle.cts_program.specs.Steps.{IsToldAs, ReadsNetlist, FailsNetlist, ReadsTable, FailsTable, ReadsCircuit, TellsCircuit, FailsCircuit}
 use Rattle.cts_program.proofs.ResultLemmas.{if_ok_from}
@@ -43,15 +35,10 @@ accepted_netlist netlist = record { short = netlist.short; netlist = netlist.acc
 pub accepted_table : {held told : Option (List ℕ)} {circuit : Circuit} {tech : Tech}
     (netlist : ReadsNetlist held circuit) (table : ReadsTable circuit.signals told tech)
     → IsTableFile netlist.bytes table.bytes
-accepted_table netlist table = record {
+accepted_table {circuit = circuit} {tech = tech} netlist table = record {
   short = table.short;
-  used = table.used;
-  kinds = subst (λ signals. AreUsedKinds signals table.used) netlist.accepts.signals table.kinds;
-  table = record {
-    document = table.accepts.document;
-    reads = table.accepts.reads;
-    flawless = table.accepts.flawless;
-  };
+  table = table_accepted netlist.bytes table.bytes circuit tech table.used netlist.accepts
+      table.kinds table.accepts;
 }
 
 module _ (holds : List ℕ → Option (List ℕ)) (bench : Bor (List ℕ)) where
@@ -255,80 +242,7 @@ pub synth_fails : (circuit : Circuit) (fault : SynthFault) → IsCaused circuit 
 synth_fails circuit synth.TooManyPairs many = many
 synth_fails circuit synth.NoMemory any = tt
 
--- with the host a gate reads what it read
-reads_bare : (signals : List Signal) (outputs : List ℕ) (gate read : ℕ)
-    → Reads (signals ++ host_signal outputs ∷ []) gate read → Reads signals gate read
-reads_bare signals outputs gate read reads =
-    at (slice_get (signals ++ host_signal outputs ∷ []) gate) refl reads
-  where
-    at : (found : Option Signal) → slice_get (signals ++ host_signal outputs ∷ []) gate ≡ found
-        → IsSomeAnd found (λ signal. IsTrue (is_gate signal.kind) × Contains signal.fan_in read)
-        → Reads signals gate read
-    at None none reads = absurd reads
-    at (Some signal) found reads = elim (cases_lt gate (length signals)) [
-      | inl before ↦
-          let same : get_or signals gate signal ≡ signal =
-          sym (get_or-append signals (host_signal outputs ∷ []) signal gate before)
-          ∙ get_or_from_slice_get
-          (signals ++ host_signal outputs ∷ []) gate signal signal found in
-          let here : slice_get signals gate ≡ Some signal =
-          slice_get-get_or signals gate signal before ∙ ap (λ s. Some s) same in
-          rw here reads
-      | inr behind ↦
-          let within = slice_get_within (signals ++ host_signal outputs ∷ []) gate signal found in
-          let last : gate ≡ length signals =
-          omega (arith, length_push signals (host_signal outputs)) in
-          let here : get_or (signals ++ host_signal outputs ∷ []) (length signals) signal ≡ signal =
-          subst (λ n. get_or (signals ++ host_signal outputs ∷ []) n signal ≡ signal) last
-          (get_or_from_slice_get
-          (signals ++ host_signal outputs ∷ []) gate signal signal found) in
-          let same : host_signal outputs ≡ signal =
-          sym (get_or-append_seam signals (host_signal outputs) [] signal) ∙ here in
-          let no_gate : is_gate signal.kind ≡ false = ap (λ s. is_gate s.kind) (sym same) in
-          cc (reads.0)
-    ]
-
--- so does a chain of gates
-follows_bare : (signals : List Signal) (outputs : List ℕ) (first : ℕ) (gates : List ℕ) (last : ℕ)
-    → Follows (signals ++ host_signal outputs ∷ []) first gates last
-    → Follows signals first gates last
-follows_bare signals outputs first [] last follows = follows
-follows_bare signals outputs first (gate ∷ gates) last follows = (
-  reads_bare signals outputs gate first follows.0,
-  follows_bare signals outputs gate gates last
-      follows.1,
-)
-
--- so the host is on no ring of gates
-loop_bare : (signals : List Signal) (outputs : List ℕ) (loop : List ℕ)
-    → IsLoop (signals ++ host_signal outputs ∷ []) loop → IsLoop signals loop
-loop_bare signals outputs [] ring = ring
-loop_bare signals outputs (first ∷ gates) (last, follows, closes) = (
-  last,
-  follows_bare signals outputs first gates last follows,
-  reads_bare signals outputs first
-      last closes,
-)
-
--- with the host there is a ring of gates only where there was one
-acyclic_hosted : (tech : Tech) (bare circuit : Circuit)
-    → ((loop : List ℕ) → IsLoop bare.signals loop → ⊥) → IsHostedBy tech bare circuit
-    → (loop : List ℕ) → IsLoop circuit.signals loop → ⊥
-acyclic_hosted tech bare circuit acyclic hosted loop ring = at (nat_eq (length tech.host) 0) hosted
-  where
-    at : (none : Bool) → MatchBool none (circuit ≡ bare) (IsWithHost bare circuit) → ⊥
-    at true same = acyclic loop (subst (λ c. IsLoop c.signals loop) same ring)
-    at false with_it = acyclic loop
-        (loop_bare bare.signals bare.outputs loop
-        (subst (λ signals. IsLoop signals loop) with_it.signals ring))
-
--- a circuit of an accepted netlist has no ring of gates
-acyclic : (netlist : List ℕ) (circuit : Circuit) → AcceptsNetlist netlist circuit → (loop : List ℕ)
-    → IsLoop circuit.signals loop → ⊥
-acyclic netlist circuit accepts loop ring =
-    accepts.netlist.no_loop loop (subst (λ signals. IsLoop signals loop) accepts.signals ring)
-
--- nor has one that a command's files tell
+-- a circuit that a command's files tell has no ring of gates
 pub told_acyclic : {holds : List ℕ → Option (List ℕ)} {files : List (FileKind × List ℕ)}
     {circuit : Circuit} {tech : Tech} → TellsCircuit holds files circuit tech → (loop : List ℕ)
     → IsLoop circuit.signals loop → ⊥
@@ -338,8 +252,6 @@ told_acyclic {holds} {files} {circuit} {tech} told = at told.contents told.tell
         → IsLoop circuit.signals loop → ⊥
     at [] tell = absurd tell
     at (netlist ∷ []) tell = acyclic netlist circuit tell.0
-    at (netlist ∷ table ∷ []) tell =
-        acyclic_hosted tech tell.bare circuit (acyclic netlist tell.bare tell.accepts) tell.hosted
-    at (netlist ∷ table ∷ places ∷ []) tell =
-        acyclic_hosted tech tell.bare circuit (acyclic netlist tell.bare tell.accepts) tell.hosted
+    at (netlist ∷ table ∷ []) tell = both_acyclic netlist table circuit tech tell
+    at (netlist ∷ table ∷ places ∷ []) tell = both_acyclic netlist table circuit tech tell
     at (netlist ∷ table ∷ places ∷ more ∷ rest) tell = absurd tell

@@ -1,26 +1,17 @@
 -- What the contents of a command's files tell: a circuit, its delays and its places, or why one of
 -- them is refused. The netlist comes first, then the delay table and then the placement, as far as
 -- they are wanted.
-use Rattle.std.specs.Prelude.{◌≡◌, ◌≢◌, ℕ, Bool, List, [], ◌∷◌, ◌==◌, length, MatchBool}
+use Rattle.std.specs.Prelude.{◌≡◌, ℕ, List, [], ◌∷◌}
 use Rattle.cts_model.specs.declared.circuit.Circuit.{Circuit}
 use Rattle.cts_model.specs.declared.tech.Tech.{Tech}
-use Rattle.cts_model.specs.AcceptedTables.{IsDelayTable, AcceptsTable}
 use Rattle.cts_model.specs.declared.problem.Problem.{Problem}
-use Rattle.cts_model.specs.Hosts.{IsWithHost}
-use Rattle.cts_model.specs.Netlists.{IsNetlist, AcceptsNetlist, signals_of}
+use Rattle.cts_model.specs.Netlists.{IsNetlist, AcceptsNetlist}
 use Rattle.cts_model.specs.Paths.{register_name}
-use Rattle.cts_model.specs.Placements.{IsPlacement, AcceptsPlacement}
 use Rattle.cts_model.specs.PlainTable.{IsPlainTable}
-use Rattle.cts_model.specs.UsedKinds.{AreUsedKinds}
-use Rattle.bench_reader.specs.declared.fault.BenchFault.{BenchFault}
-use Rattle.bench_reader.specs.declared.fault.BenchFault.TheVariants as bench
-use Rattle.bench_reader.specs.Refusals as netlist
-use Rattle.delay_tables.specs.declared.fault.TechFault.{TechFault}
-use Rattle.delay_tables.specs.declared.fault.TechFault.TheVariants as tech
-use Rattle.delay_tables.specs.Refusals as table
 use Rattle.place_reader.specs.declared.fault.PlaceFault.{PlaceFault}
 use Rattle.place_reader.specs.declared.fault.PlaceFault.TheVariants as place
 use Rattle.place_reader.specs.Refusals as placement
+use Rattle.cts_engine.specs.Accepted.{TellBoth, TellAll, IsTableOf, IsPlacementOf, HasFault, HasTableFault}
 use Rattle.cts_program.specs.declared.failure.Failure.{Failure}
 use Rattle.cts_program.specs.declared.failure.Failure.TheVariants as failures
 use Rattle.cts_program.specs.declared.file_kind.FileKind.TheVariants as kinds
@@ -36,23 +27,7 @@ pub record IsNetlistFile (bytes : List ℕ) : Type 0 where
 -- the file holds a delay table that gives each gate kind of the netlist
 pub record IsTableFile (netlist bytes : List ℕ) : Type 0 where
   pub short : IsShortFile bytes
-  pub used : List Bool
-  pub kinds : AreUsedKinds (signals_of netlist) used
-  pub table : IsDelayTable used bytes
-
--- the circuit has the host where the table gives it a place
-abbrev pub IsHostedBy : Tech → Circuit → Circuit → Type 0
-IsHostedBy tech bare circuit =
-    MatchBool (length tech.host == 0) (circuit ≡ bare) (IsWithHost bare circuit)
-
--- a netlist and a delay table tell this circuit and these delays
-pub record TellBoth (netlist table : List ℕ) (circuit : Circuit) (tech : Tech) : Type 0 where
-  pub bare : Circuit
-  pub accepts : AcceptsNetlist netlist bare
-  pub used : List Bool
-  pub kinds : AreUsedKinds bare.signals used
-  pub accepts_table : AcceptsTable used table tech
-  pub hosted : IsHostedBy tech bare circuit
+  pub table : IsTableOf netlist bytes
 
 -- the contents of a command's files tell this circuit and these delays; without a table they are
 -- the built-in ones
@@ -64,18 +39,13 @@ Tell _ circuit tech = ⊥
 
 -- with the places of the registers and of the source they tell this problem
 abbrev pub TellProblem : List (List ℕ) → Problem → Type 0
-TellProblem (netlist ∷ table ∷ places ∷ []) problem =
-    TellBoth netlist table problem.circuit problem.tech
-    × AcceptsPlacement places problem.circuit problem.tech.source problem.tech.host problem.places
+TellProblem (netlist ∷ table ∷ places ∷ []) problem = TellAll netlist table places problem
 TellProblem _ problem = ⊥
 
 -- the file holds a placement of the circuit that a netlist and a delay table tell
 pub record IsPlacementFile (netlist table bytes : List ℕ) : Type 0 where
   pub short : IsShortFile bytes
-  pub circuit : Circuit
-  pub tech : Tech
-  pub tell : TellBoth netlist table circuit tech
-  pub placement : IsPlacement bytes circuit tech.source tech.host
+  pub placement : IsPlacementOf netlist table bytes
 
 -- the first files of a command are accepted
 abbrev pub AreAccepted : List (List ℕ) → Type 0
@@ -85,18 +55,6 @@ AreAccepted (netlist ∷ table ∷ []) = IsNetlistFile netlist × IsTableFile ne
 AreAccepted (netlist ∷ table ∷ places ∷ []) =
     IsNetlistFile netlist × IsTableFile netlist table × IsPlacementFile netlist table places
 AreAccepted _ = ⊥
-
--- the netlist has this fault
-pub record HasFault (bytes : List ℕ) (fault : BenchFault) : Type 0 where
-  pub named : fault ≢ bench.NoMemory
-  pub cause : netlist.Refuses bytes fault
-
--- the table of a netlist has this fault
-pub record HasTableFault (netlist bytes : List ℕ) (fault : TechFault) : Type 0 where
-  pub named : fault ≢ tech.NoMemory
-  pub used : List Bool
-  pub kinds : AreUsedKinds (signals_of netlist) used
-  pub cause : table.Refuses used bytes fault
 
 -- a placement's fault, with the name of the register that has no place
 abbrev pub IsNamedFault : Circuit → PlaceFault → PlacementFault → Type 0

@@ -14,6 +14,7 @@ use Rattle.delay_tables.specs.declared.fault.TechFault.{TechFault}
 use Rattle.delay_tables.specs.declared.fault.TechFault.TheVariants as tech
 use Rattle.delay_tables.specs.Refusals.{Refuses}
 use Rattle.place_reader.specs.declared.fault.PlaceFault.{PlaceFault}
+use Rattle.cts_engine.specs.Accepted.{HasFault}
 use Rattle.cts_program.specs.declared.failure.Failure.{Failure}
 use Rattle.cts_program.specs.declared.failure.Failure.TheVariants as failures
 use Rattle.cts_program.specs.declared.file_kind.FileKind.{FileKind}
@@ -21,7 +22,7 @@ use Rattle.cts_program.specs.declared.file_kind.FileKind.TheVariants as kinds
 use Rattle.std.specs.Borrow.{Bor}
 use Rattle.cts_program.specs.declared.command.Command.{Command}
 use Rattle.cts_program.specs.Files.{IsShortFile, circuit_files, files_of, AreContents}
-use Rattle.cts_program.specs.Judged.{HasFault, HasPlaceFault, IsNamedFault, AreAccepted, Tell}
+use Rattle.cts_program.specs.Judged.{HasPlaceFault, IsNamedFault, AreAccepted, Tell}
 
 -- these bytes are what a file holds, where the device tells it
 abbrev pub IsToldAs : Option (List ℕ) → List ℕ → Type 0

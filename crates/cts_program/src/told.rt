@@ -2,27 +2,18 @@
 
 ghost use Rattle.std.specs.Prelude.{◌≡◌, ◌≢◌, ◌↔◌, ℕ, IsTrue, List, [], Some, IfOk, IfErr};
 ghost use Rattle.cts_model.specs.Circuits.{has_host};
-ghost use Rattle.cts_model.specs.Hosts.{HasNoHost};
 ghost use Rattle.cts_model.specs.Problems.{GivesUsedKinds};
 ghost use Rattle.cts_program.specs.declared.command.Command.{Command};
 ghost use Rattle.cts_program.specs.Files.{circuit_files};
-ghost use Rattle.cts_program.specs.Judged.{IsHostedBy};
 ghost use Rattle.cts_program.specs.Run.{Stops};
 ghost use Rattle.cts_program.specs.Steps.{ReadsCircuit, TellsCircuit, IsAnyReadFault};
 
 use crate::failure::Failure;
 use crate::files::{read_netlist, read_table};
-use cts_base::NoMemory;
+use cts_engine::{Told, hosted};
 use cts_io::Inputs;
-use cts_model::{Circuit, Tech, with_host};
+use cts_model::Tech;
 use std::alloc::Global;
-
-/// A circuit, with the host where it has one, and its delays.
-#[derive(Drop)]
-pub struct Told {
-    pub circuit: Circuit,
-    pub tech: Tech,
-}
 
 /// What the netlist in a file tells, with the delays in another or the built-in ones.
 pub fn read_circuit<I: Inputs>(
@@ -54,17 +45,5 @@ pub fn read_circuit<I: Inputs>(
             let circuit = hosted(alloc, bare, &tech)?;
             Ok(Told { circuit, tech })
         }
-    }
-}
-
-// The circuit with the host, where the table gives it a place.
-fn hosted(alloc: Global, circuit: Circuit, tech: &Tech) -> Result<Circuit, NoMemory>
-    requires { HasNoHost circuit }
-    ensures { IfOk result (IsHostedBy tech.now circuit) }
-{
-    if tech.host.is_empty() {
-        Ok(circuit)
-    } else {
-        with_host(alloc, circuit)
     }
 }

@@ -2,6 +2,8 @@
 #![tactic(auto)]
 
 #[cfg(test)]
+mod acceptance_tests;
+#[cfg(test)]
 mod base_tests;
 #[cfg(test)]
 mod bench_tests;

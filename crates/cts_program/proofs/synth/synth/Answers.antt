@@ -1,10 +1,10 @@
 use Rattle.std.proofs.Common.{[], ◌∷◌, Err, refl, ap, ◌∙◌}
 use Rattle.std.proofs.lemmas.Result.{err_from_is_err_and}
+use Rattle.cts_engine.proofs.ProblemLemmas.{problem_of}
 use Rattle.cts_program.specs.declared.command.Command.TheVariants.{Synth}
 use Rattle.cts_program.specs.declared.failure.Failure.{Failure}
 use Rattle.cts_program.specs.declared.file_kind.FileKind.TheVariants as kinds
 use Rattle.cts_program.proofs.PlacementLemmas.{placement_stops, placed_tells, synth_answer}
-use Rattle.cts_program.proofs.ProblemLemmas.{problem_of}
 use Rattle.cts_program.proofs.ResultLemmas.{if_err_from}
 use Rattle.cts_program.proofs.ToldLemmas.{circuit_stops, told_acyclic}
 use Rattle.cts_program.proofs.synth.synth.Goals as goal

@@ -1,6 +1,7 @@
 use Rattle.std.proofs.Common.{◌∙◌}
 use Rattle.std.proofs.lemmas.Result.{err_from_is_err_and}
-use Rattle.cts_program.proofs.ProblemLemmas.{gives_plain, gives_hosted, has_host-plain, has_host-hosted}
+use Rattle.cts_engine.proofs.ProblemLemmas.{gives_hosted, has_host-hosted}
+use Rattle.cts_program.proofs.PlainDelays.{gives_plain, has_host-plain}
 use Rattle.cts_program.proofs.ToldLemmas.{netlist_stops, table_stops, netlist_tells, both_tell}
 use Rattle.cts_program.proofs.told.read_circuit.Goals as goal
 

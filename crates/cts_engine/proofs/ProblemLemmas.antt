@@ -1,7 +1,6 @@
--- What the files of a problem tell keeps to what a problem is: its delays serve its circuit, which
+-- What the texts of a problem tell keeps to what a problem is: its delays serve its circuit, which
 -- has the host where the table gives it a place, and its registers have places that aren't far away.
-use Rattle.std.proofs.Common.{◌≡◌, ◌≢◌, ◌≤◌, ◌*◌, ◌^◌, ◌+◌, ◌==◌, ◌↔◌, inl, inr, lit<, ℕ, suc, ℤ, pos, negsuc, nat_abs, Bool, true, false, IsTrue, IsFalse, MatchBool, List, [], ◌∷◌, length, get_or, replicate, All, refl, sym, ap, ◌∙◌, subst, true≢false, arith}
-use Rattle.std.specs.List.{slice_index_or}
+use Rattle.std.proofs.Common.{◌≡◌, ◌≢◌, ◌≤◌, ◌*◌, ◌^◌, ◌+◌, ◌==◌, ◌↔◌, inl, inr, lit<, ℕ, suc, ℤ, pos, negsuc, nat_abs, Bool, true, false, IsTrue, MatchBool, List, [], ◌∷◌, length, get_or, All, refl, sym, ap, ◌∙◌, subst, true≢false, arith}
 use Rattle.std.proofs.Math.Nat.{one-le-pow, mul-le-mul_right}
 use Rattle.std.proofs.lemmas.Bool.{cases_lt}
 use Rattle.std.proofs.lemmas.Bool.Decides.{Decides-eqb}
@@ -10,27 +9,23 @@ use Rattle.std.proofs.lemmas.List.{get_or_default, length-map}
 use Rattle.std.proofs.lemmas.List.Elements.{All-append, All-cons, All-nil}
 use Rattle.cts_base.specs.Decimals.{digits, raised, lowered, IsRead}
 use Rattle.cts_model.specs.declared.circuit.Circuit.{Circuit}
-use Rattle.cts_model.specs.declared.kind.Kind.{Kind}
-use Rattle.cts_model.specs.declared.kind.Kind.TheVariants.{And, Nand, Or, Nor, Not, Xor, Xnor, Buff, Input, Dff, Host}
 use Rattle.cts_model.specs.declared.place.Places.{Places}
 use Rattle.cts_model.specs.declared.place.Point.{Point}
 use Rattle.cts_model.specs.declared.signal.Signal.{Signal}
-use Rattle.cts_model.specs.declared.tech.GateDelay.{GateDelay}
 use Rattle.cts_model.specs.declared.tech.Tech.{Tech}
 use Rattle.cts_model.specs.AcceptedTables.{GivesKinds}
 use Rattle.cts_model.specs.Circuits.{has_host, host_signal}
-use Rattle.cts_model.specs.Delays.{no_delay, delay_of}
+use Rattle.cts_model.specs.Delays.{delay_of}
 use Rattle.cts_model.specs.Hosts.{HasNoHost, IsWithHost}
-use Rattle.cts_model.specs.Kinds.{is_gate, place_of}
+use Rattle.cts_model.specs.Kinds.{is_gate}
 use Rattle.cts_model.specs.Paths.{IsLoop}
 use Rattle.cts_model.specs.PlaceLines.{Node}
 use Rattle.cts_model.specs.Placements.{AcceptsPlacement, StandsAt, StandAt}
-use Rattle.cts_model.specs.PlainTable.{one_tick, IsPlainTable}
 use Rattle.cts_model.specs.Points.{IsBelow, IsPointBelow}
 use Rattle.cts_model.specs.Problems.{GivesUsedKinds, IsProblem}
 use Rattle.cts_model.specs.UsedKinds.{AreUsedKinds}
 use Rattle.cts_model.proofs.HostedCircuits.{has_host-with_host}
-use Rattle.cts_program.specs.Judged.{IsHostedBy}
+use Rattle.cts_engine.specs.Accepted.{IsHostedBy}
 
 -- ---- delays
 
@@ -50,31 +45,6 @@ gives_used circuit tech used are gives number signal within gate =
       get_or_default circuit.signals number here signal within,
       refl,
     ))
-
--- the built-in one serves every circuit
-pub gives_plain : (circuit : Circuit) (tech : Tech) → IsPlainTable tech
-    → GivesUsedKinds circuit tech
-gives_plain circuit tech plain number signal within =
-    each (get_or circuit.signals number signal).kind
-  where
-    of_eight : (kind : Kind) → IsTrue (is_gate kind)
-        → IsTrue (slice_index_or (replicate 8 one_tick) (place_of kind) no_delay).given
-    of_eight And gate = refl
-    of_eight Nand gate = refl
-    of_eight Or gate = refl
-    of_eight Nor gate = refl
-    of_eight Not gate = refl
-    of_eight Xor gate = refl
-    of_eight Xnor gate = refl
-    of_eight Buff gate = refl
-    of_eight Input gate = absurd (true≢false (sym gate))
-    of_eight Dff gate = absurd (true≢false (sym gate))
-    of_eight Host gate = absurd (true≢false (sym gate))
-
-    each : (kind : Kind) → IsTrue (is_gate kind) → IsTrue (delay_of tech kind).given
-    each kind gate =
-        ap (λ (gates : List GateDelay). (slice_index_or gates (place_of kind) no_delay).given)
-        plain.gates ∙ of_eight kind gate
 
 -- what serves a circuit serves it with the host too
 pub gives_hosted : (tech : Tech) (bare circuit : Circuit) → GivesUsedKinds bare tech
@@ -113,21 +83,6 @@ has_host-hosted tech bare circuit none hosted = at (length tech.host == 0) refl 
       λ has nothing. true≢false (sym (ap (λ (host : List ℕ). length host == 0) nothing) ∙ is),
       λ some. has_host-with_host bare circuit with_it,
     )
-
--- a table without the host has none
-pub has_host-plain : (tech : Tech) (circuit : Circuit) → HasNoHost circuit → IsPlainTable tech
-    → IsTrue (has_host circuit.signals) ↔ (tech.host ≢ [])
-has_host-plain tech circuit none plain =
-    (λ has. absurd (true≢false (sym has ∙ none)), λ some. absurd (some plain.host))
-
--- so the name of its node is empty exactly where there is none
-pub unnamed_host : (host : List ℕ) (has : Bool) → IsTrue has ↔ (host ≢ [])
-    → (host ≡ []) ↔ IsFalse has
-unnamed_host host true is =
-    (λ none. absurd (is.0 refl none), λ fails. absurd (true≢false fails))
-unnamed_host [] false is = (λ none. refl, λ fails. refl)
-unnamed_host (byte ∷ host) false is =
-    (λ none. refl, λ fails. absurd (true≢false (sym (is.1 (λ none. cc none)))))
 
 -- ---- places
 

@@ -1,0 +1,175 @@
+-- The texts of a problem tell one circuit, one table and one problem, and texts that tell a problem
+-- have no refusal.
+use Rattle.std.proofs.Common.{ℕ, ◌≡◌, ◌⊎◌, inl, inr, Bool, true, false, ◌==◌, MatchBool, List, length, Result, Ok, Err, IfOk, IfErr, refl, ap, sym, ◌∙◌, subst}
+use Rattle.std.proofs.Props.{props}
+use Rattle.cts_model.specs.declared.circuit.Circuit.{Circuit}
+use Rattle.cts_model.specs.declared.place.Places.{Places}
+use Rattle.cts_model.specs.declared.problem.Problem.{Problem}
+use Rattle.cts_model.specs.declared.tech.Tech.{Tech}
+use Rattle.cts_model.specs.AcceptedTables.{AcceptsTable}
+use Rattle.cts_model.specs.Hosts.{IsWithHost}
+use Rattle.cts_model.specs.Netlists.{AcceptsNetlist, signals_of}
+use Rattle.cts_model.specs.Placements.{AcceptsPlacement}
+use Rattle.cts_model.specs.Problems.{IsProblem}
+use Rattle.cts_model.specs.UsedKinds.{AreUsedKinds}
+use Rattle.cts_model.proofs.OneRecord.{same_circuit, one_use}
+use Rattle.bench_reader.proofs.OneFault.{no_fault}
+use Rattle.delay_tables.specs.declared.fault.TechFault.{TechFault}
+use Rattle.delay_tables.specs.Refusals.{Refuses}
+use Rattle.delay_tables.proofs.OneFault.{not_refused}
+use Rattle.delay_tables.proofs.OneTable.{one_table}
+use Rattle.place_reader.specs.declared.fault.PlaceFault.{PlaceFault}
+use Rattle.place_reader.specs.Refusals as placements
+use Rattle.place_reader.proofs.OneFault as placement_faults
+use Rattle.cts_engine.specs.declared.refusals.Refusal.{Refusal}
+use Rattle.cts_engine.specs.declared.refusals.Refusal.TheVariants as refusals
+use Rattle.cts_engine.specs.Accepted.{IsHostedBy, TellBoth, TellAll, IsTableOf, IsPlacementOf, HasTableFault, HasPlacesFault, IsRefusal}
+use Rattle.cts_engine.proofs.OnePlaces.{one_places}
+
+-- ---- one circuit and one table
+
+-- a netlist tells one circuit
+pub one_netlist : (bytes : List ℕ) (circuit other : Circuit) → AcceptsNetlist bytes circuit
+    → AcceptsNetlist bytes other → circuit ≡ other
+one_netlist bytes circuit other accepts accepts' =
+    same_circuit circuit other (accepts.signals ∙ sym accepts'.signals)
+    (accepts.registers ∙ sym accepts'.registers) (accepts.outputs ∙ sym accepts'.outputs)
+
+-- with the host or without, it stays one
+one_hosted : (hostless : Bool) (bare circuit other : Circuit)
+    → MatchBool hostless (circuit ≡ bare) (IsWithHost bare circuit)
+    → MatchBool hostless (other ≡ bare) (IsWithHost bare other) → circuit ≡ other
+one_hosted true bare circuit other hosted hosted' = hosted ∙ sym hosted'
+one_hosted false bare circuit other hosted hosted' =
+    same_circuit circuit other (hosted.signals ∙ sym hosted'.signals)
+    (hosted.registers ∙ sym hosted'.registers) (hosted.outputs ∙ sym hosted'.outputs)
+
+-- a netlist and a delay table tell one circuit and one table
+pub one_both : (netlist table : List ℕ) (circuit other : Circuit) (tech tech' : Tech)
+    → TellBoth netlist table circuit tech → TellBoth netlist table other tech'
+    → (circuit ≡ other) × (tech ≡ tech')
+one_both netlist table circuit other tech tech' tell tell' =
+    let bare : tell'.bare ≡ tell.bare =
+    one_netlist netlist tell'.bare tell.bare tell'.accepts tell.accepts in
+    let kinds' = subst (λ (c : Circuit). AreUsedKinds c.signals tell'.used) bare tell'.kinds in
+    let used : tell'.used ≡ tell.used =
+    one_use tell.bare.signals tell'.used tell.used kinds' tell.kinds in
+    let same : tech' ≡ tech =
+    one_table tell.used table tech' tech
+    (subst (λ u. AcceptsTable u table tech') used tell'.accepts_table) tell.accepts_table in
+    let hosted' = subst (λ c. IsHostedBy tech c other) bare
+    (subst (λ t. IsHostedBy t tell'.bare other) same tell'.hosted) in
+    (one_hosted (length tech.host == 0) tell.bare circuit other tell.hosted hosted', sym same)
+
+-- ---- one problem
+
+-- what a problem is made of
+abbrev Parts : Type 0
+Parts = Circuit × Tech × Places
+
+-- a problem of its parts
+problem_of_parts : (parts : Parts) → IsProblem parts.0 parts.1 parts.2 → Problem
+problem_of_parts parts valid =
+    record { circuit = parts.0; tech = parts.1; places = parts.2; valid = valid }
+
+-- they make one in one way
+one_validity : (parts : Parts) → IsProp (IsProblem parts.0 parts.1 parts.2)
+one_validity parts = hlevel props
+
+-- so problems of the same parts are one
+problem_same : (parts others : Parts) → parts ≡ others
+    → (valid : IsProblem parts.0 parts.1 parts.2) (valid' : IsProblem others.0 others.1 others.2)
+    → problem_of_parts parts valid ≡ problem_of_parts others valid'
+unfolding problem_of_parts
+problem_same parts others same valid valid' =
+    subst (λ (p : Parts). (v : IsProblem p.0 p.1 p.2)
+    → problem_of_parts parts valid ≡ problem_of_parts p v) same
+    (λ v. ap (problem_of_parts parts) (one_validity parts valid v)) valid'
+
+-- and so are those with the same circuit, delays and places
+same_problem : (problem other : Problem) → problem.circuit ≡ other.circuit
+    → problem.tech ≡ other.tech → problem.places ≡ other.places → problem ≡ other
+unfolding problem_of_parts
+same_problem problem other circuit tech places =
+    problem_same (problem.circuit, problem.tech, problem.places)
+    (other.circuit, other.tech, other.places) (λ i. (circuit i, tech i, places i))
+    problem.valid other.valid
+
+-- ---- no refusal
+
+-- a table that is accepted for a circuit is one of its netlist
+pub table_accepted : (netlist table : List ℕ) (circuit : Circuit) (tech : Tech) (used : List Bool)
+    → AcceptsNetlist netlist circuit → AreUsedKinds circuit.signals used
+    → AcceptsTable used table tech → IsTableOf netlist table
+table_accepted netlist table circuit tech used accepts kinds accepts_table = record {
+  used = used;
+  kinds = subst (λ signals. AreUsedKinds signals used) accepts.signals kinds;
+  table = record {
+    document = accepts_table.document;
+    reads = accepts_table.reads;
+    flawless = accepts_table.flawless;
+  };
+}
+
+-- it has no fault
+pub table_fine : (netlist table : List ℕ) (fault : TechFault) → IsTableOf netlist table
+    → HasTableFault netlist table fault → ⊥
+table_fine netlist table fault accepted has =
+    let used = one_use (signals_of netlist) has.used accepted.used has.kinds accepted.kinds in
+    has.named (not_refused accepted.used table fault accepted.table
+    (subst (λ u. Refuses u table fault) used has.cause))
+
+module _ (netlist table placement : List ℕ) where
+  -- three texts tell one problem
+  pub one_problem : (problem other : Problem) → TellAll netlist table placement problem
+      → TellAll netlist table placement other → problem ≡ other
+  one_problem problem other tells tells' =
+      let (circuit, tech) = one_both netlist table other.circuit problem.circuit other.tech
+      problem.tech tells'.tell tells.tell in
+      let placed = subst (λ t. AcceptsPlacement placement problem.circuit t.source t.host
+      other.places) tech (subst (λ c. AcceptsPlacement placement c other.tech.source other.tech.host
+      other.places) circuit tells'.places) in
+      same_problem problem other (sym circuit) (sym tech)
+      (one_places placement problem.circuit problem.tech.source problem.tech.host problem.places
+      other.places tells.places placed)
+
+  -- nor has a placement that is accepted
+  pub placement_fine : (fault : PlaceFault) → IsPlacementOf netlist table placement
+      → HasPlacesFault netlist table placement fault → ⊥
+  placement_fine fault accepted has =
+      let (circuit, tech) = one_both netlist table has.circuit accepted.circuit has.tech
+      accepted.tech has.tell accepted.tell in
+      let cause = subst (λ t. placements.Refuses placement accepted.circuit t.source t.host fault)
+      tech (subst (λ c. placements.Refuses placement c has.tech.source has.tech.host fault)
+      circuit has.cause) in
+      has.named (placement_faults.no_fault placement accepted.circuit accepted.tech.source
+      accepted.tech.host fault accepted.placement cause)
+
+  -- nor have texts that tell a problem a refusal
+  unrefused : (problem : Problem) → TellAll netlist table placement problem → (refusal : Refusal)
+      → IsRefusal netlist table placement refusal → refusal ≡ refusals.NoMemory
+  unrefused problem tells (refusals.Bench fault) has =
+      absurd (has.named (no_fault netlist fault tells.tell.accepts.netlist has.cause))
+  unrefused problem tells (refusals.Tech fault) (accepted, has) =
+      let tell = tells.tell in
+      absurd (table_fine netlist table fault (table_accepted netlist table tell.bare problem.tech
+      tell.used tell.accepts tell.kinds tell.accepts_table) has)
+  unrefused problem tells (refusals.Places fault) (accepted, accepted', has) =
+      absurd (placement_fine fault (record {
+        circuit = problem.circuit;
+        tech = problem.tech;
+        tell = tells.tell;
+        placement = tells.places.placement;
+      }) has)
+  unrefused problem tells refusals.NoMemory any = refl
+
+  -- so an answer that is right on them is their problem, or want of memory
+  pub told_alone : (result : Result Problem Refusal)
+      → IfOk result (TellAll netlist table placement)
+      → IfErr result (IsRefusal netlist table placement)
+      → (problem : Problem) → TellAll netlist table placement problem
+      → (result ≡ Ok problem) ⊎ (result ≡ Err refusals.NoMemory)
+  told_alone (Ok other) told cause problem tells =
+      inl (ap (λ p. Ok p) (one_problem other problem told tells))
+  told_alone (Err refusal) told cause problem tells =
+      inr (ap (λ r. Err r) (unrefused problem tells refusal cause))

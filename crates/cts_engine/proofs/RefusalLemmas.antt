@@ -1,0 +1,63 @@
+-- What a text that isn't read leaves of the texts of a problem: a refusal, or want of memory.
+use Rattle.std.proofs.Common.{ℕ, Bool, List, subst}
+use Rattle.cts_model.specs.declared.circuit.Circuit.{Circuit}
+use Rattle.cts_model.specs.declared.tech.Tech.{Tech}
+use Rattle.cts_model.specs.Netlists.{AcceptsNetlist}
+use Rattle.cts_model.specs.UsedKinds.{AreUsedKinds}
+use Rattle.bench_reader.specs.declared.fault.BenchFault.{BenchFault}
+use Rattle.bench_reader.specs.declared.fault.BenchFault.TheVariants as bench
+use Rattle.bench_reader.specs.Refusals as netlists
+use Rattle.delay_tables.specs.declared.fault.TechFault.{TechFault}
+use Rattle.delay_tables.specs.declared.fault.TechFault.TheVariants as tech
+use Rattle.delay_tables.specs.Refusals as tables
+use Rattle.place_reader.specs.declared.fault.PlaceFault.{PlaceFault}
+use Rattle.place_reader.specs.declared.fault.PlaceFault.TheVariants as place
+use Rattle.place_reader.specs.Refusals as placements
+use Rattle.cts_engine.specs.declared.refusals.Refusal.{Refusal}
+use Rattle.cts_engine.specs.declared.refusals.Refusal.TheVariants as refusals
+use Rattle.cts_engine.specs.Accepted.{TellBoth, bench_refusal_of, tech_refusal_of, places_refusal_of, IsCircuitRefusal, IsRefusal}
+use Rattle.cts_engine.proofs.OneProblem.{table_accepted}
+
+module _ (netlist table : List ℕ) where
+  -- a netlist that isn't read
+  pub bench_refused : (fault : BenchFault) → netlists.Refuses netlist fault
+      → IsCircuitRefusal netlist table (bench_refusal_of fault)
+  bench_refused bench.NoMemory cause = tt
+  bench_refused fault cause = record { named = λ e. cc e; cause = cause }
+
+  -- a table that isn't, behind a netlist that tells this circuit
+  pub tech_refused : (circuit : Circuit) → AcceptsNetlist netlist circuit → (used : List Bool)
+      → AreUsedKinds circuit.signals used → (fault : TechFault) → tables.Refuses used table fault
+      → IsCircuitRefusal netlist table (tech_refusal_of fault)
+  tech_refused circuit accepts used kinds tech.NoMemory cause = tt
+  tech_refused circuit accepts used kinds fault cause = (
+    accepts.netlist,
+    record {
+      named = λ e. cc e;
+      used = used;
+      kinds = subst (λ signals. AreUsedKinds signals used) accepts.signals kinds;
+      cause = cause;
+    },
+  )
+
+  module _ (placement : List ℕ) where
+    -- what refuses the two refuses the three
+    pub circuit_refused : (refusal : Refusal) → IsCircuitRefusal netlist table refusal
+        → IsRefusal netlist table placement refusal
+    circuit_refused (refusals.Bench fault) cause = cause
+    circuit_refused (refusals.Tech fault) cause = cause
+    circuit_refused (refusals.Places fault) cause = absurd cause
+    circuit_refused refusals.NoMemory cause = cause
+
+    -- a placement that isn't read, behind a netlist and a table that tell this circuit
+    pub places_refused : (circuit : Circuit) (tech : Tech) → TellBoth netlist table circuit tech
+        → (fault : PlaceFault)
+        → placements.Refuses placement circuit tech.source tech.host fault
+        → IsRefusal netlist table placement (places_refusal_of fault)
+    places_refused circuit tech tell place.NoMemory cause = tt
+    places_refused circuit tech tell fault cause = (
+      tell.accepts.netlist,
+      table_accepted netlist table tell.bare tech tell.used tell.accepts tell.kinds
+          tell.accepts_table,
+      record { named = λ e. cc e; circuit = circuit; tech = tech; tell = tell; cause = cause },
+    )

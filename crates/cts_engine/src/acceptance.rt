@@ -1,0 +1,84 @@
+ghost use Rattle.std.specs.Prelude.{◌≡◌, ◌≢◌, ◌≤◌, ◌↔◌, ◌⊎◌, IsTrue, [], length, Ok, Err, IfOk, IfErr};
+ghost use Rattle.cts_model.specs.declared.problem.Problem.{Problem};
+ghost use Rattle.cts_model.specs.Circuits.{has_host};
+ghost use Rattle.cts_model.specs.Hosts.{HasNoHost};
+ghost use Rattle.cts_model.specs.Problems.{GivesUsedKinds};
+ghost use Rattle.cts_engine.specs.Accepted.{IsHostedBy, TellBoth, TellAll, IsCircuitRefusal, IsRefusal};
+
+use crate::Refusal;
+use bench_reader::read_bench;
+use cts_base::NoMemory;
+use cts_model::{Circuit, Problem, Tech, used_kinds, with_host};
+use delay_tables::read_tech;
+use place_reader::read_places;
+use std::alloc::Global;
+
+/// A circuit, with the host where it has one, and its delays.
+#[derive(Debug, Drop)]
+pub struct Told {
+    pub circuit: Circuit,
+    pub tech: Tech,
+}
+
+/// The problem that a netlist, a delay table and a placement tell. They are judged in this order,
+/// and none behind the first that is refused.
+pub fn accept(alloc: Global, bench: &[u8], tech: &[u8], places: &[u8]) -> Result<Problem, Refusal>
+    requires bench { length bench.now ≤ 16777216 }
+    requires places { length places.now ≤ 16777216 }
+    ensures ok { IfOk result (TellAll bench.now tech.now places.now) }
+    ensures cause { IfErr result (IsRefusal bench.now tech.now places.now) }
+    // Texts that tell a problem are accepted, and it is the only one; memory alone is free.
+    ensures accepted { (problem : Problem) → TellAll bench.now tech.now places.now problem
+        → (result ≡ Ok problem) ⊎ (result ≡ Err Refusal.NoMemory) }
+{
+    problem_told(alloc, bench, tech, places)
+}
+
+// The problem, or the first refusal.
+fn problem_told(alloc: Global, bench: &[u8], tech: &[u8], places: &[u8]) -> Result<Problem, Refusal>
+    requires bench { length bench.now ≤ 16777216 }
+    requires places { length places.now ≤ 16777216 }
+    ensures ok { IfOk result (TellAll bench.now tech.now places.now) }
+    ensures cause { IfErr result (IsRefusal bench.now tech.now places.now) }
+{
+    let Told { circuit, tech } = accept_circuit(alloc, bench, tech)?;
+    let places = read_places(
+        alloc,
+        places,
+        &circuit,
+        tech.source.as_slice(),
+        tech.host.as_slice(),
+    )?;
+    Ok(Problem {
+        circuit,
+        tech,
+        places,
+    })
+}
+
+/// What a netlist and a delay table tell, without the places. The netlist is judged first.
+pub fn accept_circuit(alloc: Global, bench: &[u8], tech: &[u8]) -> Result<Told, Refusal>
+    requires { length bench.now ≤ 16777216 }
+    ensures ok { IfOk result (λ told. TellBoth bench.now tech.now told.circuit told.tech) }
+    ensures kinds { IfOk result (λ told. GivesUsedKinds told.circuit told.tech) }
+    ensures host { IfOk result (λ told.
+        IsTrue (has_host told.circuit.signals) ↔ (told.tech.host ≢ [])) }
+    ensures cause { IfErr result (IsCircuitRefusal bench.now tech.now) }
+{
+    let bare = read_bench(alloc, bench)?;
+    let tech = read_tech(alloc, tech, &used_kinds(&bare))?;
+    let circuit = hosted(alloc, bare, &tech)?;
+    Ok(Told { circuit, tech })
+}
+
+/// The circuit with the host, where the table gives it a place.
+pub fn hosted(alloc: Global, circuit: Circuit, tech: &Tech) -> Result<Circuit, NoMemory>
+    requires { HasNoHost circuit }
+    ensures { IfOk result (IsHostedBy tech.now circuit) }
+{
+    if tech.host.is_empty() {
+        Ok(circuit)
+    } else {
+        with_host(alloc, circuit)
+    }
+}
