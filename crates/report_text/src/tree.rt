@@ -224,8 +224,8 @@ fn push_point(out: &mut Vec<u8>, report: &Report, point: Point) -> Result<(), No
     push_length(out, report, point.y)
 }
 
-// Appends the last line, the length of all edges.
-fn push_total(out: &mut Vec<u8>, report: &Report) -> Result<(), NoMemory>
+/// Appends the last line of a report, the length of all edges in length units.
+pub fn push_total(out: &mut Vec<u8>, report: &Report) -> Result<(), NoMemory>
     requires small { HasSmallLengths report.now }
     ensures { OnOk result (out.new.items ≡ out.old.items
         ++ line_of (codes "wire" ∷ length_text report.now report.now.total ∷ [])) }
