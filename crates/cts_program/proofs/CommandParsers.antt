@@ -1,5 +1,5 @@
 -- The parsers of the commands take plain words.
-use Rattle.std.proofs.Common.{◌≡◌, not, ◌||◌, ◌&&◌, ◌++◌, Bool, true, false, List, [], ◌∷◌, map, cond, Some, None, is_some, IsTrue, refl, sym, ap, ◌∙◌, subst, true≢false, codes}
+use Rattle.std.proofs.Common.{◌≡◌, not, ◌||◌, ◌++◌, Bool, true, false, List, [], ◌∷◌, map, cond, Some, None, is_some, IsTrue, refl, sym, ap, ◌∙◌, subst, true≢false}
 use Rattle.std.specs.Prelude.{drop, find, option_and_then, slice_get}
 use Rattle.std.specs.Str.{bytes_eq}
 use Rattle.std.specs.List.{AllByRecursion, list_all}
@@ -16,7 +16,7 @@ use Rattle.clap.specs.declared.parser.matches.Found.{Found}
 use Rattle.clap.proofs.TakesLemmas.{leaf_takes}
 use Rattle.clap.proofs.WalkLemmas.{first_value-rows}
 use Rattle.cts_program.specs.declared.command.table.Form.{Form}
-use Rattle.cts_program.specs.declared.command.table.Form.TheVariants.{Zero, Period, Schedule, Synth}
+use Rattle.cts_program.specs.declared.command.table.Form.TheVariants.{Zero, Period, Schedule, Synth, Check, Demo}
 use Rattle.cts_program.specs.Commands.{Word, Given, is_value, option_words}
 use Rattle.cts_program.specs.PlainWords.{form_name, choices_of, is_known, has_option, are_options, has_required, has_values, IsPlain}
 use Rattle.cts_program.specs.Parsers.{parser_for}
@@ -92,7 +92,6 @@ record Reads (form : Form) : Type 0 where
   each : (word : Word) → is_known (choices_of form) word ≡ true → IsReadBy (built (parser_for form)).top.rules word
   no_request : list_all default_passes (built (parser_for form)).top.rules ≡ true
   no_defaults : AllByRecursion (λ rule. rule.defaults ≡ []) (built (parser_for form)).top.rules
-  valid : (given : List Given) → has_required (choices_of form) (option_words given) ≡ true → is_valid (built (parser_for form)).top (map row_for given) false ≡ true
 
 -- where each option of a row is read, so is a word that is one of them
 read_known : (rules : List Rule) (choices : List (Word × Bool)) → AllByRecursion (λ choice. IsReadBy rules choice.0) choices → (word : Word) → is_known choices word ≡ true → IsReadBy rules word
@@ -103,64 +102,81 @@ read_known rules (choice ∷ more) each word known = at (bytes_eq choice.0 word)
     at true same rest known = subst (IsReadBy rules) ((bytes_eq-Decides choice.0 word).0 same) each.0
     at false same rest known = rest known
 
--- the options of `zero` are read
-reads_zero : AllByRecursion (λ choice. IsReadBy (built (parser_for Zero)).top.rules choice.0) (choices_of Zero)
-reads_zero = (
+-- the options of each command are read
+reads_row : (form : Form)
+    → AllByRecursion (λ choice. IsReadBy (built (parser_for form)).top.rules choice.0)
+    (choices_of form)
+reads_row Zero = (
   record { required = true; by_id = refl; by_long = refl; long = refl; option = refl },
   (record { required = false; by_id = refl; by_long = refl; long = refl; option = refl }, tt),
 )
-
--- where `--bench` stands, `zero` has what it requires
-valid_zero : (given : List Given) → has_required (choices_of Zero) (option_words given) ≡ true → is_valid (built (parser_for Zero)).top (map row_for given) false ≡ true
-valid_zero given required =
-    let there = (both (has_option (codes "--bench") (option_words given)) true required).0 in
-    rw (given-rows (codes "--bench") given ∙ sym (has_option-given (codes "--bench") given) ∙ there) refl
-
--- the options of `period` are read
-reads_period : AllByRecursion (λ choice. IsReadBy (built (parser_for Period)).top.rules choice.0) (choices_of Period)
-reads_period = (
+reads_row Period = (
   record { required = true; by_id = refl; by_long = refl; long = refl; option = refl },
   (record { required = true; by_id = refl; by_long = refl; long = refl; option = refl }, tt),
 )
-
--- where `--bench` and `--tech` stand, `period` has what it requires
-valid_period : (given : List Given) → has_required (choices_of Period) (option_words given) ≡ true → is_valid (built (parser_for Period)).top (map row_for given) false ≡ true
-valid_period given required =
-    let there = both (has_option (codes "--bench") (option_words given)) (has_option (codes "--tech") (option_words given) && true) required in
-    let behind = both (has_option (codes "--tech") (option_words given)) true there.1 in
-    rw (
-      given-rows (codes "--bench") given ∙ sym (has_option-given (codes "--bench") given) ∙ there.0,
-      given-rows (codes "--tech") given ∙ sym (has_option-given (codes "--tech") given) ∙ behind.0,
-    ) refl
-
--- the options of `synth` are read
-reads_synth : AllByRecursion (λ choice. IsReadBy (built (parser_for Synth)).top.rules choice.0)
-    (choices_of Synth)
-reads_synth = (
+reads_row Schedule = (
+  record { required = true; by_id = refl; by_long = refl; long = refl; option = refl },
+  (record { required = true; by_id = refl; by_long = refl; long = refl; option = refl }, tt),
+)
+reads_row Synth = (
   record { required = true; by_id = refl; by_long = refl; long = refl; option = refl },
   (
     record { required = true; by_id = refl; by_long = refl; long = refl; option = refl },
     (record { required = true; by_id = refl; by_long = refl; long = refl; option = refl }, tt),
   ),
 )
+reads_row Check = (
+  record { required = true; by_id = refl; by_long = refl; long = refl; option = refl },
+  (
+    record { required = true; by_id = refl; by_long = refl; long = refl; option = refl },
+    (
+      record { required = true; by_id = refl; by_long = refl; long = refl; option = refl },
+      (record { required = true; by_id = refl; by_long = refl; long = refl; option = refl }, tt),
+    ),
+  ),
+)
+reads_row Demo = (
+  record { required = true; by_id = refl; by_long = refl; long = refl; option = refl },
+  (record { required = true; by_id = refl; by_long = refl; long = refl; option = refl }, tt),
+)
 
--- where all three stand, `synth` has what it requires
-valid_synth : (given : List Given)
-    → has_required (choices_of Synth) (option_words given) ≡ true
-    → is_valid (built (parser_for Synth)).top (map row_for given) false ≡ true
-valid_synth given required =
+-- each option that a row requires is given, where it stands
+required_given : (given : List Given) (choices : List (Word × Bool))
+    → has_required choices (option_words given) ≡ true
+    → AllByRecursion (λ choice. choice.1 ≡ true → is_given choice.0 (map row_for given) ≡ true)
+    choices
+required_given given [] required = tt
+required_given given (choice ∷ more) required =
     let words = option_words given in
-    let bench = both (has_option (codes "--bench") words)
-    (has_option (codes "--tech") words && (has_option (codes "--pl") words && true)) required in
-    let tech = both (has_option (codes "--tech") words)
-    (has_option (codes "--pl") words && true) bench.1 in
-    let pl = both (has_option (codes "--pl") words) true tech.1 in
-    let stands = λ (option : Word). given-rows option given ∙ sym (has_option-given option given) in
-    rw (
-      stands (codes "--bench") ∙ bench.0,
-      stands (codes "--tech") ∙ tech.0,
-      stands (codes "--pl") ∙ pl.0,
-    ) refl
+    let parts = both (not choice.1 || has_option choice.0 words) (has_required more words) required
+    in (
+      λ always. given-rows choice.0 given ∙ sym (has_option-given choice.0 given)
+          ∙ rw always at parts.0,
+      required_given given more parts.1,
+    )
+
+-- and then the command has what it requires
+valid : (form : Form) (given : List Given)
+    → has_required (choices_of form) (option_words given) ≡ true
+    → is_valid (built (parser_for form)).top (map row_for given) false ≡ true
+valid Zero given required =
+    let (bench, _) = required_given given (choices_of Zero) required in
+    rw (bench refl) refl
+valid Period given required =
+    let (bench, (tech, _)) = required_given given (choices_of Period) required in
+    rw (bench refl, tech refl) refl
+valid Schedule given required =
+    let (bench, (tech, _)) = required_given given (choices_of Schedule) required in
+    rw (bench refl, tech refl) refl
+valid Synth given required =
+    let (bench, (tech, (pl, _))) = required_given given (choices_of Synth) required in
+    rw (bench refl, tech refl, pl refl) refl
+valid Check given required =
+    let (bench, (tech, (pl, (report, _)))) = required_given given (choices_of Check) required in
+    rw (bench refl, tech refl, pl refl, report refl) refl
+valid Demo given required =
+    let (registers, (seed, _)) = required_given given (choices_of Demo) required in
+    rw (registers refl, seed refl) refl
 
 -- so it is with the parser of each command
 reads : (form : Form) → Reads form
@@ -168,42 +184,54 @@ reads Zero = record {
   simple = refl;
   alone = refl;
   behind_name = λ name others. refl;
-  each = read_known (built (parser_for Zero)).top.rules (choices_of Zero) reads_zero;
+  each = read_known (built (parser_for Zero)).top.rules (choices_of Zero) (reads_row Zero);
   no_request = refl;
   no_defaults = (refl, (refl, (refl, tt)));
-  valid = valid_zero;
 }
 reads Period = record {
   simple = refl;
   alone = refl;
   behind_name = λ name others. refl;
-  each = read_known (built (parser_for Period)).top.rules (choices_of Period) reads_period;
+  each = read_known (built (parser_for Period)).top.rules (choices_of Period) (reads_row Period);
   no_request = refl;
   no_defaults = (refl, (refl, (refl, tt)));
-  valid = valid_period;
 }
 reads Schedule = record {
   simple = refl;
   alone = refl;
   behind_name = λ name others. refl;
-  each = read_known (built (parser_for Schedule)).top.rules (choices_of Schedule) reads_period;
+  each = read_known (built (parser_for Schedule)).top.rules (choices_of Schedule) (reads_row Schedule);
   no_request = refl;
   no_defaults = (refl, (refl, (refl, tt)));
-  valid = valid_period;
 }
 reads Synth = record {
   simple = refl;
   alone = refl;
   behind_name = λ name others. refl;
-  each = read_known (built (parser_for Synth)).top.rules (choices_of Synth) reads_synth;
+  each = read_known (built (parser_for Synth)).top.rules (choices_of Synth) (reads_row Synth);
   no_request = refl;
   no_defaults = (refl, (refl, (refl, (refl, tt))));
-  valid = valid_synth;
+}
+reads Check = record {
+  simple = refl;
+  alone = refl;
+  behind_name = λ name others. refl;
+  each = read_known (built (parser_for Check)).top.rules (choices_of Check) (reads_row Check);
+  no_request = refl;
+  no_defaults = (refl, (refl, (refl, (refl, (refl, tt)))));
+}
+reads Demo = record {
+  simple = refl;
+  alone = refl;
+  behind_name = λ name others. refl;
+  each = read_known (built (parser_for Demo)).top.rules (choices_of Demo) (reads_row Demo);
+  no_request = refl;
+  no_defaults = (refl, (refl, (refl, tt)));
 }
 
 -- the parser reads options that pass the reader's test
 reads_all : (form : Form) (given : List Given) → are_options (choices_of form) (option_words given) ≡ true
-    → AllByRecursion (λ one. IsReadBy (built (parser_for form)).top.rules one.0 × IsTrue (is_value one.1)) given
+    → AllByRecursion (λ one. IsReadBy (built (parser_for form)).top.rules one.0 × IsTrue (is_value one.0 one.1)) given
 reads_all form [] pass = tt
 reads_all form (one ∷ more) pass =
     let head = head_passes (choices_of form) one more pass in
@@ -222,7 +250,7 @@ takes_plain form name given pass required =
     let top = (built (parser_for form)).top in
     rw (r.simple, r.behind_name name (option_words given))
     (leaf_takes (built (parser_for form)) nothing_held (option_words given) r.alone
-    (level-walks top given (walks_plain form given pass) r.no_request r.no_defaults (r.valid given required)))
+    (level-walks top given (walks_plain form given pass) r.no_request r.no_defaults (valid form given required)))
 
 -- and finds the value of each option
 first_of-plain : (form : Form) (name : Word) (given : List Given) → are_options (choices_of form) (option_words given) ≡ true

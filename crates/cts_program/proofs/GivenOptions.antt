@@ -57,7 +57,7 @@ given_of choices (word ∷ value ∷ others) pass =
 -- what the reader's test says of the first of such pairs, and that it holds for the others
 pub record HeadPasses (choices : List (Word × Bool)) (one : Given) (more : List Given) : Type 0 where
   pub known : is_known choices one.0 ≡ true
-  pub value : is_value one.1 ≡ true
+  pub value : is_value one.0 one.1 ≡ true
   pub once : value_of one.0 more ≡ None
   pub others : are_options choices (option_words more) ≡ true
 
@@ -66,8 +66,8 @@ pub head_passes : (choices : List (Word × Bool)) (one : Given) (more : List Giv
 unfolding are_options
 head_passes choices one more pass =
     let first = both (is_option choices one.0 one.1 (option_words more)) (are_options choices (option_words more)) pass in
-    let known = both (is_known choices one.0) (is_value one.1 && not (has_option one.0 (option_words more))) first.0 in
-    let value = both (is_value one.1) (not (has_option one.0 (option_words more))) known.1 in
+    let known = both (is_known choices one.0) (is_value one.0 one.1 && not (has_option one.0 (option_words more))) first.0 in
+    let value = both (is_value one.0 one.1) (not (has_option one.0 (option_words more))) known.1 in
     record {
       known = known.0;
       value = value.0;
@@ -76,11 +76,11 @@ head_passes choices one more pass =
     }
 
 -- the values pass too
-pub values_pass : (choices : List (Word × Bool)) (given : List Given) → are_options choices (option_words given) ≡ true → All (λ one. IsTrue (is_value one.1)) given
-values_pass choices [] pass = All-nil (λ one. IsTrue (is_value one.1))
+pub values_pass : (choices : List (Word × Bool)) (given : List Given) → are_options choices (option_words given) ≡ true → All (λ one. IsTrue (is_value one.0 one.1)) given
+values_pass choices [] pass = All-nil (λ one. IsTrue (is_value one.0 one.1))
 values_pass choices (one ∷ more) pass =
     let head = head_passes choices one more pass in
-    All-cons (λ one. IsTrue (is_value one.1)) one more head.value (values_pass choices more head.others)
+    All-cons (λ one. IsTrue (is_value one.0 one.1)) one more head.value (values_pass choices more head.others)
 
 -- no option of a row stands in it twice
 abbrev pub IsRow : List (Word × Bool) → Type 0

@@ -11,8 +11,9 @@ use Rattle.clap.specs.Simple.{Shape, filled}
 use Rattle.clap.specs.Takes.{default_passes, is_valid, level_passes, settle_passes, turn_passes, walk_passes}
 use Rattle.clap.specs.declared.parser.matches.ValueSource.TheVariants.{CommandLine}
 use Rattle.clap.specs.declared.builder.value_parser.Reading.TheVariants.{AsWritten}
-use Rattle.cts_program.specs.Commands.{Word, Given, is_value, option_words}
+use Rattle.cts_program.specs.Commands.{Word, Given, is_file_name, is_value, option_words}
 use Rattle.cts_program.proofs.GivenOptions.{is_false}
+use Rattle.cts_program.proofs.NumberWords.{value_first}
 use Rattle.cts_program.specs.Parsers.{long_name, rule_for}
 
 -- the row that an option and its value leave
@@ -47,8 +48,8 @@ record IsNoOption (value : Word) : Type 0 where
   long : long_of value ≡ None
   short : short_of value ≡ None
 
--- what may be a value is none
-no_option : (value : Word) → IsTrue (is_value value) → IsNoOption value
+-- what may be a file's name is none
+no_option : (value : Word) → is_file_name value ≡ true → IsNoOption value
 no_option [] plain = absurd (true≢false (sym plain))
 no_option (byte ∷ bytes) plain =
     let apart = is_false (byte == 45) plain in
@@ -111,12 +112,12 @@ pub record Walks (s : Shape) (h : Held) (given : List Given) : Type 0 where
 
 -- where what was pending passes, so does the walk over options that are read and come for the first time
 pub walks : (s : Shape) (given : List Given) (h : Held) → settle_passes s.rules s.args_override_self h ≡ true
-    → AllByRecursion (λ one. IsReadBy s.rules one.0 × IsTrue (is_value one.1)) given → Fresh (settled s.rules h).rows given → Walks s h given
+    → AllByRecursion (λ one. IsReadBy s.rules one.0 × IsTrue (is_value one.0 one.1)) given → Fresh (settled s.rules h).rows given → Walks s h given
 unfolding walk_passes
 walks s [] h settles reads fresh = record { passes = refl; held = h; ends = refl; settles = settles; rows = sym (append-nil (settled s.rules h).rows) }
 walks s (one ∷ more) h settles reads fresh =
     let read = reads.0.0 in
-    let plain = no_option one.1 reads.0.1 in
+    let plain = no_option one.1 (value_first one.0 one.1 reads.0.1) in
     let added = rows-after s one.0 one.1 h read fresh.0 in
     let rest = walks s more (after_value s one.0 one.1 h) (settles-after s one.0 one.1 h read fresh.0) reads.1 (subst (λ (rows : List Row). Fresh rows more) (sym added) fresh.1) in
     record {

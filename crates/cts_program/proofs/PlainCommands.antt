@@ -1,5 +1,5 @@
 -- Words that mean a command pass the reader's test, and no others do.
-use Rattle.std.proofs.Common.{◌≡◌, ◌≤◌, ◌-◌, ◌++◌, ◌&&◌, ◌||◌, ◌==◌, not, if◌then◌else◌, ℕ, Bool, true, false, List, [], ◌∷◌, is_some, option_map, length, take, drop, map, Option, Some, None, IsTrue, refl, sym, ap, ap₂, ◌∙◌, arith, get_or, codes}
+use Rattle.std.proofs.Common.{◌≡◌, ◌≤◌, ◌-◌, ◌++◌, ◌||◌, not, if◌then◌else◌, Bool, true, false, List, [], ◌∷◌, is_some, option_map, length, take, drop, map, Option, Some, None, IsTrue, refl, sym, ap, ap₂, ◌∙◌, arith, get_or, codes, true≢false}
 use Rattle.std.specs.Borrow.{Bor}
 use Rattle.std.specs.Str.{bytes_eq}
 use Rattle.std.specs.List.{All, AllByRecursion, IsDistinct, list_all}
@@ -15,7 +15,7 @@ use Rattle.std.proofs.lemmas.Map.Views.{Contains-from_lookup, lookup-from_Contai
 use Rattle.cts_program.specs.declared.command.Command.{Command}
 use Rattle.cts_program.specs.declared.command.Command.TheVariants as command
 use Rattle.cts_program.specs.declared.command.table.Form.{Form}
-use Rattle.cts_program.specs.declared.command.table.Form.TheVariants.{Zero, Period, Schedule, Synth}
+use Rattle.cts_program.specs.declared.command.table.Form.TheVariants.{Zero, Period, Schedule, Synth, Check, Demo}
 use Rattle.cts_program.specs.Commands.{Word, Given, always, if_wanted, is_value, name_of, options_of, option_words, IsCommand, IsSame}
 use Rattle.cts_program.specs.PlainWords.{form_of, form_name, choices_of, is_known, has_option, are_options, has_required, has_values, listed_one, listed, IsPlain}
 use Rattle.cts_program.proofs.GivenOptions.{both, value_of, has_option-given, given_of, values_pass, IsRow, listed_of, listed-permutes}
@@ -59,17 +59,17 @@ apart_none option (one ∷ more) apart = rw (apart.0, apart_none option more apa
 
 -- options of a row that differ, with values, pass the reader's test
 are_options-given : (choices : List (Word × Bool)) (given : List Given) → IsDistinct bytes_eq (keys_of given) → All (IsKnownTo choices) given
-    → All (λ one. IsTrue (is_value one.1)) given → are_options choices (option_words given) ≡ true
+    → All (λ one. IsTrue (is_value one.0 one.1)) given → are_options choices (option_words given) ≡ true
 unfolding are_options
 are_options-given choices [] distinct known values = refl
 are_options-given choices (one ∷ more) distinct known values =
     rw (
       All-head (IsKnownTo choices) one more known,
-      All-head (λ one. IsTrue (is_value one.1)) one more values,
+      All-head (λ one. IsTrue (is_value one.0 one.1)) one more values,
       apart_none one.0 more (IsDistinct-head bytes_eq one.0 (keys_of more) distinct),
     )
     (are_options-given choices more (IsDistinct-tail bytes_eq one.0 (keys_of more) distinct)
-    (All-drop (IsKnownTo choices) 1 (one ∷ more) known) (All-drop (λ one. IsTrue (is_value one.1)) 1 (one ∷ more) values))
+    (All-drop (IsKnownTo choices) 1 (one ∷ more) known) (All-drop (λ one. IsTrue (is_value one.0 one.1)) 1 (one ∷ more) values))
 
 -- ---- the rows of the commands
 
@@ -79,6 +79,8 @@ is_row Zero = (refl, (refl, tt))
 is_row Period = (refl, (refl, tt))
 is_row Schedule = (refl, (refl, tt))
 is_row Synth = (refl, (refl, (refl, tt)))
+is_row Check = (refl, (refl, (refl, (refl, tt))))
+is_row Demo = (refl, (refl, tt))
 
 -- a command's name is that of its form
 name_of-form : (command : Command) → name_of command ≡ form_name (form_of command)
@@ -86,24 +88,30 @@ name_of-form (command.Zero bench tech) = refl
 name_of-form (command.Period bench tech) = refl
 name_of-form (command.Schedule bench tech) = refl
 name_of-form (command.Synth bench tech pl) = refl
+name_of-form (command.Check bench tech pl report) = refl
+name_of-form (command.Demo registers seed) = refl
 
--- the form whose name is so long: the names of the commands are not as long as one another
-abbrev form_of_length : ℕ → Form
-form_of_length long = if long == 4 then Zero else if long == 6 then Period
-    else if long == 8 then Schedule else Synth
+-- the form that has a name
+abbrev form_named : Word → Form
+form_named name = if bytes_eq name (codes "zero") then Zero
+    else if bytes_eq name (codes "period") then Period
+    else if bytes_eq name (codes "schedule") then Schedule
+    else if bytes_eq name (codes "synth") then Synth
+    else if bytes_eq name (codes "check") then Check else Demo
 
 -- a form's name tells it
-form_of_length-name : (form : Form) → form_of_length (length (form_name form)) ≡ form
-form_of_length-name Zero = refl
-form_of_length-name Period = refl
-form_of_length-name Schedule = refl
-form_of_length-name Synth = refl
+form_named-name : (form : Form) → form_named (form_name form) ≡ form
+form_named-name Zero = refl
+form_named-name Period = refl
+form_named-name Schedule = refl
+form_named-name Synth = refl
+form_named-name Check = refl
+form_named-name Demo = refl
 
 -- so forms with one name are one
 one_form : (form other : Form) → form_name form ≡ form_name other → form ≡ other
 one_form form other same =
-    sym (form_of_length-name form) ∙ ap (λ (name : Word). form_of_length (length name)) same
-    ∙ form_of_length-name other
+    sym (form_named-name form) ∙ ap form_named same ∙ form_named-name other
 
 -- and so are those of commands with one name
 pub same_form : (command other : Command) → name_of command ≡ name_of other
@@ -120,6 +128,9 @@ options_differ (command.Zero bench (Some tech)) = ((refl, tt), (tt, tt))
 options_differ (command.Period bench tech) = ((refl, tt), (tt, tt))
 options_differ (command.Schedule bench tech) = ((refl, tt), (tt, tt))
 options_differ (command.Synth bench tech pl) = ((refl, (refl, tt)), ((refl, tt), (tt, tt)))
+options_differ (command.Check bench tech pl report) =
+    ((refl, (refl, (refl, tt))), ((refl, (refl, tt)), ((refl, tt), (tt, tt))))
+options_differ (command.Demo registers seed) = ((refl, tt), (tt, tt))
 
 -- options that all pass the test for a row are of that row
 all_known : (choices : List (Word × Bool)) (given : List Given) → list_all (λ one. is_known choices one.0) given ≡ true → All (IsKnownTo choices) given
@@ -145,6 +156,9 @@ fit_row (command.Period bench tech) = record { known = refl; required = refl; in
 fit_row (command.Schedule bench tech) = record { known = refl; required = refl; in_order = refl }
 fit_row (command.Synth bench tech pl) =
     record { known = refl; required = refl; in_order = refl }
+fit_row (command.Check bench tech pl report) =
+    record { known = refl; required = refl; in_order = refl }
+fit_row (command.Demo registers seed) = record { known = refl; required = refl; in_order = refl }
 
 -- the options of a command are those of its row
 options_known : (command : Command) → All (IsKnownTo (choices_of (form_of command))) (options_of command)
@@ -168,6 +182,13 @@ options_required command given moved =
     stands option =
         has_option-given option given ∙ ap is_some (values_same command given moved option)
         ∙ sym (has_option-given option (options_of command))
+
+-- a command that words mean has values as they are due
+pub values_due : (words : List Word) (command : Command) → IsCommand words command
+    → All (λ one. IsTrue (is_value one.0 one.1)) (options_of command)
+values_due words command means =
+    All-permutation (λ one. IsTrue (is_value one.0 one.1)) means.given (options_of command)
+    (IsPermutation-sym (options_of command) means.given means.options) means.values
 
 -- ---- words that are no command
 
@@ -276,80 +297,82 @@ record Made (form : Form) (value : Word → Option Word) : Type 0 where
   has_form : form_of made ≡ form
   options : options_of made ≡ listed value (choices_of form)
 
+-- a word that an option has as its value, if it has one
+abbrev HasWord : Word → Option Word → Type 0
+HasWord option value = (word : Bor Word) × (always option word ≡ listed_one option value)
+
 module _ (borrowed : Word → Bor Word) (same : (word : Word) → (borrowed word).now ≡ word) where
-  -- two options that both have to stand
-  both_made : (bench tech : Option Word)
-      → (not true || is_some bench) && ((not true || is_some tech) && true) ≡ true
-      → (first second : Bor Word)
-      × (always (codes "--bench") first ++ always (codes "--tech") second
-      ≡ listed_one (codes "--bench") bench ++ (listed_one (codes "--tech") tech ++ []))
-  both_made None tech has = cc
-  both_made (Some bench) None has = cc
-  both_made (Some bench) (Some tech) has = (
-    borrowed bench,
-    borrowed tech,
-    ap₂ (λ (word other : Word). (codes "--bench", word) ∷ (codes "--tech", other) ∷ [])
-        (same bench) (same tech),
-  )
+  -- there is a word for an option that has a value
+  word_for : (option : Word) (value : Option Word) → is_some value ≡ true → HasWord option value
+  word_for option None has = absurd (true≢false (sym has))
+  word_for option (Some value) has =
+      (borrowed value, ap (λ (word : Word). (option, word) ∷ []) (same value))
 
-  -- three of which each has to stand
-  all_made : (bench tech pl : Option Word)
-      → (not true || is_some bench) && ((not true || is_some tech)
-      && ((not true || is_some pl) && true)) ≡ true
-      → (first second third : Bor Word)
-      × (always (codes "--bench") first ++ always (codes "--tech") second
-      ++ always (codes "--pl") third
-      ≡ listed_one (codes "--bench") bench ++ (listed_one (codes "--tech") tech
-      ++ (listed_one (codes "--pl") pl ++ [])))
-  all_made None tech pl has = cc
-  all_made (Some bench) None pl has = cc
-  all_made (Some bench) (Some tech) None has = cc
-  all_made (Some bench) (Some tech) (Some pl) has = (
-    borrowed bench,
-    borrowed tech,
-    borrowed pl,
-    λ i. (codes "--bench", same bench i) ∷ (codes "--tech", same tech i)
-        ∷ (codes "--pl", same pl i) ∷ [],
-  )
+  -- so there is for an option that may be left out
+  word_if_wanted : (option : Word) (value : Option Word)
+      → if_wanted option (option_map borrowed value) ≡ listed_one option value ++ []
+  word_if_wanted option None = refl
+  word_if_wanted option (Some value) = ap (λ (word : Word). (option, word) ∷ []) (same value)
 
-  -- one that has to stand, and one that may be left out
-  one_made : (bench tech : Option Word)
-      → (not true || is_some bench) && ((not false || is_some tech) && true) ≡ true
-      → (first : Bor Word) × (always (codes "--bench") first
-      ++ if_wanted (codes "--tech") (option_map borrowed tech)
-      ≡ listed_one (codes "--bench") bench ++ (listed_one (codes "--tech") tech ++ []))
-  one_made None tech has = cc
-  one_made (Some bench) None has =
-      (borrowed bench, ap (λ (word : Word). (codes "--bench", word) ∷ []) (same bench))
-  one_made (Some bench) (Some tech) has = (
-    borrowed bench,
-    ap₂ (λ (word other : Word). (codes "--bench", word) ∷ (codes "--tech", other) ∷ [])
-        (same bench) (same tech),
-  )
+  -- and for each that a row requires
+  words_for : (value : Word → Option Word) (choices : List (Word × Bool))
+      → has_values value choices ≡ true
+      → AllByRecursion (λ choice. choice.1 ≡ true → HasWord choice.0 (value choice.0)) choices
+  words_for value [] has = tt
+  words_for value (choice ∷ more) has =
+      let parts = both (not choice.1 || is_some (value choice.0)) (has_values value more) has in (
+        λ required. word_for choice.0 (value choice.0) (rw required at parts.0),
+        words_for value more parts.1,
+      )
 
   -- there is a command of each form whose options have these values
   make : (form : Form) (value : Word → Option Word) → has_values value (choices_of form) ≡ true
       → Made form value
   make Zero value has =
+      let words = words_for value (choices_of Zero) has in
+      let bench = words.0 refl in
       let tech = value (codes "--tech") in
-      let (bench, options) = one_made (value (codes "--bench")) tech has in
       record {
-        made = command.Zero bench (option_map borrowed tech);
+        made = command.Zero bench.0 (option_map borrowed tech);
         has_form = refl;
-        options = options;
+        options = λ i. bench.1 i ++ word_if_wanted (codes "--tech") tech i;
       }
   make Period value has =
-      let (bench, tech, options) =
-      both_made (value (codes "--bench")) (value (codes "--tech")) has in
-      record { made = command.Period bench tech; has_form = refl; options = options }
+      let (bench, (tech, _)) = words_for value (choices_of Period) has in
+      record {
+        made = command.Period (bench refl).0 (tech refl).0;
+        has_form = refl;
+        options = λ i. (bench refl).1 i ++ ((tech refl).1 i ++ []);
+      }
   make Schedule value has =
-      let (bench, tech, options) =
-      both_made (value (codes "--bench")) (value (codes "--tech")) has in
-      record { made = command.Schedule bench tech; has_form = refl; options = options }
+      let (bench, (tech, _)) = words_for value (choices_of Schedule) has in
+      record {
+        made = command.Schedule (bench refl).0 (tech refl).0;
+        has_form = refl;
+        options = λ i. (bench refl).1 i ++ ((tech refl).1 i ++ []);
+      }
   make Synth value has =
-      let (bench, tech, pl, options) = all_made
-      (value (codes "--bench")) (value (codes "--tech")) (value (codes "--pl")) has in
-      record { made = command.Synth bench tech pl; has_form = refl; options = options }
+      let (bench, (tech, (pl, _))) = words_for value (choices_of Synth) has in
+      record {
+        made = command.Synth (bench refl).0 (tech refl).0 (pl refl).0;
+        has_form = refl;
+        options = λ i. (bench refl).1 i ++ ((tech refl).1 i ++ ((pl refl).1 i ++ []));
+      }
+  make Check value has =
+      let (bench, (tech, (pl, (report, _)))) = words_for value (choices_of Check) has in
+      record {
+        made = command.Check (bench refl).0 (tech refl).0 (pl refl).0 (report refl).0;
+        has_form = refl;
+        options = λ i. (bench refl).1 i ++ ((tech refl).1 i ++ ((pl refl).1 i
+            ++ ((report refl).1 i ++ [])));
+      }
+  make Demo value has =
+      let (registers, (seed, _)) = words_for value (choices_of Demo) has in
+      record {
+        made = command.Demo (registers refl).0 (seed refl).0;
+        has_form = refl;
+        options = λ i. (registers refl).1 i ++ ((seed refl).1 i ++ []);
+      }
 
   -- so plain words mean one
   pub some_command : (words : List Word) (form : Form) → IsPlain words form

@@ -1,5 +1,5 @@
 -- The built-in delays serve every circuit, and have no host.
-use Rattle.std.proofs.Common.{◌≢◌, ◌↔◌, true, false, IsTrue, List, [], get_or, replicate, refl, sym, ap, ◌∙◌, true≢false}
+use Rattle.std.proofs.Common.{◌≢◌, ◌↔◌, IsTrue, List, [], get_or, replicate, refl, sym, ap, ◌∙◌, true≢false}
 use Rattle.std.specs.List.{slice_index_or}
 use Rattle.cts_model.specs.declared.circuit.Circuit.{Circuit}
 use Rattle.cts_model.specs.declared.kind.Kind.{Kind}

@@ -1,5 +1,5 @@
 -- Facts of a call's answer that follow from its other facts.
-use Rattle.std.proofs.Common.{Result, Ok, Err, IfOk, IfErr}
+use Rattle.std.proofs.Common.{Result, Ok, Err, IfOk, IfErr, IsErrOf}
 
 module _ {T E : Type 0} (result : Result T E) where
   -- of its success, from two facts of it
@@ -17,3 +17,7 @@ module _ {T E : Type 0} (result : Result T E) where
       at : (r : Result T E) → IfErr r P → ((e : E) → P e → Q e) → IfErr r Q
       at (Ok x) p gives = tt
       at (Err e) p gives = gives e p
+
+-- a success is no refusal
+pub no_error : {T E : Type 0} {value : T} {error : E} → IsErrOf (Ok value) error → ⊥
+no_error same = cc same

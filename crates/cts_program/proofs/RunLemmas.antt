@@ -1,134 +1,221 @@
 -- What the causes of failures leave of the exit status.
-use Rattle.std.proofs.Common.{ℕ, ◌≡◌, ◌≢◌, ◌<◌, ◌≤◌, ◌⊎◌, inl, inr, true, List, [], ◌++◌, ◌∷◌, length, take, Option, Some, refl, ap, sym, ◌∙◌, subst, arith, append-nil}
+use Rattle.std.proofs.Common.{ℕ, ◌≡◌, ◌≢◌, ◌<◌, ◌≤◌, ◌⊎◌, inl, inr, List, [], ◌++◌, ◌∷◌, length, take, Option, Some, refl, ap, sym, ◌∙◌, subst, arith, append-nil}
 use Rattle.std.proofs.lemmas.List.{append_cancel_left}
 use Rattle.std.proofs.lemmas.List.Elements.{All-head, All-drop}
 use Rattle.cts_io.specs.Device.{Rose, appended, WritesPrefix}
+use Rattle.std.specs.Borrow.{Bor}
 use Rattle.cts_program.specs.declared.command.Command.{Command}
+use Rattle.cts_program.specs.declared.command.Command.TheVariants.{Check}
+use Rattle.cts_program.specs.declared.command.table.Form.TheVariants as forms
 use Rattle.cts_program.specs.declared.command.WordsFault.{WordsFault}
 use Rattle.cts_program.specs.declared.command.WordsFault.TheVariants as word_faults
 use Rattle.cts_program.specs.declared.ending.Ending.{Ending}
 use Rattle.cts_program.specs.declared.ending.Ending.TheVariants.{Done, Never}
 use Rattle.cts_program.specs.declared.failure.Failure.{Failure}
-use Rattle.cts_program.specs.declared.failure.Failure.TheVariants.{Usage, TooLong, Bench, Tech, Placement, Pairs, ReadFault, WriteFault, NoMemory}
+use Rattle.cts_program.specs.declared.failure.Failure.TheVariants.{Usage, TooLong, Bench, Tech, Placement, Pairs, Unshown, ReadFault, WriteFault, NoMemory}
 use Rattle.cts_program.specs.declared.file_kind.FileKind.{FileKind}
-use Rattle.cts_program.specs.Answers.{is_ending, ending_status, TellWith, IsAnswer, IsRefusal}
-use Rattle.cts_program.specs.Commands.{IsCommand}
+use Rattle.cts_program.specs.declared.file_kind.FileKind.TheVariants.{Report}
+use Rattle.cts_program.specs.Answers.{ending_status, IsAnswer, IsRefusal}
+use Rattle.cts_program.specs.Commands.{options_of, IsCommand, IsSame}
 use Rattle.cts_program.specs.Failures.{words_failure_of, status_of}
-use Rattle.cts_program.specs.Files.{files_of, AreContents, AreTold}
+use Rattle.cts_program.specs.Files.{problem_files, files_of, AreContents, AreTold}
+use Rattle.cts_program.specs.Judged.{AreAccepted}
 use Rattle.cts_program.specs.PlainWords.{form_of}
-use Rattle.cts_program.specs.Run.{IsNoCommand, TellsText, Refuses, CannotRead, Stops, EndsInPart, Fails, AreUnrisen}
-use Rattle.cts_program.proofs.OneAnswer.{Agree, IsTextOf, answer_of, one_status, no_answer_front, some_text, answer_not_refused, agree_same}
+use Rattle.cts_program.specs.Run.{IsNoCommand, TellsText, Refuses, CannotRead, EndsInPart, Fails, AreUnrisen}
+use Rattle.cts_program.proofs.OneAnswer.{Agree, IsTextOf, Answers, answer_of, one_status, no_answer_front, some_text, agree_same, agree_turned}
+use Rattle.cts_program.proofs.OneRefusal.{ReportLaws, answer_not_refused, one_refusal_status, three_not_accepted}
 use Rattle.cts_program.proofs.PlainCommands.{one_command, same_form}
-use Rattle.cts_program.proofs.SameFiles.{same_files, told_contents, contents_within, told_agree, agree_turned}
+use Rattle.cts_program.proofs.SameFiles.{same_files, told_contents, contents_within, told_agree, told_before}
 
 -- ---- what is told of files, against what is known of them
 
--- contents that a command's text is made of, beside those that are told of its files
-module _ (words : List (List ℕ)) (holds : List ℕ → Option (List ℕ)) (command other : Command) (means : IsCommand words command) (means' : IsCommand words other) (contents : List (List ℕ)) (told : AreTold holds (files_of command) contents) where
-  agrees : (known : List (List ℕ)) → AreContents holds (files_of other) known → Agree contents known
-  agrees known are = told_agree holds (files_of command) contents known told (subst (λ files. AreContents holds files known) (sym (same_files words command other means means')) are)
+-- an answer of a command is one of the same command
+answers_moved : (command other : Command) → IsSame command other → (contents : List (List ℕ))
+    (status : ℕ) (text : List ℕ)
+    → Answers (form_of command) (options_of command) contents status text
+    → Answers (form_of other) (options_of other) contents status text
+answers_moved command other same contents status text answer =
+    subst (λ given. Answers (form_of other) given contents status text) same.options
+    (subst (λ form. Answers form (options_of command) contents status text)
+    (same_form command other same.name) answer)
 
+-- contents that a command's text is made of, beside those that are told of its files
+module _ (words : List (List ℕ)) (holds : List ℕ → Option (List ℕ)) (command other : Command)
+    (means : IsCommand words command) (means' : IsCommand words other) (contents : List (List ℕ))
+    (told : AreTold holds (files_of command) contents) where
+  -- what is known of the same files agrees with them
+  agrees : (known : List (List ℕ)) → AreContents holds (files_of other) known → Agree contents known
+  agrees known are =
+      told_agree holds (files_of command) contents known told
+      (subst (λ files. AreContents holds files known)
+      (sym (same_files words command other means means')) are)
+
+  -- the commands name as many files
   as_many : length (files_of command) ≡ length (files_of other)
   as_many = ap length (same_files words command other means means')
 
+  -- and no more are told
   told_within : length contents ≤ length (files_of command)
-  told_within = contents_within holds (files_of command) contents (told_contents holds (files_of command) contents told)
+  told_within =
+      contents_within holds (files_of command) contents
+      (told_contents holds (files_of command) contents told)
+
+  -- both commands are one
+  are_same : IsSame command other
+  are_same = one_command words command other means means'
 
   -- a refusal of contents that are told, beside a text
-  pub told_not_refused : (failure : Failure) → IsRefusal command contents failure → (status : ℕ) (text : List ℕ) → TellsText holds other status text → ⊥
-  told_not_refused failure refusal status text tells =
+  pub told_not_refused : ReportLaws → (failure : Failure) → IsRefusal command contents failure
+      → (status : ℕ) (text : List ℕ) → TellsText holds other status text → ⊥
+  told_not_refused laws failure refusal status text tells =
       let (all, answer) = answer_of other tells.contents status text tells.answer in
       let many = as_many in
       let within = told_within in
-      answer_not_refused command tells.contents contents (IsTextOf (form_of other) status text) failure (agree_turned contents tells.contents (agrees tells.contents tells.are)) (omega arith) answer
+      answer_not_refused laws command tells.contents contents failure status text
+      (answers_moved other command (one_command words other command means' means) tells.contents
+      status text answer)
+      (agree_turned contents tells.contents (agrees tells.contents tells.are)) (omega arith)
       (λ whole. omega arith) refusal
 
   -- an answer for contents that are told, beside a refusal
-  pub refusal_not_told : (status : ℕ) (text : List ℕ) → IsAnswer command contents status text → (failure : Failure) → Refuses holds other failure → ⊥
-  refusal_not_told status text answer failure refuses =
+  pub refusal_not_told : ReportLaws → (status : ℕ) (text : List ℕ)
+      → IsAnswer command contents status text → (failure : Failure) → Refuses holds other failure
+      → ⊥
+  refusal_not_told laws status text answer failure refuses =
       let (all, told_all) = answer_of command contents status text answer in
       let many = as_many in
       let within = contents_within holds (files_of other) refuses.contents refuses.are in
-      answer_not_refused other contents refuses.contents (IsTextOf (form_of command) status text) failure (agrees refuses.contents refuses.are) (omega arith) told_all (λ whole. omega arith) refuses.refusal
+      answer_not_refused laws other contents refuses.contents failure status text
+      (answers_moved command other are_same contents status text told_all)
+      (agrees refuses.contents refuses.are) (omega arith) (λ whole. omega arith) refuses.refusal
+
+  -- a refusal of contents that are told, beside another
+  pub refused_alike : (failure failure' : Failure) → IsRefusal command contents failure
+      → Refuses holds other failure' → status_of failure' ≡ status_of failure
+  refused_alike failure failure' refusal refuses =
+      sym (one_refusal_status command other (same_form command other are_same.name) contents
+      refuses.contents (agrees refuses.contents refuses.are) failure failure' refusal
+      refuses.refusal)
 
   -- an answer for contents that are told, beside a text
-  tells_alike : (status : ℕ) (text : List ℕ) → IsAnswer command contents status text → (status' : ℕ) (text' : List ℕ) → TellsText holds other status' text' → TellWith contents (IsTextOf (form_of command) status' text')
+  tells_alike : (status : ℕ) (text : List ℕ) → IsAnswer command contents status text
+      → (status' : ℕ) (text' : List ℕ) → TellsText holds other status' text'
+      → Answers (form_of command) (options_of command) contents status' text'
   tells_alike status text answer status' text' tells =
       let (all, told_all) = answer_of command contents status text answer in
       let (all', told_all') = answer_of other tells.contents status' text' tells.answer in
       let many = as_many in
-      let known = sym (agree_same contents tells.contents (agrees tells.contents tells.are) (omega arith)) in
-      let form = same_form other command (sym (one_command words command other means means').name) in
-      subst (λ f. TellWith contents (IsTextOf f status' text')) form
-      (subst (λ c. TellWith c (IsTextOf (form_of other) status' text')) known told_all')
+      let known = sym (agree_same contents tells.contents (agrees tells.contents tells.are)
+      (omega arith)) in
+      answers_moved other command (one_command words other command means' means) contents
+      status' text'
+      (subst (λ c. Answers (form_of other) (options_of other) c status' text') known told_all')
 
   -- has its status
-  pub told_status : (status : ℕ) (text : List ℕ) → IsAnswer command contents status text → (status' : ℕ) (text' : List ℕ) → TellsText holds other status' text' → status' ≡ status
+  pub told_status : (status : ℕ) (text : List ℕ) → IsAnswer command contents status text
+      → (status' : ℕ) (text' : List ℕ) → TellsText holds other status' text' → status' ≡ status
   told_status status text answer status' text' tells =
-      one_status (form_of command) contents status' text' (tells_alike status text answer status' text' tells) status text (answer_of command contents status text answer).1
+      one_status (form_of command) (options_of command) contents status' text'
+      (tells_alike status text answer status' text' tells) status text
+      (answer_of command contents status text answer).1
 
   -- and isn't a front of it
-  pub told_front : (status : ℕ) (text : List ℕ) → IsAnswer command contents status text → (status' : ℕ) (text' : List ℕ) → TellsText holds other status' text'
+  pub told_front : (status : ℕ) (text : List ℕ) → IsAnswer command contents status text
+      → (status' : ℕ) (text' : List ℕ) → TellsText holds other status' text'
       → (count : ℕ) → text ≡ take count text' → count < length text' → ⊥
   told_front status text answer status' text' tells =
-      no_answer_front (form_of command) contents status text (answer_of command contents status text answer).1 status' text' (tells_alike status text answer status' text' tells)
+      no_answer_front (form_of command) (options_of command) contents status text
+      (answer_of command contents status text answer).1 status' text'
+      (tells_alike status text answer status' text' tells)
 
 -- a file whose count rose is none of those whose counts didn't
-unrisen_read : (reads reads_now : List ℕ → ℕ) (files front : List (FileKind × List ℕ)) (file : FileKind × List ℕ) (behind : List (FileKind × List ℕ)) → files ≡ front ++ file ∷ behind
+unrisen_read : (reads reads_now : List ℕ → ℕ) (files front : List (FileKind × List ℕ))
+    (file : FileKind × List ℕ) (behind : List (FileKind × List ℕ)) → files ≡ front ++ file ∷ behind
     → AreUnrisen reads reads_now files → Rose (reads file.1) (reads_now file.1) → ⊥
-unrisen_read reads reads_now files [] file behind is unrisen rose = All-head (λ (f : FileKind × List ℕ). Rose (reads f.1) (reads_now f.1) → ⊥) file behind (subst (AreUnrisen reads reads_now) is unrisen) rose
+unrisen_read reads reads_now files [] file behind is unrisen rose =
+    All-head (λ (f : FileKind × List ℕ). Rose (reads f.1) (reads_now f.1) → ⊥) file behind
+    (subst (AreUnrisen reads reads_now) is unrisen) rose
 unrisen_read reads reads_now files (first ∷ front) file behind is unrisen rose =
-    unrisen_read reads reads_now (front ++ file ∷ behind) front file behind refl (All-drop (λ (f : FileKind × List ℕ). Rose (reads f.1) (reads_now f.1) → ⊥) 1 (first ∷ (front ++ file ∷ behind)) (subst (AreUnrisen reads reads_now) is unrisen)) rose
+    unrisen_read reads reads_now (front ++ file ∷ behind) front file behind refl
+    (All-drop (λ (f : FileKind × List ℕ). Rose (reads f.1) (reads_now f.1) → ⊥) 1
+    (first ∷ (front ++ file ∷ behind)) (subst (AreUnrisen reads reads_now) is unrisen)) rose
 
 -- what stands behind the same bytes is the same
-same_behind : (before text other : List ℕ) → Some (before ++ text) ≡ Some (before ++ other) → text ≡ other
+same_behind : (before text other : List ℕ) → Some (before ++ text) ≡ Some (before ++ other)
+    → text ≡ other
 same_behind before text other same = append_cancel_left before text other (cc same)
 
 -- where nothing was written, the text isn't there
-kept_lacks : (text front : List ℕ) (before now : Option (List ℕ)) → 0 < length text → before ≡ Some front → now ≡ before → now ≡ appended before text → ⊥
+kept_lacks : (text front : List ℕ) (before now : Option (List ℕ)) → 0 < length text
+    → before ≡ Some front → now ≡ before → now ≡ appended before text → ⊥
 kept_lacks text front before now some is same whole =
     let there : now ≡ Some (front ++ text) = rw is at whole in
-    let none : 0 ≡ length text = ap length (same_behind front [] text (ap (λ b. Some b) (append-nil front) ∙ (sym is ∙ (sym same ∙ there)))) in
+    let none : 0 ≡ length text = ap length (same_behind front [] text
+    (ap (λ b. Some b) (append-nil front) ∙ (sym is ∙ (sym same ∙ there)))) in
     omega arith
 
 -- and a front of another text isn't the text
-part_lacks : (text other front : List ℕ) (before now : Option (List ℕ)) → ((count : ℕ) → text ≡ take count other → count < length other → ⊥) → before ≡ Some front → WritesPrefix before other now → now ≡ appended before text → ⊥
+part_lacks : (text other front : List ℕ) (before now : Option (List ℕ))
+    → ((count : ℕ) → text ≡ take count other → count < length other → ⊥) → before ≡ Some front
+    → WritesPrefix before other now → now ≡ appended before text → ⊥
 part_lacks text other front before now apart is part whole =
     let there : now ≡ Some (front ++ text) = rw is at whole in
     let cut : now ≡ Some (front ++ take part.count other) = rw is at part.written in
     let short = part.short in
-    apart part.count (same_behind front text (take part.count other) (sym there ∙ cut)) (omega arith)
+    apart part.count (same_behind front text (take part.count other) (sym there ∙ cut))
+    (omega arith)
 
 -- ---- what a failure's cause is
 
-module _ (words : List (List ℕ)) (holds : List ℕ → Option (List ℕ)) (reads reads_now : List ℕ → ℕ) (before now : Option (List ℕ)) (writes writes_now : ℕ) where
+-- the status of a refusal
+abbrev pub IsRefusalStatus : ℕ → Type 0
+IsRefusalStatus status = (status ≡ 3) ⊎ (status ≡ 7)
+
+-- no other is
+not_refusal : (status other : ℕ) → IsRefusalStatus status → status ≡ other → (other ≡ 3 → ⊥)
+    → (other ≡ 7 → ⊥) → ⊥
+not_refusal status other (inl three) same not_three not_seven = not_three (sym same ∙ three)
+not_refusal status other (inr seven) same not_three not_seven = not_seven (sym same ∙ seven)
+
+module _ (words : List (List ℕ)) (holds : List ℕ → Option (List ℕ)) (reads reads_now : List ℕ → ℕ)
+    (before now : Option (List ℕ)) (writes writes_now : ℕ) where
   data Cause (failure : Failure) : Type 0 where
     usage : failure ≡ Usage → IsNoCommand words → Cause failure
-    refused : status_of failure ≡ 3 → (command : Command) → IsCommand words command → Refuses holds command failure → Cause failure
-    unread : (kind : FileKind) → failure ≡ ReadFault kind → (command : Command) → IsCommand words command → CannotRead holds reads reads_now command kind → Cause failure
-    unwritten : failure ≡ WriteFault → EndsInPart words holds before now → Rose writes writes_now → Cause failure
+    refused : IsRefusalStatus (status_of failure) → (command : Command) → IsCommand words command
+        → Refuses holds command failure → Cause failure
+    unread : (kind : FileKind) → failure ≡ ReadFault kind → (command : Command)
+        → IsCommand words command → CannotRead holds reads reads_now command kind → Cause failure
+    unwritten : failure ≡ WriteFault → EndsInPart words holds before now → Rose writes writes_now
+        → Cause failure
     memory : failure ≡ NoMemory → (command : Command) → IsCommand words command → Cause failure
 
-  cause_of : (failure : Failure) → Fails words holds reads reads_now before now writes writes_now failure → Cause failure
+  cause_of : (failure : Failure)
+      → Fails words holds reads reads_now before now writes writes_now failure → Cause failure
   cause_of Usage none = usage refl none
-  cause_of (TooLong kind) (command, means, refuses) = refused refl command means refuses
-  cause_of (Bench fault) (command, means, refuses) = refused refl command means refuses
-  cause_of (Tech fault) (command, means, refuses) = refused refl command means refuses
-  cause_of (Placement fault) (command, means, refuses) = refused refl command means refuses
-  cause_of Pairs (command, means, refuses) = refused refl command means refuses
+  cause_of (TooLong kind) (command, means, refuses) = refused (inl refl) command means refuses
+  cause_of (Bench fault) (command, means, refuses) = refused (inl refl) command means refuses
+  cause_of (Tech fault) (command, means, refuses) = refused (inl refl) command means refuses
+  cause_of (Placement fault) (command, means, refuses) = refused (inl refl) command means refuses
+  cause_of Pairs (command, means, refuses) = refused (inl refl) command means refuses
+  cause_of (Unshown why) (command, means, refuses) = refused (inr refl) command means refuses
   cause_of (ReadFault kind) (command, means, cannot) = unread kind refl command means cannot
   cause_of WriteFault (part, rose) = unwritten refl part rose
   cause_of NoMemory (command, means, any) = memory refl command means
 
-  module _ (failure : Failure) (fails : Fails words holds reads reads_now before now writes writes_now failure) where
+  module _ (failure : Failure)
+      (fails : Fails words holds reads reads_now before now writes writes_now failure) where
     -- status 2 is that of words that mean nothing
     pub two_is_usage : status_of failure ≡ 2 → IsNoCommand words
     two_is_usage two = elim (cause_of failure fails) [
       | usage is none ↦ none
-      | refused is command means refuses ↦ absurd (omega arith)
-      | unread kind is command means cannot ↦ let other : status_of failure ≡ 4 = ap status_of is in absurd (omega arith)
-      | unwritten is part rose ↦ let other : status_of failure ≡ 5 = ap status_of is in absurd (omega arith)
-      | memory is command means ↦ let other : status_of failure ≡ 6 = ap status_of is in absurd (omega arith)
+      | refused is command means refuses ↦
+          absurd (not_refusal (status_of failure) 2 is two (λ e. cc e) (λ e. cc e))
+      | unread kind is command means cannot ↦
+          let other : status_of failure ≡ 4 = ap status_of is in absurd (omega arith)
+      | unwritten is part rose ↦
+          let other : status_of failure ≡ 5 = ap status_of is in absurd (omega arith)
+      | memory is command means ↦
+          let other : status_of failure ≡ 6 = ap status_of is in absurd (omega arith)
     ]
 
     pub usage_is_two : IsNoCommand words → status_of failure ≡ 2
@@ -140,135 +227,202 @@ module _ (words : List (List ℕ)) (holds : List ℕ → Option (List ℕ)) (rea
       | memory is command means ↦ absurd (none command means)
     ]
 
-    -- status 3 is that of a refusal
-    pub three_is_refused : status_of failure ≡ 3 → (command : Command) × IsCommand words command × ((other : Failure) × Refuses holds command other)
-    three_is_refused three = elim (cause_of failure fails) [
-      | usage is none ↦ let other : status_of failure ≡ 2 = ap status_of is in absurd (omega arith)
-      | refused is command means refuses ↦ (command, means, (failure, refuses))
-      | unread kind is command means cannot ↦ let other : status_of failure ≡ 4 = ap status_of is in absurd (omega arith)
-      | unwritten is part rose ↦ let other : status_of failure ≡ 5 = ap status_of is in absurd (omega arith)
-      | memory is command means ↦ let other : status_of failure ≡ 6 = ap status_of is in absurd (omega arith)
+    -- statuses 3 and 7 are those of refusals
+    pub refusal_told : IsRefusalStatus (status_of failure)
+        → (command : Command) × IsCommand words command
+        × ((other : Failure) × (status_of other ≡ status_of failure)
+        × Refuses holds command other)
+    refusal_told of_refusal = elim (cause_of failure fails) [
+      | usage is none ↦
+          absurd (no_refusal 2 (ap status_of is) (λ e. cc e) (λ e. cc e))
+      | refused is command means refuses ↦ (command, means, (failure, refl, refuses))
+      | unread kind is command means cannot ↦
+          absurd (no_refusal 4 (ap status_of is) (λ e. cc e) (λ e. cc e))
+      | unwritten is part rose ↦
+          absurd (no_refusal 5 (ap status_of is) (λ e. cc e) (λ e. cc e))
+      | memory is command means ↦
+          absurd (no_refusal 6 (ap status_of is) (λ e. cc e) (λ e. cc e))
     ]
-
-    -- status 4 is that of a file that can't be read
-    pub four_is_unread : status_of failure ≡ 4 → (command : Command) × IsCommand words command × ((kind : FileKind) × CannotRead holds reads reads_now command kind)
-    four_is_unread four = elim (cause_of failure fails) [
-      | usage is none ↦ let other : status_of failure ≡ 2 = ap status_of is in absurd (omega arith)
-      | refused is command means refuses ↦ absurd (omega arith)
-      | unread kind is command means cannot ↦ (command, means, (kind, cannot))
-      | unwritten is part rose ↦ let other : status_of failure ≡ 5 = ap status_of is in absurd (omega arith)
-      | memory is command means ↦ let other : status_of failure ≡ 6 = ap status_of is in absurd (omega arith)
-    ]
+      where
+        no_refusal : (other : ℕ) → status_of failure ≡ other → (other ≡ 3 → ⊥)
+            → (other ≡ 7 → ⊥) → ⊥
+        no_refusal other = not_refusal (status_of failure) other of_refusal
 
     -- status 5 is that of an output that can't be written
-    pub five_is_unwritten : status_of failure ≡ 5 → EndsInPart words holds before now × Rose writes writes_now
+    pub five_is_unwritten : status_of failure ≡ 5
+        → EndsInPart words holds before now × Rose writes writes_now
     five_is_unwritten five = elim (cause_of failure fails) [
       | usage is none ↦ let other : status_of failure ≡ 2 = ap status_of is in absurd (omega arith)
-      | refused is command means refuses ↦ absurd (omega arith)
-      | unread kind is command means cannot ↦ let other : status_of failure ≡ 4 = ap status_of is in absurd (omega arith)
+      | refused is command means refuses ↦
+          absurd (not_refusal (status_of failure) 5 is five (λ e. cc e) (λ e. cc e))
+      | unread kind is command means cannot ↦
+          let other : status_of failure ≡ 4 = ap status_of is in absurd (omega arith)
       | unwritten is part rose ↦ (part, rose)
-      | memory is command means ↦ let other : status_of failure ≡ 6 = ap status_of is in absurd (omega arith)
+      | memory is command means ↦
+          let other : status_of failure ≡ 6 = ap status_of is in absurd (omega arith)
     ]
 
-    -- a refusal of what the files hold leaves status 3, unless a file can't be read or memory runs out
-    pub refused_status : (command : Command) (contents : List (List ℕ)) (other : Failure) → IsCommand words command → AreTold holds (files_of command) contents → IsRefusal command contents other
-        → (status_of failure ≡ 3) ⊎ ((status_of failure ≡ 4) ⊎ (status_of failure ≡ 6))
-    refused_status command contents other means told refusal = elim (cause_of failure fails) [
+    -- a refusal of what the files hold leaves its status, unless a file can't be read or memory
+    -- runs out
+    pub refused_status : ReportLaws → (command : Command) (contents : List (List ℕ))
+        (other : Failure) → IsCommand words command → AreTold holds (files_of command) contents
+        → IsRefusal command contents other
+        → (status_of failure ≡ status_of other)
+        ⊎ ((status_of failure ≡ 4) ⊎ (status_of failure ≡ 6))
+    refused_status laws command contents other means told refusal = elim (cause_of failure fails) [
       | usage is none ↦ absurd (none command means)
-      | refused is command' means' refuses ↦ inl is
+      | refused is command' means' refuses ↦
+          inl (refused_alike words holds command command' means means' contents told other failure
+          refusal refuses)
       | unread kind is command' means' cannot ↦ inr (inl (ap status_of is))
-      | unwritten is part rose ↦ absurd (told_not_refused words holds command part.command means part.means contents told other refusal part.status part.text part.tells)
+      | unwritten is part rose ↦
+          absurd (told_not_refused words holds command part.command means part.means contents told
+          laws other refusal part.status part.text part.tells)
       | memory is command' means' ↦ inr (inr (ap status_of is))
     ]
 
+    -- no file of the command is one that can't be read, where no count rose
+    not_unread : (command command' : Command) → IsCommand words command → IsCommand words command'
+        → (kind : FileKind) → CannotRead holds reads reads_now command' kind
+        → AreUnrisen reads reads_now (files_of command) → ⊥
+    not_unread command command' means means' kind cannot read =
+        unrisen_read reads reads_now (files_of command) cannot.front (kind, cannot.file)
+        cannot.behind (same_files words command command' means means' ∙ cannot.files) read
+        cannot.rose
+
     -- an answer for what the files hold is left out for want of memory alone, where no count rose
-    pub complete_status : (command : Command) (contents : List (List ℕ)) (status : ℕ) (text : List ℕ) → IsCommand words command → AreTold holds (files_of command) contents → IsAnswer command contents status text
-        → AreUnrisen reads reads_now (files_of command) → (Rose writes writes_now → ⊥) → (status_of failure ≡ status) ⊎ (status_of failure ≡ 6)
-    complete_status command contents status text means told answer read wrote = elim (cause_of failure fails) [
-      | usage is none ↦ absurd (none command means)
-      | refused is command' means' refuses ↦ absurd (refusal_not_told words holds command command' means means' contents told status text answer failure refuses)
-      | unread kind is command' means' cannot ↦
-          absurd (unrisen_read reads reads_now (files_of command) cannot.front (kind, cannot.file) cannot.behind (same_files words command command' means means' ∙ cannot.files) read cannot.rose)
-      | unwritten is part rose ↦ absurd (wrote rose)
-      | memory is command' means' ↦ inr (ap status_of is)
-    ]
+    pub complete_status : ReportLaws → (command : Command) (contents : List (List ℕ)) (status : ℕ)
+        (text : List ℕ) → IsCommand words command → AreTold holds (files_of command) contents
+        → IsAnswer command contents status text
+        → AreUnrisen reads reads_now (files_of command) → (Rose writes writes_now → ⊥)
+        → (status_of failure ≡ status) ⊎ (status_of failure ≡ 6)
+    complete_status laws command contents status text means told answer read wrote =
+        elim (cause_of failure fails) [
+          | usage is none ↦ absurd (none command means)
+          | refused is command' means' refuses ↦
+              absurd (refusal_not_told words holds command command' means means' contents told laws
+              status text answer failure refuses)
+          | unread kind is command' means' cannot ↦
+              absurd (not_unread command command' means means' kind cannot read)
+          | unwritten is part rose ↦ absurd (wrote rose)
+          | memory is command' means' ↦ inr (ap status_of is)
+        ]
+
+    -- and a report of files that are accepted isn't shown, or memory runs out
+    pub judged_status : (bench tech pl report : Bor (List ℕ)) (contents : List (List ℕ))
+        → IsCommand words (Check bench tech pl report)
+        → AreTold holds (problem_files bench tech pl) contents
+        → length contents ≡ 3 → AreAccepted contents
+        → AreUnrisen reads reads_now (files_of (Check bench tech pl report))
+        → (Rose writes writes_now → ⊥) → (status_of failure ≡ 7) ⊎ (status_of failure ≡ 6)
+    judged_status bench tech pl report contents means told three accepted read wrote =
+        elim (cause_of failure fails) [
+          | usage is none ↦ absurd (none command means)
+          | refused is command' means' refuses ↦ inl (seven command' means' refuses is)
+          | unread kind is command' means' cannot ↦
+              absurd (not_unread command command' means means' kind cannot read)
+          | unwritten is part rose ↦ absurd (wrote rose)
+          | memory is command' means' ↦ inr (ap status_of is)
+        ]
+      where
+        command : Command
+        command = Check bench tech pl report
+
+        seven : (command' : Command) → IsCommand words command' → Refuses holds command' failure
+            → IsRefusalStatus (status_of failure) → status_of failure ≡ 7
+        seven command' means' refuses (inr is) = is
+        seven command' means' refuses (inl is) =
+            let whole = told_before holds (problem_files bench tech pl) ((Report, report.now) ∷ [])
+            contents told in
+            absurd (three_not_accepted command' contents refuses.contents failure
+            (same_form command' command (one_command words command' command means' means).name)
+            (agrees words holds command command' means means' contents whole refuses.contents
+            refuses.are) three accepted is refuses.refusal)
 
     -- the text of an answer doesn't stand whole where the command line failed
-    pub lacks_text : (command : Command) (contents : List (List ℕ)) (status : ℕ) (text front : List ℕ) → IsCommand words command → AreTold holds (files_of command) contents → IsAnswer command contents status text
-        → (failure ≢ WriteFault → now ≡ before) → before ≡ Some front → now ≡ appended before text → ⊥
-    lacks_text command contents status text front means told answer kept is whole = elim (cause_of failure fails) [
-      | usage is' none ↦ absurd (none command means)
-      | refused is' command' means' refuses ↦ kept_lacks text front before now some is (kept (not_write 3 is' (λ e. cc e))) whole
-      | unread kind is' command' means' cannot ↦ kept_lacks text front before now some is (kept (not_write 4 (ap status_of is') (λ e. cc e))) whole
-      | unwritten is' part rose ↦
-          part_lacks text part.text front before now (told_front words holds command part.command means part.means contents told status text answer part.status part.text part.tells) is part.front whole
-      | memory is' command' means' ↦ kept_lacks text front before now some is (kept (not_write 6 (ap status_of is') (λ e. cc e))) whole
-    ]
+    pub lacks_text : (command : Command) (contents : List (List ℕ)) (status : ℕ)
+        (text front : List ℕ) → IsCommand words command → AreTold holds (files_of command) contents
+        → IsAnswer command contents status text
+        → (failure ≢ WriteFault → now ≡ before) → before ≡ Some front → now ≡ appended before text
+        → ⊥
+    lacks_text command contents status text front means told answer kept is whole =
+        elim (cause_of failure fails) [
+          | usage is' none ↦ absurd (none command means)
+          | refused is' command' means' refuses ↦
+              kept_lacks text front before now some is (kept (λ same.
+              not_refusal (status_of failure) 5 is' (ap status_of same) (λ e. cc e) (λ e. cc e)))
+              whole
+          | unread kind is' command' means' cannot ↦
+              kept_lacks text front before now some is
+              (kept (not_write 4 (ap status_of is') (λ e. cc e))) whole
+          | unwritten is' part rose ↦
+              part_lacks text part.text front before now
+              (told_front words holds command part.command means part.means contents told status
+              text answer part.status part.text part.tells) is part.front whole
+          | memory is' command' means' ↦
+              kept_lacks text front before now some is
+              (kept (not_write 6 (ap status_of is') (λ e. cc e))) whole
+        ]
       where
         some : 0 < length text
-        some = some_text (form_of command) contents status text (answer_of command contents status text answer).1
+        some =
+            some_text (form_of command) (options_of command) contents status text
+            (answer_of command contents status text answer).1
 
-        not_write : (status : ℕ) → status_of failure ≡ status → (status ≡ 5 → ⊥) → failure ≢ WriteFault
+        not_write : (status : ℕ) → status_of failure ≡ status → (status ≡ 5 → ⊥)
+            → failure ≢ WriteFault
         not_write status is apart same = apart (sym is ∙ ap status_of same)
 
 -- ---- statuses
+
+-- a report that is shown ends a check with status 0
+pub check_done : (words : List (List ℕ)) (holds : List ℕ → Option (List ℕ))
+    (command other : Command) → IsCommand words command → IsCommand words other
+    → form_of command ≡ forms.Check
+    → (status : ℕ) (text : List ℕ) → TellsText holds other status text → status ≡ 0
+check_done words holds command other means means' check status text tells =
+    let answer = (answer_of other tells.contents status text tells.answer).1 in
+    let one = one_command words other command means' means in
+    let same = same_form other command one.name ∙ check in
+    (subst (λ form. IsTextOf form status text answer.circuit answer.tech) same answer.holds).0
 
 -- a command that answers doesn't end with status 2
 pub not_two : (ending : Ending) → ending_status ending ≡ 2 → ⊥
 not_two Done two = omega arith
 not_two Never two = omega arith
 
--- no failure has the status of a text
-pub not_ending : (failure : Failure) → is_ending (status_of failure) ≡ true → ⊥
-not_ending Usage is = cc is
-not_ending (TooLong kind) is = cc is
-not_ending (Bench fault) is = cc is
-not_ending (Tech fault) is = cc is
-not_ending (Placement fault) is = cc is
-not_ending Pairs is = cc is
-not_ending (ReadFault kind) is = cc is
-not_ending WriteFault is = cc is
-not_ending NoMemory is = cc is
-
 -- a count that rises is told by its status alone
-pub risen_status : (failure : Failure) (before now : ℕ) → (((kind : FileKind) × (failure ≡ ReadFault kind) → ⊥) → now ≡ before) → before < now → status_of failure ≡ 4
+pub risen_status : (failure : Failure) (before now : ℕ)
+    → (((kind : FileKind) × (failure ≡ ReadFault kind) → ⊥) → now ≡ before) → before < now
+    → status_of failure ≡ 4
 risen_status (ReadFault kind) before now stays rose = refl
-risen_status Usage before now stays rose = let same = stays (λ (kind, e). cc e) in absurd (omega arith)
-risen_status (TooLong kind) before now stays rose = let same = stays (λ (kind, e). cc e) in absurd (omega arith)
-risen_status (Bench fault) before now stays rose = let same = stays (λ (kind, e). cc e) in absurd (omega arith)
-risen_status (Tech fault) before now stays rose = let same = stays (λ (kind, e). cc e) in absurd (omega arith)
-risen_status (Placement fault) before now stays rose = let same = stays (λ (kind, e). cc e) in absurd (omega arith)
-risen_status Pairs before now stays rose = let same = stays (λ (kind, e). cc e) in absurd (omega arith)
-risen_status WriteFault before now stays rose = let same = stays (λ (kind, e). cc e) in absurd (omega arith)
-risen_status NoMemory before now stays rose = let same = stays (λ (kind, e). cc e) in absurd (omega arith)
+risen_status Usage before now stays rose =
+    let same = stays (λ (kind, e). cc e) in absurd (omega arith)
+risen_status (TooLong kind) before now stays rose =
+    let same = stays (λ (kind, e). cc e) in absurd (omega arith)
+risen_status (Bench fault) before now stays rose =
+    let same = stays (λ (kind, e). cc e) in absurd (omega arith)
+risen_status (Tech fault) before now stays rose =
+    let same = stays (λ (kind, e). cc e) in absurd (omega arith)
+risen_status (Placement fault) before now stays rose =
+    let same = stays (λ (kind, e). cc e) in absurd (omega arith)
+risen_status Pairs before now stays rose =
+    let same = stays (λ (kind, e). cc e) in absurd (omega arith)
+risen_status (Unshown why) before now stays rose =
+    let same = stays (λ (kind, e). cc e) in absurd (omega arith)
+risen_status WriteFault before now stays rose =
+    let same = stays (λ (kind, e). cc e) in absurd (omega arith)
+risen_status NoMemory before now stays rose =
+    let same = stays (λ (kind, e). cc e) in absurd (omega arith)
 
-pub written_status : (failure : Failure) (before now : ℕ) → ((failure ≡ WriteFault → ⊥) → now ≡ before) → before < now → status_of failure ≡ 5
-written_status WriteFault before now stays rose = refl
-written_status Usage before now stays rose = let same = stays (λ e. cc e) in absurd (omega arith)
-written_status (TooLong kind) before now stays rose = let same = stays (λ e. cc e) in absurd (omega arith)
-written_status (Bench fault) before now stays rose = let same = stays (λ e. cc e) in absurd (omega arith)
-written_status (Tech fault) before now stays rose = let same = stays (λ e. cc e) in absurd (omega arith)
-written_status (Placement fault) before now stays rose = let same = stays (λ e. cc e) in absurd (omega arith)
-written_status Pairs before now stays rose = let same = stays (λ e. cc e) in absurd (omega arith)
-written_status (ReadFault kind) before now stays rose = let same = stays (λ e. cc e) in absurd (omega arith)
-written_status NoMemory before now stays rose = let same = stays (λ e. cc e) in absurd (omega arith)
-
--- a failure of a command's text is one of the command line
-pub stopped : (words : List (List ℕ)) (holds : List ℕ → Option (List ℕ)) (reads reads_now : List ℕ → ℕ) (before now : Option (List ℕ)) (writes writes_now : ℕ) (command : Command) → IsCommand words command
-    → (failure : Failure) → Stops holds reads reads_now command failure → Fails words holds reads reads_now before now writes writes_now failure
-stopped words holds reads reads_now before now writes writes_now command means Usage stops = absurd stops
-stopped words holds reads reads_now before now writes writes_now command means WriteFault stops = absurd stops
-stopped words holds reads reads_now before now writes writes_now command means (TooLong kind) stops = (command, means, stops)
-stopped words holds reads reads_now before now writes writes_now command means (Bench fault) stops = (command, means, stops)
-stopped words holds reads reads_now before now writes writes_now command means (Tech fault) stops = (command, means, stops)
-stopped words holds reads reads_now before now writes writes_now command means (Placement fault) stops = (command, means, stops)
-stopped words holds reads reads_now before now writes writes_now command means Pairs stops = (command, means, stops)
-stopped words holds reads reads_now before now writes writes_now command means (ReadFault kind) stops = (command, means, stops)
-stopped words holds reads reads_now before now writes writes_now command means NoMemory stops = (command, means, stops)
-
--- and so is one of its words
-pub words_fail : (words : List (List ℕ)) (holds : List ℕ → Option (List ℕ)) (reads reads_now : List ℕ → ℕ) (before now : Option (List ℕ)) (writes writes_now : ℕ) (fault : WordsFault)
-    → (fault ≡ word_faults.Usage → IsNoCommand words) → (fault ≡ word_faults.NoMemory → (command : Command) × IsCommand words command)
+-- a fault of the words is a failure of the command line
+pub words_fail : (words : List (List ℕ)) (holds : List ℕ → Option (List ℕ))
+    (reads reads_now : List ℕ → ℕ) (before now : Option (List ℕ)) (writes writes_now : ℕ)
+    (fault : WordsFault)
+    → (fault ≡ word_faults.Usage → IsNoCommand words)
+    → (fault ≡ word_faults.NoMemory → (command : Command) × IsCommand words command)
     → Fails words holds reads reads_now before now writes writes_now (words_failure_of fault)
-words_fail words holds reads reads_now before now writes writes_now word_faults.Usage none some = none refl
-words_fail words holds reads reads_now before now writes writes_now word_faults.NoMemory none some = let (command, means) = some refl in (command, means, tt)
+words_fail words holds reads reads_now before now writes writes_now word_faults.Usage none some =
+    none refl
+words_fail words holds reads reads_now before now writes writes_now word_faults.NoMemory none some =
+    let (command, means) = some refl in (command, means, tt)

@@ -1,61 +1,75 @@
 -- The words of a command line name files in one way, so what is told of their contents is one.
-use Rattle.std.proofs.Common.{ℕ, ◌≡◌, ◌≤◌, if◌then◌else◌, List, [], ◌∷◌, map, length, Option, Some, None, IfSome, codes, refl, ap, sym, ◌∙◌, subst, arith}
+use Rattle.std.proofs.Common.{ℕ, ◌≡◌, ◌≤◌, if◌then◌else◌, List, [], ◌∷◌, ◌++◌, length, Option, Some, None, IfSome, codes, refl, ap, sym, ◌∙◌, subst, arith}
+use Rattle.std.specs.List.{flat_map}
 use Rattle.std.specs.Str.{bytes_eq}
 use Rattle.cts_program.specs.declared.command.Command.{Command}
-use Rattle.cts_program.specs.declared.command.Command.TheVariants.{Zero, Period, Schedule, Synth}
+use Rattle.cts_program.specs.declared.command.Command.TheVariants.{Zero, Period, Schedule, Synth, Check, Demo}
 use Rattle.cts_program.specs.declared.file_kind.FileKind.{FileKind}
-use Rattle.cts_program.specs.declared.file_kind.FileKind.TheVariants.{Bench, Tech, Placement}
+use Rattle.cts_program.specs.declared.file_kind.FileKind.TheVariants.{Bench, Tech, Placement, Report}
 use Rattle.cts_program.specs.Commands.{Given, options_of, IsSame, IsCommand}
 use Rattle.cts_program.specs.Files.{files_of, AreContents, AreTold}
 use Rattle.cts_program.proofs.OneAnswer.{Agree}
 use Rattle.cts_program.proofs.PlainCommands.{one_command}
 
--- the file that an option names
-abbrev file_of : Given → FileKind × List ℕ
-file_of one = (
-  if bytes_eq one.0 (codes "--bench") then Bench
-      else if bytes_eq one.0 (codes "--tech") then Tech else Placement,
-  one.1,
-)
+-- the file that an option names, if it names one
+abbrev file_of : Given → List (FileKind × List ℕ)
+file_of one = if bytes_eq one.0 (codes "--bench") then (Bench, one.1) ∷ []
+    else if bytes_eq one.0 (codes "--tech") then (Tech, one.1) ∷ []
+    else if bytes_eq one.0 (codes "--pl") then (Placement, one.1) ∷ []
+    else if bytes_eq one.0 (codes "--report") then (Report, one.1) ∷ [] else []
 
 -- the files of a command are those that its options name, in their order
-files_named : (command : Command) → files_of command ≡ map file_of (options_of command)
+files_named : (command : Command) → files_of command ≡ flat_map file_of (options_of command)
 files_named (Zero bench None) = refl
 files_named (Zero bench (Some tech)) = refl
 files_named (Period bench tech) = refl
 files_named (Schedule bench tech) = refl
 files_named (Synth bench tech pl) = refl
+files_named (Check bench tech pl report) = refl
+files_named (Demo registers seed) = refl
 
 files_same : (command other : Command) → IsSame command other → files_of command ≡ files_of other
 files_same command other same =
-    files_named command ∙ ap (map file_of) same.options ∙ sym (files_named other)
+    files_named command ∙ ap (flat_map file_of) same.options ∙ sym (files_named other)
 
 -- commands that the same words mean read the same files
-pub same_files : (words : List (List ℕ)) (command other : Command) → IsCommand words command → IsCommand words other → files_of command ≡ files_of other
-same_files words command other means means' = files_same command other (one_command words command other means means')
+pub same_files : (words : List (List ℕ)) (command other : Command) → IsCommand words command
+    → IsCommand words other → files_of command ≡ files_of other
+same_files words command other means means' =
+    files_same command other (one_command words command other means means')
 
 module _ (holds : List ℕ → Option (List ℕ)) where
   -- what the device tells is what the files hold
-  pub told_contents : (files : List (FileKind × List ℕ)) (contents : List (List ℕ)) → AreTold holds files contents → AreContents holds files contents
+  pub told_contents : (files : List (FileKind × List ℕ)) (contents : List (List ℕ))
+      → AreTold holds files contents → AreContents holds files contents
   told_contents files [] told = tt
   told_contents [] (bytes ∷ contents) told = absurd told
-  told_contents (file ∷ files) (bytes ∷ contents) (is, told) = (subst (λ held. IfSome held (λ b. b ≡ bytes)) (sym is) refl, told_contents files contents told)
+  told_contents (file ∷ files) (bytes ∷ contents) (is, told) = (
+    subst (λ held. IfSome held (λ b. b ≡ bytes)) (sym is) refl,
+    told_contents files contents told,
+  )
 
   -- of no more files than there are
-  pub contents_within : (files : List (FileKind × List ℕ)) (contents : List (List ℕ)) → AreContents holds files contents → length contents ≤ length files
+  pub contents_within : (files : List (FileKind × List ℕ)) (contents : List (List ℕ))
+      → AreContents holds files contents → length contents ≤ length files
   contents_within files [] are = omega arith
   contents_within [] (bytes ∷ contents) are = absurd are
-  contents_within (file ∷ files) (bytes ∷ contents) (is, are) = let within = contents_within files contents are in omega arith
+  contents_within (file ∷ files) (bytes ∷ contents) (is, are) =
+      let within = contents_within files contents are in omega arith
 
   -- what is told and what is known besides agree
-  pub told_agree : (files : List (FileKind × List ℕ)) (told contents : List (List ℕ)) → AreTold holds files told → AreContents holds files contents → Agree told contents
+  pub told_agree : (files : List (FileKind × List ℕ)) (told contents : List (List ℕ))
+      → AreTold holds files told → AreContents holds files contents → Agree told contents
   told_agree files [] contents told are = tt
   told_agree files (bytes ∷ more) [] told are = tt
   told_agree [] (bytes ∷ more) (other ∷ others) told are = absurd told
-  told_agree (file ∷ files) (bytes ∷ more) (other ∷ others) (is, told) (alike, are) = (subst (λ held. IfSome held (λ b. b ≡ other)) is alike, told_agree files more others told are)
+  told_agree (file ∷ files) (bytes ∷ more) (other ∷ others) (is, told) (alike, are) =
+      (subst (λ held. IfSome held (λ b. b ≡ other)) is alike, told_agree files more others told are)
 
-pub agree_turned : (contents others : List (List ℕ)) → Agree contents others → Agree others contents
-agree_turned [] [] agree = tt
-agree_turned [] (other ∷ others) agree = tt
-agree_turned (one ∷ more) [] agree = tt
-agree_turned (one ∷ more) (other ∷ others) (same, agree) = (sym same, agree_turned more others agree)
+  -- what is told of files is told of them before others
+  pub told_before : (files others : List (FileKind × List ℕ)) (contents : List (List ℕ))
+      → AreTold holds files contents → AreTold holds (files ++ others) contents
+  told_before files others [] told = tt
+  told_before [] others (bytes ∷ contents) told = absurd told
+  told_before (file ∷ files) others (bytes ∷ contents) (is, told) =
+      (is, told_before files others contents told)

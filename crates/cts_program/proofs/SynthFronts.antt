@@ -1,5 +1,5 @@
--- A circuit and its delays have texts of clock trees of one status, and none is a front of another:
--- up to the count of the cycle they tell how many lines they have.
+-- A circuit and its delays have reports of clock trees of which none is a front of another: up to
+-- the count of the cycle they tell how many lines they have.
 use Rattle.std.proofs.Common.{◌≡◌, ◌<◌, ◌+◌, ◌*◌, ◌++◌, ℕ, suc, zero, List, [], ◌∷◌, length, map, take, refl, sym, ap, ◌∙◌, subst, codes, length-append, arith}
 use Rattle.std.proofs.lemmas.List.{length-map}
 use Rattle.std.proofs.lemmas.List.FromFn.{length-map-range_with_len}
@@ -15,13 +15,11 @@ use Rattle.cts_model.specs.LeastPeriods.{IsLeastFraction, IsPeriodShow}
 use Rattle.cts_model.specs.PrintedLines.{Words, text_of, count_line, period_line}
 use Rattle.cts_model.specs.ReportBounds.{count_in, IsOfSize}
 use Rattle.cts_model.specs.ReportLines.{version_line, pathed_lines, period_show_lines, lines_below, register_line_at, lead_line, merge_line_at, source_line, node_line_at, length_text, tree_lines, report_lines}
-use Rattle.cts_model.proofs.CircuitConstraints.{forbidding_at_all}
 use Rattle.report_text.proofs.ReportWords.{report_lines_are}
-use Rattle.cts_program.specs.PeriodTexts.{never_lines}
-use Rattle.cts_program.specs.SynthTexts.{IsNeverText, IsSynthText}
+use Rattle.cts_program.specs.SynthTexts.{IsSynthText}
 use Rattle.cts_program.proofs.LineFronts.{joined, AreFront, no_front}
-use Rattle.cts_program.proofs.PeriodFronts.{differ, cycle_count, cycle_count_line, one_cycle_length, as_many_never}
-use Rattle.cts_program.proofs.TimingLines.{never_lines_are}
+use Rattle.cts_program.proofs.PeriodFronts.{differ, cycle_count, cycle_count_line, one_cycle_length}
+use Rattle.cts_program.proofs.StatusFronts.{NoFront, AreOfFound, IsTextWith}
 
 -- what a text says of the circuit and its delays alone
 pub record SpellsReport (circuit : Circuit) (tech : Tech) (text : List ℕ) : Type 0 where
@@ -34,9 +32,8 @@ pub record SpellsReport (circuit : Circuit) (tech : Tech) (text : List ℕ) : Ty
 
 -- by its status
 abbrev pub IsSynthTextOf : Circuit → Tech → (status : ℕ) → List ℕ → Type 0
-IsSynthTextOf circuit tech zero text = SpellsReport circuit tech text
-IsSynthTextOf circuit tech (suc zero) text = IsNeverText circuit tech text
-IsSynthTextOf circuit tech (suc (suc more)) text = ⊥
+IsSynthTextOf circuit tech status text =
+    IsTextWith circuit tech (SpellsReport circuit tech) status text
 
 -- a text of a problem says so
 pub text_of_problem : (problem : Problem) (status : ℕ) (text : List ℕ)
@@ -51,29 +48,6 @@ text_of_problem problem zero text says = record {
 }
 text_of_problem problem (suc zero) text says = says
 text_of_problem problem (suc (suc more)) text says = says
-
--- ---- one status
-
--- the circuit has a period or none
-found_or_never : (circuit : Circuit) (tech : Tech) (text text' : List ℕ)
-    → SpellsReport circuit tech text → IsNeverText circuit tech text' → ⊥
-found_or_never circuit tech text text' found never =
-    forbidding_at_all circuit tech never.cycle never.forbids _ _ found.least.proper
-    found.least.admitted
-
--- so texts have one status
-pub one_synth_status : (circuit : Circuit) (tech : Tech) (status status' : ℕ)
-    (text text' : List ℕ) → IsSynthTextOf circuit tech status text
-    → IsSynthTextOf circuit tech status' text' → status ≡ status'
-one_synth_status circuit tech zero zero text text' says says' = refl
-one_synth_status circuit tech zero (suc zero) text text' says says' =
-    absurd (found_or_never circuit tech text text' says says')
-one_synth_status circuit tech zero (suc (suc more)) text text' says says' = absurd says'
-one_synth_status circuit tech (suc zero) zero text text' says says' =
-    absurd (found_or_never circuit tech text' text says' says)
-one_synth_status circuit tech (suc zero) (suc zero) text text' says says' = refl
-one_synth_status circuit tech (suc zero) (suc (suc more)) text text' says says' = absurd says'
-one_synth_status circuit tech (suc (suc more)) status' text text' says says' = absurd says
 
 -- ---- the count of lines
 
@@ -199,10 +173,9 @@ as_many_second circuit tech report other size size' second second' Floor Floor
           (period_show_lines Second circuit Floor other.paths),
     )
 
--- so texts of reports are no fronts of one another
-no_report_front : (circuit : Circuit) (tech : Tech) (text other : List ℕ)
-    → SpellsReport circuit tech text → SpellsReport circuit tech other
-    → (count : ℕ) → text ≡ take count other → count < length other → ⊥
+-- so no text of a report is a front of another
+no_report_front : (circuit : Circuit) (tech : Tech)
+    → NoFront (SpellsReport circuit tech) (SpellsReport circuit tech)
 no_report_front circuit tech text other spells spells' count cut short =
     let report = spells.report in
     let report' = spells'.report in
@@ -218,43 +191,19 @@ no_report_front circuit tech text other spells spells' count cut short =
     (sym spells.spelled ∙ cut ∙ ap (take count) spells'.spelled)
     (subst (λ bytes. count < length bytes) spells'.spelled short)
 
--- ---- texts
+-- and none is empty
+some_report : (circuit : Circuit) (tech : Tech) (text : List ℕ) → SpellsReport circuit tech text
+    → 0 < length text
+some_report circuit tech text says =
+    subst (λ bytes. 0 < length bytes)
+    (sym (says.spelled ∙ ap text_of (second_is circuit says.report says.version)))
+    (omega arith)
 
-module _ (circuit : Circuit) (tech : Tech) where
-  -- nor are those of cycles that forbid every period
-  no_never_front : (text other : List ℕ) → IsNeverText circuit tech text
-      → IsNeverText circuit tech other
-      → (count : ℕ) → text ≡ take count other → count < length other → ⊥
-  no_never_front text other spells spells' count cut short =
-      no_front (never_lines circuit spells.cycle) (never_lines circuit spells'.cycle) count
-      (never_lines_are circuit spells.cycle) (never_lines_are circuit spells'.cycle)
-      (as_many_never circuit tech spells.cycle spells'.cycle spells.forbids spells'.forbids)
-      (sym spells.spelled ∙ cut ∙ ap (take count) spells'.spelled)
-      (subst (λ bytes. count < length bytes) spells'.spelled short)
-
-  -- no text is a front of another
-  pub no_synth_front : (status : ℕ) (text : List ℕ) → IsSynthTextOf circuit tech status text
-      → (status' : ℕ) (other : List ℕ) → IsSynthTextOf circuit tech status' other
-      → (count : ℕ) → text ≡ take count other → count < length other → ⊥
-  no_synth_front zero text says zero other says' count cut short =
-      no_report_front circuit tech text other says says' count cut short
-  no_synth_front zero text says (suc zero) other says' count cut short =
-      found_or_never circuit tech text other says says'
-  no_synth_front zero text says (suc (suc more)) other says' count cut short = says'
-  no_synth_front (suc zero) text says zero other says' count cut short =
-      found_or_never circuit tech other text says' says
-  no_synth_front (suc zero) text says (suc zero) other says' count cut short =
-      no_never_front text other says says' count cut short
-  no_synth_front (suc zero) text says (suc (suc more)) other says' count cut short = says'
-  no_synth_front (suc (suc more)) text says status' other says' count cut short = says
-
-  -- and none is empty
-  pub some_synth : (status : ℕ) (text : List ℕ) → IsSynthTextOf circuit tech status text
-      → 0 < length text
-  some_synth zero text says =
-      subst (λ bytes. 0 < length bytes)
-      (sym (says.spelled ∙ ap text_of (second_is circuit says.report says.version)))
-      (omega arith)
-  some_synth (suc zero) text says =
-      subst (λ bytes. 0 < length bytes) (sym says.spelled) (omega arith)
-  some_synth (suc (suc more)) text says = absurd says
+-- they say that there is a least period
+pub are_reports : (circuit : Circuit) (tech : Tech)
+    → AreOfFound circuit tech (SpellsReport circuit tech)
+are_reports circuit tech = record {
+  least = λ text says. (says.report.period, says.least);
+  apart = no_report_front circuit tech;
+  some = some_report circuit tech;
+}

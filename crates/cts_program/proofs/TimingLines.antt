@@ -80,7 +80,7 @@ module _ (circuit : Circuit) where
       (timing_lines_are one_tick shown no_arrivals []).1
 
   -- a number is a word, as a weight is
-  number_word : (number : ℤ) → IsWord (signed_decimal number)
+  pub number_word : (number : ℤ) → IsWord (signed_decimal number)
   number_word number =
       let weight : Constraint = record { setup = true; tail = 0; head = 0; weight = number } in
       (show_lines_are (Cycle (weight ∷ []))).1.0.1.1.1.0

@@ -1,5 +1,5 @@
 -- What the files of a command tell, and how it stops or answers.
-use Rattle.std.proofs.Common.{ℕ, List, [], ◌∷◌, Option, Some, None, Result, IfOk, Bor, refl, sym, subst, arith}
+use Rattle.std.proofs.Common.{ℕ, List, [], ◌∷◌, Option, Some, None, Result, IfOk, Bor, refl, sym, subst}
 use Rattle.cts_model.specs.declared.circuit.Circuit.{Circuit}
 use Rattle.cts_model.specs.declared.tech.Tech.{Tech}
 use Rattle.cts_model.specs.Paths.{IsLoop}
@@ -17,13 +17,14 @@ use Rattle.cts_program.specs.declared.ending.Answer.{Answer}
 use Rattle.cts_program.specs.declared.failure.Failure.{Failure}
 use Rattle.cts_program.specs.declared.failure.Failure.TheVariants as failures
 use Rattle.cts_program.specs.declared.file_kind.FileKind.TheVariants as kinds
-use Rattle.cts_program.specs.Answers.{ending_status, TellWith, IsAnswer}
+use Rattle.cts_program.specs.Answers.{ending_status, JoinTooMany, TellWith, IsAnswer, IsRefusal}
 use Rattle.cts_program.specs.Failures.{synth_failure_of}
 use Rattle.cts_program.specs.declared.file_kind.FileKind.{FileKind}
 use Rattle.cts_program.specs.Files.{circuit_files, files_of, AreAll, AreContents}
-use Rattle.cts_program.specs.Judged.{IsNetlistFile, IsTableFile, Tell}
+use Rattle.cts_program.specs.Judged.{IsNetlistFile, IsTableFile, IsFileRefusal, Tell}
 use Rattle.cts_program.specs.Run.{TellsText, Stops}
 use Rattle.cts_program.specs.Steps.{IsToldAs, ReadsNetlist, FailsNetlist, ReadsTable, FailsTable, ReadsCircuit, TellsCircuit, FailsCircuit}
+use Rattle.cts_program.proofs.RefusalLemmas.{file_refusal}
 use Rattle.cts_program.proofs.ResultLemmas.{if_ok_from}
 
 -- a netlist that was read is accepted
@@ -87,19 +88,23 @@ module _ (holds : List ℕ → Option (List ℕ)) (reads reads_now : List ℕ �
       record {
         contents = bytes ∷ [];
         are = subst (λ files. AreContents holds files (bytes ∷ [])) (sym named.1) (told, tt);
-        refusal = long;
+        refusal = file_refusal command named.1 (bytes ∷ []) (failures.TooLong kinds.Bench) long
+            (λ _ _ _ _. long);
       }
   netlist_stops tech named (failures.TooLong kinds.Tech) (same, (bytes, told, long)) = cc same
   netlist_stops tech named (failures.TooLong kinds.Placement) (same, (bytes, told, long)) = cc same
+  netlist_stops tech named (failures.TooLong kinds.Report) (same, (bytes, told, long)) = cc same
   netlist_stops tech named (failures.Bench fault) (bytes, told, short, has) =
       record {
         contents = bytes ∷ [];
         are = subst (λ files. AreContents holds files (bytes ∷ [])) (sym named.1) (told, tt);
-        refusal = (short, has);
+        refusal = file_refusal command named.1 (bytes ∷ []) (failures.Bench fault) (short, has)
+            (λ _ _ _ _. (short, has));
       }
   netlist_stops tech named (failures.Tech fault) fails = absurd fails
   netlist_stops tech named (failures.Placement fault) fails = absurd fails
   netlist_stops tech named failures.Pairs fails = absurd fails
+  netlist_stops tech named (failures.Unshown why) fails = absurd fails
   netlist_stops tech named (failures.ReadFault kinds.Bench) (same, rose) =
       record {
         front = [];
@@ -114,6 +119,7 @@ module _ (holds : List ℕ → Option (List ℕ)) (reads reads_now : List ℕ �
       }
   netlist_stops tech named (failures.ReadFault kinds.Tech) (same, rose) = cc same
   netlist_stops tech named (failures.ReadFault kinds.Placement) (same, rose) = cc same
+  netlist_stops tech named (failures.ReadFault kinds.Report) (same, rose) = cc same
   netlist_stops tech named failures.WriteFault fails = fails
   netlist_stops tech named failures.NoMemory fails = tt
 
@@ -135,32 +141,40 @@ module _ (holds : List ℕ → Option (List ℕ)) (reads reads_now : List ℕ �
     table_stops netlist failures.Usage fails = fails
     table_stops netlist (failures.TooLong kinds.Bench) (same, (bytes, told, long)) = cc same
     table_stops netlist (failures.TooLong kinds.Placement) (same, (bytes, told, long)) = cc same
+    table_stops netlist (failures.TooLong kinds.Report) (same, (bytes, told, long)) = cc same
     table_stops netlist (failures.TooLong kinds.Tech) (same, (bytes, told, long)) =
         record {
           contents = netlist.bytes ∷ bytes ∷ [];
           are = both_told netlist.bytes bytes netlist.told told;
-          refusal = (accepted_netlist netlist, long);
+          refusal = file_refusal command named.1 (netlist.bytes ∷ bytes ∷ [])
+              (failures.TooLong kinds.Tech) (accepted_netlist netlist, long)
+              (λ _ _ _ _. (accepted_netlist netlist, long));
         }
     table_stops netlist (failures.Bench fault) fails = absurd fails
-    table_stops netlist (failures.Tech fault) (bytes, told, short, has) = record {
-      contents = netlist.bytes ∷ bytes ∷ [];
-      are = both_told netlist.bytes bytes netlist.told told;
-      refusal = (
-        accepted_netlist netlist,
-        short,
+    table_stops netlist (failures.Tech fault) (bytes, told, short, has) =
+        let refused : IsFileRefusal (netlist.bytes ∷ bytes ∷ []) (failures.Tech fault) = (
+          accepted_netlist netlist,
+          short,
+          record {
+            named = has.named;
+            used = has.used;
+            kinds =
+                subst (λ signals. AreUsedKinds signals has.used) netlist.accepts.signals has.kinds;
+            cause = has.cause;
+          },
+        ) in
         record {
-          named = has.named;
-          used = has.used;
-          kinds =
-              subst (λ signals. AreUsedKinds signals has.used) netlist.accepts.signals has.kinds;
-          cause = has.cause;
-        },
-      );
-    }
+          contents = netlist.bytes ∷ bytes ∷ [];
+          are = both_told netlist.bytes bytes netlist.told told;
+          refusal = file_refusal command named.1 (netlist.bytes ∷ bytes ∷ [])
+              (failures.Tech fault) refused (λ _ _ _ _. refused);
+        }
     table_stops netlist (failures.Placement fault) fails = absurd fails
     table_stops netlist failures.Pairs fails = absurd fails
+    table_stops netlist (failures.Unshown why) fails = absurd fails
     table_stops netlist (failures.ReadFault kinds.Bench) (same, rose) = cc same
     table_stops netlist (failures.ReadFault kinds.Placement) (same, rose) = cc same
+    table_stops netlist (failures.ReadFault kinds.Report) (same, rose) = cc same
     table_stops netlist (failures.ReadFault kinds.Tech) (same, rose) = record {
       front = (kinds.Bench, bench.now) ∷ [];
       file = file.now;
@@ -178,24 +192,28 @@ module _ (holds : List ℕ → Option (List ℕ)) (reads reads_now : List ℕ �
 module _ {holds : List ℕ → Option (List ℕ)}
     (reads reads_now : List ℕ → ℕ) (command : Command) {circuit : Circuit} {tech : Tech}
     (told : TellsCircuit holds (files_of command) circuit tech) where
-  -- too many joined pairs stop a command behind accepted files
-  pub circuit_stops : (failure : Failure) → FailsCircuit circuit failure
-      → Stops holds reads reads_now command failure
-  circuit_stops failures.Usage fails = fails
-  circuit_stops (failures.TooLong kind) fails = absurd fails
-  circuit_stops (failures.Bench fault) fails = absurd fails
-  circuit_stops (failures.Tech fault) fails = absurd fails
-  circuit_stops (failures.Placement fault) fails = absurd fails
-  circuit_stops failures.Pairs many =
-      record {
-        contents = told.contents;
-        are = told.are;
-        refusal =
-            (told.all, record { circuit = circuit; tech = tech; tell = told.tell; many = many });
-      }
-  circuit_stops (failures.ReadFault kind) fails = absurd fails
-  circuit_stops failures.WriteFault fails = fails
-  circuit_stops failures.NoMemory fails = tt
+  -- too many joined pairs stop a command that they stop at all
+  module _ (stops : AreAll command told.contents × JoinTooMany told.contents
+      → IsRefusal command told.contents failures.Pairs) where
+    pub circuit_stops : (failure : Failure) → FailsCircuit circuit failure
+        → Stops holds reads reads_now command failure
+    circuit_stops failures.Usage fails = fails
+    circuit_stops (failures.TooLong kind) fails = absurd fails
+    circuit_stops (failures.Bench fault) fails = absurd fails
+    circuit_stops (failures.Tech fault) fails = absurd fails
+    circuit_stops (failures.Placement fault) fails = absurd fails
+    circuit_stops failures.Pairs many = record {
+      contents = told.contents;
+      are = told.are;
+      refusal = stops (
+        told.all,
+        record { circuit = circuit; tech = tech; tell = told.tell; many = many },
+      );
+    }
+    circuit_stops (failures.Unshown why) fails = absurd fails
+    circuit_stops (failures.ReadFault kind) fails = absurd fails
+    circuit_stops failures.WriteFault fails = fails
+    circuit_stops failures.NoMemory fails = tt
 
 module _ {holds : List ℕ → Option (List ℕ)} {files : List (FileKind × List ℕ)}
     {circuit : Circuit} {tech : Tech} (told : TellsCircuit holds files circuit tech) where

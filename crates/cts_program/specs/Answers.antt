@@ -1,15 +1,18 @@
 -- What a command answers where its files have these contents: a text, or the first refusal.
-use Rattle.std.specs.Prelude.{◌≡◌, ◌==◌, ◌||◌, ℕ, Bool, List}
+use Rattle.std.specs.Prelude.{◌≡◌, ◌≤◌, ◌==◌, ◌||◌, ℕ, Bool, List, take}
 use Rattle.cts_model.specs.declared.circuit.Circuit.{Circuit}
 use Rattle.cts_model.specs.declared.problem.Problem.{Problem}
 use Rattle.cts_model.specs.declared.tech.Tech.{Tech}
 use Rattle.cts_model.specs.PairLists.{JoinsMoreThan}
 use Rattle.cts_program.specs.declared.command.Command.{Command}
-use Rattle.cts_program.specs.declared.command.Command.TheVariants.{Zero, Period, Schedule, Synth}
+use Rattle.cts_program.specs.declared.command.Command.TheVariants.{Zero, Period, Schedule, Synth, Check, Demo}
 use Rattle.cts_program.specs.declared.ending.Ending.{Ending}
 use Rattle.cts_program.specs.declared.ending.Ending.TheVariants.{Done, Never}
 use Rattle.cts_program.specs.declared.failure.Failure.{Failure}
-use Rattle.cts_program.specs.declared.failure.Failure.TheVariants.{Pairs}
+use Rattle.cts_program.specs.declared.failure.Failure.TheVariants.{Unshown, Pairs}
+use Rattle.cts_program.specs.Checks.{IsCheckAnswer, IsCheckRefusal}
+use Rattle.cts_program.specs.Commands.{number_of}
+use Rattle.cts_program.specs.DemoTexts.{demo_texts, IsDemoText}
 use Rattle.cts_program.specs.Files.{AreAll}
 use Rattle.cts_program.specs.Judged.{AreAccepted, IsFileRefusal, Tell, TellProblem}
 use Rattle.cts_program.specs.PeriodTexts.{IsPeriodText}
@@ -47,13 +50,23 @@ abbrev pub IsScheduleAnswer : List (List ℕ) → ℕ → List ℕ → Type 0
 IsScheduleAnswer contents status text =
     TellWith contents (λ circuit tech. IsScheduleText circuit tech status text)
 
--- the text is one for the clock tree of a problem, with its status
-pub record IsSynthAnswer (contents : List (List ℕ)) (status : ℕ) (text : List ℕ) : Type 0 where
+-- the contents are accepted, and this holds of the problem that they tell
+pub record TellProblemWith (contents : List (List ℕ)) (Holds : Problem → Type 0) : Type 0 where
   pub accepted : AreAccepted contents
   pub problem : Problem
   pub tell : TellProblem contents problem
   pub few : JoinsMoreThan problem.circuit 1048576 → ⊥
-  pub says : IsSynthText problem status text
+  pub holds : Holds problem
+
+-- the text is one for the clock tree of a problem, with its status
+abbrev pub IsSynthAnswer : List (List ℕ) → ℕ → List ℕ → Type 0
+IsSynthAnswer contents status text =
+    TellProblemWith contents (λ problem. IsSynthText problem status text)
+
+-- the text is one for a demonstration with so many registers and this seed, with its status
+abbrev pub IsDemoAnswer : (registers seed : ℕ) → ℕ → List ℕ → Type 0
+IsDemoAnswer registers seed status text = TellProblemWith (demo_texts registers seed)
+    (λ problem. IsDemoText registers problem status text)
 
 -- the exit status for how a command ends
 abbrev pub ending_status : Ending → ℕ
@@ -74,8 +87,30 @@ IsAnswer (Schedule bench tech) contents status text =
     AreAll (Schedule bench tech) contents × IsScheduleAnswer contents status text
 IsAnswer (Synth bench tech pl) contents status text =
     AreAll (Synth bench tech pl) contents × IsSynthAnswer contents status text
+IsAnswer (Check bench tech pl report) contents status text =
+    AreAll (Check bench tech pl report) contents × (status ≡ 0) × IsCheckAnswer contents text
+IsAnswer (Demo registers seed) contents status text = AreAll (Demo registers seed) contents
+    × IsDemoAnswer (number_of registers.now) (number_of seed.now) status text
 
--- the first refusal of the command, on the contents of its files up to the one that is refused
+-- the last of these texts is refused, or all are accepted and join too many pairs
+abbrev pub IsTextRefusal : (all : Type 0) → List (List ℕ) → Failure → Type 0
+IsTextRefusal all contents Pairs = all × JoinTooMany contents
+IsTextRefusal all contents failure = IsFileRefusal contents failure
+
+-- the first refusal of a problem's texts, on those up to the one that is refused
+pub record IsFirstRefusal (contents : List (List ℕ)) (failure : Failure) : Type 0 where
+  pub texts : ℕ
+  pub refusal : IsTextRefusal (3 ≤ texts) (take texts contents) failure
+
+-- the first refusal of a demonstration
+abbrev pub IsDemoRefusal : (registers seed : ℕ) → Failure → Type 0
+IsDemoRefusal registers seed failure = IsFirstRefusal (demo_texts registers seed) failure
+
+-- the first refusal of the command, on the contents of its files up to the one that is refused.
+-- Where a report is checked it doesn't matter how many pairs are joined.
 abbrev pub IsRefusal : Command → List (List ℕ) → Failure → Type 0
-IsRefusal command contents Pairs = AreAll command contents × JoinTooMany contents
-IsRefusal command contents failure = IsFileRefusal contents failure
+IsRefusal (Check bench tech pl report) contents (Unshown why) = IsCheckRefusal contents why
+IsRefusal (Check bench tech pl report) contents failure = IsFileRefusal contents failure
+IsRefusal (Demo registers seed) contents failure = AreAll (Demo registers seed) contents
+    × IsDemoRefusal (number_of registers.now) (number_of seed.now) failure
+IsRefusal command contents failure = IsTextRefusal (AreAll command contents) contents failure

@@ -13,13 +13,19 @@ use Rattle.cts_engine.specs.declared.fault.SynthFault.TheVariants as synth
 use Rattle.cts_model.specs.declared.kind.Kind.{Kind}
 use Rattle.cts_model.specs.declared.kind.Kind.TheVariants.{And, Nand, Or, Nor, Not, Xor, Xnor, Buff}
 use Rattle.cts_program.specs.declared.failure.Failure.{Failure}
-use Rattle.cts_program.specs.declared.failure.Failure.TheVariants.{Usage, TooLong, Bench, Tech, Placement, Pairs, ReadFault, WriteFault, NoMemory}
+use Rattle.cts_program.specs.declared.failure.Failure.TheVariants.{Usage, TooLong, Bench, Tech, Placement, Pairs, Unshown, ReadFault, WriteFault, NoMemory}
 use Rattle.cts_program.specs.declared.command.WordsFault.{WordsFault}
 use Rattle.cts_program.specs.declared.command.WordsFault.TheVariants as words
 use Rattle.cts_base.specs.declared.number.NumberFault.{NumberFault}
 use Rattle.cts_base.specs.declared.number.NumberFault.TheVariants.{NotNumber, TooFine, TooLarge}
 use Rattle.cts_program.specs.declared.placement.PlacementFault.{PlacementFault}
 use Rattle.cts_program.specs.declared.placement.PlacementFault.TheVariants as places
+use Rattle.cert_check.specs.declared.verdict.Reason.{Reason}
+use Rattle.cert_check.specs.declared.verdict.Reason.TheVariants as reason
+use Rattle.report_text.specs.declared.fault.ReportFault.{ReportFault}
+use Rattle.report_text.specs.declared.fault.ReportFault.TheVariants as report
+use Rattle.cts_program.specs.declared.not_shown.NotShown.{NotShown}
+use Rattle.cts_program.specs.declared.not_shown.NotShown.TheVariants as why
 use Rattle.cts_program.specs.Files.{kind_word}
 
 -- the failure where the words aren't read
@@ -42,6 +48,11 @@ abbrev pub synth_failure_of : SynthFault → Failure
 synth_failure_of synth.TooManyPairs = Pairs
 synth_failure_of synth.NoMemory = NoMemory
 
+-- the failure where a report isn't read
+abbrev pub report_failure_of : ReportFault → Failure
+report_failure_of report.NoMemory = NoMemory
+report_failure_of fault = Unshown (why.Fault fault)
+
 -- the program's exit status
 abbrev pub status_of : Failure → ℕ
 status_of Usage = 2
@@ -50,6 +61,7 @@ status_of (Bench fault) = 3
 status_of (Tech fault) = 3
 status_of (Placement fault) = 3
 status_of Pairs = 3
+status_of (Unshown why) = 7
 status_of (ReadFault kind) = 4
 status_of WriteFault = 5
 status_of NoMemory = 6
@@ -140,6 +152,47 @@ placement_line (places.PlaceTwice line) = line_at (codes "refused pl 3 line ") l
 placement_line (places.NoPlace name) = ended (codes "refused pl 4 " ++ name)
 placement_line places.NoSource = ended (codes "refused pl 5")
 
+-- the line for a text that is no report, with the number of its fault
+abbrev pub fault_line : ReportFault → List ℕ
+fault_line (report.BadLine line) = line_at (codes "not shown report 1 line ") line []
+fault_line (report.UnknownRegister line) = line_at (codes "not shown report 2 line ") line []
+fault_line (report.Missing line) = line_at (codes "not shown report 3 line ") line []
+fault_line (report.Extra line) = line_at (codes "not shown report 4 line ") line []
+fault_line (report.TooLarge line) = line_at (codes "not shown report 5 line ") line []
+fault_line report.NoMemory = ended (codes "no memory")
+fault_line (report.UnknownSignal line) = line_at (codes "not shown report 7 line ") line []
+
+-- the line for a reason, with its number and the place of the cycle, the node, or the register's
+-- name
+abbrev pub reason_line : Reason → (subject : List ℕ) → List ℕ
+reason_line reason.BelowFloor subject = ended (codes "not shown 1 below floor")
+reason_line (reason.CycleBroken place) subject =
+    line_at (codes "not shown 2 cycle broken ") place []
+reason_line (reason.NotOfCircuit place) subject =
+    line_at (codes "not shown 3 not of circuit ") place []
+reason_line reason.CycleValue subject = ended (codes "not shown 4 cycle value")
+reason_line (reason.ScheduleMisses register) subject =
+    ended (codes "not shown 5 schedule misses " ++ subject)
+reason_line (reason.TreeShape node) subject = line_at (codes "not shown 6 tree shape ") node []
+reason_line (reason.TooShort node) subject = line_at (codes "not shown 7 too short ") node []
+reason_line (reason.WireSum node) subject = line_at (codes "not shown 8 wire sum ") node []
+reason_line (reason.SkewDiffers register) subject =
+    ended (codes "not shown 9 skew differs " ++ subject)
+reason_line (reason.Unshown node) subject = line_at (codes "not shown 10 unshown ") node []
+reason_line reason.Total subject = ended (codes "not shown 11 total")
+reason_line (reason.SlackDiffers register) subject =
+    ended (codes "not shown 12 slack differs " ++ subject)
+reason_line (reason.PathBroken place) subject =
+    line_at (codes "not shown 13 path broken ") place []
+reason_line (reason.NotLeast register) subject =
+    ended (codes "not shown 14 not least " ++ subject)
+
+-- the line for a report that isn't shown
+abbrev pub not_shown_line : NotShown → List ℕ
+not_shown_line why.TooLong = ended (codes "not shown report long")
+not_shown_line (why.Fault fault) = fault_line fault
+not_shown_line (why.Reason reason subject) = reason_line reason subject
+
 -- what the words of each command are
 abbrev pub usage : List ℕ
 usage = codes "usage: cts zero --bench F [--tech F] | cts period --bench F --tech F"
@@ -155,6 +208,7 @@ failure_line (Bench fault) = bench_line fault
 failure_line (Tech fault) = tech_line fault
 failure_line (Placement fault) = placement_line fault
 failure_line Pairs = ended (codes "refused pairs")
+failure_line (Unshown why) = not_shown_line why
 failure_line (ReadFault kind) = ended (codes "read fault " ++ kind_word kind)
 failure_line WriteFault = ended (codes "write fault")
 failure_line NoMemory = ended (codes "no memory")

@@ -2,27 +2,35 @@
 use Rattle.std.specs.Prelude.{◌≡◌, ◌≤◌, ℕ, List, [], ◌∷◌, ◌++◌, map, length, Option, Some, IfSome, option_to_list, codes}
 use Rattle.std.specs.Borrow.{Bor}
 use Rattle.cts_program.specs.declared.file_kind.FileKind.{FileKind}
-use Rattle.cts_program.specs.declared.file_kind.FileKind.TheVariants.{Bench, Tech, Placement}
+use Rattle.cts_program.specs.declared.file_kind.FileKind.TheVariants.{Bench, Tech, Placement, Report}
 use Rattle.cts_program.specs.declared.command.Command.{Command}
-use Rattle.cts_program.specs.declared.command.Command.TheVariants.{Zero, Period, Schedule, Synth}
+use Rattle.cts_program.specs.declared.command.Command.TheVariants.{Zero, Period, Schedule, Synth, Check, Demo}
 
 -- the word for a kind of file on the error output
 abbrev pub kind_word : FileKind → List ℕ
 kind_word Bench = codes "bench"
 kind_word Tech = codes "tech"
 kind_word Placement = codes "pl"
+kind_word Report = codes "report"
 
 -- the files that tell a circuit: a netlist and, if one is named, a delay table
 abbrev pub circuit_files : Bor (List ℕ) → Option (Bor (List ℕ)) → List (FileKind × List ℕ)
 circuit_files bench tech =
     (Bench, bench.now) ∷ map (λ file. (Tech, file.now)) (option_to_list tech)
 
+-- the files that tell a problem: with a placement behind them
+abbrev pub problem_files : (bench tech pl : Bor (List ℕ)) → List (FileKind × List ℕ)
+problem_files bench tech pl = circuit_files bench (Some tech) ++ (Placement, pl.now) ∷ []
+
 -- the files that a command reads, in this order, each with its name
 abbrev pub files_of : Command → List (FileKind × List ℕ)
 files_of (Zero bench tech) = circuit_files bench tech
 files_of (Period bench tech) = circuit_files bench (Some tech)
 files_of (Schedule bench tech) = circuit_files bench (Some tech)
-files_of (Synth bench tech pl) = circuit_files bench (Some tech) ++ (Placement, pl.now) ∷ []
+files_of (Synth bench tech pl) = problem_files bench tech pl
+files_of (Check bench tech pl report) =
+    problem_files bench tech pl ++ (Report, report.now) ∷ []
+files_of (Demo registers seed) = []
 
 -- no file has more bytes
 abbrev pub IsShortFile : List ℕ → Type 0

@@ -1,5 +1,7 @@
 pub mod Answers
+pub mod Checks
 pub mod Commands
+pub mod DemoTexts
 pub mod Failures
 pub mod Files
 pub mod Headline

@@ -5,7 +5,7 @@ use Rattle.std.specs.List.{list_all, list_any}
 use Rattle.cts_program.specs.declared.command.Command.{Command}
 use Rattle.cts_program.specs.declared.command.Command.TheVariants as command
 use Rattle.cts_program.specs.declared.command.table.Form.{Form}
-use Rattle.cts_program.specs.declared.command.table.Form.TheVariants.{Zero, Period, Schedule, Synth}
+use Rattle.cts_program.specs.declared.command.table.Form.TheVariants.{Zero, Period, Schedule, Synth, Check, Demo}
 use Rattle.cts_program.specs.declared.command.table.Choice.{Choice}
 use Rattle.cts_program.specs.Commands.{Word, Given, is_value}
 
@@ -15,6 +15,8 @@ form_of (command.Zero bench tech) = Zero
 form_of (command.Period bench tech) = Period
 form_of (command.Schedule bench tech) = Schedule
 form_of (command.Synth bench tech pl) = Synth
+form_of (command.Check bench tech pl report) = Check
+form_of (command.Demo registers seed) = Demo
 
 -- the name of a command
 abbrev pub form_name : Form → Word
@@ -22,6 +24,8 @@ form_name Zero = codes "zero"
 form_name Period = codes "period"
 form_name Schedule = codes "schedule"
 form_name Synth = codes "synth"
+form_name Check = codes "check"
+form_name Demo = codes "demo"
 
 -- the options that may stand behind the name, and whether each is required
 abbrev pub choices_of : Form → List (Word × Bool)
@@ -30,6 +34,10 @@ choices_of Period = (codes "--bench", true) ∷ (codes "--tech", true) ∷ []
 choices_of Schedule = (codes "--bench", true) ∷ (codes "--tech", true) ∷ []
 choices_of Synth =
     (codes "--bench", true) ∷ (codes "--tech", true) ∷ (codes "--pl", true) ∷ []
+choices_of Check =
+    (codes "--bench", true) ∷ (codes "--tech", true) ∷ (codes "--pl", true)
+    ∷ (codes "--report", true) ∷ []
+choices_of Demo = (codes "--registers", true) ∷ (codes "--seed", true) ∷ []
 
 -- a choice of the program's table
 abbrev pub row_of : Choice → Word × Bool
@@ -48,7 +56,7 @@ has_option option (word ∷ value ∷ others) = bytes_eq option word || has_opti
 -- the word is one of these options, with this value, and isn't among the others
 abbrev pub is_option : List (Word × Bool) → (word value : Word) → List Word → Bool
 is_option choices word value others =
-    is_known choices word && (is_value value && not (has_option word others))
+    is_known choices word && (is_value word value && not (has_option word others))
 
 -- the words are options with values, no option twice
 unfoldable pub are_options : List (Word × Bool) → List Word → Bool

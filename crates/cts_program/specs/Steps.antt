@@ -4,11 +4,14 @@ use Rattle.cts_io.specs.Device.{Rose}
 use Rattle.cts_model.specs.declared.signal.Signal.{Signal}
 use Rattle.cts_model.specs.declared.circuit.Circuit.{Circuit}
 use Rattle.cts_model.specs.declared.place.Places.{Places}
+use Rattle.cts_model.specs.declared.problem.Problem.{Problem}
+use Rattle.cts_model.specs.declared.report.Report.{Report}
 use Rattle.cts_model.specs.declared.tech.Tech.{Tech}
 use Rattle.cts_model.specs.AcceptedTables.{AcceptsTable}
 use Rattle.cts_model.specs.Netlists.{AcceptsNetlist}
 use Rattle.cts_model.specs.PairLists.{JoinsMoreThan}
 use Rattle.cts_model.specs.Placements.{AcceptsPlacement}
+use Rattle.cts_model.specs.ReportBounds.{Spells}
 use Rattle.cts_model.specs.UsedKinds.{AreUsedKinds}
 use Rattle.delay_tables.specs.declared.fault.TechFault.{TechFault}
 use Rattle.delay_tables.specs.declared.fault.TechFault.TheVariants as tech
@@ -21,7 +24,15 @@ use Rattle.cts_program.specs.declared.file_kind.FileKind.{FileKind}
 use Rattle.cts_program.specs.declared.file_kind.FileKind.TheVariants as kinds
 use Rattle.std.specs.Borrow.{Bor}
 use Rattle.cts_program.specs.declared.command.Command.{Command}
-use Rattle.cts_program.specs.Files.{IsShortFile, circuit_files, files_of, AreContents}
+use Rattle.cert_check.specs.declared.verdict.Reason.{Reason}
+use Rattle.cert_check.specs.declared.verdict.Reason.TheVariants as reason
+use Rattle.cert_check.specs.declared.verdict.Verdict.TheVariants.{Not}
+use Rattle.cert_check.specs.Verdicts.{IsVerdict}
+use Rattle.cts_program.specs.declared.not_shown.NotShown.TheVariants as why
+use Rattle.cts_program.specs.Answers.{IsFirstRefusal}
+use Rattle.cts_program.specs.Checks.{AreOfProblem, IsReportRefusal, subject_of}
+use Rattle.cts_program.specs.DemoTexts.{demo_texts}
+use Rattle.cts_program.specs.Files.{IsShortFile, circuit_files, problem_files, files_of, AreContents}
 use Rattle.cts_program.specs.Judged.{HasPlaceFault, IsNamedFault, AreAccepted, Tell}
 
 -- these bytes are what a file holds, where the device tells it
@@ -106,6 +117,66 @@ pub record TellsCircuit (holds : List ℕ → Option (List ℕ)) (files : List (
   pub all : length contents ≡ length files
   pub accepted : AreAccepted contents
   pub tell : Tell contents circuit tech
+
+-- the first files of the command are those of a problem
+abbrev pub ReadsProblem : Command → (bench tech pl : Bor (List ℕ)) → Type 0
+ReadsProblem command bench tech pl = (behind : List (FileKind × List ℕ))
+    × (files_of command ≡ problem_files bench tech pl ++ behind)
+
+-- what these files hold is accepted, and tells this problem
+pub record TellsProblem (holds : List ℕ → Option (List ℕ)) (files : List (FileKind × List ℕ))
+    (problem : Problem) : Type 0 where
+  pub contents : List (List ℕ)
+  pub are : AreContents holds files contents
+  pub all : length contents ≡ length files
+  pub are_of : AreOfProblem contents problem
+
+-- the file holds this report of the problem
+pub record ReadsReport (problem : Problem) (held : Option (List ℕ)) (report : Report)
+    : Type 0 where
+  pub bytes : List ℕ
+  pub told : IsToldAs held bytes
+  pub short : IsShortFile bytes
+  pub spelled : Spells problem.circuit problem.tech bytes report
+
+-- a report isn't read, or isn't shown
+abbrev pub FailsReport : Problem → Option (List ℕ) → ℕ → ℕ → Failure → Type 0
+FailsReport problem held before now (failures.Unshown why) =
+    (bytes : List ℕ) × IsToldAs held bytes × IsReportRefusal problem bytes why
+FailsReport problem held before now (failures.TooLong kind) = ⊥
+FailsReport problem held before now failure =
+    FailsToReadFile kinds.Report held before now failure
+
+-- the reason is about this register
+abbrev pub IsRegisterReason : Reason → (register : ℕ) → Type 0
+IsRegisterReason (reason.ScheduleMisses number) register = number ≡ register
+IsRegisterReason (reason.SkewDiffers number) register = number ≡ register
+IsRegisterReason (reason.SlackDiffers number) register = number ≡ register
+IsRegisterReason (reason.NotLeast number) register = number ≡ register
+IsRegisterReason reason register = ⊥
+
+-- a failure that tells a reason; memory may run out at any reason
+abbrev pub TellsReason : Circuit → Reason → Failure → Type 0
+TellsReason circuit reason (failures.Unshown (why.Reason told subject)) =
+    (told ≡ reason) × (subject ≡ subject_of circuit reason)
+TellsReason circuit reason failures.NoMemory = Unit {0}
+TellsReason circuit reason _ = ⊥
+
+-- a reason stands against the report, or memory ran out
+abbrev pub FailsToShow : Problem → Report → Failure → Type 0
+FailsToShow problem report (failures.Unshown (why.Reason reason subject)) =
+    IsVerdict problem report (Not reason) × (subject ≡ subject_of problem.circuit reason)
+FailsToShow problem report failures.NoMemory = Unit {0}
+FailsToShow problem report _ = ⊥
+
+-- one of a problem's texts is refused, or memory ran out
+abbrev pub FailsTexts : List (List ℕ) → Failure → Type 0
+FailsTexts contents failures.NoMemory = Unit {0}
+FailsTexts contents failure = IsFirstRefusal contents failure
+
+-- so it is with the texts of a demonstration
+abbrev pub FailsDemo : (registers seed : ℕ) → Failure → Type 0
+FailsDemo registers seed failure = FailsTexts (demo_texts registers seed) failure
 
 -- more pairs are joined than a circuit may have, or memory ran out
 abbrev pub FailsCircuit : Circuit → Failure → Type 0

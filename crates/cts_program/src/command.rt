@@ -37,6 +37,19 @@ pub enum Command<'a> {
         tech: &'a str,
         pl: &'a str,
     },
+    /// Whether a report, whoever made it, shows what it says of that problem.
+    Check {
+        bench: &'a str,
+        tech: &'a str,
+        pl: &'a str,
+        report: &'a str,
+    },
+    /// The clock tree of a demonstration with so many registers and with this seed, both given as
+    /// decimal digits.
+    Demo {
+        registers: &'a str,
+        seed: &'a str,
+    },
 }
 
 /// Why words aren't read as a command.

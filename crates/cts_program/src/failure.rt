@@ -3,18 +3,21 @@
 ghost use Rattle.std.specs.Prelude.{◌≡◌, ◌++◌, ◌∷◌, [], decimal};
 ghost use Rattle.std.specs.List.{flat_map};
 ghost use Rattle.cts_program.specs.declared.failure.Failure.TheVariants.{NoMemory};
-ghost use Rattle.cts_program.specs.Failures.{words_failure_of, bench_failure_of, tech_failure_of, synth_failure_of, status_of, limit_word, gate_word, number_word, shown_byte, shown, spaced, loop_line, ended, bench_line, tech_line, placement_line, failure_line, Reports, Writes};
+ghost use Rattle.cts_program.specs.Failures.{words_failure_of, bench_failure_of, tech_failure_of, synth_failure_of, report_failure_of, status_of, limit_word, gate_word, number_word, shown_byte, shown, spaced, loop_line, ended, bench_line, tech_line, placement_line, fault_line, reason_line, not_shown_line, failure_line, Reports, Writes};
 
 use crate::command::WordsFault;
 use crate::file_kind::FileKind;
+use crate::not_shown::NotShown;
 use crate::placement::PlacementFault;
 use bench_reader::{BenchFault, Which};
+use cert_check::Reason;
 use cts_base::{Name, NumberFault};
 use cts_engine::SynthFault;
 use cts_io::{Failed, Sink, write_whole};
 use cts_model::Kind;
 use delay_tables::TechFault;
 use itoa::Buffer;
+use report_text::ReportFault;
 
 /// Why a command isn't done.
 #[derive(Debug, Drop)]
@@ -31,6 +34,8 @@ pub enum Failure {
     Placement(PlacementFault),
     /// More than 1,048,576 pairs of registers are joined by paths.
     Pairs,
+    /// The report isn't shown.
+    Unshown(NotShown),
     /// A file couldn't be read.
     ReadFault(FileKind),
     /// The output couldn't be written.
@@ -55,6 +60,7 @@ impl Failure {
             Failure::ReadFault(_) => 4,
             Failure::WriteFault => 5,
             Failure::NoMemory => 6,
+            Failure::Unshown(_) => 7,
         }
     }
 
@@ -78,6 +84,7 @@ impl Failure {
             Failure::Tech(fault) => write_tech_refusal(fault, err),
             Failure::Placement(fault) => write_placement_refusal(fault, err),
             Failure::Pairs => write_line(&[b"refused pairs"], err),
+            Failure::Unshown(why) => write_not_shown(why, err),
             Failure::ReadFault(kind) => write_line(&[b"read fault ", kind.word()], err),
             Failure::WriteFault => write_line(&[b"write fault"], err),
             Failure::NoMemory => write_line(&[b"no memory"], err),
@@ -132,6 +139,57 @@ fn write_placement_refusal<E: Sink>(fault: &PlacementFault, err: &mut E) -> Resu
         PlacementFault::PlaceTwice(line) => write_at(b"refused pl 3 line ", *line, b"", err),
         PlacementFault::NoPlace(name) => write_line(&[b"refused pl 4 ", name.as_slice()], err),
         PlacementFault::NoSource => write_line(&[b"refused pl 5"], err),
+    }
+}
+
+fn write_not_shown<E: Sink>(why: &NotShown, err: &mut E) -> Result<(), Failed>
+    ensures { Writes (not_shown_line why.now)
+        (E.written err.old) (E.faults err.old) (E.written err.new) (E.faults err.new) result }
+{
+    match why {
+        NotShown::TooLong => write_line(&[b"not shown report long"], err),
+        NotShown::Fault(fault) => write_fault(*fault, err),
+        NotShown::Reason(reason, subject) => write_reason(*reason, subject.as_slice(), err),
+    }
+}
+
+fn write_fault<E: Sink>(fault: ReportFault, err: &mut E) -> Result<(), Failed>
+    ensures { Writes (fault_line fault)
+        (E.written err.old) (E.faults err.old) (E.written err.new) (E.faults err.new) result }
+{
+    match fault {
+        ReportFault::BadLine(line) => write_at(b"not shown report 1 line ", line, b"", err),
+        ReportFault::UnknownRegister(line) => write_at(b"not shown report 2 line ", line, b"", err),
+        ReportFault::Missing(line) => write_at(b"not shown report 3 line ", line, b"", err),
+        ReportFault::Extra(line) => write_at(b"not shown report 4 line ", line, b"", err),
+        ReportFault::TooLarge(line) => write_at(b"not shown report 5 line ", line, b"", err),
+        ReportFault::NoMemory => write_line(&[b"no memory"], err),
+        ReportFault::UnknownSignal(line) => write_at(b"not shown report 7 line ", line, b"", err),
+    }
+}
+
+// Writes a reason, with the name of the register that it is about, if it is about one.
+fn write_reason<E: Sink>(reason: Reason, subject: &[u8], err: &mut E) -> Result<(), Failed>
+    ensures { Writes (reason_line reason subject.now)
+        (E.written err.old) (E.faults err.old) (E.written err.new) (E.faults err.new) result }
+{
+    match reason {
+        Reason::BelowFloor => write_line(&[b"not shown 1 below floor"], err),
+        Reason::CycleBroken(place) => write_at(b"not shown 2 cycle broken ", place, b"", err),
+        Reason::NotOfCircuit(place) => write_at(b"not shown 3 not of circuit ", place, b"", err),
+        Reason::CycleValue => write_line(&[b"not shown 4 cycle value"], err),
+        Reason::ScheduleMisses(_) => {
+            write_line(&[b"not shown 5 schedule misses ", subject], err)
+        }
+        Reason::TreeShape(node) => write_at(b"not shown 6 tree shape ", node, b"", err),
+        Reason::TooShort(node) => write_at(b"not shown 7 too short ", node, b"", err),
+        Reason::WireSum(node) => write_at(b"not shown 8 wire sum ", node, b"", err),
+        Reason::SkewDiffers(_) => write_line(&[b"not shown 9 skew differs ", subject], err),
+        Reason::Unshown(node) => write_at(b"not shown 10 unshown ", node, b"", err),
+        Reason::Total => write_line(&[b"not shown 11 total"], err),
+        Reason::SlackDiffers(_) => write_line(&[b"not shown 12 slack differs ", subject], err),
+        Reason::PathBroken(place) => write_at(b"not shown 13 path broken ", place, b"", err),
+        Reason::NotLeast(_) => write_line(&[b"not shown 14 not least ", subject], err),
     }
 }
 
@@ -303,6 +361,17 @@ impl From<SynthFault> for Failure {
         match fault {
             SynthFault::TooManyPairs => Failure::Pairs,
             SynthFault::NoMemory => Failure::NoMemory,
+        }
+    }
+}
+
+impl From<ReportFault> for Failure {
+    ghost from_gives = { λ fault failure. failure ≡ report_failure_of fault };
+
+    fn from(fault: ReportFault) -> Failure {
+        match fault {
+            ReportFault::NoMemory => Failure::NoMemory,
+            _ => Failure::Unshown(NotShown::Fault(fault)),
         }
     }
 }

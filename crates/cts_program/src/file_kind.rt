@@ -10,6 +10,8 @@ pub enum FileKind {
     Tech,
     /// A placement.
     Placement,
+    /// A report.
+    Report,
 }
 
 impl FileKind {
@@ -21,6 +23,7 @@ impl FileKind {
             FileKind::Bench => b"bench",
             FileKind::Tech => b"tech",
             FileKind::Placement => b"pl",
+            FileKind::Report => b"report",
         }
     }
 }

@@ -5,16 +5,18 @@ ghost use Rattle.cts_model.specs.Circuits.{has_host};
 ghost use Rattle.cts_model.specs.Problems.{GivesUsedKinds};
 ghost use Rattle.cts_model.specs.Hosts.{HasNoHost};
 ghost use Rattle.cts_program.specs.Files.{IsShortFile};
-ghost use Rattle.cts_program.specs.Steps.{IsToldAs, FailsToReadFile, ReadsNetlist, FailsNetlist, ReadsTable, FailsTable, ReadsPlaces, FailsPlaces, IsReadFault};
+ghost use Rattle.cts_program.specs.Steps.{IsToldAs, FailsToReadFile, ReadsNetlist, FailsNetlist, ReadsTable, FailsTable, ReadsPlaces, FailsPlaces, ReadsReport, FailsReport, IsReadFault};
 
 use crate::failure::Failure;
 use crate::file_kind::FileKind;
+use crate::not_shown::NotShown;
 use crate::placement::placement_failure;
 use bench_reader::read_bench;
 use cts_io::{Inputs, ReadWhole, read_whole};
-use cts_model::{Circuit, Places, Tech, used_kinds};
+use cts_model::{Circuit, Places, Problem, Report, Tech, used_kinds};
 use delay_tables::read_tech;
 use place_reader::read_places;
+use report_text::read_report;
 use std::alloc::Global;
 
 // The most bytes that a file may have.
@@ -87,6 +89,29 @@ pub fn read_placement<I: Inputs>(
         Ok(places) => Ok(places),
         Err(fault) => Err(placement_failure(alloc, circuit, fault)),
     }
+}
+
+/// The report of a problem in a file. One that is too long or has a fault isn't shown.
+pub fn read_report_file<I: Inputs>(
+    alloc: Global,
+    inputs: &mut I,
+    file: &str,
+    problem: &Problem,
+) -> Result<Report, Failure>
+    ensures ok { IfOk result (ReadsReport problem.now (I.holds inputs.old file.now)) }
+    ensures cause { IfErr result (FailsReport problem.now (I.holds inputs.old file.now)
+        (I.faults inputs.old file.now) (I.faults inputs.new file.now)) }
+    ensures files { (other : List ℕ) → I.holds inputs.new other ≡ I.holds inputs.old other }
+    ensures counts { (other : List ℕ) → I.faults inputs.old other ≤ I.faults inputs.new other }
+    ensures stays { ¬ IsReadFault FileKind.Report result
+        → (other : List ℕ) → I.faults inputs.new other ≡ I.faults inputs.old other }
+{
+    let bytes = match read_file(alloc, inputs, FileKind::Report, file) {
+        Ok(bytes) => bytes,
+        Err(Failure::TooLong(_)) => return Err(Failure::Unshown(NotShown::TooLong)),
+        Err(failure) => return Err(failure),
+    };
+    Ok(read_report(alloc, &bytes, &problem.circuit, &problem.tech)?)
 }
 
 // The bytes of a file.

@@ -1,14 +1,18 @@
 //! The clock tree synthesizer `cts`.
 #![tactic(auto)]
 
+mod check;
 mod command;
+mod demo;
 mod ending;
 mod failure;
 mod file_kind;
 mod files;
+mod not_shown;
 mod period;
 mod period_text;
 mod placement;
+mod problem;
 mod run;
 mod schedule_text;
 mod scheduling;

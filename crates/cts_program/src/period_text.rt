@@ -22,20 +22,17 @@ pub fn period_text(
     requires { (tech : Tech) × IsPeriodOutcome circuit.now tech outcome.now }
     ensures { IfOk result (λ text. text.items ≡ text_of (period_lines circuit.now outcome.now)) }
 {
-    let mut out = Vec::new(alloc);
     match outcome {
         PeriodOutcome::Found {
             zero,
             period,
             shown,
         } => {
+            let mut out = Vec::new(alloc);
             push_found(&mut out, circuit, zero, *period, shown)?;
             Ok(out)
         }
-        PeriodOutcome::Never { cycle } => {
-            push_never(&mut out, circuit, cycle.as_slice())?;
-            Ok(out)
-        }
+        PeriodOutcome::Never { cycle } => never_text(alloc, circuit, cycle.as_slice()),
     }
 }
 
@@ -56,16 +53,17 @@ pub fn push_found(
     push_show(out, circuit, shown)
 }
 
-/// Appends the lines of constraints that forbid every period.
-pub fn push_never(
-    out: &mut Vec<u8>,
+/// The text for constraints that forbid every period.
+pub fn never_text(
+    alloc: Global,
     circuit: &Circuit,
     cycle: &[Constraint],
-) -> Result<(), NoMemory>
+) -> Result<Vec<u8>, NoMemory>
     requires { (tech : Tech) × IsForbidding circuit.now tech cycle.now }
-    ensures { OnOk result (out.new.items
-        ≡ out.old.items ++ text_of (never_lines circuit.now cycle.now)) }
+    ensures { IfOk result (λ text. text.items ≡ text_of (never_lines circuit.now cycle.now)) }
 {
-    push_line(out, b"never", &[])?;
-    push_cycle(out, circuit, cycle)
+    let mut out = Vec::new(alloc);
+    push_line(&mut out, b"never", &[])?;
+    push_cycle(&mut out, circuit, cycle)?;
+    Ok(out)
 }

@@ -57,8 +57,8 @@ fn no_place(alloc: Global, name: &[u8]) -> Failure
     }
 }
 
-// The same bytes once more.
-fn copied(alloc: Global, name: &[u8]) -> Result<Name, NoMemory>
+/// The same bytes once more.
+pub fn copied(alloc: Global, name: &[u8]) -> Result<Name, NoMemory>
     ensures { IfOk result (λ copy. copy ≡ name.now) }
 {
     let mut bytes = Vec::new(alloc);

@@ -1,16 +1,20 @@
-ghost use Rattle.std.specs.Prelude.{◌≡◌, ◌≢◌, ◌⊎◌, ◌↔◌, ◌<◌, ℕ, List, map, true, Some, string_bytes, IfOk, IfErr, IsErrOf};
+ghost use Rattle.std.specs.Prelude.{◌≡◌, ◌≢◌, ◌⊎◌, ◌↔◌, ◌<◌, ℕ, List, All, map, length, true, Some, string_bytes, IfOk, IfErr, IsErrOf, IsTrue};
+ghost use Rattle.std.specs.Borrow.{Bor};
 ghost use Rattle.cts_io.specs.Device.{Rose, appended};
 ghost use Rattle.cts_program.specs.declared.command.Command.{Command};
 ghost use Rattle.cts_program.specs.declared.failure.Failure.{Failure};
 ghost use Rattle.cts_program.specs.declared.file_kind.FileKind.{FileKind};
 ghost use Rattle.cts_program.specs.Answers.{is_ending, ending_status, IsAnswer, IsRefusal};
-ghost use Rattle.cts_program.specs.Commands.{IsCommand};
+ghost use Rattle.cts_program.specs.Commands.{is_value, options_of, IsCommand};
 ghost use Rattle.cts_program.specs.Failures.{status_of, failure_line, Reports};
-ghost use Rattle.cts_program.specs.Files.{files_of, AreTold};
+ghost use Rattle.cts_program.specs.Files.{problem_files, files_of, AreTold};
+ghost use Rattle.cts_program.specs.Judged.{AreAccepted};
 ghost use Rattle.cts_program.specs.Run.{IsNoCommand, TellsText, Refuses, CannotRead, Stops, Ends, EndsInPart, Fails, AreUnrisen};
 ghost use Rattle.cts_program.specs.Steps.{IsAnyReadFault};
 
+use crate::check::check;
 use crate::command::{Command, read_command};
+use crate::demo::demo;
 use crate::ending::{Answer, Ending};
 use crate::failure::Failure;
 use crate::period::period;
@@ -18,6 +22,7 @@ use crate::scheduling::schedule;
 use crate::synth::synth;
 use crate::zero::zero;
 use cts_io::{Inputs, Sink, write_whole};
+use report_text::laws;
 use std::alloc::Global;
 
 /// All that the program does: answers the words behind its name, and gives its exit status. A
@@ -44,15 +49,17 @@ pub fn run<I: Inputs, O: Sink, E: Sink>(
     ensures usage { (result ≡ 2) ↔ IsNoCommand (map string_bytes words.now) }
     ensures untouched { result ≡ 2 → inputs.new ≡ inputs.old }
 
-    // 3: exactly where what the files hold makes the command refuse, unless a file can't be read or
-    // memory runs out.
-    ensures refused { result ≡ 3 → (command : Command)
+    // 3: exactly where what the files hold makes the command refuse them, and 7 exactly where the
+    // report isn't shown, unless a file can't be read or memory runs out.
+    ensures refused { (result ≡ 3) ⊎ (result ≡ 7) → (command : Command)
         × IsCommand (map string_bytes words.now) command
-        × ((failure : Failure) × Refuses (I.holds inputs.old) command failure) }
+        × ((failure : Failure) × (status_of failure ≡ result)
+        × Refuses (I.holds inputs.old) command failure) }
     ensures refuses { (command : Command) (contents : List (List ℕ)) (failure : Failure)
         → IsCommand (map string_bytes words.now) command
         → AreTold (I.holds inputs.old) (files_of command) contents
-        → IsRefusal command contents failure → (result ≡ 3) ⊎ ((result ≡ 4) ⊎ (result ≡ 6)) }
+        → IsRefusal command contents failure
+        → (result ≡ status_of failure) ⊎ ((result ≡ 4) ⊎ (result ≡ 6)) }
 
     // 4: exactly where the count of a file rose. It is one that the command reads, and the files
     // before it are accepted.
@@ -77,6 +84,16 @@ pub fn run<I: Inputs, O: Sink, E: Sink>(
         → AreUnrisen (I.faults inputs.old) (I.faults inputs.new) (files_of command)
         → (Rose (O.faults out.old) (O.faults out.new) → ⊥) → (result ≡ status) ⊎ (result ≡ 6) }
 
+    // So does a report of accepted files: it is shown or it isn't, however many pairs are joined.
+    ensures judged { (bench tech pl report : Bor (List ℕ)) (contents : List (List ℕ))
+        → IsCommand (map string_bytes words.now) (Command.Check bench tech pl report)
+        → AreTold (I.holds inputs.old) (problem_files bench tech pl) contents
+        → length contents ≡ 3 → AreAccepted contents
+        → AreUnrisen (I.faults inputs.old) (I.faults inputs.new)
+        (files_of (Command.Check bench tech pl report))
+        → (Rose (O.faults out.old) (O.faults out.new) → ⊥)
+        → (result ≡ 0) ⊎ ((result ≡ 7) ⊎ (result ≡ 6)) }
+
     // Files hold what they held. The output keeps what it had.
     ensures files { (file : List ℕ) → I.holds inputs.new file ≡ I.holds inputs.old file }
     ensures kept { is_ending result ≢ true → result ≢ 5 → O.written out.new ≡ O.written out.old }
@@ -90,6 +107,8 @@ pub fn run<I: Inputs, O: Sink, E: Sink>(
         × Reports (failure_line failure) (E.written err.old) (E.faults err.old) (E.written err.new)
         (E.faults err.new) }
 {
+    laws::one_report();
+    laws::faults();
     match write_answer(alloc, words, inputs, out) {
         Ok(ending) => ending.status(),
         Err(failure) => {
@@ -127,12 +146,13 @@ fn write_answer<I: Inputs, O: Sink>(
     }
 }
 
-// What a command answers.
+// What a command answers whose options have such values.
 fn command_answer<I: Inputs>(
     alloc: Global,
     inputs: &mut I,
     command: Command,
 ) -> Result<Answer, Failure>
+    requires { All (λ one. IsTrue (is_value one.0 one.1)) (options_of command) }
     ensures ok { IfOk result (λ answer. TellsText (I.holds inputs.old) command.entry
         (ending_status answer.ending) answer.text.items) }
     ensures cause { IfErr result (Stops (I.holds inputs.old) (I.faults inputs.old)
@@ -146,5 +166,12 @@ fn command_answer<I: Inputs>(
         Command::Period { bench, tech } => period(alloc, inputs, bench, tech),
         Command::Schedule { bench, tech } => schedule(alloc, inputs, bench, tech),
         Command::Synth { bench, tech, pl } => synth(alloc, inputs, bench, tech, pl),
+        Command::Check {
+            bench,
+            tech,
+            pl,
+            report,
+        } => check(alloc, inputs, bench, tech, pl, report),
+        Command::Demo { registers, seed } => demo(alloc, registers, seed),
     }
 }

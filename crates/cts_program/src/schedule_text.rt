@@ -4,7 +4,7 @@ ghost use Rattle.cts_model.specs.PrintedLines.{line_of, text_of};
 ghost use Rattle.cts_engine.specs.ScheduleOutcomes.{HasSmallTimes, IsScheduleOutcome};
 ghost use Rattle.cts_program.specs.ScheduleTexts.{IsSmallSchedule, register_line_at, register_lines, schedule_lines};
 
-use crate::period_text::{push_found, push_never};
+use crate::period_text::{never_text, push_found};
 use cts_base::NoMemory;
 use cts_engine::ScheduleOutcome;
 use cts_model::{Circuit, Schedule, Slack};
@@ -22,7 +22,6 @@ pub fn schedule_text(
     ensures { IfOk result (λ text. text.items
         ≡ text_of (schedule_lines circuit.now outcome.now)) }
 {
-    let mut out = Vec::new(alloc);
     match outcome {
         ScheduleOutcome::Found {
             zero,
@@ -31,14 +30,12 @@ pub fn schedule_text(
             schedule,
             slacks,
         } => {
+            let mut out = Vec::new(alloc);
             push_found(&mut out, circuit, zero, *period, shown)?;
             push_registers(&mut out, circuit, schedule, slacks.as_slice())?;
             Ok(out)
         }
-        ScheduleOutcome::Never { cycle } => {
-            push_never(&mut out, circuit, cycle.as_slice())?;
-            Ok(out)
-        }
+        ScheduleOutcome::Never { cycle } => never_text(alloc, circuit, cycle.as_slice()),
     }
 }
 

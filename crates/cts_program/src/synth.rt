@@ -12,11 +12,10 @@ ghost use Rattle.cts_program.specs.SynthTexts.{IsSynthText, synth_lines, synth_s
 use crate::command::Command;
 use crate::ending::{Answer, Ending};
 use crate::failure::Failure;
-use crate::files::read_placement;
-use crate::period_text::push_never;
-use crate::told::read_circuit;
+use crate::period_text::never_text;
+use crate::problem::read_problem;
 use cts_base::NoMemory;
-use cts_engine::{Outcome, Told, synthesize};
+use cts_engine::{Outcome, synthesize};
 use cts_io::Inputs;
 use cts_model::{Circuit, Problem};
 use report_text::write_report;
@@ -39,13 +38,7 @@ pub fn synth<I: Inputs>(
     ensures stays { ¬ IsAnyReadFault result
         → (file : List ℕ) → I.faults inputs.new file ≡ I.faults inputs.old file }
 {
-    let Told { circuit, tech } = read_circuit(alloc, inputs, bench, Some(tech))?;
-    let places = read_placement(alloc, inputs, pl, &circuit, &tech)?;
-    let problem = Problem {
-        circuit,
-        tech,
-        places,
-    };
+    let problem = read_problem(alloc, inputs, bench, tech, pl)?;
     problem_answer(alloc, &problem)
 }
 
@@ -72,11 +65,7 @@ fn outcome_text(alloc: Global, problem: &Problem, outcome: &Outcome) -> Result<V
 {
     match outcome {
         Outcome::Done(report) => write_report(alloc, report, &problem.circuit),
-        Outcome::Never(cycle) => {
-            let mut out = Vec::new(alloc);
-            push_never(&mut out, &problem.circuit, cycle.as_slice())?;
-            Ok(out)
-        }
+        Outcome::Never(cycle) => never_text(alloc, &problem.circuit, cycle.as_slice()),
     }
 }
 

@@ -1,6 +1,10 @@
+mod check;
+mod demo;
+mod devices;
 mod faults;
 mod limits;
 mod period;
+mod problems;
 mod refusals;
 mod scheduling;
 mod synth;
@@ -111,8 +115,28 @@ fn held(alloc: Global, name: &str, text: &[u8]) -> Result<HeldFile, NoMemory> {
     })
 }
 
-// The netlist `F`, and the table `T` if there is one. The calls of these numbers fail, and a take
-// gives at most `piece` bytes.
+// Files with the names `F`, `T`, `P` and `R`, as many as there are texts.
+fn listed(alloc: Global, texts: &[&[u8]]) -> Result<Listed<HeldFile>, NoMemory> {
+    let mut files = Listed::new(alloc);
+    for (name, text) in ["F", "T", "P", "R"].iter().zip(texts) {
+        files.push(held(alloc, name, text)?)?;
+    }
+    Ok(files)
+}
+
+// These files, of which the calls of these numbers fail, and a take gives at most `piece` bytes.
+fn held_files(
+    alloc: Global,
+    texts: &[&[u8]],
+    fails: &[u64],
+    piece: usize,
+) -> Result<MemoryInputs, NoMemory> {
+    let files = listed(alloc, texts)?;
+    let fails = Vec::from_slice(alloc, fails)?;
+    Ok(MemoryInputs::new(files, fails, piece.max(1)))
+}
+
+// The netlist `F`, and the table `T` if there is one.
 fn files(
     alloc: Global,
     bench: &[u8],
@@ -120,13 +144,10 @@ fn files(
     fails: &[u64],
     piece: usize,
 ) -> Result<MemoryInputs, NoMemory> {
-    let mut files = Listed::new(alloc);
-    files.push(held(alloc, "F", bench)?)?;
-    if let Some(tech) = tech {
-        files.push(held(alloc, "T", tech)?)?;
+    match tech {
+        Some(tech) => held_files(alloc, &[bench, tech], fails, piece),
+        None => held_files(alloc, &[bench], fails, piece),
     }
-    let fails = Vec::from_slice(alloc, fails)?;
-    Ok(MemoryInputs::new(files, fails, piece.max(1)))
 }
 
 // A sink with room for so many bytes, whose writes of these numbers fail, in pieces of 4 bytes.
@@ -212,8 +233,8 @@ fn table(alloc: Global, registers: [u32; 4], more: &str) -> Result<String, Alloc
     )
 }
 
-// A table with one text in the place of another.
-fn changed(alloc: Global, table: &str, old: &str, new: &str) -> Result<String, Fail> {
-    let (front, behind) = table.split_once(old).ok_or("not in the table")?;
+// A text with another in the place of the first such part.
+fn changed(alloc: Global, text: &str, old: &str, new: &str) -> Result<String, Fail> {
+    let (front, behind) = text.split_once(old).ok_or("not in the text")?;
     Ok(format!(in alloc; "{front}{new}{behind}")?)
 }

@@ -47,6 +47,16 @@ fn command_of<'a>(form: Form, matches: &ArgMatches<'a>) -> Command<'a>
             tech: matches.get_str("--tech").unwrap(),
             pl: matches.get_str("--pl").unwrap(),
         },
+        Form::Check => Command::Check {
+            bench: matches.get_str("--bench").unwrap(),
+            tech: matches.get_str("--tech").unwrap(),
+            pl: matches.get_str("--pl").unwrap(),
+            report: matches.get_str("--report").unwrap(),
+        },
+        Form::Demo => Command::Demo {
+            registers: matches.get_str("--registers").unwrap(),
+            seed: matches.get_str("--seed").unwrap(),
+        },
     }
 }
 

@@ -1,10 +1,11 @@
 //! Whether words are plain: a command's name, and behind it options of that command with values.
 
 ghost use Rattle.std.specs.Prelude.{◌≡◌, ◌||◌, not, map, string_bytes, IfSome, IsNone};
+ghost use Rattle.std.specs.Char.{is_ascii_digit};
 ghost use Rattle.std.specs.Str.{bytes_eq};
 ghost use Rattle.std.specs.List.{list_all, list_any};
 ghost use Rattle.cts_program.specs.declared.command.Command.{Command};
-ghost use Rattle.cts_program.specs.Commands.{is_value, IsCommand};
+ghost use Rattle.cts_program.specs.Commands.{is_file_name, is_number_within, is_value, IsCommand};
 ghost use Rattle.cts_program.specs.PlainWords.{IsPlain, row_of, is_option, has_option, are_options};
 
 use crate::command::table::{Choice, Form};
@@ -46,7 +47,7 @@ fn is_option(choices: &[Choice], word: &str, value: &str, others: &[String]) -> 
     ensures { result ≡ is_option (map row_of choices.now) word.now value.now
         (map string_bytes others.now) }
 {
-    is_known(choices, word) && is_value(value) && !has_option(others, word)
+    is_known(choices, word) && is_value(word, value) && !has_option(others, word)
 }
 
 // Each required option stands among the words.
@@ -73,8 +74,41 @@ fn has_option(words: &[String], option: &str) -> bool
     }
 }
 
-fn is_value(word: &str) -> bool
-    ensures { result ≡ is_value word.now }
+// What the value of an option may be.
+fn is_value(option: &str, value: &str) -> bool
+    ensures { result ≡ is_value option.now value.now }
+{
+    if option == "--registers" {
+        is_number_within(2, 1000, value)
+    } else if option == "--seed" {
+        is_number_within(0, 999, value)
+    } else {
+        is_file_name(value)
+    }
+}
+
+// One to four digits, for a number within these bounds.
+fn is_number_within(least: u32, greatest: u32, word: &str) -> bool
+    ensures { result ≡ is_number_within least greatest word.now }
+{
+    if word.len() > 4 || !are_digits(word) {
+        return false;
+    }
+    match word.parse::<u32>() {
+        Ok(number) => least <= number && number <= greatest,
+        // The empty word.
+        Err(_) => false,
+    }
+}
+
+fn are_digits(word: &str) -> bool
+    ensures { result ≡ list_all is_ascii_digit word.now }
+{
+    word.bytes().all(|byte| byte.is_ascii_digit())
+}
+
+fn is_file_name(word: &str) -> bool
+    ensures { result ≡ is_file_name word.now }
 {
     match word.as_bytes() {
         [] | [b'-', ..] => false,

@@ -1,6 +1,7 @@
 //! The commands and their options, as they stand in the usage line.
 
-ghost use Rattle.std.specs.Prelude.{◌≡◌, map, IfSome, IsNone};
+ghost use Rattle.std.specs.Prelude.{◌≡◌, find, map, IfSome, IsNone};
+ghost use Rattle.std.specs.Str.{bytes_eq};
 ghost use Rattle.cts_program.specs.declared.command.table.Form.{Form};
 ghost use Rattle.cts_program.specs.PlainWords.{choices_of, form_name, row_of};
 
@@ -11,6 +12,8 @@ pub enum Form {
     Period,
     Schedule,
     Synth,
+    Check,
+    Demo,
 }
 
 /// An option that stands at most once behind a command's name.
@@ -20,7 +23,14 @@ pub struct Choice {
     pub is_required: bool,
 }
 
-const FORMS: [Form; 4] = [Form::Zero, Form::Period, Form::Schedule, Form::Synth];
+const FORMS: [Form; 6] = [
+    Form::Zero,
+    Form::Period,
+    Form::Schedule,
+    Form::Synth,
+    Form::Check,
+    Form::Demo,
+];
 
 // A netlist, and a delay table that may be left out.
 static TABLE_IF_WANTED: [Choice; 2] = [
@@ -62,6 +72,38 @@ static PLACEMENT: [Choice; 3] = [
     },
 ];
 
+// A netlist, a delay table, a placement and a report.
+static REPORT: [Choice; 4] = [
+    Choice {
+        option: "--bench",
+        is_required: true,
+    },
+    Choice {
+        option: "--tech",
+        is_required: true,
+    },
+    Choice {
+        option: "--pl",
+        is_required: true,
+    },
+    Choice {
+        option: "--report",
+        is_required: true,
+    },
+];
+
+// How many registers, and a seed.
+static DEMONSTRATION: [Choice; 2] = [
+    Choice {
+        option: "--registers",
+        is_required: true,
+    },
+    Choice {
+        option: "--seed",
+        is_required: true,
+    },
+];
+
 impl Form {
     pub fn name(self) -> &'static str
         ensures { result.now ≡ form_name self }
@@ -71,6 +113,8 @@ impl Form {
             Form::Period => "period",
             Form::Schedule => "schedule",
             Form::Synth => "synth",
+            Form::Check => "check",
+            Form::Demo => "demo",
         }
     }
 
@@ -81,6 +125,8 @@ impl Form {
             Form::Zero => &TABLE_IF_WANTED,
             Form::Period | Form::Schedule => &TABLE,
             Form::Synth => &PLACEMENT,
+            Form::Check => &REPORT,
+            Form::Demo => &DEMONSTRATION,
         }
     }
 
@@ -89,6 +135,14 @@ impl Form {
         ensures some { IfSome result (λ form. form_name form ≡ name.now) }
         ensures none { IsNone result → (form : Form) → form_name form ≡ name.now → ⊥ }
     {
-        FORMS.iter().copied().find(|form| form.name() == name)
+        first_named(&FORMS, name)
     }
+}
+
+// The first of these forms that has this name.
+fn first_named(forms: &[Form], name: &str) -> Option<Form>
+    ensures some { IfSome result (λ form. form_name form ≡ name.now) }
+    ensures first { result ≡ find (λ form. bytes_eq (form_name form) name.now) forms.now }
+{
+    forms.iter().copied().find(|form| form.name() == name)
 }

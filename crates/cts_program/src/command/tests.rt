@@ -84,8 +84,64 @@ fn reads_synth_with_all_options(rt: HostRuntime) -> Result<(), Fail> {
 }
 
 #[test]
+fn reads_check_with_all_options(rt: HostRuntime) -> Result<(), Fail> {
+    let rows: [&[&str]; 2] = [
+        &[
+            "check", "--bench", "F", "--tech", "G", "--pl", "H", "--report", "I",
+        ],
+        &[
+            "check", "--report", "I", "--tech", "G", "--bench", "F", "--pl", "H",
+        ],
+    ];
+    let (bench, tech, pl, report) = ("F", "G", "H", "I");
+    for row in rows {
+        let words = words(rt.alloc(), row)?;
+        let command = read_command(rt.alloc(), words.as_slice());
+        assert_eq!(rt;
+            command,
+            Ok(Command::Check {
+                bench,
+                tech,
+                pl,
+                report,
+            }),
+            "for {row:?}"
+        );
+    }
+    Ok(())
+}
+
+#[test]
+fn reads_demo_with_both_numbers(rt: HostRuntime) -> Result<(), Fail> {
+    let rows: [(&[&str], &str, &str); 3] = [
+        (&["demo", "--registers", "2", "--seed", "0"], "2", "0"),
+        (
+            &["demo", "--registers", "1000", "--seed", "999"],
+            "1000",
+            "999",
+        ),
+        // Leading zeros are allowed.
+        (
+            &["demo", "--seed", "000", "--registers", "0002"],
+            "0002",
+            "000",
+        ),
+    ];
+    for (row, registers, seed) in rows {
+        let words = words(rt.alloc(), row)?;
+        let command = read_command(rt.alloc(), words.as_slice());
+        assert_eq!(rt;
+            command,
+            Ok(Command::Demo { registers, seed }),
+            "for {row:?}"
+        );
+    }
+    Ok(())
+}
+
+#[test]
 fn refuses_words_that_mean_no_command(rt: HostRuntime) -> Result<(), Fail> {
-    let rows: [&[&str]; 21] = [
+    let rows: [&[&str]; 22] = [
         &[],
         &["zero"],
         &["zero", "--bench"],
@@ -107,6 +163,28 @@ fn refuses_words_that_mean_no_command(rt: HostRuntime) -> Result<(), Fail> {
         &["period", "--bench", "F"],
         &["schedule", "--bench", "F"],
         &["synth", "--tech", "F", "--pl", "F"],
+        &["check", "--bench", "F", "--tech", "F", "--pl", "F"],
+    ];
+    for row in rows {
+        let words = words(rt.alloc(), row)?;
+        let command = read_command(rt.alloc(), words.as_slice());
+        assert_eq!(rt; command, Err(WordsFault::Usage), "for {row:?}");
+    }
+    Ok(())
+}
+
+#[test]
+fn refuses_other_numbers_than_a_demonstration_has(rt: HostRuntime) -> Result<(), Fail> {
+    let rows: [&[&str]; 9] = [
+        &["demo", "--registers", "1", "--seed", "0"],
+        &["demo", "--registers", "1001", "--seed", "0"],
+        &["demo", "--registers", "2", "--seed", "1000"],
+        &["demo", "--registers", "00002", "--seed", "0"],
+        &["demo", "--registers", "+5", "--seed", "0"],
+        &["demo", "--registers", "F", "--seed", "0"],
+        &["demo", "--registers", "", "--seed", "0"],
+        &["demo", "--registers", "--seed", "0"],
+        &["demo", "--seed", "0", "--registers"],
     ];
     for row in rows {
         let words = words(rt.alloc(), row)?;

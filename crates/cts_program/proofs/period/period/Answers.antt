@@ -19,7 +19,7 @@ pub returns-clause-cause : goal.returns-clause-cause
 returns-clause-cause g c =
     if_err_from c.circuit_answer.result _ _ c.circuit_answer.ensures.cause
     (λ failure fails. circuit_stops _ _ (Period c.args.bench c.args.tech)
-    c.in_ok-told.ensures.ok failure fails)
+    c.in_ok-told.ensures.ok (λ pairs. pairs) failure fails)
 
 pub returns-clause-ok : goal.returns-clause-ok
 returns-clause-ok g c =

@@ -1,9 +1,18 @@
 use Rattle.std.proofs.Common.{map, string_bytes, ap, Err}
 use Rattle.std.proofs.lemmas.Result.{err_from_is_err_and}
+use Rattle.cts_program.proofs.PlainCommands.{values_due}
 use Rattle.cts_program.proofs.RunLemmas.{words_fail}
 use Rattle.cts_program.proofs.run.write_answer.Goals as goal
+
+pub command_answer-requires : goal.command_answer-requires
+command_answer-requires g c =
+    values_due (map string_bytes c.args.words.now) c.in_ok-command.command
+    c.in_ok-command.ensures.ok
 
 pub returns-in_err-command-clause-cause : goal.returns-in_err-command-clause-cause
 returns-in_err-command-clause-cause g c =
     let p = err_from_is_err_and c.from_residual.result c.from_residual.ensures.1 in
-    rw (p.1, p.2) (words_fail (map string_bytes c.args.words.now) (g.I.Inputs.holds c.args.inputs.now) _ _ _ _ _ _ c.in_err-command.field-0.0 (λ e. c.in_err-command.ensures.usage (ap (λ fault. Err fault) e)) (λ e. c.in_err-command.ensures.memory (ap (λ fault. Err fault) e)))
+    rw (p.1, p.2) (words_fail (map string_bytes c.args.words.now)
+    (g.I.Inputs.holds c.args.inputs.now) _ _ _ _ _ _ c.in_err-command.field-0.0
+    (λ e. c.in_err-command.ensures.usage (ap (λ fault. Err fault) e))
+    (λ e. c.in_err-command.ensures.memory (ap (λ fault. Err fault) e)))

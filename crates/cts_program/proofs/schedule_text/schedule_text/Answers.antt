@@ -4,7 +4,7 @@ pub push_found-requires : goal.push_found-requires
 push_found-requires c =
     (c.requires.outcome.0, (rw c.in-Found.is at c.requires.outcome.1).found.shown)
 
-pub push_never-requires : goal.push_never-requires
-push_never-requires c =
+pub never_text-requires : goal.never_text-requires
+never_text-requires c =
     rw c.as_slice-in-Never.ensures
     (c.requires.outcome.0, rw c.in-Never.is at c.requires.outcome.1)

@@ -4,6 +4,6 @@ pub write_report-requires-clause-bounds : goal.write_report-requires-clause-boun
 write_report-requires-clause-bounds c =
     (c.args.problem.now.tech, (rw c.in-Done.is at c.requires).bounds)
 
-pub push_never-requires : goal.push_never-requires
-push_never-requires c =
+pub never_text-requires : goal.never_text-requires
+never_text-requires c =
     rw c.as_slice.ensures (c.args.problem.now.tech, rw c.in-Never.is at c.requires)

@@ -1,66 +1,26 @@
-use Rattle.std.proofs.Common.{[], ◌∷◌, Err, refl, ap, ◌∙◌}
+use Rattle.std.proofs.Common.{[], refl}
 use Rattle.std.proofs.lemmas.Result.{err_from_is_err_and}
-use Rattle.cts_engine.proofs.ProblemLemmas.{problem_of}
 use Rattle.cts_program.specs.declared.command.Command.TheVariants.{Synth}
-use Rattle.cts_program.specs.declared.failure.Failure.{Failure}
-use Rattle.cts_program.specs.declared.file_kind.FileKind.TheVariants as kinds
-use Rattle.cts_program.proofs.PlacementLemmas.{placement_stops, placed_tells, synth_answer}
+use Rattle.cts_program.proofs.PlacementLemmas.{circuit_told, synth_answer}
 use Rattle.cts_program.proofs.ResultLemmas.{if_err_from}
-use Rattle.cts_program.proofs.ToldLemmas.{circuit_stops, told_acyclic}
+use Rattle.cts_program.proofs.ToldLemmas.{circuit_stops}
 use Rattle.cts_program.proofs.synth.synth.Goals as goal
 
-pub returns-in_err-circuit-clause-cause : goal.returns-in_err-circuit-clause-cause
-returns-in_err-circuit-clause-cause g c =
+pub returns-in_err-problem-clause-cause : goal.returns-in_err-problem-clause-cause
+returns-in_err-problem-clause-cause g c =
     let p = err_from_is_err_and c.from_residual.result c.from_residual.ensures.1 in
-    rw (p.1, p.2) (c.in_err-circuit.ensures.cause (Synth c.args.bench c.args.tech c.args.pl)
-    ((kinds.Placement, c.args.pl.now) ∷ [], refl))
-
-pub returns-in_err-places-clause-cause : goal.returns-in_err-places-clause-cause
-returns-in_err-places-clause-cause g c =
-    let p = err_from_is_err_and c.from_residual-in_err-places.result
-    c.from_residual-in_err-places.ensures.1 in
-    let held = c.in_ok-circuit.ensures.files c.args.pl.now in
-    let stood = c.in_ok-circuit.ensures.stays (λ (kind, e). cc e) c.args.pl.now in
-    rw (p.1, p.2) (placement_stops c.args.bench c.args.tech c.in_ok-circuit.ensures.ok c.args.pl
-    _ _ _
-    (rw (held, stood) at c.in_err-places.ensures.cause))
-
-pub returns-in_err-places-clause-stays : goal.returns-in_err-places-clause-stays
-returns-in_err-places-clause-stays g c none file =
-    let p = err_from_is_err_and c.from_residual-in_err-places.result
-    c.from_residual-in_err-places.ensures.1 in
-    c.in_err-places.ensures.stays (λ e. none (
-      kinds.Placement,
-      rw (p.1, p.2) (ap (λ (failure : Failure). Err failure) (cc e)),
-    )) file
-    ∙ c.in_ok-circuit.ensures.stays (λ (kind, e). cc e) file
-
-pub invariant_of-problem : goal.invariant_of-problem
-invariant_of-problem g c = record {
-  valid = problem_of _ _ c.in_ok-places.places c.in_ok-places.ensures.ok.bytes
-      (told_acyclic c.in_ok-circuit.ensures.ok) c.in_ok-circuit.ensures.kinds
-      c.in_ok-circuit.ensures.host c.in_ok-places.ensures.ok.accepts;
-}
+    rw (p.1, p.2) (c.in_err-problem.ensures.cause (Synth c.args.bench c.args.tech c.args.pl)
+    ([], refl))
 
 pub returns-clause-ok : goal.returns-clause-ok
 returns-clause-ok g c =
-    let placed = rw (c.in_ok-circuit.ensures.files c.args.pl.now) at c.in_ok-places.ensures.ok in
-    synth_answer c.args.bench c.args.tech c.args.pl _ c.in_ok-circuit.ensures.ok placed
-    c.problem_answer.result c.problem_answer.ensures.few c.problem_answer.ensures.text
+    synth_answer c.args.bench c.args.tech c.args.pl c.in_ok-problem.problem
+    c.in_ok-problem.ensures.ok c.problem_answer.result c.problem_answer.ensures.few
+    c.problem_answer.ensures.text
 
 pub returns-clause-cause : goal.returns-clause-cause
 returns-clause-cause g c =
-    let placed = rw (c.in_ok-circuit.ensures.files c.args.pl.now) at c.in_ok-places.ensures.ok in
     if_err_from c.problem_answer.result _ _ c.problem_answer.ensures.cause
     (λ failure fails. circuit_stops _ _ (Synth c.args.bench c.args.tech c.args.pl)
-    (placed_tells c.args.bench c.args.tech c.in_ok-circuit.ensures.ok c.args.pl
-    c.in_ok-places.places placed) failure fails)
-
-pub returns-clause-files : goal.returns-clause-files
-returns-clause-files g c file =
-    c.in_ok-places.ensures.files file ∙ c.in_ok-circuit.ensures.files file
-
-pub returns-clause-stays : goal.returns-clause-stays
-returns-clause-stays g c none file =
-    c.in_ok-places.ensures.stays (λ e. cc e) file
-    ∙ c.in_ok-circuit.ensures.stays (λ (kind, e). cc e) file
+    (circuit_told c.in_ok-problem.problem c.in_ok-problem.ensures.ok) (λ pairs. pairs) failure
+    fails)

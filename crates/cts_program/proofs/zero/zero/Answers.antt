@@ -21,7 +21,7 @@ returns-in_err-text-clause-cause g c =
     let p = err_from_is_err_and c.from_residual-in_err-text.result
     c.from_residual-in_err-text.ensures.1 in
     rw (p.1, p.2) (circuit_stops _ _ (Zero c.args.bench c.args.tech)
-    c.in_ok-told.ensures.ok _
+    c.in_ok-told.ensures.ok (λ pairs. pairs) _
     c.in_err-text.ensures.cause)
 
 pub returns-clause-ok : goal.returns-clause-ok

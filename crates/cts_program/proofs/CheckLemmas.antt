@@ -1,0 +1,190 @@
+-- What the command `check` is left with: a report that isn't read or isn't shown, behind the files of
+-- a problem, or one that is.
+use Rattle.std.proofs.Common.{◌≡◌, ◌≢◌, ℕ, List, [], ◌∷◌, Option, Some, Bor, refl, sym, subst}
+use Rattle.cts_model.specs.declared.problem.Problem.{Problem}
+use Rattle.cts_model.specs.declared.report.Report.{Report}
+use Rattle.cts_model.specs.PrintedLines.{text_of}
+use Rattle.cts_model.specs.Shown.{IsShown, IsLeast}
+use Rattle.cert_check.specs.declared.verdict.Reason.{Reason}
+use Rattle.cert_check.specs.declared.verdict.Verdict.TheVariants.{Not}
+use Rattle.cert_check.specs.Verdicts.{IsVerdict}
+use Rattle.report_text.specs.declared.fault.ReportFault.{ReportFault}
+use Rattle.report_text.specs.declared.fault.ReportFault.TheVariants as fault
+use Rattle.report_text.specs.ReportFaults.{HasFault}
+use Rattle.cts_program.specs.declared.command.Command.TheVariants.{Check}
+use Rattle.cts_program.specs.declared.failure.Failure.{Failure}
+use Rattle.cts_program.specs.declared.failure.Failure.TheVariants as failures
+use Rattle.cts_program.specs.declared.file_kind.FileKind.{FileKind}
+use Rattle.cts_program.specs.declared.file_kind.FileKind.TheVariants as kinds
+use Rattle.cts_program.specs.declared.not_shown.NotShown.TheVariants as why
+use Rattle.cts_program.specs.Checks.{shown_line, subject_of, AreOfProblem}
+use Rattle.cts_program.specs.Failures.{report_failure_of}
+use Rattle.cts_program.specs.Files.{IsShortFile, problem_files, files_of, AreContents}
+use Rattle.cts_program.specs.Run.{TellsText, Stops}
+use Rattle.cts_program.specs.Steps.{IsToldAs, TellsProblem, ReadsReport, FailsReport, TellsReason, FailsToShow}
+
+module _ (problem : Problem) (held : Option (List ℕ)) (before now : ℕ) where
+  module _ (bytes : List ℕ) (told : IsToldAs held bytes) (short : IsShortFile bytes) where
+    -- a text that is no report is the failure that it is told as
+    pub refused_report : (found : ReportFault) → (found ≢ fault.NoMemory
+        → HasFault problem.circuit problem.tech bytes (Some found))
+        → FailsReport problem held before now (report_failure_of found)
+    refused_report fault.NoMemory has = tt
+    refused_report (fault.BadLine line) has =
+        (bytes, told, (short, (λ e. cc e), has (λ e. cc e)))
+    refused_report (fault.UnknownRegister line) has =
+        (bytes, told, (short, (λ e. cc e), has (λ e. cc e)))
+    refused_report (fault.Missing line) has =
+        (bytes, told, (short, (λ e. cc e), has (λ e. cc e)))
+    refused_report (fault.Extra line) has =
+        (bytes, told, (short, (λ e. cc e), has (λ e. cc e)))
+    refused_report (fault.TooLarge line) has =
+        (bytes, told, (short, (λ e. cc e), has (λ e. cc e)))
+    refused_report (fault.UnknownSignal line) has =
+        (bytes, told, (short, (λ e. cc e), has (λ e. cc e)))
+
+-- what tells a reason against a report tells that it isn't shown
+pub told_reason : (problem : Problem) (report : Report) (reason : Reason)
+    → IsVerdict problem report (Not reason) → (failure : Failure)
+    → TellsReason problem.circuit reason failure → FailsToShow problem report failure
+told_reason problem report reason verdict failures.Usage tells = absurd tells
+told_reason problem report reason verdict (failures.TooLong kind) tells = absurd tells
+told_reason problem report reason verdict (failures.Bench other) tells = absurd tells
+told_reason problem report reason verdict (failures.Tech other) tells = absurd tells
+told_reason problem report reason verdict (failures.Placement other) tells = absurd tells
+told_reason problem report reason verdict failures.Pairs tells = absurd tells
+told_reason problem report reason verdict (failures.Unshown why.TooLong) tells = absurd tells
+told_reason problem report reason verdict (failures.Unshown (why.Fault other)) tells =
+    absurd tells
+told_reason problem report reason verdict (failures.Unshown (why.Reason told subject))
+    (same, subject_is) =
+    subst (λ r. IsVerdict problem report (Not r) × (subject ≡ subject_of problem.circuit r))
+    (sym same) (verdict, subject_is)
+told_reason problem report reason verdict (failures.ReadFault kind) tells = absurd tells
+told_reason problem report reason verdict failures.WriteFault tells = absurd tells
+told_reason problem report reason verdict failures.NoMemory tells = tt
+
+-- ---- behind the files of a problem
+
+-- the three files that tell it
+record TellsThree (holds : List ℕ → Option (List ℕ)) (files : List (FileKind × List ℕ))
+    (problem : Problem) : Type 0 where
+  netlist : List ℕ
+  table : List ℕ
+  places : List ℕ
+  are : AreContents holds files (netlist ∷ table ∷ places ∷ [])
+  are_of : AreOfProblem (netlist ∷ table ∷ places ∷ []) problem
+
+module _ {holds : List ℕ → Option (List ℕ)} (bench file pl report : Bor (List ℕ))
+    (problem : Problem) (told : TellsProblem holds (problem_files bench file pl) problem) where
+  -- no fewer and no more tell it
+  three_told : TellsThree holds (problem_files bench file pl) problem
+  three_told = at told.contents told.are told.are_of
+    where
+      at : (contents : List (List ℕ)) → AreContents holds (problem_files bench file pl) contents
+          → AreOfProblem contents problem → TellsThree holds (problem_files bench file pl) problem
+      at [] are are_of = absurd are_of.tell
+      at (netlist ∷ []) are are_of = absurd are_of.tell
+      at (netlist ∷ table ∷ []) are are_of = absurd are_of.tell
+      at (netlist ∷ table ∷ places ∷ []) are are_of =
+          record { netlist = netlist; table = table; places = places; are = are; are_of = are_of }
+      at (netlist ∷ table ∷ places ∷ more ∷ rest) are are_of = absurd are_of.tell
+
+  -- what the report's file holds, behind them
+  abbrev contents : (bytes : List ℕ) → List (List ℕ)
+  contents bytes = three_told.netlist ∷ three_told.table ∷ three_told.places ∷ bytes ∷ []
+
+  -- and that it is told
+  four_told : (bytes : List ℕ) → IsToldAs (holds report.now) bytes
+      → AreContents holds (files_of (Check bench file pl report)) (contents bytes)
+  four_told bytes told' =
+      let (netlist, (table, (places, none))) = three_told.are in
+      (netlist, (table, (places, (told', tt))))
+
+  module _ (reads reads_now : List ℕ → ℕ) where
+    -- a report that isn't read stops the command
+    pub report_stops : (failure : Failure)
+        → FailsReport problem (holds report.now) (reads report.now) (reads_now report.now) failure
+        → Stops holds reads reads_now (Check bench file pl report) failure
+    report_stops failures.Usage fails = fails
+    report_stops (failures.TooLong kind) fails = absurd fails
+    report_stops (failures.Bench other) fails = absurd fails
+    report_stops (failures.Tech other) fails = absurd fails
+    report_stops (failures.Placement other) fails = absurd fails
+    report_stops failures.Pairs fails = absurd fails
+    report_stops (failures.Unshown other) (bytes, told', refusal) = record {
+      contents = contents bytes;
+      are = four_told bytes told';
+      refusal = record { problem = problem; problem_is = three_told.are_of; refusal = refusal };
+    }
+    report_stops (failures.ReadFault kinds.Bench) (same, rose) = cc same
+    report_stops (failures.ReadFault kinds.Tech) (same, rose) = cc same
+    report_stops (failures.ReadFault kinds.Placement) (same, rose) = cc same
+    report_stops (failures.ReadFault kinds.Report) (same, rose) = record {
+      front = problem_files bench file pl;
+      file = report.now;
+      behind = [];
+      files = refl;
+      rose = rose;
+      contents = three_told.netlist ∷ three_told.table ∷ three_told.places ∷ [];
+      before = refl;
+      are = three_told.are;
+      accepted = three_told.are_of.accepted;
+    }
+    report_stops failures.WriteFault fails = fails
+    report_stops failures.NoMemory fails = tt
+
+  module _ (says : Report) (read : ReadsReport problem (holds report.now) says) where
+    -- so does one that isn't shown
+    pub unshown_stops : (reads reads_now : List ℕ → ℕ) (failure : Failure)
+        → FailsToShow problem says failure
+        → Stops holds reads reads_now (Check bench file pl report) failure
+    unshown_stops reads reads_now failures.Usage fails = fails
+    unshown_stops reads reads_now (failures.TooLong kind) fails = absurd fails
+    unshown_stops reads reads_now (failures.Bench other) fails = absurd fails
+    unshown_stops reads reads_now (failures.Tech other) fails = absurd fails
+    unshown_stops reads reads_now (failures.Placement other) fails = absurd fails
+    unshown_stops reads reads_now failures.Pairs fails = absurd fails
+    unshown_stops reads reads_now (failures.Unshown why.TooLong) fails = absurd fails
+    unshown_stops reads reads_now (failures.Unshown (why.Fault other)) fails = absurd fails
+    unshown_stops reads reads_now (failures.Unshown (why.Reason reason subject))
+        (verdict, subject_is) = report_stops reads reads_now
+        (failures.Unshown (why.Reason reason subject)) (
+          read.bytes,
+          read.told,
+          (
+            read.short,
+            record { report = says; spelled = read.spelled; verdict = verdict },
+            subject_is,
+          ),
+        )
+    unshown_stops reads reads_now (failures.ReadFault kind) fails = absurd fails
+    unshown_stops reads reads_now failures.WriteFault fails = fails
+    unshown_stops reads reads_now failures.NoMemory fails = tt
+
+    -- one that is shown is the answer
+    pub shown_answer : IsShown problem says → IsLeast problem says → (text : List ℕ)
+        → text ≡ text_of (shown_line ∷ [])
+        → TellsText holds (Check bench file pl report) 0 text
+    shown_answer shown least text spelled = record {
+      contents = contents read.bytes;
+      are = four_told read.bytes read.told;
+      answer = (
+        refl,
+        refl,
+        (
+          record {
+            problem = problem;
+            problem_is = three_told.are_of;
+            shown = record {
+              short = read.short;
+              report = says;
+              spelled = read.spelled;
+              shown = shown;
+              least = least;
+            };
+          },
+          spelled,
+        ),
+      );
+    }

@@ -1,0 +1,51 @@
+-- What the command `demo` prints: a summary of the clock tree of a demonstration, which `check`
+-- shows, or what forbids every period.
+use Rattle.std.specs.Prelude.{◌≡◌, ℕ, zero, suc, List, [], ◌∷◌, codes}
+use Rattle.cts_model.specs.declared.problem.Problem.{Problem}
+use Rattle.cts_model.specs.declared.report.Report.{Report}
+use Rattle.cts_model.specs.PrintedLines.{Words, text_of, count_line, period_line}
+use Rattle.cts_model.specs.ReportLines.{length_text}
+use Rattle.cert_check.specs.declared.verdict.Verdict.TheVariants.{Shown}
+use Rattle.cert_check.specs.Verdicts.{IsVerdict}
+use Rattle.demo_input.specs.declared.texts.Demo.{Demo}
+use Rattle.demo_input.specs.NetlistLines.{netlist_text}
+use Rattle.demo_input.specs.PlacementLines.{placement_text}
+use Rattle.demo_input.specs.TableLines.{table_text}
+use Rattle.cts_program.specs.Checks.{shown_line}
+use Rattle.cts_program.specs.Files.{IsShortFile}
+use Rattle.cts_program.specs.Headline.{IsSynthesisText}
+use Rattle.cts_program.specs.SynthTexts.{IsNeverText}
+
+-- the texts of a demonstration, in place of what files hold: a netlist, a delay table, a placement
+abbrev pub demo_texts : (registers seed : ℕ) → List (List ℕ)
+demo_texts registers seed =
+    netlist_text registers seed ∷ table_text ∷ placement_text registers seed ∷ []
+
+-- the three texts that were made
+abbrev pub texts_of : Demo → List (List ℕ)
+texts_of demo = demo.bench ∷ demo.tech ∷ demo.pl ∷ []
+
+-- none is too long for a file
+abbrev pub AreShort : Demo → Type 0
+AreShort demo = IsShortFile demo.bench × IsShortFile demo.tech × IsShortFile demo.pl
+
+-- how many registers there are, the period in ticks, the wire in length units, and that the report
+-- is shown
+abbrev pub summary_lines : (registers : ℕ) → Report → List Words
+summary_lines registers report =
+    count_line (codes "registers") registers ∷ period_line report.period
+    ∷ (codes "wire" ∷ length_text report report.total ∷ []) ∷ shown_line ∷ []
+
+-- the bytes are the summary of a clock tree that `synth` could print for the problem, and `check`
+-- shows its report
+pub record IsSummaryText (registers : ℕ) (problem : Problem) (text : List ℕ) : Type 0 where
+  pub printed : List ℕ
+  pub tree : IsSynthesisText problem printed
+  pub checked : IsVerdict problem tree.report Shown
+  pub spelled : text ≡ text_of (summary_lines registers tree.report)
+
+-- the bytes are a text for the problem of a demonstration, with its status
+abbrev pub IsDemoText : (registers : ℕ) → Problem → (status : ℕ) → List ℕ → Type 0
+IsDemoText registers problem zero text = IsSummaryText registers problem text
+IsDemoText registers problem (suc zero) text = IsNeverText problem.circuit problem.tech text
+IsDemoText registers problem (suc (suc more)) text = ⊥
