@@ -66,6 +66,45 @@ nodes 5
 4 6 0 11 3 5 10 6 10 6 0
 wire 23'
 expect 'the tree of s27' 0 "$tree" '' "$top/cts" synth --bench "$s27" --tech "$table" --pl "$places"
+
+# A report, whoever made it, is shown or isn't, and the line says why.
+printf '%s\n' "$tree" >"$work/s27.cts"
+check() { "$top/cts" check --bench "$s27" --tech "$table" --pl "$places" --report "$1"; }
+edited() {
+    sed "$1" "$work/s27.cts" >"$work/edited.cts"
+    check "$work/edited.cts"
+}
+expect 'a report' 0 'shown' '' check "$work/s27.cts"
+expect 'a report of version 1' 0 'shown' '' edited 's/^cts 2/cts 1/; /^path/d; /^lead/d'
+expect 'another path' 0 'shown' '' edited 's/G16/G15/'
+expect 'the options of check in another order' 0 'shown' '' \
+    "$top/cts" check --report "$work/s27.cts" --pl "$places" --tech "$table" --bench "$s27"
+expect 'a pair that shows nothing' 7 '' 'not shown 10 unshown 3' edited 's/pair G5 G6/pair G5 G7/'
+expect 'a slack that differs' 7 '' 'not shown 12 slack differs G6' edited 's/^G6 0 0 3/G6 0 0 4/'
+expect 'a line cut away' 7 '' 'not shown report 1 line 2' edited 2d
+expect 'carriage returns' 7 '' 'not shown report 1 line 1' edited 's/$/\r/'
+printf %s "$tree" >"$work/cut.cts"
+expect 'a last line without its end' 7 '' 'not shown report 1 line 23' check "$work/cut.cts"
+expect 'no report' 7 '' 'not shown report 3 line 1' check /dev/null
+expect 'a missing report' 4 '' 'read fault report' check "$work/missing.cts"
+expect 'a folder as the report' 4 '' 'read fault report' check "$work"
+expect 'a missing placement comes first' 4 '' 'read fault pl' \
+    "$top/cts" check --bench "$s27" --tech "$table" --pl "$work/missing.pl" --report "$work/missing.cts"
+expect 'a report as the placement' 3 '' 'refused pl 1 line 1' \
+    "$top/cts" check --bench "$s27" --tech "$table" --pl "$work/s27.cts" --report "$places"
+full_check() { check "$work/s27.cts" >/dev/full; }
+expect 'a check on a full output' 5 '' 'write fault' full_check
+
+# A demonstration is made from two numbers. Two runs print the same.
+demo() { "$top/cts" demo --registers "$1" --seed "$2"; }
+ends() { demo "$@" | sed -n '1p; $p'; }
+expect 'a demonstration' 0 $'registers 2\nperiod 25/2\nwire 2163/2\nshown' '' demo 2 0
+expect 'leading zeros' 0 $'registers 2\nperiod 25/2\nwire 2163/2\nshown' '' demo 0002 000
+expect 'a large demonstration' 0 $'registers 500\nshown' '' ends 500 1
+expect 'the same once more' 0 "$(demo 500 1)" '' demo 500 1
+full_demo() { demo 2 0 >/dev/full; }
+expect 'a demonstration on a full output' 5 '' 'write fault' full_demo
+
 expect 'a missing placement' 4 '' 'read fault pl' "$top/cts" synth --bench "$s27" --tech "$table" --pl "$work/missing.pl"
 expect 'a ring of gates' 3 '' 'refused bench 7 g h' "$top/cts" zero --bench "$top/examples/ring_of_gates.bench"
 
@@ -213,6 +252,13 @@ expect 'a schedule without a netlist' 2 '' "$usage" "$top/cts" schedule --tech F
 expect 'a period without a table' 2 '' "$usage" "$top/cts" period --bench F
 expect 'one word for both' 2 '' "$usage" "$top/cts" zero --bench=F
 expect 'an end of options' 2 '' "$usage" "$top/cts" zero --bench F --
+expect 'a check without a report' 2 '' "$usage" "$top/cts" check --bench F --tech F --pl F
+expect 'too few registers' 2 '' "$usage" "$top/cts" demo --registers 1 --seed 0
+expect 'too many registers' 2 '' "$usage" "$top/cts" demo --registers 1001 --seed 0
+expect 'too large a seed' 2 '' "$usage" "$top/cts" demo --registers 2 --seed 1000
+expect 'five digits' 2 '' "$usage" "$top/cts" demo --registers 00002 --seed 0
+expect 'a sign' 2 '' "$usage" "$top/cts" demo --registers +2 --seed 0
+expect 'a demonstration without a seed' 2 '' "$usage" "$top/cts" demo --registers 2
 expect 'a word behind a whole command' 2 '' "$usage" "$top/cts" synth --bench F --tech F --pl F F
 expect 'a hundred words' 2 '' "$usage" "$top/cts" zero --bench "$s27" $(seq 100)
 expect 'an empty word' 2 '' "$usage" "$top/cts" zero --bench "$s27" ''
@@ -226,6 +272,25 @@ named() { (exec -a zero "$top/crates/cts_program/out/cts_program" "$@"); }
 expect 'a command as the name' 2 '' "$usage" named --bench "$s27"
 expect 'another name' 0 $'zero 10\nsetup G6 G5 10' '' named zero --bench "$s27"
 
+# A report of one byte too many, and reports of many registers.
+expect 'a report that is too long' 7 '' 'not shown report long' check "$work/longer.bench"
+expect 'a report as large as a file may be' 7 '' 'not shown report 1 line 1' check "$work/largest.bench"
+long_row() {
+    "$top/cts" synth --bench "$work/row.bench" --tech "$work/row.toml" --pl "$work/row.pl" >"$work/row.cts"
+    "$top/cts" check --bench "$work/row.bench" --tech "$work/row.toml" --pl "$work/row.pl" --report "$work/row.cts"
+}
+expect 'the report of a row of registers' 0 'shown' '' long_row
+
+# However many pairs are joined, a report is judged: here one of as many registers that nothing joins.
+{ echo 'INPUT(x)'; seq -f 'r%.0f = DFF(x)' 0 1024; } >"$work/apart.bench"
+registers 0 0 0 0 '[gate.OR]\nleast = 1\ngreatest = 1\n' >"$work/joined.toml"
+apart() {
+    local files=(--tech "$work/joined.toml" --pl "$work/row.pl")
+    "$top/cts" synth --bench "$work/apart.bench" "${files[@]}" >"$work/apart.cts"
+    "$top/cts" check --bench "$work/more_pairs.bench" "${files[@]}" --report "$work/apart.cts"
+}
+expect 'a report where more pairs are joined' 7 '' 'not shown 5 schedule misses r0' apart
+
 # Want of memory: the largest file doesn't fit.
 scarce() { (ulimit -v 16384 && "$top/crates/cts_program/out/cts_program" "$@"); }
 expect 'too little memory' 6 '' 'no memory' scarce zero --bench "$work/largest.bench"
@@ -236,6 +301,11 @@ tar -C "$top" --exclude=out --exclude=.git -cf - . | tar -C "$work/copy" -xf -
 unproved='cts: no proved program is newer than the sources, so this run is unproved; ./cts build proves it'
 copied() { (cd "$work" && copy/cts zero --bench here.bench "$@"); }
 expect 'an unproved run' 0 $'zero 5\nsetup a a 5' "$unproved" copied
+unproved_check() {
+    (cd "$work" && copy/cts check --bench copy/examples/s27.bench --tech copy/examples/s27.toml \
+        --pl copy/examples/s27.pl --report s27.cts)
+}
+expect 'an unproved check' 0 'shown' "$unproved" unproved_check
 expect 'an unproved refusal' 4 '' "$unproved"$'\nread fault tech' copied --tech missing.toml
 
 echo "program: $passed passed, $failed failed"

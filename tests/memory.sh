@@ -1,0 +1,81 @@
+#!/usr/bin/env bash
+# Refuses each request for memory in turn: the program then ends with status 6 and nothing on its
+# output, or with its own answer. No part of the gate: it needs a C compiler and a dynamic linker that
+# knows LD_PRELOAD. usage: tests/memory.sh [PROGRAM]
+set -u
+top=$(cd "$(dirname "${BASH_SOURCE[0]}")/.." && pwd) || exit 1
+work=$(mktemp -d) || exit 1
+trap 'rm -rf "$work"' EXIT
+passed=0
+failed=0
+
+program=${1-}
+if [ -z "$program" ]; then
+    "$top/cts" build || exit 1
+    program=$top/crates/cts_program/out/cts_program
+fi
+
+# Refuses request number REFUSED, and tells so on descriptor 3. The program has one thread.
+cat >"$work/refuse.c" <<'END'
+#include <stdlib.h>
+#include <unistd.h>
+
+extern void *__libc_malloc(size_t);
+extern void *__libc_realloc(void *, size_t);
+
+static long requests;
+
+static int refused(void) {
+    const char *number = getenv("REFUSED");
+    return number && ++requests == atol(number) && write(3, "refused\n", 8) == 8;
+}
+
+void *malloc(size_t size) { return refused() ? NULL : __libc_malloc(size); }
+
+void *realloc(void *at, size_t size) { return refused() ? NULL : __libc_realloc(at, size); }
+END
+cc -shared -fPIC -O1 -fno-builtin -o "$work/refuse.so" "$work/refuse.c" || exit 1
+
+# judge STATUS COMMAND..: what a run with a request refused left, beside the command's own answer.
+judge() {
+    local status=$1
+    shift
+    if [ "$status" = 6 ] && [ ! -s "$work/out" ] && [ "$(cat "$work/err")" = 'no memory' ]; then
+        passed=$((passed + 1))
+    elif [ "$status" = "$own" ] && cmp -s "$work/out" "$work/own_out" && cmp -s "$work/err" "$work/own_err"; then
+        passed=$((passed + 1))
+    else
+        failed=$((failed + 1))
+        echo "memory: request $number of $*: status $status, out: $(head -c 200 "$work/out"), err: $(head -c 200 "$work/err")"
+    fi
+}
+
+# refuse COMMAND..: a run for each request, up to the first with no such request.
+refuse() {
+    local own number status
+    "$program" "$@" >"$work/own_out" 2>"$work/own_err"
+    own=$?
+    for ((number = 1; ; number++)); do
+        LD_PRELOAD=$work/refuse.so REFUSED=$number "$program" "$@" \
+            >"$work/out" 2>"$work/err" 3>"$work/refused"
+        status=$?
+        [ -s "$work/refused" ] || break
+        judge "$status" "$@"
+    done
+    echo "memory: $1: $((number - 1)) requests, own status $own"
+}
+
+s27=(--bench "$top/examples/s27.bench" --tech "$top/examples/s27.toml" --pl "$top/examples/s27.pl")
+refuse synth "${s27[@]}"
+"$program" synth "${s27[@]}" >"$work/report"
+refuse check "${s27[@]}" --report "$work/report"
+sed 's/^wire .*/wire 1/' "$work/report" >"$work/wrong"
+refuse check "${s27[@]}" --report "$work/wrong"
+sed 's/^G5 2 0 2$/G5 1 0 2/' "$work/report" >"$work/misses"
+refuse check "${s27[@]}" --report "$work/misses"
+refuse demo --registers 2 --seed 0
+printf 'A = DFF(A)\n' >"$work/itself.bench"
+refuse zero --bench "$work/itself.bench"
+
+echo "memory: $passed passed, $failed failed"
+[ "$failed" -eq 0 ]
