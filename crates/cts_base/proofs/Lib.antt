@@ -18,4 +18,3 @@ pub mod LineSplits
 pub mod ListPlaces
 pub mod ListTests
 pub mod OneFraction
-pub mod PartLengths

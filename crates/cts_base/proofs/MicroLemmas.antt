@@ -83,11 +83,11 @@ abbrev pub places_of : (minus : Bool) (whole exponent : ℕ) → ℕ
 places_of minus whole exponent = cond minus (whole + 6 - exponent) (whole + 6 + exponent)
 
 -- a large exponent may be cut
-pub kept_cut : (minus : Bool) (whole fraction exponent : ℕ) → whole + fraction ≤ 16777216 → min (places_of minus whole (min exponent 1099511627776)) (whole + fraction) ≡ min (places_of minus whole exponent) (whole + fraction)
+pub kept_cut : (minus : Bool) (whole fraction exponent : ℕ) → whole + fraction < 2 ^ 64 → min (places_of minus whole (min exponent 1267650600228229401496703205376)) (whole + fraction) ≡ min (places_of minus whole exponent) (whole + fraction)
 kept_cut true whole fraction exponent short = omega arith
 kept_cut false whole fraction exponent short = omega arith
 
-pub raise_cut : (minus : Bool) (whole fraction exponent : ℕ) → whole + fraction ≤ 16777216 → min (places_of minus whole (min exponent 1099511627776) - min (places_of minus whole exponent) (whole + fraction)) 16 ≡ min (places_of minus whole exponent - min (places_of minus whole exponent) (whole + fraction)) 16
+pub raise_cut : (minus : Bool) (whole fraction exponent : ℕ) → whole + fraction < 2 ^ 64 → min (places_of minus whole (min exponent 1267650600228229401496703205376) - min (places_of minus whole exponent) (whole + fraction)) 16 ≡ min (places_of minus whole exponent - min (places_of minus whole exponent) (whole + fraction)) 16
 raise_cut true whole fraction exponent short = omega arith
 raise_cut false whole fraction exponent short = omega arith
 

@@ -27,7 +27,6 @@ pub enum NumberFault {
 
 /// Reads a decimal number as millionths, exactly, however large its exponent. It takes no memory.
 pub fn read_micro(text: &[u8]) -> Result<i64, NumberFault>
-    requires { length text.now ≤ 16777216 }
     ensures ok { IfOk result (IsRead text.now) }
     ensures not_number { IsErrOf result NumberFault.NotNumber ↔ (¬ (IsDecimal text.now)) }
     ensures too_fine { IsErrOf result NumberFault.TooFine
@@ -39,7 +38,6 @@ pub fn read_micro(text: &[u8]) -> Result<i64, NumberFault>
 }
 
 fn judged(text: &[u8]) -> Result<i64, NumberFault>
-    requires { length text.now ≤ 16777216 }
     ensures { MatchResult result (IsRead text.now) (Refuses text.now) }
 {
     if !is_decimal(text) {

@@ -16,10 +16,16 @@ mod WithoutLemmas
 mod EmbeddingLemmas
 pub mod SkewLemmas
 pub mod TreeLemmas
+mod ReachLemmas
+pub mod TableLemmas
 pub mod RoundLemmas
 mod ShownLemmas
 mod ShownTimings
 pub mod ShownTrees
+mod DownLemmas
+mod SaidTimings
+mod SaidTrees
+mod SaidLemmas
 pub mod LeadLemmas
 pub mod ParentLemmas
 pub mod GridLemmas

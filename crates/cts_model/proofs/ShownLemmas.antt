@@ -15,7 +15,7 @@ use Rattle.cts_model.proofs.ShownTrees.{shown_embedding, shown_offsets, shown_to
 use Rattle.cts_model.proofs.SkewLemmas.{least_for_schedule, length-sinks_of, offsets_are_skews, sink_at}
 
 module _ (problem : Problem) (report : Report) (size : IsOfSize problem.circuit report)
-    (bounds : IsWithinBounds problem.tech report) (shown : IsShown problem report) where
+    (bounds : IsWithinBounds problem.tech report) where
   abbrev sinks : List Sink
   sinks = sinks_in problem report
 
@@ -24,17 +24,19 @@ module _ (problem : Problem) (report : Report) (size : IsOfSize problem.circuit 
   same = problem.valid.registers ∙ sym size.arrivals
 
   -- and a sink for each register
-  count : length sinks ≡ length report.schedule.at
-  count = length-sinks_of report.period problem.tech problem.places.registers report.schedule.at
-      same
+  pub sinks_count : length sinks ≡ length report.schedule.at
+  sinks_count = length-sinks_of report.period problem.tech problem.places.registers
+      report.schedule.at same
 
-  all : length sinks ≡ length report.topology.merges + 1
-  all = count ∙ size.arrivals ∙ sym size.merges
+  -- one more than merges
+  pub merges_count : length sinks ≡ length report.topology.merges + 1
+  merges_count = sinks_count ∙ size.arrivals ∙ sym size.merges
 
-  edges : length report.tree.length + 1 ≡ 2 * length sinks
-  edges = omega (arith, size.lengths, size.arrivals, count)
+  -- and an edge for each node but the source
+  pub edges_count : length report.tree.length + 1 ≡ 2 * length sinks
+  edges_count = omega (arith, size.lengths, size.arrivals, sinks_count)
 
-  -- whose reach is its offset
+  -- a sink's reach is its offset
   level : (register : ℕ)
       → (register < length report.schedule.at) ⊎ (length report.schedule.at ≤ register)
       → IfSome (slice_get sinks register)
@@ -45,25 +47,25 @@ module _ (problem : Problem) (report : Report) (size : IsOfSize problem.circuit 
       register same within)) (bounds.tree.sinks register within)
   level register (inr past) = subst (λ found. IfSome found
       (λ sink. number_at report.tree.reach register ≡ sink.offset))
-      (sym (slice_get_past sinks register (omega (arith, count)))) tt
+      (sym (slice_get_past sinks register (omega (arith, sinks_count)))) tt
 
-  each_level : (register : ℕ) → IfSome (slice_get sinks register)
+  pub sinks_level : (register : ℕ) → IfSome (slice_get sinks register)
       (λ sink. number_at report.tree.reach register ≡ sink.offset)
-  each_level register = level register (cases_lt register (length report.schedule.at))
+  sinks_level register = level register (cases_lt register (length report.schedule.at))
 
   -- so all that it says is the least is so
-  pub shown_is_least : IsLeast problem report
-  shown_is_least = record {
+  pub shown_is_least : IsShown problem report → IsLeast problem report
+  shown_is_least shown = record {
     period = shown_period problem.circuit problem.tech report shown.timing;
     meets = shown_meets problem.circuit problem.tech report shown.timing;
-    topology = shown_topology report all edges shown.tree;
-    embedding = shown_embedding report all edges shown.tree;
+    topology = shown_topology report merges_count edges_count shown.tree;
+    embedding = shown_embedding report merges_count edges_count shown.tree;
     realises = offsets_are_skews 1 report.period problem.tech problem.places.registers
         report.schedule report.topology.merges (embedding_of report.tree) same
-        (shown_offsets report all edges shown.tree each_level);
+        (shown_offsets report merges_count edges_count shown.tree sinks_level);
     wire = least_for_schedule report.period problem.tech problem.places.registers report.schedule
         report.topology.merges (source_in problem report) report.total same
-        (shown_wire report all edges shown.tree each_level);
+        (shown_wire report merges_count edges_count shown.tree sinks_level);
     schedule = λ second. shown_schedule problem.circuit problem.tech report shown.timing
         size.arrivals bounds.timing.den (shown.least second);
   }

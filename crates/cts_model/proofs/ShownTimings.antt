@@ -26,7 +26,7 @@ use Rattle.cts_model.proofs.ScaleLemmas.{size_same}
 
 module _ (circuit : Circuit) (tech : Tech) where
   -- constraints that are each of the circuit are all so
-  all_of_circuit : (cycle : List Constraint)
+  pub all_of_circuit : (cycle : List Constraint)
       → AtEach (length cycle) (IsOfCircuit circuit tech cycle)
       → All (IsConstraintOf circuit tech) cycle
   all_of_circuit cycle each place default within = subst (λ found. IfSome found

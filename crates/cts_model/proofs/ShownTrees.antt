@@ -69,8 +69,8 @@ module _ {sinks : List Sink} {source : Uv} (report : Report)
   }
 
   -- each edge is as long as its ends' reaches differ
-  reaches : AreReaches (length sinks) merges tree.length reach
-  reaches node parent is =
+  pub shown_reaches : AreReaches (length sinks) merges tree.length reach
+  shown_reaches node parent is =
       let stands = parent_stands shown_topology node parent is in
       (shown.reaches parent (omega (arith, all))).reach_is node is
 
@@ -96,9 +96,10 @@ module _ {sinks : List Sink} {source : Uv} (report : Report)
 
     -- so the tree realises the offsets
     pub shown_offsets : RealisesOffsets 1 sinks merges tree
-    shown_offsets = reaches_realise sinks merges source tree reach are_shown reaches
+    shown_offsets = reaches_realise sinks merges source tree reach are_shown shown_reaches
 
     -- and has the least wire
     pub shown_wire : IsLeastWire sinks merges source report.total
     shown_wire = subst (IsLeastWire sinks merges source) (sym shown.total)
-        (shown_reaches_are_least sinks merges source tree reach shown_topology are_shown reaches)
+        (shown_reaches_are_least sinks merges source tree reach shown_topology are_shown
+        shown_reaches)

@@ -12,6 +12,7 @@ use Rattle.cts_model.specs.declared.tree.Show.{Show}
 use Rattle.cts_model.specs.declared.tree.Show.TheVariants as shows
 use Rattle.cts_model.specs.Embeddings.{Embedding, IsEmbedding, AreWiresDown, RealisesOffsets, IsLeastWire, total_length, total_wire}
 use Rattle.cts_model.specs.Points.{turned_distance}
+use Rattle.cts_model.specs.Reaches.{HasReaches}
 use Rattle.cts_model.specs.Regions.{span}
 use Rattle.cts_model.specs.ShownReaches.{AreReaches, AreShown, ShowsMerge, ShowsSource}
 use Rattle.cts_model.specs.Topologies.{IsTopology, numbers_below, root_of, source_of}
@@ -22,7 +23,7 @@ use Rattle.cts_model.proofs.TopologyLemmas.{some_and, merge_at, merge_here}
 use Rattle.cts_model.proofs.TotalLemmas.{total_length-le, total_length-scaled, total_length-parts, total_length-twice}
 
 -- wires down, as what is left of the source's reach, where the reaches' differences are lengths
-wires_left : (sinks : ℕ) (merges : List Merge) (lengths reach : ℕ → ℤ)
+pub wires_left : (sinks : ℕ) (merges : List Merge) (lengths reach : ℕ → ℤ)
     → AreReaches sinks merges lengths reach
     → AreWiresDown sinks merges lengths (λ node. reach (source_of sinks) -ℤ reach node)
 wires_left sinks merges lengths reach reaches = record {
@@ -63,26 +64,37 @@ module _ {sinks : ℕ} {merges : List Merge} (topology : IsTopology sinks merges
   pub wires_are_left : (node : ℕ) → node ≤ source_of sinks → IsLeft node
   wires_are_left node low = left_from (source_of sinks) node (omega arith) low
 
+-- a tree with reaches realises the offsets
+unfoldable pub reaches_realise_at : (scale : ℕ) (sinks : List Sink) (merges : List Merge) (tree : Embedding)
+    → (reach : ℕ → ℤ) → HasReaches scale sinks merges tree reach
+    → RealisesOffsets scale sinks merges tree
+reaches_realise_at scale sinks merges tree reach has = record {
+  wire = λ node. reach (source_of (length sinks)) -ℤ reach node;
+  wires = wires_left (length sinks) merges tree.length reach has.of_edges;
+  common = reach (source_of (length sinks));
+  level = λ register. IfSome_then (slice_get sinks register) (has.of_sinks register)
+      (λ sink is. omega (arith, ints));
+}
+
 -- edges as long as their ends' reaches differ realise the offsets, where a sink's reach is its
 -- offset
 pub reaches_realise : (sinks : List Sink) (merges : List Merge) (source : Uv) (tree : Embedding)
     → (reach : ℕ → ℤ) → AreShown sinks merges source reach
     → AreReaches (length sinks) merges tree.length reach → RealisesOffsets 1 sinks merges tree
-reaches_realise sinks merges source tree reach shown reaches = record {
-  wire = λ node. reach (source_of (length sinks)) -ℤ reach node;
-  wires = wires_left (length sinks) merges tree.length reach reaches;
-  common = reach (source_of (length sinks));
-  level = λ register. IfSome_then (slice_get sinks register) (shown.of_sinks register)
-      (λ sink is. omega (arith, ints));
-}
+reaches_realise sinks merges source tree reach shown reaches =
+    reaches_realise_at 1 sinks merges tree reach (record {
+      of_sinks = λ register. IfSome_then (slice_get sinks register) (shown.of_sinks register)
+          (λ sink is. omega (arith, ints));
+      of_edges = reaches;
+    })
 
 -- the values of the nodes that merges make
-abbrev made : (sinks : ℕ) → (ℕ → ℤ) → ℕ → ℤ
+abbrev pub made : (sinks : ℕ) → (ℕ → ℤ) → ℕ → ℤ
 made sinks value place = value (sinks + place)
 
 -- where lengths are differences of reaches, they and the sinks' reaches sum to what the source's
 -- and the merges' do
-wire_by_reaches : (sinks : ℕ) (merges : List Merge) (lengths reach : ℕ → ℤ)
+pub wire_by_reaches : (sinks : ℕ) (merges : List Merge) (lengths reach : ℕ → ℤ)
     → IsTopology sinks merges → AreReaches sinks merges lengths reach
     → total_length lengths (source_of sinks) +ℤ total_length reach sinks
     ≡ reach (source_of sinks) +ℤ total_length (made sinks reach) (length merges)

@@ -12,6 +12,7 @@ pub mod PlainTable
 pub mod TableKeys
 pub mod TableValues
 pub mod TableFlaws
+pub mod TableLaws
 pub mod AcceptedTables
 pub mod Paths
 pub mod Delays
@@ -36,6 +37,7 @@ pub mod Embeddings
 pub mod ShownReaches
 pub mod TreeLaws
 pub mod ChosenPlaces
+pub mod Reaches
 pub mod DrawnWires
 pub mod Sinks
 pub mod Problems
@@ -48,3 +50,5 @@ pub mod ReportBounds
 pub mod ConstraintPaths
 pub mod Judgements
 pub mod Shown
+pub mod WaysDown
+pub mod SaidReports

@@ -3,9 +3,11 @@
 
 ghost use Rattle.cts_model.specs.Laws.{CycleBoundsPeriod, ShownPeriodIsLeast, ForbiddenAtAll, MeetsConstraints, CriticalIsLeast, ForbiddingAtAll};
 ghost use Rattle.cts_model.specs.LeadLaws.{LedArrivalsAreLeast};
+ghost use Rattle.cts_model.specs.SaidReports.{ShownIsWhatItSays};
 ghost use Rattle.cts_model.specs.Shown.{ShownIsLeast};
 ghost use Rattle.cts_model.specs.SkewLaws.{OffsetsAreSkews, SkewsAreOffsets, LeastForSchedule, RealisedMeets};
-ghost use Rattle.cts_model.specs.TreeLaws.{ReachesRealise, ShownReachesAreLeast};
+ghost use Rattle.cts_model.specs.TableLaws.{UnknownKeyIsLeast, FirstDisorderIsTold};
+ghost use Rattle.cts_model.specs.TreeLaws.{ReachesRealise, ShownReachesAreLeast, RealisedHaveReaches, ReachesAreNoLess, WireIsOfReaches};
 
 /// A cycle among constraints bounds the periods at which any arrivals satisfy them.
 pub fn cycles()
@@ -22,10 +24,20 @@ pub fn circuits()
     ensures forbidding { ForbiddingAtAll }
 {}
 
-/// What the shows of a tree say of every tree with its topology.
+/// What the first flaw of a delay table says of its names and of its order.
+pub fn tables()
+    ensures unknown { UnknownKeyIsLeast }
+    ensures disorder { FirstDisorderIsTold }
+{}
+
+/// What the shows of a tree say of every tree with its topology, and what the reaches of every
+/// tree say of its wire.
 pub fn trees()
     ensures realised { ReachesRealise }
     ensures least { ShownReachesAreLeast }
+    ensures reaches { RealisedHaveReaches }
+    ensures no_less { ReachesAreNoLess }
+    ensures wire { WireIsOfReaches }
 {}
 
 /// What leads say of arrivals that meet a period over every path.
@@ -44,4 +56,5 @@ pub fn skews()
 /// What a report shows of a problem is so, whoever made the report.
 pub fn reports()
     ensures least { ShownIsLeast }
+    ensures said { ShownIsWhatItSays }
 {}

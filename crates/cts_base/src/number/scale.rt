@@ -48,7 +48,7 @@ fn are_zeros(digits: &[u8]) -> bool
 }
 
 /// A number times a power of ten, or the ceiling where that is less.
-pub fn raised_number(number: u128, places: usize) -> u128
+pub fn raised_number(number: u128, places: u128) -> u128
     requires { number ≤ CEILING }
     ensures { result ≡ min (number * 10 ^ places) CEILING }
 {

@@ -1,4 +1,4 @@
-ghost use Rattle.std.specs.Prelude.{◌≡◌, ◌+◌, ◌-◌, ◌≤◌, if◌then◌else◌, min, length, MatchResult};
+ghost use Rattle.std.specs.Prelude.{◌≡◌, ◌+◌, ◌-◌, ◌≤◌, if◌then◌else◌, min, MatchResult};
 ghost use Rattle.std.specs.Str.Parse.{AllDigits, digits_value, without_leading_sign};
 ghost use Rattle.cts_base.specs.Decimals.{IsDecimal, IsSizeRead, RefusesSize};
 
@@ -7,46 +7,52 @@ use crate::number::parts::{begins_with_minus, parts_of, without_sign};
 use crate::number::scale::{CEILING, is_zero_behind, kept_number, number_after, raised_number};
 
 /// What an exponent is taken for if it is larger: no text has so many digits.
-const GREATEST_EXPONENT: u128 = 1_099_511_627_776;
+const GREATEST_EXPONENT: u128 = 1_267_650_600_228_229_401_496_703_205_376;
 
 /// The size of a number in millionths.
 pub fn size_of(text: &[u8]) -> Result<u64, NumberFault>
-    requires decimal { IsDecimal text.now }
-    requires short { length text.now ≤ 16777216 }
+    requires { IsDecimal text.now }
     ensures { MatchResult result (IsSizeRead text.now) (RefusesSize text.now) }
 {
     let parts = parts_of(text);
     let minus = begins_with_minus(parts.exponent);
     let places = places_of(minus, parts.whole.len(), exponent_of(parts.exponent));
-    let kept = places.min(parts.whole.len() + parts.fraction.len());
+    let kept = kept_of(places, parts.whole.len() + parts.fraction.len());
     if !is_zero_behind(parts.whole, parts.fraction, kept) {
         return Err(NumberFault::TooFine);
     }
     let number = kept_number(parts.whole, parts.fraction, kept);
-    let size = raised_number(number, places - kept);
+    let size = raised_number(number, places - kept as u128);
     if size == CEILING {
         return Err(NumberFault::TooLarge);
     }
     Ok(size as u64)
 }
 
-fn exponent_of(exponent: &[u8]) -> usize
+fn exponent_of(exponent: &[u8]) -> u128
     requires { AllDigits 10 (without_leading_sign exponent.now) }
-    ensures { result ≡ min (digits_value 10 (without_leading_sign exponent.now)) 1099511627776 }
+    ensures { result ≡ min (digits_value 10 (without_leading_sign exponent.now))
+        GREATEST_EXPONENT }
 {
-    number_after(0, without_sign(exponent), GREATEST_EXPONENT) as usize
+    number_after(0, without_sign(exponent), GREATEST_EXPONENT)
 }
 
 // How many digits, and zeros behind them, make the millionths.
-fn places_of(minus: bool, whole: usize, exponent: usize) -> usize
-    requires whole { whole ≤ 16777216 }
-    requires exponent { exponent ≤ 1099511627776 }
+fn places_of(minus: bool, whole: usize, exponent: u128) -> u128
+    requires { exponent ≤ GREATEST_EXPONENT }
     ensures { result ≡ (if minus then whole + 6 - exponent else whole + 6 + exponent) }
 {
-    let digits = whole + 6;
+    let digits = whole as u128 + 6;
     if minus {
         digits.saturating_sub(exponent)
     } else {
         digits + exponent
     }
+}
+
+// How many of the digits are among those places.
+fn kept_of(places: u128, digits: usize) -> usize
+    ensures { result ≡ min places digits }
+{
+    places.min(digits as u128) as usize
 }
