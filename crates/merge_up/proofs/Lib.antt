@@ -1,2 +1,3 @@
 mod EndLemmas
+mod SearchLemmas
 pub mod WorkLemmas

@@ -27,22 +27,19 @@ pub record HoldsSink (work : WorkState) (register : ℕ) (sink : Sink) : Type 0 
   pub region : IsSomeAnd (slice_get work.regions register) (λ region. IsPointOf region sink)
 
 -- the reach of the merge at that place is the least that its sinks allow, its region is where it
--- may stand then, its show shows the reach, and its ends are its furthest sinks
+-- may stand then, and its show shows the reach
 pub record HoldsMerge (sinks : List Sink) (merges : List Merge) (work : WorkState)
     (place : ℕ) : Type 0 where
   pub reach : ℤ
   pub region : Rect
   pub show : Show
-  pub ends : Ends
   pub reach_held : slice_get work.tree.reach (length sinks + place) ≡ Some reach
   pub region_held : slice_get work.regions (length sinks + place) ≡ Some region
   pub show_held : slice_get work.shows place ≡ Some show
-  pub ends_held : slice_get work.ends place ≡ Some ends
   pub is_reach : IsReach (sinks_below sinks merges (length sinks + place)) (reach +ℤ reach)
   pub is_region : IsRegion region (sinks_below sinks merges (length sinks + place)) reach
   pub shows : ShowsMerge sinks (numbers_below (length sinks) merges (length sinks + place)) reach
       show
-  pub are_ends : AreEnds sinks (numbers_below (length sinks) merges (length sinks + place)) ends
 
 -- the work holds all of the sinks
 abbrev pub HoldsSinks : List Sink → WorkState → Type 0
@@ -60,6 +57,17 @@ abbrev pub HoldsJoined : List Sink → List Merge → WorkState → (node : ℕ)
 HoldsJoined sinks merges work node = (merge : Merge) (place : ℕ)
     → slice_get merges (node - length sinks) ≡ Some merge → Joins merge (length sinks + place)
     → HoldsMerge sinks merges work place
+
+-- what is kept beside the merge at that place are its furthest sinks
+abbrev pub KeepsEnds : List Sink → List Merge → WorkState → (place : ℕ) → Type 0
+KeepsEnds sinks merges work place = IsSomeAnd (slice_get work.ends place)
+    (AreEnds sinks (numbers_below (length sinks) merges (length sinks + place)))
+
+-- and so for those of the two nodes that this merge joins which are merges
+abbrev pub KeepsJoined : List Sink → List Merge → WorkState → (node : ℕ) → Type 0
+KeepsJoined sinks merges work node = (merge : Merge) (place : ℕ)
+    → slice_get merges (node - length sinks) ≡ Some merge → Joins merge (length sinks + place)
+    → KeepsEnds sinks merges work place
 
 -- nothing is settled
 abbrev pub IsUnsettled : WorkState → Type 0
@@ -83,17 +91,19 @@ pub record IsSinkSet (register : ℕ) (sink : Sink) (old new : WorkState) : Type
     regions = slice_set old.regions register region;
   }
 
--- a merge is held anew, and counted; all else stays
+-- a merge is held anew, its furthest sinks are kept beside it, and it is counted; all else stays
 pub record IsRenewed (sinks : List Sink) (merges : List Merge) (place : ℕ)
     (old new : WorkState) : Type 0 where
   pub fit : IsFit new
   pub held : HoldsMerge sinks merges new place
+  pub ends : Ends
+  pub kept : KeepsEnds sinks merges new place
   pub rest : new ≡ record (unsettled old) {
     tree = record old.tree {
       reach = slice_set old.tree.reach (length sinks + place) held.reach;
     };
     regions = slice_set old.regions (length sinks + place) held.region;
-    ends = slice_set old.ends place held.ends;
+    ends = slice_set old.ends place ends;
     shows = slice_set old.shows place held.show;
     renewals = counted old.renewals;
   }

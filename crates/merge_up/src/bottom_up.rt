@@ -7,20 +7,19 @@ use crate::work::Work;
 use cts_model::{Sink, Topology};
 
 /// Finds the reach, the region and the show of each node of a topology over the sinks. It takes no
-/// memory. Each merge is made once, in order. Where there was room for more sinks, there is room
-/// for as many as these afterwards.
+/// memory. Each merge is made once, in order. What there is room for stays.
 pub fn merge(work: &mut Work, sinks: &[Sink], topology: &Topology)
     requires sinks { AreTreeSinks sinks.now }
     requires topology { IsTopology (length sinks.now) topology.now.merges }
     requires room { length sinks.now ≤ work.old.room }
     ensures merged { IsMerged sinks.now topology.now.merges work.new }
-    ensures room { work.new.room ≡ length sinks.now }
+    ensures room { work.new.room ≡ work.old.room }
     ensures settled { IsUnsettled work.new }
     ensures renewals { work.new.renewals
         ≡ min (work.old.renewals + length topology.now.merges) (2 ^ 64 - 1) }
 {
     work.begin(sinks);
     for place in 0..topology.merges.len() {
-        work.renew(sinks, topology, (sinks.len() + place) as u32);
+        work.make(sinks, topology, (sinks.len() + place) as u32);
     }
 }

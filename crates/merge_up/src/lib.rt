@@ -4,6 +4,8 @@
 mod bottom_up;
 mod end;
 mod ends;
+mod search;
+mod side;
 mod work;
 
 pub use bottom_up::merge;

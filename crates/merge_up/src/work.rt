@@ -1,6 +1,9 @@
 ghost use Rattle.std.specs.Prelude.{◌≡◌, ◌≤◌, ◌<◌, ◌+◌, ◌*◌, ◌-◌, ◌^◌, ◌⊎◌, ℕ, List, length, IfOk, IsSomeAnd, slice_get, Some};
 
+use crate::end::End;
 use crate::ends::Ends;
+use crate::search::find;
+use crate::side::Side;
 use cts_base::{Listed, NoMemory};
 use cts_model::{Point, Show, Sink, Topology, Tree, Uv};
 use std::alloc::Global;
@@ -12,10 +15,12 @@ use tilted_rect::{Rect, to_point};
 pub struct Work {
     // How many sinks the last merge had, 0 before any.
     sinks: usize,
+    // The lists keep the length that the room asks; entries past the nodes of the last merge don't
+    // count.
     tree: Tree,
     // Of each node.
     regions: Listed<Rect>,
-    // Of each merge.
+    // Of each merge the furthest sinks, as they were when it was made.
     ends: Listed<Ends>,
     // Of each merge, and then the source's.
     shows: Listed<Show>,
@@ -25,27 +30,28 @@ pub struct Work {
 }
 
 impl Model for Work {
-    ghost use Rattle.std.specs.Prelude.{length};
-    ghost use Rattle.merge_up.specs.Works.{WorkState, IsFit};
+    ghost use Rattle.merge_up.specs.Works.{WorkState};
 
     ghost Value = { WorkState };
 
-    ghost use Rattle.merge_up.specs.Views.{state_of};
+    ghost use Rattle.merge_up.specs.Views.{state_of, HasEntries};
 
     ghost view = { state_of };
 
-    ghost invariant = { λ work. IsFit (state_of work) };
+    ghost invariant = { HasEntries };
 }
 
 impl Work {
     ghost use Rattle.cts_model.specs.declared.place.Point.{Point};
+    ghost use Rattle.cts_model.specs.declared.place.Sink.{Sink};
     ghost use Rattle.cts_model.specs.declared.tree.Merge.{Merge};
     ghost use Rattle.cts_model.specs.Points.{IsUvBelow, IsUvMultipleOf, turned};
     ghost use Rattle.cts_model.specs.Sinks.{AreTreeSinks, IsTreeSink};
     ghost use Rattle.cts_model.specs.Topologies.{IsTopology, numbers_below};
     ghost use Rattle.tilted_rect.specs.Rects.{Holds};
-    ghost use Rattle.merge_up.specs.Merging.{HoldsJoined, HoldsMerge, HoldsSinks, IsFresh, IsRenewed, IsSinkSet, IsPlaced, IsSourcePlaced, IsUnsettled};
-    ghost use Rattle.merge_up.specs.Sides.{AreEnds};
+    ghost use Rattle.merge_up.specs.Merging.{HoldsJoined, HoldsMerge, HoldsSinks, KeepsEnds, KeepsJoined, IsFresh, IsRenewed, IsSinkSet, IsPlaced, IsSourcePlaced, IsUnsettled};
+    ghost use Rattle.merge_up.specs.Sides.{AreEnds, IsEnd, far_to};
+    ghost use Rattle.merge_up.specs.Views.{cut};
     ghost use Rattle.merge_up.specs.Works.{IsFit, IsSettled};
 
     /// Room for that many sinks. No later call takes memory.
@@ -137,10 +143,12 @@ impl Work {
         self.settled[source] = true;
     }
 
-    /// The tree.
+    /// The tree. Where there is room for more sinks than the last merge had, its lists go on behind
+    /// what they hold of the nodes.
     pub fn tree(&self) -> &Tree
         requires { IsSettled self.now }
-        ensures { result.now ≡ self.now.tree }
+        ensures nodes { cut self.now.sinks result.now ≡ self.now.tree }
+        ensures whole { self.now.sinks ≡ self.now.room → result.now ≡ self.now.tree }
     {
         &self.tree
     }
@@ -150,7 +158,14 @@ impl Work {
         requires { IsSettled self }
         ensures { result ≡ (self.tree, self.shows) }
     {
-        (self.tree, self.shows)
+        let sinks = self.sinks;
+        let mut tree = self.tree;
+        let mut shows = self.shows;
+        tree.reach.truncate(2 * sinks);
+        tree.place.truncate(2 * sinks);
+        tree.length.truncate(2 * sinks - 1);
+        shows.truncate(sinks);
+        (tree, shows)
     }
 
     /// Sets a sink's reach and region. It takes no memory.
@@ -166,7 +181,8 @@ impl Work {
     }
 
     /// Makes a merge's reach, region and show anew from those of the two nodes that it joins. It
-    /// takes no memory.
+    /// takes no memory. Where the sinks that were kept as the furthest below it are so still, none
+    /// is searched for.
     pub fn renew(&mut self, sinks: &[Sink], topology: &Topology, node: u32)
         requires sinks { AreTreeSinks sinks.now }
         requires topology { IsTopology (length sinks.now) topology.now.merges }
@@ -179,26 +195,97 @@ impl Work {
     {
         let place = node as usize - sinks.len();
         let merge = topology.merges.as_slice()[place];
-        let ends = self
-            .ends(sinks, merge.first)
-            .joined(self.ends(sinks, merge.second));
+        let first = self.found_ends(sinks, topology, merge.first);
+        let second = self.found_ends(sinks, topology, merge.second);
+        self.hold(place, first.joined(second));
+    }
+
+    /// Makes the next merge of a topology, by the furthest sinks that are kept of those before it.
+    pub(crate) fn make(&mut self, sinks: &[Sink], topology: &Topology, node: u32)
+        requires sinks { AreTreeSinks sinks.now }
+        requires topology { IsTopology (length sinks.now) topology.now.merges }
+        requires count { self.old.sinks ≡ length sinks.now }
+        requires merge { length sinks.now ≤ node }
+        requires made { node < length sinks.now + length topology.now.merges }
+        requires kept { KeepsJoined sinks.now topology.now.merges self.old node }
+        ensures { IsRenewed sinks.now topology.now.merges (node - length sinks.now)
+            self.old self.new }
+    {
+        let place = node as usize - sinks.len();
+        let merge = topology.merges.as_slice()[place];
+        let first = self.kept_ends(sinks, merge.first);
+        let second = self.kept_ends(sinks, merge.second);
+        self.hold(place, first.joined(second));
+    }
+
+    // Holds of a merge what its furthest sinks say.
+    fn hold(&mut self, place: usize, ends: Ends)
+        requires { place + 1 < self.old.sinks }
+        ensures { (sinks : List Sink) (merges : List Merge) → self.old.sinks ≡ length sinks
+            → AreEnds sinks (numbers_below (length sinks) merges (length sinks + place)) ends
+            → IsRenewed sinks merges place self.old self.new }
+    {
+        let node = self.sinks + place;
         let reach = ends.reach();
-        self.tree.reach.set(node as usize, reach);
-        self.regions.set(node as usize, ends.region(reach));
+        self.tree.reach.set(node, reach);
+        self.regions.set(node, ends.region(reach));
         self.ends.set(place, ends);
         self.shows.set(place, ends.show());
         self.settled.fill(false);
         self.renewals = self.renewals.saturating_add(1);
     }
 
-    // The furthest sinks of a node.
-    fn ends(&self, sinks: &[Sink], node: u32) -> Ends
+    // The furthest sinks of a node, by its region and its reach.
+    fn found_ends(&self, sinks: &[Sink], topology: &Topology, node: u32) -> Ends
+        requires sinks { AreTreeSinks sinks.now }
+        requires topology { IsTopology (length sinks.now) topology.now.merges }
+        requires count { self.now.sinks ≡ length sinks.now }
+        requires node { node < 2 * length sinks.now - 1 }
+        requires held { (place : ℕ) → node ≡ length sinks.now + place
+            → HoldsMerge sinks.now topology.now.merges self.now place }
+        ensures { AreEnds sinks.now (numbers_below (length sinks.now) topology.now.merges node)
+            result }
+    {
+        if (node as usize) < sinks.len() {
+            return Ends::of(node, sinks[node as usize]);
+        }
+        Ends {
+            high_u: self.found_end(sinks, topology, node, Side::HighU),
+            low_u: self.found_end(sinks, topology, node, Side::LowU),
+            high_v: self.found_end(sinks, topology, node, Side::HighV),
+            low_v: self.found_end(sinks, topology, node, Side::LowV),
+        }
+    }
+
+    // The furthest sink of a merge to a side.
+    fn found_end(&self, sinks: &[Sink], topology: &Topology, node: u32, side: Side) -> End
+        requires sinks { AreTreeSinks sinks.now }
+        requires topology { IsTopology (length sinks.now) topology.now.merges }
+        requires count { self.now.sinks ≡ length sinks.now }
+        requires merge { length sinks.now ≤ node }
+        requires made { node < 2 * length sinks.now - 1 }
+        requires held { HoldsMerge sinks.now topology.now.merges self.now
+            (node - length sinks.now) }
+        ensures { IsEnd sinks.now (numbers_below (length sinks.now) topology.now.merges node)
+            (far_to side) result }
+    {
+        let far = side.furthest(self.region(node), self.reach(node));
+        let merges = topology.merges.as_slice();
+        let found = find(sinks, merges, self.ends.as_slice(), side, far, node);
+        End {
+            sink: found.unwrap(),
+            far,
+        }
+    }
+
+    // The furthest sinks of a node, as they are kept.
+    fn kept_ends(&self, sinks: &[Sink], node: u32) -> Ends
         requires sinks { AreTreeSinks sinks.now }
         requires count { self.now.sinks ≡ length sinks.now }
         requires node { node < 2 * length sinks.now - 1 }
         ensures { (merges : List Merge)
             → ((place : ℕ) → node ≡ length sinks.now + place
-            → HoldsMerge sinks.now merges self.now place)
+            → KeepsEnds sinks.now merges self.now place)
             → AreEnds sinks.now (numbers_below (length sinks.now) merges node) result }
     {
         let node_place = node as usize;
@@ -209,37 +296,31 @@ impl Work {
         }
     }
 
-    /// Leaves room for as many sinks as there are, and none of the tree of the last merge.
+    /// Holds the sinks, and none of the tree of the last merge.
     pub(crate) fn begin(&mut self, sinks: &[Sink])
         requires sinks { AreTreeSinks sinks.now }
         requires room { length sinks.now ≤ self.old.room }
-        ensures room { self.new.room ≡ length sinks.now }
+        ensures room { self.new.room ≡ self.old.room }
         ensures count { self.new.sinks ≡ length sinks.now }
         ensures renewals { self.new.renewals ≡ self.old.renewals }
         ensures fit { IsFit self.new }
         ensures held { HoldsSinks sinks.now self.new }
         ensures settled { IsUnsettled self.new }
     {
-        self.shrink(sinks.len());
+        self.count(sinks.len());
         for register in 0..sinks.len() {
             self.set_sink(register as u32, sinks[register]);
         }
     }
 
-    // Cuts each list to what that many sinks need.
-    fn shrink(&mut self, sinks: usize)
-        requires some { 1 ≤ sinks }
-        requires room { sinks ≤ self.old.room }
-        ensures room { self.new.room ≡ sinks }
+    // From here on the lists are of the nodes over that many sinks.
+    fn count(&mut self, sinks: usize)
+        requires { sinks ≤ self.old.room }
+        ensures room { self.new.room ≡ self.old.room }
         ensures count { self.new.sinks ≡ sinks }
         ensures renewals { self.new.renewals ≡ self.old.renewals }
         ensures fit { IsFit self.new }
     {
         self.sinks = sinks;
-        self.tree.reach.truncate(2 * sinks);
-        self.tree.place.truncate(2 * sinks);
-        self.tree.length.truncate(2 * sinks - 1);
-        self.shows.truncate(sinks);
-        self.settled.truncate(2 * sinks);
     }
 }

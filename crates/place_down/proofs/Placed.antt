@@ -85,17 +85,14 @@ merged_kept {sinks} {merges} {old} {new} topology stays merged =
         reach = held.reach;
         region = held.region;
         show = held.show;
-        ends = held.ends;
         reach_held = stays.reaches (length sinks + place)
             (omega (arith, merged.count, within, topology.all)) ∙ held.reach_held;
         region_held = rw regions held.region_held;
         show_held = stays.shows place (omega (arith, merged.count, within, topology.all))
             ∙ held.show_held;
-        ends_held = rw (ap (λ work. work.ends) stays.rest) held.ends_held;
         is_reach = held.is_reach;
         is_region = held.is_region;
         shows = held.shows;
-        are_ends = held.are_ends;
       };
     }
 
@@ -416,8 +413,11 @@ module _ {sinks : List Sink} {merges : List Merge} (are : AreTreeSinks sinks)
 
       -- all nodes are settled
       new_settled : IsSettled new
-      new_settled = λ node default within. subst IsTrue
-          (get_or_any new.settled node false default within) (settled_at node within)
+      new_settled = record {
+        merged = omega (arith, stand.merged.count, are.some);
+        all = λ node default within. subst IsTrue
+            (get_or_any new.settled node false default within) (settled_at node within);
+      }
         where
           settled_at : (node : ℕ) → node < length new.settled → get_or new.settled node false ≡ true
           settled_at node within = elim (cases_lt node (source_of (length sinks))) [

@@ -156,15 +156,12 @@ merged_still {sinks} {merges} {old} {new} stays merged =
         reach = held.reach;
         region = held.region;
         show = held.show;
-        ends = held.ends;
         reach_held = held.reach_held;
         region_held = held.region_held;
         show_held = held.show_held;
-        ends_held = held.ends_held;
         is_reach = held.is_reach;
         is_region = held.is_region;
         shows = held.shows;
-        are_ends = held.are_ends;
       };
     })
 

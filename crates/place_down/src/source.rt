@@ -18,7 +18,7 @@ pub(crate) struct Top {
 }
 
 /// The source's reach over a root with that reach. A sink shows it only where it is further than
-/// the root reaches, and then the first that is furthest. It takes no memory.
+/// the root reaches. It takes no memory.
 pub(crate) fn top_of(sinks: &[Sink], source: Uv, root: i128) -> Top
     requires sinks { AreTreeSinks sinks.now }
     requires source { IsTreeSource source }

@@ -1,6 +1,6 @@
 use Rattle.std.proofs.Common.{◌≡◌, ◌+◌, ◌-◌, length, refl, subst, arith}
 use Rattle.merge_up.specs.Merging.{IsRenewed}
-use Rattle.merge_up.proofs.WorkLemmas.{joined_held, merged_at_first, merged_next}
+use Rattle.merge_up.proofs.WorkLemmas.{joined_kept, merged_at_first, merged_next}
 use Rattle.merge_up.proofs.bottom_up.merge.Goals as goal
 
 pub loop-place-init : goal.loop-place-init
@@ -9,12 +9,12 @@ loop-place-init c =
     merged_at_first c.args.sinks.now c.args.topology.now.merges c.args.work.now c.begin.new.self
     begun.fit begun.room begun.count begun.renewals begun.held begun.settled
 
-pub renew-requires-clause-joined : goal.renew-requires-clause-joined
-renew-requires-clause-joined c =
+pub make-requires-clause-kept : goal.make-requires-clause-kept
+make-requires-clause-kept c =
     let sinks = c.args.sinks.now in
     let place = c.loop-place.place in
-    joined_held sinks c.args.topology.now.merges place c.loop-place.work c.requires.topology
-    c.loop-place.invariant.of_merges (length sinks + place) refl
+    joined_kept sinks c.args.topology.now.merges place c.loop-place.work c.requires.topology
+    c.loop-place.invariant.kept (length sinks + place) refl
 
 pub loop-place-preserved : goal.loop-place-preserved
 loop-place-preserved c =
@@ -22,6 +22,6 @@ loop-place-preserved c =
     let merges = c.args.topology.now.merges in
     let place = c.loop-place.place in
     let same : (length sinks + place) - length sinks ≡ place = omega arith in
-    merged_next sinks merges place c.args.work.now c.loop-place.work c.renew.new.self
+    merged_next sinks merges place c.args.work.now c.loop-place.work c.make.new.self
     c.loop-place.invariant
-    (subst (λ n. IsRenewed sinks merges n c.loop-place.work c.renew.new.self) same c.renew.ensures)
+    (subst (λ n. IsRenewed sinks merges n c.loop-place.work c.make.new.self) same c.make.ensures)

@@ -1,10 +1,60 @@
-use Rattle.std.proofs.Common.{rules}
+use Rattle.std.proofs.Common.{◌<◌, ◌≤◌, ◌*◌, ◌-◌, ◌∙◌, ap, length, refl, true, take, slice_set, arith}
+use Rattle.std.proofs.lemmas.Int.{to_z-of_z}
+use Rattle.std.proofs.lemmas.List.{length-set}
+use Rattle.std.specs.Int.{w128}
+use Rattle.merge_up.proofs.WorkLemmas.{fit_state, take_set}
 use Rattle.merge_up.proofs.work.Work.settle_source.Goals as goal
 
+pub invariant_of-self : goal.invariant_of-self
+invariant_of-self c =
+    let work = c.self.inside in
+    let has = c.self.invariant in
+    let source = 2 * work.sinks - 1 in
+    let shows = ap length c.set-3.ensures ∙ length-set work.shows (work.sinks - 1) c.args.show in
+    let reaches = ap length c.set-2.ensures ∙ length-set work.tree.reach source _ in
+    let places = ap length c.set.ensures ∙ length-set work.tree.place source _ in
+    let settled = length-set work.settled.items source true in
+    record {
+      some = omega (arith, shows, has.some);
+      few = omega (arith, shows, has.few);
+      merged = omega (arith, shows, has.merged);
+      reaches = omega (arith, shows, reaches, has.reaches);
+      places = omega (arith, shows, places, has.places);
+      lengths = omega (arith, shows, has.lengths);
+      regions = omega (arith, shows, has.regions);
+      ends = omega (arith, shows, has.ends);
+      settled = omega (arith, shows, settled, has.settled);
+      renewals = has.renewals;
+    }
+
 pub returns : goal.returns
-returns c = record {
-  fit = search rules;
-  point = c.to_point.result;
-  stands = c.to_point.ensures.back;
-  rest = search rules;
-}
+returns c =
+    let work = c.self.inside in
+    let source = 2 * work.sinks - 1 in
+    let some : 1 ≤ work.sinks = rw (← c.self.view_is) at c.requires.merged in
+    let low : source < 2 * work.sinks = omega (arith, some) in
+    let reach = c.set-2.ensures
+    ∙ ap (slice_set work.tree.reach source) (to_z-of_z w128 c.args.reach c.ranges.reach) in
+    record {
+      fit = fit_state _ (invariant_of-self c);
+      point = c.to_point.result;
+      stands = c.to_point.ensures.back;
+      rest = rw (← c.self.view_is) (λ i. record {
+        room = (ap length c.set-3.ensures
+            ∙ length-set work.shows (work.sinks - 1) c.args.show) i;
+        sinks = work.sinks;
+        tree = record {
+          reach = take_set (2 * work.sinks) work.tree.reach c.set-2.new.self source c.args.reach
+              low reach i;
+          place = take_set (2 * work.sinks) work.tree.place c.set.new.self source
+              c.to_point.result low c.set.ensures i;
+          length = take (2 * work.sinks - 1) work.tree.length;
+        };
+        regions = work.regions;
+        ends = work.ends;
+        shows = take_set work.sinks work.shows c.set-3.new.self (work.sinks - 1) c.args.show
+            (omega (arith, some)) c.set-3.ensures i;
+        settled = take_set (2 * work.sinks) work.settled.items _ source true low refl i;
+        renewals = work.renewals;
+      });
+    }

@@ -1,15 +1,25 @@
-use Rattle.std.proofs.Common.{◌≡◌, ◌*◌, All, IsFalse, replicate, false, refl, sym, subst, rules}
-use Rattle.std.proofs.lemmas.List.Elements.{All-replicate}
+use Rattle.std.proofs.Common.{IsFalse, refl, rules}
+use Rattle.std.proofs.lemmas.List.Elements.{All-nil}
+use Rattle.merge_up.proofs.WorkLemmas.{fit_state}
 use Rattle.merge_up.proofs.work.Work.with_room.Goals as goal
 
 pub returns : goal.returns
-returns c =
-    let settled : c.in_ok-vec-7.field-0.items ≡ replicate (2 * c.args.sinks) false = search rules in
-    record {
-      fit = search rules;
-      room = search rules;
-      sinks = refl;
-      settled = subst (All IsFalse) (sym settled) (All-replicate IsFalse (2 * c.args.sinks) false
-          refl);
-      renewals = refl;
-    }
+returns c = record {
+  fit = fit_state (record {
+    sinks = 0;
+    tree = record {
+      reach = c.from_vec.result;
+      place = c.from_vec-2.result;
+      length = c.from_vec-3.result;
+    };
+    regions = c.from_vec-4.result;
+    ends = c.from_vec-5.result;
+    shows = c.from_vec-6.result;
+    settled = c.in_ok-vec-7.field-0;
+    renewals = 0;
+  }) (search rules);
+  room = search rules;
+  sinks = refl;
+  settled = All-nil IsFalse;
+  renewals = refl;
+}

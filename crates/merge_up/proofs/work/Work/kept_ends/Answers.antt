@@ -1,9 +1,9 @@
-use Rattle.std.proofs.Common.{◌≡◌, ◌+◌, ◌-◌, length, sym, subst, ◌∙◌, arith}
+use Rattle.std.proofs.Common.{◌≡◌, ◌+◌, ◌-◌, Some, ap, length, slice_get, sym, subst, ◌∙◌, arith}
 use Rattle.std.proofs.lemmas.Option.{get_or_from_slice_get, slice_get-get_or}
 use Rattle.cts_model.specs.Topologies.{numbers_below}
-use Rattle.cts_model.proofs.TopologyLemmas.{numbers_below-sink}
+use Rattle.cts_model.proofs.TopologyLemmas.{numbers_below-sink, some_and}
 use Rattle.merge_up.specs.Sides.{AreEnds}
-use Rattle.merge_up.proofs.work.Work.ends.Goals as goal
+use Rattle.merge_up.proofs.work.Work.kept_ends.Goals as goal
 
 pub returns-then-node_place-sinks : goal.returns-then-node_place-sinks
 returns-then-node_place-sinks c = λ merges held.
@@ -18,10 +18,11 @@ returns-else-node_place-sinks c = λ merges held.
     let place = c.args.node - length sinks in
     let result = c.index-as_slice-node_place.result in
     let at : c.args.node ≡ length sinks + place = omega (arith, c.if-node_place-sinks.false) in
-    let merge = held place at in
-    let here = rw (← c.self.view_is) at merge.ends_held in
-    let is : result ≡ merge.ends = (rw c.as_slice.ensures at c.index-as_slice-node_place.is)
-    ∙ get_or_from_slice_get c.self.inside.ends place merge.ends result here in
+    let (ends, there, are) = some_and (slice_get c.args.self.now.ends place)
+    (AreEnds sinks (numbers_below (length sinks) merges (length sinks + place))) (held place at) in
+    let here : slice_get c.self.inside.ends place ≡ Some ends =
+    ap (λ work. slice_get work.ends place) c.self.view_is ∙ there in
+    let is : result ≡ ends = (rw c.as_slice.ensures at c.index-as_slice-node_place.is)
+    ∙ get_or_from_slice_get c.self.inside.ends place ends result here in
     subst (λ ends. AreEnds sinks (numbers_below (length sinks) merges c.args.node) ends) (sym is)
-    (subst (λ node. AreEnds sinks (numbers_below (length sinks) merges node) merge.ends) (sym at)
-    merge.are_ends)
+    (subst (λ node. AreEnds sinks (numbers_below (length sinks) merges node) ends) (sym at) are)

@@ -1,0 +1,280 @@
+-- A sink of a node that is furthest to a side, and where it is found.
+use Rattle.std.proofs.Common.{◌≡◌, ◌⊎◌, inl, inr, ℕ, zero, suc, ◌+◌, ◌-◌, ◌<◌, ◌≤◌, List, [], ◌∷◌, ◌++◌, Option, None, Some, unwrap_or, IfSome, Contains, IsSomeAnd, length, slice_get, refl, sym, ap, subst, ◌∙◌, ℤ, neg_ℤ, arith}
+use Rattle.std.proofs.lemmas.Int.{ints, to_z-of_z}
+use Rattle.std.proofs.lemmas.List.Elements.{All-contains, Contains-append_cases, Contains-append_left, Contains-append_right}
+use Rattle.cts_model.specs.declared.place.Sink.{Sink}
+use Rattle.cts_model.specs.declared.tree.Merge.{Merge}
+use Rattle.cts_model.specs.Sinks.{AreTreeSinks, IsTreeSink}
+use Rattle.cts_model.specs.Topologies.{IsTopology, Joins, numbers_below, sinks_below}
+use Rattle.cts_model.proofs.TopologyLemmas.{first_made, second_made, number_below, numbers_below-merge, numbers_below-sink, sinks_below-among}
+use Rattle.tilted_rect.specs.Extremes.{IsGreatest, IsLeast, IsRegion, u_below, v_below}
+use Rattle.tilted_rect.specs.declared.rect.Rect.{Rect}
+use Rattle.tilted_rect.proofs.CodeNumbers.{kept}
+use Rattle.tilted_rect.proofs.RegionLemmas.{region_extremes, sides_from_region}
+use Rattle.std.specs.Int.{w128}
+use Rattle.std.specs.Prelude.{IsNone, IsSome, FitsSigned}
+use Rattle.merge_up.specs.Distances.{IsFar}
+use Rattle.merge_up.specs.Merging.{HoldsMerge}
+use Rattle.merge_up.specs.Works.{WorkState}
+use Rattle.merge_up.specs.Sides.{IsEnd, IsSoFar, far_to, furthest_to, u_back, v_back}
+use Rattle.merge_up.specs.declared.end.End.{End}
+use Rattle.merge_up.specs.declared.side.Side.{Side}
+use Rattle.merge_up.specs.declared.side.Side.TheVariants as sides
+
+-- ---- how far the furthest sink is
+
+-- the least coordinate is the greatest distance to the other side
+back_of_least : (set : List Sink) (far under : Sink → ℤ) (number : ℤ)
+    → ((sink : Sink) → far sink ≡ neg_ℤ (under sink))
+    → IsLeast under set number → IsGreatest far set (neg_ℤ number)
+back_of_least set far under number back is = record {
+  most = λ sink among. omega (arith, ints, back sink, is.least sink among);
+  sink = is.sink;
+  among = is.among;
+  attained = omega (arith, ints, back is.sink, is.attained);
+}
+
+-- the region and the reach of a set say how far its furthest sinks are
+pub greatest_to : (side : Side) (set : List Sink) (region : Rect) (reach : ℤ)
+    → IsRegion region set reach → IsGreatest (far_to side) set (furthest_to side region reach)
+greatest_to sides.HighU set region reach is =
+    let (extremes, are) = region_extremes set region reach is in
+    subst (IsGreatest (far_to sides.HighU) set)
+    (omega (arith, ints, (sides_from_region set extremes region reach are is).ulo))
+    are.greatest_u
+greatest_to sides.LowU set region reach is =
+    let (extremes, are) = region_extremes set region reach is in
+    subst (IsGreatest u_back set)
+    (omega (arith, ints, (sides_from_region set extremes region reach are is).uhi))
+    (back_of_least set u_back u_below extremes.least_u (λ sink. omega (arith, ints)) are.least_u)
+greatest_to sides.HighV set region reach is =
+    let (extremes, are) = region_extremes set region reach is in
+    subst (IsGreatest (far_to sides.HighV) set)
+    (omega (arith, ints, (sides_from_region set extremes region reach are is).vlo))
+    are.greatest_v
+greatest_to sides.LowV set region reach is =
+    let (extremes, are) = region_extremes set region reach is in
+    subst (IsGreatest v_back set)
+    (omega (arith, ints, (sides_from_region set extremes region reach are is).vhi))
+    (back_of_least set v_back v_below extremes.least_v (λ sink. omega (arith, ints)) are.least_v)
+
+-- one place holds one thing
+same_some : {X : Type 0} (found : Option X) (one other : X) → found ≡ Some one
+    → found ≡ Some other → one ≡ other
+same_some found one other is also = ap (λ found. unwrap_or found one) (sym is ∙ also)
+
+-- so the region and the reach of a merge that is held do
+pub greatest_held : (sinks : List Sink) (merges : List Merge) (work : WorkState) (node : ℕ)
+    (region : Rect) (reach : ℤ) (side : Side) → length sinks ≤ node
+    → HoldsMerge sinks merges work (node - length sinks)
+    → slice_get work.regions node ≡ Some region → slice_get work.tree.reach node ≡ Some reach
+    → IsGreatest (far_to side) (sinks_below sinks merges node) (furthest_to side region reach)
+greatest_held sinks merges work node region reach side high held region_here reach_here =
+    let at : length sinks + (node - length sinks) ≡ node = omega (arith, high) in
+    let same_region = same_some (slice_get work.regions node) held.region region
+    (subst (λ n. slice_get work.regions n ≡ Some held.region) at held.region_held) region_here in
+    let same_reach = same_some (slice_get work.tree.reach node) held.reach reach
+    (subst (λ n. slice_get work.tree.reach n ≡ Some held.reach) at held.reach_held) reach_here in
+    greatest_to side (sinks_below sinks merges node) region reach
+    (subst (IsRegion region (sinks_below sinks merges node)) same_reach
+    (subst (λ rect. IsRegion rect (sinks_below sinks merges node) held.reach) same_region
+    (subst (λ n. IsRegion held.region (sinks_below sinks merges n) held.reach) at
+    held.is_region)))
+
+-- and so they do as the code's numbers hold them
+pub greatest_read : (sinks : List Sink) (merges : List Merge) (work : WorkState) (node : ℕ)
+    (region : Rect) (reach : ℤ) (side : Side) (far : ℤ) → length sinks ≤ node
+    → HoldsMerge sinks merges work (node - length sinks)
+    → slice_get work.regions node ≡ Some region → slice_get work.tree.reach node ≡ Some reach
+    → FitsSigned w128 reach → FitsSigned w128 far → far ≡ furthest_to side region (kept reach)
+    → IsGreatest (far_to side) (sinks_below sinks merges node) (kept far)
+greatest_read sinks merges work node region reach side far high held region_here reach_here
+    reach_fits far_fits is =
+    subst (IsGreatest (far_to side) (sinks_below sinks merges node))
+    (ap (furthest_to side region) (sym (to_z-of_z w128 reach reach_fits))
+    ∙ sym is ∙ sym (to_z-of_z w128 far far_fits))
+    (greatest_held sinks merges work node region reach side high held region_here reach_here)
+
+-- no tree sink is further than the code's numbers hold
+far_sink : (side : Side) (sink : Sink) → IsTreeSink sink → IsFar (far_to side sink)
+far_sink sides.HighU sink is = record {
+  below = record {
+    above = omega (arith, ints, is.at_below.u, is.offset_below);
+    below = omega (arith, ints, is.at_below.u, is.offset_below);
+  };
+  multiple = omega (arith, ints, is.at_multiple.u, is.offset_multiple);
+}
+far_sink sides.LowU sink is = record {
+  below = record {
+    above = omega (arith, ints, is.at_below.u, is.offset_below);
+    below = omega (arith, ints, is.at_below.u, is.offset_below);
+  };
+  multiple = omega (arith, ints, is.at_multiple.u, is.offset_multiple);
+}
+far_sink sides.HighV sink is = record {
+  below = record {
+    above = omega (arith, ints, is.at_below.v, is.offset_below);
+    below = omega (arith, ints, is.at_below.v, is.offset_below);
+  };
+  multiple = omega (arith, ints, is.at_multiple.v, is.offset_multiple);
+}
+far_sink sides.LowV sink is = record {
+  below = record {
+    above = omega (arith, ints, is.at_below.v, is.offset_below);
+    below = omega (arith, ints, is.at_below.v, is.offset_below);
+  };
+  multiple = omega (arith, ints, is.at_multiple.v, is.offset_multiple);
+}
+
+-- ---- the sinks of a node
+
+-- a sink alone is found where it is so far
+pub so_far_alone : (sinks : List Sink) (merges : List Merge) (side : Side) (far : ℤ)
+    (register : ℕ) (sink : Sink) → register < length sinks
+    → slice_get sinks register ≡ Some sink → far_to side sink ≡ far
+    → IsSoFar sinks (numbers_below (length sinks) merges register) side far register
+so_far_alone sinks merges side far register sink within here is = record {
+  among = rw (numbers_below-sink (length sinks) merges register within) (0, omega arith, refl);
+  attained = rw here is;
+}
+
+-- and nowhere else
+pub alone_so_far : (sinks : List Sink) (merges : List Merge) (side : Side) (far : ℤ)
+    (register : ℕ) (sink : Sink) → register < length sinks
+    → slice_get sinks register ≡ Some sink → (other : ℕ)
+    → IsSoFar sinks (numbers_below (length sinks) merges register) side far other
+    → far_to side sink ≡ far
+alone_so_far sinks merges side far register sink within here other is =
+    let among = rw (numbers_below-sink (length sinks) merges register within) at is.among in
+    let same = only other among in
+    rw (same, here) at is.attained
+  where
+    only : (other : ℕ) → Contains (register ∷ []) other → other ≡ register
+    only other (zero, within, is) = sym is
+    only other (suc place, within, is) = absurd (omega (arith, within))
+
+module _ (sinks : List Sink) (merges : List Merge) (topology : IsTopology (length sinks) merges)
+    (place : ℕ) (merge : Merge) (here : slice_get merges place ≡ Some merge) (side : Side)
+    (far : ℤ) (register : ℕ) where
+  -- what a node's sinks are
+  abbrev below : ℕ → List ℕ
+  below node = numbers_below (length sinks) merges node
+
+  both : below (length sinks + place) ≡ below merge.first ++ below merge.second
+  both = numbers_below-merge (length sinks) merges place merge here
+      (topology.each place merge here)
+
+  -- what is found below one of the two nodes of a merge is found below the merge
+  pub so_far_above : (node : ℕ) → Joins merge node
+      → IsSoFar sinks (numbers_below (length sinks) merges node) side far register
+      → IsSoFar sinks (numbers_below (length sinks) merges (length sinks + place)) side far
+      register
+  so_far_above node (inl same) is = record {
+    among = rw both (Contains-append_left (below merge.first) (below merge.second) register
+        (rw same is.among));
+    attained = is.attained;
+  }
+  so_far_above node (inr same) is = record {
+    among = rw both (Contains-append_right (below merge.first) (below merge.second) register
+        (rw same is.among));
+    attained = is.attained;
+  }
+
+  -- and what is there is below one of the two
+  pub so_far_below : IsSoFar sinks (numbers_below (length sinks) merges (length sinks + place)) side
+      far register
+      → IsSoFar sinks (numbers_below (length sinks) merges merge.first) side far register
+      ⊎ IsSoFar sinks (numbers_below (length sinks) merges merge.second) side far register
+  so_far_below is = elim (Contains-append_cases (below merge.first) (below merge.second) register
+      (rw both at is.among)) [
+        | inl low ↦ inl (record { among = low; attained = is.attained })
+        | inr low ↦ inr (record { among = low; attained = is.attained })
+      ]
+
+-- whichever of the two nodes of a merge comes first, both are joined
+pub order_joins : (merge : Merge) (order : ℕ × ℕ)
+    → (order ≡ (merge.first, merge.second)) ⊎ (order ≡ (merge.second, merge.first))
+    → Joins merge order.0 × Joins merge order.1
+order_joins merge order (inl same) =
+    (inl (sym (ap (λ pair. pair.0) same)), inr (sym (ap (λ pair. pair.1) same)))
+order_joins merge order (inr same) =
+    (inr (sym (ap (λ pair. pair.0) same)), inl (sym (ap (λ pair. pair.1) same)))
+
+-- what is below neither is nowhere
+pub below_neither : (sinks : List Sink) (merges : List Merge) (place : ℕ) (merge : Merge)
+    (side : Side) (far : ℤ) (order : ℕ × ℕ) → IsTopology (length sinks) merges
+    → slice_get merges place ≡ Some merge
+    → (order ≡ (merge.first, merge.second)) ⊎ (order ≡ (merge.second, merge.first))
+    → ((register : ℕ) → IsSoFar sinks (numbers_below (length sinks) merges order.0) side far register
+    → ⊥)
+    → ((register : ℕ) → IsSoFar sinks (numbers_below (length sinks) merges order.1) side far register
+    → ⊥)
+    → (register : ℕ)
+    → IsSoFar sinks (numbers_below (length sinks) merges (length sinks + place)) side far register
+    → ⊥
+below_neither sinks merges place merge side far order topology here either none nor register is =
+    at either (so_far_below sinks merges topology place merge here side far register is)
+  where
+    at : (order ≡ (merge.first, merge.second)) ⊎ (order ≡ (merge.second, merge.first))
+        → IsSoFar sinks (numbers_below (length sinks) merges merge.first) side far register
+        ⊎ IsSoFar sinks (numbers_below (length sinks) merges merge.second) side far register → ⊥
+    at (inl same) (inl first) =
+        none register (subst (λ pair. IsSoFar sinks (numbers_below (length sinks) merges pair.0) side
+        far register) (sym same) first)
+    at (inl same) (inr second) =
+        nor register (subst (λ pair. IsSoFar sinks (numbers_below (length sinks) merges pair.1) side
+        far register) (sym same) second)
+    at (inr same) (inl first) =
+        nor register (subst (λ pair. IsSoFar sinks (numbers_below (length sinks) merges pair.1) side
+        far register) (sym same) first)
+    at (inr same) (inr second) =
+        none register (subst (λ pair. IsSoFar sinks (numbers_below (length sinks) merges pair.0) side
+        far register) (sym same) second)
+
+-- a node that a merge joins is below it
+pub joined_low : (sinks : ℕ) (merges : List Merge) (place : ℕ) (merge : Merge) (node : ℕ)
+    → IsTopology sinks merges → slice_get merges place ≡ Some merge → Joins merge node
+    → node < sinks + place
+joined_low sinks merges place merge node topology here (inl same) =
+    omega (arith, same, first_made sinks merges topology.each place merge here)
+joined_low sinks merges place merge node topology here (inr same) =
+    omega (arith, same, second_made sinks merges topology.each place merge here)
+
+-- what isn't wanting is there
+pub some_unless : (found : Option ℕ) → (IsNone found → ⊥) → IsSome found
+some_unless None none = absurd (none refl)
+some_unless (Some register) none = refl
+
+-- what may be found, by another fact of it
+pub if_found : {Holds Others : ℕ → Type 0} (found : Option ℕ)
+    → ((register : ℕ) → Holds register → Others register) → IfSome found Holds
+    → IfSome found Others
+if_found None more is = is
+if_found (Some register) more is = more register is
+
+module _ (sinks : List Sink) (merges : List Merge) (node : ℕ) (side : Side) (far : ℤ)
+    (is : IsGreatest (far_to side) (sinks_below sinks merges node) far) where
+  -- a sink that is as far as the furthest is there
+  pub some_so_far : (register : ℕ)
+      × IsSoFar sinks (numbers_below (length sinks) merges node) side far register
+  some_so_far =
+      let (register, below, here) = number_below sinks merges node is.sink is.among in
+      (register, record { among = below; attained = rw here is.attained })
+
+  -- and the code's numbers hold how far it is
+  pub far_below : AreTreeSinks sinks → IsFar far
+  far_below are = subst IsFar is.attained (far_sink side is.sink
+      (All-contains IsTreeSink sinks is.sink are.each
+      (All-contains (Contains sinks) (sinks_below sinks merges node) is.sink
+      (sinks_below-among sinks merges node) is.among)))
+
+  -- so it is the end
+  pub end_so_far : (end : End) → end.far ≡ far
+      → IsSoFar sinks (numbers_below (length sinks) merges node) side far end.sink
+      → IsEnd sinks (numbers_below (length sinks) merges node) (far_to side) end
+  end_so_far end same found = record {
+    among = found.among;
+    attained = subst (λ n. IsSomeAnd (slice_get sinks end.sink) (λ sink. far_to side sink ≡ n))
+        (sym same) found.attained;
+    furthest = subst (IsGreatest (far_to side) (sinks_below sinks merges node)) (sym same) is;
+  }

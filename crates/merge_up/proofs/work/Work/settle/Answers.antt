@@ -1,0 +1,55 @@
+use Rattle.std.proofs.Common.{◌<◌, ◌*◌, ◌-◌, ◌∙◌, ap, length, refl, true, take, slice_set, arith}
+use Rattle.std.proofs.lemmas.Int.{to_z-of_z}
+use Rattle.std.proofs.lemmas.List.{length-set}
+use Rattle.std.specs.Int.{w128}
+use Rattle.merge_up.proofs.WorkLemmas.{fit_state, take_set}
+use Rattle.merge_up.proofs.work.Work.settle.Goals as goal
+
+pub invariant_of-self : goal.invariant_of-self
+invariant_of-self c =
+    let work = c.self.inside in
+    let has = c.self.invariant in
+    let node = c.args.node in
+    let lengths = ap length c.set-2.ensures ∙ length-set work.tree.length node _ in
+    record {
+      some = has.some;
+      few = has.few;
+      merged = has.merged;
+      reaches = has.reaches;
+      places = ap length c.set.ensures ∙ length-set work.tree.place node _ ∙ has.places;
+      lengths = omega (arith, lengths, has.lengths);
+      regions = has.regions;
+      ends = has.ends;
+      settled = length-set work.settled.items node true ∙ has.settled;
+      renewals = has.renewals;
+    }
+
+pub returns : goal.returns
+returns c =
+    let work = c.self.inside in
+    let node = c.args.node in
+    let low : node < 2 * work.sinks - 1 = rw (← c.self.view_is) at c.requires.node in
+    let long = c.set-2.ensures
+    ∙ ap (slice_set work.tree.length node) (to_z-of_z w128 c.args.length c.ranges.length) in
+    record {
+      fit = fit_state _ (invariant_of-self c);
+      point = c.to_point.result;
+      stands = c.to_point.ensures.back;
+      rest = rw (← c.self.view_is) (λ i. record {
+        room = length work.shows;
+        sinks = work.sinks;
+        tree = record {
+          reach = take (2 * work.sinks) work.tree.reach;
+          place = take_set (2 * work.sinks) work.tree.place c.set.new.self node c.to_point.result
+              (omega (arith, low)) c.set.ensures i;
+          length = take_set (2 * work.sinks - 1) work.tree.length c.set-2.new.self node
+              c.args.length low long i;
+        };
+        regions = work.regions;
+        ends = work.ends;
+        shows = take work.sinks work.shows;
+        settled = take_set (2 * work.sinks) work.settled.items _ node true (omega (arith, low))
+            refl i;
+        renewals = work.renewals;
+      });
+    }
