@@ -1,5 +1,6 @@
 ghost use Rattle.std.specs.Prelude.{◌≡◌, ◌↔◌, IfOk};
 ghost use Rattle.cts_model.specs.ReportBounds.{IsOfSize, IsWithinBounds};
+ghost use Rattle.cts_model.specs.SaidReports.{ShowsWhatItSays};
 ghost use Rattle.cts_model.specs.Shown.{IsShown, IsLeast};
 ghost use Rattle.path_delays.specs.LevelParts.{IsLevelsOf};
 ghost use Rattle.cert_check.specs.declared.verdict.Verdict.{Verdict};
@@ -25,9 +26,12 @@ pub fn check(alloc: Global, problem: &Problem, report: &Report) -> Result<Verdic
     requires bounds { IsWithinBounds problem.now.tech report.now }
     // The verdict is that of the first judgement that doesn't hold, at its first place.
     ensures verdict { IfOk result (IsVerdict problem.now report.now) }
-    // A report is shown exactly where each judgement holds, and then what it says is so.
+    // A report is shown exactly where each judgement holds, which is where all that it says is so;
+    // then its period, its schedule and its wire are the least.
     ensures shown { IfOk result
         (λ verdict. (verdict ≡ Verdict.Shown) ↔ IsShown problem.now report.now) }
+    ensures said { IfOk result
+        (λ verdict. (verdict ≡ Verdict.Shown) ↔ ShowsWhatItSays problem.now report.now) }
     ensures least { IfOk result
         (λ verdict. verdict ≡ Verdict.Shown → IsLeast problem.now report.now) }
 {

@@ -7,7 +7,8 @@ use Rattle.cts_model.specs.TableFlaws as flaws
 use Rattle.cts_model.specs.AcceptedTables.{IsDocument, IsNotToml, HasFlaw, IsDelayTable, AcceptsTable}
 use Rattle.delay_tables.specs.declared.fault.TechFault.{TechFault}
 use Rattle.delay_tables.specs.declared.fault.TechFault.TheVariants.{NotToml, Missing, WrongType, OutOfRange, LeastAboveGreatest, MissingKind, UnknownKey, NoMemory}
-use Rattle.delay_tables.specs.Refusals.{Refuses, IsFaultOf}
+use Rattle.delay_tables.specs.Refusals.{Refuses, IsFaultOf, TellsName}
+use Rattle.cts_model.proofs.TableLemmas.{disorder_of_table, unknown_of_table}
 
 -- the fault of a flaw
 abbrev pub fault_of : TableFlaw → TechFault
@@ -98,3 +99,17 @@ names_each used bytes (Err found) accepted refused fault named refuses = one_fau
 -- a delay table has no fault but want of memory
 pub not_refused : (used : List Bool) (bytes : List ℕ) (fault : TechFault) → IsDelayTable used bytes → Refuses used bytes fault → fault ≡ NoMemory
 not_refused used bytes fault table refuses = no_fault used bytes fault table (cause_of used bytes fault refuses)
+
+-- a fault tells the least unknown key, and the first that is out of order
+pub names_told : (used : List Bool) (bytes : List ℕ) (fault : TechFault)
+    → Refuses used bytes fault → TellsName bytes fault
+names_told used bytes NotToml has = tt
+names_told used bytes (Missing name) has = tt
+names_told used bytes (WrongType name) has = tt
+names_told used bytes (OutOfRange name) has = tt
+names_told used bytes (LeastAboveGreatest name) has =
+    (has.document, has.reads, disorder_of_table used has.document name has.first)
+names_told used bytes (MissingKind kind) has = tt
+names_told used bytes (UnknownKey name) has =
+    (has.document, has.reads, unknown_of_table used has.document name has.first)
+names_told used bytes NoMemory has = tt

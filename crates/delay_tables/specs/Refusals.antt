@@ -1,9 +1,11 @@
 -- Why the reader refuses a delay table: it is no TOML, or it has a flaw, the first in the order in
 -- which it is judged.
 use Rattle.std.specs.Prelude.{◌≡◌, ℕ, Bool, List, Option, Some, None, Result, MatchResult}
-use Rattle.cts_model.specs.TableFlaws.{TableFlaw}
+use Rattle.toml.specs.Data.{Members}
+use Rattle.cts_model.specs.TableFlaws.{TableFlaw, unknown_names}
 use Rattle.cts_model.specs.TableFlaws as flaws
-use Rattle.cts_model.specs.AcceptedTables.{IsNotToml, HasFlaw}
+use Rattle.cts_model.specs.TableLaws.{IsFirstDisorder, IsLeastName}
+use Rattle.cts_model.specs.AcceptedTables.{IsDocument, IsNotToml, HasFlaw}
 use Rattle.delay_tables.specs.declared.fault.TechFault.{TechFault}
 use Rattle.delay_tables.specs.declared.fault.TechFault.TheVariants.{NotToml, Missing, WrongType, OutOfRange, LeastAboveGreatest, MissingKind, UnknownKey, NoMemory}
 
@@ -17,6 +19,14 @@ Refuses used bytes (LeastAboveGreatest name) = HasFlaw used bytes (flaws.LeastAb
 Refuses used bytes (MissingKind kind) = HasFlaw used bytes (flaws.MissingKind kind)
 Refuses used bytes (UnknownKey name) = HasFlaw used bytes (flaws.UnknownKey name)
 Refuses used bytes NoMemory = Unit {0}
+
+-- the key is the least name that no key has, and what is out of order is the first that is
+abbrev pub TellsName : List ℕ → TechFault → Type 0
+TellsName bytes (UnknownKey name) = (document : Members) × IsDocument bytes document
+    × IsLeastName (unknown_names document) name
+TellsName bytes (LeastAboveGreatest name) = (document : Members) × IsDocument bytes document
+    × IsFirstDisorder document name
+TellsName bytes _ = Unit {0}
 
 -- a document with this flaw first has the fault, or memory ran out
 abbrev pub IsFaultOf : Option TableFlaw → TechFault → Type 0

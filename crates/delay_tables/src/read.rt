@@ -3,7 +3,7 @@ ghost use Rattle.toml.specs.View.{table_view};
 ghost use Rattle.cts_model.specs.TableFlaws as flaws;
 ghost use Rattle.cts_model.specs.AcceptedTables.{IsDocument, IsDelayTable, AcceptsTable, GivesKinds};
 ghost use Rattle.delay_tables.specs.declared.fault.TechFault.{TechFault};
-ghost use Rattle.delay_tables.specs.Refusals.{Judges, IsUnread, Refuses};
+ghost use Rattle.delay_tables.specs.Refusals.{Judges, IsUnread, Refuses, TellsName};
 
 use crate::TechFault;
 use crate::names::judge_names;
@@ -25,6 +25,8 @@ pub fn read_tech(alloc: Global, bytes: &[u8], used: &[bool; 8]) -> Result<Tech, 
     ensures faulty { (fault : TechFault) → fault ≢ TechFault.NoMemory
         → Refuses used.now bytes.now fault
         → IsErrAnd result (λ found. (found ≡ fault) ⊎ (found ≡ TechFault.NoMemory)) }
+    // The unknown key that is told is the least, and of what is out of order it is the first.
+    ensures told { IfErr result (TellsName bytes.now) }
 {
     accepted_table(alloc, bytes, used)
 }

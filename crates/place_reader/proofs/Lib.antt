@@ -1,4 +1,3 @@
-mod EntryLengths
 mod NameLemmas
 mod NodeLemmas
 mod NumberFaults

@@ -1,10 +1,8 @@
 -- The walk that takes in what each line places.
-use Rattle.std.proofs.Common.{◌≡◌, ℕ, ◌≤◌, List, [], ◌∷◌, ◌++◌, length, None, inl, inr, subst}
+use Rattle.std.proofs.Common.{◌≡◌, ℕ, List, [], ◌∷◌, ◌++◌, None, inl, inr, subst}
 use Rattle.cts_base.specs.Lines.{lines_of, numbered_lines, IsLine}
 use Rattle.cts_base.proofs.LineSplits.{IsPassed, none_passed, all_passed, next_line}
 use Rattle.cts_base.proofs.ListPlaces.{nothing_before, split_push}
-use Rattle.cts_base.proofs.PartLengths.{IsWithin, AreWithin, lines_within}
-use Rattle.std.proofs.lemmas.List.Elements.{All-head, All-tail}
 use Rattle.cts_model.specs.Placements.{AreFlawless, HasFlaw, nodes_in}
 use Rattle.place_reader.specs.declared.placing.Placing.{Placing}
 use Rattle.place_reader.specs.declared.fault.PlaceFault.{PlaceFault}
@@ -25,11 +23,6 @@ flawless_push wanted lines line before here = record {
     | inr inside ↦ before.each earlier next inside.0 inside.1
   ];
 }
-
--- an item of lists that are no longer than that
-item_within : (most : ℕ) (front : List (List ℕ)) (item : List ℕ) (rest : List (List ℕ)) → AreWithin most (front ++ item ∷ rest) → length item ≤ most
-item_within most [] item rest all = All-head (IsWithin most) item rest all
-item_within most (first ∷ front) item rest all = item_within most front item rest (All-tail (IsWithin most) first (front ++ item ∷ rest) all)
 
 -- the lines so far have no flaw, and this is taken in from them
 pub record PlacesPassed (wanted : List (List ℕ)) (text : List ℕ) (left : List (ℕ × List ℕ)) (placing : Placing) : Type 0 where
@@ -56,12 +49,6 @@ module _ {wanted : List (List ℕ)} {text : List ℕ} {left more : List (ℕ × 
       → ((earlier : List (List ℕ)) → IsLine text number earlier line → AreFlawless wanted earlier → IsLineFault wanted earlier line fault → RefusesLine wanted text refusal)
       → RefusesLine wanted text refusal
   refuses_next fault refusal before some judged tells = tells before.passed (next_line number line more before.walk some).place before.flawless (judged wanted before.passed before.has)
-
-  -- a line is no longer than the text
-  pub line_within : PlacesPassed wanted text left old → left ≡ (number, line) ∷ more → length line ≤ length text
-  line_within before some =
-      let place = (next_line number line more before.walk some).place in
-      item_within (length text) before.passed line place.later (subst (AreWithin (length text)) place.split (lines_within text))
 
 module _ {wanted : List (List ℕ)} {text : List ℕ} {left : List (ℕ × List ℕ)} {placing : Placing} where
   -- at the end

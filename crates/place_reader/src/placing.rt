@@ -38,7 +38,6 @@ impl Placing {
 
     // Takes in what the next line places, if nothing is wrong with it.
     fn add_line(&mut self, line: &[u8]) -> Result<(), LineFault>
-        requires { length line.now ≤ 16777216 }
         ensures { (wanted earlier : List (List ℕ)) → HasTaken wanted self.old earlier
             → MatchResult result
             (λ _. HasFlaw wanted earlier line.now None
@@ -61,8 +60,6 @@ impl Placing {
 
     // Takes in a node's line, if nothing is wrong with it; a node that isn't wanted is passed over.
     fn add_node(&mut self, node: Node) -> Result<(), LineFault>
-        requires x { length node.x.now ≤ 16777216 }
-        requires y { length node.y.now ≤ 16777216 }
         ensures { MatchResult result (λ _. TakesNode self.old self.new node.entry)
             (IsNodeFault self.old node.entry) }
     {
@@ -80,8 +77,6 @@ impl Placing {
 
 // The point of a node's line.
 fn point_of(node: Node) -> Result<Point, NumberFault>
-    requires x { length node.x.now ≤ 16777216 }
-    requires y { length node.y.now ≤ 16777216 }
     ensures { MatchResult result (IsPointOf node.entry) (IsPointFault node.entry) }
 {
     let x = read_micro(node.x)?;

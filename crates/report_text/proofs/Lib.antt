@@ -33,3 +33,11 @@ mod BodyLemmas
 mod PartLemmas
 mod AssemblyLemmas
 mod PartsTold
+mod TimingFound
+mod TreeFound
+mod PassedLines
+mod PassedSections
+mod PassedTexts
+mod SpelledNumbers
+mod JudgedWords
+mod JudgedTexts

@@ -1,5 +1,5 @@
 -- Where a text is first cut, and what stands before and behind that place.
-use Rattle.std.proofs.Common.{ℕ, ◌≡◌, ◌<◌, ◌+◌, Bool, not, Some, List, ◌∷◌, length, take, drop, refl, sym, arith, get_or, drop-cons}
+use Rattle.std.proofs.Common.{ℕ, ◌≡◌, ◌<◌, ◌+◌, Bool, Some, List, ◌∷◌, length, take, drop, refl, sym, arith, get_or, drop-cons}
 use Rattle.std.proofs.lemmas.Bool.Decides.{nat_tests}
 use Rattle.std.specs.List.{slice_split, position_or_len, position}
 use Rattle.std.proofs.lemmas.List.{drop-drop}

@@ -63,7 +63,7 @@ module _ {circuit : Circuit} {text : List ℕ} {new : Left} {heading : Heading}
       (sym (map_at (slice_split is_line_feed text) line)
       ∙ ap (λ ls. get_or ls line (words_of [])) read.words)
 
-  told_version : version_told text ≡ heading.version
+  pub told_version : version_told text ≡ heading.version
   told_version =
       ap (λ word. if bytes_eq word (codes "1") then First else Second) (told 0 1)
       ∙ at heading.version
@@ -85,13 +85,13 @@ module _ {circuit : Circuit} {text : List ℕ} {new : Left} {heading : Heading}
       (record { above = omega (arith, ints, from); below = omega (arith, ints, below) })
       (record { above = omega (arith, ints, some); below = omega (arith, ints, low) })
 
-  told_scale : (tech : Tech) → scale_told tech text ≡ scale_in tech heading.period
+  pub told_scale : (tech : Tech) → scale_told tech text ≡ scale_in tech heading.period
   told_scale tech = λ i. record {
     den = told_den i;
     grid = pos (10 ^ 6) *ℤ (pos 8 *ℤ told_den i *ℤ tech.wire_num);
   }
 
-  told_cycle : cycle_told text ≡ count_of heading.count
+  pub told_cycle : cycle_told text ≡ count_of heading.count
   told_cycle =
       ap (λ word. cycle_of word (word_at text 2 1)) (told 2 0)
       ∙ ap (λ count. cycle_of (get_or (shown_line heading.count) 0 []) count) (told 2 1)

@@ -190,7 +190,7 @@ module _ (circuit : Circuit) (words : Words) (launch capture : ℕ) (weight : �
 -- ---- slacks
 
 -- so many steps that aren't the bound or more in size are below it
-below_bound : (bound : ℕ) (steps : ℤ)
+pub below_bound : (bound : ℕ) (steps : ℤ)
     → (pos bound ≤ℤ steps → ⊥) → ((steps +ℤ pos bound) ≤ℤ pos 0 → ⊥) → IsBelow bound steps
 below_bound bound steps low high =
     let above : neg_ℤ (pos bound) <ℤ steps = grind (arith, ints) in

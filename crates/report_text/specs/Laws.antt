@@ -1,5 +1,5 @@
 -- What holds of every text of a report.
-use Rattle.std.specs.Prelude.{◌≡◌, ℕ, List, Option, None}
+use Rattle.std.specs.Prelude.{◌≡◌, ◌⊎◌, ℕ, List, Option, Some, None}
 use Rattle.cts_model.specs.declared.circuit.Circuit.{Circuit}
 use Rattle.cts_model.specs.declared.report.Report.{Report}
 use Rattle.cts_model.specs.declared.tech.Tech.{Tech}
@@ -21,3 +21,19 @@ OneFault = (circuit : Circuit) (tech : Tech) (text : List ℕ) (fault other : Op
 abbrev pub NoFaultOfReport : Type 0
 NoFaultOfReport = (circuit : Circuit) (tech : Tech) (text : List ℕ) (report : Report)
     → Spells circuit tech text report → HasFault circuit tech text None
+
+-- where it has none, it spells one
+abbrev pub ReportOfNoFault : Type 0
+ReportOfNoFault = (circuit : Circuit) (tech : Tech) (text : List ℕ)
+    → HasFault circuit tech text None → (report : Report) × Spells circuit tech text report
+
+-- the text has a fault, or it spells a report
+abbrev pub HasFaultOrReport : Circuit → Tech → List ℕ → Type 0
+HasFaultOrReport circuit tech text =
+    ((fault : ReportFault) × HasFault circuit tech text (Some fault))
+    ⊎ ((report : Report) × Spells circuit tech text report)
+
+-- so it is with each text
+abbrev pub FaultOrReport : Type 0
+FaultOrReport = (circuit : Circuit) (tech : Tech) (text : List ℕ)
+    → HasFaultOrReport circuit tech text

@@ -5,6 +5,7 @@ ghost use Rattle.cts_model.specs.declared.report.Report as model;
 ghost use Rattle.cts_model.specs.ReportBounds.{Spells};
 ghost use Rattle.report_text.specs.declared.fault.ReportFault as faults;
 ghost use Rattle.report_text.specs.declared.fault.ReportFault.TheVariants as fault;
+ghost use Rattle.report_text.specs.Laws.{HasFaultOrReport};
 ghost use Rattle.report_text.specs.ReportFaults.{HasFault};
 
 mod body;
@@ -37,6 +38,8 @@ pub fn read_report(
     ensures faulty { (found : faults.ReportFault)
         → HasFault circuit.now tech.now bytes.now (Some found)
         → (result ≡ Err found) ⊎ (result ≡ Err fault.NoMemory) }
+    // Each text has one of the two, so it is read, or refused with its fault, unless memory wants.
+    ensures either { HasFaultOrReport circuit.now tech.now bytes.now }
 {
     let parts = read_parts(alloc, bytes, circuit, tech)?;
     let report = report_of(alloc, tech, parts)?;

@@ -1,7 +1,8 @@
-use Rattle.std.proofs.lemmas.Result.{IfOk-weaker}
+use Rattle.std.proofs.lemmas.Result.{IfErr-weaker, IfOk-weaker}
 use Rattle.cts_model.specs.AcceptedTables.{AcceptsTable, GivesKinds}
+use Rattle.delay_tables.specs.Refusals.{Refuses, TellsName}
 use Rattle.delay_tables.proofs.FlawlessTables.{gives_kinds}
-use Rattle.delay_tables.proofs.OneFault.{accepts_each, names_each}
+use Rattle.delay_tables.proofs.OneFault.{accepts_each, names_each, names_told}
 use Rattle.delay_tables.proofs.read.read_tech.Goals as goal
 
 pub returns-clause-given : goal.returns-clause-given
@@ -14,3 +15,8 @@ returns-clause-accepted c = accepts_each c.args.used.now c.args.bytes.now c.acce
 
 pub returns-clause-faulty : goal.returns-clause-faulty
 returns-clause-faulty c = names_each c.args.used.now c.args.bytes.now c.accepted_table.result c.accepted_table.ensures.ok c.accepted_table.ensures.refused
+
+pub returns-clause-told : goal.returns-clause-told
+returns-clause-told c = IfErr-weaker c.accepted_table.result
+    (Refuses c.args.used.now c.args.bytes.now) (TellsName c.args.bytes.now)
+    (names_told c.args.used.now c.args.bytes.now) c.accepted_table.ensures.refused

@@ -1,12 +1,9 @@
-use Rattle.std.proofs.Common.{◌∙◌, arith}
-use Rattle.place_reader.proofs.PlaceWalk.{places_none, places_next, refuses_next, line_within, all_flawless, all_placed}
+use Rattle.std.proofs.Common.{◌∙◌}
+use Rattle.place_reader.proofs.PlaceWalk.{places_none, places_next, refuses_next, all_flawless, all_placed}
 use Rattle.place_reader.proofs.placing.read_nodes.Goals as goal
 
 pub loop-line-init : goal.loop-line-init
 loop-line-init c = (tt, tt, places_none (c.into_iter-line-iterator.ensures.into_iter_gives ∙ c.lines-line-items.ensures) c.new-placing.ensures)
-
-pub add_line-requires : goal.add_line-requires
-add_line-requires c = let within = line_within c.loop-line.invariant.2 c.in-Some.ensures.steps in omega (arith, within, c.requires)
 
 pub loop-line-preserved : goal.loop-line-preserved
 loop-line-preserved c = (tt, tt, places_next c.loop-line.invariant.2 c.in-Some.ensures.steps c.in_default.ensures)

@@ -1,3 +1,5 @@
+use Rattle.report_text.proofs.JudgedTexts.{fault_or_report}
+use Rattle.report_text.proofs.PassedTexts.{report_spelled}
 use Rattle.report_text.proofs.WholeTexts.{no_fault, one_fault}
 use Rattle.report_text.proofs.laws.faults.Goals as goal
 
@@ -6,3 +8,9 @@ returns-clause-one c = one_fault
 
 pub returns-clause-none : goal.returns-clause-none
 returns-clause-none c = no_fault
+
+pub returns-clause-report : goal.returns-clause-report
+returns-clause-report c = report_spelled
+
+pub returns-clause-either : goal.returns-clause-either
+returns-clause-either c = fault_or_report

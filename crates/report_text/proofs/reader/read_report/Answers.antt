@@ -2,6 +2,7 @@ use Rattle.std.proofs.Common.{rules, ◌≢◌, Some, Ok}
 use Rattle.report_text.specs.declared.fault.ReportFault.{ReportFault}
 use Rattle.report_text.specs.declared.fault.ReportFault.TheVariants.{NoMemory}
 use Rattle.report_text.specs.ReportFaults.{HasFault}
+use Rattle.report_text.proofs.JudgedTexts.{fault_or_report}
 use Rattle.report_text.proofs.WalkLemmas.{passed_on}
 use Rattle.report_text.proofs.WholeTexts.{fault_read, spelled_read}
 use Rattle.report_text.proofs.reader.read_report.Goals as goal
@@ -36,3 +37,15 @@ returns-clause-faulty c =
     fault_read c.args.circuit.now c.args.tech.now c.args.bytes.now
     (Ok c.in_ok-report.report) (c.in_ok-report.ensures c.args.circuit.now c.args.bytes.now
     c.in_ok-parts.ensures.ok) tt
+
+pub returns-clause-either : goal.returns-clause-either
+returns-clause-either c =
+    fault_or_report c.args.circuit.now c.args.tech.now c.args.bytes.now
+
+pub returns-in_err-parts-clause-either : goal.returns-in_err-parts-clause-either
+returns-in_err-parts-clause-either c =
+    fault_or_report c.args.circuit.now c.args.tech.now c.args.bytes.now
+
+pub returns-in_err-report-clause-either : goal.returns-in_err-report-clause-either
+returns-in_err-report-clause-either c =
+    fault_or_report c.args.circuit.now c.args.tech.now c.args.bytes.now

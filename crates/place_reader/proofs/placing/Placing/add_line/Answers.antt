@@ -1,20 +1,7 @@
-use Rattle.std.proofs.Common.{sym, refl, true, arith}
+use Rattle.std.proofs.Common.{sym, refl, true}
 use Rattle.place_reader.specs.View.{node_said}
-use Rattle.place_reader.proofs.EntryLengths.{entry_short}
 use Rattle.place_reader.proofs.TakenLines.{blank_taken, header_taken, node_judged}
 use Rattle.place_reader.proofs.placing.Placing.add_line.Goals as goal
-
-pub add_node-requires-clause-x : goal.add_node-requires-clause-x
-add_node-requires-clause-x c =
-    let said = rw c.in-Some-Stands.field-0-is at c.in-Some-Stands.ensures in
-    let short = entry_short c.args.self.now.begun c.args.line.now (node_said c.in-Some-Stands.node) (sym said) in
-    omega (arith, short.x, c.requires)
-
-pub add_node-requires-clause-y : goal.add_node-requires-clause-y
-add_node-requires-clause-y c =
-    let said = rw c.in-Some-Stands.field-0-is at c.in-Some-Stands.ensures in
-    let short = entry_short c.args.self.now.begun c.args.line.now (node_said c.in-Some-Stands.node) (sym said) in
-    omega (arith, short.y, c.requires)
 
 pub returns-in-Some-Blank : goal.returns-in-Some-Blank
 returns-in-Some-Blank c wanted earlier has =

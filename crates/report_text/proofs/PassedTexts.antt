@@ -1,0 +1,210 @@
+-- A text without a fault spells a report.
+use Rattle.std.proofs.Common.{◌≡◌, ◌≤◌, ◌+◌, ◌==◌, ℕ, suc, Bool, true, false, cond, Option, Some, None, List, [], ◌∷◌, ◌++◌, length, map, codes, if◌then◌else◌, refl, sym, ap, ◌∙◌, subst, append-nil, arith}
+use Rattle.std.proofs.lemmas.Bool.{ne_eqb}
+use Rattle.std.proofs.lemmas.Option.{none-some}
+use Rattle.cts_model.specs.declared.circuit.Circuit.{Circuit}
+use Rattle.cts_model.specs.declared.period.PeriodShow.TheVariants.{Cycle, Floor}
+use Rattle.cts_model.specs.declared.report.Report.{Report}
+use Rattle.cts_model.specs.declared.report.Version.{Version}
+use Rattle.cts_model.specs.declared.report.Version.TheVariants.{First, Second}
+use Rattle.cts_model.specs.declared.tech.Tech.{Tech}
+use Rattle.cts_model.specs.Circuits.{has_host}
+use Rattle.cts_model.specs.PrintedLines.{count_line, line_for}
+use Rattle.cts_model.specs.ReportBounds.{Spells}
+use Rattle.cts_model.specs.ReportLines.{pathed_lines}
+use Rattle.report_text.specs.declared.fault.ReportFault.TheVariants.{Extra}
+use Rattle.report_text.specs.declared.form.Form.{Form}
+use Rattle.report_text.specs.declared.form.Form.TheVariants as form
+use Rattle.report_text.specs.declared.form.Scale.{Scale}
+use Rattle.report_text.specs.declared.sections.Heading.{Heading}
+use Rattle.report_text.specs.declared.sections.Parts.{Parts}
+use Rattle.report_text.specs.Forms.{cycle_forms, forms_behind}
+use Rattle.report_text.specs.Headings.{HasHeading, HasShown, IsSmallCount, count_of, heading_forms}
+use Rattle.report_text.specs.Parts.{HasParts, scale_in, whole}
+use Rattle.report_text.specs.ReportFaults.{HasFault, cycle_told, scale_told, version_told}
+use Rattle.report_text.specs.TimingValues.{TellsPeriod, TellsShow}
+use Rattle.report_text.specs.ToldReports.{report_told}
+use Rattle.report_text.specs.Walks.{Left, TellsVersion}
+use Rattle.report_text.proofs.GridLemmas.{scale_small}
+use Rattle.report_text.proofs.HeadingLemmas.{heading_read}
+use Rattle.report_text.proofs.PartLemmas.{told_cycle, told_scale, told_version}
+use Rattle.report_text.proofs.PartsTold.{parts_spelled}
+use Rattle.report_text.proofs.PassedLines.{IsSound, Passed, told_passed}
+use Rattle.report_text.proofs.PassedSections.{body_passed, cycle_passed, pathed_passed}
+use Rattle.report_text.proofs.TimingFound.{period_found, show_found, version_found}
+use Rattle.report_text.proofs.WalkLemmas.{read_none}
+
+-- the heading
+heading_passed : (circuit : Circuit) (scale : Scale) (more : List Form) (old : Left)
+    → IsSound circuit scale (heading_forms ++ more) old
+    → Passed circuit scale more (HasHeading circuit old)
+heading_passed circuit scale more old sound =
+    let version = told_passed circuit scale form.Version (form.Period ∷ form.Show ∷ more)
+    TellsVersion old (λ words some. version_found circuit scale words) sound in
+    let period = told_passed circuit scale form.Period (form.Show ∷ more) TellsPeriod version.new
+    (λ words some. period_found circuit scale words) version.rest in
+    let count = told_passed circuit scale form.Show more TellsShow period.new
+    (λ words some. show_found circuit scale words) period.rest in
+    record {
+      new = count.new;
+      value = record { version = version.value; period = period.value; count = count.value };
+      has = heading_read circuit scale old version.new period.new count.new
+          (record { version = version.value; period = period.value; count = count.value })
+          version.has period.has count.has;
+      rest = count.rest;
+    }
+
+-- what shows the period
+shown_passed : (circuit : Circuit) (scale : Scale) (version : Version) (count : Option ℕ)
+    → (more : List Form) (old : Left) → IsSmallCount count
+    → IsSound circuit scale (cycle_forms version (count_of count) ++ more) old
+    → Passed circuit scale more (HasShown circuit scale version count old)
+shown_passed circuit scale First None more old small sound = record {
+  new = old;
+  value = record { shown = Floor; paths = [] };
+  has = record {
+    lines = read_none circuit scale old;
+    first = refl;
+    counted = refl;
+    paths = refl;
+    among = tt;
+    weights = tt;
+    signals = λ place default within. absurd (omega (arith, within));
+    few = λ place default within. absurd (omega (arith, within));
+  };
+  rest = sound;
+}
+shown_passed circuit scale Second None more old small sound = record {
+  new = old;
+  value = record { shown = Floor; paths = [] };
+  has = record {
+    lines = read_none circuit scale old;
+    first = refl;
+    counted = refl;
+    paths = refl;
+    among = tt;
+    weights = tt;
+    signals = λ place default within. absurd (omega (arith, within));
+    few = λ place default within. absurd (omega (arith, within));
+  };
+  rest = sound;
+}
+shown_passed circuit scale First (Some count) more old small sound =
+    let cycle = cycle_passed circuit scale count more old sound in
+    let many = cycle.has.as_many in
+    record {
+      new = cycle.new;
+      value = record { shown = Cycle cycle.value; paths = [] };
+      has = record {
+        lines = cycle.has.lines;
+        first = ap (λ n. count_line (codes "cycle") n ∷ map (line_for circuit) cycle.value) many;
+        counted = many;
+        paths = refl;
+        among = cycle.has.registers;
+        weights = (omega (arith, many, small.0), omega (arith, many, small.1), cycle.has.weights);
+        signals = λ place default within. absurd (omega (arith, within));
+        few = λ place default within. absurd (omega (arith, within));
+      };
+      rest = cycle.rest;
+    }
+shown_passed circuit scale Second (Some count) more old small sound =
+    let pathed = pathed_passed circuit scale count more old sound in
+    let many = pathed.has.as_many in
+    record {
+      new = pathed.new;
+      value = record { shown = Cycle pathed.value.cycle; paths = pathed.value.paths };
+      has = record {
+        lines = pathed.has.lines;
+        first = ap (λ n. count_line (codes "cycle") n
+            ∷ pathed_lines circuit pathed.value.cycle pathed.value.paths) many;
+        counted = many;
+        paths = pathed.has.paths ∙ sym many;
+        among = pathed.has.registers;
+        weights = (
+          omega (arith, many, small.0),
+          omega (arith, many, small.1),
+          pathed.has.weights,
+        );
+        signals = pathed.has.signals;
+        few = pathed.has.few;
+      };
+      rest = pathed.rest;
+    }
+
+-- behind the heading the forms are those that it tells
+forms_told : {circuit : Circuit} {text : List ℕ} {new : Left} {heading : Heading}
+    → HasHeading circuit (whole text) new heading → (tech : Tech)
+    → IsSound circuit (scale_told tech text) (cycle_forms (version_told text) (cycle_told text)
+    ++ forms_behind (version_told text) (length circuit.registers)) new
+    → IsSound circuit (scale_in tech heading.period)
+    (cycle_forms heading.version (count_of heading.count)
+    ++ forms_behind heading.version (length circuit.registers)) new
+forms_told {circuit} {text} {new} {heading} has tech sound =
+    subst (λ (scale : Scale). IsSound circuit scale
+    (cycle_forms heading.version (count_of heading.count)
+    ++ forms_behind heading.version (length circuit.registers)) new) (told_scale has tech)
+    (subst (λ (version : Version). IsSound circuit (scale_told tech text)
+    (cycle_forms version (count_of heading.count)
+    ++ forms_behind version (length circuit.registers)) new) (told_version has)
+    (subst (λ (count : ℕ). IsSound circuit (scale_told tech text)
+    (cycle_forms (version_told text) count
+    ++ forms_behind (version_told text) (length circuit.registers)) new) (told_cycle has) sound))
+
+-- where nothing more is to follow, nothing is left
+nothing_left : (circuit : Circuit) (scale : Scale) (left : Left) → IsSound circuit scale [] left
+    → left.text ≡ []
+nothing_left circuit scale left sound = at left.text sound
+  where
+    at : (text : List ℕ)
+        → None ≡ (if length text == 0 then None else Some (Extra left.line)) → text ≡ []
+    at [] is = refl
+    at (byte ∷ text) is =
+        let some : (suc (length text) == 0) ≡ false =
+        ne_eqb (suc (length text)) 0 (λ none. omega (arith, none)) in
+        absurd (none-some (Extra left.line)
+        (is ∙ ap (λ b. if b then None else Some (Extra left.line)) some))
+
+-- there are at most 4,097 registers
+few_registers : (circuit : Circuit) → length circuit.registers ≤ 4097
+few_registers circuit = at (has_host circuit.signals) circuit.valid.few_registers
+  where
+    at : (host : Bool) → length circuit.registers ≤ 4096 + cond host 1 0
+        → length circuit.registers ≤ 4097
+    at true few = omega (arith, few)
+    at false few = omega (arith, few)
+
+-- all lines
+parts_passed : (circuit : Circuit) (tech : Tech) (text : List ℕ) → HasFault circuit tech text None
+    → (parts : Parts) × HasParts circuit tech text parts
+parts_passed circuit tech text sound =
+    let registers = length circuit.registers in
+    let few = few_registers circuit in
+    let heading = heading_passed circuit (scale_told tech text)
+    (cycle_forms (version_told text) (cycle_told text)
+    ++ forms_behind (version_told text) registers) (whole text) sound in
+    let scale = scale_in tech heading.value.period in
+    let behind : List Form = forms_behind heading.value.version registers in
+    let shown = shown_passed circuit scale heading.value.version heading.value.count behind
+    heading.new heading.has.count (forms_told heading.has tech heading.rest) in
+    let body = body_passed circuit scale heading.value.version registers [] shown.new
+    (scale_small tech heading.value.period heading.has.small) few few
+    (subst (λ forms. IsSound circuit scale forms shown.new) (sym (append-nil behind))
+    shown.rest) in (
+      record { heading = heading.value; shown = shown.value; body = body.value },
+      record {
+        behind_heading = heading.new;
+        behind_shown = shown.new;
+        end = body.new;
+        heading = heading.has;
+        shown = shown.has;
+        body = body.has;
+        ended = nothing_left circuit scale body.new body.rest;
+      },
+    )
+
+-- so it spells the report that they make
+pub report_spelled : (circuit : Circuit) (tech : Tech) (text : List ℕ)
+    → HasFault circuit tech text None → (report : Report) × Spells circuit tech text report
+report_spelled circuit tech text sound =
+    let (parts, has) = parts_passed circuit tech text sound in
+    (report_told tech parts, parts_spelled has)
