@@ -1,8 +1,11 @@
 -- The paths of the constraints that show a period.
 use Rattle.std.specs.Prelude.{◌≡◌, ◌≤◌, ◌<◌, ℕ, List, [], All, length}
+use Rattle.cts_model.specs.declared.circuit.Circuit.{Circuit}
 use Rattle.cts_model.specs.declared.constraint.Constraint.{Constraint}
 use Rattle.cts_model.specs.declared.period.PeriodShow.{PeriodShow}
 use Rattle.cts_model.specs.declared.period.PeriodShow.TheVariants.{Cycle, Floor}
+use Rattle.cts_model.specs.declared.tech.Tech.{Tech}
+use Rattle.cts_model.specs.ConstraintPaths.{GivesWeight}
 
 -- the property holds of each constraint that shows the period
 abbrev pub IsShownBy : (Constraint → Type 0) → PeriodShow → Type 0
@@ -17,3 +20,10 @@ path_signals = 4096
 pub record IsKept (whole : List ℕ) (room : ℕ) (path : List ℕ) : Type 0 where
   pub whole_kept : length whole ≤ room → path ≡ whole
   pub none : room < length whole → path ≡ []
+
+-- a path that gives the constraint its weight, where there is room for it, and else none
+pub record IsPathWithin (circuit : Circuit) (tech : Tech) (constraint : Constraint) (room : ℕ)
+    (path : List ℕ) : Type 0 where
+  pub whole : List ℕ
+  pub gives : GivesWeight circuit tech constraint whole
+  pub kept : IsKept whole room path

@@ -1,14 +1,14 @@
-ghost use Rattle.std.specs.Prelude.{◌<◌, All, IfOk, length};
+ghost use Rattle.std.specs.Prelude.{◌≡◌, All, IfOk};
 ghost use Rattle.cts_model.specs.ConstraintPaths.{ArePathsOf, ArePathsWithin, GivesWeight};
 ghost use Rattle.cts_model.specs.Constraints.{IsConstraintOf};
 ghost use Rattle.cts_model.specs.PairLists.{AreJoined};
 ghost use Rattle.path_delays.specs.ExtremePaths.{IsExtremePath};
 ghost use Rattle.path_delays.specs.LevelParts.{IsLevelsOf};
-ghost use Rattle.cts_engine.specs.CyclePaths.{IsShownBy, IsKept, path_signals};
+ghost use Rattle.cts_engine.specs.CyclePaths.{IsShownBy, IsKept, IsPathWithin, path_signals};
 
 use cts_base::{Listed, NoMemory};
 use cts_model::{Circuit, Constraint, PeriodShow, Tech};
-use path_delays::{Levels, path_of};
+use path_delays::{Levels, Paths};
 use std::alloc::Global;
 
 /// How many signals the paths of a cycle have together, at most.
@@ -33,7 +33,7 @@ pub(crate) fn cycle_paths(
     }
 }
 
-// The paths of these constraints.
+// The paths of these constraints, looked for one after the other in the same room.
 fn paths_within(
     alloc: Global,
     circuit: &Circuit,
@@ -45,15 +45,35 @@ fn paths_within(
     requires each { All (IsConstraintOf circuit.now tech.now) cycle.now }
     ensures { IfOk result (ArePathsWithin circuit.now tech.now path_signals cycle.now) }
 {
+    let mut search = Paths::new(alloc, circuit, levels, tech)?;
     let mut paths = Listed::new(alloc);
     let mut room = MAX_SIGNALS;
     for constraint in cycle {
-        let whole = constraint_path(alloc, circuit, levels, tech, constraint)?;
-        let path = kept(alloc, whole, room);
+        let path = path_within(alloc, &mut search, constraint, room)?;
         room -= path.len();
         paths.push(path)?;
     }
     Ok(paths)
+}
+
+// The path of a constraint, if there is room for so many signals, and else none. Without any room
+// none is looked for.
+fn path_within(
+    alloc: Global,
+    search: &mut Paths,
+    constraint: &Constraint,
+    room: usize,
+) -> Result<Listed<u32>, NoMemory>
+    requires { IsConstraintOf search.old.circuit search.old.tech constraint.now }
+    ensures path { IfOk result
+        (IsPathWithin search.old.circuit search.old.tech constraint.now room) }
+    ensures same { search.new ≡ search.old }
+{
+    if room == 0 {
+        return Ok(Listed::new(alloc));
+    }
+    let whole = constraint_path(alloc, search, constraint)?;
+    Ok(kept(alloc, whole, room))
 }
 
 // The path, if there is room for so many signals, and else none.
@@ -70,38 +90,35 @@ fn kept(alloc: Global, whole: Listed<u32>, room: usize) -> Listed<u32>
 // A path that gives a constraint its weight.
 fn constraint_path(
     alloc: Global,
-    circuit: &Circuit,
-    levels: &Levels,
-    tech: &Tech,
+    search: &mut Paths,
     constraint: &Constraint,
 ) -> Result<Listed<u32>, NoMemory>
-    requires levels { IsLevelsOf circuit.now levels.now }
-    requires constraint { IsConstraintOf circuit.now tech.now constraint.now }
-    ensures { IfOk result (GivesWeight circuit.now tech.now constraint.now) }
+    requires { IsConstraintOf search.old.circuit search.old.tech constraint.now }
+    ensures path { IfOk result (GivesWeight search.old.circuit search.old.tech constraint.now) }
+    ensures same { search.new ≡ search.old }
 {
     let Constraint { tail, head, .. } = *constraint;
     if constraint.setup {
-        extreme_path(alloc, circuit, levels, tech, tail, head, true)
+        extreme_path(alloc, search, tail, head, true)
     } else {
-        extreme_path(alloc, circuit, levels, tech, head, tail, false)
+        extreme_path(alloc, search, head, tail, false)
     }
 }
 
 // A path with the greatest delay of all between two registers that are joined, or with the least.
 fn extreme_path(
     alloc: Global,
-    circuit: &Circuit,
-    levels: &Levels,
-    tech: &Tech,
+    search: &mut Paths,
     from: u32,
     to: u32,
     greatest: bool,
 ) -> Result<Listed<u32>, NoMemory>
-    requires levels { IsLevelsOf circuit.now levels.now }
-    requires joined { AreJoined circuit.now (from, to) }
-    ensures { IfOk result (IsExtremePath circuit.now tech.now from to greatest) }
+    requires { AreJoined search.old.circuit (from, to) }
+    ensures path { IfOk result
+        (IsExtremePath search.old.circuit search.old.tech from to greatest) }
+    ensures same { search.new ≡ search.old }
 {
-    match path_of(alloc, circuit, levels, tech, from, to, greatest)? {
+    match search.path(alloc, from, to, greatest)? {
         Some(path) => Ok(path),
         None => unreachable!(),
     }

@@ -25,7 +25,6 @@ mod CaptureLemmas
 mod CapturingLemmas
 mod FurthestSignals
 mod ExtremeDelays
-mod OrderPlaces
 mod PathsBack
 mod PairWalk
 mod PairCounts

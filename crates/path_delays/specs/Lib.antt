@@ -17,5 +17,6 @@ pub mod Capturings
 pub mod CapturedSums
 pub mod JoinedPairs
 pub mod ExtremePaths
+pub mod TimedCircuits
 pub mod Windows
 pub mod WindowParts

@@ -1,9 +1,8 @@
 ghost use Rattle.std.specs.Prelude.{◌≡◌, ◌<◌, ◌↔◌, length, Contains, IfOk, IsTrue, IsSomeAnd};
 ghost use Rattle.cts_model.specs.Paths.{Reads};
-ghost use Rattle.path_delays.specs.LevelParts.{IsLevelsOf};
+ghost use Rattle.path_delays.specs.WalkParts.{IsRoomFor};
 ghost use Rattle.path_delays.specs.ExtremePaths.{IsExtremeIfAny, IsFurthestIfAny, extreme_of};
 
-use crate::Levels;
 use crate::pair::captured_sums;
 use crate::sums::Sums;
 use crate::walk::Walk;
@@ -11,31 +10,30 @@ use cts_base::{Listed, NoMemory};
 use cts_model::{Circuit, Tech};
 use std::alloc::Global;
 
-/// The signals of a path from one register to another with the greatest delay of all, or with the
-/// least. `None` comes exactly where no path joins them; which path of several is free.
-pub fn path_of(
+/// Walks from a register, and finds a path to another.
+pub(crate) fn path_between(
+    walk: &mut Walk,
     alloc: Global,
     circuit: &Circuit,
-    levels: &Levels,
     tech: &Tech,
     from: u32,
     to: u32,
     greatest: bool,
 ) -> Result<Option<Listed<u32>>, NoMemory>
-    requires levels { IsLevelsOf circuit.now levels.now }
+    requires room { IsRoomFor circuit.now tech.now walk.old }
     requires from { from < length circuit.now.registers }
     requires to { to < length circuit.now.registers }
-    ensures { IfOk result (IsExtremeIfAny circuit.now tech.now from to greatest) }
+    ensures path { IfOk result (IsExtremeIfAny circuit.now tech.now from to greatest) }
+    ensures room { IsRoomFor circuit.now tech.now walk.new }
 {
-    let mut walk = Walk::new(alloc, circuit, levels, tech)?;
     walk.walk_from(circuit, tech, from);
     let captured = circuit.register_signal(to as usize).fan_in.as_slice();
-    let Some(last) = furthest(&walk, captured, greatest) else {
+    let Some(last) = furthest(walk, captured, greatest) else {
         return Ok(None);
     };
     let mut path = vec![in alloc; last]?;
     let mut signal = last;
-    while let Some(read) = furthest_read(&walk, circuit, signal, greatest) {
+    while let Some(read) = furthest_read(walk, circuit, signal, greatest) {
         path.push(read)?;
         signal = read;
     }
