@@ -1,7 +1,7 @@
 -- What pieces make together, and counts that rise.
-use Rattle.std.proofs.Common.{ℕ, ◌≡◌, ◌<◌, ◌≤◌, Option, Some, None, List, ◌++◌, length, take, drop, refl, ap, arith, append_assoc, length-append}
+use Rattle.std.proofs.Common.{ℕ, ◌≡◌, ◌+◌, ◌<◌, ◌≤◌, Option, Some, None, List, ◌++◌, length, take, drop, refl, ap, arith, append_assoc, length-append}
 use Rattle.std.proofs.lemmas.List.{take-append-drop}
-use Rattle.std.proofs.Math.Seq.{take-append_seam}
+use Rattle.std.proofs.Math.Seq.{take-append_seam, drop-append-add}
 use Rattle.cts_io.specs.Device.{Rose, appended, WritesPrefix, Takes}
 
 -- a count that rose last has risen since any earlier time
@@ -29,3 +29,10 @@ WritesPrefix-rest before now bytes done rest parts some written = record {
 pub Takes-next : (held taken rest buffer now : List ℕ) (n : ℕ) (after : Option (List ℕ)) → held ≡ taken ++ rest → Takes rest n buffer after → now ≡ taken ++ take n buffer → (left : List ℕ) × (after ≡ Some left) × (held ≡ now ++ left)
 Takes-next held taken rest buffer now n after parts takes grown =
     (drop n rest, takes.rest, rw (grown, takes.given) (append-moved held taken rest n parts))
+
+-- a take that comes to this many bytes in all leaves what stands behind them
+pub Takes-leaves : (held taken rest buffer : List ℕ) (n sum : ℕ) (after : Option (List ℕ))
+    → held ≡ taken ++ rest → Takes rest n buffer after → length taken + n ≡ sum
+    → after ≡ Some (drop sum held)
+Takes-leaves held taken rest buffer n sum after parts takes sums =
+    rw (parts, ← sums, drop-append-add) takes.rest

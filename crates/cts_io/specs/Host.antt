@@ -9,3 +9,9 @@ untold = None
 pub record Counted (S : Type 0) : Type 0 where
   pub stream : S
   pub faults : ℕ
+
+-- what opens files, the started one, and the count of the faults
+pub record Opened (O F : Type 0) : Type 0 where
+  pub opener : O
+  pub stream : Option F
+  pub faults : ℕ

@@ -1,39 +1,47 @@
--- Calls on a stream that a signal may interrupt, and what a caller is told who tries them again.
+-- Calls of the host that a signal may interrupt, and what a caller is told who tries them again.
 -- EINTR of POSIX; `ErrorKind::Interrupted` of Rust's std.
-use Rattle.std.specs.Prelude.{◌≡◌, ◌≢◌, ◌-◌, ◌^◌, ◌<◌, ◌⊎◌, ℕ, zero, suc, Result, Ok, IsErr, IsErrAnd, MatchResult}
+use Rattle.std.specs.Prelude.{◌≡◌, ◌≢◌, ◌+◌, ◌-◌, ◌^◌, ◌<◌, ℕ, zero, suc, Result, Ok, Err, IsErr, IsErrAnd, MatchResult}
 use Rattle.std.specs.IoError.{error_kind}
 use Rattle.std.specs.declared.io.Error.{Error}
-use Rattle.std.specs.declared.io.ErrorKind.TheVariants.{Interrupted}
+use Rattle.std.specs.declared.io.ErrorKind.TheVariants.{Interrupted, OutOfMemory}
 use Rattle.cts_io.specs.declared.device.Failed.{Failed}
+use Rattle.cts_io.specs.declared.device.StartFault.{StartFault}
+use Rattle.cts_io.specs.declared.device.StartFault.TheVariants as start
 
 -- a signal came between
-abbrev pub IsInterrupted : Result ℕ Error → Type 0
+abbrev pub IsInterrupted : {A : Type 0} → Result A Error → Type 0
 IsInterrupted answer = IsErrAnd answer (λ error. error_kind error ≡ Interrupted)
 
 -- so many calls, each of them interrupted, lead from the first state to the last
-unfoldable pub AreInterrupted : {S : Type 0} → (S → Result ℕ Error → S → Type 0) → ℕ
+unfoldable pub AreInterrupted : {S A : Type 0} → (S → Result A Error → S → Type 0) → ℕ
     → S → S → Type 0
 AreInterrupted Call zero first last = last ≡ first
-AreInterrupted {S} Call (suc calls) first last = (before : S) × (answer : Result ℕ Error)
+AreInterrupted {S} {A} Call (suc calls) first last = (before : S) × (answer : Result A Error)
     × AreInterrupted Call calls first before × Call before answer last × IsInterrupted answer
 
--- a read that gave bytes, or none at the end, is told so; an error but an interruption is a fault
+-- a read that gave bytes, or none at the end, is told so; an error is a fault
 abbrev pub TellsRead : Result ℕ Error → Result ℕ Failed → Type 0
-TellsRead answer told = MatchResult answer (λ n. told ≡ Ok n)
-    (λ error. (error_kind error ≢ Interrupted) × IsErr told)
+TellsRead answer told = MatchResult answer (λ n. told ≡ Ok n) (λ error. IsErr told)
 
 -- the same of a write, where it is a fault too that nothing was taken
 abbrev pub TellsWrite : Result ℕ Error → Result ℕ Failed → Type 0
 TellsWrite answer told = MatchResult answer (λ n. (n ≡ 0 → IsErr told) × (0 < n → told ≡ Ok n))
-    (λ error. (error_kind error ≢ Interrupted) × IsErr told)
+    (λ error. IsErr told)
+
+-- an opened file is told, and so is want of memory; any other error is a fault
+abbrev pub TellsOpen : {F : Type 0} → Result F Error → Result F StartFault → Type 0
+TellsOpen answer told = MatchResult answer (λ file. told ≡ Ok file)
+    (λ error. (error_kind error ≡ OutOfMemory → told ≡ Err start.NoMemory)
+    × (error_kind error ≢ OutOfMemory → told ≡ Err start.Failed))
 
 -- calls from the first state to the last, all but the last of them interrupted, and what is told of
--- the last; after 2^64 - 1 interrupted calls a fault is told
-pub record Tried {S : Type 0} (Call : S → Result ℕ Error → S → Type 0)
-    (Tells : Result ℕ Error → Result ℕ Failed → Type 0)
-    (first : S) (told : Result ℕ Failed) (last : S) : Type 0 where
+-- the last; only a call of number 2^64 - 1 is the last though it was interrupted
+pub record Tried {S A T : Type 0} (Call : S → Result A Error → S → Type 0)
+    (Tells : Result A Error → T → Type 0) (first : S) (told : T) (last : S) : Type 0 where
   pub calls : ℕ
   pub before : S
   pub interrupted : AreInterrupted Call calls first before
-  pub ends : ((answer : Result ℕ Error) × Call before answer last × Tells answer told)
-      ⊎ ((calls ≡ 2 ^ 64 - 1) × (last ≡ before) × IsErr told)
+  pub answer : Result A Error
+  pub call : Call before answer last
+  pub tells : Tells answer told
+  pub over : IsInterrupted answer → calls + 1 ≡ 2 ^ 64 - 1

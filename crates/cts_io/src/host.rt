@@ -1,50 +1,52 @@
 // Files and writers of the host. They tell none of their bytes.
-ghost use Rattle.std.specs.Prelude.{◌≡◌, ◌≤◌, ◌<◌, ℕ, List, length, Option, Some, None, Ok, is_some, IfSome, IsSome, IsNone, IsOk, OnOk, OnErr, IfOk, IsErrOf};
+ghost use Rattle.std.specs.Prelude.{◌≡◌, ◌≤◌, ◌<◌, ℕ, List, length, Option, Some, None, Ok, Err, is_some, IfSome, IsSomeAnd, IsNone, IsOk, OnOk, OnErr, IfOk, IfErr, IsErrOf};
 ghost use Rattle.cts_io.specs.Device.{Rose, Takes};
 ghost use Rattle.cts_io.specs.Host.{untold};
-ghost use Rattle.cts_io.specs.Stream.{TellsRead, TellsWrite, Tried};
+ghost use Rattle.cts_io.specs.Stream.{TellsOpen, TellsRead, TellsWrite, Tried};
 ghost use Rattle.cts_io.specs.Plan.{raised};
 
 use crate::device::{Failed, Inputs, Sink, StartFault};
-use crate::stream::{ByteReader, ByteWriter, read_next, write_front};
-use std::fs;
-use std::io::ErrorKind;
+use crate::opener::{FileOpener, open_file};
+use crate::stream::{ByteWriter, read_next, write_front};
 use std::marker::Model;
-use std::rt::{Files, Stderr, Stdout};
+use std::rt::{Stderr, Stdout};
 
-/// Files of the host, each opened where it is started. Contracts see the started
+/// Files of the host, each opened where it is started. Contracts see what opens them, the started
 /// file and the count of the faults, which is the count of every name.
 #[derive(Drop)]
-pub struct HostInputs<'a, R: Files> {
-    rt: &'a R,
-    // The started file; before any start nothing is left.
-    file: Option<R::File>,
+pub struct HostInputs<O: FileOpener> {
+    opener: O,
+    // The started file; before any start, and after a refused one, nothing is left.
+    file: Option<O::File>,
     faults: u64,
 }
 
-impl<'a, R: Files> Model for HostInputs<'a, R> {
-    ghost use Rattle.std.specs.Prelude.{Option};
-    ghost use Rattle.cts_io.specs.Host.{Counted};
+impl<O: FileOpener> Model for HostInputs<O> {
+    ghost use Rattle.cts_io.specs.Host.{Opened};
 
-    ghost Value = { Counted (Option R.File) };
+    ghost Value = { Opened O O.File };
 
-    ghost view = { λ inputs. record { stream = inputs.file; faults = inputs.faults } };
+    ghost view = { λ inputs. record {
+      opener = inputs.opener;
+      stream = inputs.file;
+      faults = inputs.faults;
+    } };
 }
 
-impl<'a, R: Files> HostInputs<'a, R> {
-    /// The files that the runtime opens, none of which is started.
-    pub fn new(rt: &'a R) -> HostInputs<'a, R>
-        ensures { result ≡ record { stream = None; faults = 0 } }
+impl<O: FileOpener> HostInputs<O> {
+    /// The files that this opens, none of which is started.
+    pub fn new(opener: O) -> HostInputs<O>
+        ensures { result ≡ record { opener = opener; stream = None; faults = 0 } }
     {
         HostInputs {
-            rt,
+            opener,
             file: None,
             faults: 0,
         }
     }
 }
 
-impl<'a, R: Files> Inputs for HostInputs<'a, R> {
+impl<O: FileOpener> Inputs for HostInputs<O> {
     ghost holds = { λ _ _. untold };
 
     ghost left = { λ _. untold };
@@ -52,8 +54,12 @@ impl<'a, R: Files> Inputs for HostInputs<'a, R> {
     ghost faults = { λ inputs _. inputs.faults };
 
     fn start(&mut self, name: &str) -> Result<(), StartFault>
-        ensures opened { OnOk result (IsSome self.new.stream) }
-        ensures not_opened { OnErr result (self.new.stream ≡ self.old.stream) }
+        // The started file is one that opening exactly this name answered.
+        ensures opened { OnOk result (IsSomeAnd self.new.stream (λ file. Tried (O.opens name.now)
+            TellsOpen self.old.opener (Ok file) self.new.opener)) }
+        ensures refused { IfErr result (λ fault. Tried (O.opens name.now)
+            TellsOpen self.old.opener (Err fault) self.new.opener) }
+        ensures not_opened { OnErr result (self.new.stream ≡ None) }
         ensures counted { IsErrOf result StartFault.Failed
             → self.new.faults ≡ raised self.old.faults }
 
@@ -65,13 +71,14 @@ impl<'a, R: Files> Inputs for HostInputs<'a, R> {
         ensures stays { ¬ IsErrOf result StartFault.Failed
             → (file : List ℕ) → self.new.faults ≡ self.old.faults }
     {
-        match fs::open(self.rt, name) {
+        self.file = None;
+        match open_file(&mut self.opener, name) {
             Ok(file) => {
                 self.file = Some(file);
                 Ok(())
             }
-            Err(refused) if refused.kind() == ErrorKind::OutOfMemory => Err(StartFault::NoMemory),
-            Err(_) => {
+            Err(StartFault::NoMemory) => Err(StartFault::NoMemory),
+            Err(StartFault::Failed) => {
                 self.faults = self.faults.saturating_add(1);
                 Err(StartFault::Failed)
             }
@@ -81,8 +88,7 @@ impl<'a, R: Files> Inputs for HostInputs<'a, R> {
     fn take(&mut self, name: &str, into: &mut [u8]) -> Result<usize, Failed>
         requires { 0 < length into.old }
         ensures told { IfSome self.old.stream (λ file. IfSome self.new.stream (λ now.
-            Tried ⟦<R::File as ByteReader>⟧.reads TellsRead
-            (file, into.old) result (now, into.new))) }
+            Tried O.File.reads TellsRead (file, into.old) result (now, into.new))) }
         ensures started { is_some self.new.stream ≡ is_some self.old.stream }
         ensures none { IsNone self.old.stream → result ≡ Ok 0 }
         ensures counted { OnErr result (self.new.faults ≡ raised self.old.faults) }

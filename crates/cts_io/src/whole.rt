@@ -1,6 +1,6 @@
 //! Whole files and whole texts over devices that give and take pieces.
 
-ghost use Rattle.std.specs.Prelude.{◌≡◌, ◌≤◌, ◌<◌, ◌-◌, ℕ, List, length, take, drop, Option, Some, IsOk, OnOk, OnErr, IfOk, IsErrOf};
+ghost use Rattle.std.specs.Prelude.{◌≡◌, ◌≤◌, ◌<◌, ◌+◌, ◌-◌, ℕ, List, length, take, drop, Option, Some, IsOk, OnOk, OnErr, IfOk, IsErrOf};
 ghost use Rattle.cts_io.specs.Device.{Rose, appended, Takes, WritesPrefix};
 ghost use Rattle.cts_io.specs.declared.whole.ReadWhole.TheVariants.{NoMemory};
 ghost use Rattle.cts_io.specs.Whole.{read_fault_of};
@@ -39,8 +39,8 @@ impl From<StartFault> for ReadWhole {
 }
 
 /// Reads a file from its first byte to its last. Each take but the last gives at least one byte,
-/// and the take that passes the limit is the last, so it ends after at most limit + 1 takes. Memory
-/// is taken for the bytes of the file alone.
+/// and no take asks for more than is missing to limit + 1 bytes, so it ends after at most limit + 1
+/// takes. Memory is taken for the bytes of the file alone.
 pub fn read_whole<I: Inputs>(
     alloc: Global,
     inputs: &mut I,
@@ -53,6 +53,10 @@ pub fn read_whole<I: Inputs>(
     ensures within { IfOk result (λ bytes. length bytes.items ≤ limit) }
     ensures too_long { IsErrOf result ReadWhole.TooLong → (held : List ℕ)
         → I.holds inputs.old name.now ≡ Some held → limit < length held }
+    // Nothing behind limit + 1 bytes is read.
+    ensures stops { IsErrOf result ReadWhole.TooLong → (held : List ℕ)
+        → I.holds inputs.old name.now ≡ Some held
+        → I.left inputs.new ≡ Some (drop (limit + 1) held) }
     ensures failed { IsErrOf result ReadWhole.Failed
         → Rose (I.faults inputs.old name.now) (I.faults inputs.new name.now) }
     ensures files { (file : List ℕ) → I.holds inputs.new file ≡ I.holds inputs.old file }
@@ -65,7 +69,8 @@ pub fn read_whole<I: Inputs>(
     let mut bytes = Vec::new(alloc);
     let mut buffer = [0u8; 8192];
     loop {
-        let Ok(taken) = inputs.take(name, &mut buffer) else {
+        let room = buffer.len().min(limit + 1 - bytes.len());
+        let Ok(taken) = inputs.take(name, &mut buffer[..room]) else {
             return Err(ReadWhole::Failed);
         };
         if taken == 0 {

@@ -1,6 +1,6 @@
-use Rattle.std.proofs.Common.{◌≡◌, ◌++◌, ◌∙◌, take, arith}
+use Rattle.std.proofs.Common.{◌≡◌, ◌+◌, ◌++◌, ◌∙◌, length, take, arith}
 use Rattle.std.proofs.lemmas.Grind.{common_steps}
-use Rattle.cts_io.proofs.WholeLemmas.{Takes-next}
+use Rattle.cts_io.proofs.WholeLemmas.{Takes-leaves, Takes-next}
 use Rattle.cts_io.proofs.whole.read_whole.Goals as goal
 
 pub loop-taken-preserved : goal.loop-taken-preserved
@@ -13,3 +13,10 @@ loop-taken-preserved g c =
       files = λ file. c.in-Ok.ensures.files file ∙ i.files file;
       stays = λ file. c.in-Ok.ensures.stays file ∙ i.stays file;
     }
+
+pub returns-then-limit-len-clause-stops : goal.returns-then-limit-len-clause-stops
+returns-then-limit-len-clause-stops g c long held is =
+    let t = c.loop-taken.invariant.told held is in
+    let all : length c.loop-taken.bytes.items + c.in-Ok.taken ≡ c.args.limit + 1 =
+    grind (arith, common_steps) in
+    Takes-leaves _ _ _ _ _ _ _ t.2 (c.in-Ok.ensures.ok _ t.1) all

@@ -1,0 +1,53 @@
+//! Opening files by their names, tried again where a signal interrupted it.
+
+ghost use Rattle.std.specs.Prelude.{◌≡◌, ℕ, List, Result};
+ghost use Rattle.std.specs.declared.io.Error.{Error};
+ghost use Rattle.cts_io.specs.Stream.{TellsOpen, Tried};
+
+use crate::device::StartFault;
+use crate::stream::ByteReader;
+use std::io::ErrorKind;
+use std::rt::Files;
+use std::{fs, io};
+
+/// What opens files by calls that may be interrupted. Each file system of std is one.
+pub trait FileOpener {
+    /// An opened file, which is read from its first byte on.
+    type File: ByteReader + Drop;
+
+    /// What a call with a name may answer, with the opener behind it.
+    ghost opens: { List ℕ → Self → Result Self.File Error → Self → Type 0 };
+
+    /// One call.
+    fn open_once(&mut self, name: &str) -> io::Result<Self::File>
+        ensures call { opens name.now self.old result self.new };
+}
+
+impl<R: Files> FileOpener for &R {
+    type File = R::File;
+
+    // std doesn't say which file it opens: this one line is trusted.
+    ghost opens = { λ _ old _ new. new ≡ old };
+
+    fn open_once(&mut self, name: &str) -> io::Result<R::File> {
+        fs::open(*self, name)
+    }
+}
+
+/// Opens the file of a name. A call that a signal interrupted is tried again, and after 2^64 - 1
+/// such calls it is a fault. Want of memory is told as such, and any other error is a fault.
+pub fn open_file<O: FileOpener>(opener: &mut O, name: &str) -> Result<O::File, StartFault>
+    ensures told { Tried (O.opens name.now) TellsOpen opener.old result opener.new }
+{
+    for _try in 0..u64::MAX {
+        match opener.open_once(name) {
+            Ok(file) => return Ok(file),
+            Err(error) if error.kind() == ErrorKind::Interrupted => {}
+            Err(error) if error.kind() == ErrorKind::OutOfMemory => {
+                return Err(StartFault::NoMemory);
+            }
+            Err(_) => return Err(StartFault::Failed),
+        }
+    }
+    Err(StartFault::Failed)
+}
