@@ -99,27 +99,28 @@ module _ (texts : Demo) (short : AreShort texts) where
 
 -- too many pairs of the circuit are too many of the texts
 pub circuit_refused : (netlist table places : List ℕ) (problem : Problem)
-    → TellAll netlist table places problem → (failure : Failure)
+    → AreOfProblem (netlist ∷ table ∷ places ∷ []) problem → (failure : Failure)
     → FailsCircuit problem.circuit failure
     → FailsTexts (netlist ∷ table ∷ places ∷ []) failure
-circuit_refused netlist table places problem tells failures.Usage fails = absurd fails
-circuit_refused netlist table places problem tells (failures.TooLong kind) fails = absurd fails
-circuit_refused netlist table places problem tells (failures.Bench fault) fails = absurd fails
-circuit_refused netlist table places problem tells (failures.Tech fault) fails = absurd fails
-circuit_refused netlist table places problem tells (failures.Placement fault) fails = absurd fails
-circuit_refused netlist table places problem tells failures.Pairs many = record {
+circuit_refused netlist table places problem are failures.Usage fails = absurd fails
+circuit_refused netlist table places problem are (failures.TooLong kind) fails = absurd fails
+circuit_refused netlist table places problem are (failures.Bench fault) fails = absurd fails
+circuit_refused netlist table places problem are (failures.Tech fault) fails = absurd fails
+circuit_refused netlist table places problem are (failures.Placement fault) fails = absurd fails
+circuit_refused netlist table places problem are failures.Pairs many = record {
   texts = 3;
   refusal = (
     omega arith,
     record {
+      accepted = are.accepted;
       circuit = problem.circuit;
       tech = problem.tech;
-      tell = tells.tell;
+      tell = are.tell.tell;
       many = many;
     },
   );
 }
-circuit_refused netlist table places problem tells (failures.Unshown why) fails = absurd fails
-circuit_refused netlist table places problem tells (failures.ReadFault kind) fails = absurd fails
-circuit_refused netlist table places problem tells failures.WriteFault fails = absurd fails
-circuit_refused netlist table places problem tells failures.NoMemory fails = tt
+circuit_refused netlist table places problem are (failures.Unshown why) fails = absurd fails
+circuit_refused netlist table places problem are (failures.ReadFault kind) fails = absurd fails
+circuit_refused netlist table places problem are failures.WriteFault fails = absurd fails
+circuit_refused netlist table places problem are failures.NoMemory fails = tt

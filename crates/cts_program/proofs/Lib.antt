@@ -25,6 +25,7 @@ mod PlainCommands
 mod ParserWalk
 mod CommandParsers
 mod OneAnswer
+mod TextStatuses
 mod ShownVerdicts
 mod OneRefusal
 mod SameFiles

@@ -1,4 +1,5 @@
--- Contents of files aren't both answered and refused, and have refusals of one status.
+-- Contents of files aren't both answered and refused, and have refusals of one status. Where they
+-- are accepted, all that is refused is a report.
 use Rattle.std.proofs.Common.{ℕ, ◌≡◌, ◌≢◌, ◌≤◌, ◌⊎◌, inl, inr, List, [], ◌∷◌, length, take, Some, None, zero, suc, refl, ap, sym, ◌∙◌, subst, arith}
 use Rattle.std.specs.Borrow.{Bor}
 use Rattle.std.proofs.lemmas.List.{length-take}
@@ -15,12 +16,12 @@ use Rattle.cts_program.specs.declared.failure.Failure.{Failure}
 use Rattle.cts_program.specs.declared.failure.Failure.TheVariants as failures
 use Rattle.cts_program.specs.declared.not_shown.NotShown.{NotShown}
 use Rattle.cts_program.specs.declared.not_shown.NotShown.TheVariants as why
-use Rattle.cts_program.specs.Answers.{JoinTooMany, IsTextRefusal, IsRefusal}
+use Rattle.cts_program.specs.Answers.{JoinTooMany, IsTextRefusal, IsRefusal, IsAccepted, IsStatusOf}
 use Rattle.cts_program.specs.Checks.{IsShownReport, IsReportRefusal, IsCheckAnswer, IsCheckRefusal}
 use Rattle.cts_program.specs.Commands.{Given, options_of, number_of}
 use Rattle.cts_program.specs.DemoTexts.{demo_texts}
 use Rattle.cts_program.specs.Failures.{status_of}
-use Rattle.cts_program.specs.Files.{AreAll}
+use Rattle.cts_program.specs.Files.{files_of, AreAll}
 use Rattle.cts_program.specs.Judged.{AreAccepted, IsFileRefusal}
 use Rattle.cts_program.specs.PlainWords.{form_of}
 use Rattle.cts_program.proofs.OneAnswer.{Agree, agree_same, agree_turned, Answers, texts_for, one_told, file_status, accepted_not_refused}
@@ -201,19 +202,6 @@ one_refusal_status command other form contents refused agree failure failure' re
       ]
     ]
 
--- a refusal with status 3 of files of which the first three are accepted isn't one of a check
-pub three_not_accepted : (command : Command) (contents refused : List (List ℕ))
-    (failure : Failure) → form_of command ≡ forms.Check → Agree contents refused
-    → length contents ≡ 3 → AreAccepted contents → status_of failure ≡ 3
-    → IsRefusal command refused failure → ⊥
-three_not_accepted command contents refused failure check agree three accepted is refusal =
-    elim (refusal_of command refused failure refusal) [
-      | of_files is' file ↦ accepted_not_refused contents refused failure agree
-          (subst (λ n. length refused ≤ n) (sym three)
-          (file_status refused failure (file check)).1) accepted (file check)
-      | of_report is' check' reason unshown ↦ omega (arith, is, is')
-    ]
-
 -- ---- not both
 
 -- the refusal of a command of this form, with these options, beside contents of the same files
@@ -225,74 +213,87 @@ data RefusalBeside (form : Form) (given : List Given) (contents refused : List (
   of_pairs : form ≢ forms.Check → (texts : List (List ℕ))
       → texts_for form given contents ≡ texts → JoinTooMany texts
       → RefusalBeside form given contents refused failure
-  of_shown : form ≡ forms.Check → (reason : NotShown) → IsCheckRefusal refused reason
-      → RefusalBeside form given contents refused failure
+  of_shown : form ≡ forms.Check → status_of failure ≡ 7 → (reason : NotShown)
+      → IsCheckRefusal refused reason → RefusalBeside form given contents refused failure
 
 -- one of texts
 text_beside : (form : Form) (given : List Given) (contents refused texts : List (List ℕ))
     (failure : Failure) (all : Type 0) → form ≢ forms.Check
     → Agree (texts_for form given contents) texts
-    → length texts ≤ length (texts_for form given contents)
+    → (length texts ≤ 3 → length texts ≤ length (texts_for form given contents))
     → (all → length (texts_for form given contents) ≡ length texts)
     → IsTextRefusal all texts failure → RefusalBeside form given contents refused failure
 text_beside form given contents refused texts failure all other agree within whole refusal =
     elim (text_refusal all texts failure refusal) [
       | inl (is, are, many) ↦ of_pairs other texts
           (agree_same (texts_for form given contents) texts agree (whole are)) many
-      | inr file ↦ of_file texts agree (λ few. within) file
+      | inr file ↦ of_file texts agree within file
     ]
 
--- a refusal of a command is one of these
+-- a refusal of a command is one of these, where no fewer contents are told than are refused; where
+-- a report is checked, that is of the files before it
 refusal_beside : (command : Command) (contents refused : List (List ℕ)) (failure : Failure)
-    → Agree contents refused → length refused ≤ length contents
-    → (AreAll command refused → length contents ≡ length refused)
+    → Agree contents refused → (length refused ≤ 3 → length refused ≤ length contents)
+    → (form_of command ≢ forms.Check → AreAll command refused → length contents ≡ length refused)
     → IsRefusal command refused failure
     → RefusalBeside (form_of command) (options_of command) contents refused failure
 refusal_beside (Zero bench tech) contents refused failure agree within all refusal =
-    text_beside forms.Zero _ contents refused refused failure _ (λ same. cc same) agree within all
-    refusal
+    text_beside forms.Zero _ contents refused refused failure _ (λ same. cc same) agree within
+    (all (λ same. cc same)) refusal
 refusal_beside (Period bench tech) contents refused failure agree within all refusal =
-    text_beside forms.Period _ contents refused refused failure _ (λ same. cc same) agree within all
-    refusal
+    text_beside forms.Period _ contents refused refused failure _ (λ same. cc same) agree within
+    (all (λ same. cc same)) refusal
 refusal_beside (Schedule bench tech) contents refused failure agree within all refusal =
     text_beside forms.Schedule _ contents refused refused failure _ (λ same. cc same) agree within
-    all refusal
+    (all (λ same. cc same)) refusal
 refusal_beside (Synth bench tech pl) contents refused failure agree within all refusal =
-    text_beside forms.Synth _ contents refused refused failure _ (λ same. cc same) agree within all
-    refusal
+    text_beside forms.Synth _ contents refused refused failure _ (λ same. cc same) agree within
+    (all (λ same. cc same)) refusal
 refusal_beside (Check bench tech pl report) contents refused failure agree within all refusal =
     elim (check_refusal bench tech pl report refused failure refusal) [
-      | inl (reason, is, unshown) ↦ of_shown refl reason unshown
+      | inl (reason, is, unshown) ↦ of_shown refl (ap status_of is) reason unshown
       | inr file ↦ of_file refused (agree_front 3 contents refused agree)
-          (λ few. omega (arith, within, few, length-take 3 contents)) file
+          (λ few. omega (arith, within few, few, length-take 3 contents)) file
     ]
 refusal_beside (Demo registers seed) contents refused failure agree within all (none, refusal) =
     let texts = demo_texts (number_of registers.now) (number_of seed.now) in
     text_beside forms.Demo _ contents refused (take refusal.texts texts) failure _
     (λ same. cc same) (agree_turned (take refusal.texts texts) texts
     (agree_front refusal.texts texts texts (agree_self texts)))
-    (omega (arith, length-take refusal.texts texts))
+    (λ few. omega (arith, length-take refusal.texts texts))
     (λ three. omega (arith, three, length-take refusal.texts texts)) refusal.refusal
 
--- what is answered isn't refused
-not_refused_beside : ReportLaws → (form : Form) (given : List Given)
-    (contents refused : List (List ℕ)) (failure : Failure) (status : ℕ) (text : List ℕ)
-    → Answers form given contents status text → Agree contents refused
-    → RefusalBeside form given contents refused failure → ⊥
-not_refused_beside laws form given contents refused failure status text answer agree
-    (of_file texts alike within file) =
-    accepted_not_refused (texts_for form given contents) texts failure alike
-    (within (file_status texts failure file).1) answer.accepted file
-not_refused_beside laws form given contents refused failure status text answer agree
-    (of_pairs other texts known many) =
-    let here : JoinTooMany (texts_for form given contents) = subst JoinTooMany (sym known) many in
-    let same = one_told (texts_for form given contents) here.circuit answer.circuit here.tech
-    answer.tech here.tell answer.tell in
-    answer.few other (subst (λ c. JoinsMoreThan c 1048576) same.0 here.many)
-not_refused_beside laws form given contents refused failure status text answer agree
-    (of_shown check reason unshown) =
-    shown_or_not laws contents refused text reason agree (answer.checked check) unshown
+-- what a command of this form, with these options, goes by is accepted
+record Accepts (form : Form) (given : List Given) (contents : List (List ℕ)) : Type 0 where
+  accepted : AreAccepted (texts_for form given contents)
+  few : form ≢ forms.Check → JoinTooMany (texts_for form given contents) → ⊥
 
+-- so it is where the command has an answer
+answer_accepts : (form : Form) (given : List Given) (contents : List (List ℕ)) (status : ℕ)
+    (text : List ℕ) → Answers form given contents status text → Accepts form given contents
+answer_accepts form given contents status text answer = record {
+  accepted = answer.accepted;
+  few = λ other many.
+      let same = one_told (texts_for form given contents) many.circuit answer.circuit many.tech
+      answer.tech many.tell answer.tell in
+      answer.few other (subst (λ c. JoinsMoreThan c 1048576) same.0 many.many);
+}
+
+-- all that is refused beside it is a report
+report_beside : (form : Form) (given : List Given) (contents refused : List (List ℕ))
+    (failure : Failure) → Accepts form given contents
+    → RefusalBeside form given contents refused failure
+    → (form ≡ forms.Check) × (status_of failure ≡ 7)
+    × ((reason : NotShown) × IsCheckRefusal refused reason)
+report_beside form given contents refused failure accepts (of_file texts alike within file) =
+    absurd (accepted_not_refused (texts_for form given contents) texts failure alike
+    (within (file_status texts failure file).1) accepts.accepted file)
+report_beside form given contents refused failure accepts (of_pairs other texts known many) =
+    absurd (accepts.few other (subst JoinTooMany (sym known) many))
+report_beside form given contents refused failure accepts (of_shown check seven reason unshown) =
+    (check, seven, (reason, unshown))
+
+-- so what is answered isn't refused
 pub answer_not_refused : ReportLaws → (command : Command) (contents refused : List (List ℕ))
     (failure : Failure) (status : ℕ) (text : List ℕ)
     → Answers (form_of command) (options_of command) contents status text
@@ -301,5 +302,79 @@ pub answer_not_refused : ReportLaws → (command : Command) (contents refused : 
     → IsRefusal command refused failure → ⊥
 answer_not_refused laws command contents refused failure status text answer agree within all
     refusal =
-    not_refused_beside laws (form_of command) (options_of command) contents refused failure status
-    text answer agree (refusal_beside command contents refused failure agree within all refusal)
+    let (check, seven, (reason, unshown)) = report_beside (form_of command) (options_of command)
+    contents refused failure
+    (answer_accepts (form_of command) (options_of command) contents status text answer)
+    (refusal_beside command contents refused failure agree (λ few. within) (λ other. all)
+    refusal) in
+    shown_or_not laws contents refused text reason agree (answer.checked check) unshown
+
+-- what is accepted for a command is all that it goes by
+accepts_of : (command : Command) (contents : List (List ℕ)) → IsAccepted command contents
+    → Accepts (form_of command) (options_of command) contents
+accepts_of (Zero bench tech) contents (all, (accepted, few)) =
+    record { accepted = accepted; few = λ other. few }
+accepts_of (Period bench tech) contents (all, (accepted, few)) =
+    record { accepted = accepted; few = λ other. few }
+accepts_of (Schedule bench tech) contents (all, (accepted, few)) =
+    record { accepted = accepted; few = λ other. few }
+accepts_of (Synth bench tech pl) contents (all, (accepted, few)) =
+    record { accepted = accepted; few = λ other. few }
+accepts_of (Check bench tech pl report) contents (three, accepted) =
+    record { accepted = accepted; few = λ other. absurd (other refl) }
+accepts_of (Demo registers seed) contents (all, (accepted, few)) =
+    record { accepted = accepted; few = λ other. few }
+
+-- it is the contents of all its files, but for a report
+accepted_all : (command : Command) (contents : List (List ℕ)) → IsAccepted command contents
+    → ((form_of command ≡ forms.Check) × (3 ≤ length contents)) ⊎ AreAll command contents
+accepted_all (Zero bench tech) contents accepted = inr accepted.0
+accepted_all (Period bench tech) contents accepted = inr accepted.0
+accepted_all (Schedule bench tech) contents accepted = inr accepted.0
+accepted_all (Synth bench tech pl) contents accepted = inr accepted.0
+accepted_all (Check bench tech pl report) contents accepted = inl (refl, accepted.0)
+accepted_all (Demo registers seed) contents accepted = inr accepted.0
+
+-- the status of a report that isn't shown is one of a check
+seven_of_check : (command : Command) (status : ℕ) → form_of command ≡ forms.Check → status ≡ 7
+    → IsStatusOf command status
+seven_of_check (Zero bench tech) status check seven = cc check
+seven_of_check (Period bench tech) status check seven = cc check
+seven_of_check (Schedule bench tech) status check seven = cc check
+seven_of_check (Synth bench tech pl) status check seven = cc check
+seven_of_check (Check bench tech pl report) status check seven = inr seven
+seven_of_check (Demo registers seed) status check seven = cc check
+
+-- a refusal beside what is accepted has a status for it
+pub accepted_refusal : (command other : Command) → form_of command ≡ form_of other
+    → options_of command ≡ options_of other → files_of command ≡ files_of other
+    → (contents refused : List (List ℕ)) → Agree contents refused
+    → length refused ≤ length (files_of other) → IsAccepted command contents
+    → (failure : Failure) → IsRefusal other refused failure
+    → IsStatusOf command (status_of failure)
+accepted_refusal command other form options files contents refused agree below accepted failure
+    refusal =
+    let (check, seven, found) = report_beside (form_of other) (options_of other) contents refused
+    failure accepts (refusal_beside other contents refused failure agree within whole refusal) in
+    seven_of_check command (status_of failure) (form ∙ check) seven
+  where
+    accepts : Accepts (form_of other) (options_of other) contents
+    accepts = subst (λ given. Accepts (form_of other) given contents) options
+        (subst (λ of. Accepts of (options_of command) contents) form
+        (accepts_of command contents accepted))
+
+    many : length (files_of command) ≡ length (files_of other)
+    many = ap length files
+
+    within : length refused ≤ 3 → length refused ≤ length contents
+    within few = elim (accepted_all command contents accepted) [
+      | inl (check, three) ↦ omega (arith, few, three)
+      | inr all ↦ omega (arith, all, many, below)
+    ]
+
+    whole : form_of other ≢ forms.Check → AreAll other refused
+        → length contents ≡ length refused
+    whole apart are = elim (accepted_all command contents accepted) [
+      | inl (check, three) ↦ absurd (apart (sym form ∙ check))
+      | inr all ↦ all ∙ many ∙ sym are
+    ]

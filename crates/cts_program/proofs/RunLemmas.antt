@@ -3,10 +3,7 @@ use Rattle.std.proofs.Common.{ℕ, ◌≡◌, ◌≢◌, ◌<◌, ◌≤◌, ◌
 use Rattle.std.proofs.lemmas.List.{append_cancel_left}
 use Rattle.std.proofs.lemmas.List.Elements.{All-head, All-drop}
 use Rattle.cts_io.specs.Device.{Rose, appended, WritesPrefix}
-use Rattle.std.specs.Borrow.{Bor}
 use Rattle.cts_program.specs.declared.command.Command.{Command}
-use Rattle.cts_program.specs.declared.command.Command.TheVariants.{Check}
-use Rattle.cts_program.specs.declared.command.table.Form.TheVariants as forms
 use Rattle.cts_program.specs.declared.command.WordsFault.{WordsFault}
 use Rattle.cts_program.specs.declared.command.WordsFault.TheVariants as word_faults
 use Rattle.cts_program.specs.declared.ending.Ending.{Ending}
@@ -14,18 +11,17 @@ use Rattle.cts_program.specs.declared.ending.Ending.TheVariants.{Done, Never}
 use Rattle.cts_program.specs.declared.failure.Failure.{Failure}
 use Rattle.cts_program.specs.declared.failure.Failure.TheVariants.{Usage, TooLong, Bench, Tech, Placement, Pairs, Unshown, ReadFault, WriteFault, NoMemory}
 use Rattle.cts_program.specs.declared.file_kind.FileKind.{FileKind}
-use Rattle.cts_program.specs.declared.file_kind.FileKind.TheVariants.{Report}
-use Rattle.cts_program.specs.Answers.{ending_status, IsAnswer, IsRefusal}
+use Rattle.cts_program.specs.Answers.{ending_status, IsAnswer, IsRefusal, IsAccepted, IsStatusOf, FindsNoPeriod}
 use Rattle.cts_program.specs.Commands.{options_of, IsCommand, IsSame}
 use Rattle.cts_program.specs.Failures.{words_failure_of, status_of}
-use Rattle.cts_program.specs.Files.{problem_files, files_of, AreContents, AreTold}
-use Rattle.cts_program.specs.Judged.{AreAccepted}
+use Rattle.cts_program.specs.Files.{files_of, AreAll, AreContents, AreTold}
 use Rattle.cts_program.specs.PlainWords.{form_of}
 use Rattle.cts_program.specs.Run.{IsNoCommand, TellsText, Refuses, CannotRead, EndsInPart, Fails, AreUnrisen}
 use Rattle.cts_program.proofs.OneAnswer.{Agree, IsTextOf, Answers, answer_of, one_status, no_answer_front, some_text, agree_same, agree_turned}
-use Rattle.cts_program.proofs.OneRefusal.{ReportLaws, answer_not_refused, one_refusal_status, three_not_accepted}
+use Rattle.cts_program.proofs.OneRefusal.{ReportLaws, answer_not_refused, one_refusal_status, accepted_refusal}
 use Rattle.cts_program.proofs.PlainCommands.{one_command, same_form}
-use Rattle.cts_program.proofs.SameFiles.{same_files, told_contents, contents_within, told_agree, told_before}
+use Rattle.cts_program.proofs.SameFiles.{same_files, told_contents, contents_within, told_agree}
+use Rattle.cts_program.proofs.TextStatuses.{text_status, finds_no_period, finds_all, finds_period}
 
 -- ---- what is told of files, against what is known of them
 
@@ -77,18 +73,6 @@ module _ (words : List (List ℕ)) (holds : List ℕ → Option (List ℕ)) (com
       (agree_turned contents tells.contents (agrees tells.contents tells.are)) (omega arith)
       (λ whole. omega arith) refusal
 
-  -- an answer for contents that are told, beside a refusal
-  pub refusal_not_told : ReportLaws → (status : ℕ) (text : List ℕ)
-      → IsAnswer command contents status text → (failure : Failure) → Refuses holds other failure
-      → ⊥
-  refusal_not_told laws status text answer failure refuses =
-      let (all, told_all) = answer_of command contents status text answer in
-      let many = as_many in
-      let within = contents_within holds (files_of other) refuses.contents refuses.are in
-      answer_not_refused laws other contents refuses.contents failure status text
-      (answers_moved command other are_same contents status text told_all)
-      (agrees refuses.contents refuses.are) (omega arith) (λ whole. omega arith) refuses.refusal
-
   -- a refusal of contents that are told, beside another
   pub refused_alike : (failure failure' : Failure) → IsRefusal command contents failure
       → Refuses holds other failure' → status_of failure' ≡ status_of failure
@@ -97,12 +81,21 @@ module _ (words : List (List ℕ)) (holds : List ℕ → Option (List ℕ)) (com
       refuses.contents (agrees refuses.contents refuses.are) failure failure' refusal
       refuses.refusal)
 
-  -- an answer for contents that are told, beside a text
-  tells_alike : (status : ℕ) (text : List ℕ) → IsAnswer command contents status text
-      → (status' : ℕ) (text' : List ℕ) → TellsText holds other status' text'
+  -- a refusal, where what is told is accepted, has a status for it
+  pub accepted_refused : IsAccepted command contents → (failure : Failure)
+      → Refuses holds other failure → IsStatusOf command (status_of failure)
+  accepted_refused accepted failure refuses =
+      accepted_refusal command other (same_form command other are_same.name) are_same.options
+      (same_files words command other means means') contents refuses.contents
+      (agrees refuses.contents refuses.are)
+      (contents_within holds (files_of other) refuses.contents refuses.are) accepted failure
+      refuses.refusal
+
+  -- a text, where the contents of all files are told, is made of these
+  tells_alike : AreAll command contents → (status' : ℕ) (text' : List ℕ)
+      → TellsText holds other status' text'
       → Answers (form_of command) (options_of command) contents status' text'
-  tells_alike status text answer status' text' tells =
-      let (all, told_all) = answer_of command contents status text answer in
+  tells_alike all status' text' tells =
       let (all', told_all') = answer_of other tells.contents status' text' tells.answer in
       let many = as_many in
       let known = sym (agree_same contents tells.contents (agrees tells.contents tells.are)
@@ -111,13 +104,26 @@ module _ (words : List (List ℕ)) (holds : List ℕ → Option (List ℕ)) (com
       status' text'
       (subst (λ c. Answers (form_of other) (options_of other) c status' text') known told_all')
 
-  -- has its status
+  -- with status 1 it says that they admit no period
+  pub told_never : AreAll command contents → (text' : List ℕ) → TellsText holds other 1 text'
+      → FindsNoPeriod command contents
+  told_never all text' tells =
+      finds_no_period command contents all text' (tells_alike all 1 text' tells)
+
+  -- and with status 0 they don't
+  pub told_found : FindsNoPeriod command contents → (text' : List ℕ)
+      → TellsText holds other 0 text' → ⊥
+  told_found none text' tells =
+      finds_period command contents text'
+      (tells_alike (finds_all command contents none) 0 text' tells) none
+
+  -- beside an answer it has its status
   pub told_status : (status : ℕ) (text : List ℕ) → IsAnswer command contents status text
       → (status' : ℕ) (text' : List ℕ) → TellsText holds other status' text' → status' ≡ status
   told_status status text answer status' text' tells =
       one_status (form_of command) (options_of command) contents status' text'
-      (tells_alike status text answer status' text' tells) status text
-      (answer_of command contents status text answer).1
+      (tells_alike (answer_of command contents status text answer).0 status' text' tells) status
+      text (answer_of command contents status text answer).1
 
   -- and isn't a front of it
   pub told_front : (status : ℕ) (text : List ℕ) → IsAnswer command contents status text
@@ -126,7 +132,7 @@ module _ (words : List (List ℕ)) (holds : List ℕ → Option (List ℕ)) (com
   told_front status text answer status' text' tells =
       no_answer_front (form_of command) (options_of command) contents status text
       (answer_of command contents status text answer).1 status' text'
-      (tells_alike status text answer status' text' tells)
+      (tells_alike (answer_of command contents status text answer).0 status' text' tells)
 
 -- a file whose count rose is none of those whose counts didn't
 unrisen_read : (reads reads_now : List ℕ → ℕ) (files front : List (FileKind × List ℕ))
@@ -290,54 +296,22 @@ module _ (words : List (List ℕ)) (holds : List ℕ → Option (List ℕ)) (rea
         cannot.behind (same_files words command command' means means' ∙ cannot.files) read
         cannot.rose
 
-    -- an answer for what the files hold is left out for want of memory alone, where no count rose
-    pub complete_status : ReportLaws → (command : Command) (contents : List (List ℕ)) (status : ℕ)
-        (text : List ℕ) → IsCommand words command → AreTold holds (files_of command) contents
-        → IsAnswer command contents status text
+    -- what is accepted has a status for it, unless memory runs out, where no count rose
+    pub accepted_status : (command : Command) (contents : List (List ℕ)) → IsCommand words command
+        → AreTold holds (files_of command) contents → IsAccepted command contents
         → AreUnrisen reads reads_now (files_of command) → (Rose writes writes_now → ⊥)
-        → (status_of failure ≡ status) ⊎ (status_of failure ≡ 6)
-    complete_status laws command contents status text means told answer read wrote =
+        → IsStatusOf command (status_of failure) ⊎ (status_of failure ≡ 6)
+    accepted_status command contents means told accepted read wrote =
         elim (cause_of failure fails) [
           | usage is none ↦ absurd (none command means)
           | refused is command' means' refuses ↦
-              absurd (refusal_not_told words holds command command' means means' contents told laws
-              status text answer failure refuses)
+              inl (accepted_refused words holds command command' means means' contents told
+              accepted failure refuses)
           | unread kind is command' means' cannot ↦
               absurd (not_unread command command' means means' kind cannot read)
           | unwritten is part rose ↦ absurd (wrote rose)
           | memory is command' means' ↦ inr (ap status_of is)
         ]
-
-    -- and a report of files that are accepted isn't shown, or memory runs out
-    pub judged_status : (bench tech pl report : Bor (List ℕ)) (contents : List (List ℕ))
-        → IsCommand words (Check bench tech pl report)
-        → AreTold holds (problem_files bench tech pl) contents
-        → length contents ≡ 3 → AreAccepted contents
-        → AreUnrisen reads reads_now (files_of (Check bench tech pl report))
-        → (Rose writes writes_now → ⊥) → (status_of failure ≡ 7) ⊎ (status_of failure ≡ 6)
-    judged_status bench tech pl report contents means told three accepted read wrote =
-        elim (cause_of failure fails) [
-          | usage is none ↦ absurd (none command means)
-          | refused is command' means' refuses ↦ inl (seven command' means' refuses is)
-          | unread kind is command' means' cannot ↦
-              absurd (not_unread command command' means means' kind cannot read)
-          | unwritten is part rose ↦ absurd (wrote rose)
-          | memory is command' means' ↦ inr (ap status_of is)
-        ]
-      where
-        command : Command
-        command = Check bench tech pl report
-
-        seven : (command' : Command) → IsCommand words command' → Refuses holds command' failure
-            → IsRefusalStatus (status_of failure) → status_of failure ≡ 7
-        seven command' means' refuses (inr is) = is
-        seven command' means' refuses (inl is) =
-            let whole = told_before holds (problem_files bench tech pl) ((Report, report.now) ∷ [])
-            contents told in
-            absurd (three_not_accepted command' contents refuses.contents failure
-            (same_form command' command (one_command words command' command means' means).name)
-            (agrees words holds command command' means means' contents whole refuses.contents
-            refuses.are) three accepted is refuses.refusal)
 
     -- the text of an answer doesn't stand whole where the command line failed
     pub lacks_text : (command : Command) (contents : List (List ℕ)) (status : ℕ)
@@ -375,16 +349,18 @@ module _ (words : List (List ℕ)) (holds : List ℕ → Option (List ℕ)) (rea
 
 -- ---- statuses
 
--- a report that is shown ends a check with status 0
-pub check_done : (words : List (List ℕ)) (holds : List ℕ → Option (List ℕ))
+-- a command line that is done has a status of its command
+pub done_status : (words : List (List ℕ)) (holds : List ℕ → Option (List ℕ))
     (command other : Command) → IsCommand words command → IsCommand words other
-    → form_of command ≡ forms.Check
-    → (status : ℕ) (text : List ℕ) → TellsText holds other status text → status ≡ 0
-check_done words holds command other means means' check status text tells =
-    let answer = (answer_of other tells.contents status text tells.answer).1 in
+    → (ending : Ending) (text : List ℕ) → TellsText holds other (ending_status ending) text
+    → IsStatusOf command (ending_status ending)
+done_status words holds command other means means' ending text tells =
+    let answer =
+    (answer_of other tells.contents (ending_status ending) text tells.answer).1 in
     let one = one_command words other command means' means in
-    let same = same_form other command one.name ∙ check in
-    (subst (λ form. IsTextOf form status text answer.circuit answer.tech) same answer.holds).0
+    text_status command ending text answer.circuit answer.tech
+    (subst (λ form. IsTextOf form (ending_status ending) text answer.circuit answer.tech)
+    (same_form other command one.name) answer.holds)
 
 -- a command that answers doesn't end with status 2
 pub not_two : (ending : Ending) → ending_status ending ≡ 2 → ⊥

@@ -1,5 +1,5 @@
 -- The words of a command line name files in one way, so what is told of their contents is one.
-use Rattle.std.proofs.Common.{ℕ, ◌≡◌, ◌≤◌, if◌then◌else◌, List, [], ◌∷◌, ◌++◌, length, Option, Some, None, IfSome, codes, refl, ap, sym, ◌∙◌, subst, arith}
+use Rattle.std.proofs.Common.{ℕ, ◌≡◌, ◌≤◌, if◌then◌else◌, List, [], ◌∷◌, length, Option, Some, None, IfSome, codes, refl, ap, sym, ◌∙◌, subst, arith}
 use Rattle.std.specs.List.{flat_map}
 use Rattle.std.specs.Str.{bytes_eq}
 use Rattle.cts_program.specs.declared.command.Command.{Command}
@@ -65,11 +65,3 @@ module _ (holds : List ℕ → Option (List ℕ)) where
   told_agree [] (bytes ∷ more) (other ∷ others) told are = absurd told
   told_agree (file ∷ files) (bytes ∷ more) (other ∷ others) (is, told) (alike, are) =
       (subst (λ held. IfSome held (λ b. b ≡ other)) is alike, told_agree files more others told are)
-
-  -- what is told of files is told of them before others
-  pub told_before : (files others : List (FileKind × List ℕ)) (contents : List (List ℕ))
-      → AreTold holds files contents → AreTold holds (files ++ others) contents
-  told_before files others [] told = tt
-  told_before [] others (bytes ∷ contents) told = absurd told
-  told_before (file ∷ files) others (bytes ∷ contents) (is, told) =
-      (is, told_before files others contents told)

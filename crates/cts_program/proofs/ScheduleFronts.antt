@@ -20,7 +20,7 @@ use Rattle.cts_program.proofs.TimingLines.{scheduled_lines_are, never_lines_are}
 -- ---- one status
 
 -- without its schedule an outcome is one for the period
-without_is : (circuit : Circuit) (tech : Tech) (outcome : ScheduleOutcome)
+pub without_is : (circuit : Circuit) (tech : Tech) (outcome : ScheduleOutcome)
     → IsScheduleOutcome circuit tech outcome
     → IsPeriodOutcome circuit tech (period_outcome outcome)
 without_is circuit tech (Found zero period shown schedule slacks) scheduled = scheduled.found

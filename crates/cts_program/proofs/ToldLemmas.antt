@@ -207,7 +207,13 @@ module _ {holds : List ℕ → Option (List ℕ)}
       are = told.are;
       refusal = stops (
         told.all,
-        record { circuit = circuit; tech = tech; tell = told.tell; many = many },
+        record {
+          accepted = told.accepted;
+          circuit = circuit;
+          tech = tech;
+          tell = told.tell;
+          many = many;
+        },
       );
     }
     circuit_stops (failures.Unshown why) fails = absurd fails

@@ -1,8 +1,9 @@
 -- What a command answers where its files have these contents: a text, or the first refusal.
-use Rattle.std.specs.Prelude.{◌≡◌, ◌≤◌, ◌==◌, ◌||◌, ℕ, Bool, List, take}
+use Rattle.std.specs.Prelude.{◌≡◌, ◌≤◌, ◌⊎◌, ◌==◌, ◌||◌, ℕ, Bool, List, length, take}
 use Rattle.cts_model.specs.declared.circuit.Circuit.{Circuit}
 use Rattle.cts_model.specs.declared.problem.Problem.{Problem}
 use Rattle.cts_model.specs.declared.tech.Tech.{Tech}
+use Rattle.cts_model.specs.LeastPeriods.{HasNoPeriod}
 use Rattle.cts_model.specs.PairLists.{JoinsMoreThan}
 use Rattle.cts_program.specs.declared.command.Command.{Command}
 use Rattle.cts_program.specs.declared.command.Command.TheVariants.{Zero, Period, Schedule, Synth, Check, Demo}
@@ -20,8 +21,9 @@ use Rattle.cts_program.specs.ScheduleTexts.{IsScheduleText}
 use Rattle.cts_program.specs.SynthTexts.{IsSynthText}
 use Rattle.cts_program.specs.Texts.{IsZeroText}
 
--- more pairs of registers are joined by paths than a circuit may have
+-- the contents are accepted, and paths join more pairs of registers than a circuit may have
 pub record JoinTooMany (contents : List (List ℕ)) : Type 0 where
+  pub accepted : AreAccepted contents
   pub circuit : Circuit
   pub tech : Tech
   pub tell : Tell contents circuit tech
@@ -114,3 +116,30 @@ IsRefusal (Check bench tech pl report) contents failure = IsFileRefusal contents
 IsRefusal (Demo registers seed) contents failure = AreAll (Demo registers seed) contents
     × IsDemoRefusal (number_of registers.now) (number_of seed.now) failure
 IsRefusal command contents failure = IsTextRefusal (AreAll command contents) contents failure
+
+-- the contents are accepted, and join no more pairs than a circuit may have
+abbrev pub AreAcceptedInput : List (List ℕ) → Type 0
+AreAcceptedInput contents = AreAccepted contents × (JoinTooMany contents → ⊥)
+
+-- what the command goes by is accepted: what its files hold, or the texts of a demonstration. Where
+-- a report is checked, that is the first three files, however many pairs they join.
+abbrev pub IsAccepted : Command → List (List ℕ) → Type 0
+IsAccepted (Check bench tech pl report) contents =
+    (3 ≤ length contents) × AreAccepted (take 3 contents)
+IsAccepted (Demo registers seed) contents = AreAll (Demo registers seed) contents
+    × AreAcceptedInput (demo_texts (number_of registers.now) (number_of seed.now))
+IsAccepted command contents = AreAll command contents × AreAcceptedInput contents
+
+-- the statuses for what is accepted
+abbrev pub IsStatusOf : Command → ℕ → Type 0
+IsStatusOf (Zero bench tech) status = status ≡ 0
+IsStatusOf (Check bench tech pl report) status = (status ≡ 0) ⊎ (status ≡ 7)
+IsStatusOf command status = (status ≡ 0) ⊎ (status ≡ 1)
+
+-- what a command that looks for a period goes by is accepted, and no period is admitted
+abbrev pub FindsNoPeriod : Command → List (List ℕ) → Type 0
+FindsNoPeriod (Zero bench tech) contents = ⊥
+FindsNoPeriod (Check bench tech pl report) contents = ⊥
+FindsNoPeriod (Demo registers seed) contents = AreAll (Demo registers seed) contents
+    × TellWith (demo_texts (number_of registers.now) (number_of seed.now)) HasNoPeriod
+FindsNoPeriod command contents = AreAll command contents × TellWith contents HasNoPeriod

@@ -1,6 +1,7 @@
 //! The clock tree synthesizer `cts`.
 #![tactic(auto)]
 
+mod call;
 mod check;
 mod command;
 mod demo;
@@ -23,32 +24,20 @@ mod told;
 mod zero;
 mod zero_text;
 
+use call::answer_call;
 use cts_io::{HostErr, HostInputs, HostOut};
-use failure::Failure;
-use run::run;
 use std::process::ExitCode;
 use std::rt::Env;
 use std::{env, io};
 
 fn main(rt: HostRuntime) -> ExitCode {
-    let alloc = rt.alloc();
     let mut inputs = HostInputs::new(&rt);
     let mut out = HostOut::new(rt.stdout());
     let mut err = HostErr::new(rt.stderr());
-    let failure = match words(&rt) {
-        Ok(words) => {
-            let status = run::<_, HostOut, HostErr>(alloc, &words, &mut inputs, &mut out, &mut err);
-            return ExitCode::from(status);
-        }
-        Err(error) if error.kind() == io::ErrorKind::OutOfMemory => Failure::NoMemory,
-        // Words that are no text are wrong words.
-        Err(_) => Failure::Usage,
-    };
-    failure.report::<HostErr>(&mut err);
-    ExitCode::from(failure.status())
+    answer_call::<_, HostOut, HostErr>(rt.alloc(), words(&rt), &mut inputs, &mut out, &mut err)
 }
 
-// The words behind the program's name.
+// All words of the call, the first of which is the program's name.
 fn words(rt: &(impl Env + AllocGlobal)) -> io::Result<Vec<String>> {
-    Ok(env::args(rt)?.skip(1).collect(rt.alloc())?)
+    Ok(env::args(rt)?.collect(rt.alloc())?)
 }

@@ -1,14 +1,12 @@
-ghost use Rattle.std.specs.Prelude.{◌≡◌, ◌≢◌, ◌⊎◌, ◌↔◌, ◌<◌, ℕ, List, All, map, length, true, Some, string_bytes, IfOk, IfErr, IsErrOf, IsTrue};
-ghost use Rattle.std.specs.Borrow.{Bor};
+ghost use Rattle.std.specs.Prelude.{◌≡◌, ◌≢◌, ◌⊎◌, ◌↔◌, ◌<◌, ℕ, List, All, map, true, Some, string_bytes, IfOk, IfErr, IsErrOf, IsTrue};
 ghost use Rattle.cts_io.specs.Device.{Rose, appended};
 ghost use Rattle.cts_program.specs.declared.command.Command.{Command};
 ghost use Rattle.cts_program.specs.declared.failure.Failure.{Failure};
 ghost use Rattle.cts_program.specs.declared.file_kind.FileKind.{FileKind};
-ghost use Rattle.cts_program.specs.Answers.{is_ending, ending_status, IsAnswer, IsRefusal};
+ghost use Rattle.cts_program.specs.Answers.{is_ending, ending_status, IsAnswer, IsRefusal, IsAccepted, IsStatusOf, FindsNoPeriod};
 ghost use Rattle.cts_program.specs.Commands.{is_value, options_of, IsCommand};
 ghost use Rattle.cts_program.specs.Failures.{status_of, failure_line, Reports};
-ghost use Rattle.cts_program.specs.Files.{problem_files, files_of, AreTold};
-ghost use Rattle.cts_program.specs.Judged.{AreAccepted};
+ghost use Rattle.cts_program.specs.Files.{files_of, AreTold, AreAll};
 ghost use Rattle.cts_program.specs.Run.{IsNoCommand, TellsText, Refuses, CannotRead, Stops, Ends, EndsInPart, Fails, AreUnrisen};
 ghost use Rattle.cts_program.specs.Steps.{IsAnyReadFault};
 
@@ -45,6 +43,17 @@ pub fn run<I: Inputs, O: Sink, E: Sink>(
         → IsAnswer command contents status text → O.written out.old ≡ Some before
         → O.written out.new ≡ appended (O.written out.old) text → result ≡ status }
 
+    // 1: only where what is accepted admits no period at any scale, and never from `zero` or
+    // `check`. Such input gives no 0.
+    ensures never { (command : Command) (contents : List (List ℕ))
+        → IsCommand (map string_bytes words.now) command
+        → AreTold (I.holds inputs.old) (files_of command) contents → AreAll command contents
+        → result ≡ 1 → FindsNoPeriod command contents }
+    ensures found { (command : Command) (contents : List (List ℕ))
+        → IsCommand (map string_bytes words.now) command
+        → AreTold (I.holds inputs.old) (files_of command) contents
+        → FindsNoPeriod command contents → result ≢ 0 }
+
     // 2: exactly where the words are no command. No file is touched then.
     ensures usage { (result ≡ 2) ↔ IsNoCommand (map string_bytes words.now) }
     ensures untouched { result ≡ 2 → inputs.new ≡ inputs.old }
@@ -61,8 +70,8 @@ pub fn run<I: Inputs, O: Sink, E: Sink>(
         → IsRefusal command contents failure
         → (result ≡ status_of failure) ⊎ ((result ≡ 4) ⊎ (result ≡ 6)) }
 
-    // 4: exactly where the count of a file rose. It is one that the command reads, and the files
-    // before it are accepted.
+    // 4: only where the count of a file rose that the command reads, behind files that are accepted;
+    // and wherever the count of any file is greater.
     ensures read_fault { result ≡ 4 → (command : Command)
         × IsCommand (map string_bytes words.now) command
         × ((kind : FileKind) × CannotRead (I.holds inputs.old) (I.faults inputs.old)
@@ -70,29 +79,21 @@ pub fn run<I: Inputs, O: Sink, E: Sink>(
     ensures risen { (file : List ℕ) → I.faults inputs.old file < I.faults inputs.new file
         → result ≡ 4 }
 
-    // 5: exactly where the count of the output rose. A front of the text stands there.
+    // 5: only where the count of the output rose, and wherever it is greater. A front of the text
+    // stands there.
     ensures write_fault { result ≡ 5 → Rose (O.faults out.old) (O.faults out.new) }
     ensures part { result ≡ 5 → EndsInPart (map string_bytes words.now)
         (I.holds inputs.old) (O.written out.old) (O.written out.new) }
     ensures written { O.faults out.old < O.faults out.new → result ≡ 5 }
 
-    // With no fault of theirs a command that has an answer gives it, unless memory runs out.
-    ensures complete { (command : Command) (contents : List (List ℕ)) (status : ℕ) (text : List ℕ)
+    // With no fault of theirs what is accepted gives 0 or 1, of `zero` 0, and of `check` 0 or 7,
+    // whatever its report holds, unless memory runs out.
+    ensures complete { (command : Command) (contents : List (List ℕ))
         → IsCommand (map string_bytes words.now) command
-        → AreTold (I.holds inputs.old) (files_of command) contents
-        → IsAnswer command contents status text
+        → AreTold (I.holds inputs.old) (files_of command) contents → IsAccepted command contents
         → AreUnrisen (I.faults inputs.old) (I.faults inputs.new) (files_of command)
-        → (Rose (O.faults out.old) (O.faults out.new) → ⊥) → (result ≡ status) ⊎ (result ≡ 6) }
-
-    // So does a report of accepted files: it is shown or it isn't, however many pairs are joined.
-    ensures judged { (bench tech pl report : Bor (List ℕ)) (contents : List (List ℕ))
-        → IsCommand (map string_bytes words.now) (Command.Check bench tech pl report)
-        → AreTold (I.holds inputs.old) (problem_files bench tech pl) contents
-        → length contents ≡ 3 → AreAccepted contents
-        → AreUnrisen (I.faults inputs.old) (I.faults inputs.new)
-        (files_of (Command.Check bench tech pl report))
         → (Rose (O.faults out.old) (O.faults out.new) → ⊥)
-        → (result ≡ 0) ⊎ ((result ≡ 7) ⊎ (result ≡ 6)) }
+        → IsStatusOf command result ⊎ (result ≡ 6) }
 
     // Files hold what they held. The output keeps what it had.
     ensures files { (file : List ℕ) → I.holds inputs.new file ≡ I.holds inputs.old file }

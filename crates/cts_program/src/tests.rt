@@ -183,8 +183,8 @@ fn run_on(alloc: Global, command: &[&str], inputs: MemoryInputs) -> Result<Seen,
         alloc,
         command,
         inputs,
-        sink(alloc, 1000, &[])?,
-        sink(alloc, 1000, &[])?,
+        sink(alloc, 100_000, &[])?,
+        sink(alloc, 100_000, &[])?,
     )
 }
 

@@ -1,4 +1,5 @@
 use crate::tests::{LOPSIDED, RING, S27, S27_TABLE, SLOW, expect_answer, table};
+use std::alloc::{AllocError, Global};
 use std::test::Fail;
 
 #[test]
@@ -53,5 +54,39 @@ fn tells_that_there_is_no_period(rt: HostRuntime) -> Result<(), Fail> {
         let tech = table(rt.alloc(), [0, 2, 1, 1], more)?;
         expect_answer(&rt, rt.alloc(), "period", bench, &tech, 1, text)?;
     }
+    Ok(())
+}
+
+// A ring of 4,096 registers, with a buffer between two of them.
+fn long_ring(alloc: Global) -> Result<String, AllocError> {
+    let mut netlist = String::from_str(alloc, "b = BUFF(r0)\nr0 = DFF(r4095)\nr1 = DFF(b)\n")?;
+    for number in 1..4095u32 {
+        let next = number + 1;
+        netlist.push_str(&format!(in alloc; "r{next} = DFF(r{number})\n")?)?;
+    }
+    Ok(netlist)
+}
+
+// All of the ring needs 8,193 ticks in 4,096 periods.
+fn long_cycle(alloc: Global) -> Result<String, AllocError> {
+    let head = "period 8193/4096\nzero 3\ncycle 4096\nsetup r0 r1 3\n";
+    let mut text = String::from_str(alloc, head)?;
+    for number in 1..4095u32 {
+        let next = number + 1;
+        text.push_str(&format!(in alloc; "setup r{number} r{next} 2\n")?)?;
+    }
+    text.push_str("setup r4095 r0 2\n")?;
+    Ok(text)
+}
+
+// A period over 4,096, the most without a host.
+#[test]
+fn finds_the_least_period_of_a_long_ring(rt: HostRuntime) -> Result<(), Fail> {
+    let alloc = rt.alloc();
+    let buff = "[gate.BUFF]\nleast = 0\ngreatest = 1\n";
+    let tech = table(alloc, [1, 0, 1, 1], buff)?;
+    let ring = long_ring(alloc)?;
+    let text = long_cycle(alloc)?;
+    expect_answer(&rt, alloc, "period", &ring, &tech, 0, &text)?;
     Ok(())
 }

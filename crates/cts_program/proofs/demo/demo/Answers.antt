@@ -19,4 +19,4 @@ pub returns-clause-cause : goal.returns-clause-cause
 returns-clause-cause c =
     rw (← c.number-registers.ensures, ← c.number.ensures)
     (if_err_from c.problem_answer.result _ _ c.problem_answer.ensures.cause
-    (circuit_refused _ _ _ c.in_ok-problem.problem c.in_ok-problem.ensures.ok.tell))
+    (circuit_refused _ _ _ c.in_ok-problem.problem c.in_ok-problem.ensures.ok))

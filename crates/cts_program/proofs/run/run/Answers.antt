@@ -1,6 +1,7 @@
-use Rattle.std.proofs.Common.{map, string_bytes, inl, inr, refl, sym, ◌∙◌}
-use Rattle.cts_program.proofs.RunLemmas.{told_not_refused, told_status, two_is_usage, usage_is_two, refusal_told, refused_status, five_is_unwritten, complete_status, judged_status, check_done, lacks_text, not_two, risen_status}
-use Rattle.cts_program.specs.declared.command.Command.TheVariants.{Check}
+use Rattle.std.proofs.Common.{map, string_bytes, inl, sym, ◌∙◌, subst}
+use Rattle.cts_program.specs.Answers.{IsStatusOf}
+use Rattle.cts_program.specs.Run.{TellsText}
+use Rattle.cts_program.proofs.RunLemmas.{told_not_refused, told_status, told_never, told_found, two_is_usage, usage_is_two, refusal_told, refused_status, five_is_unwritten, accepted_status, done_status, lacks_text, not_two, risen_status}
 use Rattle.cts_program.proofs.run.run.Goals as goal
 
 pub returns-in-Ok-clause-refuses : goal.returns-in-Ok-clause-refuses
@@ -30,12 +31,28 @@ returns-in-Ok-clause-only g c command contents status text before means told ans
     (g.I.Inputs.holds c.args.inputs.now) command ends.command means ends.means contents told status
     text answer _ ends.text ends.tells
 
-pub returns-in-Ok-clause-complete : goal.returns-in-Ok-clause-complete
-returns-in-Ok-clause-complete g c command contents status text means told answer read wrote =
+pub returns-in-Ok-clause-never : goal.returns-in-Ok-clause-never
+returns-in-Ok-clause-never g c command contents means told all one =
     let ends = c.in-Ok.ensures.done in
-    inl (c.status.ensures ∙ told_status (map string_bytes c.args.words.now)
-    (g.I.Inputs.holds c.args.inputs.now) command ends.command means ends.means contents told status
-    text answer _ ends.text ends.tells)
+    told_never (map string_bytes c.args.words.now) (g.I.Inputs.holds c.args.inputs.now) command
+    ends.command means ends.means contents told all ends.text
+    (subst (λ status. TellsText (g.I.Inputs.holds c.args.inputs.now) ends.command status ends.text)
+    (sym c.status.ensures ∙ one) ends.tells)
+
+pub returns-in-Ok-clause-found : goal.returns-in-Ok-clause-found
+returns-in-Ok-clause-found g c command contents means told none done =
+    let ends = c.in-Ok.ensures.done in
+    told_found (map string_bytes c.args.words.now) (g.I.Inputs.holds c.args.inputs.now) command
+    ends.command means ends.means contents told none ends.text
+    (subst (λ status. TellsText (g.I.Inputs.holds c.args.inputs.now) ends.command status ends.text)
+    (sym c.status.ensures ∙ done) ends.tells)
+
+pub returns-in-Ok-clause-complete : goal.returns-in-Ok-clause-complete
+returns-in-Ok-clause-complete g c command contents means told accepted read wrote =
+    let ends = c.in-Ok.ensures.done in
+    inl (subst (IsStatusOf command) (sym c.status.ensures)
+    (done_status (map string_bytes c.args.words.now) (g.I.Inputs.holds c.args.inputs.now) command
+    ends.command means ends.means c.in-Ok.ending ends.text ends.tells))
 
 pub returns-in-Err-clause-only : goal.returns-in-Err-clause-only
 returns-in-Err-clause-only g c command contents status text before means told answer is whole =
@@ -74,32 +91,12 @@ returns-in-Err-clause-part g c five =
     _ _ _ _ c.in-Err.failure c.in-Err.ensures.cause (sym c.status-in-Err.ensures ∙ five)).0
 
 pub returns-in-Err-clause-complete : goal.returns-in-Err-clause-complete
-returns-in-Err-clause-complete g c command contents status text means told answer read wrote =
-    rw c.status-in-Err.ensures (complete_status (map string_bytes c.args.words.now)
+returns-in-Err-clause-complete g c command contents means told accepted read wrote =
+    rw c.status-in-Err.ensures (accepted_status (map string_bytes c.args.words.now)
     (g.I.Inputs.holds c.args.inputs.now) _ _ _ _ _ _ c.in-Err.failure c.in-Err.ensures.cause
-    (record {
-      one_report = c.one_report.ensures;
-      one_fault = c.faults.ensures.one;
-      no_fault =
-          c.faults.ensures.none;
-    }) command contents status text means told answer read wrote)
+    command contents means told accepted read wrote)
 
 pub returns-in-Err-clause-refused : goal.returns-in-Err-clause-refused
 returns-in-Err-clause-refused g c = rw c.status-in-Err.ensures
     (refusal_told (map string_bytes c.args.words.now) (g.I.Inputs.holds c.args.inputs.now) _ _ _ _ _
     _ c.in-Err.failure c.in-Err.ensures.cause)
-
-pub returns-in-Ok-clause-judged : goal.returns-in-Ok-clause-judged
-returns-in-Ok-clause-judged g c bench tech pl report contents means told three accepted read
-    wrote =
-    let ends = c.in-Ok.ensures.done in
-    inl (c.status.ensures ∙ check_done (map string_bytes c.args.words.now)
-    (g.I.Inputs.holds c.args.inputs.now) (Check bench tech pl report) ends.command means ends.means
-    refl _ ends.text ends.tells)
-
-pub returns-in-Err-clause-judged : goal.returns-in-Err-clause-judged
-returns-in-Err-clause-judged g c bench tech pl report contents means told three accepted read
-    wrote =
-    rw c.status-in-Err.ensures (inr (judged_status (map string_bytes c.args.words.now)
-    (g.I.Inputs.holds c.args.inputs.now) _ _ _ _ _ _ c.in-Err.failure c.in-Err.ensures.cause
-    bench tech pl report contents means told three accepted read wrote))

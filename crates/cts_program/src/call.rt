@@ -1,0 +1,86 @@
+//! A call of the program: the name that it is called by, and the words behind that.
+
+ghost use Rattle.std.specs.Prelude.{◌≡◌, ◌≢◌, ◌<◌, ℕ, List, map, drop, true, string_bytes, IfOk, IfErr};
+ghost use Rattle.std.specs.IoError.{error_kind};
+ghost use Rattle.std.specs.Process.{exit_status};
+ghost use Rattle.cts_program.specs.declared.failure.Failure.{Failure};
+ghost use Rattle.cts_program.specs.Answers.{is_ending};
+ghost use Rattle.cts_program.specs.Failures.{status_of, failure_line, Reports};
+ghost use Rattle.cts_program.specs.Run.{Ends, Fails};
+
+use crate::failure::Failure;
+use crate::run::run;
+use cts_io::{Inputs, Sink};
+use std::alloc::Global;
+use std::io;
+use std::io::ErrorKind;
+use std::process::ExitCode;
+
+/// Answers a call with these words, the first of which is the program's name, and gives the exit
+/// code. Words that can't be had are told by one line on `err`: those that are no text are wrong
+/// words.
+pub fn answer_call<I: Inputs, O: Sink, E: Sink>(
+    alloc: Global,
+    words: io::Result<Vec<String>>,
+    inputs: &mut I,
+    out: &mut O,
+    err: &mut E,
+) -> ExitCode
+    // The words behind the name are answered as by `run`, with its status.
+    ensures done { IfOk words (λ words. is_ending (exit_status result) ≡ true
+        → Ends (map string_bytes (drop 1 words.items)) (I.holds inputs.old) (exit_status result)
+        (O.written out.old) (O.written out.new)) }
+    ensures told { IfOk words (λ words. is_ending (exit_status result) ≢ true
+        → (failure : Failure) × (exit_status result ≡ status_of failure)
+        × Fails (map string_bytes (drop 1 words.items)) (I.holds inputs.old) (I.faults inputs.old)
+        (I.faults inputs.new) (O.written out.old) (O.written out.new) (O.faults out.old)
+        (O.faults out.new) failure
+        × Reports (failure_line failure) (E.written err.old) (E.faults err.old) (E.written err.new)
+        (E.faults err.new)) }
+
+    // Words that aren't had are told so.
+    ensures no_text { IfErr words (λ error. error_kind error ≢ ErrorKind.OutOfMemory
+        → (exit_status result ≡ 2)
+        × Reports (failure_line Failure.Usage) (E.written err.old) (E.faults err.old)
+        (E.written err.new) (E.faults err.new)) }
+    ensures no_memory { IfErr words (λ error. error_kind error ≡ ErrorKind.OutOfMemory
+        → (exit_status result ≡ 6)
+        × Reports (failure_line Failure.NoMemory) (E.written err.old) (E.faults err.old)
+        (E.written err.new) (E.faults err.new)) }
+
+    // What `run` leaves untouched stays so.
+    ensures untouched { exit_status result ≡ 2 → inputs.new ≡ inputs.old }
+    ensures files { (file : List ℕ) → I.holds inputs.new file ≡ I.holds inputs.old file }
+    ensures risen { (file : List ℕ) → I.faults inputs.old file < I.faults inputs.new file
+        → exit_status result ≡ 4 }
+    ensures kept { is_ending (exit_status result) ≢ true → exit_status result ≢ 5
+        → O.written out.new ≡ O.written out.old }
+    ensures written { O.faults out.old < O.faults out.new → exit_status result ≡ 5 }
+    ensures quiet { is_ending (exit_status result) ≡ true → E.written err.new ≡ E.written err.old }
+{
+    match words {
+        Ok(words) => ExitCode::from(run(alloc, behind_name(&words), inputs, out, err)),
+        Err(error) if error.kind() == ErrorKind::OutOfMemory => refuse(Failure::NoMemory, err),
+        Err(_) => refuse(Failure::Usage, err),
+    }
+}
+
+// The words behind the program's name.
+fn behind_name(words: &[String]) -> &[String]
+    ensures { result.now ≡ drop 1 words.now }
+{
+    match words {
+        [_, behind @ ..] => behind,
+        [] => &[],
+    }
+}
+
+// Tells why nothing is answered, and gives the exit code.
+fn refuse<E: Sink>(failure: Failure, err: &mut E) -> ExitCode
+    ensures status { exit_status result ≡ status_of failure }
+    ensures told { Reports (failure_line failure) (E.written err.old) (E.faults err.old)
+        (E.written err.new) (E.faults err.new) }
+{
+    failure.report(err);
+    ExitCode::from(failure.status())
+}
