@@ -1,5 +1,0 @@
-use Rattle.std.proofs.Common.{rules}
-use Rattle.cts_tests.proofs.constraint_lists.expect_satisfied.Goals as goal
-
-pub returns : goal.returns
-returns g c = search rules

@@ -1,6 +1,0 @@
-use Rattle.std.proofs.Common.{All}
-use Rattle.cts_model.specs.Sinks.{IsTreeSink}
-use Rattle.cts_tests.proofs.topology_tests.assert_merged.Given as goal
-
-abbrev pub invariant-loop-place : goal.invariant-loop-place
-invariant-loop-place g l = All IsTreeSink l.sinks.items

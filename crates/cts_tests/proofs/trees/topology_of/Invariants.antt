@@ -1,6 +1,0 @@
-use Rattle.std.proofs.Common.{◌≡◌, length}
-use Rattle.cts_model.proofs.TopologyLemmas.{EachMerge}
-use Rattle.cts_tests.proofs.trees.topology_of.Given as goal
-
-abbrev pub invariant-loop-nodes : goal.invariant-loop-nodes
-invariant-loop-nodes g l = EachMerge l.sinks l.joined × (length l.joined ≡ l.nodes-index)

@@ -1,0 +1,26 @@
+//! Tests on the public calls of the crates that read and write: numbers, lines, devices, netlists,
+//! tables and placements, a file for each crate.
+#![tactic(auto)]
+
+#[cfg(test)]
+mod base_tests;
+#[cfg(test)]
+mod bench_tests;
+#[cfg(test)]
+mod demo_tests;
+#[cfg(test)]
+mod device_tests;
+#[cfg(test)]
+mod fraction_tests;
+#[cfg(test)]
+mod io_tests;
+#[cfg(test)]
+mod model_tests;
+#[cfg(test)]
+mod number_tests;
+#[cfg(test)]
+mod place_tests;
+#[cfg(test)]
+mod spelling_tests;
+#[cfg(test)]
+mod table_tests;

@@ -1,0 +1,8 @@
+use Rattle.std.proofs.Common.{◌≡◌, length}
+use Rattle.std.specs.Prelude.{All}
+use Rattle.cts_model.specs.Constraints.{IsSmallConstraint}
+use Rattle.timing_tests.proofs.constraint_lists.list_of.Given as goal
+
+abbrev pub invariant-loop-constraint : goal.invariant-loop-constraint
+invariant-loop-constraint g l = All (IsSmallConstraint l.registers) l.list
+    × (length l.list ≡ l.constraint-index)

@@ -1,0 +1,15 @@
+-- One arrival more.
+use Rattle.std.proofs.Common.{◌^◌, arith}
+use Rattle.std.proofs.lemmas.List.{length_push}
+use Rattle.std.proofs.lemmas.List.Elements.{All-push}
+use Rattle.cts_model.specs.Points.{IsBelow}
+use Rattle.path_delays.proofs.WindowLemmas.{kept_time}
+use Rattle.timing_tests.proofs.slack_tests.schedule_of.Goals as goal
+
+pub loop-arrival-preserved : goal.loop-arrival-preserved
+loop-arrival-preserved c =
+    rw (c.in_ok-push.ensures.items, kept_time c.widened.result c.widened.ensures (omega arith)) (
+      All-push (IsBelow (10 ^ 19)) c.loop-arrival.at.items c.widened.result
+          c.loop-arrival.invariant.0 c.widened.ensures,
+      omega (arith, length_push c.loop-arrival.at.items c.widened.result, c.loop-arrival.invariant.1),
+    )

@@ -1,0 +1,2 @@
+mod HeldForOthers
+mod OnceSet

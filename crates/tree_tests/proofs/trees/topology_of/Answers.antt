@@ -1,0 +1,17 @@
+use Rattle.std.proofs.Common.{◌≡◌, ◌+◌, ◌++◌, ◌∷◌, [], length, ap, sym, subst, length-append, arith}
+use Rattle.cts_model.specs.Topologies.{IsMerge}
+use Rattle.cts_model.proofs.TopologyLemmas.{EachMerge, EachMerge-push}
+use Rattle.tree_tests.proofs.trees.topology_of.Goals as goal
+
+pub loop-nodes-preserved : goal.loop-nodes-preserved
+loop-nodes-preserved g c =
+    let sinks = c.args.sinks in
+    let joined = c.loop-nodes.joined in
+    let merge = c.joining-merge.result in
+    let is : c.push.new.self ≡ joined ++ merge ∷ [] = c.in_ok-push.ensures.ok in
+    let joins = subst (λ earlier. IsMerge sinks earlier merge) c.as_slice.ensures
+    c.joining-merge.ensures in (
+      subst (EachMerge sinks) (sym is) (EachMerge-push sinks joined merge c.loop-nodes.invariant.0
+          joins),
+      omega (arith, ap length is, length-append joined (merge ∷ []), c.loop-nodes.invariant.1),
+    )
