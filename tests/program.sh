@@ -170,6 +170,26 @@ cp "$top/examples/ring.bench" "$work/here.bench"
 inside() { (cd "$work" && "$top/cts" zero --bench here.bench); }
 expect 'the callers folder' 0 $'zero 5\nsetup a a 5' '' inside
 
+# A name is that of one file: nothing is taken from it, and nothing is made where it is missing.
+mkdir "$work/in"
+cp "$s27" "$work/in/ s27.bench "
+cp "$s27" "$work/in/s27"
+below() { (cd "$work/in" && "$top/cts" zero --bench "$1"); }
+expect 'blanks at both ends' 0 $'zero 10\nsetup G6 G5 10' '' below ' s27.bench '
+expect 'no blanks' 4 '' 'read fault bench' below s27.bench
+expect 'a blank behind another name' 4 '' 'read fault bench' below 's27 '
+expect 'the folder above' 0 $'zero 5\nsetup a a 5' '' below ./../here.bench
+expect 'not the folder above' 4 '' 'read fault bench' below ./here.bench
+expect 'a folder in front' 4 '' 'read fault bench' below in/s27
+expect 'a missing file is still missing' 1 '' '' test -e "$work/in/s27.bench"
+
+# Pipes are read once, from their first byte to the end; what has no end is too long.
+piped() { "$top/cts" zero --bench <(cat "$s27") --tech <(cat "$table"); }
+endless() { "$top/cts" zero --bench "$s27" --tech <(yes '#'); }
+expect 'files that are pipes' 0 $'zero 15\nsetup G6 G5 15' '' piped
+expect 'a pipe without an end' 3 '' 'refused tech long' endless
+expect 'a file without an end' 3 '' 'refused bench long' "$top/cts" zero --bench /dev/zero
+
 # As many joined pairs as a circuit may have, and more; a long chain of gates.
 joined() {
     echo "g = OR($(seq -f 'r%.0f' -s ', ' 0 1023))"
