@@ -30,10 +30,10 @@ module _ (names : List (List ℕ)) (line : List ℕ) (old new : CircuitParts) {e
   signals_stay none same = rw (definitions_push_none earlier line form none) (same ∙ has.signals_are)
 
   -- a line with a definition
-  pub defining_told : (definition : Definition) {fan_in : List ℕ} → definition_of statement ≡ Some definition → mention_of statement ≡ None → UsesDefined names statement
+  pub defining_denoted : (definition : Definition) {fan_in : List ℕ} → definition_of statement ≡ Some definition → mention_of statement ≡ None → UsesDefined names statement
       → new.signals ≡ old.signals ++ record { name = definition.name; kind = definition.kind; fan_in = fan_in } ∷ [] → fan_in ≡ filter_map (number_of names) definition.inputs
       → (old.registers ≡ registers_of old.signals → new.registers ≡ registers_of new.signals) → new.outputs.keys ≡ old.outputs.keys → HasParts names new (earlier ++ line ∷ [])
-  defining_told definition some none uses put reads registers outputs =
+  defining_denoted definition some none uses put reads registers outputs =
       let defined : definitions_in (earlier ++ line ∷ []) ≡ definitions_in earlier ++ definition ∷ [] = definitions_push_some earlier line form some in
       let grown : new.signals ≡ old.signals ++ signal_of names definition ∷ [] = put ∙ ap (λ f. old.signals ++ record { name = definition.name; kind = definition.kind; fan_in = f } ∷ []) reads in
       record {
@@ -45,8 +45,8 @@ module _ (names : List (List ℕ)) (line : List ℕ) (old new : CircuitParts) {e
 
 module _ (names : List (List ℕ)) (line : List ℕ) (old : CircuitParts) {earlier : List (List ℕ)} (has : HasParts names old earlier) where
   -- a line that says nothing
-  pub blank_told : statement_of line ≡ Some Blank → HasParts names old (earlier ++ line ∷ [])
-  blank_told form = record {
+  pub blank_denoted : statement_of line ≡ Some Blank → HasParts names old (earlier ++ line ∷ [])
+  blank_denoted form = record {
     signals_are = signals_stay names line old old has Blank form refl refl;
     registers_are = has.registers_are;
     outputs_are = outputs_stay names line old old has Blank form refl refl;
@@ -54,9 +54,9 @@ module _ (names : List (List ℕ)) (line : List ℕ) (old : CircuitParts) {earli
   }
 
   -- a primary output with a number
-  pub output_told : (new : CircuitParts) {name : List ℕ} → statement_of line ≡ Some (Output name) → new.signals ≡ old.signals → new.registers ≡ old.registers
+  pub output_denoted : (new : CircuitParts) {name : List ℕ} → statement_of line ≡ Some (Output name) → new.signals ≡ old.signals → new.registers ≡ old.registers
       → IsSomeAnd (number_of names name) (λ number. new.outputs.keys ≡ insert_key nat_eq old.outputs.keys number) → HasParts names new (earlier ++ line ∷ [])
-  output_told new {name} form signals registers outputs = at (number_of names name) refl outputs
+  output_denoted new {name} form signals registers outputs = at (number_of names name) refl outputs
     where
       at : (o : Option ℕ) → number_of names name ≡ o → IsSomeAnd o (λ number. new.outputs.keys ≡ insert_key nat_eq old.outputs.keys number) → HasParts names new (earlier ++ line ∷ [])
       at None none put = absurd put

@@ -6,11 +6,11 @@ use Rattle.std.proofs.lemmas.List.Sums.{sum_by_push}
 use Rattle.cts_model.specs.Kinds.{is_register}
 use Rattle.cts_model.specs.Names.{is_short}
 use Rattle.cts_model.specs.Statements.{Statement, Definition, statement_of, definition_of, names_of}
-use Rattle.cts_model.specs.Flaws.{definitions_in, defined_names, register_count, gate_inputs_of, gate_input_count, has_kind, has_lawful_inputs, definition_excess, flaw_of}
+use Rattle.cts_model.specs.Flaws.{definitions_in, defined_names, register_count, gate_inputs_of, gate_input_count, has_kind, has_valid_inputs, definition_excess, flaw_of}
 use Rattle.bench_reader.specs.declared.definitions.Definitions.{Definitions}
 use Rattle.bench_reader.specs.declared.line_fault.LineFault.{LineFault}
 use Rattle.bench_reader.specs.LineFaults.{IsFaultOf, IsLineFault}
-use Rattle.bench_reader.specs.Taken.{HasDefinitions, Adds, excess_behind, flaw_behind}
+use Rattle.bench_reader.specs.Taken.{HasDefinitions, Adds, excess_after, flaw_after}
 use Rattle.bench_reader.proofs.LineStatements.{definitions_push_some, definitions_push_none}
 
 module _ (earlier : List (List ℕ)) (line : List ℕ) (statement : Statement) (form : statement_of line ≡ Some statement) where
@@ -49,19 +49,19 @@ module _ (earlier : List (List ℕ)) (line : List ℕ) (statement : Statement) (
     }
 
     -- and the limit that it passes shows in the counts
-    excess_is : {old : Definitions} → HasDefinitions old earlier → definition_excess (definitions_in earlier) definition ≡ excess_behind old definition.kind (length definition.inputs)
+    excess_is : {old : Definitions} → HasDefinitions old earlier → definition_excess (definitions_in earlier) definition ≡ excess_after old definition.kind (length definition.inputs)
     excess_is {old} has = rw (has.names, has.registers, has.gate_inputs, length-map (definitions_in earlier) (λ d. d.name), registers_push, gate_inputs_push)
 
-    module _ (kind : has_kind statement ≡ true) (lawful : has_lawful_inputs definition ≡ true) where
+    module _ (kind : has_kind statement ≡ true) (valid_inputs : has_valid_inputs definition ≡ true) where
       -- as does what is wrong with its line
-      flaw_is : {old : Definitions} → HasDefinitions old earlier → flaw_of earlier line ≡ flaw_behind old definition.name definition.kind (length definition.inputs) (list_all is_short (names_of statement))
-      flaw_is {old} has = rw (form, kind, some, lawful, excess_is has, has.names)
+      flaw_is : {old : Definitions} → HasDefinitions old earlier → flaw_of earlier line ≡ flaw_after old definition.name definition.kind (length definition.inputs) (list_all is_short (names_of statement))
+      flaw_is {old} has = rw (form, kind, some, valid_inputs, excess_is has, has.names)
 
       -- so a judgement by the counts is one of the line
       pub defining_adds : {T : Type 0} {old : Definitions} (new : Definitions) (result : Result T LineFault)
           → MatchResult result
-          (λ _. (flaw_behind old definition.name definition.kind (length definition.inputs) (list_all is_short (names_of statement)) ≡ None) × Adds old new definition.name definition.kind (length definition.inputs))
-          (IsFaultOf (flaw_behind old definition.name definition.kind (length definition.inputs) (list_all is_short (names_of statement))))
+          (λ _. (flaw_after old definition.name definition.kind (length definition.inputs) (list_all is_short (names_of statement)) ≡ None) × Adds old new definition.name definition.kind (length definition.inputs))
+          (IsFaultOf (flaw_after old definition.name definition.kind (length definition.inputs) (list_all is_short (names_of statement))))
           → HasDefinitions old earlier
           → MatchResult result (λ _. (flaw_of earlier line ≡ None) × HasDefinitions new (earlier ++ line ∷ [])) (IsLineFault earlier line)
       defining_adds new (Ok done) judged has = (flaw_is has ∙ judged.0, defining_has has judged.1)

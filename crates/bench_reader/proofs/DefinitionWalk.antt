@@ -48,7 +48,7 @@ module _ {text : List ℕ} {left more : List (ℕ × List ℕ)} {number : ℕ} {
       → ((earlier : List (List ℕ)) → HasDefinitions old earlier → IsLineFault earlier line fault)
       → ((earlier : List (List ℕ)) → IsLine text number earlier line → AreFlawless earlier → IsLineFault earlier line fault → RefusesLine text refusal)
       → RefusesLine text refusal
-  refuses_next fault refusal before some judged tells = tells before.passed (next_line number line more before.walk some).place before.flawless (judged before.passed before.has)
+  refuses_next fault refusal before some judged denotes = denotes before.passed (next_line number line more before.walk some).place before.flawless (judged before.passed before.has)
 
 module _ {text : List ℕ} {left : List (ℕ × List ℕ)} {definitions : Definitions} where
   -- at the end

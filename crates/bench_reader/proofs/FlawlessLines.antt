@@ -4,12 +4,12 @@ use Rattle.std.specs.Option.{option_map, option_and_then, option_map_or}
 use Rattle.std.specs.List.{list_all}
 use Rattle.cts_model.specs.Names.{is_short}
 use Rattle.cts_model.specs.Statements.{Statement, Definition, statement_of, definition_of, names_of}
-use Rattle.cts_model.specs.Flaws.{Limit, Name, BadLine, UnknownKind, WrongInputs, SignalTwice, TooLarge, definitions_in, has_kind, has_lawful_inputs, is_defined_before, definition_excess, statement_flaw, flaw_of}
+use Rattle.cts_model.specs.Flaws.{Limit, Name, BadLine, UnknownKind, WrongInputs, SignalTwice, TooLarge, definitions_in, has_kind, has_valid_inputs, is_defined_before, definition_excess, statement_flaw, flaw_of}
 
--- nothing is wrong with a statement behind these definitions
+-- nothing is wrong with a statement after these definitions
 pub record IsSound (earlier : List Definition) (statement : Statement) : Type 0 where
   pub kind : has_kind statement ≡ true
-  pub inputs : option_map_or has_lawful_inputs (definition_of statement) true ≡ true
+  pub inputs : option_map_or has_valid_inputs (definition_of statement) true ≡ true
   pub once : option_map_or (is_defined_before earlier) (definition_of statement) false ≡ false
   pub short : list_all is_short (names_of statement) ≡ true
   pub within : option_and_then (definition_excess earlier) (definition_of statement) ≡ None
@@ -22,9 +22,9 @@ pub record IsSoundLine (earlier : List (List ℕ)) (line : List ℕ) : Type 0 wh
 
 -- a statement without a flaw
 sound_statement : (earlier : List Definition) (statement : Statement) → statement_flaw earlier statement ≡ None → IsSound earlier statement
-sound_statement earlier statement = at (has_kind statement) (option_map_or has_lawful_inputs (definition_of statement) true) (option_map_or (is_defined_before earlier) (definition_of statement) false) (list_all is_short (names_of statement)) (option_and_then (definition_excess earlier) (definition_of statement)) refl refl refl refl refl
+sound_statement earlier statement = at (has_kind statement) (option_map_or has_valid_inputs (definition_of statement) true) (option_map_or (is_defined_before earlier) (definition_of statement) false) (list_all is_short (names_of statement)) (option_and_then (definition_excess earlier) (definition_of statement)) refl refl refl refl refl
   where
-    at : (kind inputs twice short : Bool) (excess : Option Limit) → has_kind statement ≡ kind → option_map_or has_lawful_inputs (definition_of statement) true ≡ inputs
+    at : (kind inputs twice short : Bool) (excess : Option Limit) → has_kind statement ≡ kind → option_map_or has_valid_inputs (definition_of statement) true ≡ inputs
         → option_map_or (is_defined_before earlier) (definition_of statement) false ≡ twice → list_all is_short (names_of statement) ≡ short → option_and_then (definition_excess earlier) (definition_of statement) ≡ excess
         → (if not kind then Some UnknownKind else if not inputs then Some WrongInputs else if twice then Some SignalTwice else option_map TooLarge (if short then excess else Some Name)) ≡ None → IsSound earlier statement
     at false inputs twice short excess k i t s e none = cc none

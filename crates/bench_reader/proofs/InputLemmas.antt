@@ -7,12 +7,12 @@ use Rattle.cts_model.specs.Tokens.{Token, Word, Close, Comma, begins_with_name_b
 use Rattle.cts_model.specs.Statements.{inputs_of, more_inputs_of}
 use Rattle.bench_reader.specs.Inputs.{words_in}
 
--- a name in front doesn't change whether there is a list
+-- a name before doesn't change whether there is a list
 pub is_some-named : (name : List ℕ) (more : Option (List (List ℕ))) → is_some (option_map (λ names. name ∷ names) more) ≡ is_some more
 is_some-named name None = refl
 is_some-named name (Some names) = refl
 
--- the names behind a name are the words there
+-- the names after a name are the words there
 more_inputs_are_words : (tokens : List Token) → is_some (more_inputs_of tokens) ≡ true → more_inputs_of tokens ≡ Some (words_in tokens)
 more_inputs_are_words (Close ∷ []) form = refl
 more_inputs_are_words (Comma ∷ Word name ∷ rest) form =

@@ -7,7 +7,7 @@ mod Hostless
 mod InputLemmas
 mod Keys
 mod KindLemmas
-mod LawfulDefinitions
+mod ValidDefinitions
 mod LineStatements
 mod Lists
 mod LoopSignals
@@ -16,6 +16,6 @@ mod PartLists
 mod PartWalk
 mod SignalNames
 mod StatementNames
-mod ToldCircuits
+mod DenotedCircuits
 mod TokenLemmas
 pub mod OneFault

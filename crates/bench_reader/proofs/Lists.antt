@@ -31,9 +31,9 @@ AllPairs-map R f (x ∷ xs) pairs = λ i j d before within.
     let at_j : get_or (map f (x ∷ xs)) j d ≡ f (get_or (x ∷ xs) j x) = get_or-map f (x ∷ xs) j x d (omega (arith, length-map (x ∷ xs) f)) in
     subst (λ y. R y (get_or (map f (x ∷ xs)) j d)) (sym at_i) (subst (R (f (get_or (x ∷ xs) i x))) (sym at_j) (pairs i j x before (omega (arith, length-map (x ∷ xs) f))))
 
--- pairs with one more item in front
+-- pairs with one more item before
 pub AllPairs-cons : {X : Type 0} (R : X → X → Type 0) (x : X) (xs : List X) → All (R x) xs → AllPairs R xs → AllPairs R (x ∷ xs)
-AllPairs-cons R x xs front pairs zero zero d before within = absurd (omega arith)
-AllPairs-cons R x xs front pairs zero (suc j) d before within = front j d (omega arith)
-AllPairs-cons R x xs front pairs (suc i) zero d before within = absurd (omega arith)
-AllPairs-cons R x xs front pairs (suc i) (suc j) d before within = pairs i j d (omega arith) (omega arith)
+AllPairs-cons R x xs prefix pairs zero zero d before within = absurd (omega arith)
+AllPairs-cons R x xs prefix pairs zero (suc j) d before within = prefix j d (omega arith)
+AllPairs-cons R x xs prefix pairs (suc i) zero d before within = absurd (omega arith)
+AllPairs-cons R x xs prefix pairs (suc i) (suc j) d before within = pairs i j d (omega arith) (omega arith)

@@ -1,4 +1,4 @@
--- The circuit that a netlist tells keeps what a circuit is to keep.
+-- The circuit that a netlist denotes keeps what a circuit is to keep.
 use Rattle.std.proofs.Common.{◌≡◌, ◌≢◌, ℕ, ◌+◌, ◌<◌, Bool, true, false, not, cond, if◌then◌else◌, ◌==◌, List, [], ◌∷◌, length, map, Option, Some, None, IfSome, IsSome, All, AllPairs, IsTrue, get_or, refl, sym, ap, ◌∙◌, arith}
 use Rattle.std.specs.List.{filter_map, enumerate_from, sum_by}
 use Rattle.std.specs.Option.{option_map}
@@ -10,13 +10,13 @@ use Rattle.std.proofs.lemmas.List.Elements.{All-nil, All-cons, All-head, All-tai
 use Rattle.std.proofs.lemmas.List.Quantifiers.{position-Some}
 use Rattle.std.proofs.lemmas.List.Kept.{AllPairs-filter}
 use Rattle.cts_model.specs.declared.kind.Kind.{Kind}
-use Rattle.cts_model.specs.Kinds.{is_register, is_gate, is_host, is_lawful, kind_of}
+use Rattle.cts_model.specs.Kinds.{is_register, is_gate, is_host, is_valid, kind_of}
 use Rattle.cts_model.specs.Circuits.{IsCircuit, is_named, register_number, registers_of, gate_inputs}
 use Rattle.cts_model.specs.Statements.{Statement, Blank, Input, Output, Assign, Definition, definition_of}
 use Rattle.cts_model.specs.Flaws.{defined_names, register_count, gate_inputs_of, gate_input_count}
 use Rattle.cts_model.specs.Netlists.{UsesDefined, number_of, signal_of, first_mentions}
 use Rattle.bench_reader.proofs.Lists.{All-filter_map, length-filter_map, AllPairs-map, AllPairs-cons}
-use Rattle.bench_reader.proofs.LawfulDefinitions.{AreLawful}
+use Rattle.bench_reader.proofs.ValidDefinitions.{AreValid}
 use Rattle.bench_reader.proofs.Hostless.{IsHostless, no_host}
 
 -- a name's number is below the count of the names
@@ -88,16 +88,16 @@ once_first_mentions (number ∷ numbers) =
     (All-weaker (λ other. not (other == number) ≡ true) (λ other. number ≢ other) (λ other passes same. grind (arith, nat_tests)) _ (filter_passes (λ other. not (other == number)) (first_mentions numbers)))
     (AllPairs-filter (λ first second. first ≢ second) (λ other. not (other == number)) (first_mentions numbers) (once_first_mentions numbers))
 
--- definitions that are lawful, and that read each other alone, make a circuit
-pub circuit_from : (definitions : List Definition) (mentioned : List (List ℕ)) → AreLawful definitions → All IsHostless definitions → All (HasDefinedInputs (defined_names definitions)) definitions → 0 < register_count definitions
+-- definitions that are valid, and that read each other alone, make a circuit
+pub circuit_from : (definitions : List Definition) (mentioned : List (List ℕ)) → AreValid definitions → All IsHostless definitions → All (HasDefinedInputs (defined_names definitions)) definitions → 0 < register_count definitions
     → IsCircuit (map (signal_of (defined_names definitions)) definitions) (registers_of (map (signal_of (defined_names definitions)) definitions)) (first_mentions (filter_map (number_of (defined_names definitions)) mentioned))
-circuit_from definitions mentioned lawful hostless defined some =
+circuit_from definitions mentioned valid_inputs hostless defined some =
     let same_length : length (defined_names definitions) ≡ length (map (signal_of (defined_names definitions)) definitions) = length-map definitions (λ d. d.name) ∙ sym (length-map definitions (signal_of (defined_names definitions))) in
     record {
-      names = All-map (λ signal. IsTrue (is_named signal)) (signal_of (defined_names definitions)) definitions (λ k d within. rw (hostless k d within) (lawful.names k d within));
-      distinct = AllPairs-map (λ first second. first.name ≢ second.name) (signal_of (defined_names definitions)) definitions lawful.distinct;
-      lawful = All-map (λ s. IsTrue (is_lawful s.kind (length s.fan_in))) (signal_of (defined_names definitions)) definitions
-          (λ k d within. rw (length-filter_map (number_of (defined_names definitions)) (get_or definitions k d).inputs (defined k d within)) (lawful.lawful k d within));
+      names = All-map (λ signal. IsTrue (is_named signal)) (signal_of (defined_names definitions)) definitions (λ k d within. rw (hostless k d within) (valid_inputs.names k d within));
+      distinct = AllPairs-map (λ first second. first.name ≢ second.name) (signal_of (defined_names definitions)) definitions valid_inputs.distinct;
+      valid_inputs = All-map (λ s. IsTrue (is_valid s.kind (length s.fan_in))) (signal_of (defined_names definitions)) definitions
+          (λ k d within. rw (length-filter_map (number_of (defined_names definitions)) (get_or definitions k d).inputs (defined k d within)) (valid_inputs.valid_inputs k d within));
       read = All-map (λ s. All (λ number. number < length (map (signal_of (defined_names definitions)) definitions)) s.fan_in) (signal_of (defined_names definitions)) definitions
           (λ k d within. rw (← same_length) (numbers_within (defined_names definitions) (get_or definitions k d).inputs));
       host = λ number signal here is. absurd (no_host (map (signal_of (defined_names definitions)) definitions) number signal (All-map (λ s. is_host s.kind ≡ false) (signal_of (defined_names definitions)) definitions hostless) here is);
@@ -105,7 +105,7 @@ circuit_from definitions mentioned lawful hostless defined some =
       some_register = omega (arith, some, length-registers_of (defined_names definitions) definitions);
       outputs_are = rw (← same_length) (All-first_mentions (λ number. number < length (defined_names definitions)) _ (numbers_within (defined_names definitions) mentioned));
       outputs_once = once_first_mentions _;
-      few_signals = omega (arith, length-map definitions (signal_of (defined_names definitions)), lawful.few_signals);
-      few_registers = omega (arith, lawful.few_registers, length-registers_of (defined_names definitions) definitions);
-      few_inputs = omega (arith, lawful.few_inputs, gate_inputs_same (defined_names definitions) definitions defined);
+      few_signals = omega (arith, length-map definitions (signal_of (defined_names definitions)), valid_inputs.few_signals);
+      few_registers = omega (arith, valid_inputs.few_registers, length-registers_of (defined_names definitions) definitions);
+      few_inputs = omega (arith, valid_inputs.few_inputs, gate_inputs_same (defined_names definitions) definitions defined);
     }

@@ -11,9 +11,9 @@ use Rattle.bench_reader.specs.declared.fault.Which.TheVariants.{Name, Signals, R
 use Rattle.bench_reader.specs.declared.fault.BenchFault.{BenchFault}
 use Rattle.bench_reader.specs.declared.fault.BenchFault.TheVariants.{BadLine, UnknownKind, WrongInputs, SignalTwice, TooLarge, Undefined, CombLoop, NoRegisters, NoMemory}
 use Rattle.bench_reader.specs.Lines.{IsFirstFlawed, IsFirstUndefined}
-use Rattle.bench_reader.specs.Refusals.{Refuses, IsSameFault, limit_of}
+use Rattle.bench_reader.specs.Refusals.{RefusesNetlist, IsSameFault, limit_of}
 use Rattle.bench_reader.proofs.LineStatements.{statement_at}
-use Rattle.cts_base.proofs.ListPlaces.{IsBehind, same_place, same_parts}
+use Rattle.cts_base.proofs.ListPlaces.{IsAfter, same_place, same_parts}
 
 -- a line with a flaw isn't among lines without one
 not_among : (text : List ℕ) (number : ℕ) (flaw : Flaw) → IsFirstFlawed text number flaw → AreFlawless (lines_of text) → ⊥
@@ -22,9 +22,9 @@ not_among text number flaw first flawless =
     let some = first.flawed in
     cc
 
--- a first flawed line isn't behind another
-not_behind : (text : List ℕ) (number other : ℕ) (flaw other_flaw : Flaw) (first : IsFirstFlawed text number flaw) (second : IsFirstFlawed text other other_flaw) → IsBehind first.earlier second.earlier first.line → ⊥
-not_behind text number other flaw other_flaw first second found =
+-- a first flawed line isn't after another
+not_after : (text : List ℕ) (number other : ℕ) (flaw other_flaw : Flaw) (first : IsFirstFlawed text number flaw) (second : IsFirstFlawed text other other_flaw) → IsAfter first.earlier second.earlier first.line → ⊥
+not_after text number other flaw other_flaw first second found =
     let none : flaw_of first.earlier first.line ≡ None = second.flawless.each first.earlier first.line found.between found.split in
     let some = first.flawed in
     cc
@@ -33,7 +33,7 @@ module _ (text : List ℕ) (number other : ℕ) (flaw other_flaw : Flaw) (first 
   -- two first flawed lines have as many lines before them
   place : length first.earlier ≡ length second.earlier
   place = same_place first.earlier first.line first.place.later second.earlier second.line second.place.later (sym first.place.split ∙ second.place.split)
-      (not_behind text number other flaw other_flaw first second) (not_behind text other number other_flaw flaw second first)
+      (not_after text number other flaw other_flaw first second) (not_after text other number other_flaw flaw second first)
 
   -- so they have one number
   same_number : number ≡ other
@@ -43,7 +43,7 @@ module _ (text : List ℕ) (number other : ℕ) (flaw other_flaw : Flaw) (first 
   same_flaw : flaw ≡ other_flaw
   same_flaw =
       let parts = same_parts first.earlier first.line first.place.later second.earlier second.line second.place.later (sym first.place.split ∙ second.place.split) place in
-      same_Some flaw other_flaw (sym first.flawed ∙ (λ i. flaw_of (parts.same_front i) (parts.same_item i)) ∙ second.flawed)
+      same_Some flaw other_flaw (sym first.flawed ∙ (λ i. flaw_of (parts.same_prefix i) (parts.same_item i)) ∙ second.flawed)
 
 -- the limit that a flaw names, as a refusal names it
 abbrev which_of : Limit → Which
@@ -60,7 +60,7 @@ fault_at number flaws.WrongInputs = WrongInputs number
 fault_at number flaws.SignalTwice = SignalTwice number
 fault_at number (flaws.TooLarge limit) = TooLarge number (which_of limit)
 
--- a refusal names the limit that it was told
+-- a refusal names the limit that it was given
 which_of-limit_of : (which : Which) → which_of (limit_of which) ≡ which
 which_of-limit_of Name = refl
 which_of-limit_of Signals = refl
@@ -75,7 +75,7 @@ record IsLineFlaw (text : List ℕ) (fault : BenchFault) : Type 0 where
   fault_is : fault_at number flaw ≡ fault
 
 -- a fault is one of a line, or no line has a flaw
-flawed_or_not : (text : List ℕ) (fault : BenchFault) → fault ≢ NoMemory → Refuses text fault → IsLineFlaw text fault ⊎ AreFlawless (lines_of text)
+flawed_or_not : (text : List ℕ) (fault : BenchFault) → fault ≢ NoMemory → RefusesNetlist text fault → IsLineFlaw text fault ⊎ AreFlawless (lines_of text)
 flawed_or_not text (BadLine number) named first = inl (record { number = number; flaw = flaws.BadLine; first = first; fault_is = refl })
 flawed_or_not text (UnknownKind number) named first = inl (record { number = number; flaw = flaws.UnknownKind; first = first; fault_is = refl })
 flawed_or_not text (WrongInputs number) named first = inl (record { number = number; flaw = flaws.WrongInputs; first = first; fault_is = refl })
@@ -87,7 +87,7 @@ flawed_or_not text (CombLoop names) named looped = inr looped.flawless
 flawed_or_not text NoMemory named free = absurd (named refl)
 
 -- a line that uses an undefined name isn't among lines that use defined ones
-among : (text : List ℕ) (number : ℕ) (first : IsFirstUndefined text number) (further : List (List ℕ)) → IsBehind first.earlier further first.line → AreDefined (names_in text) further → ⊥
+among : (text : List ℕ) (number : ℕ) (first : IsFirstUndefined text number) (further : List (List ℕ)) → IsAfter first.earlier further first.line → AreDefined (names_in text) further → ⊥
 among text number first further found defined =
     first.refused.undefined (statement_at (UsesDefined (names_in text)) first.earlier first.line found.between first.refused.statement first.refused.form (subst (AreDefined (names_in text)) found.split defined))
 
@@ -116,7 +116,7 @@ same_as_itself NoRegisters = refl
 same_as_itself NoMemory = refl
 
 -- where no line has a flaw there is one fault
-one_later_fault : (text : List ℕ) (fault other : BenchFault) → AreFlawless (lines_of text) → Refuses text fault → Refuses text other → fault ≢ NoMemory → other ≢ NoMemory → IsSameFault fault other
+one_later_fault : (text : List ℕ) (fault other : BenchFault) → AreFlawless (lines_of text) → RefusesNetlist text fault → RefusesNetlist text other → fault ≢ NoMemory → other ≢ NoMemory → IsSameFault fault other
 one_later_fault text (BadLine number) other flawless first cause named named' = absurd (not_among text number _ first flawless)
 one_later_fault text (UnknownKind number) other flawless first cause named named' = absurd (not_among text number _ first flawless)
 one_later_fault text (WrongInputs number) other flawless first cause named named' = absurd (not_among text number _ first flawless)
@@ -140,7 +140,7 @@ one_later_fault text (CombLoop names) NoRegisters flawless looped none named nam
 one_later_fault text (CombLoop names) (CombLoop others) flawless looped looped' named named' = tt
 
 -- a text has one fault
-one_fault : (text : List ℕ) (fault other : BenchFault) → fault ≢ NoMemory → other ≢ NoMemory → Refuses text fault → Refuses text other → IsSameFault fault other
+one_fault : (text : List ℕ) (fault other : BenchFault) → fault ≢ NoMemory → other ≢ NoMemory → RefusesNetlist text fault → RefusesNetlist text other → IsSameFault fault other
 one_fault text fault other named named' cause cause' = elim (flawed_or_not text fault named cause) [
   | inr flawless ↦ one_later_fault text fault other flawless cause cause' named named'
   | inl line ↦ elim (flawed_or_not text other named' cause') [
@@ -153,7 +153,7 @@ one_fault text fault other named named' cause cause' = elim (flawed_or_not text 
 ]
 
 -- a netlist has none
-pub no_fault : (text : List ℕ) (fault : BenchFault) → IsNetlist text → Refuses text fault → fault ≡ NoMemory
+pub no_fault : (text : List ℕ) (fault : BenchFault) → IsNetlist text → RefusesNetlist text fault → fault ≡ NoMemory
 no_fault text (BadLine number) netlist first = absurd (not_among text number _ first netlist.flawless)
 no_fault text (UnknownKind number) netlist first = absurd (not_among text number _ first netlist.flawless)
 no_fault text (WrongInputs number) netlist first = absurd (not_among text number _ first netlist.flawless)
@@ -165,7 +165,7 @@ no_fault text (CombLoop names) netlist looped = absurd (netlist.no_loop looped.l
 no_fault text NoMemory netlist free = refl
 
 -- an answer that names only faults that are there accepts each netlist
-pub accepts_each : (text : List ℕ) (result : Result Circuit BenchFault) → IfErr result (Refuses text) → IsNetlist text → IsOkUnless result NoMemory
+pub accepts_each : (text : List ℕ) (result : Result Circuit BenchFault) → IfErr result (RefusesNetlist text) → IsNetlist text → IsOkUnless result NoMemory
 accepts_each text (Ok circuit) cause netlist = tt
 accepts_each text (Err fault) cause netlist = no_fault text fault netlist cause
 
@@ -175,8 +175,8 @@ memory_or_not NoMemory = inl refl
 memory_or_not _ = inr (λ same. cc)
 
 -- and one that accepts only netlists names each fault
-pub names_each : (text : List ℕ) (result : Result Circuit BenchFault) → IfOk result (AcceptsNetlist text) → IfErr result (Refuses text)
-    → (fault : BenchFault) → fault ≢ NoMemory → Refuses text fault → IsErrAnd result (λ found. IsSameFault fault found ⊎ (found ≡ NoMemory))
+pub names_each : (text : List ℕ) (result : Result Circuit BenchFault) → IfOk result (AcceptsNetlist text) → IfErr result (RefusesNetlist text)
+    → (fault : BenchFault) → fault ≢ NoMemory → RefusesNetlist text fault → IsErrAnd result (λ found. IsSameFault fault found ⊎ (found ≡ NoMemory))
 names_each text (Ok circuit) accepts cause fault named refuses = absurd (named (no_fault text fault accepts.netlist refuses))
 names_each text (Err found) accepts cause fault named refuses = elim (memory_or_not found) [
   | inl memory ↦ inr memory

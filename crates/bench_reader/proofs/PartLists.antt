@@ -15,11 +15,11 @@ module _ (old : List Signal) {new : List Signal} (signal : Signal) {registers : 
   pub registers_stay : is_register signal.kind ≡ false → registers ≡ registers_of new
   registers_stay other = are ∙ sym (registers_push_none old signal other) ∙ ap registers_of (sym grown)
 
-  -- a register comes behind them
+  -- a register comes after them
   pub registers_grow : {more : List ℕ} → is_register signal.kind ≡ true → more ≡ registers ++ length old ∷ [] → more ≡ registers_of new
   registers_grow register put = put ∙ ap (λ l. l ++ length old ∷ []) are ∙ sym (registers_push_some old signal register) ∙ ap registers_of (sym grown)
 
--- what a first mention keeps behind it
+-- what a first mention keeps after it
 abbrev differs : ℕ → ℕ → Bool
 differs number other = not (other == number)
 

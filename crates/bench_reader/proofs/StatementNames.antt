@@ -27,14 +27,14 @@ HasNames (_ ∷ tokens) = HasNames tokens
 name_of_byte : (byte : ℕ) → is_name_byte byte ≡ true → IsTrue (is_name (byte ∷ []))
 name_of_byte byte here = rw here refl
 
--- and in front of a name
-name_behind_byte : (byte : ℕ) (bytes : List ℕ) → is_name_byte byte ≡ true → IsTrue (is_name bytes) → IsTrue (is_name (byte ∷ bytes))
-name_behind_byte byte [] here name = rw here refl
-name_behind_byte byte (next ∷ bytes) here name = grind (arith, nat_tests)
+-- and before a name
+name_after_byte : (byte : ℕ) (bytes : List ℕ) → is_name_byte byte ≡ true → IsTrue (is_name bytes) → IsTrue (is_name (byte ∷ bytes))
+name_after_byte byte [] here name = rw here refl
+name_after_byte byte (next ∷ bytes) here name = grind (arith, nat_tests)
 
 -- so a byte put onto a word leaves it a name
 onto_word_names : (byte : ℕ) (joined : Bool) (tokens : List Token) → is_name_byte byte ≡ true → HasNames tokens → HasNames (onto_word byte joined tokens)
-onto_word_names byte true (Word bytes ∷ tokens) here names = (name_behind_byte byte bytes here names.0, names.1)
+onto_word_names byte true (Word bytes ∷ tokens) here names = (name_after_byte byte bytes here names.0, names.1)
 onto_word_names byte _ tokens here names = (name_of_byte byte here, names)
 
 -- a mark is no word
@@ -58,12 +58,12 @@ tokens_names (byte ∷ line) = at (is_name_byte byte) (is_blank byte) refl (toke
     at false true here names = names
     at false false here names = mark_names byte (tokens_of line) names
 
--- a name in front of more
+-- a name before more
 name_and_more : (name : List ℕ) → IsTrue (is_name name) → (more : Option (List (List ℕ))) → IfSome more AreNames → IfSome (option_map (λ names. name ∷ names) more) AreNames
 name_and_more name here None names = tt
 name_and_more name here (Some more) names = (here, names)
 
--- the inputs behind a comma are names
+-- the inputs after a comma are names
 more_inputs_names : (tokens : List Token) → HasNames tokens → IfSome (more_inputs_of tokens) AreNames
 more_inputs_names (Close ∷ []) names = tt
 more_inputs_names (Comma ∷ Word name ∷ rest) names = name_and_more name names.0 (more_inputs_of rest) (more_inputs_names rest names.1)

@@ -18,11 +18,11 @@ drop-one_more n x xs = let more : 1 + n ≡ suc n = omega arith in rw more refl
 take-one_more : (n x : ℕ) (xs : List ℕ) → take (1 + n) (x ∷ xs) ≡ x ∷ take n xs
 take-one_more n x xs = let more : 1 + n ≡ suc n = omega arith in rw more refl
 
--- a blank in front makes no token
+-- a blank before makes no token
 tokens_of-blank : (byte : ℕ) (line : List ℕ) → is_blank byte ≡ true → tokens_of (byte ∷ line) ≡ tokens_of line
 tokens_of-blank byte line blank = let outside : is_name_byte byte ≡ false = blank_outside_names byte blank in rw (outside, blank) refl
 
--- blanks in front make no token
+-- blanks before make no token
 pub tokens_of-after_blanks : (line : List ℕ) → tokens_of (drop (prefix_len is_blank line) line) ≡ tokens_of line
 tokens_of-after_blanks [] = refl
 tokens_of-after_blanks (byte ∷ line) = at (tokens_of-after_blanks line) (is_blank byte) refl
@@ -45,7 +45,7 @@ run_ended : (line : List ℕ) → begins_with_name_byte line ≡ false → prefi
 run_ended [] ends = refl
 run_ended (byte ∷ line) ends = let outside : is_name_byte byte ≡ false = ends in rw outside refl
 
--- the longest run of a name's bytes in front is one word
+-- the longest run of a name's bytes before is one word
 pub tokens_of-word : (line : List ℕ) → begins_with_name_byte line ≡ true → tokens_of line ≡ Word (take (prefix_len is_name_byte line) line) ∷ tokens_of (drop (prefix_len is_name_byte line) line)
 tokens_of-word [] begins = cc
 tokens_of-word (byte ∷ line) begins = at (tokens_of-word line) (begins_with_name_byte line) refl

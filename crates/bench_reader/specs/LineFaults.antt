@@ -10,7 +10,7 @@ use Rattle.bench_reader.specs.declared.fault.BenchFault.{BenchFault}
 use Rattle.bench_reader.specs.declared.fault.BenchFault.TheVariants.{Undefined, CombLoop, NoRegisters, NoMemory}
 use Rattle.cts_model.specs.Netlists.{number_of}
 use Rattle.bench_reader.specs.Lines.{UsesUndefined, IsFirstUndefined}
-use Rattle.bench_reader.specs.Refusals.{limit_of, Refuses}
+use Rattle.bench_reader.specs.Refusals.{limit_of, RefusesNetlist}
 
 -- the fault of a line that has this flaw; memory is wanted only where it has none
 abbrev pub IsFaultOf : Option Flaw → LineFault → Type 0
@@ -21,7 +21,7 @@ IsFaultOf flaw line.SignalTwice = flaw ≡ Some flaws.SignalTwice
 IsFaultOf flaw (line.TooLarge which) = flaw ≡ Some (flaws.TooLarge (limit_of which))
 IsFaultOf flaw line.NoMemory = flaw ≡ None
 
--- the line has this fault behind the lines before it
+-- the line has this fault after the lines before it
 abbrev pub IsLineFault : List (List ℕ) → List ℕ → LineFault → Type 0
 IsLineFault earlier text fault = IsFaultOf (flaw_of earlier text) fault
 
@@ -30,7 +30,7 @@ abbrev pub RefusesLine : List ℕ → BenchFault → Type 0
 RefusesLine text (Undefined number) = ⊥
 RefusesLine text (CombLoop names) = ⊥
 RefusesLine text NoRegisters = ⊥
-RefusesLine text fault = Refuses text fault
+RefusesLine text fault = RefusesNetlist text fault
 
 -- not each of the used names is one of these; memory may run out at any names
 abbrev pub MissesName : (names used : List (List ℕ)) → UseFault → Type 0

@@ -49,16 +49,16 @@ limit_of Registers = flaws.Registers
 limit_of Inputs = flaws.Inputs
 
 -- the fault that a text has; memory may run out at any text
-abbrev pub Refuses : List ℕ → BenchFault → Type 0
-Refuses text (BadLine number) = IsFirstFlawed text number flaws.BadLine
-Refuses text (UnknownKind number) = IsFirstFlawed text number flaws.UnknownKind
-Refuses text (WrongInputs number) = IsFirstFlawed text number flaws.WrongInputs
-Refuses text (SignalTwice number) = IsFirstFlawed text number flaws.SignalTwice
-Refuses text (TooLarge number which) = IsFirstFlawed text number (flaws.TooLarge (limit_of which))
-Refuses text (Undefined number) = IsUndefinedUse text number
-Refuses text NoRegisters = HasNoRegisters text
-Refuses text (CombLoop names) = HasLoop text names
-Refuses text NoMemory = Unit {0}
+abbrev pub RefusesNetlist : List ℕ → BenchFault → Type 0
+RefusesNetlist text (BadLine number) = IsFirstFlawed text number flaws.BadLine
+RefusesNetlist text (UnknownKind number) = IsFirstFlawed text number flaws.UnknownKind
+RefusesNetlist text (WrongInputs number) = IsFirstFlawed text number flaws.WrongInputs
+RefusesNetlist text (SignalTwice number) = IsFirstFlawed text number flaws.SignalTwice
+RefusesNetlist text (TooLarge number which) = IsFirstFlawed text number (flaws.TooLarge (limit_of which))
+RefusesNetlist text (Undefined number) = IsUndefinedUse text number
+RefusesNetlist text NoRegisters = HasNoRegisters text
+RefusesNetlist text (CombLoop names) = HasLoop text names
+RefusesNetlist text NoMemory = Unit {0}
 
 -- two faults are one, but for the ring that is named: a text may have several
 abbrev pub IsSameFault : BenchFault → BenchFault → Type 0

@@ -27,8 +27,8 @@ pub record Adds (old new : Definitions) (name : List ℕ) (kind : Kind) (inputs 
   pub gate_inputs : new.gate_inputs ≡ old.gate_inputs + (if is_gate kind then inputs else 0)
 
 -- the first limit that one more definition passes, its names aside
-abbrev pub excess_behind : Definitions → Kind → ℕ → Option Limit
-excess_behind definitions kind inputs =
+abbrev pub excess_after : Definitions → Kind → ℕ → Option Limit
+excess_after definitions kind inputs =
     let registers = definitions.registers + (if is_register kind then 1 else 0) in
     let gate_inputs = definitions.gate_inputs + (if is_gate kind then inputs else 0) in
     if nat_le 65536 (length definitions.names) then Some Signals
@@ -37,10 +37,10 @@ excess_behind definitions kind inputs =
     else None
 
 -- what is wrong with one more definition that has a number of inputs which its kind may have
-abbrev pub flaw_behind : Definitions → List ℕ → Kind → ℕ → Bool → Option Flaw
-flaw_behind definitions name kind inputs short =
+abbrev pub flaw_after : Definitions → List ℕ → Kind → ℕ → Bool → Option Flaw
+flaw_after definitions name kind inputs short =
     if list_any (bytes_eq name) definitions.names then Some SignalTwice
-    else option_map TooLarge (if short then excess_behind definitions kind inputs else Some Name)
+    else option_map TooLarge (if short then excess_after definitions kind inputs else Some Name)
 
 -- these are the parts that the lines tell, where the names that all lines define are known
 pub record HasParts (names : List (List ℕ)) (parts : CircuitParts) (lines : List (List ℕ))
@@ -53,7 +53,7 @@ pub record HasParts (names : List (List ℕ)) (parts : CircuitParts) (lines : Li
 
 -- no line has a flaw and all use only defined names, a register among them, and this is the circuit
 -- that they tell; some of its gates may read one another in a ring
-pub record TellsCircuit (text : List ℕ) (circuit : Circuit) : Type 0 where
+pub record DenotesCircuit (text : List ℕ) (circuit : Circuit) : Type 0 where
   pub flawless : AreFlawless (lines_of text)
   pub defined : AreDefined (names_in text) (lines_of text)
   pub some_register : 0 < register_count (definitions_in (lines_of text))

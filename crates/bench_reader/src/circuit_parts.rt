@@ -44,7 +44,7 @@ impl CircuitParts {
     fn add_line(&mut self, alloc: Global, names: &Names, line: &[u8]) -> Result<(), UseFault>
         requires flawless { (earlier : List (List ℕ)) × (flaw_of earlier line.now ≡ None) }
         requires few { length self.old.signals ≤ 65536 }
-        ensures told { OnOk result ((earlier : List (List ℕ)) → HasParts names.now self.old earlier
+        ensures denoted { OnOk result ((earlier : List (List ℕ)) → HasParts names.now self.old earlier
             → HasParts names.now self.new (earlier ++ line.now ∷ [])) }
         ensures refused { IfErr result (IsUseFault names.now line.now) }
     {
@@ -132,7 +132,7 @@ pub(crate) fn read_parts(
     requires short { length bytes.now ≤ 16777216 }
     requires flawless { AreFlawless (lines_of bytes.now) }
     requires names { names.now ≡ names_in bytes.now }
-    ensures told { IfOk result (λ parts. HasParts names.now parts (lines_of bytes.now)) }
+    ensures denoted { IfOk result (λ parts. HasParts names.now parts (lines_of bytes.now)) }
     ensures refused { IfErr result (RefusesUse bytes.now) }
 {
     let mut parts = CircuitParts::new(alloc);

@@ -35,7 +35,7 @@ pub(crate) struct Definitions {
 }
 
 impl Definitions {
-    ghost use Rattle.bench_reader.specs.Taken.{HasDefinitions, Adds, excess_behind, flaw_behind};
+    ghost use Rattle.bench_reader.specs.Taken.{HasDefinitions, Adds, excess_after, flaw_after};
 
     fn new(alloc: Global) -> Definitions
         ensures { HasDefinitions result [] }
@@ -87,9 +87,9 @@ impl Definitions {
         short: bool,
     ) -> Result<(), LineFault>
         ensures { MatchResult result
-            (λ _. (flaw_behind self.old name.now kind inputs short ≡ None)
+            (λ _. (flaw_after self.old name.now kind inputs short ≡ None)
             × Adds self.old self.new name.now kind inputs)
-            (IsFaultOf (flaw_behind self.old name.now kind inputs short)) }
+            (IsFaultOf (flaw_after self.old name.now kind inputs short)) }
     {
         if self.names.is_defined(name) {
             return Err(LineFault::SignalTwice);
@@ -106,7 +106,7 @@ impl Definitions {
 
     // The first limit that one more definition passes, its names aside.
     fn excess(&self, kind: Kind, inputs: usize) -> Option<Which>
-        ensures { option_map limit_of result ≡ excess_behind self.now kind inputs }
+        ensures { option_map limit_of result ≡ excess_after self.now kind inputs }
     {
         if self.names.is_full() {
             Some(Which::Signals)
@@ -122,7 +122,7 @@ impl Definitions {
     // Takes in a definition that passes no limit.
     fn take_in(&mut self, name: &[u8], kind: Kind, inputs: usize) -> Result<(), NoMemory>
         requires new { list_any (bytes_eq name.now) self.old.names ≡ false }
-        requires room { excess_behind self.old kind inputs ≡ None }
+        requires room { excess_after self.old kind inputs ≡ None }
         ensures { OnOk result (Adds self.old self.new name.now kind inputs) }
     {
         self.names.define(name)?;

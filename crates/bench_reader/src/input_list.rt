@@ -11,7 +11,7 @@ use std::marker::Model;
 /// reads them from the line again.
 #[derive(Drop)]
 pub(crate) struct InputList<'a> {
-    // What stands behind the opening parenthesis.
+    // What stands after the opening parenthesis.
     text: &'a [u8],
 }
 
@@ -22,8 +22,8 @@ impl<'a> Model for InputList<'a> {
 }
 
 impl<'a> InputList<'a> {
-    /// Reads the list behind its opening parenthesis. `None` says that it has another form, or that
-    /// the line goes on behind it.
+    /// Reads the list after its opening parenthesis. `None` says that it has another form, or that
+    /// the line goes on after it.
     pub(crate) fn of(tokens: Tokens<'a>) -> Option<InputList<'a>>
         ensures { result ≡ inputs_of tokens.entry }
     {
@@ -85,7 +85,7 @@ impl<'a> Iterator for Inputs<'a> {
     }
 }
 
-// Whether the tokens behind an opening parenthesis are a list and its end, and nothing else.
+// Whether the tokens after an opening parenthesis are a list and its end, and nothing else.
 fn is_list(mut tokens: Tokens) -> bool
     ensures { result ≡ is_some (inputs_of tokens.entry) }
 {
@@ -96,7 +96,7 @@ fn is_list(mut tokens: Tokens) -> bool
     }
 }
 
-// Whether the tokens behind a name are more of a list and its end, and nothing else.
+// Whether the tokens after a name are more of a list and its end, and nothing else.
 fn goes_on(mut tokens: Tokens) -> bool
     ensures { result ≡ is_some (more_inputs_of tokens.entry) }
 {

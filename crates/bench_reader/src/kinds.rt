@@ -1,5 +1,5 @@
 ghost use Rattle.std.specs.Prelude.{◌≡◌};
-ghost use Rattle.cts_model.specs.Kinds.{kind_of, is_lawful};
+ghost use Rattle.cts_model.specs.Kinds.{kind_of, is_valid};
 
 use cts_model::Kind;
 
@@ -20,7 +20,7 @@ const WORDS: [(&str, Kind); 10] = [
     ("DFF", Kind::Dff),
 ];
 
-/// The kind that a word behind `=` names, in any ASCII case.
+/// The kind that a word after `=` names, in any ASCII case.
 pub(crate) fn kind_of(word: &[u8]) -> Option<Kind>
     ensures { result ≡ kind_of word.now }
 {
@@ -32,7 +32,7 @@ pub(crate) fn kind_of(word: &[u8]) -> Option<Kind>
 
 /// Whether a kind may have so many inputs.
 pub(crate) fn may_have(kind: Kind, inputs: usize) -> bool
-    ensures { result ≡ is_lawful kind inputs }
+    ensures { result ≡ is_valid kind inputs }
 {
     match kind {
         Kind::Host => true,

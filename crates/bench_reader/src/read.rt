@@ -2,8 +2,8 @@ ghost use Rattle.std.specs.Prelude.{◌≡◌, ◌≤◌, ◌<◌, ◌≢◌, �
 ghost use Rattle.cts_model.specs.Hosts.{HasNoHost};
 ghost use Rattle.cts_model.specs.Netlists.{IsNetlist, AcceptsNetlist};
 ghost use Rattle.bench_reader.specs.declared.fault.BenchFault.{BenchFault};
-ghost use Rattle.bench_reader.specs.Refusals.{Refuses, IsSameFault, names_of_signals};
-ghost use Rattle.bench_reader.specs.Taken.{TellsCircuit};
+ghost use Rattle.bench_reader.specs.Refusals.{RefusesNetlist, IsSameFault, names_of_signals};
+ghost use Rattle.bench_reader.specs.Taken.{DenotesCircuit};
 
 use crate::BenchFault;
 use crate::circuit_parts::{CircuitParts, read_parts};
@@ -21,19 +21,19 @@ pub fn read_bench(alloc: Global, bytes: &[u8]) -> Result<Circuit, BenchFault>
     ensures hostless { IfOk result HasNoHost }
     ensures accepted { IsNetlist bytes.now → IsOkUnless result BenchFault.NoMemory }
     // A fault comes exactly where the bytes have it; memory alone is free, and which ring is named.
-    ensures refused { IfErr result (Refuses bytes.now) }
-    ensures faulty { (fault : BenchFault) → fault ≢ BenchFault.NoMemory → Refuses bytes.now fault
+    ensures refused { IfErr result (RefusesNetlist bytes.now) }
+    ensures faulty { (fault : BenchFault) → fault ≢ BenchFault.NoMemory → RefusesNetlist bytes.now fault
         → IsErrAnd result (λ found. IsSameFault fault found ⊎ (found ≡ BenchFault.NoMemory)) }
 {
-    circuit_told(alloc, bytes)
+    circuit_denoted(alloc, bytes)
 }
 
 // The circuit, or the first fault.
-fn circuit_told(alloc: Global, bytes: &[u8]) -> Result<Circuit, BenchFault>
+fn circuit_denoted(alloc: Global, bytes: &[u8]) -> Result<Circuit, BenchFault>
     requires { length bytes.now ≤ 16777216 }
     ensures ok { IfOk result (AcceptsNetlist bytes.now) }
     ensures hostless { IfOk result HasNoHost }
-    ensures refused { IfErr result (Refuses bytes.now) }
+    ensures refused { IfErr result (RefusesNetlist bytes.now) }
 {
     let circuit = circuit_of_lines(alloc, bytes)?;
     match levels(alloc, &circuit) {
@@ -50,8 +50,8 @@ fn circuit_told(alloc: Global, bytes: &[u8]) -> Result<Circuit, BenchFault>
 // in one.
 fn circuit_of_lines(alloc: Global, bytes: &[u8]) -> Result<Circuit, BenchFault>
     requires { length bytes.now ≤ 16777216 }
-    ensures told { IfOk result (TellsCircuit bytes.now) }
-    ensures refused { IfErr result (Refuses bytes.now) }
+    ensures denoted { IfOk result (DenotesCircuit bytes.now) }
+    ensures refused { IfErr result (RefusesNetlist bytes.now) }
 {
     let names = read_definitions(alloc, bytes)?;
     let CircuitParts {

@@ -65,7 +65,7 @@ impl<'a> Statement<'a> {
     }
 }
 
-// The statement that a word makes of the name in parentheses behind it.
+// The statement that a word makes of the name in parentheses after it.
 fn declaration<'a>(word: &'a [u8], name: &'a [u8]) -> Option<Statement<'a>>
     ensures { option_map said_by result ≡ declaration_of word.now name.now }
 {
@@ -78,7 +78,7 @@ fn declaration<'a>(word: &'a [u8], name: &'a [u8]) -> Option<Statement<'a>>
     }
 }
 
-// The statement that a name and the tokens behind `=` make.
+// The statement that a name and the tokens after `=` make.
 fn assignment<'a>(name: &'a [u8], mut tokens: Tokens<'a>) -> Option<Statement<'a>>
     ensures { option_map said_by result ≡ form_of (Word name.now ∷ Equals ∷ tokens.entry) }
 {

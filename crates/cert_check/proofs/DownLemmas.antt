@@ -166,7 +166,7 @@ module _ {sinks : ℕ} {merges : List Merge} (topology : IsTopology sinks merges
     -- what a later merge joins keeps its own
     later : (other node : ℕ) → other < length merges → place < other
         → Joins (merge_at merges other) node → number_at handed_on node ≡ number_at wires node
-    later other node within behind joins = kept node
+    later other node within suffix joins = kept node
         (λ same. omega (arith, joins_one place other node here within (inl (sym same)) joins))
         (λ same. omega (arith, joins_one place other node here within (inr (sym same)) joins))
 
@@ -203,11 +203,11 @@ module _ {sinks : ℕ} {merges : List Merge} (topology : IsTopology sinks merges
                 ∙ ap (λ z. z +ℤ number_at lengths node)
                 (sym (kept_above (sinks + place) (omega arith))))
             | inr apart ↦
-                let behind : place < other = omega (arith, late, next, apart) in
-                later other node within behind joins
-                ∙ handed.each other within (omega (arith, behind, next)) node joins
+                let suffix : place < other = omega (arith, late, next, apart) in
+                later other node within suffix joins
+                ∙ handed.each other within (omega (arith, suffix, next)) node joins
                 ∙ ap (λ z. z +ℤ number_at lengths node)
-                (sym (kept_above (sinks + other) (omega (arith, behind))))
+                (sym (kept_above (sinks + other) (omega (arith, suffix))))
           ];
         }
 

@@ -1,4 +1,4 @@
--- Judgements one behind the other: what is left where all before hold, and that all hold where a
+-- Judgements one after the other: what is left where all before hold, and that all hold where a
 -- report is shown.
 use Rattle.std.proofs.Common.{◌≡◌, ◌*◌, ℕ, length, Option, Some, None, inl, inr, refl}
 use Rattle.cts_model.specs.declared.problem.Problem.{Problem}

@@ -1,4 +1,4 @@
--- Marks of the nodes that merges join, one merge behind the other.
+-- Marks of the nodes that merges join, one merge after the other.
 use Rattle.std.proofs.Common.{◌≡◌, ◌≢◌, ◌⊎◌, ◌<◌, ◌+◌, ◌*◌, ℕ, Bool, true, false, List, [], ◌∷◌, ◌++◌, length, get_or, set, take, Option, None, Some, inl, inr, refl, sym, ap, subst, ◌∙◌, arith, length-append}
 use Rattle.std.specs.List.{All}
 use Rattle.std.specs.Prelude.{IfSome}
@@ -74,16 +74,16 @@ module _ (sinks : ℕ) (merges : List Merge) (place : ℕ) (marks : List Bool)
   -- the merge joins two live nodes
   joins : IsMerge sinks earlier merge
   joins =
-      let front : length earlier ≡ place = length-take-le place merges (omega arith) in
+      let prefix : length earlier ≡ place = length-take-le place merges (omega arith) in
       record {
         ordered = unmarked.ordered;
         first = record {
-          made = omega (arith, unmarked.ordered, unmarked.made_before, front);
+          made = omega (arith, unmarked.ordered, unmarked.made_before, prefix);
           unjoined = (before.marked merge.first (omega (arith, unmarked.ordered, low))).0
               unmarked.first;
         };
         second = record {
-          made = omega (arith, unmarked.made_before, front);
+          made = omega (arith, unmarked.made_before, prefix);
           unjoined = (before.marked merge.second low).0 unmarked.second;
         };
       }
@@ -131,7 +131,7 @@ module _ (sinks : ℕ) (merges : List Merge) (place : ℕ) (marks : List Bool)
       length-set marks merge.first true,
       length-set middle merge.second true,
     );
-    marked = subst (λ front. AreMarked front after)
+    marked = subst (λ prefix. AreMarked prefix after)
         (sym (take_more merges place (merge_at [] 0) within))
         (λ node there. of_node node (omega (
           arith,

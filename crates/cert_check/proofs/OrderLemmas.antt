@@ -36,7 +36,7 @@ module _ {sinks : ℕ} {merges : List Merge} (topology : IsTopology sinks merges
       let step = steps.first place merge here in
       omega (arith, ints)
 
-  -- and the second behind it
+  -- and the second after it
   second_start : (place : ℕ) (merge : Merge) → slice_get merges place ≡ Some merge
       → start merge.second ≡ start (sinks + place) +ℤ size merge.first
   second_start place merge here =

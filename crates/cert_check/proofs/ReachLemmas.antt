@@ -14,7 +14,7 @@ use Rattle.cts_model.specs.declared.report.Report.{Report}
 use Rattle.cts_model.specs.declared.tree.Merge.{Merge}
 use Rattle.cts_model.specs.Embeddings.{AreWiresDown, Embedding, embedding_of, total_length, total_wire}
 use Rattle.cts_model.specs.Judgements.{IsReachShown, IsSkewed}
-use Rattle.cts_model.specs.Points.{IsBelow, IsPointBelow, IsUvBelow, turned}
+use Rattle.cts_model.specs.Points.{IsBelow, IsPointBelow, IsUvBelow, rotated}
 use Rattle.cts_model.specs.Problems.{on_grid, sink_of}
 use Rattle.cts_model.specs.ReportBounds.{IsOfSize, IsWithinBounds, ShowsAmong}
 use Rattle.cts_model.specs.ReportLines.{number_at}
@@ -35,9 +35,9 @@ use Rattle.cert_check.proofs.DownLemmas.{one_wire}
 
 -- ---- sizes
 
--- a point below a bound has turned coordinates below a higher one
-turned_below : (point : Point) → IsPointBelow (10 ^ 26) point → IsUvBelow (10 ^ 31) (turned point)
-turned_below point below =
+-- a point below a bound has rotated coordinates below a higher one
+rotated_below : (point : Point) → IsPointBelow (10 ^ 26) point → IsUvBelow (10 ^ 31) (rotated point)
+rotated_below point below =
     let x = below.x in
     let y = below.y in
     record {
@@ -61,7 +61,7 @@ module _ (problem : Problem) (report : Report) (size : IsOfSize problem.circuit 
 
   -- the source has small coordinates
   pub source_small : IsUvBelow (10 ^ 31) (source_in problem report)
-  source_small = turned_below (on_grid report.period problem.tech problem.places.source)
+  source_small = rotated_below (on_grid report.period problem.tech problem.places.source)
       (on_grid_below report.period problem.tech bounds.timing.period problem.places.source
       problem.valid.source_near)
 
@@ -72,7 +72,7 @@ module _ (problem : Problem) (report : Report) (size : IsOfSize problem.circuit 
       let long = scheduled_size problem.tech arrival (10 ^ 19)
       (omega (arith, ints, below.above, below.below)) in
       record {
-        at = turned_below (on_grid report.period problem.tech place)
+        at = rotated_below (on_grid report.period problem.tech place)
             (on_grid_below report.period problem.tech bounds.timing.period place near);
         offset = record { above = omega (arith, ints, long); below = omega (arith, ints, long) };
       }
@@ -277,18 +277,18 @@ module _ (sinks : List Sink) (report : Report) (parts : HasReachParts sinks repo
       let few = parts.few in
       omega (arith, ints, sum, few)
 
-  -- so a test of the sum tells of the wire
-  pub total_told : (lengths : List ℤ) → lengths ≡ report.tree.length → (sum : ℤ)
+  -- so a test of the sum is one of the wire
+  pub total_denoted : (lengths : List ℤ) → lengths ≡ report.tree.length → (sum : ℤ)
       → sum ≡ total_length (number_at lengths) (length lengths) → IsBelow (10 ^ 36) report.total
       → (of_z w128 report.total ≡ of_z w128 sum) ↔ (report.total ≡ wire)
-  total_told lengths same sum is small =
+  total_denoted lengths same sum is small =
       let edges : length report.tree.length ≡ source_of (length sinks) =
       omega (arith, parts.lengths) in
       let whole : sum ≡ wire = is
       ∙ ap (λ list. total_length (number_at list) (length list)) same
       ∙ ap (total_length (number_at report.tree.length)) edges in
       let plain = to_z-of_z w128 report.total (omega (arith, ints, small.above, small.below)) in (
-        λ told. sym plain ∙ ap (to_z w128) told ∙ ap (λ z. to_z w128 (of_z w128 z)) whole
+        λ denoted. sym plain ∙ ap (to_z w128) denoted ∙ ap (λ z. to_z w128 (of_z w128 z)) whole
             ∙ to_z-of_z w128 wire wire_fits,
         λ total. ap (of_z w128) (total ∙ sym whole),
       )

@@ -8,7 +8,7 @@ use Rattle.cts_model.specs.declared.place.Uv.{Uv}
 use Rattle.cts_model.specs.declared.tree.Merge.{Merge}
 use Rattle.cts_model.specs.Embeddings.{Embedding}
 use Rattle.cts_model.specs.Judgements.{HasShape}
-use Rattle.cts_model.specs.Points.{turned}
+use Rattle.cts_model.specs.Points.{rotated}
 use Rattle.cts_model.specs.Shown.{AtEach}
 use Rattle.cts_model.specs.Topologies.{IsMerge, source_of}
 use Rattle.cert_check.specs.EmbeddingParts.{JoinsAt, StandsAt}
@@ -19,7 +19,7 @@ module _ (sinks : List Sink) (merges : List Merge) (source : Uv) (tree : Embeddi
     (all : length merges + 1 ≡ length sinks) where
   -- where no sink has that number, nothing is asked
   no_sink : (node : ℕ) → length sinks ≤ node → StandsAt sinks tree node
-  no_sink node past = subst (λ found. IfSome found (λ sink. turned (tree.place node) ≡ sink.at))
+  no_sink node past = subst (λ found. IfSome found (λ sink. rotated (tree.place node) ≡ sink.at))
       (sym (slice_get_past sinks node past)) tt
 
   -- a sink
@@ -44,7 +44,7 @@ module _ (sinks : List Sink) (merges : List Merge) (source : Uv) (tree : Embeddi
   }
 
   -- the source
-  of_source : turned (tree.place (source_of (length sinks))) ≡ source
+  of_source : rotated (tree.place (source_of (length sinks))) ≡ source
       → HasShape sinks merges source tree (source_of (length sinks))
   of_source stands = record {
     sink_stands = no_sink (source_of (length sinks)) (omega (arith, all));
@@ -92,7 +92,7 @@ module _ (sinks : List Sink) (merges : List Merge) (source : Uv) (tree : Embeddi
           (omega (arith, all, low))
 
       -- and else the source
-      pub source_moved : (turned (tree.place (source_of (length sinks))) ≡ source → ⊥)
+      pub source_moved : (rotated (tree.place (source_of (length sinks))) ≡ source → ⊥)
           → FailsFirst (2 * length sinks) (HasShape sinks merges source tree)
           (source_of (length sinks))
       source_moved fails = record {
@@ -101,7 +101,7 @@ module _ (sinks : List Sink) (merges : List Merge) (source : Uv) (tree : Embeddi
         before = before_source;
       }
 
-      pub all_shaped : turned (tree.place (source_of (length sinks))) ≡ source
+      pub all_shaped : rotated (tree.place (source_of (length sinks))) ≡ source
           → AtEach (2 * length sinks) (HasShape sinks merges source tree)
       all_shaped stands node low = elim (cases_lt node (source_of (length sinks))) [
         | inl below ↦ before_source node below

@@ -29,40 +29,40 @@ kept_below low high number less few below =
       below = omega (arith, ints, below.below);
     })
 
--- what a test tells of an item of a list, it tells of what is found there
-pub tells_found : {X : Type 0} (Holds : X → Type 0) (items : List X) (place : ℕ) (default : X)
+-- what a test says of an item of a list, it says of what is found there
+pub denotes_found : {X : Type 0} (Holds : X → Type 0) (items : List X) (place : ℕ) (default : X)
     → (test : Bool) → place < length items → IsTrue test ↔ Holds (get_or items place default)
     → IsTrue test ↔ IsSomeAnd (slice_get items place) Holds
-tells_found Holds items place default test within tells =
+denotes_found Holds items place default test within denotes =
     subst (λ found. IsTrue test ↔ IsSomeAnd found Holds)
-    (sym (slice_get-get_or items place default within)) tells
+    (sym (slice_get-get_or items place default within)) denotes
 
 -- so it is with a register's skew
-pub tells_level : (sinks : List Sink) (wire : ℕ → ℤ) (register : ℕ) (default : Sink)
+pub denotes_level : (sinks : List Sink) (wire : ℕ → ℤ) (register : ℕ) (default : Sink)
     → (test : Bool) → register < length sinks
     → IsTrue test ↔ (wire register -ℤ wire 0
     ≡ (get_or sinks 0 default).offset -ℤ (get_or sinks register default).offset)
     → IsTrue test ↔ IsLevel sinks wire register
-tells_level sinks wire register default test within tells =
+denotes_level sinks wire register default test within denotes =
     subst (λ found. IsTrue test ↔ IfSome found (λ sink. IfSome (slice_get sinks 0)
     (λ first. wire register -ℤ wire 0 ≡ first.offset -ℤ sink.offset)))
     (sym (slice_get-get_or sinks register default within))
     (subst (λ found. IsTrue test ↔ IfSome found
     (λ first. wire register -ℤ wire 0 ≡ first.offset -ℤ (get_or sinks register default).offset))
-    (sym (slice_get-get_or sinks 0 default (omega arith))) tells)
+    (sym (slice_get-get_or sinks 0 default (omega arith))) denotes)
 
 -- and with the span of two sinks
-pub tells_span : (sinks : List Sink) (reach : ℤ) (first second : ℕ) (default : Sink)
+pub denotes_span : (sinks : List Sink) (reach : ℤ) (first second : ℕ) (default : Sink)
     → (test : Bool) → first < length sinks → second < length sinks
     → IsTrue test ↔ (reach +ℤ reach
     ≡ span (get_or sinks first default) (get_or sinks second default))
     → IsTrue test ↔ IsSomeAnd (slice_get sinks first) (λ one. IsSomeAnd (slice_get sinks second)
     (λ other. reach +ℤ reach ≡ span one other))
-tells_span sinks reach first second default test low also_low tells =
-    tells_found (λ one. IsSomeAnd (slice_get sinks second)
+denotes_span sinks reach first second default test low also_low denotes =
+    denotes_found (λ one. IsSomeAnd (slice_get sinks second)
     (λ other. reach +ℤ reach ≡ span one other)) sinks first default test low
-    (tells_found (λ other. reach +ℤ reach ≡ span (get_or sinks first default) other) sinks second
-    default test also_low tells)
+    (denotes_found (λ other. reach +ℤ reach ≡ span (get_or sinks first default) other) sinks second
+    default test also_low denotes)
 
 -- what is placed below a node is below it, so the same shows give its reach
 pub placed_shows : (sinks : List Sink) (merges : List Merge) (order : SinkOrder)
@@ -89,8 +89,8 @@ placed_shows sinks merges order is node made reach (shows.Pair first second) (lo
 placed_shows sinks merges order is node made reach (shows.Sink register) among = (λ x. x, λ x. x)
 placed_shows sinks merges order is node made reach shows.Root among = (λ x. x, λ x. x)
 
--- so what is told of a merge's show, as it is read
-pub tells_merge : (sinks : List Sink) (merges : List Merge) (order : SinkOrder)
+-- so what is said of a merge's show, as it is read
+pub denotes_merge : (sinks : List Sink) (merges : List Merge) (order : SinkOrder)
     → IsSinkOrder (length sinks) merges order → (place : ℕ) → place < length merges
     → (list other : List Show) → other ≡ list → place < length list
     → All (ShowsAmong (length sinks)) list → (reach number : ℤ) → number ≡ reach
@@ -99,32 +99,32 @@ pub tells_merge : (sinks : List Sink) (merges : List Merge) (order : SinkOrder)
     (get_or other place default)
     → IsTrue test ↔ IsSomeAnd (slice_get list place)
     (ShowsMerge sinks (numbers_below (length sinks) merges (length sinks + place)) reach)
-tells_merge sinks merges order is place low list other same within among reach number plain
-    default test tells =
+denotes_merge sinks merges order is place low list other same within among reach number plain
+    default test denotes =
     let node = length sinks + place in
     let read = subst (λ list. IsTrue test ↔ ShowsPlaced sinks order node number
-    (get_or list place default)) same tells in
+    (get_or list place default)) same denotes in
     let placed = subst (λ z. IsTrue test ↔ ShowsPlaced sinks order node z
     (get_or list place default)) plain read in
     let both = placed_shows sinks merges order is node (omega arith) reach
     (get_or list place default) (among place default within) in
-    tells_found (ShowsMerge sinks (numbers_below (length sinks) merges node) reach) list place
+    denotes_found (ShowsMerge sinks (numbers_below (length sinks) merges node) reach) list place
     default test within
     (λ holds. both.0 (placed.0 holds), λ shown. placed.1 (both.1 shown))
 
 -- and of the source's
-pub tells_source : (sinks : List Sink) (source : Uv) (place : ℕ) (list other : List Show)
+pub denotes_source : (sinks : List Sink) (source : Uv) (place : ℕ) (list other : List Show)
     → other ≡ list → place < length list → (root reach top number : ℤ) → top ≡ root
     → number ≡ reach → (default : Show) (test : Bool)
     → IsTrue test ↔ ShowsSource sinks source top number (get_or other place default)
     → IsTrue test ↔ IsSomeAnd (slice_get list place) (ShowsSource sinks source root reach)
-tells_source sinks source place list other same within root reach top number root_is reach_is
-    default test tells =
+denotes_source sinks source place list other same within root reach top number root_is reach_is
+    default test denotes =
     let read = subst (λ list. IsTrue test ↔ ShowsSource sinks source top number
-    (get_or list place default)) same tells in
+    (get_or list place default)) same denotes in
     let at_root = subst (λ z. IsTrue test ↔ ShowsSource sinks source z number
     (get_or list place default)) root_is read in
-    tells_found (ShowsSource sinks source root reach) list place default test within
+    denotes_found (ShowsSource sinks source root reach) list place default test within
     (subst (λ z. IsTrue test ↔ ShowsSource sinks source root z (get_or list place default))
     reach_is at_root)
 

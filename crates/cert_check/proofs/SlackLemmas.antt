@@ -14,7 +14,7 @@ use Rattle.cts_model.specs.Judgements.{HasSlack, MeetsAt}
 use Rattle.cts_model.specs.Paths.{IsPath}
 use Rattle.cts_model.specs.Schedules.{arrival_of}
 use Rattle.cts_model.specs.Slacks.{AreSlacks, IsSlack, IsSlackOf, hold_spare, setup_spare}
-use Rattle.cert_check.specs.ComparedSlacks.{AreOneSlack, HasOneSlack, HasRoom, IsFromZero, SparesTime}
+use Rattle.cert_check.specs.ComparedSlacks.{AreOneSlack, HasOneSlack, HasSlackRoom, IsFromZero, SparesTime}
 
 -- ---- fractions that are numbers over a scale
 
@@ -139,7 +139,7 @@ module _ (circuit : Circuit) (tech : Tech) (period : Fraction) (at : List ℤ) (
   some = some_scale period.den period.lowest.some_den
 
   -- paths meet the period exactly where neither slack is below 0
-  room_meets : HasRoom own ↔ MeetsAt circuit tech period at register
+  room_meets : HasSlackRoom own ↔ MeetsAt circuit tech period at register
   room_meets =
       let setup = spares circuit (nat_abs period.den) some
       (setup_spare circuit tech (nat_abs period.den) period.num (arrival_of at)) register own.setup

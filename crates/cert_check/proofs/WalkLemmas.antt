@@ -77,7 +77,7 @@ follow_gates signals first (gate ∷ gates) last (reads, follows) =
     All-cons (IsGate signals) gate gates (gate_reads signals gate first reads)
     (follow_gates signals gate gates last follows)
 
--- behind its first signal a path has gates alone
+-- after its first signal a path has gates alone
 pub path_gates : (circuit : Circuit) (from to : ℕ) (path : List ℕ) → IsPath circuit from to path
     → All (IsGate circuit.signals) (drop 1 path)
 path_gates circuit from to [] joins = absurd joins

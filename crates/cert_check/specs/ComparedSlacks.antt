@@ -8,12 +8,12 @@ abbrev pub IsFromZero : Option Fraction → Type 0
 IsFromZero slack = IfSome slack (λ fraction. pos 0 ≤ℤ fraction.num)
 
 -- neither slack of a register is
-abbrev pub HasRoom : Slack → Type 0
-HasRoom slack = IsFromZero slack.setup × IsFromZero slack.hold
+abbrev pub HasSlackRoom : Slack → Type 0
+HasSlackRoom slack = IsFromZero slack.setup × IsFromZero slack.hold
 
 -- so it is at a register of a list
 abbrev pub SparesTime : List Slack → ℕ → Type 0
-SparesTime slacks register = IfSome (slice_get slacks register) HasRoom
+SparesTime slacks register = IfSome (slice_get slacks register) HasSlackRoom
 
 -- both are the same fraction, or there is neither
 abbrev pub AreOneSlack : Option Fraction → Option Fraction → Type 0

@@ -6,14 +6,14 @@ use Rattle.cts_model.specs.declared.tree.Tree.{Tree}
 use Rattle.cts_model.specs.declared.tree.Wire.{Wire}
 use Rattle.cts_model.specs.DrawnWires.{IsDrawn}
 use Rattle.cts_model.specs.Embeddings.{Embedding}
-use Rattle.cts_model.specs.Points.{IsBelow, IsPointBelow, distance, turned}
+use Rattle.cts_model.specs.Points.{IsBelow, IsPointBelow, distance, rotated}
 use Rattle.cts_model.specs.Topologies.{IsMerge}
 use Rattle.cert_check.specs.Parents.{parent_at}
 
 -- the sink of that number stands at its given place
 abbrev pub StandsAt : List Sink → Embedding → (node : ℕ) → Type 0
 StandsAt sinks tree node = IfSome (slice_get sinks node)
-    (λ sink. turned (tree.place node) ≡ sink.at)
+    (λ sink. rotated (tree.place node) ≡ sink.at)
 
 -- the merge at a place joins two nodes that are there and that none before it joined
 abbrev pub JoinsAt : (sinks : ℕ) → List Merge → (place : ℕ) → Type 0

@@ -14,7 +14,7 @@ use Rattle.cts_model.specs.ReportLines.{number_at}
 use Rattle.cts_model.specs.ShownReaches.{ShowsMerge, ShowsSource}
 use Rattle.cts_model.specs.Topologies.{IsTopology, numbers_below, root_of, source_of}
 use Rattle.cert_check.specs.declared.order.SinkOrder.{SinkOrder}
-use Rattle.cert_check.specs.SinkOrders.{IsPlaced}
+use Rattle.cert_check.specs.SinkOrders.{IsInOrder}
 
 -- a sink of a problem, in grid steps
 pub record IsSmallSink (sink : Sink) : Type 0 where
@@ -65,8 +65,8 @@ pub record IsSourceShown (sinks : List Sink) (source : Uv) (report : Report) : T
 -- two sinks, in order, are placed below the node
 pub record ArePlaced (order : SinkOrder) (node first second : ℕ) : Type 0 where
   pub ordered : first ≤ second
-  pub first_below : IsPlaced order node first
-  pub second_below : IsPlaced order node second
+  pub first_below : IsInOrder order node first
+  pub second_below : IsInOrder order node second
 
 -- and twice the reach is their span
 pub record IsPairPlaced (sinks : List Sink) (order : SinkOrder) (node : ℕ) (reach : ℤ)

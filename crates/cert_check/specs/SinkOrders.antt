@@ -13,7 +13,7 @@ pub record AreSizes (sinks : ℕ) (merges : List Merge) (size : ℕ → ℤ) : T
   pub of_merges : (place : ℕ) (merge : Merge) → slice_get merges place ≡ Some merge
       → size (sinks + place) ≡ size merge.first +ℤ size merge.second
 
--- of the two that a merge joins the second comes behind the sinks of the first
+-- of the two that a merge joins the second comes after the sinks of the first
 pub record AreSteps (merges : List Merge) (size step : ℕ → ℤ) : Type 0 where
   pub first : (place : ℕ) (merge : Merge) → slice_get merges place ≡ Some merge
       → step merge.first ≡ pos 0
@@ -25,8 +25,8 @@ pub record IsPlacedBelow (start size : ℕ → ℤ) (node register : ℕ) : Type
   pub from : start node ≤ℤ start register
   pub until : start register <ℤ (start node +ℤ size node)
 
-abbrev pub IsPlaced : SinkOrder → (node register : ℕ) → Type 0
-IsPlaced order node register =
+abbrev pub IsInOrder : SinkOrder → (node register : ℕ) → Type 0
+IsInOrder order node register =
     IsPlacedBelow (number_at order.starts.items) (number_at order.sizes.items) node register
 
 -- it has each node, and the sinks that are placed below one are those below it
@@ -36,4 +36,4 @@ pub record IsSinkOrder (sinks : ℕ) (merges : List Merge) (order : SinkOrder) :
   pub small_starts : All (IsBelow (10 ^ 36)) order.starts.items
   pub small_sizes : All (IsBelow (10 ^ 32)) order.sizes.items
   pub below : (node register : ℕ) → node < sinks + length merges → register < sinks
-      → Contains (numbers_below sinks merges node) register ↔ IsPlaced order node register
+      → Contains (numbers_below sinks merges node) register ↔ IsInOrder order node register

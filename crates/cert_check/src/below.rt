@@ -43,7 +43,7 @@ fn sizes_of(alloc: Global, sinks: usize, merges: &[Merge]) -> Result<Vec<i128>, 
     Ok(sizes)
 }
 
-// How far the sinks of each node begin behind those of the merge that joins it.
+// How far the sinks of each node begin after those of the merge that joins it.
 fn steps_of(
     alloc: Global,
     sinks: usize,

@@ -1,7 +1,7 @@
 ghost use Rattle.std.specs.Prelude.{◌≡◌, ◌↔◌, IfOk};
 ghost use Rattle.cts_model.specs.ReportBounds.{IsOfSize, IsWithinBounds};
 ghost use Rattle.cts_model.specs.SaidReports.{ShowsWhatItSays};
-ghost use Rattle.cts_model.specs.Shown.{IsShown, IsLeast};
+ghost use Rattle.cts_model.specs.Shown.{IsShown, ShowsLeast};
 ghost use Rattle.path_delays.specs.LevelParts.{IsLevelsOf};
 ghost use Rattle.cert_check.specs.declared.verdict.Verdict.{Verdict};
 ghost use Rattle.cert_check.specs.Judged.{verdict_of};
@@ -33,7 +33,7 @@ pub fn check(alloc: Global, problem: &Problem, report: &Report) -> Result<Verdic
     ensures said { IfOk result
         (λ verdict. (verdict ≡ Verdict.Shown) ↔ ShowsWhatItSays problem.now report.now) }
     ensures least { IfOk result
-        (λ verdict. verdict ≡ Verdict.Shown → IsLeast problem.now report.now) }
+        (λ verdict. verdict ≡ Verdict.Shown → ShowsLeast problem.now report.now) }
 {
     laws::reports();
     match judge(alloc, problem, report)? {

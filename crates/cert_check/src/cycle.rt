@@ -41,7 +41,7 @@ fn holds_together(cycle: &[Constraint], place: usize, seen: &[bool]) -> bool
     constraint.head == next.tail && !seen[constraint.tail as usize]
 }
 
-// The place behind one in a round of so many.
+// The place after one in a round of so many.
 fn next_place(places: usize, place: usize) -> usize
     requires few { places ≤ 9999 }
     requires place { place < places }

@@ -1,6 +1,6 @@
 ghost use Rattle.std.specs.Prelude.{◌≡◌, ◌<◌, ◌≤◌, ◌^◌, All, IsTrue, Some, drop, length, pos, slice_get, if◌then◌else◌, ◌+ℤ◌, ◌*ℤ◌};
 ghost use Rattle.cts_model.specs.Delays.{delay_of};
-ghost use Rattle.cts_model.specs.Kinds.{is_gate, is_lawful};
+ghost use Rattle.cts_model.specs.Kinds.{is_gate, is_valid};
 ghost use Rattle.cts_model.specs.Kinds as places;
 ghost use Rattle.cts_model.specs.Paths.{IsGate};
 ghost use Rattle.cts_model.specs.Points.{IsBelow};
@@ -72,7 +72,7 @@ fn delay_at(circuit: &Circuit, tech: &Tech, gate: u32, greatest: bool) -> i64
 
 // The greatest or the least delay of a gate.
 fn gate_delay(tech: &Tech, signal: &Signal, greatest: bool) -> i64
-    requires lawful { IsTrue (is_lawful signal.now.kind (length signal.now.fan_in)) }
+    requires valid_inputs { IsTrue (is_valid signal.now.kind (length signal.now.fan_in)) }
     requires gate { IsTrue (is_gate signal.now.kind) }
     ensures { result ≡ gate_delay_by greatest tech.now (Some signal.now) }
 {

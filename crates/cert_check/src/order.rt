@@ -12,7 +12,7 @@ pub(crate) struct SinkOrder {
 impl SinkOrder {
     ghost use Rattle.std.specs.Prelude.{◌<◌, ◌^◌, ◌↔◌, IsTrue, All, length};
     ghost use Rattle.cts_model.specs.Points.{IsBelow};
-    ghost use Rattle.cert_check.specs.SinkOrders.{IsPlaced};
+    ghost use Rattle.cert_check.specs.SinkOrders.{IsInOrder};
 
     /// Whether a sink is placed below a node.
     pub(crate) fn has_below(&self, node: usize, register: usize) -> bool
@@ -21,7 +21,7 @@ impl SinkOrder {
         requires register { register < length self.now.starts.items }
         requires starts { All (IsBelow (10 ^ 36)) self.now.starts.items }
         requires sizes { All (IsBelow (10 ^ 32)) self.now.sizes.items }
-        ensures { IsTrue result ↔ IsPlaced self.now node register }
+        ensures { IsTrue result ↔ IsInOrder self.now node register }
     {
         let start = self.starts[node];
         let place = self.starts[register];

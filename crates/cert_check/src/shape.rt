@@ -1,11 +1,11 @@
 ghost use Rattle.std.specs.Prelude.{◌≡◌, ◌≢◌, ◌↔◌, ◌≤◌, ◌<◌, ◌+◌, ◌*◌, ◌^◌, All, IfOk, IsTrue, length, slice_index_or};
 ghost use Rattle.cts_model.specs.Embeddings.{embedding_of};
 ghost use Rattle.cts_model.specs.Judgements.{HasShape};
-ghost use Rattle.cts_model.specs.Points.{IsPointBelow, turned};
+ghost use Rattle.cts_model.specs.Points.{IsPointBelow, rotated};
 ghost use Rattle.cert_check.specs.EmbeddingParts.{IsOfUnmarked, JoinsAt, StandsAt};
 ghost use Rattle.cert_check.specs.Judged.{FindsFirst};
 
-use crate::sinks::turned;
+use crate::sinks::rotated;
 use cts_base::NoMemory;
 use cts_model::{Merge, Point, Sink, Tree, Uv};
 use std::alloc::Global;
@@ -54,12 +54,12 @@ fn first_moved(sinks: &[Sink], tree: &Tree) -> Option<u32>
     None
 }
 
-// Whether a point is the one with these turned coordinates.
+// Whether a point is the one with these rotated coordinates.
 fn stands(point: Point, at: Uv) -> bool
     requires { IsPointBelow (10 ^ 32) point }
-    ensures { IsTrue result ↔ (turned point ≡ at) }
+    ensures { IsTrue result ↔ (rotated point ≡ at) }
 {
-    turned(point) == at
+    rotated(point) == at
 }
 
 // The first of the merges over so many sinks that doesn't join two nodes that are there and that

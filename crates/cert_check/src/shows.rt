@@ -1,7 +1,7 @@
 ghost use Rattle.std.specs.Prelude.{◌≡◌, ◌<◌, ◌≤◌, ◌+◌, ◌*◌, ◌^◌, ◌↔◌, ◌+ℤ◌, All, IsTrue, IsSomeAnd, length, slice_get};
 ghost use Rattle.cts_model.specs.Embeddings.{embedding_of};
 ghost use Rattle.cts_model.specs.Judgements.{IsReachShown};
-ghost use Rattle.cts_model.specs.Points.{IsBelow, IsUvBelow, apart, turned_distance};
+ghost use Rattle.cts_model.specs.Points.{IsBelow, IsUvBelow, apart, rotated_distance};
 ghost use Rattle.cts_model.specs.Regions.{span};
 ghost use Rattle.cts_model.specs.ReportBounds.{ShowsAmong};
 ghost use Rattle.cts_model.specs.ReportLines.{number_at};
@@ -157,7 +157,7 @@ fn is_half_of_span(reach: i128, one: Sink, other: Sink) -> bool
     let offsets = sum(one.offset, other.offset);
     are_same(
         sum(reach, reach),
-        sum(offsets, turned_distance(one.at, other.at)),
+        sum(offsets, rotated_distance(one.at, other.at)),
     )
 }
 
@@ -201,16 +201,16 @@ fn gives_source(show: Show, sinks: &[Sink], source: Uv, root: i128, reach: i128)
 fn is_reach_from(reach: i128, source: Uv, sink: Sink) -> bool
     requires source { IsUvBelow (10 ^ 31) source }
     requires sink { IsSmallSink sink }
-    ensures { IsTrue result ↔ (reach ≡ sink.offset +ℤ turned_distance source sink.at) }
+    ensures { IsTrue result ↔ (reach ≡ sink.offset +ℤ rotated_distance source sink.at) }
 {
-    are_same(reach, sum(sink.offset, turned_distance(source, sink.at)))
+    are_same(reach, sum(sink.offset, rotated_distance(source, sink.at)))
 }
 
-// The distance of two points by their turned coordinates.
-fn turned_distance(one: Uv, other: Uv) -> i128
+// The distance of two points by their rotated coordinates.
+fn rotated_distance(one: Uv, other: Uv) -> i128
     requires one { IsUvBelow (10 ^ 31) one }
     requires other { IsUvBelow (10 ^ 31) other }
-    ensures value { result ≡ turned_distance one other }
+    ensures value { result ≡ rotated_distance one other }
     ensures below { IsBelow (10 ^ 32) result }
 {
     apart(one.u, other.u).max(apart(one.v, other.v))

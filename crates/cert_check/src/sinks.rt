@@ -1,5 +1,5 @@
 ghost use Rattle.std.specs.Prelude.{◌≡◌, ◌≤◌, ◌^◌, ◌*ℤ◌, All, IfOk, length, unsigned_abs};
-ghost use Rattle.cts_model.specs.Points.{IsBelow, IsPointBelow, turned};
+ghost use Rattle.cts_model.specs.Points.{IsBelow, IsPointBelow, rotated};
 ghost use Rattle.cts_model.specs.Problems.{on_grid, scheduled_length, sink_of, sinks_of, steps_of_micro};
 ghost use Rattle.cts_model.specs.ReportBounds.{IsOfSize, IsWithinBounds};
 ghost use Rattle.cts_model.specs.Schedules.{IsSmallPeriod};
@@ -29,12 +29,12 @@ pub(crate) fn sinks_of(
     )
 }
 
-/// Where the source of the report's tree has to stand, in turned coordinates.
+/// Where the source of the report's tree has to stand, in rotated coordinates.
 pub(crate) fn source_of(problem: &Problem, report: &Report) -> Uv
     requires bounds { IsWithinBounds problem.now.tech report.now }
     ensures { result ≡ source_in problem.now report.now }
 {
-    turned_on_grid(report.period, &problem.tech, problem.places.source)
+    rotated_on_grid(report.period, &problem.tech, problem.places.source)
 }
 
 // Registers at these places, with these arrivals.
@@ -67,24 +67,24 @@ fn sink_of(period: Fraction, tech: &Tech, place: Point, arrival: i128) -> Sink
     ensures { result ≡ sink_of period tech.now place arrival }
 {
     Sink {
-        at: turned_on_grid(period, tech, place),
+        at: rotated_on_grid(period, tech, place),
         offset: -scheduled_length(tech, arrival),
     }
 }
 
-/// A given point in grid steps, in turned coordinates.
-pub(crate) fn turned_on_grid(period: Fraction, tech: &Tech, point: Point) -> Uv
+/// A given point in grid steps, in rotated coordinates.
+pub(crate) fn rotated_on_grid(period: Fraction, tech: &Tech, point: Point) -> Uv
     requires period { IsSmallPeriod period }
     requires near { IsPointBelow 1000000000000001 point }
-    ensures { result ≡ turned (on_grid period tech.now point) }
+    ensures { result ≡ rotated (on_grid period tech.now point) }
 {
-    turned(on_grid(period, tech, point))
+    rotated(on_grid(period, tech, point))
 }
 
-/// A point in turned coordinates.
-pub(crate) fn turned(point: Point) -> Uv
+/// A point in rotated coordinates.
+pub(crate) fn rotated(point: Point) -> Uv
     requires { IsPointBelow (10 ^ 32) point }
-    ensures { result ≡ turned point }
+    ensures { result ≡ rotated point }
 {
     Uv {
         u: point.x + point.y,

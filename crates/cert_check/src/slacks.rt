@@ -3,7 +3,7 @@ ghost use Rattle.cts_model.specs.ReportBounds.{IsOfSize};
 ghost use Rattle.cts_model.specs.Slacks.{AreSlacks};
 ghost use Rattle.cert_check.specs.Judged.{FindsFirst};
 ghost use Rattle.cert_check.specs.Verdicts.{SlacksFound};
-ghost use Rattle.cert_check.specs.ComparedSlacks.{AreOneSlack, HasOneSlack, HasRoom, IsFromZero, SparesTime};
+ghost use Rattle.cert_check.specs.ComparedSlacks.{AreOneSlack, HasOneSlack, HasSlackRoom, IsFromZero, SparesTime};
 
 use crate::Reason;
 use cts_base::Fraction;
@@ -59,7 +59,7 @@ fn slack_at(slacks: &[Slack], register: usize) -> Slack
 
 // Whether neither slack of a register is below 0.
 fn has_room(slack: Slack) -> bool
-    ensures { IsTrue result ↔ HasRoom slack }
+    ensures { IsTrue result ↔ HasSlackRoom slack }
 {
     is_from_zero(slack.setup) && is_from_zero(slack.hold)
 }

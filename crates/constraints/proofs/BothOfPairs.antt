@@ -45,15 +45,15 @@ module _ (tech : Tech) where
   two_for_each [] = omega arith
   two_for_each (pair ∷ pairs) = omega (arith, two_for_each pairs)
 
-  -- the two of the next pair are pushed behind those of the pairs before
+  -- the two of the next pair are pushed after those of the pairs before
   pub pushed_next : (pairs : List PairDelay) (place : ℕ) (pair : PairDelay)
-      → (setup hold : Constraint) (before between behind : List Constraint) → place < length pairs
+      → (setup hold : Constraint) (before between suffix : List Constraint) → place < length pairs
       → before ≡ constraints_of_pairs tech (take place pairs)
       → setup ≡ setup_constraint tech.setup (get_or pairs place pair)
       → hold ≡ hold_constraint tech.hold (get_or pairs place pair)
-      → between ≡ before ++ setup ∷ [] → behind ≡ between ++ hold ∷ []
-      → behind ≡ constraints_of_pairs tech (take (place + 1) pairs)
-  pushed_next pairs place pair setup hold before between behind within passed =
+      → between ≡ before ++ setup ∷ [] → suffix ≡ between ++ hold ∷ []
+      → suffix ≡ constraints_of_pairs tech (take (place + 1) pairs)
+  pushed_next pairs place pair setup hold before between suffix within passed =
       λ is_setup is_hold one both.
       let next = get_or pairs place pair in
       let all = constraints_of_pairs tech (take place pairs) in

@@ -73,8 +73,8 @@ module _ (constraints : List Constraint) (parents : List ℕ) where
   -- a climb comes by a register, or its steps lead to others
   comes_by : (register from : ℕ) (above : List Constraint) (to : ℕ)
       → Climbs constraints parents from above to
-      → ((front : List Constraint) × (back : List Constraint) × (length front ≤ length above)
-      × Climbs constraints parents from front register × Climbs constraints parents register back
+      → ((prefix : List Constraint) × (back : List Constraint) × (length prefix ≤ length above)
+      × Climbs constraints parents from prefix register × Climbs constraints parents register back
       to)
       ⊎ All (λ number. register ≢ number) (from ∷ tails above)
   comes_by register from [] to climb =
@@ -119,13 +119,13 @@ module _ (constraints : List Constraint) (parents : List ℕ) where
       (comes_by from step.tail above to climb))
       (ring_or_once step.tail above to climb)
     where
-      closed : (front back : List Constraint) → length front ≤ length above
-          → Climbs constraints parents step.tail front from → Climbs constraints parents from back
+      closed : (prefix back : List Constraint) → length prefix ≤ length above
+          → Climbs constraints parents step.tail prefix from → Climbs constraints parents from back
           to
           → (ring : List Constraint) × (0 < length ring) × (length ring ≤ suc (length above))
           × Climbs constraints parents to ring to
-      closed front back short round rest =
-          let moved = moved_ring from (step ∷ front) back to (omega arith) (reads, round) rest in
+      closed prefix back short round rest =
+          let moved = moved_ring from (step ∷ prefix) back to (omega arith) (reads, round) rest in
           (moved.0, omega (arith, moved.1), omega (arith, moved.1), moved.2)
 
   -- registers that aren't listed twice are no more than there are

@@ -9,13 +9,13 @@ use Rattle.cts_model.specs.Constraints.{Satisfies}
 use Rattle.cts_model.specs.Cycles.{IsLeastPeriodOf}
 use Rattle.cts_model.proofs.CycleLemmas.{shown_period_is_least, forbidden_at_all}
 use Rattle.critical_cycle.specs.CyclePlaces.{AreWithin, IsFromLowest, constraints_at}
-use Rattle.critical_cycle.specs.Periods.{HasForbidding, IsFloor, IsForbidden, IsNever, IsPeriodOf, IsShownPeriod}
+use Rattle.critical_cycle.specs.Periods.{HasForbidding, IsFloor, IsForbidden, IsNeverPeriod, IsPeriodOf, IsShownPeriod}
 use Rattle.critical_cycle.specs.ShownPeriods.{IsNeverShown, IsValueShown}
 use Rattle.critical_cycle.specs.declared.period.Period.{Period}
 use Rattle.critical_cycle.specs.declared.period.Period.TheVariants.{Cycle, Floor, Never}
 use Rattle.critical_cycle.proofs.PlaceLemmas.{All-constraints_at}
 use Rattle.critical_cycle.proofs.RaiseLemmas.{size_is}
-use Rattle.critical_cycle.proofs.Turns.{turned_cycle, turned_weight, turned_count, turned_within}
+use Rattle.critical_cycle.proofs.Turns.{rotated_cycle, rotated_weight, rotated_count, rotated_within}
 
 -- the constraints at places are constraints of the list
 among : (constraints : List Constraint) (cycle : List ℕ) → AreWithin constraints cycle
@@ -42,21 +42,21 @@ least_shown constraints floor cycle value shown arrival satisfied =
           admits.1.1;
     }
 
--- it is shown by the turned cycle too
-pub shown_turned : (constraints : List Constraint) (floor : ℤ) (cycle turned : List ℕ) (turn : ℕ)
+-- it is shown by the rotated cycle too
+pub shown_rotated : (constraints : List Constraint) (floor : ℤ) (cycle rotated : List ℕ) (turn : ℕ)
     → (value : Fraction) → IsValueShown constraints floor cycle value
     → (arrival : ℕ → ℤ) → Satisfies constraints (nat_abs value.den) value.num arrival
-    → turned ≡ drop turn cycle ++ take turn cycle → IsFromLowest (constraints_at constraints turned)
-    → IsShownPeriod constraints floor value turned
-shown_turned constraints floor cycle turned turn value shown arrival satisfied is lowest =
-    let weight = turned_weight constraints cycle turned turn is in
-    let count = turned_count constraints cycle turned turn is in
+    → rotated ≡ drop turn cycle ++ take turn cycle → IsFromLowest (constraints_at constraints rotated)
+    → IsShownPeriod constraints floor value rotated
+shown_rotated constraints floor cycle rotated turn value shown arrival satisfied is lowest =
+    let weight = rotated_weight constraints cycle rotated turn is in
+    let count = rotated_count constraints cycle rotated turn is in
     record {
       least = least_shown constraints floor cycle value shown arrival satisfied;
       above = shown.above;
-      within = turned_within constraints cycle turned turn is shown.within;
+      within = rotated_within constraints cycle rotated turn is shown.within;
       shows = record {
-        is_cycle = turned_cycle constraints cycle turned turn is shown.shows.is_cycle;
+        is_cycle = rotated_cycle constraints cycle rotated turn is shown.shows.is_cycle;
         counts = rw count shown.shows.counts;
         value = rw (weight, count) shown.shows.value;
       };
@@ -64,22 +64,22 @@ shown_turned constraints floor cycle turned turn value shown arrival satisfied i
     }
 
 -- and so is a cycle that forbids every period
-pub forbidden_turned : (constraints : List Constraint) (cycle turned : List ℕ) (turn : ℕ)
-    → IsNeverShown constraints cycle → turned ≡ drop turn cycle ++ take turn cycle
-    → IsFromLowest (constraints_at constraints turned) → IsForbidden constraints turned
-forbidden_turned constraints cycle turned turn shown is lowest = record {
-  within = turned_within constraints cycle turned turn is shown.within;
+pub forbidden_rotated : (constraints : List Constraint) (cycle rotated : List ℕ) (turn : ℕ)
+    → IsNeverShown constraints cycle → rotated ≡ drop turn cycle ++ take turn cycle
+    → IsFromLowest (constraints_at constraints rotated) → IsForbidden constraints rotated
+forbidden_rotated constraints cycle rotated turn shown is lowest = record {
+  within = rotated_within constraints cycle rotated turn is shown.within;
   forbids = record {
-    is_cycle = turned_cycle constraints cycle turned turn is shown.forbids.is_cycle;
-    counts = rw (turned_count constraints cycle turned turn is) shown.forbids.counts;
-    asks = rw (turned_weight constraints cycle turned turn is) shown.forbids.asks;
+    is_cycle = rotated_cycle constraints cycle rotated turn is shown.forbids.is_cycle;
+    counts = rw (rotated_count constraints cycle rotated turn is) shown.forbids.counts;
+    asks = rw (rotated_weight constraints cycle rotated turn is) shown.forbids.asks;
   };
   lowest = lowest;
 }
 
 -- the answer is that no period is long enough exactly where a cycle forbids all
 pub never_exactly : (constraints : List Constraint) (floor : ℤ) (period : Period)
-    → IsPeriodOf constraints floor period → IsNever period ↔ HasForbidding constraints
+    → IsPeriodOf constraints floor period → IsNeverPeriod period ↔ HasForbidding constraints
 never_exactly constraints floor (Cycle value cycle) is =
     let admitted = is.least.admitted.1 in (
       λ never. absurd never,

@@ -9,7 +9,7 @@ use Rattle.cts_model.specs.Points.{IsBelow}
 use Rattle.critical_cycle.specs.declared.trial.Trial.{Trial}
 use Rattle.critical_cycle.specs.declared.relaxation.Relaxation.{Relaxation}
 use Rattle.critical_cycle.specs.Trials.{parent_of}
-use Rattle.critical_cycle.specs.Relaxing.{HasRoom, AreBetween, ReachesUp, IsFarUp, SatisfiesTrial}
+use Rattle.critical_cycle.specs.Relaxing.{HasTrialRoom, AreBetween, ReachesUp, IsFarUp, SatisfiesTrial}
 use Rattle.critical_cycle.specs.Sweeps.{IsReady, IsSwept, IsSweep}
 use Rattle.critical_cycle.proofs.SweepLemmas.{IsReady-first, IsReady-next, SatisfiesTrial-swept, parents_above}
 use Rattle.critical_cycle.proofs.StepLemmas.{AreBetween-below, All-between, AreBetween-wider}
@@ -48,7 +48,7 @@ small_between sweeps values few between =
 
 -- before the first sweep
 pub IsSettling-none : (constraints : List Constraint) (trial : Trial) (relaxation : Relaxation)
-    → HasRoom constraints relaxation → All (IsBelow (2 ^ 90)) relaxation.values.items
+    → HasTrialRoom constraints relaxation → All (IsBelow (2 ^ 90)) relaxation.values.items
     → ((register : ℕ) → parent_of constraints relaxation.parents.items register ≡ None)
     → IsSettling constraints trial 0 relaxation relaxation
 IsSettling-none constraints trial relaxation room small none = record {
@@ -62,7 +62,7 @@ IsSettling-none constraints trial relaxation room small none = record {
 }
 
 module _ {constraints : List Constraint} {trial : Trial} {sweeps : ℕ} {begun now : Relaxation}
-    (room : HasRoom constraints begun)
+    (room : HasTrialRoom constraints begun)
     (settling : IsSettling constraints trial sweeps begun now) where
   -- the values are small
   pub small_settling : All (IsBelow (2 ^ 91)) now.values.items

@@ -13,7 +13,7 @@ use Rattle.cts_model.specs.Points.{IsBelow}
 use Rattle.critical_cycle.specs.declared.trial.Trial.{Trial}
 use Rattle.critical_cycle.specs.declared.relaxation.Relaxation.{Relaxation}
 use Rattle.critical_cycle.specs.Trials.{gain_of, value_of}
-use Rattle.critical_cycle.specs.Relaxing.{HasRoom, AreBetween, offer_of, IsLeft, IsRaised, IsRelaxed}
+use Rattle.critical_cycle.specs.Relaxing.{HasTrialRoom, AreBetween, offer_of, IsLeft, IsRaised, IsRelaxed}
 use Rattle.critical_cycle.specs.Sweeps.{IsSweeping, IsReady, IsSweep}
 use Rattle.critical_cycle.proofs.GainLemmas.{gain_small}
 use Rattle.critical_cycle.proofs.RelaxLemmas.{nowhere}
@@ -107,7 +107,7 @@ IsLook trial place constraint old answer new =
 
 module _ {constraints : List Constraint} (trial : Trial) (place : ℕ) {constraint : Constraint}
     {old : Relaxation} (new : Relaxation)
-    (room : HasRoom constraints old) (here : slice_get constraints place ≡ Some constraint)
+    (room : HasTrialRoom constraints old) (here : slice_get constraints place ≡ Some constraint)
     (small : IsSmallConstraint (length old.values.items) constraint) where
   -- the values keep their length
   pub values_length : (answer : Option ℕ) → IsLook trial place constraint old answer new
@@ -202,10 +202,10 @@ small_gains count few = omega (arith, ints)
 
 module _ {constraints : List Constraint} {trial : Trial} {Seen : ℕ → Type 0} {count : ℕ}
     {changed : Option ℕ} {begun now : Relaxation}
-    (room : HasRoom constraints begun)
+    (room : HasTrialRoom constraints begun)
     (way : IsUnderWay constraints trial Seen count changed begun now) where
   -- there is room still
-  room_now : HasRoom constraints now
+  room_now : HasTrialRoom constraints now
   room_now = record {
     small = subst (λ n. AreSmallConstraints n constraints) (sym way.values) room.small;
     parents = omega (arith, way.values, way.parents, room.parents);

@@ -49,7 +49,7 @@ IsFloor Floor = Unit {0}
 IsFloor (Never cycle) = ⊥
 
 -- the answer is that no period is long enough
-abbrev pub IsNever : Period → Type 0
-IsNever (Cycle value cycle) = ⊥
-IsNever Floor = ⊥
-IsNever (Never cycle) = Unit {0}
+abbrev pub IsNeverPeriod : Period → Type 0
+IsNeverPeriod (Cycle value cycle) = ⊥
+IsNeverPeriod Floor = ⊥
+IsNeverPeriod (Never cycle) = Unit {0}

@@ -8,7 +8,7 @@ use Rattle.critical_cycle.specs.declared.relaxation.Relaxation.{Relaxation}
 use Rattle.critical_cycle.specs.Trials.{gain_of, value_of, AreParents, Climbs}
 
 -- a value and a parent for each register
-pub record HasRoom (constraints : List Constraint) (relaxation : Relaxation) : Type 0 where
+pub record HasTrialRoom (constraints : List Constraint) (relaxation : Relaxation) : Type 0 where
   pub small : AreSmallConstraints (length relaxation.values.items) constraints
   pub parents : length relaxation.parents.items ≡ length relaxation.values.items
 

@@ -2,7 +2,7 @@ ghost use Rattle.std.specs.Prelude.{◌≡◌, ◌<◌, ◌≤◌, ◌++◌, ◌
 ghost use Rattle.cts_model.specs.Constraints.{AreSmallConstraints};
 ghost use Rattle.cts_model.specs.Cycles.{IsLeastPeriodOf};
 ghost use Rattle.critical_cycle.specs.CyclePlaces.{AreWithin, IsFromLowest, constraints_at};
-ghost use Rattle.critical_cycle.specs.Periods.{HasForbidding, HasSmallValue, IsFloor, IsNever, IsPeriodOf};
+ghost use Rattle.critical_cycle.specs.Periods.{HasForbidding, HasSmallValue, IsFloor, IsNeverPeriod, IsPeriodOf};
 ghost use Rattle.critical_cycle.specs.Searches.{IsSearch};
 ghost use Rattle.critical_cycle.specs.Floors.{IsSmallFloor};
 ghost use Rattle.critical_cycle.specs.ShownPeriods.{IsSettled};
@@ -49,7 +49,7 @@ pub fn least_period_in(
     requires cycle { length cycle ≡ length values }
     requires floor { IsSmallFloor floor }
     ensures period { IsPeriodOf constraints.now floor result }
-    ensures never { IsNever result ↔ HasForbidding constraints.now }
+    ensures never { IsNeverPeriod result ↔ HasForbidding constraints.now }
     ensures floor { IsFloor result ↔ IsLeastPeriodOf constraints.now floor floor 1 }
     ensures small { HasSmallValue result }
 {
@@ -77,7 +77,7 @@ pub fn least_period(
     requires small { AreSmallConstraints registers constraints.now }
     requires floor { IsSmallFloor floor }
     ensures period { IfOk result (IsPeriodOf constraints.now floor) }
-    ensures never { IfOk result (λ period. IsNever period ↔ HasForbidding constraints.now) }
+    ensures never { IfOk result (λ period. IsNeverPeriod period ↔ HasForbidding constraints.now) }
     ensures floor { IfOk result (λ period. IsFloor period
         ↔ IsLeastPeriodOf constraints.now floor floor 1) }
     ensures small { IfOk result HasSmallValue }
@@ -111,7 +111,7 @@ fn period_of(search: Search, constraints: &[Constraint]) -> Period
 fn cycle_of(places: Vec<u32>, start: usize, constraints: &[Constraint]) -> Listed<u32>
     requires start { start < length places.items }
     requires within { AreWithin constraints.now (drop start places.items) }
-    ensures turned { (turn : ℕ) × (result
+    ensures rotated { (turn : ℕ) × (result
         ≡ drop turn (drop start places.items) ++ take turn (drop start places.items)) }
     ensures lowest { IsFromLowest (constraints_at constraints.now result) }
 {

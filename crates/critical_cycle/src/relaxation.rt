@@ -19,7 +19,7 @@ pub(crate) struct Relaxation {
 
 impl Relaxation {
     ghost use Rattle.critical_cycle.specs.Trials.{parent_of};
-    ghost use Rattle.critical_cycle.specs.Relaxing.{HasRoom, IsFarUp, IsRelaxed, ReachesUp, SatisfiesTrial};
+    ghost use Rattle.critical_cycle.specs.Relaxing.{HasTrialRoom, IsFarUp, IsRelaxed, ReachesUp, SatisfiesTrial};
     ghost use Rattle.critical_cycle.specs.Sweeps.{IsSweep};
 
     /// Forgets the parents, and brings the values from the last trial's denominator to that of the
@@ -45,7 +45,7 @@ impl Relaxation {
     /// register at their top is answered. It makes at most a sweep for each register, and takes no
     /// memory.
     pub(crate) fn settle(&mut self, constraints: &[Constraint], trial: Trial) -> Option<u32>
-        requires room { HasRoom constraints.now self.old }
+        requires room { HasTrialRoom constraints.now self.old }
         requires small { All (IsBelow (2 ^ 90)) self.old.values.items }
         requires none { (register : ℕ)
             → parent_of constraints.now self.old.parents.items register ≡ None }
@@ -68,7 +68,7 @@ impl Relaxation {
     /// The register to which as many steps up the parents lead as there are registers, if there are
     /// so many parents. It takes no memory.
     pub(crate) fn climb(&self, constraints: &[Constraint], from: u32) -> Option<u32>
-        requires room { HasRoom constraints.now self.now }
+        requires room { HasTrialRoom constraints.now self.now }
         requires from { from < length self.now.values.items }
         ensures reaches { MatchOption result
             ((to : ℕ) → ReachesUp constraints.now self.now from to → ⊥)
@@ -86,7 +86,7 @@ impl Relaxation {
     // One sweep, forwards where the number of sweeps before it is even. The register that changed
     // last is answered.
     fn sweep(&mut self, constraints: &[Constraint], trial: Trial, before: usize) -> Option<u32>
-        requires room { HasRoom constraints.now self.old }
+        requires room { HasTrialRoom constraints.now self.old }
         requires small { All (IsBelow (2 ^ 91)) self.old.values.items }
         ensures { IsSweep constraints.now trial self.old result self.new }
     {
@@ -99,7 +99,7 @@ impl Relaxation {
 
     // From the first constraint to the last.
     fn sweep_forwards(&mut self, constraints: &[Constraint], trial: Trial) -> Option<u32>
-        requires room { HasRoom constraints.now self.old }
+        requires room { HasTrialRoom constraints.now self.old }
         requires small { All (IsBelow (2 ^ 91)) self.old.values.items }
         ensures { IsSweep constraints.now trial self.old result self.new }
     {
@@ -112,7 +112,7 @@ impl Relaxation {
 
     // From the last constraint to the first.
     fn sweep_backwards(&mut self, constraints: &[Constraint], trial: Trial) -> Option<u32>
-        requires room { HasRoom constraints.now self.old }
+        requires room { HasTrialRoom constraints.now self.old }
         requires small { All (IsBelow (2 ^ 91)) self.old.values.items }
         ensures { IsSweep constraints.now trial self.old result self.new }
     {
@@ -128,7 +128,7 @@ impl Relaxation {
     // Raises the head of a constraint to what the constraint gives it, if that is more. The head
     // is answered where it changed.
     fn relax(&mut self, constraints: &[Constraint], place: usize, trial: Trial) -> Option<u32>
-        requires room { HasRoom constraints.now self.old }
+        requires room { HasTrialRoom constraints.now self.old }
         requires place { place < length constraints.now }
         requires small { All (IsBelow (2 ^ 92)) self.old.values.items }
         ensures { IsRelaxed constraints.now trial place self.old result self.new }

@@ -46,7 +46,7 @@ pub(crate) fn go_round(
 pub(crate) fn turn_to_lowest(cycle: &mut [u32], constraints: &[Constraint])
     requires within { AreWithin constraints.now cycle.old }
     requires some { 0 < length cycle.old }
-    ensures turned { (place : ℕ) × (cycle.new ≡ drop place cycle.old ++ take place cycle.old) }
+    ensures rotated { (place : ℕ) × (cycle.new ≡ drop place cycle.old ++ take place cycle.old) }
     ensures lowest { IsFromLowest (constraints_at constraints.now cycle.new) }
 {
     cycle.rotate_left(place_of_lowest(cycle, constraints));

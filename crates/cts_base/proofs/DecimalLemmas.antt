@@ -56,9 +56,9 @@ body_short text = at (starts_with_minus text) (slice_index text 0 == 43) where
 pub digits_short : (text : List ℕ) → length (whole_digits text) + length (fraction_digits text) ≤ length text
 digits_short text =
     let body = without_leading_sign text in
-    let front = coefficient text in
-    let point = position_or_len is_point front in
-    let whole : length (whole_digits text) ≡ min point (length front) = length-take point front in
-    let fraction : length (fraction_digits text) ≡ length front - (point + 1) = length-drop (point + 1) front in
-    let coefficient_short : length front ≡ min (position_or_len is_exponent_mark body) (length body) = length-take (position_or_len is_exponent_mark body) body in
+    let prefix = coefficient text in
+    let point = position_or_len is_point prefix in
+    let whole : length (whole_digits text) ≡ min point (length prefix) = length-take point prefix in
+    let fraction : length (fraction_digits text) ≡ length prefix - (point + 1) = length-drop (point + 1) prefix in
+    let coefficient_short : length prefix ≡ min (position_or_len is_exponent_mark body) (length body) = length-take (position_or_len is_exponent_mark body) body in
     omega (arith, whole, fraction, coefficient_short, body_short text)

@@ -35,8 +35,8 @@ pub coprime : (a b divisor : ℕ) → 0 < divisor → IsGcd a b divisor
 coprime a b divisor some greatest = (
   one-dvd (a / divisor),
   one-dvd (b / divisor),
-  λ part front back.
-      let divides = greatest.2 (divisor * part) (times divisor part a greatest.0 front)
+  λ part prefix back.
+      let divides = greatest.2 (divisor * part) (times divisor part a greatest.0 prefix)
       (times divisor part b greatest.1 back) in
       let product = mul-div_cancel' (divisor * part) divides in
       let one : part * (divisor / (divisor * part)) ≡ 1 =

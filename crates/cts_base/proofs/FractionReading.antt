@@ -105,50 +105,50 @@ one_fault text (inr (num, den, spells, small, not_lowest)) large =
 
 pub judged_not_number : (text : List ℕ) (r : Result Fraction NumberFault) → IsJudged text r
     → IsErrOf r NotNumber ↔ IsNoFraction text
-judged_not_number text (Ok fraction) told = (
+judged_not_number text (Ok fraction) denoted = (
   λ is. cc,
-  λ other. absurd (fraction_is text fraction.num fraction.den told.0 fraction.lowest other),
+  λ other. absurd (fraction_is text fraction.num fraction.den denoted.0 fraction.lowest other),
 )
-judged_not_number text (Err NotNumber) told = (λ _. told, λ _. refl)
-judged_not_number text (Err TooFine) told = absurd told
-judged_not_number text (Err TooLarge) told = (λ is. cc, λ other. absurd (one_fault text other told))
+judged_not_number text (Err NotNumber) denoted = (λ _. denoted, λ _. refl)
+judged_not_number text (Err TooFine) denoted = absurd denoted
+judged_not_number text (Err TooLarge) denoted = (λ is. cc, λ other. absurd (one_fault text other denoted))
 
 pub judged_too_large : (text : List ℕ) (r : Result Fraction NumberFault) → IsJudged text r
     → IsErrOf r TooLarge ↔ IsLargeQuotient text
-judged_too_large text (Ok fraction) told =
-    (λ is. cc, λ other. absurd (small_is text fraction.num fraction.den told.0 told.1 other))
-judged_too_large text (Err NotNumber) told = (λ is. cc, λ other. absurd (one_fault text told other))
-judged_too_large text (Err TooFine) told = absurd told
-judged_too_large text (Err TooLarge) told = (λ _. told, λ _. refl)
+judged_too_large text (Ok fraction) denoted =
+    (λ is. cc, λ other. absurd (small_is text fraction.num fraction.den denoted.0 denoted.1 other))
+judged_too_large text (Err NotNumber) denoted = (λ is. cc, λ other. absurd (one_fault text denoted other))
+judged_too_large text (Err TooFine) denoted = absurd denoted
+judged_too_large text (Err TooLarge) denoted = (λ _. denoted, λ _. refl)
 
 -- what is read is spelled so
 pub judged_ok : (text : List ℕ) (r : Result Fraction NumberFault) → IsJudged text r
     → IfOk r (λ fraction. text ≡ fraction_text fraction.num fraction.den)
-judged_ok text (Ok fraction) told =
-    quotient_text_spelled text fraction.num fraction.den (few_digits fraction.num told.1.0)
-    (few_digits fraction.den told.1.1) told.0
-judged_ok text (Err fault) told = tt
+judged_ok text (Ok fraction) denoted =
+    quotient_text_spelled text fraction.num fraction.den (few_digits fraction.num denoted.1.0)
+    (few_digits fraction.den denoted.1.1) denoted.0
+judged_ok text (Err fault) denoted = tt
 
 -- and what is spelled so is read
 pub judged_spelled : (text : List ℕ) (r : Result Fraction NumberFault) → IsJudged text r
     → (fraction : Fraction) → HasSizeBelow (10 ^ 37) fraction.num
     → HasSizeBelow (10 ^ 37) fraction.den → text ≡ fraction_text fraction.num fraction.den
     → r ≡ Ok fraction
-judged_spelled text r told fraction small small' same =
+judged_spelled text r denoted fraction small small' same =
     let lowest = fraction.lowest in
-    at r told (fraction_spelled text fraction.num fraction.den (few_digits fraction.num small)
+    at r denoted (fraction_spelled text fraction.num fraction.den (few_digits fraction.num small)
     (few_digits fraction.den small') lowest.some_den same)
   where
     at : (o : Result Fraction NumberFault) → IsJudged text o
         → SpellsQuotient text fraction.num fraction.den → o ≡ Ok fraction
-    at (Ok other) told spells =
-        let both = one_quotient text other.num other.den fraction.num fraction.den told.0 spells in
+    at (Ok other) denoted spells =
+        let both = one_quotient text other.num other.den fraction.num fraction.den denoted.0 spells in
         ap Ok (same_fraction other fraction both.0 both.1)
-    at (Err NotNumber) told spells =
-        absurd (fraction_is text fraction.num fraction.den spells fraction.lowest told)
-    at (Err TooFine) told spells = absurd told
-    at (Err TooLarge) told spells =
-        absurd (small_is text fraction.num fraction.den spells (small, small') told)
+    at (Err NotNumber) denoted spells =
+        absurd (fraction_is text fraction.num fraction.den spells fraction.lowest denoted)
+    at (Err TooFine) denoted spells = absurd denoted
+    at (Err TooLarge) denoted spells =
+        absurd (small_is text fraction.num fraction.den spells (small, small') denoted)
 
 -- a text spells one fraction
 pub one_spelled_fraction : (fraction other : Fraction) → HaveSmallSizes fraction.num fraction.den

@@ -20,8 +20,8 @@ divides_both divisor a b = (a % divisor == 0) && (b % divisor == 0)
 passes : (divisor a b : ℕ) → divides_both divisor a b ≡ true → (divisor ∣ a) × (divisor ∣ b)
 passes divisor a b pass = at (a % divisor == 0) refl (b % divisor == 0) refl pass
   where
-    at : (front : Bool) → (a % divisor == 0) ≡ front → (back : Bool) → (b % divisor == 0) ≡ back
-        → (front && back) ≡ true → (divisor ∣ a) × (divisor ∣ b)
+    at : (prefix : Bool) → (a % divisor == 0) ≡ prefix → (back : Bool) → (b % divisor == 0) ≡ back
+        → (prefix && back) ≡ true → (divisor ∣ a) × (divisor ∣ b)
     at true is true is' pass = (
       dvd_of_mod-eq-zero divisor ((Decides-eqb (a % divisor) 0).0 is),
       dvd_of_mod-eq-zero divisor ((Decides-eqb (b % divisor) 0).0 is'),
@@ -31,8 +31,8 @@ passes divisor a b pass = at (a % divisor == 0) refl (b % divisor == 0) refl pas
 
 -- and what divides both passes it
 passed : (divisor a b : ℕ) → divisor ∣ a → divisor ∣ b → divides_both divisor a b ≡ true
-passed divisor a b front back =
-    ap₂ (λ x y. x && y) ((Decides-eqb (a % divisor) 0).1 (mod-eq-zero_of_dvd divisor front))
+passed divisor a b prefix back =
+    ap₂ (λ x y. x && y) ((Decides-eqb (a % divisor) 0).1 (mod-eq-zero_of_dvd divisor prefix))
     ((Decides-eqb (b % divisor) 0).1 (mod-eq-zero_of_dvd divisor back))
 
 -- the greatest number up to a bound that divides both is their greatest common divisor
@@ -137,15 +137,15 @@ pub quotient_text_is : (num den : ℤ) (fraction : Fraction) → pos 1 ≤ℤ de
     → fraction_text fraction.num fraction.den ≡ quotient_text num den
 unfolding quotient_text
 quotient_text_is num den fraction some same =
-    let (divisor, positive, is, front, back) = lowest_parts num den fraction some same in
-    ap₂ fraction_text (front ∙ ap (int_div num) is) (back ∙ ap (int_div den) is)
+    let (divisor, positive, is, prefix, back) = lowest_parts num den fraction some same in
+    ap₂ fraction_text (prefix ∙ ap (int_div num) is) (back ∙ ap (int_div den) is)
 
 -- and its parts are no larger than those of the quotient
 pub lowest_sizes : (num den : ℤ) (fraction : Fraction) → pos 1 ≤ℤ den
     → fraction.num *ℤ den ≡ num *ℤ fraction.den
     → (nat_abs fraction.num ≤ nat_abs num) × (nat_abs fraction.den ≤ nat_abs den)
 lowest_sizes num den fraction some same =
-    let (divisor, positive, is, front, back) = lowest_parts num den fraction some same in (
-      subst (λ n. nat_abs n ≤ nat_abs num) (sym front) (int_div-le num divisor positive),
+    let (divisor, positive, is, prefix, back) = lowest_parts num den fraction some same in (
+      subst (λ n. nat_abs n ≤ nat_abs num) (sym prefix) (int_div-le num divisor positive),
       subst (λ n. nat_abs n ≤ nat_abs den) (sym back) (int_div-le den divisor positive),
     )

@@ -22,7 +22,7 @@ all_passed {text} {left} {passed} walk none = at walk.later (sym walk.left_is �
     at [] e split = sym (split ∙ append-nil passed)
     at (line ∷ later) e split = cc
 
--- the next line, and the walk behind it
+-- the next line, and the walk after it
 pub record IsNext (text : List ℕ) (left : List (ℕ × List ℕ)) (passed : List (List ℕ)) (number : ℕ) (line : List ℕ) : Type 0 where
   pub place : IsLine text number passed line
   pub passed_next : IsPassed text left (passed ++ line ∷ [])

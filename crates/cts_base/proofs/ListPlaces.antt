@@ -3,47 +3,47 @@ use Rattle.std.proofs.Common.{◌≡◌, ◌<◌, ◌⊎◌, List, [], ◌∷◌
 use Rattle.std.proofs.lemmas.Bool.{cases_lt}
 
 -- of two places in a list, the one further on has the other among the items before it
-pub record IsBehind {X : Type 0} (front further : List X) (item : X) : Type 0 where
+pub record IsAfter {X : Type 0} (prefix further : List X) (item : X) : Type 0 where
   pub between : List X
-  pub split : further ≡ front ++ item ∷ between
+  pub split : further ≡ prefix ++ item ∷ between
 
 -- the place with fewer items before it
-behind : {X : Type 0} (front : List X) (item : X) (rest : List X) (further : List X) (other : X) (others : List X) → front ++ item ∷ rest ≡ further ++ other ∷ others → length front < length further → IsBehind front further item
-behind [] item rest [] other others same shorter = absurd (omega arith)
-behind [] item rest (x ∷ further) other others same shorter = record { between = further; split = ap (λ y. y ∷ further) (cc same) }
-behind (y ∷ front) item rest [] other others same shorter = absurd (omega arith)
-behind (y ∷ front) item rest (x ∷ further) other others same shorter =
+suffix : {X : Type 0} (prefix : List X) (item : X) (rest : List X) (further : List X) (other : X) (others : List X) → prefix ++ item ∷ rest ≡ further ++ other ∷ others → length prefix < length further → IsAfter prefix further item
+suffix [] item rest [] other others same shorter = absurd (omega arith)
+suffix [] item rest (x ∷ further) other others same shorter = record { between = further; split = ap (λ y. y ∷ further) (cc same) }
+suffix (y ∷ prefix) item rest [] other others same shorter = absurd (omega arith)
+suffix (y ∷ prefix) item rest (x ∷ further) other others same shorter =
     let heads : y ≡ x = cc same in
-    let tails : front ++ item ∷ rest ≡ further ++ other ∷ others = cc same in
-    let found = behind front item rest further other others tails (omega arith) in
+    let tails : prefix ++ item ∷ rest ≡ further ++ other ∷ others = cc same in
+    let found = suffix prefix item rest further other others tails (omega arith) in
     record { between = found.between; split = λ i. sym heads i ∷ found.split i }
 
--- two places of which neither is behind the other are one
-pub same_place : {X : Type 0} (front : List X) (item : X) (rest : List X) (further : List X) (other : X) (others : List X) → front ++ item ∷ rest ≡ further ++ other ∷ others
-    → (IsBehind front further item → ⊥) → (IsBehind further front other → ⊥) → length front ≡ length further
-same_place front item rest further other others same not_behind not_before = elim (cases_lt (length front) (length further)) [
-  | inl before ↦ absurd (not_behind (behind front item rest further other others same before))
-  | inr not_less ↦ elim (cases_lt (length further) (length front)) [
-    | inl after ↦ absurd (not_before (behind further other others front item rest (sym same) after))
+-- two places of which neither is after the other are one
+pub same_place : {X : Type 0} (prefix : List X) (item : X) (rest : List X) (further : List X) (other : X) (others : List X) → prefix ++ item ∷ rest ≡ further ++ other ∷ others
+    → (IsAfter prefix further item → ⊥) → (IsAfter further prefix other → ⊥) → length prefix ≡ length further
+same_place prefix item rest further other others same not_after not_before = elim (cases_lt (length prefix) (length further)) [
+  | inl before ↦ absurd (not_after (suffix prefix item rest further other others same before))
+  | inr not_less ↦ elim (cases_lt (length further) (length prefix)) [
+    | inl after ↦ absurd (not_before (suffix further other others prefix item rest (sym same) after))
     | inr not_more ↦ omega arith
   ]
 ]
 
 -- two parts of a list and an item between them
-pub record AreSameParts {X : Type 0} (front further : List X) (item other : X) : Type 0 where
-  pub same_front : front ≡ further
+pub record AreSameParts {X : Type 0} (prefix further : List X) (item other : X) : Type 0 where
+  pub same_prefix : prefix ≡ further
   pub same_item : item ≡ other
 
--- at one place stands one item, behind the same items
-pub same_parts : {X : Type 0} (front : List X) (item : X) (rest : List X) (further : List X) (other : X) (others : List X) → front ++ item ∷ rest ≡ further ++ other ∷ others → length front ≡ length further → AreSameParts front further item other
-same_parts [] item rest [] other others same place = record { same_front = refl; same_item = cc }
+-- at one place stands one item, after the same items
+pub same_parts : {X : Type 0} (prefix : List X) (item : X) (rest : List X) (further : List X) (other : X) (others : List X) → prefix ++ item ∷ rest ≡ further ++ other ∷ others → length prefix ≡ length further → AreSameParts prefix further item other
+same_parts [] item rest [] other others same place = record { same_prefix = refl; same_item = cc }
 same_parts [] item rest (x ∷ further) other others same place = absurd (omega arith)
-same_parts (y ∷ front) item rest [] other others same place = absurd (omega arith)
-same_parts (y ∷ front) item rest (x ∷ further) other others same place =
+same_parts (y ∷ prefix) item rest [] other others same place = absurd (omega arith)
+same_parts (y ∷ prefix) item rest (x ∷ further) other others same place =
     let heads : y ≡ x = cc same in
-    let tails : front ++ item ∷ rest ≡ further ++ other ∷ others = cc same in
-    let found = same_parts front item rest further other others tails (omega arith) in
-    record { same_front = λ i. heads i ∷ found.same_front i; same_item = found.same_item }
+    let tails : prefix ++ item ∷ rest ≡ further ++ other ∷ others = cc same in
+    let found = same_parts prefix item rest further other others tails (omega arith) in
+    record { same_prefix = λ i. heads i ∷ found.same_prefix i; same_item = found.same_item }
 
 -- no item has a place in the empty list
 pub nothing_before : {X : Type 0} (earlier : List X) (y : X) (later : List X) → [] ≡ earlier ++ y ∷ later → ⊥

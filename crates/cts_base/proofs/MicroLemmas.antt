@@ -16,7 +16,7 @@ use Rattle.cts_base.proofs.ScaleLemmas.{digits_value_after-append, raised_enough
 
 -- ---- digits by their places
 
--- a number in front of digits stands for itself, as many places further left
+-- a number before digits stands for itself, as many places further left
 digits_value_after-split : (n : ℕ) (ds : List ℕ) → digits_value_after 10 n ds ≡ n * 10 ^ length ds + digits_value 10 ds
 digits_value_after-split n [] = omega arith
 digits_value_after-split n (d ∷ ds) =
@@ -28,7 +28,7 @@ digits_value_after-split n (d ∷ ds) =
     let nothing = add-mul (0 * 10) (digit_value d) power in
     omega (arith, here, alone, apart, moved, nothing)
 
--- digits are those that are kept, moved to the left, and those behind
+-- digits are those that are kept, moved to the left, and those after
 pub digits_value-split : (kept : ℕ) (ds : List ℕ) → digits_value 10 ds ≡ digits_value 10 (take kept ds) * 10 ^ length (drop kept ds) + digits_value 10 (drop kept ds)
 digits_value-split kept ds =
     ap (λ s. digits_value 10 s) (sym (take-append-drop kept ds))
@@ -68,17 +68,17 @@ others_value (d ∷ ds) digits is = at (is_zero d) refl (others_value ds digits.
 -- ---- the place of the millionths
 
 -- what is kept, raised so far, has the value that the digits have by their exponent
-pub record IsAligned (behind raise lowered raised : ℕ) : Type 0 where
-  pub sum : raise + lowered ≡ behind + (raised + 6)
-  pub tight : (raise ≡ 0) ⊎ (behind ≡ 0)
+pub record IsAligned (suffix raise lowered raised : ℕ) : Type 0 where
+  pub sum : raise + lowered ≡ suffix + (raised + 6)
+  pub tight : (raise ≡ 0) ⊎ (suffix ≡ 0)
 
 -- the millionths are left of all digits
-pub record IsLeft (kept behind raise lowered raised : ℕ) : Type 0 where
+pub record IsLeft (kept suffix raise lowered raised : ℕ) : Type 0 where
   pub none : kept ≡ 0
   pub flat : raise ≡ 0
-  pub far : behind + (raised + 6) ≤ lowered
+  pub far : suffix + (raised + 6) ≤ lowered
 
--- how many digits, and zeros behind them, make the millionths
+-- how many digits, and zeros after them, make the millionths
 abbrev pub places_of : (minus : Bool) (whole exponent : ℕ) → ℕ
 places_of minus whole exponent = cond minus (whole + 6 - exponent) (whole + 6 + exponent)
 
@@ -92,40 +92,40 @@ raise_cut true whole fraction exponent short = omega arith
 raise_cut false whole fraction exponent short = omega arith
 
 -- the two shapes
-pub shape : (minus : Bool) (whole fraction exponent kept behind raise lowered raised : ℕ) → kept ≡ min (places_of minus whole exponent) (whole + fraction) → behind ≡ whole + fraction - kept → raise ≡ places_of minus whole exponent - kept → lowered ≡ fraction + cond minus exponent 0 → raised ≡ cond minus 0 exponent → IsAligned behind raise lowered raised ⊎ IsLeft kept behind raise lowered raised
-shape true whole fraction exponent kept behind raise lowered raised kept_is behind_is raise_is lowered_is raised_is = at (cases_lt (whole + 6) exponent) (cases_lt kept (whole + fraction)) where
-  at : (whole + 6 < exponent) ⊎ (exponent ≤ whole + 6) → (kept < whole + fraction) ⊎ (whole + fraction ≤ kept) → IsAligned behind raise lowered raised ⊎ IsLeft kept behind raise lowered raised
+pub shape : (minus : Bool) (whole fraction exponent kept suffix raise lowered raised : ℕ) → kept ≡ min (places_of minus whole exponent) (whole + fraction) → suffix ≡ whole + fraction - kept → raise ≡ places_of minus whole exponent - kept → lowered ≡ fraction + cond minus exponent 0 → raised ≡ cond minus 0 exponent → IsAligned suffix raise lowered raised ⊎ IsLeft kept suffix raise lowered raised
+shape true whole fraction exponent kept suffix raise lowered raised kept_is after_is raise_is lowered_is raised_is = at (cases_lt (whole + 6) exponent) (cases_lt kept (whole + fraction)) where
+  at : (whole + 6 < exponent) ⊎ (exponent ≤ whole + 6) → (kept < whole + fraction) ⊎ (whole + fraction ≤ kept) → IsAligned suffix raise lowered raised ⊎ IsLeft kept suffix raise lowered raised
   at (inl past) part = inr (record { none = omega arith; flat = omega arith; far = omega arith })
   at (inr within) (inl part) = inl (record { sum = omega arith; tight = inl (omega arith) })
   at (inr within) (inr all) = inl (record { sum = omega arith; tight = inr (omega arith) })
-shape false whole fraction exponent kept behind raise lowered raised kept_is behind_is raise_is lowered_is raised_is = at (cases_lt kept (whole + fraction)) where
-  at : (kept < whole + fraction) ⊎ (whole + fraction ≤ kept) → IsAligned behind raise lowered raised ⊎ IsLeft kept behind raise lowered raised
+shape false whole fraction exponent kept suffix raise lowered raised kept_is after_is raise_is lowered_is raised_is = at (cases_lt kept (whole + fraction)) where
+  at : (kept < whole + fraction) ⊎ (whole + fraction ≤ kept) → IsAligned suffix raise lowered raised ⊎ IsLeft kept suffix raise lowered raised
   at (inl part) = inl (record { sum = omega arith; tight = inl (omega arith) })
   at (inr all) = inl (record { sum = omega arith; tight = inr (omega arith) })
 
 -- ---- the size
 
 -- what is kept, raised, is the value where the shift is the same
-aligned : (number raise lowered behind raised : ℕ) → raise + lowered ≡ behind + raised → number * 10 ^ raise * 10 ^ lowered ≡ number * 10 ^ behind * 10 ^ raised
-aligned number raise lowered behind raised same =
+aligned : (number raise lowered suffix raised : ℕ) → raise + lowered ≡ suffix + raised → number * 10 ^ raise * 10 ^ lowered ≡ number * 10 ^ suffix * 10 ^ raised
+aligned number raise lowered suffix raised same =
     mul_assoc number (10 ^ raise) (10 ^ lowered)
     ∙ ap (λ p. number * p) (sym (pow-add 10 raise lowered))
     ∙ ap (λ k. number * 10 ^ k) same
-    ∙ ap (λ p. number * p) (pow-add 10 behind raised)
-    ∙ sym (mul_assoc number (10 ^ behind) (10 ^ raised))
+    ∙ ap (λ p. number * p) (pow-add 10 suffix raised)
+    ∙ sym (mul_assoc number (10 ^ suffix) (10 ^ raised))
 
 -- six places are the power of six
 six_places : (digits raised : ℕ) → digits * 10 ^ (raised + 6) ≡ digits * 10 ^ raised * 10 ^ 6
 six_places digits raised = ap (λ p. digits * p) (pow-add 10 raised 6) ∙ sym (mul_assoc digits (10 ^ raised) (10 ^ 6))
 
--- where only zeros are behind what is kept, it is the size
-pub size_is : (kept front rest digits behind raise lowered raised : ℕ) → (kept ≡ 0 → front ≡ 0) → digits ≡ front * 10 ^ behind + rest → rest ≡ 0 → IsAligned behind raise lowered raised ⊎ IsLeft kept behind raise lowered raised → front * 10 ^ raise * 10 ^ lowered ≡ digits * 10 ^ raised * 10 ^ 6
-size_is kept front rest digits behind raise lowered raised empty split zero (inl fits) =
-    let whole : front * 10 ^ behind ≡ digits = omega arith in
-    aligned front raise lowered behind (raised + 6) fits.sum ∙ ap (λ n. n * 10 ^ (raised + 6)) whole ∙ six_places digits raised
-size_is kept front rest digits behind raise lowered raised empty split zero (inr left) =
-    let nothing : front ≡ 0 = empty left.none in
-    let none : front * 10 ^ behind ≡ 0 = ap (λ n. n * 10 ^ behind) nothing ∙ zero-mul (10 ^ behind) in
+-- where only zeros are after what is kept, it is the size
+pub size_is : (kept prefix rest digits suffix raise lowered raised : ℕ) → (kept ≡ 0 → prefix ≡ 0) → digits ≡ prefix * 10 ^ suffix + rest → rest ≡ 0 → IsAligned suffix raise lowered raised ⊎ IsLeft kept suffix raise lowered raised → prefix * 10 ^ raise * 10 ^ lowered ≡ digits * 10 ^ raised * 10 ^ 6
+size_is kept prefix rest digits suffix raise lowered raised empty split zero (inl fits) =
+    let whole : prefix * 10 ^ suffix ≡ digits = omega arith in
+    aligned prefix raise lowered suffix (raised + 6) fits.sum ∙ ap (λ n. n * 10 ^ (raised + 6)) whole ∙ six_places digits raised
+size_is kept prefix rest digits suffix raise lowered raised empty split zero (inr left) =
+    let nothing : prefix ≡ 0 = empty left.none in
+    let none : prefix * 10 ^ suffix ≡ 0 = ap (λ n. n * 10 ^ suffix) nothing ∙ zero-mul (10 ^ suffix) in
     let digits_none : digits ≡ 0 = omega arith in
     ap (λ n. n * 10 ^ raise * 10 ^ lowered) nothing
     ∙ ap (λ n. n * 10 ^ lowered) (zero-mul (10 ^ raise))
@@ -143,25 +143,25 @@ cancel size shift raised digits lowered sum same =
     ∙ sym (six_places digits raised))
 
 -- no multiple of a power is between two neighbours
-between_multiples : (size front rest power : ℕ) → size * power ≡ front * power + rest → rest < power → 0 < rest → ⊥
-between_multiples size front rest power same below above = at (cases_lt front size) where
-  at : (front < size) ⊎ (size ≤ front) → ⊥
-  at (inl less) = let next : (front + 1) * power ≤ size * power = mul-le-mul_right power (omega arith) in let more = add-mul front 1 power in absurd (omega arith)
-  at (inr least) = let most : size * power ≤ front * power = mul-le-mul_right power least in absurd (omega arith)
+between_multiples : (size prefix rest power : ℕ) → size * power ≡ prefix * power + rest → rest < power → 0 < rest → ⊥
+between_multiples size prefix rest power same below above = at (cases_lt prefix size) where
+  at : (prefix < size) ⊎ (size ≤ prefix) → ⊥
+  at (inl less) = let next : (prefix + 1) * power ≤ size * power = mul-le-mul_right power (omega arith) in let more = add-mul prefix 1 power in absurd (omega arith)
+  at (inr least) = let most : size * power ≤ prefix * power = mul-le-mul_right power least in absurd (omega arith)
 
--- where more than zeros are behind what is kept, no size is the value
-pub no_size : (kept front rest digits behind raise lowered raised size : ℕ) → (kept ≡ 0 → front ≡ 0) → digits ≡ front * 10 ^ behind + rest → rest < 10 ^ behind → 0 < rest → IsAligned behind raise lowered raised ⊎ IsLeft kept behind raise lowered raised → size * 10 ^ lowered ≡ digits * 10 ^ raised * 10 ^ 6 → ⊥
-no_size kept front rest digits behind raise lowered raised size empty split below above (inl fits) same = at fits.tight where
-  at : (raise ≡ 0) ⊎ (behind ≡ 0) → ⊥
-  at (inl flat) = between_multiples size front rest (10 ^ behind) (cancel size behind raised digits lowered (omega (arith, fits.sum)) same ∙ split) below above
+-- where more than zeros are after what is kept, no size is the value
+pub no_size : (kept prefix rest digits suffix raise lowered raised size : ℕ) → (kept ≡ 0 → prefix ≡ 0) → digits ≡ prefix * 10 ^ suffix + rest → rest < 10 ^ suffix → 0 < rest → IsAligned suffix raise lowered raised ⊎ IsLeft kept suffix raise lowered raised → size * 10 ^ lowered ≡ digits * 10 ^ raised * 10 ^ 6 → ⊥
+no_size kept prefix rest digits suffix raise lowered raised size empty split below above (inl fits) same = at fits.tight where
+  at : (raise ≡ 0) ⊎ (suffix ≡ 0) → ⊥
+  at (inl flat) = between_multiples size prefix rest (10 ^ suffix) (cancel size suffix raised digits lowered (omega (arith, fits.sum)) same ∙ split) below above
   at (inr none) = let one : rest < 10 ^ 0 = subst (λ k. rest < 10 ^ k) none below in absurd (omega arith)
-no_size kept front rest digits behind raise lowered raised size empty split below above (inr left) same =
+no_size kept prefix rest digits suffix raise lowered raised size empty split below above (inr left) same =
     let shift = lowered - (raised + 6) in
     let sum : lowered ≡ shift + (raised + 6) = omega (arith, left.far) in
-    let longer : behind ≤ shift = omega (arith, left.far) in
-    let nothing : front ≡ 0 = empty left.none in
-    let none : front * 10 ^ behind ≡ 0 = ap (λ n. n * 10 ^ behind) nothing ∙ zero-mul (10 ^ behind) in
-    let power : 10 ^ behind ≤ 10 ^ shift = pow-le-pow_right (lit< tt) longer in
+    let longer : suffix ≤ shift = omega (arith, left.far) in
+    let nothing : prefix ≡ 0 = empty left.none in
+    let none : prefix * 10 ^ suffix ≡ 0 = ap (λ n. n * 10 ^ suffix) nothing ∙ zero-mul (10 ^ suffix) in
+    let power : 10 ^ suffix ≤ 10 ^ shift = pow-le-pow_right (lit< tt) longer in
     let zero_more : size * 10 ^ shift ≡ 0 * 10 ^ shift + rest = cancel size shift raised digits lowered sum same ∙ (omega (arith, zero-mul (10 ^ shift))) in
     between_multiples size 0 rest (10 ^ shift) zero_more (omega arith) above
 

@@ -1,4 +1,4 @@
--- A fraction in lowest terms is told by its value: Euclid's steps on both fractions at once.
+-- A fraction in lowest terms is determined by its value: Euclid's steps on both fractions at once.
 use Rattle.std.proofs.Common.{◌≡◌, ℕ, zero, suc, ◌+◌, ◌-◌, ◌*◌, ◌<◌, ◌≤◌, ℤ, pos, negsuc, ◌*ℤ◌, inl, inr, refl, sym, ap, ◌∙◌, subst, arith}
 use Rattle.std.proofs.Math.Nat.{one-dvd, dvd-sub_iff_left}
 use Rattle.std.proofs.lemmas.Bool.{cases_lt}
@@ -12,7 +12,7 @@ gcd_less : (a b : ℕ) → b ≤ a → IsGcd a b 1 → IsGcd (a - b) b 1
 gcd_less a b less greatest = (
   one-dvd (a - b),
   one-dvd b,
-  λ d front back. greatest.2 d ((dvd-sub_iff_left d less back).0 front) back,
+  λ d prefix back. greatest.2 d ((dvd-sub_iff_left d less back).0 prefix) back,
 )
 
 -- a value that isn't below 1 isn't so in other terms
@@ -23,9 +23,9 @@ no_less b more d less some same = grind arith
 at_least : (a b c d : ℕ) → b ≤ a → 0 < b → a * d ≡ c * b → d ≤ c
 at_least a b c d more some same = elim (cases_lt c d) [
   | inl less ↦
-      let front : b + (a - b) ≡ a = omega arith in
+      let prefix : b + (a - b) ≡ a = omega arith in
       let back : c + 1 + (d - c - 1) ≡ d = omega arith in
-      absurd (no_less b (a - b) c (d - c - 1) some (rw (front, back) same))
+      absurd (no_less b (a - b) c (d - c - 1) some (rw (prefix, back) same))
   | inr not_less ↦ omega arith
 ]
 
@@ -53,12 +53,12 @@ less_by_one : (a b c d : ℕ) → b ≤ a → AreOneNumber a b c d
     → AreOneNumber (a - b) b (c - d) d × (d ≤ c)
 less_by_one a b c d more are =
     let more' = at_least a b c d more are.some_b are.same in
-    let front : b + (a - b) ≡ a = omega arith in
+    let prefix : b + (a - b) ≡ a = omega arith in
     let back : d + (c - d) ≡ c = omega arith in (
       record {
         some_b = are.some_b;
         some_d = are.some_d;
-        same = cross_less b (a - b) d (c - d) (rw (front, back) are.same);
+        same = cross_less b (a - b) d (c - d) (rw (prefix, back) are.same);
         lowest = gcd_less a b more are.lowest;
         lowest' = gcd_less c d more' are.lowest';
       },
@@ -66,8 +66,8 @@ less_by_one a b c d more are =
     )
 
 -- the inverses of both are one number too
-turned : (a b c d : ℕ) → 0 < a → AreOneNumber a b c d → AreOneNumber b a d c
-turned a b c d some are = record {
+rotated : (a b c d : ℕ) → 0 < a → AreOneNumber a b c d → AreOneNumber b a d c
+rotated a b c d some are = record {
   some_b = some;
   some_d = some_factor a b c d some are.some_d are.same;
   same = let same = are.same in grind arith;
@@ -97,13 +97,13 @@ one_lowest (suc fuel) zero b c d within are =
 one_lowest (suc fuel) (suc a) b c d within are = elim (cases_lt (suc a) b) [
   | inl less ↦
       let (rest, more) = less_by_one b (suc a) d c (omega arith)
-      (turned (suc a) b c d (omega arith) are) in
-      let (back, front) = one_lowest fuel (b - suc a) (suc a) (d - c) c (omega arith) rest in
-      (front, omega arith)
+      (rotated (suc a) b c d (omega arith) are) in
+      let (back, prefix) = one_lowest fuel (b - suc a) (suc a) (d - c) c (omega arith) rest in
+      (prefix, omega arith)
   | inr not_less ↦
       let some = are.some_b in
       let (rest, more) = less_by_one (suc a) b c d (omega arith) are in
-      let (front, back) = one_lowest fuel (suc a - b) b (c - d) d (omega arith) rest in
+      let (prefix, back) = one_lowest fuel (suc a - b) b (c - d) d (omega arith) rest in
       (omega arith, back)
 ]
 
@@ -125,7 +125,7 @@ pub other_sign : (a d c b : ℕ) → 0 < b → pos a *ℤ pos d ≡ negsuc c *�
 other_sign a d c (suc b) some same = omega (arith, ints)
 other_sign a d c zero some same = omega arith
 
--- a fraction in lowest terms is told by its value
+-- a fraction in lowest terms is determined by its value
 pub one_fraction : (num den num' den' : ℤ) → IsLowest num den → IsLowest num' den'
     → num *ℤ den' ≡ num' *ℤ den → (num ≡ num') × (den ≡ den')
 one_fraction (pos a) (pos b) (pos c) (pos d) lowest lowest' same =

@@ -1,4 +1,4 @@
--- Numbers, fractions and quotients are told by how they are spelled.
+-- Numbers, fractions and quotients are determined by how they are spelled.
 use Rattle.std.proofs.Common.{◌≡◌, ◌≢◌, ◌<◌, ◌+◌, ◌/◌, ◌%◌, ◌^◌, ◌==◌, ℕ, suc, zero, ℤ, pos, negsuc, ◌*ℤ◌, ◌≤ℤ◌, nat_abs, Bool, true, false, cond, nat_lt, List, [], ◌∷◌, ◌++◌, drop, get_or, length, decimal, refl, sym, ap, ap₂, ◌∙◌, arith}
 use Rattle.std.specs.Fmt.{digits, digits_onto, digit_glyph, signed_decimal}
 use Rattle.std.specs.Int.RustNames.{int_div}
@@ -27,19 +27,19 @@ glyph_is digit = at (nat_lt digit 10)
     at false = omega arith
 
 -- the digits of a number
-digits_are : (most base number : ℕ) (behind : List ℕ) → AreDigits behind
-    → AreDigits (digits_onto most base false number behind)
-digits_are zero base number behind is = is
-digits_are (suc most) base number behind is =
+digits_are : (most base number : ℕ) (suffix : List ℕ) → AreDigits suffix
+    → AreDigits (digits_onto most base false number suffix)
+digits_are zero base number suffix is = is
+digits_are (suc most) base number suffix is =
     let digit = digit_glyph false (number % base) in
     at (number / base == 0) (glyph_is (number % base), is)
-    (digits_are most base (number / base) (digit ∷ behind) (glyph_is (number % base), is))
+    (digits_are most base (number / base) (digit ∷ suffix) (glyph_is (number % base), is))
   where
-    at : (last : Bool) → AreDigits (digit_glyph false (number % base) ∷ behind)
+    at : (last : Bool) → AreDigits (digit_glyph false (number % base) ∷ suffix)
         → AreDigits (digits_onto most base false (number / base)
-        (digit_glyph false (number % base) ∷ behind))
-        → AreDigits (cond last (digit_glyph false (number % base) ∷ behind)
-        (digits_onto most base false (number / base) (digit_glyph false (number % base) ∷ behind)))
+        (digit_glyph false (number % base) ∷ suffix))
+        → AreDigits (cond last (digit_glyph false (number % base) ∷ suffix)
+        (digits_onto most base false (number / base) (digit_glyph false (number % base) ∷ suffix)))
     at true here more = here
     at false here more = more
 
@@ -48,7 +48,7 @@ pub decimal_digits : (number : ℕ) → AreDigits (decimal number)
 unfolding digits
 decimal_digits number = digits_are 64 10 number [] tt
 
--- a natural number is told by its digits
+-- a natural number is determined by its digits
 pub one_decimal : (a b : ℕ) → a < 10 ^ 64 → b < 10 ^ 64 → decimal a ≡ decimal b → a ≡ b
 one_decimal a b small small' same =
     sym (decimal_is_IsNumeral_wide a small).1 ∙ ap (digits_value 10) same
@@ -60,7 +60,7 @@ no_minus [] more are same = omega (arith, ap (λ (b : List ℕ). get_or b 0 0) s
 no_minus (byte ∷ bytes) more are same =
     omega (arith, ap (λ (b : List ℕ). get_or b 0 0) same, are.0)
 
--- a number is told by its spelling
+-- a number is determined by its spelling
 pub one_number_text : (a b : ℤ) → nat_abs a < 10 ^ 64 → nat_abs b < 10 ^ 64
     → signed_decimal a ≡ signed_decimal b → a ≡ b
 one_number_text (pos a) (pos b) small small' same = ap pos (one_decimal a b small small' same)
@@ -90,29 +90,29 @@ no_slash (pos number) = digits_no_slash (decimal number) (decimal_digits number)
 no_slash (negsuc number) =
     (λ is. omega (arith, is), digits_no_slash (decimal (suc number)) (decimal_digits (suc number)))
 
--- the bytes before the first slash, and those behind it, are told by all
-pub one_split : (front front' back back' : List ℕ) → HasNoSlash front → HasNoSlash front'
-    → front ++ 47 ∷ back ≡ front' ++ 47 ∷ back' → (front ≡ front') × (back ≡ back')
+-- the bytes before the first slash, and those after it, are determined by all
+pub one_split : (prefix prefix' back back' : List ℕ) → HasNoSlash prefix → HasNoSlash prefix'
+    → prefix ++ 47 ∷ back ≡ prefix' ++ 47 ∷ back' → (prefix ≡ prefix') × (back ≡ back')
 one_split [] [] back back' none none' same = (refl, ap (λ (b : List ℕ). drop 1 b) same)
-one_split [] (byte ∷ front') back back' none none' same =
+one_split [] (byte ∷ prefix') back back' none none' same =
     absurd (none'.0 (sym (ap (λ (b : List ℕ). get_or b 0 0) same)))
-one_split (byte ∷ front) [] back back' none none' same =
+one_split (byte ∷ prefix) [] back back' none none' same =
     absurd (none.0 (ap (λ (b : List ℕ). get_or b 0 0) same))
-one_split (byte ∷ front) (byte' ∷ front') back back' none none' same =
-    let rest = one_split front front' back back' none.1 none'.1
+one_split (byte ∷ prefix) (byte' ∷ prefix') back back' none none' same =
+    let rest = one_split prefix prefix' back back' none.1 none'.1
     (ap (λ (b : List ℕ). drop 1 b) same) in
     (ap₂ (λ b bs. b ∷ bs) (ap (λ (b : List ℕ). get_or b 0 0) same) rest.0, rest.1)
 
 -- bytes with a slash aren't bytes without
-pub slash_differs : (bytes front back : List ℕ) → HasNoSlash bytes → bytes ≡ front ++ 47 ∷ back → ⊥
+pub slash_differs : (bytes prefix back : List ℕ) → HasNoSlash bytes → bytes ≡ prefix ++ 47 ∷ back → ⊥
 slash_differs [] [] back none same = omega (arith, ap (λ (b : List ℕ). get_or b 0 0) same)
-slash_differs [] (byte ∷ front) back none same = omega (arith, ap length same)
+slash_differs [] (byte ∷ prefix) back none same = omega (arith, ap length same)
 slash_differs (byte ∷ bytes) [] back none same =
     none.0 (ap (λ (b : List ℕ). get_or b 0 0) same)
-slash_differs (byte ∷ bytes) (byte' ∷ front) back none same =
-    slash_differs bytes front back none.1 (ap (λ (b : List ℕ). drop 1 b) same)
+slash_differs (byte ∷ bytes) (byte' ∷ prefix) back none same =
+    slash_differs bytes prefix back none.1 (ap (λ (b : List ℕ). drop 1 b) same)
 
--- a fraction is told by its spelling
+-- a fraction is determined by its spelling
 pub one_fraction_text : (num den num' den' : ℤ) → nat_abs num < 10 ^ 64 → nat_abs den < 10 ^ 64
     → nat_abs num' < 10 ^ 64 → nat_abs den' < 10 ^ 64
     → fraction_text num den ≡ fraction_text num' den' → (num ≡ num') × (den ≡ den')
@@ -170,7 +170,7 @@ same_over a b den num (pos low) some same same' =
     same_factor a b low (omega (arith, ints)) (sym same ∙ same')
 same_over a b den num (negsuc low) some same same' = absurd (omega (arith, ints))
 
--- over one divisor a number is told by the quotient's spelling
+-- over one divisor a number is determined by the quotient's spelling
 pub one_quotient_text : (a b den : ℤ) → pos 1 ≤ℤ den → nat_abs a < 10 ^ 64
     → nat_abs b < 10 ^ 64 → nat_abs den < 10 ^ 64
     → quotient_text a den ≡ quotient_text b den → a ≡ b

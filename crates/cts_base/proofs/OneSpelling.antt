@@ -57,16 +57,16 @@ pub one_quotient : (text : List ℕ) (num den num' den' : ℤ) → SpellsQuotien
     → SpellsQuotient text num' den' → (num ≡ num') × (den ≡ den')
 one_quotient text num den num' den' (inl one) (inl one') =
     (one_whole text num num' one.1 one'.1, one.0 ∙ sym one'.0)
-one_quotient text num den num' den' (inl one) (inr (some, (front, back, is, above, below))) =
-    absurd (slash_differs text front back (whole_no_slash text num one.1) is)
-one_quotient text num den num' den' (inr (some, (front, back, is, above, below))) (inl one') =
-    absurd (slash_differs text front back (whole_no_slash text num' one'.1) is)
+one_quotient text num den num' den' (inl one) (inr (some, (prefix, back, is, above, below))) =
+    absurd (slash_differs text prefix back (whole_no_slash text num one.1) is)
+one_quotient text num den num' den' (inr (some, (prefix, back, is, above, below))) (inl one') =
+    absurd (slash_differs text prefix back (whole_no_slash text num' one'.1) is)
 one_quotient text num den num' den' (inr (some, over)) (inr (some', over')) =
-    let (front, back, is, above, below) = over in
-    let (front', back', is', above', below') = over' in
-    let both = one_split front front' back back' (whole_no_slash front num above)
-    (whole_no_slash front' num' above') (sym is ∙ is') in (
-      one_whole front num num' above (subst (λ t. SpellsWhole t num') (sym both.0) above'),
+    let (prefix, back, is, above, below) = over in
+    let (prefix', back', is', above', below') = over' in
+    let both = one_split prefix prefix' back back' (whole_no_slash prefix num above)
+    (whole_no_slash prefix' num' above') (sym is ∙ is') in (
+      one_whole prefix num num' above (subst (λ t. SpellsWhole t num') (sym both.0) above'),
       one_whole back den den' below (subst (λ t. SpellsWhole t den') (sym both.1) below'),
     )
 
@@ -77,23 +77,23 @@ quotient_some text num den (inr over) = let some = over.0 in omega (arith, ints,
 
 -- ---- what std writes
 
--- digits behind a number don't make it less
+-- digits after a number don't make it less
 after_more : (n : ℕ) (ds : List ℕ) → n ≤ digits_value_after 10 n ds
 after_more n [] = omega arith
 after_more n (d ∷ ds) = omega (arith, after_more (n * 10 + digit_value d) ds)
 
--- the digits of a number above 0, and those behind them
+-- the digits of a number above 0, and those after them
 decimal_after : (n : ℕ) (ds : List ℕ) → 0 < n → AllDigits 10 ds
     → digits_value_after 10 n ds < 10 ^ 64 → decimal (digits_value_after 10 n ds) ≡ decimal n ++ ds
 decimal_after n [] some are small = sym (append-nil (decimal n))
 decimal_after n (d ∷ ds) some are small =
     let more : ℕ = n * 10 + digit_value d in
     let is = digit_value_digit d (digit_from_value d are.0) in
-    let front : more / 10 ≡ n = omega (arith, are.0) in
+    let prefix : more / 10 ≡ n = omega (arith, are.0) in
     let end : 48 + more % 10 ≡ d = omega (arith, are.0) in
     decimal_after more ds (omega arith) are.1 small
     ∙ ap (λ x. x ++ ds) (decimal_step_wide more (omega arith) (omega (arith, after_more more ds))
-    ∙ (λ i. decimal (front i) ++ (end i ∷ [])))
+    ∙ (λ i. decimal (prefix i) ++ (end i ∷ [])))
     ∙ append_assoc (decimal n) (d ∷ []) ds
 
 -- a digit that isn't 0 is above it
@@ -168,8 +168,8 @@ quotient_text_spelled text num den small small' spells = at (int_eq den (pos 1))
       where
         differ : true ≡ false → ⊥
         differ same = cc
-    at false is (inr (some, (front, back, split, above, below))) =
-        split ∙ ap₂ (λ a b. a ++ 47 ∷ b) (whole_text front num small above)
+    at false is (inr (some, (prefix, back, split, above, below))) =
+        split ∙ ap₂ (λ a b. a ++ 47 ∷ b) (whole_text prefix num small above)
         (whole_text back den small' below)
 
 -- and a fraction is spelled as a quotient is

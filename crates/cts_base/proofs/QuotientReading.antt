@@ -67,23 +67,23 @@ none_read text None some none = refl
 none_read text (Some quotient) some none = absurd (none some.0 some.1 some.2)
 
 -- two numbers with a slash between them
-pub read_split : (text front back : List ℕ) (r : Option Quotient) → text ≡ front ++ 47 ∷ back
-    → IfSome r (λ quotient. (above : ℤ) × (below : ℤ) × SpellsWhole front above
+pub read_split : (text prefix back : List ℕ) (r : Option Quotient) → text ≡ prefix ++ 47 ∷ back
+    → IfSome r (λ quotient. (above : ℤ) × (below : ℤ) × SpellsWhole prefix above
     × SpellsWhole back below × (pos 2 ≤ℤ below) × (quotient.num ≡ kept_size above)
     × (quotient.den ≡ kept_size below)) → IfSome r (IsQuotientRead text)
-read_split text front back None split read = tt
-read_split text front back (Some quotient) split (above, below, num, den, some, same, same') =
-    (above, below, inr (some, (front, back, split, num, den)), same, same')
+read_split text prefix back None split read = tt
+read_split text prefix back (Some quotient) split (above, below, num, den, some, same, same') =
+    (above, below, inr (some, (prefix, back, split, num, den)), same, same')
 
-pub none_split : (text front back : List ℕ) (r : Option Quotient) → text ≡ front ++ 47 ∷ back
-    → HasNoSlash front → (IsNone r → (above below : ℤ) → SpellsWhole front above
+pub none_split : (text prefix back : List ℕ) (r : Option Quotient) → text ≡ prefix ++ 47 ∷ back
+    → HasNoSlash prefix → (IsNone r → (above below : ℤ) → SpellsWhole prefix above
     → SpellsWhole back below → pos 2 ≤ℤ below → ⊥)
     → IsNone r → (num den : ℤ) → SpellsQuotient text num den → ⊥
-none_split text front back r split first none is num den (inl one) =
-    slash_differs text front back (whole_no_slash text num one.1) split
-none_split text front back r split first none is num den (inr (some, over)) =
-    let (front', back', split', above, below) = over in
-    let both = one_split front front' back back' first (whole_no_slash front' num above)
+none_split text prefix back r split first none is num den (inl one) =
+    slash_differs text prefix back (whole_no_slash text num one.1) split
+none_split text prefix back r split first none is num den (inr (some, over)) =
+    let (prefix', back', split', above, below) = over in
+    let both = one_split prefix prefix' back back' first (whole_no_slash prefix' num above)
     (sym split ∙ split') in
     none is num den (subst (λ t. SpellsWhole t num) (sym both.0) above)
     (subst (λ t. SpellsWhole t den) (sym both.1) below) some
@@ -100,8 +100,8 @@ pub none_one : (text : List ℕ) (r : Option Quotient) → HasNoSlash text
     → (IsNone r → (num : ℤ) → SpellsWhole text num → ⊥)
     → IsNone r → (num den : ℤ) → SpellsQuotient text num den → ⊥
 none_one text r first none is num den (inl one) = none is num one.1
-none_one text r first none is num den (inr (some, (front, back, split, above, below))) =
-    slash_differs text front back first split
+none_one text r first none is num den (inr (some, (prefix, back, split, above, below))) =
+    slash_differs text prefix back first split
 
 -- ---- numbers kept at the bound
 

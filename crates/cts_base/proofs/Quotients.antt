@@ -49,7 +49,7 @@ lowest_quotients num den (negsuc d) some positive greatest = absurd (omega (arit
 
 -- numbers divided by a common divisor have the products of the numbers crosswise
 cross : (divisor num den a b : ℕ) → divisor * num ≡ a → divisor * den ≡ b → num * b ≡ a * den
-cross divisor num den a b front back = rw (← front, ← back) (omega arith)
+cross divisor num den a b prefix back = rw (← prefix, ← back) (omega arith)
 
 -- the product of a number of 0 or less and one of 0 or more
 pub negative : (a b : ℕ) → neg_ℤ (pos a) *ℤ pos b ≡ neg_ℤ (pos (a * b))

@@ -34,13 +34,13 @@ number_step start ceiling ds i number digits within is =
     ∙ ap (λ n. min n ceiling) (sym (digits_value_after-push start (take i ds) (get_or ds i 0)))
     ∙ ap (λ s. min (digits_value_after 10 start s) ceiling) (sym (take_more ds i 0 within))
 
--- ---- digits behind digits
+-- ---- digits after digits
 
 pub digits_value_after-append : (n : ℕ) (xs ys : List ℕ) → digits_value_after 10 n (xs ++ ys) ≡ digits_value_after 10 (digits_value_after 10 n xs) ys
 digits_value_after-append n [] ys = refl
 digits_value_after-append n (x ∷ xs) ys = digits_value_after-append (n * 10 + digit_value x) xs ys
 
--- digits behind a number kept at a ceiling
+-- digits after a number kept at a ceiling
 pub capped_through : (ceiling number : ℕ) (ds : List ℕ) → min (digits_value_after 10 (min number ceiling) ds) ceiling ≡ min (digits_value_after 10 number ds) ceiling
 capped_through ceiling number [] = omega arith
 capped_through ceiling number (d ∷ ds) =
@@ -64,7 +64,7 @@ take-append n xs ys = at (cases_lt n (length xs)) where
       ∙ take-append-add xs ys (n - min n (length xs))
       ∙ ap (λ zs. zs ++ take (n - min n (length xs)) ys) (sym (take-length xs) ∙ ap (λ k. take k xs) first)
 
--- and what is behind them
+-- and what is after them
 drop-append : (n : ℕ) (xs ys : List ℕ) → drop n (xs ++ ys) ≡ drop (min n (length xs)) xs ++ drop (n - min n (length xs)) ys
 drop-append n xs ys = at (cases_lt n (length xs)) where
   at : (n < length xs) ⊎ (length xs ≤ n) → drop n (xs ++ ys) ≡ drop (min n (length xs)) xs ++ drop (n - min n (length xs)) ys
@@ -83,21 +83,21 @@ drop-append n xs ys = at (cases_lt n (length xs)) where
 -- the number that the first so many digits of two lists write, kept at a ceiling
 pub kept_value : (whole fraction : List ℕ) (kept ceiling first second : ℕ) → first ≡ min (digits_value 10 (take (min kept (length whole)) whole)) ceiling → second ≡ min (digits_value_after 10 first (take (kept - min kept (length whole)) fraction)) ceiling → second ≡ min (digits_value 10 (take kept (whole ++ fraction))) ceiling
 kept_value whole fraction kept ceiling first second first_is second_is =
-    let front = take (min kept (length whole)) whole in
+    let prefix = take (min kept (length whole)) whole in
     let back = take (kept - min kept (length whole)) fraction in
     second_is
     ∙ ap (λ n. min (digits_value_after 10 n back) ceiling) first_is
-    ∙ capped_through ceiling (digits_value 10 front) back
-    ∙ ap (λ n. min n ceiling) (sym (digits_value_after-append 0 front back))
+    ∙ capped_through ceiling (digits_value 10 prefix) back
+    ∙ ap (λ n. min n ceiling) (sym (digits_value_after-append 0 prefix back))
     ∙ ap (λ ds. min (digits_value 10 ds) ceiling) (sym (take-append kept whole fraction))
 
--- whether what is behind the first so many digits of two lists passes a test
+-- whether what is after the first so many digits of two lists passes a test
 pub rest_passes : (p : ℕ → Bool) (whole fraction : List ℕ) (kept : ℕ) → (list_all p (drop (min kept (length whole)) whole) && list_all p (drop (kept - min kept (length whole)) fraction)) ≡ list_all p (drop kept (whole ++ fraction))
 rest_passes p whole fraction kept =
     sym (list_all-append p (drop (min kept (length whole)) whole) (drop (kept - min kept (length whole)) fraction))
     ∙ ap (λ ds. list_all p ds) (sym (drop-append kept whole fraction))
 
--- digits stay digits in a part and behind one another
+-- digits stay digits in a part and after one another
 pub digits_of_take : (n : ℕ) (ds : List ℕ) → AllDigits 10 ds → AllDigits 10 (take n ds)
 digits_of_take zero ds digits = tt
 digits_of_take (suc n) [] digits = tt

@@ -1,5 +1,5 @@
 -- What the steps of reading a size in millionths say of the number's text.
-use Rattle.std.proofs.Common.{◌≡◌, ℕ, ◌+◌, ◌*◌, ◌-◌, ◌^◌, ◌<◌, ◌≤◌, min, ◌⊎◌, lit≤, Bool, true, false, cond, List, ◌++◌, length, take, drop, refl, sym, ap, subst, ◌∙◌, arith}
+use Rattle.std.proofs.Common.{◌≡◌, ℕ, ◌+◌, ◌*◌, ◌-◌, ◌^◌, ◌<◌, min, ◌⊎◌, lit≤, Bool, true, false, cond, List, ◌++◌, length, take, drop, refl, sym, ap, subst, ◌∙◌, arith}
 use Rattle.std.proofs.lemmas.Int.Digits.{digits_value-lt}
 use Rattle.std.proofs.lemmas.List.{length-append, length-drop}
 use Rattle.std.specs.List.{list_all}
@@ -11,22 +11,22 @@ use Rattle.cts_base.proofs.MicroLemmas.{digits_value-split, zeros_value, others_
 use Rattle.cts_base.proofs.ScaleLemmas.{digits_of_append, digits_of_drop}
 
 -- so many digits are kept
-pub record IsPlaced (text : List ℕ) (places kept : ℕ) : Type 0 where
+pub record IsPlacedIn (text : List ℕ) (places kept : ℕ) : Type 0 where
   pub places_is : places ≡ places_of (starts_with_minus (exponent text)) (length (whole_digits text)) (min (exponent_size text) 1267650600228229401496703205376)
   pub kept_is : kept ≡ min places (length (whole_digits text) + length (fraction_digits text))
 
-pub placed : (text whole fraction behind : List ℕ) (minus : Bool) (size places kept : ℕ) → whole ≡ whole_digits text → fraction ≡ fraction_digits text → behind ≡ exponent text → minus ≡ starts_with_minus behind → size ≡ min (digits_value 10 (without_leading_sign behind)) 1267650600228229401496703205376 → places ≡ cond minus (length whole + 6 - size) (length whole + 6 + size) → kept ≡ min places (length whole + length fraction) → IsPlaced text places kept
+pub placed : (text whole fraction suffix : List ℕ) (minus : Bool) (size places kept : ℕ) → whole ≡ whole_digits text → fraction ≡ fraction_digits text → suffix ≡ exponent text → minus ≡ starts_with_minus suffix → size ≡ min (digits_value 10 (without_leading_sign suffix)) 1267650600228229401496703205376 → places ≡ cond minus (length whole + 6 - size) (length whole + 6 + size) → kept ≡ min places (length whole + length fraction) → IsPlacedIn text places kept
 unfolding exponent_size
-placed text whole fraction behind minus size places kept whole_is fraction_is behind_is minus_is size_is places_is kept_is =
-    let sign : minus ≡ starts_with_minus (exponent text) = minus_is ∙ ap starts_with_minus behind_is in
-    let cut : size ≡ min (exponent_size text) 1267650600228229401496703205376 = size_is ∙ ap (λ e. min (digits_value 10 (without_leading_sign e)) 1267650600228229401496703205376) behind_is in
+placed text whole fraction suffix minus size places kept whole_is fraction_is after_is minus_is size_is places_is kept_is =
+    let sign : minus ≡ starts_with_minus (exponent text) = minus_is ∙ ap starts_with_minus after_is in
+    let cut : size ≡ min (exponent_size text) 1267650600228229401496703205376 = size_is ∙ ap (λ e. min (digits_value 10 (without_leading_sign e)) 1267650600228229401496703205376) after_is in
     record {
       places_is = places_is ∙ (λ i. places_of (sign i) (length (whole_is i)) (cut i));
       kept_is = kept_is ∙ (λ i. min places (length (whole_is i) + length (fraction_is i)));
     }
 
 -- the place of the millionths by the exact exponent
-exact_kept : (text : List ℕ) (places kept : ℕ) → length text < 2 ^ 64 → IsPlaced text places kept → kept ≡ min (places_of (starts_with_minus (exponent text)) (length (whole_digits text)) (exponent_size text)) (length (whole_digits text) + length (fraction_digits text))
+exact_kept : (text : List ℕ) (places kept : ℕ) → length text < 2 ^ 64 → IsPlacedIn text places kept → kept ≡ min (places_of (starts_with_minus (exponent text)) (length (whole_digits text)) (exponent_size text)) (length (whole_digits text) + length (fraction_digits text))
 exact_kept text places kept short place =
     place.kept_is
     ∙ ap (λ p. min p (length (whole_digits text) + length (fraction_digits text))) place.places_is
@@ -36,7 +36,7 @@ exact_kept text places kept short place =
 raise_of : List ℕ → ℕ → ℕ
 raise_of text kept = places_of (starts_with_minus (exponent text)) (length (whole_digits text)) (exponent_size text) - kept
 
-shape_of : (text : List ℕ) (places kept : ℕ) → length text < 2 ^ 64 → IsPlaced text places kept → IsAligned (length (drop kept (whole_digits text ++ fraction_digits text))) (raise_of text kept) (lowered text) (raised text) ⊎ IsLeft kept (length (drop kept (whole_digits text ++ fraction_digits text))) (raise_of text kept) (lowered text) (raised text)
+shape_of : (text : List ℕ) (places kept : ℕ) → length text < 2 ^ 64 → IsPlacedIn text places kept → IsAligned (length (drop kept (whole_digits text ++ fraction_digits text))) (raise_of text kept) (lowered text) (raised text) ⊎ IsLeft kept (length (drop kept (whole_digits text ++ fraction_digits text))) (raise_of text kept) (lowered text) (raised text)
 unfolding raise_of lowered raised
 shape_of text places kept short place =
     let whole = whole_digits text in
@@ -47,18 +47,18 @@ shape_of text places kept short place =
     refl refl refl
 
 -- nothing kept is 0
-empty_front : (ds : List ℕ) (kept : ℕ) → kept ≡ 0 → digits_value 10 (take kept ds) ≡ 0
-empty_front ds kept none = ap (λ k. digits_value 10 (take k ds)) none
+empty_prefix : (ds : List ℕ) (kept : ℕ) → kept ≡ 0 → digits_value 10 (take kept ds) ≡ 0
+empty_prefix ds kept none = ap (λ k. digits_value 10 (take k ds)) none
 
--- where there is more than zeros behind, the value is no multiple of a millionth
-pub too_fine : (text : List ℕ) (places kept : ℕ) → length text < 2 ^ 64 → IsDecimal text → IsPlaced text places kept → list_all is_zero (drop kept (whole_digits text ++ fraction_digits text)) ≡ false → (size : ℕ) → IsMicrosSize text size → ⊥
+-- where there is more than zeros after, the value is no multiple of a millionth
+pub too_fine : (text : List ℕ) (places kept : ℕ) → length text < 2 ^ 64 → IsDecimal text → IsPlacedIn text places kept → list_all is_zero (drop kept (whole_digits text ++ fraction_digits text)) ≡ false → (size : ℕ) → IsMicrosSize text size → ⊥
 unfolding digits
 too_fine text places kept short decimal place more size same =
     let ds = whole_digits text ++ fraction_digits text in
     let rest = drop kept ds in
     let rest_digits = digits_of_drop kept ds (digits_of_append (whole_digits text) (fraction_digits text) decimal.whole decimal.fraction) in
     no_size kept (digits_value 10 (take kept ds)) (digits_value 10 rest) (digits_value 10 ds) (length rest) (raise_of text kept) (lowered text) (raised text) size
-    (empty_front ds kept) (digits_value-split kept ds) (digits_value-lt 10 rest rest_digits) (others_value rest rest_digits more) (shape_of text places kept short place) same
+    (empty_prefix ds kept) (digits_value-split kept ds) (digits_value-lt 10 rest rest_digits) (others_value rest rest_digits more) (shape_of text places kept short place) same
 
 -- and else what is kept, raised, is the size, up to a ceiling
 pub record IsSizeUpTo (text : List ℕ) (ceiling size : ℕ) : Type 0 where
@@ -66,11 +66,11 @@ pub record IsSizeUpTo (text : List ℕ) (ceiling size : ℕ) : Type 0 where
   pub value : IsMicrosSize text exact
   pub kept : size ≡ min exact ceiling
 
-pub size_up_to : (text : List ℕ) (places kept number size : ℕ) → length text < 2 ^ 64 → IsPlaced text places kept → list_all is_zero (drop kept (whole_digits text ++ fraction_digits text)) ≡ true → number ≡ min (digits_value 10 (take kept (whole_digits text ++ fraction_digits text))) 1000000000000001 → size ≡ min (number * 10 ^ (places - kept)) 1000000000000001 → IsSizeUpTo text 1000000000000001 size
+pub size_up_to : (text : List ℕ) (places kept number size : ℕ) → length text < 2 ^ 64 → IsPlacedIn text places kept → list_all is_zero (drop kept (whole_digits text ++ fraction_digits text)) ≡ true → number ≡ min (digits_value 10 (take kept (whole_digits text ++ fraction_digits text))) 1000000000000001 → size ≡ min (number * 10 ^ (places - kept)) 1000000000000001 → IsSizeUpTo text 1000000000000001 size
 unfolding digits raise_of
 size_up_to text places kept number size short place zeros number_is size_is_min =
     let ds = whole_digits text ++ fraction_digits text in
-    let front = digits_value 10 (take kept ds) in
+    let prefix = digits_value 10 (take kept ds) in
     let whole = length (whole_digits text) in
     let fraction = length (fraction_digits text) in
     let minus = starts_with_minus (exponent text) in
@@ -81,13 +81,13 @@ size_up_to text places kept number size short place zeros number_is size_is_min 
     ∙ raise_cut minus whole fraction (exponent_size text) fits
     ∙ (λ i. min (places_of minus whole (exponent_size text) - sym exact i) 16) in
     record {
-      exact = front * 10 ^ raise_of text kept;
-      value = size_is kept front (digits_value 10 (drop kept ds)) (digits_value 10 ds) (length (drop kept ds)) (raise_of text kept) (lowered text) (raised text)
-          (empty_front ds kept) (digits_value-split kept ds) (zeros_value (drop kept ds) zeros) (shape_of text places kept short place);
+      exact = prefix * 10 ^ raise_of text kept;
+      value = size_is kept prefix (digits_value 10 (drop kept ds)) (digits_value 10 ds) (length (drop kept ds)) (raise_of text kept) (lowered text) (raised text)
+          (empty_prefix ds kept) (digits_value-split kept ds) (zeros_value (drop kept ds) zeros) (shape_of text places kept short place);
       kept =
           size_is_min
           ∙ ap (λ n. min (n * 10 ^ (places - kept)) 1000000000000001) number_is
-          ∙ raised_cut front (places - kept) (raise_of text kept) 1000000000000001 (lit≤ tt) same;
+          ∙ raised_cut prefix (places - kept) (raise_of text kept) 1000000000000001 (lit≤ tt) same;
     }
 
 -- a size below the ceiling is exact

@@ -1,4 +1,4 @@
--- What is read of a whole number's text, behind its sign or without one.
+-- What is read of a whole number's text, after its sign or without one.
 use Rattle.std.proofs.Common.{◌≡◌, ◌≤◌, ◌^◌, ℕ, suc, zero, min, ℤ, pos, negsuc, neg_ℤ, true, false, Option, Some, None, IfSome, IsNone, List, drop, refl, sym, ◌∙◌, arith}
 use Rattle.std.specs.Str.Parse.{digits_value, starts_with_minus}
 use Rattle.cts_base.specs.NumberTexts.{IsPlainNumeral, SpellsWhole, kept_size}
@@ -14,7 +14,7 @@ pub none_read : (text : List ℕ) (r : Option ℤ) → IfSome r (IsWholeRead tex
 none_read text None some none = refl
 none_read text (Some number) some none = absurd (none some.0 some.1)
 
--- behind a minus
+-- after a minus
 pub read_below : (text : List ℕ) (r : Option ℤ) → starts_with_minus text ≡ true
     → IfSome r (λ number. IsPlainNumeral (drop 1 text) × (1 ≤ digits_value 10 (drop 1 text))
     × (number ≡ neg_ℤ (pos (min (digits_value 10 (drop 1 text)) (10 ^ 37)))))

@@ -8,11 +8,11 @@ use Rattle.cts_base.specs.Words.{is_blank, is_not_blank, is_not_empty, words_of}
 use Rattle.cts_base.proofs.Places.{place_of_Some, place_of_None, slice_split-cut, slice_split-whole, drop-one_more, drop-cons_then}
 use Rattle.std.proofs.Math.ListN.{drop_of_length-le}
 
--- a blank in front makes no word
+-- a blank before makes no word
 words_of-blank : (byte : ℕ) (line : List ℕ) → is_blank byte ≡ true → words_of (byte ∷ line) ≡ words_of line
 words_of-blank byte line blank = rw blank refl
 
--- blanks in front make no word
+-- blanks before make no word
 words_of-after : (line : List ℕ) → words_of (drop (position_or_len is_not_blank line) line) ≡ words_of line
 words_of-after [] = refl
 words_of-after (byte ∷ line) = at (words_of-after line) (is_blank byte) refl

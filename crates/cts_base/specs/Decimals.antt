@@ -16,11 +16,11 @@ is_point byte = byte == 46
 abbrev pub is_zero : ℕ → Bool
 is_zero byte = byte == 48
 
--- the byte `e` or `E`, behind which the exponent stands
+-- the byte `e` or `E`, after which the exponent stands
 abbrev pub is_exponent_mark : ℕ → Bool
 is_exponent_mark byte = (byte == 101) || (byte == 69)
 
--- what stands between the sign and the exponent's mark, and what stands behind that mark
+-- what stands between the sign and the exponent's mark, and what stands after that mark
 abbrev pub coefficient : List ℕ → List ℕ
 coefficient text = before_first is_exponent_mark (without_leading_sign text)
 
@@ -39,7 +39,7 @@ pub record IsDecimal (text : List ℕ) : Type 0 where
   pub whole : AllDigits 10 (whole_digits text)
   pub fraction : AllDigits 10 (fraction_digits text)
   pub some_digit : 0 < length (whole_digits text) + length (fraction_digits text)
-  -- where there is a mark, digits stand behind it
+  -- where there is a mark, digits stand after it
   pub exponent_digits : length (coefficient text) < length (without_leading_sign text)
       → IsNumeral 10 (without_leading_sign (exponent text))
 
@@ -88,10 +88,10 @@ pub record IsRead (text : List ℕ) (micros : ℤ) : Type 0 where
   pub within : IsWithinLimit text
 
 -- why a text is refused
-abbrev pub Refuses : List ℕ → NumberFault → Type 0
-Refuses text NotNumber = ¬ (IsDecimal text)
-Refuses text TooFine = IsDecimal text × ¬ (IsFineEnough text)
-Refuses text TooLarge = IsDecimal text × IsFineEnough text × IsAboveLimit text
+abbrev pub RefusesNumber : List ℕ → NumberFault → Type 0
+RefusesNumber text NotNumber = ¬ (IsDecimal text)
+RefusesNumber text TooFine = IsDecimal text × ¬ (IsFineEnough text)
+RefusesNumber text TooLarge = IsDecimal text × IsFineEnough text × IsAboveLimit text
 
 -- why the size of a number is refused
 abbrev pub RefusesSize : List ℕ → NumberFault → Type 0

@@ -15,7 +15,7 @@ pub record IsLowest (num den : ℤ) : Type 0 where
   pub some_den : pos 1 ≤ℤ den
   pub coprime : IsGcd (nat_abs num) (nat_abs den) 1
 
--- the bytes of a fraction: the numerator, and behind a `/` the denominator unless it is 1
+-- the bytes of a fraction: the numerator, and after a `/` the denominator unless it is 1
 abbrev pub fraction_text : (num den : ℤ) → List ℕ
 fraction_text num den =
     if int_eq den (pos 1) then signed_decimal num

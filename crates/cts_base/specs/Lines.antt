@@ -19,11 +19,11 @@ without_empty_last (part ∷ next ∷ more) = part ∷ without_empty_last (next 
 abbrev pub lines_of : List ℕ → List (List ℕ)
 lines_of text = map strip_carriage_return (without_empty_last (slice_split is_line_feed text))
 
--- each line behind its number; the first line has the number 1
+-- each line after its number; the first line has the number 1
 abbrev pub numbered_lines : List ℕ → List (ℕ × List ℕ)
 numbered_lines text = enumerate_from 1 (lines_of text)
 
--- the line of this number, behind these lines
+-- the line of this number, after these lines
 pub record IsLine (text : List ℕ) (number : ℕ) (earlier : List (List ℕ)) (line : List ℕ)
     : Type 0 where
   pub later : List (List ℕ)

@@ -1,5 +1,5 @@
 -- Whole numbers, quotients and fractions as this project's own texts spell them: `0`, `-13`,
--- `3/2`. Texts may be of any length, so the digits are told by the number that they write: std's
+-- `3/2`. Texts may be of any length, so the digits are determined by the number that they write: std's
 -- `decimal` keeps the last 64 digits. The forms are this project's choice.
 use Rattle.std.specs.Prelude.{◌≡◌, ℕ, suc, ◌^◌, min, Bool, ◌==◌, IsTrue, ◌⊎◌, List, ◌∷◌, ◌++◌, length, drop, slice_index, ℤ, pos, negsuc, neg_ℤ, ◌≤ℤ◌}
 use Rattle.std.specs.Str.Parse.{IsNumeral, digits_value, starts_with_minus}
@@ -19,7 +19,7 @@ IsPlainNumeral digits = IsNumeral 10 digits × (slice_index digits 0 ≡ 48 → 
 abbrev pub SpellsSize : List ℕ → ℕ → Type 0
 SpellsSize digits number = IsPlainNumeral digits × (digits_value 10 digits ≡ number)
 
--- the text spells this whole number: its digits, behind a `-` where it is below 0
+-- the text spells this whole number: its digits, after a `-` where it is below 0
 abbrev pub SpellsWhole : List ℕ → ℤ → Type 0
 SpellsWhole text (pos number) = SpellsSize text number
 SpellsWhole text (negsuc less) =
@@ -28,7 +28,7 @@ SpellsWhole text (negsuc less) =
 -- the text spells both numbers, with a `/` between them
 abbrev pub SpellsOver : List ℕ → (num den : ℤ) → Type 0
 SpellsOver text num den =
-    (front : List ℕ) × (back : List ℕ) × (text ≡ front ++ 47 ∷ back) × SpellsWhole front num
+    (prefix : List ℕ) × (back : List ℕ) × (text ≡ prefix ++ 47 ∷ back) × SpellsWhole prefix num
     × SpellsWhole back den
 
 -- the text has the form of a quotient of these, whether or not in lowest terms: `n`, or `n/d`

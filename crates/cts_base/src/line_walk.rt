@@ -15,7 +15,7 @@ pub struct Line<'a> {
     pub text: &'a [u8],
 }
 
-/// The lines of a text that are left, in order, each behind its number.
+/// The lines of a text that are left, in order, each after its number.
 #[derive(Drop)]
 pub struct Lines<'a> {
     number: u32,

@@ -94,7 +94,7 @@ impl<T> Listed<T> {
         self.items[at] = item;
     }
 
-    /// Drops all items but so many at the front. It takes no memory.
+    /// Drops all items but so many at the start. It takes no memory.
     pub fn truncate(&mut self, len: usize)
     where
         T: Drop,

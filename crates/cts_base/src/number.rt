@@ -1,6 +1,6 @@
 ghost use Rattle.std.specs.Prelude.{◌≡◌, ◌^◌, ◌≤◌, ◌↔◌, ℤ, pos, neg_ℤ, if◌then◌else◌, IfOk, length, MatchResult};
 ghost use Rattle.std.specs.Result.{IsErrOf};
-ghost use Rattle.cts_base.specs.Decimals.{IsDecimal, IsRead, IsFineEnough, IsAboveLimit, Refuses};
+ghost use Rattle.cts_base.specs.Decimals.{IsDecimal, IsRead, IsFineEnough, IsAboveLimit, RefusesNumber};
 
 use crate::number::parts::{begins_with_minus, is_decimal};
 use crate::number::size::size_of;
@@ -38,7 +38,7 @@ pub fn read_micro(text: &[u8]) -> Result<i64, NumberFault>
 }
 
 fn judged(text: &[u8]) -> Result<i64, NumberFault>
-    ensures { MatchResult result (IsRead text.now) (Refuses text.now) }
+    ensures { MatchResult result (IsRead text.now) (RefusesNumber text.now) }
 {
     if !is_decimal(text) {
         return Err(NumberFault::NotNumber);

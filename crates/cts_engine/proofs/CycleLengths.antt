@@ -98,7 +98,7 @@ launched_within circuit from number launches =
     at None missing none = absurd none
     at (Some found) here one = at_signal found (slice_get circuit.signals found) refl one
 
--- so are the gates behind it
+-- so are the gates after it
 gates_within : (circuit : Circuit) (first : ℕ) (gates : List ℕ) (last : ℕ)
     → Follows circuit.signals first gates last → All (λ n. n < length circuit.signals) gates
 gates_within circuit first [] last follows = All-nil (λ n. n < length circuit.signals)

@@ -42,8 +42,8 @@ small_pairs circuit tech pairs are from to path joins =
 -- ends of a path by other names
 renamed : (circuit : Circuit) (from from' to to' : ℕ) (path : List ℕ) → from ≡ from' → to ≡ to'
     → IsPath circuit from to path → IsPath circuit from' to' path
-renamed circuit from from' to to' path front back =
-    subst (λ f. IsPath circuit from to path → IsPath circuit f to' path) front
+renamed circuit from from' to to' path prefix back =
+    subst (λ f. IsPath circuit from to path → IsPath circuit f to' path) prefix
     (subst (λ t. IsPath circuit from to path → IsPath circuit from t path) back (λ joins. joins))
 
 module _ {circuit : Circuit} {tech : Tech} (small : HasSmallPairs circuit tech) where
@@ -131,7 +131,7 @@ module _ {circuit : Circuit} {tech : Tech} (small : HasSmallPairs circuit tech) 
           below = omega (arith, ints, more, none, launch, capture, range.small);
         }
 
-    -- what it spares behind its edge
+    -- what it spares after its edge
     hold_below : (to : ℕ) (least : ℤ)
         → IsLeastSpare circuit (hold_spare circuit tech (nat_abs period.den) (arrival_of at)) to
         least → IsBelow (10 ^ 20) least

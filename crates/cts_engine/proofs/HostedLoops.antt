@@ -36,7 +36,7 @@ reads_bare signals outputs gate read reads =
           let here : slice_get signals gate ≡ Some signal =
           slice_get-get_or signals gate signal before ∙ ap (λ s. Some s) same in
           rw here reads
-      | inr behind ↦
+      | inr suffix ↦
           let within = slice_get_within (signals ++ host_signal outputs ∷ []) gate signal found in
           let last : gate ≡ length signals =
           omega (arith, length_push signals (host_signal outputs)) in

@@ -1,4 +1,4 @@
--- A placement tells one place for each register and one for the source: no two of its lines place
+-- A placement denotes one place for each register and one for the source: no two of its lines place
 -- the same wanted node, and a number is read in one way.
 use Rattle.std.proofs.Common.{◌≡◌, ◌≤◌, ◌^◌, ◌/◌, lit<, ℕ, suc, ℤ, pos, negsuc, nat_abs, ◌≤ℤ◌, Bool, true, false, ◌||◌, IsTrue, IsFalse, MatchBool, List, [], ◌∷◌, ◌++◌, Contains, Option, Some, None, inl, inr, refl, sym, ap, ◌∙◌, subst, true≢false, append-nil, arith}
 use Rattle.std.specs.List.{cons_option}
@@ -16,7 +16,7 @@ use Rattle.cts_base.specs.Lines.{lines_of}
 use Rattle.cts_model.specs.declared.circuit.Circuit.{Circuit}
 use Rattle.cts_model.specs.declared.place.Places.{Places}
 use Rattle.cts_model.specs.declared.place.Point.{Point}
-use Rattle.cts_model.specs.PlaceLines.{Node, Entry, Blank, Header, Stands, entry_behind, entry_of_words, has_begun, is_not_blank, place_words}
+use Rattle.cts_model.specs.PlaceLines.{Node, Entry, Blank, Header, Stands, entry_after, entry_of_words, has_begun, is_not_blank, place_words}
 use Rattle.cts_model.specs.Placements.{Flaw, HasEntryFlaw, HasFlaw, HasNodeFlaw, AreFlawless, AcceptsPlacement, StandsAt, StandAt, is_among, is_placed, nodes_from, nodes_in, placed_by, register_nodes, wanted_nodes}
 
 -- ---- numbers
@@ -45,7 +45,7 @@ one_of_sign true (negsuc m) (pos n) same below above below' above' =
 one_of_sign false (negsuc m) (pos n) same below above below' above' =
     let high = above refl in absurd (omega (arith, ints))
 
--- so a text tells one number
+-- so a text denotes one number
 one_number : (text : List ℕ) (a b : ℤ) → IsRead text a → IsRead text b → a ≡ b
 one_number text a b read read' =
     one_of_sign (starts_with_minus text) a b
@@ -93,8 +93,8 @@ once_push wanted nodes node once new a b has has' wants same =
 -- with one more line, in which nothing is wrong
 once_line : (wanted earlier : List (List ℕ)) (line : List ℕ) → AreOnce wanted (nodes_in earlier)
     → HasFlaw wanted earlier line None
-    → AreOnce wanted (nodes_in earlier ++ cons_option (placed_by (entry_behind earlier line)) [])
-once_line wanted earlier line once fine = at (entry_behind earlier line) fine
+    → AreOnce wanted (nodes_in earlier ++ cons_option (placed_by (entry_after earlier line)) [])
+once_line wanted earlier line once fine = at (entry_after earlier line) fine
   where
     unchanged : AreOnce wanted (nodes_in earlier ++ [])
     unchanged = subst (AreOnce wanted) (sym (append-nil (nodes_in earlier))) once
@@ -110,13 +110,13 @@ once_line wanted earlier line once fine = at (entry_behind earlier line) fine
         (HasNodeFlaw node (is_placed (nodes_in earlier) node.name) None)
         (◌≡◌ {A = Option Flaw} None None)) among fine).2)
 
--- an item in front of a list in two parts
+-- an item before a list in two parts
 cons_option-append : {X : Type 0} (o : Option X) (xs ys : List X)
     → cons_option o (xs ++ ys) ≡ cons_option o xs ++ ys
 cons_option-append None xs ys = refl
 cons_option-append (Some x) xs ys = refl
 
--- the nodes of lines and of more lines behind them
+-- the nodes of lines and of more lines after them
 nodes_from-append : (begun : Bool) (lines more : List (List ℕ))
     → nodes_from begun (lines ++ more)
     ≡ nodes_from begun lines ++ nodes_from (begun || has_begun lines) more
@@ -188,7 +188,7 @@ module _ (wanted : List (List ℕ)) (nodes : List Node) (once : AreOnce wanted n
       (λ n has. wants n (suc has.0, omega (arith, has.1), has.2)) stand.1 stand'.1 in
       λ i. first i ∷ rest i
 
--- the places that a placement tells
+-- the places that a placement denotes
 pub one_places : (text : List ℕ) (circuit : Circuit) (source host : List ℕ)
     (places other : Places) → AcceptsPlacement text circuit source host places
     → AcceptsPlacement text circuit source host other → places ≡ other

@@ -15,7 +15,7 @@ use Rattle.cts_model.specs.UsedKinds.{AreUsedKinds}
 use Rattle.cts_model.proofs.OneRecord.{same_circuit, one_use}
 use Rattle.bench_reader.proofs.OneFault.{no_fault}
 use Rattle.delay_tables.specs.declared.fault.TechFault.{TechFault}
-use Rattle.delay_tables.specs.Refusals.{Refuses}
+use Rattle.delay_tables.specs.Refusals.{RefusesTable}
 use Rattle.delay_tables.proofs.OneFault.{not_refused}
 use Rattle.delay_tables.proofs.OneTable.{one_table}
 use Rattle.place_reader.specs.declared.fault.PlaceFault.{PlaceFault}
@@ -28,7 +28,7 @@ use Rattle.cts_engine.proofs.OnePlaces.{one_places}
 
 -- ---- one circuit and one table
 
--- a netlist tells one circuit
+-- a netlist denotes one circuit
 pub one_netlist : (bytes : List ℕ) (circuit other : Circuit) → AcceptsNetlist bytes circuit
     → AcceptsNetlist bytes other → circuit ≡ other
 one_netlist bytes circuit other accepts accepts' =
@@ -117,21 +117,21 @@ pub table_fine : (netlist table : List ℕ) (fault : TechFault) → IsTableOf ne
 table_fine netlist table fault accepted has =
     let used = one_use (signals_of netlist) has.used accepted.used has.kinds accepted.kinds in
     has.named (not_refused accepted.used table fault accepted.table
-    (subst (λ u. Refuses u table fault) used has.cause))
+    (subst (λ u. RefusesTable u table fault) used has.cause))
 
 module _ (netlist table placement : List ℕ) where
   -- three texts tell one problem
   pub one_problem : (problem other : Problem) → TellAll netlist table placement problem
       → TellAll netlist table placement other → problem ≡ other
-  one_problem problem other tells tells' =
+  one_problem problem other denotes denotes' =
       let (circuit, tech) = one_both netlist table other.circuit problem.circuit other.tech
-      problem.tech tells'.tell tells.tell in
+      problem.tech denotes'.tell denotes.tell in
       let placed = subst (λ t. AcceptsPlacement placement problem.circuit t.source t.host
       other.places) tech (subst (λ c. AcceptsPlacement placement c other.tech.source other.tech.host
-      other.places) circuit tells'.places) in
+      other.places) circuit denotes'.places) in
       same_problem problem other (sym circuit) (sym tech)
       (one_places placement problem.circuit problem.tech.source problem.tech.host problem.places
-      other.places tells.places placed)
+      other.places denotes.places placed)
 
   -- nor has a placement that is accepted
   pub placement_fine : (fault : PlaceFault) → IsPlacementOf netlist table placement
@@ -139,8 +139,8 @@ module _ (netlist table placement : List ℕ) where
   placement_fine fault accepted has =
       let (circuit, tech) = one_both netlist table has.circuit accepted.circuit has.tech
       accepted.tech has.tell accepted.tell in
-      let cause = subst (λ t. placements.Refuses placement accepted.circuit t.source t.host fault)
-      tech (subst (λ c. placements.Refuses placement c has.tech.source has.tech.host fault)
+      let cause = subst (λ t. placements.RefusesPlacement placement accepted.circuit t.source t.host fault)
+      tech (subst (λ c. placements.RefusesPlacement placement c has.tech.source has.tech.host fault)
       circuit has.cause) in
       has.named (placement_faults.no_fault placement accepted.circuit accepted.tech.source
       accepted.tech.host fault accepted.placement cause)
@@ -148,28 +148,28 @@ module _ (netlist table placement : List ℕ) where
   -- nor have texts that tell a problem a refusal
   unrefused : (problem : Problem) → TellAll netlist table placement problem → (refusal : Refusal)
       → IsRefusal netlist table placement refusal → refusal ≡ refusals.NoMemory
-  unrefused problem tells (refusals.Bench fault) has =
-      absurd (has.named (no_fault netlist fault tells.tell.accepts.netlist has.cause))
-  unrefused problem tells (refusals.Tech fault) (accepted, has) =
-      let tell = tells.tell in
+  unrefused problem denotes (refusals.Bench fault) has =
+      absurd (has.named (no_fault netlist fault denotes.tell.accepts.netlist has.cause))
+  unrefused problem denotes (refusals.Tech fault) (accepted, has) =
+      let tell = denotes.tell in
       absurd (table_fine netlist table fault (table_accepted netlist table tell.bare problem.tech
       tell.used tell.accepts tell.kinds tell.accepts_table) has)
-  unrefused problem tells (refusals.Places fault) (accepted, accepted', has) =
+  unrefused problem denotes (refusals.Places fault) (accepted, accepted', has) =
       absurd (placement_fine fault (record {
         circuit = problem.circuit;
         tech = problem.tech;
-        tell = tells.tell;
-        placement = tells.places.placement;
+        tell = denotes.tell;
+        placement = denotes.places.placement;
       }) has)
-  unrefused problem tells refusals.NoMemory any = refl
+  unrefused problem denotes refusals.NoMemory any = refl
 
   -- so an answer that is right on them is their problem, or want of memory
-  pub told_alone : (result : Result Problem Refusal)
+  pub denoted_alone : (result : Result Problem Refusal)
       → IfOk result (TellAll netlist table placement)
       → IfErr result (IsRefusal netlist table placement)
       → (problem : Problem) → TellAll netlist table placement problem
       → (result ≡ Ok problem) ⊎ (result ≡ Err refusals.NoMemory)
-  told_alone (Ok other) told cause problem tells =
-      inl (ap (λ p. Ok p) (one_problem other problem told tells))
-  told_alone (Err refusal) told cause problem tells =
-      inr (ap (λ r. Err r) (unrefused problem tells refusal cause))
+  denoted_alone (Ok other) denoted cause problem denotes =
+      inl (ap (λ p. Ok p) (one_problem other problem denoted denotes))
+  denoted_alone (Err refusal) denoted cause problem denotes =
+      inr (ap (λ r. Err r) (unrefused problem denotes refusal cause))

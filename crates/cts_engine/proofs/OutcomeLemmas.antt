@@ -18,7 +18,7 @@ use Rattle.cts_model.specs.LeastPeriods.{IsFloorPeriod, IsForbidding, HasNoPerio
 use Rattle.cts_model.proofs.CircuitConstraints.{forbidding_at_all}
 use Rattle.cts_engine.specs.declared.period.PeriodOutcome.{PeriodOutcome}
 use Rattle.cts_engine.specs.declared.period.PeriodOutcome.TheVariants.{Found, Never}
-use Rattle.cts_engine.specs.Outcomes.{IsFound, IsPeriodOutcome, IsNever, AreConstraintsOf}
+use Rattle.cts_engine.specs.Outcomes.{IsFound, IsPeriodOutcome, IsNeverOutcome, AreConstraintsOf}
 use Rattle.critical_cycle.specs.CyclePlaces.{constraints_at}
 use Rattle.critical_cycle.specs.Periods.{IsShownPeriod, IsForbidden}
 use Rattle.cts_engine.proofs.PlaceLemmas.{All-constraints_at}
@@ -94,7 +94,7 @@ module _ {circuit : Circuit} {tech : Tech} {constraints : List Constraint}
 
 -- the outcome is that no period will do exactly where none is admitted
 pub never_exactly : (circuit : Circuit) (tech : Tech) (outcome : PeriodOutcome)
-    → IsPeriodOutcome circuit tech outcome → IsNever outcome ↔ HasNoPeriod circuit tech
+    → IsPeriodOutcome circuit tech outcome → IsNeverOutcome outcome ↔ HasNoPeriod circuit tech
 never_exactly circuit tech (Found zero_skew period shown) found = (
   λ never. absurd never,
   λ none. absurd (none (nat_abs period.den) period.num found.least.proper found.least.admitted),

@@ -12,7 +12,7 @@ use Rattle.critical_cycle.specs.CyclePlaces.{AreWithin, constraints_at}
 unread : Constraint
 unread = record { setup = false; tail = 0; head = 0; weight = pos 0 }
 
--- the constraint at the next place comes behind those at the places before
+-- the constraint at the next place comes after those at the places before
 pub constraints_at_more : (constraints : List Constraint) (places : List ℕ) (at start : ℕ)
     → (next : Constraint) → at < length places → AreWithin constraints places
     → constraints_at constraints (take (at + 1) places)

@@ -20,14 +20,14 @@ use Rattle.cts_engine.proofs.OneProblem.{table_accepted}
 
 module _ (netlist table : List ℕ) where
   -- a netlist that isn't read
-  pub bench_refused : (fault : BenchFault) → netlists.Refuses netlist fault
+  pub bench_refused : (fault : BenchFault) → netlists.RefusesNetlist netlist fault
       → IsCircuitRefusal netlist table (bench_refusal_of fault)
   bench_refused bench.NoMemory cause = tt
   bench_refused fault cause = record { named = λ e. cc e; cause = cause }
 
-  -- a table that isn't, behind a netlist that tells this circuit
+  -- a table that isn't, after a netlist that denotes this circuit
   pub tech_refused : (circuit : Circuit) → AcceptsNetlist netlist circuit → (used : List Bool)
-      → AreUsedKinds circuit.signals used → (fault : TechFault) → tables.Refuses used table fault
+      → AreUsedKinds circuit.signals used → (fault : TechFault) → tables.RefusesTable used table fault
       → IsCircuitRefusal netlist table (tech_refusal_of fault)
   tech_refused circuit accepts used kinds tech.NoMemory cause = tt
   tech_refused circuit accepts used kinds fault cause = (
@@ -49,10 +49,10 @@ module _ (netlist table : List ℕ) where
     circuit_refused (refusals.Places fault) cause = absurd cause
     circuit_refused refusals.NoMemory cause = cause
 
-    -- a placement that isn't read, behind a netlist and a table that tell this circuit
+    -- a placement that isn't read, after a netlist and a table that tell this circuit
     pub places_refused : (circuit : Circuit) (tech : Tech) → TellBoth netlist table circuit tech
         → (fault : PlaceFault)
-        → placements.Refuses placement circuit tech.source tech.host fault
+        → placements.RefusesPlacement placement circuit tech.source tech.host fault
         → IsRefusal netlist table placement (places_refusal_of fault)
     places_refused circuit tech tell place.NoMemory cause = tt
     places_refused circuit tech tell fault cause = (

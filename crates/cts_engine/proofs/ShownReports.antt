@@ -26,7 +26,7 @@ use Rattle.cts_model.specs.Embeddings.{Embedding, embedding_of}
 use Rattle.cts_model.specs.Judgements.{GivesPeriod, HasShape, HoldsTogether, IsGivenPath, IsOfCircuit, IsReachShown, IsSkewed}
 use Rattle.cts_model.specs.Leads.{IsLead, ShowsEarliest, lead_at}
 use Rattle.cts_model.specs.LeastPeriods.{IsPeriodShow}
-use Rattle.cts_model.specs.Points.{turned}
+use Rattle.cts_model.specs.Points.{rotated}
 use Rattle.cts_model.specs.Shown.{AtEach, IsShown, IsShownLeast, IsShownTiming, IsShownTree, cycle_of}
 use Rattle.cts_model.specs.ShownReaches.{ShowsMerge, ShowsSource}
 use Rattle.cts_model.specs.Topologies.{IsTopology, numbers_below, root_of}
@@ -161,7 +161,7 @@ module _ {sinks : List Sink} {merges : List Merge} {source : Uv} {tree : Tree} {
     sink_stands = IfSome_then (slice_get sinks node) (placed.embedded.sinks_stand node)
         (λ sink stands. stands ∙ sym (scaled-once sink.at));
     joins = λ place merge is here. topology.each place merge here;
-    source_stands = λ is. ap (λ n. turned (embedding.place n)) is
+    source_stands = λ is. ap (λ n. rotated (embedding.place n)) is
         ∙ placed.embedded.source_stands ∙ sym (scaled-once source);
   }
 

@@ -7,7 +7,7 @@ use Rattle.std.proofs.lemmas.Option.{get_or_from_slice_get}
 use Rattle.cts_base.specs.declared.fraction.Fraction.{Fraction}
 use Rattle.cts_model.specs.declared.place.Point.{Point}
 use Rattle.cts_model.specs.declared.tech.Tech.{Tech}
-use Rattle.cts_model.specs.Points.{IsMultipleOf, IsPointBelow, IsUvBelow, IsUvMultipleOf, turned}
+use Rattle.cts_model.specs.Points.{IsMultipleOf, IsPointBelow, IsUvBelow, IsUvMultipleOf, rotated}
 use Rattle.cts_model.specs.Problems.{on_grid, scheduled_length, sink_of, sinks_of, steps_of_micro}
 use Rattle.cts_model.specs.Schedules.{IsSmallPeriod, arrival_of}
 use Rattle.cts_model.specs.Sinks.{AreTreeSinks, IsTreeSink}
@@ -35,9 +35,9 @@ minus_eighths a w is = omega (arith, ints)
 eight_last : (den num : ℕ) → 8 * den * num ≡ den * num * 8
 eight_last den num = grind arith
 
--- a point below a bound has turned coordinates below its double
-turned_below : (point : Point) → IsPointBelow (10 ^ 26) point → IsUvBelow (10 ^ 31) (turned point)
-turned_below point below =
+-- a point below a bound has rotated coordinates below its double
+rotated_below : (point : Point) → IsPointBelow (10 ^ 26) point → IsUvBelow (10 ^ 31) (rotated point)
+rotated_below point below =
     let x = below.x in
     let y = below.y in
     record {
@@ -64,9 +64,9 @@ module _ (period : Fraction) (tech : Tech) where
             ∙ scale-finer (den * num) 8 coordinate,
       )
 
-  -- so turned coordinates are multiples of 8
-  turned_multiple : (point : Point) → IsUvMultipleOf 8 (turned (on_grid period tech point))
-  turned_multiple point =
+  -- so rotated coordinates are multiples of 8
+  rotated_multiple : (point : Point) → IsUvMultipleOf 8 (rotated (on_grid period tech point))
+  rotated_multiple point =
       let (x, x_is) = coordinate_of_eighths point.x in
       let (y, y_is) = coordinate_of_eighths point.y in
       record {
@@ -90,11 +90,11 @@ module _ (period : Fraction) (tech : Tech) where
   module _ (small : IsSmallPeriod period) where
     -- the source
     pub tree_source : (point : Point) → IsPointBelow 1000000000000001 point
-        → IsTreeSource (turned (on_grid period tech point))
+        → IsTreeSource (rotated (on_grid period tech point))
     tree_source point near = record {
-      below = turned_below (on_grid period tech point)
+      below = rotated_below (on_grid period tech point)
           (on_grid_below period tech small point near);
-      multiple = turned_multiple point;
+      multiple = rotated_multiple point;
     }
 
     -- a register

@@ -19,14 +19,14 @@ use Rattle.cts_model.specs.declared.tree.Tree.{Tree}
 use Rattle.cts_model.specs.declared.tree.Wire.{Wire}
 use Rattle.cts_model.specs.Embeddings.{embedding_of}
 use Rattle.cts_model.specs.GreedyMerges.{IsGreedy}
-use Rattle.cts_model.specs.Points.{IsBelow, IsMultipleOf, IsPointBelow, IsUvBelow, IsUvMultipleOf, apart, distance, turned}
+use Rattle.cts_model.specs.Points.{IsBelow, IsMultipleOf, IsPointBelow, IsUvBelow, IsUvMultipleOf, apart, distance, rotated}
 use Rattle.cts_model.specs.Problems.{scheduled_length, sinks_of}
 use Rattle.cts_model.specs.ReportBounds.{IsMergeShow, IsSmallMerge, IsSmallWire, IsSourceShow, ShowsAmong}
 use Rattle.cts_model.specs.Schedules.{arrival_of}
 use Rattle.cts_model.specs.ShownReaches.{AreShown, AreShownBy, ShowsMerge, ShowsSource}
 use Rattle.cts_model.specs.Topologies.{IsParent, IsTopology, numbers_below, root_of, source_of}
 use Rattle.cts_model.proofs.ParentLemmas.{parent_above, parent_stands}
-use Rattle.cts_model.proofs.PointLemmas.{distance-turned}
+use Rattle.cts_model.proofs.PointLemmas.{distance-rotated}
 use Rattle.cts_model.proofs.SkewLemmas.{sink_at}
 use Rattle.cts_model.proofs.TopologyLemmas.{first_made, second_made, some_and}
 use Rattle.cts_engine.specs.ClockTrees.{AreTreeLists}
@@ -37,8 +37,8 @@ use Rattle.cts_engine.proofs.DrawLemmas.{root_parent}
 
 -- ---- plain points
 
--- a point by its turned coordinates
-point_below : (point : Point) → IsUvBelow (5 * 10 ^ 31) (turned point)
+-- a point by its rotated coordinates
+point_below : (point : Point) → IsUvBelow (5 * 10 ^ 31) (rotated point)
     → IsPointBelow (5 * 10 ^ 31) point
 point_below point below =
     let u = below.u in
@@ -61,12 +61,12 @@ apart_of_quarters a b first second = either_of_quarters (a -ℤ b) (b -ℤ a)
     (difference_of_quarters a b first second) (difference_of_quarters b a second first)
 
 -- and so is a distance
-distance_multiple : (a b : Point) → IsUvMultipleOf 4 (turned a) → IsUvMultipleOf 4 (turned b)
+distance_multiple : (a b : Point) → IsUvMultipleOf 4 (rotated a) → IsUvMultipleOf 4 (rotated b)
     → IsMultipleOf 4 (distance a b)
-distance_multiple a b first second = subst (IsMultipleOf 4) (sym (distance-turned a b))
-    (either_of_quarters (apart (turned a).u (turned b).u) (apart (turned a).v (turned b).v)
-    (apart_of_quarters (turned a).u (turned b).u first.u second.u)
-    (apart_of_quarters (turned a).v (turned b).v first.v second.v))
+distance_multiple a b first second = subst (IsMultipleOf 4) (sym (distance-rotated a b))
+    (either_of_quarters (apart (rotated a).u (rotated b).u) (apart (rotated a).v (rotated b).v)
+    (apart_of_quarters (rotated a).u (rotated b).u first.u second.u)
+    (apart_of_quarters (rotated a).v (rotated b).v first.v second.v))
 
 -- ---- topologies
 

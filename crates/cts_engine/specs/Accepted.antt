@@ -57,14 +57,14 @@ pub record IsPlacementOf (netlist table text : List ℕ) : Type 0 where
 -- the netlist has this fault
 pub record HasFault (bytes : List ℕ) (fault : BenchFault) : Type 0 where
   pub named : fault ≢ bench.NoMemory
-  pub cause : netlists.Refuses bytes fault
+  pub cause : netlists.RefusesNetlist bytes fault
 
 -- the table of a netlist has this fault
 pub record HasTableFault (netlist bytes : List ℕ) (fault : TechFault) : Type 0 where
   pub named : fault ≢ tech.NoMemory
   pub used : List Bool
   pub kinds : AreUsedKinds (signals_of netlist) used
-  pub cause : tables.Refuses used bytes fault
+  pub cause : tables.RefusesTable used bytes fault
 
 -- the placement of what a netlist and a delay table tell has this fault
 pub record HasPlacesFault (netlist table bytes : List ℕ) (fault : PlaceFault) : Type 0 where
@@ -72,7 +72,7 @@ pub record HasPlacesFault (netlist table bytes : List ℕ) (fault : PlaceFault) 
   pub circuit : Circuit
   pub tech : Tech
   pub tell : TellBoth netlist table circuit tech
-  pub cause : placements.Refuses bytes circuit tech.source tech.host fault
+  pub cause : placements.RefusesPlacement bytes circuit tech.source tech.host fault
 
 -- the refusal where the netlist, the table or the placement isn't read
 abbrev pub bench_refusal_of : BenchFault → Refusal

@@ -35,9 +35,9 @@ IsPeriodOutcome circuit tech (Found zero period shown) = IsFound circuit tech ze
 IsPeriodOutcome circuit tech (Never cycle) = IsForbidding circuit tech cycle
 
 -- the outcome is that no period will do
-abbrev pub IsNever : PeriodOutcome → Type 0
-IsNever (Found zero period shown) = ⊥
-IsNever (Never cycle) = Unit {0}
+abbrev pub IsNeverOutcome : PeriodOutcome → Type 0
+IsNeverOutcome (Found zero period shown) = ⊥
+IsNeverOutcome (Never cycle) = Unit {0}
 
 -- the pair that the least period without skew names, if any, has small delays
 abbrev pub HasSmallZero : PeriodOutcome → Type 0

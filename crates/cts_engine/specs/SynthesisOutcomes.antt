@@ -21,9 +21,9 @@ IsShownOutcome problem (Done report) = IsShown problem report
 IsShownOutcome problem (Never cycle) = Unit {0}
 
 -- the outcome is that no period will do
-abbrev pub IsNever : Outcome → Type 0
-IsNever (Done report) = ⊥
-IsNever (Never cycle) = Unit {0}
+abbrev pub IsNeverOutcome : Outcome → Type 0
+IsNeverOutcome (Done report) = ⊥
+IsNeverOutcome (Never cycle) = Unit {0}
 
 -- the cycle that shows a period, if one does, begins at its lowest register
 abbrev pub ShowsFromLowest : PeriodShow → Type 0

@@ -1,4 +1,4 @@
--- The parts of a tree's report, as they come one behind the other.
+-- The parts of a tree's report, as they come one after the other.
 use Rattle.std.specs.Prelude.{◌≡◌, ◌<◌, ◌*◌, ◌^◌, ℕ, ℤ, pos, ◌≤ℤ◌, ◌<ℤ◌, List, length, take, slice_set}
 use Rattle.cts_model.specs.declared.place.Point.{Point}
 use Rattle.cts_model.specs.declared.tree.Merge.{Merge}

@@ -15,13 +15,13 @@ use std::alloc::Global;
 
 /// A circuit, with the host where it has one, and its delays.
 #[derive(Debug, Drop)]
-pub struct Told {
+pub struct Denoted {
     pub circuit: Circuit,
     pub tech: Tech,
 }
 
 /// The problem that a netlist, a delay table and a placement tell. They are judged in this order,
-/// and none behind the first that is refused.
+/// and none after the first that is refused.
 pub fn accept(alloc: Global, bench: &[u8], tech: &[u8], places: &[u8]) -> Result<Problem, Refusal>
     requires bench { length bench.now ≤ 16777216 }
     requires places { length places.now ≤ 16777216 }
@@ -31,17 +31,22 @@ pub fn accept(alloc: Global, bench: &[u8], tech: &[u8], places: &[u8]) -> Result
     ensures accepted { (problem : Problem) → TellAll bench.now tech.now places.now problem
         → (result ≡ Ok problem) ⊎ (result ≡ Err Refusal.NoMemory) }
 {
-    problem_told(alloc, bench, tech, places)
+    problem_denoted(alloc, bench, tech, places)
 }
 
 // The problem, or the first refusal.
-fn problem_told(alloc: Global, bench: &[u8], tech: &[u8], places: &[u8]) -> Result<Problem, Refusal>
+fn problem_denoted(
+    alloc: Global,
+    bench: &[u8],
+    tech: &[u8],
+    places: &[u8],
+) -> Result<Problem, Refusal>
     requires bench { length bench.now ≤ 16777216 }
     requires places { length places.now ≤ 16777216 }
     ensures ok { IfOk result (TellAll bench.now tech.now places.now) }
     ensures cause { IfErr result (IsRefusal bench.now tech.now places.now) }
 {
-    let Told { circuit, tech } = accept_circuit(alloc, bench, tech)?;
+    let Denoted { circuit, tech } = accept_circuit(alloc, bench, tech)?;
     let places = read_places(
         alloc,
         places,
@@ -57,18 +62,18 @@ fn problem_told(alloc: Global, bench: &[u8], tech: &[u8], places: &[u8]) -> Resu
 }
 
 /// What a netlist and a delay table tell, without the places. The netlist is judged first.
-pub fn accept_circuit(alloc: Global, bench: &[u8], tech: &[u8]) -> Result<Told, Refusal>
+pub fn accept_circuit(alloc: Global, bench: &[u8], tech: &[u8]) -> Result<Denoted, Refusal>
     requires { length bench.now ≤ 16777216 }
-    ensures ok { IfOk result (λ told. TellBoth bench.now tech.now told.circuit told.tech) }
-    ensures kinds { IfOk result (λ told. GivesUsedKinds told.circuit told.tech) }
-    ensures host { IfOk result (λ told.
-        IsTrue (has_host told.circuit.signals) ↔ (told.tech.host ≢ [])) }
+    ensures ok { IfOk result (λ denoted. TellBoth bench.now tech.now denoted.circuit denoted.tech) }
+    ensures kinds { IfOk result (λ denoted. GivesUsedKinds denoted.circuit denoted.tech) }
+    ensures host { IfOk result (λ denoted.
+        IsTrue (has_host denoted.circuit.signals) ↔ (denoted.tech.host ≢ [])) }
     ensures cause { IfErr result (IsCircuitRefusal bench.now tech.now) }
 {
     let bare = read_bench(alloc, bench)?;
     let tech = read_tech(alloc, tech, &used_kinds(&bare))?;
     let circuit = hosted(alloc, bare, &tech)?;
-    Ok(Told { circuit, tech })
+    Ok(Denoted { circuit, tech })
 }
 
 /// The circuit with the host, where the table gives it a place.

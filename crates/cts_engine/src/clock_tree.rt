@@ -1,14 +1,14 @@
 ghost use Rattle.std.specs.Prelude.{◌≡◌, IfOk, length};
-ghost use Rattle.cts_model.specs.Points.{turned};
+ghost use Rattle.cts_model.specs.Points.{rotated};
 ghost use Rattle.cts_model.specs.Problems.{on_grid, sinks_of};
 ghost use Rattle.cts_model.specs.Schedules.{IsSmallPeriod};
 ghost use Rattle.cts_model.specs.Sinks.{AreTreeSinks};
 ghost use Rattle.cts_model.specs.Topologies.{IsTopology};
-ghost use Rattle.cts_engine.specs.ClockTrees.{IsClockTree, IsPlaced};
+ghost use Rattle.cts_engine.specs.ClockTrees.{IsClockTree, IsPlacedTree};
 ghost use Rattle.place_down.specs.Trees.{IsTreeSource};
 ghost use Rattle.cts_engine.specs.RegisterTimes.{AreTreeArrivals};
 
-use crate::sinks::{sinks_of, turned_on_grid};
+use crate::sinks::{rotated_on_grid, sinks_of};
 use crate::wires::{total_of, wires_of};
 use cts_base::{Fraction, Listed, NoMemory};
 use cts_model::{Problem, Schedule, Show, Sink, Topology, Tree, Uv, Wire};
@@ -39,11 +39,11 @@ pub(crate) fn tree_for(
     requires arrivals { AreTreeArrivals schedule.now.at }
     ensures { IfOk result (IsClockTree
         (sinks_of period problem.now.tech problem.now.places.registers schedule.now.at)
-        (turned (on_grid period problem.now.tech problem.now.places.source))) }
+        (rotated (on_grid period problem.now.tech problem.now.places.source))) }
 {
     let places = problem.places.registers.as_slice();
     let sinks = sinks_of(alloc, period, &problem.tech, places, schedule.at.as_slice())?;
-    let source = turned_on_grid(period, &problem.tech, problem.places.source);
+    let source = rotated_on_grid(period, &problem.tech, problem.places.source);
     tree_over(alloc, sinks.as_slice(), source)
 }
 
@@ -76,7 +76,7 @@ fn placed(
     requires sinks { AreTreeSinks sinks.now }
     requires topology { IsTopology (length sinks.now) topology.now.merges }
     requires source { IsTreeSource source }
-    ensures { IfOk result (λ parts. IsPlaced sinks.now topology.now.merges source parts.0 parts.1) }
+    ensures { IfOk result (λ parts. IsPlacedTree sinks.now topology.now.merges source parts.0 parts.1) }
 {
     let mut work = Work::with_room(alloc, sinks.len())?;
     merge(&mut work, sinks, topology);

@@ -15,7 +15,7 @@ mod times;
 mod wires;
 mod zero;
 
-pub use acceptance::{Told, accept, accept_circuit, hosted};
+pub use acceptance::{Denoted, accept, accept_circuit, hosted};
 pub use fault::SynthFault;
 pub use period::{PeriodOutcome, period_of};
 pub use refusals::Refusal;

@@ -8,7 +8,7 @@ ghost use Rattle.critical_cycle.specs.CyclePlaces.{AreWithin, constraints_at};
 ghost use Rattle.critical_cycle.specs.Periods.{HasSmallValue, IsPeriodOf};
 ghost use Rattle.path_delays.specs.LevelParts.{IsLevelsOf};
 ghost use Rattle.cts_engine.specs.Faults.{IsCaused};
-ghost use Rattle.cts_engine.specs.Outcomes.{AreConstraintsOf, BeginsLowest, HasSmallPeriod, HasSmallZero, IsNever, IsPeriodOutcome, IsTiming};
+ghost use Rattle.cts_engine.specs.Outcomes.{AreConstraintsOf, BeginsLowest, HasSmallPeriod, HasSmallZero, IsNeverOutcome, IsPeriodOutcome, IsTiming};
 
 use crate::SynthFault;
 use crate::pairs::{levels_of, pairs_of};
@@ -43,7 +43,7 @@ pub fn period_of(alloc: Global, circuit: &Circuit, tech: &Tech) -> Result<Period
     ensures ok { IfOk result (IsPeriodOutcome circuit.now tech.now) }
     ensures lowest { IfOk result BeginsLowest }
     ensures small { IfOk result HasSmallZero }
-    ensures never { IfOk result (λ outcome. IsNever outcome ↔ HasNoPeriod circuit.now tech.now) }
+    ensures never { IfOk result (λ outcome. IsNeverOutcome outcome ↔ HasNoPeriod circuit.now tech.now) }
     ensures few { IfOk result (λ _. JoinsMoreThan circuit.now 1048576 → ⊥) }
     ensures many { IfErr result (IsCaused circuit.now) }
 {

@@ -3,7 +3,7 @@ ghost use Rattle.cts_model.specs.LeastPeriods.{HasNoPeriod};
 ghost use Rattle.cts_model.specs.PairLists.{JoinsMoreThan};
 ghost use Rattle.cts_model.specs.Paths.{IsLoop};
 ghost use Rattle.cts_engine.specs.Faults.{IsCaused};
-ghost use Rattle.cts_engine.specs.Outcomes.{BeginsLowest, IsNever};
+ghost use Rattle.cts_engine.specs.Outcomes.{BeginsLowest, IsNeverOutcome};
 ghost use Rattle.cts_engine.specs.ScheduleOutcomes.{HasSmallTimes, IsScheduleOutcome, period_outcome};
 
 use crate::SynthFault;
@@ -47,7 +47,7 @@ pub fn schedule_of(
     ensures lowest { IfOk result (λ outcome. BeginsLowest (period_outcome outcome)) }
     ensures small { IfOk result HasSmallTimes }
     ensures never { IfOk result (λ outcome.
-        IsNever (period_outcome outcome) ↔ HasNoPeriod circuit.now tech.now) }
+        IsNeverOutcome (period_outcome outcome) ↔ HasNoPeriod circuit.now tech.now) }
     ensures few { IfOk result (λ _. JoinsMoreThan circuit.now 1048576 → ⊥) }
     ensures many { IfErr result (IsCaused circuit.now) }
 {

@@ -1,5 +1,5 @@
 ghost use Rattle.std.specs.Prelude.{◌≡◌, ◌≤◌, ◌^◌, ◌*ℤ◌, All, IfOk, length, unsigned_abs};
-ghost use Rattle.cts_model.specs.Points.{IsBelow, IsPointBelow, turned};
+ghost use Rattle.cts_model.specs.Points.{IsBelow, IsPointBelow, rotated};
 ghost use Rattle.cts_model.specs.Problems.{grid_of, on_grid, scheduled_length, sink_of, sinks_of, steps_of_micro};
 ghost use Rattle.cts_model.specs.Schedules.{IsSmallPeriod};
 
@@ -37,16 +37,16 @@ fn sink_of(period: Fraction, tech: &Tech, place: Point, arrival: i128) -> Sink
     ensures { result ≡ sink_of period tech.now place arrival }
 {
     Sink {
-        at: turned_on_grid(period, tech, place),
+        at: rotated_on_grid(period, tech, place),
         offset: -scheduled_length(tech, arrival),
     }
 }
 
-/// A given point in grid steps, in turned coordinates.
-pub(crate) fn turned_on_grid(period: Fraction, tech: &Tech, point: Point) -> Uv
+/// A given point in grid steps, in rotated coordinates.
+pub(crate) fn rotated_on_grid(period: Fraction, tech: &Tech, point: Point) -> Uv
     requires period { IsSmallPeriod period }
     requires near { IsPointBelow 1000000000000001 point }
-    ensures { result ≡ turned (on_grid period tech.now point) }
+    ensures { result ≡ rotated (on_grid period tech.now point) }
 {
     to_uv(on_grid(period, tech, point))
 }

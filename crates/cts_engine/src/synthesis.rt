@@ -5,7 +5,7 @@ ghost use Rattle.path_delays.specs.LevelParts.{IsLevelsOf};
 ghost use Rattle.cts_engine.specs.Faults.{IsCaused};
 ghost use Rattle.cts_engine.specs.RegisterTimes.{HasLeastPeriod};
 ghost use Rattle.cts_engine.specs.Syntheses.{IsReportOf};
-ghost use Rattle.cts_engine.specs.SynthesisOutcomes.{BeginsLowest, IsNever, IsOutcome, IsShownOutcome};
+ghost use Rattle.cts_engine.specs.SynthesisOutcomes.{BeginsLowest, IsNeverOutcome, IsOutcome, IsShownOutcome};
 
 use crate::SynthFault;
 use crate::clock_tree::tree_for;
@@ -35,7 +35,7 @@ pub fn synthesize(alloc: Global, problem: &Problem) -> Result<Outcome, SynthFaul
     ensures shown { IfOk result (IsShownOutcome problem.now) }
     ensures lowest { IfOk result BeginsLowest }
     ensures never { IfOk result (λ outcome.
-        IsNever outcome ↔ HasNoPeriod problem.now.circuit problem.now.tech) }
+        IsNeverOutcome outcome ↔ HasNoPeriod problem.now.circuit problem.now.tech) }
     ensures few { IfOk result (λ _. JoinsMoreThan problem.now.circuit 1048576 → ⊥) }
     ensures many { IfErr result (IsCaused problem.now.circuit) }
 {

@@ -20,38 +20,38 @@ module _ {S A : Type 0} (Call : S → Result A Error → S → Type 0) where
       let more : calls + 1 ≡ suc calls = omega arith in
       rw more (before, answer, earlier, call, interrupted)
 
-  module _ {T : Type 0} (Tells : Result A Error → T → Type 0) where
-    -- the last call tells, which no signal interrupted
-    pub told_at_last : (calls : ℕ) (first before last : S) (answer : Result A Error) (told : T)
-        → AreInterrupted Call calls first before → Call before answer last → Tells answer told
-        → (IsInterrupted answer → ⊥) → Tried Call Tells first told last
-    told_at_last calls first before last answer told earlier call tells settled = record {
+  module _ {T : Type 0} (Denotes : Result A Error → T → Type 0) where
+    -- the last call gives, which no signal interrupted
+    pub denoted_at_last : (calls : ℕ) (first before last : S) (answer : Result A Error) (denoted : T)
+        → AreInterrupted Call calls first before → Call before answer last → Denotes answer denoted
+        → (IsInterrupted answer → ⊥) → Tried Call Denotes first denoted last
+    denoted_at_last calls first before last answer denoted earlier call denotes settled = record {
       calls = calls;
       before = before;
       interrupted = earlier;
       answer = answer;
       call = call;
-      tells = tells;
+      denotes = denotes;
       over = λ interrupted. absurd (settled interrupted);
     }
 
-    -- all calls were interrupted, and what the last of them tells is told
-    pub told_at_the_limit : (calls : ℕ) (first last : S) (told : T)
+    -- all calls were interrupted, and what the last of them gives is answered
+    pub denoted_at_the_limit : (calls : ℕ) (first last : S) (denoted : T)
         → AreInterrupted Call calls first last → calls ≡ 2 ^ 64 - 1
-        → ((error : Error) → error_kind error ≡ Interrupted → Tells (Err error) told)
-        → Tried Call Tells first told last
+        → ((error : Error) → error_kind error ≡ Interrupted → Denotes (Err error) denoted)
+        → Tried Call Denotes first denoted last
     unfolding AreInterrupted
-    told_at_the_limit zero first last told earlier limit tells = absurd (omega arith)
-    told_at_the_limit (suc calls) first last told earlier limit tells = record {
+    denoted_at_the_limit zero first last denoted earlier limit denotes = absurd (omega arith)
+    denoted_at_the_limit (suc calls) first last denoted earlier limit denotes = record {
       calls = calls;
       before = earlier.0;
       interrupted = earlier.2;
       answer = earlier.1;
       call = earlier.3;
-      tells = last_tells earlier.1 earlier.4;
+      denotes = last_denotes earlier.1 earlier.4;
       over = λ _. omega arith;
     }
       where
-        last_tells : (answer : Result A Error) → IsInterrupted answer → Tells answer told
-        last_tells (Ok value) interrupted = absurd interrupted
-        last_tells (Err error) interrupted = tells error interrupted
+        last_denotes : (answer : Result A Error) → IsInterrupted answer → Denotes answer denoted
+        last_denotes (Ok value) interrupted = absurd interrupted
+        last_denotes (Err error) interrupted = denotes error interrupted

@@ -4,16 +4,16 @@ use Rattle.std.proofs.lemmas.List.{take-append-drop}
 use Rattle.std.proofs.Math.Seq.{take-append_seam, drop-append-add}
 use Rattle.cts_io.specs.Device.{Rose, appended, WritesPrefix, Takes}
 
--- a count that rose last has risen since any earlier time
+-- a count that rose last has rose since any earlier time
 pub Rose-since : (before between now : ℕ) → before ≤ between → Rose between now → Rose before now
 Rose-since before between now later rose = omega arith
 
 -- two pieces at the end are one
-pub appended-appended : (told : Option (List ℕ)) (first next : List ℕ) → appended (appended told first) next ≡ appended told (first ++ next)
+pub appended-appended : (denoted : Option (List ℕ)) (first next : List ℕ) → appended (appended denoted first) next ≡ appended denoted (first ++ next)
 appended-appended None first next = refl
 appended-appended (Some bytes) first next = ap (λ all. Some all) (append_assoc bytes first next)
 
--- a front of the rest moves behind what is done
+-- a prefix of the rest moves after what is done
 pub append-moved : (all done rest : List ℕ) (n : ℕ) → all ≡ done ++ rest → all ≡ (done ++ take n rest) ++ drop n rest
 append-moved all done rest n parts = rw append_assoc (rw take-append-drop parts)
 
@@ -30,7 +30,7 @@ pub Takes-next : (held taken rest buffer now : List ℕ) (n : ℕ) (after : Opti
 Takes-next held taken rest buffer now n after parts takes grown =
     (drop n rest, takes.rest, rw (grown, takes.given) (append-moved held taken rest n parts))
 
--- a take that comes to this many bytes in all leaves what stands behind them
+-- a take that comes to this many bytes in all leaves what stands after them
 pub Takes-leaves : (held taken rest buffer : List ℕ) (n sum : ℕ) (after : Option (List ℕ))
     → held ≡ taken ++ rest → Takes rest n buffer after → length taken + n ≡ sum
     → after ≡ Some (drop sum held)

@@ -2,8 +2,8 @@
 use Rattle.std.specs.Prelude.{ℕ, List, Option, None}
 
 -- nothing, since nobody knows them
-abbrev pub untold : Option (List ℕ)
-untold = None
+abbrev pub absent : Option (List ℕ)
+absent = None
 
 -- a stream, and the count of its faults
 pub record Counted (S : Type 0) : Type 0 where

@@ -20,7 +20,7 @@ is_refused sink offered = not (length offered == 0)
 abbrev pub accepted : SinkState → List ℕ → ℕ
 accepted sink offered = min (min sink.piece (length offered)) (sink.room - length sink.bytes)
 
--- after a write, a front of the offered bytes is written; after a fault, nothing more
+-- after a write, a prefix of the offered bytes is written; after a fault, nothing more
 abbrev pub after_write : SinkState → List ℕ → SinkState
 after_write sink offered = if is_refused sink offered
     then record sink { plan = with_fault (after_call sink.plan) }

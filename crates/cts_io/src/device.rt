@@ -18,10 +18,10 @@ pub enum StartFault {
 
 /// Named files that are read one after the other.
 pub trait Inputs {
-    /// The bytes of each named file, where they are told.
+    /// The bytes of each named file, where they are given.
     ghost holds: { Self → List ℕ → Option (List ℕ) };
 
-    /// What is left of the started file, where it is told.
+    /// What is left of the started file, where it is given.
     ghost left: { Self → Option (List ℕ) };
 
     /// How often each name has failed.
@@ -40,7 +40,7 @@ pub trait Inputs {
         ensures stays { ¬ IsErrOf result StartFault.Failed
             → (file : List ℕ) → faults self.new file ≡ faults self.old file };
 
-    /// Takes the next bytes of the started file into the front of a buffer, and tells how many:
+    /// Takes the next bytes of the started file into the start of a buffer, and gives how many:
     /// 0 exactly where nothing is left. The name says whose count a fault raises.
     fn take(&mut self, name: &str, into: &mut [u8]) -> Result<usize, Failed>
         requires { 0 < length into.old }
@@ -56,13 +56,13 @@ pub trait Inputs {
 
 /// A place where bytes are written in pieces.
 pub trait Sink {
-    /// What is written, where it is told.
+    /// What is written, where it is given.
     ghost written: { Self → Option (List ℕ) };
 
     /// How often the sink has failed.
     ghost faults: { Self → ℕ };
 
-    /// Writes a front of the piece, and tells how many bytes: at least one, where there is one.
+    /// Writes a prefix of the piece, and gives how many bytes: at least one, where there is one.
     fn write(&mut self, piece: &[u8]) -> Result<usize, Failed>
         ensures within { IfOk result (λ n. n ≤ length piece.now) }
         ensures some { 0 < length piece.now → IfOk result (λ n. 0 < n) }

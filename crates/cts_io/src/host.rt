@@ -1,13 +1,13 @@
 // Files and writers of the host. They tell none of their bytes.
 ghost use Rattle.std.specs.Prelude.{◌≡◌, ◌≤◌, ◌<◌, ℕ, List, length, Option, Some, None, Ok, Err, is_some, IfSome, IsSomeAnd, IsNone, IsOk, OnOk, OnErr, IfOk, IfErr, IsErrOf};
 ghost use Rattle.cts_io.specs.Device.{Rose, Takes};
-ghost use Rattle.cts_io.specs.Host.{untold};
-ghost use Rattle.cts_io.specs.Stream.{TellsOpen, TellsRead, TellsWrite, Tried};
+ghost use Rattle.cts_io.specs.Host.{absent};
+ghost use Rattle.cts_io.specs.Stream.{AnswersOpen, AnswersRead, AnswersWrite, Tried};
 ghost use Rattle.cts_io.specs.Plan.{raised};
 
 use crate::device::{Failed, Inputs, Sink, StartFault};
 use crate::opener::{FileOpener, open_file};
-use crate::stream::{ByteWriter, read_next, write_front};
+use crate::stream::{ByteWriter, read_next, write_prefix};
 use std::marker::Model;
 use std::rt::{Stderr, Stdout};
 
@@ -47,26 +47,26 @@ impl<O: FileOpener> HostInputs<O> {
 }
 
 impl<O: FileOpener> Inputs for HostInputs<O> {
-    ghost holds = { λ _ _. untold };
+    ghost holds = { λ _ _. absent };
 
-    ghost left = { λ _. untold };
+    ghost left = { λ _. absent };
 
     ghost faults = { λ inputs _. inputs.faults };
 
     fn start(&mut self, name: &str) -> Result<(), StartFault>
         // The started file is one that opening exactly this name answered.
         ensures opened { OnOk result (IsSomeAnd self.new.stream (λ file. Tried (O.opens name.now)
-            TellsOpen self.old.opener (Ok file) self.new.opener)) }
+            AnswersOpen self.old.opener (Ok file) self.new.opener)) }
         ensures refused { IfErr result (λ fault. Tried (O.opens name.now)
-            TellsOpen self.old.opener (Err fault) self.new.opener) }
+            AnswersOpen self.old.opener (Err fault) self.new.opener) }
         ensures not_opened { OnErr result (self.new.stream ≡ None) }
         ensures counted { IsErrOf result StartFault.Failed
             → self.new.faults ≡ raised self.old.faults }
 
-        // The trait's clauses, where nothing is told of the bytes.
-        ensures ok { OnOk result (untold ≡ untold) }
+        // The trait's clauses, where nothing is said of the bytes.
+        ensures ok { OnOk result (absent ≡ absent) }
         ensures failed { IsErrOf result StartFault.Failed → Rose self.old.faults self.new.faults }
-        ensures files { (file : List ℕ) → untold ≡ untold }
+        ensures files { (file : List ℕ) → absent ≡ absent }
         ensures counts { (file : List ℕ) → self.old.faults ≤ self.new.faults }
         ensures stays { ¬ IsErrOf result StartFault.Failed
             → (file : List ℕ) → self.new.faults ≡ self.old.faults }
@@ -87,18 +87,18 @@ impl<O: FileOpener> Inputs for HostInputs<O> {
 
     fn take(&mut self, name: &str, into: &mut [u8]) -> Result<usize, Failed>
         requires { 0 < length into.old }
-        ensures told { IfSome self.old.stream (λ file. IfSome self.new.stream (λ now.
-            Tried O.File.reads TellsRead (file, into.old) result (now, into.new))) }
+        ensures denoted { IfSome self.old.stream (λ file. IfSome self.new.stream (λ now.
+            Tried O.File.reads AnswersRead (file, into.old) result (now, into.new))) }
         ensures started { is_some self.new.stream ≡ is_some self.old.stream }
         ensures none { IsNone self.old.stream → result ≡ Ok 0 }
         ensures counted { OnErr result (self.new.faults ≡ raised self.old.faults) }
 
         // The trait's clauses.
         ensures within { IfOk result (λ n. n ≤ length into.new) }
-        ensures ok { IfOk result (λ n. (rest : List ℕ) → untold ≡ Some rest
-            → Takes rest n into.new untold) }
+        ensures ok { IfOk result (λ n. (rest : List ℕ) → absent ≡ Some rest
+            → Takes rest n into.new absent) }
         ensures failed { OnErr result (Rose self.old.faults self.new.faults) }
-        ensures files { (file : List ℕ) → untold ≡ untold }
+        ensures files { (file : List ℕ) → absent ≡ absent }
         ensures counts { (file : List ℕ) → self.old.faults ≤ self.new.faults }
         ensures stays { OnOk result ((file : List ℕ) → self.new.faults ≡ self.old.faults) }
     {
@@ -115,7 +115,7 @@ impl<O: FileOpener> Inputs for HostInputs<O> {
 
 /// A writer of the host, as standard output. Contracts see the
 /// writer and the count of its faults. Each piece
-/// goes to the writer at once, so a writer that keeps nothing back tells a fault at its own write.
+/// goes to the writer at once, so a writer that keeps nothing back gives a fault at its own write.
 #[derive(Debug, Drop)]
 pub struct HostSink<W> {
     writer: W,
@@ -147,13 +147,13 @@ impl<W> HostSink<W> {
 }
 
 impl<W: ByteWriter> Sink for HostSink<W> {
-    ghost written = { λ _. untold };
+    ghost written = { λ _. absent };
 
     ghost faults = { λ sink. sink.faults };
 
     fn write(&mut self, piece: &[u8]) -> Result<usize, Failed>
-        ensures told { 0 < length piece.now → Tried (W.writes piece.now)
-            TellsWrite self.old.stream result self.new.stream }
+        ensures denoted { 0 < length piece.now → Tried (W.writes piece.now)
+            AnswersWrite self.old.stream result self.new.stream }
         ensures nothing { length piece.now ≡ 0 → (result ≡ Ok 0) × (self.new ≡ self.old) }
         ensures counted { OnErr result (self.new.faults ≡ raised self.old.faults) }
 
@@ -165,7 +165,7 @@ impl<W: ByteWriter> Sink for HostSink<W> {
         ensures count { self.old.faults ≤ self.new.faults }
         ensures stays { OnOk result (self.new.faults ≡ self.old.faults) }
     {
-        let written = write_front(&mut self.writer, piece);
+        let written = write_prefix(&mut self.writer, piece);
         if written.is_err() {
             self.faults = self.faults.saturating_add(1);
         }

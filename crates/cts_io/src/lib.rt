@@ -17,5 +17,5 @@ pub use memory_inputs::{HeldFile, MemoryInputs};
 pub use memory_sink::MemorySink;
 pub use never_fails::NeverFails;
 pub use opener::{FileOpener, open_file};
-pub use stream::{ByteReader, ByteWriter, read_next, write_front};
+pub use stream::{ByteReader, ByteWriter, read_next, write_prefix};
 pub use whole::{ReadWhole, read_whole, write_whole};

@@ -151,7 +151,7 @@ fn first_named(files: &[HeldFile], name: &[u8]) -> Option<usize>
     files.iter().position(|file| file.name.as_slice() == name)
 }
 
-// What is left of the file at a place, behind the bytes that are taken.
+// What is left of the file at a place, after the bytes that are taken.
 pub(crate) fn left_of(files: &[HeldFile], place: usize, taken: usize) -> &[u8]
     requires { taken ≤ length (bytes_at files.now place) }
     ensures rest { result.now ≡ drop taken (bytes_at files.now place) }

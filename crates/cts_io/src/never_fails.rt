@@ -1,7 +1,7 @@
 // Files in memory, and a sink, that never fail.
 ghost use Rattle.std.specs.Prelude.{◌≡◌, ◌≤◌, ◌<◌, ◌+◌, ℕ, List, [], ◌++◌, length, take, drop, Option, Some, Ok, IsOk, OnOk, OnErr, IfOk, IsErrOf};
 ghost use Rattle.cts_io.specs.Device.{Rose, Takes};
-ghost use Rattle.cts_io.specs.Host.{untold};
+ghost use Rattle.cts_io.specs.Host.{absent};
 ghost use Rattle.cts_io.specs.MemoryInputs.{bytes_at};
 ghost use Rattle.cts_io.specs.NeverFails.{FilesState, bytes_named, fitting, none};
 
@@ -105,7 +105,7 @@ impl Inputs for NeverFails {
 }
 
 impl Sink for NeverFails {
-    ghost written = { λ _. untold };
+    ghost written = { λ _. absent };
 
     ghost faults = { λ _. none };
 

@@ -2,7 +2,7 @@
 
 ghost use Rattle.std.specs.Prelude.{◌≡◌, ℕ, List, Result};
 ghost use Rattle.std.specs.declared.io.Error.{Error};
-ghost use Rattle.cts_io.specs.Stream.{TellsOpen, Tried};
+ghost use Rattle.cts_io.specs.Stream.{AnswersOpen, Tried};
 
 use crate::device::StartFault;
 use crate::stream::ByteReader;
@@ -15,7 +15,7 @@ pub trait FileOpener {
     /// An opened file, which is read from its first byte on.
     type File: ByteReader + Drop;
 
-    /// What a call with a name may answer, with the opener behind it.
+    /// What a call with a name may answer, with the opener after it.
     ghost opens: { List ℕ → Self → Result Self.File Error → Self → Type 0 };
 
     /// One call.
@@ -35,9 +35,9 @@ impl<R: Files> FileOpener for &R {
 }
 
 /// Opens the file of a name. A call that a signal interrupted is tried again, and after 2^64 - 1
-/// such calls it is a fault. Want of memory is told as such, and any other error is a fault.
+/// such calls it is a fault. Want of memory is answered as such, and any other error is a fault.
 pub fn open_file<O: FileOpener>(opener: &mut O, name: &str) -> Result<O::File, StartFault>
-    ensures told { Tried (O.opens name.now) TellsOpen opener.old result opener.new }
+    ensures denoted { Tried (O.opens name.now) AnswersOpen opener.old result opener.new }
 {
     for _try in 0..u64::MAX {
         match opener.open_once(name) {

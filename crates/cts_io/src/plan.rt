@@ -34,7 +34,7 @@ impl Plan {
         }
     }
 
-    // Counts a call, and tells if it is one of those that fail.
+    // Counts a call, and says whether it is one of those that fail.
     pub(crate) fn call_fails(&mut self) -> bool
         ensures fails { result ≡ fails_next self.old }
         ensures counted { self.new ≡ after_call self.old }

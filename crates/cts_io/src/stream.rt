@@ -4,7 +4,7 @@ ghost use Rattle.std.specs.Prelude.{◌≡◌, ◌≤◌, ◌<◌, ℕ, List, le
 ghost use Rattle.std.specs.Io.{ReadsAtMost, WritesAtMost};
 ghost use Rattle.std.specs.Io.KnownBytes.{ReadConsumes, WriteAppends};
 ghost use Rattle.std.specs.declared.io.Error.{Error};
-ghost use Rattle.cts_io.specs.Stream.{TellsRead, TellsWrite, Tried};
+ghost use Rattle.cts_io.specs.Stream.{AnswersRead, AnswersWrite, Tried};
 
 use crate::device::Failed;
 use std::io;
@@ -12,10 +12,10 @@ use std::io::{ErrorKind, Read, Write};
 
 /// What is read by calls that may be interrupted. Each reader of std is one.
 pub trait ByteReader {
-    /// The bytes that are left, where they are told.
+    /// The bytes that are left, where they are given.
     ghost remaining: { Self → Option (List ℕ) };
 
-    /// What a call with a buffer may answer, with the reader and the buffer behind it.
+    /// What a call with a buffer may answer, with the reader and the buffer after it.
     ghost reads: { Self × List ℕ → Result ℕ Error → Self × List ℕ → Type 0 };
 
     /// One call.
@@ -38,10 +38,10 @@ impl<R: Read> ByteReader for R {
 
 /// What is written by calls that may be interrupted. Each writer of std is one.
 pub trait ByteWriter {
-    /// The bytes that are written, where they are told.
+    /// The bytes that are written, where they are given.
     ghost contents: { Self → Option (List ℕ) };
 
-    /// What a call with a piece may answer, with the writer behind it.
+    /// What a call with a piece may answer, with the writer after it.
     ghost writes: { List ℕ → Self → Result ℕ Error → Self → Type 0 };
 
     /// One call.
@@ -62,14 +62,14 @@ impl<W: Write> ByteWriter for W {
     }
 }
 
-/// Reads the next bytes of a stream into the front of a buffer, and tells how many: 0 only where
+/// Reads the next bytes of a stream into the start of a buffer, and gives how many: 0 only where
 /// nothing is left or the buffer has no room. A call that a signal interrupted is tried again, and
 /// after 2^64 - 1 such calls it is a fault. Else exactly an error of the stream is a fault, and it
 /// takes nothing.
 pub fn read_next<R: ByteReader>(stream: &mut R, into: &mut [u8]) -> Result<usize, Failed>
     ensures within { IfOk result (λ n. n ≤ length into.new) }
     ensures bytes { ReadConsumes (R.remaining stream.old) (R.remaining stream.new) result into.new }
-    ensures told { Tried R.reads TellsRead (stream.old, into.old) result (stream.new, into.new) }
+    ensures denoted { Tried R.reads AnswersRead (stream.old, into.old) result (stream.new, into.new) }
 {
     for _try in 0..u64::MAX {
         match stream.read_once(into) {
@@ -81,17 +81,17 @@ pub fn read_next<R: ByteReader>(stream: &mut R, into: &mut [u8]) -> Result<usize
     Err(Failed)
 }
 
-/// Writes a front of a piece to a stream, and tells how many bytes. A piece of no bytes makes no
+/// Writes a prefix of a piece to a stream, and gives how many bytes. A piece of no bytes makes no
 /// call. A call that a signal interrupted is tried again, and after 2^64 - 1 such calls it is a
 /// fault. Else exactly an error of the stream is a fault, or that it takes nothing of the piece;
 /// nothing is written then.
-pub fn write_front<W: ByteWriter>(stream: &mut W, piece: &[u8]) -> Result<usize, Failed>
+pub fn write_prefix<W: ByteWriter>(stream: &mut W, piece: &[u8]) -> Result<usize, Failed>
     ensures within { IfOk result (λ n. n ≤ length piece.now) }
     ensures some { 0 < length piece.now → IfOk result (λ n. 0 < n) }
     ensures none { length piece.now ≡ 0 → (result ≡ Ok 0) × (stream.new ≡ stream.old) }
     ensures bytes { WriteAppends (W.contents stream.old) (W.contents stream.new) result piece.now }
-    ensures told { 0 < length piece.now
-        → Tried (W.writes piece.now) TellsWrite stream.old result stream.new }
+    ensures denoted { 0 < length piece.now
+        → Tried (W.writes piece.now) AnswersWrite stream.old result stream.new }
 {
     if piece.is_empty() {
         return Ok(0);

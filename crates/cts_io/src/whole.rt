@@ -53,7 +53,7 @@ pub fn read_whole<I: Inputs>(
     ensures within { IfOk result (λ bytes. length bytes.items ≤ limit) }
     ensures too_long { IsErrOf result ReadWhole.TooLong → (held : List ℕ)
         → I.holds inputs.old name.now ≡ Some held → limit < length held }
-    // Nothing behind limit + 1 bytes is read.
+    // Nothing after limit + 1 bytes is read.
     ensures stops { IsErrOf result ReadWhole.TooLong → (held : List ℕ)
         → I.holds inputs.old name.now ≡ Some held
         → I.left inputs.new ≡ Some (drop (limit + 1) held) }

@@ -11,12 +11,12 @@ use Rattle.cts_model.specs.declared.place.Sink.{Sink}
 use Rattle.cts_model.specs.declared.place.Uv.{Uv}
 use Rattle.cts_model.specs.declared.tree.Merge.{Merge}
 use Rattle.cts_model.specs.Embeddings.{Embedding, IsEmbedding, RealisesOffsets}
-use Rattle.cts_model.specs.Points.{distance, turned_distance, turned, scaled}
+use Rattle.cts_model.specs.Points.{distance, rotated_distance, rotated, scaled}
 use Rattle.cts_model.specs.Regions.{span}
 use Rattle.cts_model.specs.ShownReaches.{AreReaches}
 use Rattle.cts_model.specs.Topologies.{IsTopology, IsParent, numbers_below, root_of, source_of}
 use Rattle.cts_model.proofs.ParentLemmas.{made_parent, has_parent, parent_above, parent_stands}
-use Rattle.cts_model.proofs.PointLemmas.{distance_by_way, distance_either, distance_from_zero, distance-itself, distance-turned}
+use Rattle.cts_model.proofs.PointLemmas.{distance_by_way, distance_either, distance_from_zero, distance-itself, distance-rotated}
 use Rattle.cts_model.proofs.ScaleLemmas.{scale-add, scale-distance}
 use Rattle.cts_model.proofs.TopologyLemmas.{numbers_below-sink, numbers_below-merge, of_made}
 
@@ -126,19 +126,19 @@ module _ {scale : ℕ} {sinks : List Sink} {merges : List Merge} {source : Uv} {
 
   -- where a sink stands
   sink_stands : (register : ℕ) (sink : Sink) → slice_get sinks register ≡ Some sink
-      → turned (tree.place register) ≡ scaled scale sink.at
+      → rotated (tree.place register) ≡ scaled scale sink.at
   sink_stands register sink here = subst (λ found. IfSome found
-      (λ sink. turned (tree.place register) ≡ scaled scale sink.at)) here
+      (λ sink. rotated (tree.place register) ≡ scaled scale sink.at)) here
       (embeds.sinks_stand register)
 
   -- two points that stand at given ones are as far apart as those
-  stand_apart : (one other : Point) (at to : Uv) → turned one ≡ scaled scale at
-      → turned other ≡ scaled scale to
-      → distance one other ≡ pos scale *ℤ turned_distance at to
+  stand_apart : (one other : Point) (at to : Uv) → rotated one ≡ scaled scale at
+      → rotated other ≡ scaled scale to
+      → distance one other ≡ pos scale *ℤ rotated_distance at to
   stand_apart one other at to here there =
-      distance-turned one other
-      ∙ ap (λ uv. turned_distance uv (turned other)) here
-      ∙ ap (λ uv. turned_distance (scaled scale at) uv) there
+      distance-rotated one other
+      ∙ ap (λ uv. rotated_distance uv (rotated other)) here
+      ∙ ap (λ uv. rotated_distance (scaled scale at) uv) there
       ∙ sym (scale-distance scale at to)
 
   -- twice a node's reach is at least the span of any two sinks below it
@@ -156,13 +156,13 @@ module _ {scale : ℕ} {sinks : List Sink} {merges : List Merge} {source : Uv} {
       let way = distance_by_way (tree.place first) (tree.place node) (tree.place second) in
       let one_reach = realised_of_sink first one here in
       let other_reach = realised_of_sink second other there in
-      let sums = scale-add scale (one.offset +ℤ other.offset) (turned_distance one.at other.at) in
+      let sums = scale-add scale (one.offset +ℤ other.offset) (rotated_distance one.at other.at) in
       let offsets = scale-add scale one.offset other.offset in
       omega (arith, ints)
 
   -- a source's reach is at least a sink's offset and its distance
   pub source_low : (register : ℕ) (sink : Sink) → slice_get sinks register ≡ Some sink
-      → (pos scale *ℤ (sink.offset +ℤ turned_distance source sink.at))
+      → (pos scale *ℤ (sink.offset +ℤ rotated_distance source sink.at))
       ≤ℤ realised (source_of (length sinks))
   source_low register sink here =
       let all : length sinks ≡ length merges + 1 = topology.all in
@@ -171,7 +171,7 @@ module _ {scale : ℕ} {sinks : List Sink} {merges : List Merge} {source : Uv} {
       let apart = stand_apart (tree.place (source_of (length sinks))) (tree.place register) source
       sink.at embeds.source_stands (sink_stands register sink here) in
       let reach = realised_of_sink register sink here in
-      let sum = scale-add scale sink.offset (turned_distance source sink.at) in
+      let sum = scale-add scale sink.offset (rotated_distance source sink.at) in
       omega (arith, ints)
 
   -- and at least the root's

@@ -68,7 +68,7 @@ pub neg_read : (number : ℤ) → unsigned_abs number ≤ 10 ^ 32
     → to_z w128 (of_z w128 (pos 0 -ℤ to_z w128 (of_z w128 number))) ≡ neg_ℤ number
 neg_read number small = omega (arith, ints)
 
--- the sink of a register comes behind those before
+-- the sink of a register comes after those before
 sinks_of_next : (period : Fraction) (tech : Tech) (places : List Point) (arrivals : List ℤ)
     → (register : ℕ) (place : Point) (arrival : ℤ) → register < length places
     → register < length arrivals

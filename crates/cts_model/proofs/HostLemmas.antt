@@ -12,7 +12,7 @@ use Rattle.std.proofs.lemmas.List.Sums.{sum_by_push}
 use Rattle.std.proofs.lemmas.Option.{slice_get_within, get_or_from_slice_get}
 use Rattle.cts_model.specs.declared.signal.Signal.{Signal}
 use Rattle.cts_model.specs.declared.circuit.Circuit.{Circuit}
-use Rattle.cts_model.specs.Kinds.{is_host, is_lawful}
+use Rattle.cts_model.specs.Kinds.{is_host, is_valid}
 use Rattle.cts_model.specs.Names.{is_name, is_short}
 use Rattle.cts_model.specs.Circuits.{IsCircuit, IsHost, gate_inputs, has_host, host_name, host_signal, is_named}
 use Rattle.cts_model.specs.Hosts.{HasNoHost}
@@ -53,7 +53,7 @@ module _ (circuit : Circuit) (none : HasNoHost circuit) where
         let same : get_or circuit.signals number signal ≡ signal = sym (get_or-append circuit.signals (host_signal circuit.outputs ∷ []) signal number before) ∙ get_or_from_slice_get Hosted number signal signal found in
         let other = no_host_at circuit.signals none number signal before in
         absurd (true≢false (sym host ∙ ap (λ s. is_host s.kind) (sym same) ∙ other))
-    | inr behind ↦
+    | inr suffix ↦
         let within = slice_get_within Hosted number signal found in
         let last : number ≡ length circuit.signals = omega (arith, length_push circuit.signals (host_signal circuit.outputs)) in
         let here : get_or Hosted (length circuit.signals) signal ≡ signal = subst (λ n. get_or Hosted n signal ≡ signal) last (get_or_from_slice_get Hosted number signal signal found) in
@@ -70,7 +70,7 @@ module _ (circuit : Circuit) (none : HasNoHost circuit) where
     names = All-push (λ signal. IsTrue (is_named signal)) circuit.signals (host_signal circuit.outputs) circuit.valid.names refl;
     distinct = all_pairs_push (λ first second. first.name ≢ second.name) circuit.signals (host_signal circuit.outputs) circuit.valid.distinct
         (λ k d within. other_name (get_or circuit.signals k d) (circuit.valid.names k d within) (no_host_at circuit.signals none k d within));
-    lawful = All-push (λ signal. IsTrue (is_lawful signal.kind (length signal.fan_in))) circuit.signals (host_signal circuit.outputs) circuit.valid.lawful refl;
+    valid_inputs = All-push (λ signal. IsTrue (is_valid signal.kind (length signal.fan_in))) circuit.signals (host_signal circuit.outputs) circuit.valid.valid_inputs refl;
     read = All-push (λ signal. All (λ number. number < length Hosted) signal.fan_in) circuit.signals (host_signal circuit.outputs)
         (λ k d within. All-weaker (λ number. number < length circuit.signals) (λ number. number < length Hosted) more _ (circuit.valid.read k d within))
         (All-weaker (λ number. number < length circuit.signals) (λ number. number < length Hosted) more circuit.outputs circuit.valid.outputs_are);

@@ -230,8 +230,8 @@ module _ {sinks : ℕ} {merges : List Merge} (topology : IsTopology sinks merges
   joined_once place other node within also_within joins also = elim (cases_lt place other) [
     | inl before ↦ absurd (joined_twice place other node before also_within joins also)
     | inr not_before ↦ elim (cases_lt other place) [
-      | inl behind ↦ absurd (joined_twice other place node behind within also joins)
-      | inr not_behind ↦ omega arith
+      | inl suffix ↦ absurd (joined_twice other place node suffix within also joins)
+      | inr not_after ↦ omega arith
     ]
   ]
 

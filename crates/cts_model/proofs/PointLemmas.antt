@@ -1,13 +1,13 @@
--- Distances of points, in plain and in turned coordinates, and halves.
+-- Distances of points, in plain and in rotated coordinates, and halves.
 use Rattle.std.proofs.Common.{◌≡◌, ℤ, pos, negsuc, ◌+ℤ◌, ◌-ℤ◌, ◌≤ℤ◌, int_div, ap, ◌∙◌, arith}
 use Rattle.std.proofs.lemmas.Int.{ints, clamps}
 use Rattle.std.specs.Int.{int_max}
 use Rattle.cts_model.specs.declared.place.Point.{Point}
-use Rattle.cts_model.specs.Points.{IsMultipleOf, apart, distance, turned, turned_distance}
+use Rattle.cts_model.specs.Points.{IsMultipleOf, apart, distance, rotated, rotated_distance}
 
--- the sum of two differences is the greater of the two turned ones
-pub apart-turned : (x y x' y' : ℤ) → apart x x' +ℤ apart y y' ≡ int_max (apart (x +ℤ y) (x' +ℤ y')) (apart (x -ℤ y) (x' -ℤ y'))
-apart-turned x y x' y' = omega (arith, ints, clamps)
+-- the sum of two differences is the greater of the two rotated ones
+pub apart-rotated : (x y x' y' : ℤ) → apart x x' +ℤ apart y y' ≡ int_max (apart (x +ℤ y) (x' +ℤ y')) (apart (x -ℤ y) (x' -ℤ y'))
+apart-rotated x y x' y' = omega (arith, ints, clamps)
 
 -- a sum of two values, each known by an equation
 pub sum_of_values : {z r s p q : ℤ} → r ≡ p → s ≡ q → z ≡ r +ℤ s → z ≡ p +ℤ q
@@ -55,9 +55,9 @@ distance-itself a =
     let y = apart-itself a.y in
     omega (arith, ints, x, y)
 
--- the distance by the turned points
-pub distance-turned : (a b : Point) → distance a b ≡ turned_distance (turned a) (turned b)
-distance-turned a b = apart-turned a.x a.y b.x b.y
+-- the distance by the rotated points
+pub distance-rotated : (a b : Point) → distance a b ≡ rotated_distance (rotated a) (rotated b)
+distance-rotated a b = apart-rotated a.x a.y b.x b.y
 
 -- two halves of an even number
 pub halves : (sum : ℤ) → IsMultipleOf 2 sum → int_div sum (pos 2) +ℤ int_div sum (pos 2) ≡ sum

@@ -10,7 +10,7 @@ use Rattle.cts_model.specs.declared.place.Uv.{Uv}
 use Rattle.cts_model.specs.declared.tree.Merge.{Merge}
 use Rattle.cts_model.specs.ChosenPlaces.{IsSourceReach}
 use Rattle.cts_model.specs.Embeddings.{Embedding, IsEmbedding, RealisesOffsets, total_length, total_wire}
-use Rattle.cts_model.specs.Points.{turned_distance}
+use Rattle.cts_model.specs.Points.{rotated_distance}
 use Rattle.cts_model.specs.Reaches.{HasReaches, AreNoLess, total_offset}
 use Rattle.cts_model.specs.Regions.{IsReach, span}
 use Rattle.cts_model.specs.ShownReaches.{AreReaches}

@@ -25,7 +25,7 @@ leads_along constraint (next ∷ rest) to joins last = (
       (leads_along next rest to (λ place within. joins (suc place) (omega arith)) last),
 )
 
--- the place behind one that isn't the last, and behind the last
+-- the place after one that isn't the last, and after the last
 next_within : (places place : ℕ) → place + 1 < places → next_place places place ≡ suc place
 next_within places place within =
     let other : (place + 1 == places) ≡ false = ne_eqb (place + 1) places (λ same. omega arith) in

@@ -10,7 +10,7 @@ use Rattle.cts_model.specs.declared.tech.Tech.{Tech}
 use Rattle.cts_model.specs.declared.tree.Merge.{Merge}
 use Rattle.cts_model.specs.Embeddings.{Embedding, embedding_of}
 use Rattle.cts_model.specs.Judgements.{HasShape, IsDrawnEdge, IsReachShown, IsSkewed}
-use Rattle.cts_model.specs.Points.{turned}
+use Rattle.cts_model.specs.Points.{rotated}
 use Rattle.cts_model.specs.RealisedSchedules.{RealisesSchedule}
 use Rattle.cts_model.specs.ReportLines.{number_at}
 use Rattle.cts_model.specs.SaidReports.{ShowsTree}
@@ -82,7 +82,7 @@ module _ (tech : Tech) (report : Report) where
         sink_stands = IfSome_then (slice_get sinks node) (said.embedding.sinks_stand node)
             (λ sink stands. stands ∙ sym (scaled-once sink.at));
         joins = λ place merge is here. said.topology.each place merge here;
-        source_stands = λ is. ap (λ (at : ℕ). turned (tree.place at)) is
+        source_stands = λ is. ap (λ (at : ℕ). rotated (tree.place at)) is
             ∙ said.embedding.source_stands ∙ sym (scaled-once source);
       }
 

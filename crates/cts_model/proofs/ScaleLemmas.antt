@@ -6,7 +6,7 @@ use Rattle.std.proofs.Math.Nat.{mul-add, mul_comm, mul-le-mul_left}
 use Rattle.std.proofs.lemmas.Int.{ints, clamps, by_lt_z}
 use Rattle.std.specs.Int.{int_max}
 use Rattle.cts_model.specs.declared.place.Uv.{Uv}
-use Rattle.cts_model.specs.Points.{apart, scaled, turned_distance}
+use Rattle.cts_model.specs.Points.{apart, scaled, rotated_distance}
 use borrow.Author.Differences.{up, down}
 
 -- a number from 0 on is its size
@@ -44,7 +44,7 @@ scale-sub scale a b =
     let over = simp mul-add at (ap (λ n. scale * n) plain) in
     omega (arith, ints, over)
 
--- a scale that many times as fine, one scale behind the other
+-- a scale that many times as fine, one scale after the other
 pub scale-finer : (scale times : ℕ) (a : ℤ)
     → pos (scale * times) *ℤ a ≡ pos times *ℤ (pos scale *ℤ a)
 scale-finer scale times a =
@@ -92,7 +92,7 @@ scale-apart scale a b =
 
 -- and into the distance of two points
 pub scale-distance : (scale : ℕ) (a b : Uv)
-    → pos scale *ℤ turned_distance a b ≡ turned_distance (scaled scale a) (scaled scale b)
+    → pos scale *ℤ rotated_distance a b ≡ rotated_distance (scaled scale a) (scaled scale b)
 scale-distance scale a b =
     scale-max scale (apart a.u b.u) (apart a.v b.v)
     ∙ ap (λ z. int_max z (pos scale *ℤ apart a.v b.v)) (scale-apart scale a.u b.u)

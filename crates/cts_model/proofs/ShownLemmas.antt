@@ -9,7 +9,7 @@ use Rattle.cts_model.specs.declared.report.Report.{Report}
 use Rattle.cts_model.specs.Embeddings.{embedding_of}
 use Rattle.cts_model.specs.ReportBounds.{IsOfSize, IsWithinBounds}
 use Rattle.cts_model.specs.ReportLines.{number_at, origin}
-use Rattle.cts_model.specs.Shown.{IsLeast, IsShown, sinks_in, source_in}
+use Rattle.cts_model.specs.Shown.{ShowsLeast, IsShown, sinks_in, source_in}
 use Rattle.cts_model.proofs.ShownTimings.{shown_meets, shown_period, shown_schedule}
 use Rattle.cts_model.proofs.ShownTrees.{shown_embedding, shown_offsets, shown_topology, shown_wire}
 use Rattle.cts_model.proofs.SkewLemmas.{least_for_schedule, length-sinks_of, offsets_are_skews, sink_at}
@@ -54,7 +54,7 @@ module _ (problem : Problem) (report : Report) (size : IsOfSize problem.circuit 
   sinks_level register = level register (cases_lt register (length report.schedule.at))
 
   -- so all that it says is the least is so
-  pub shown_is_least : IsShown problem report → IsLeast problem report
+  pub shown_is_least : IsShown problem report → ShowsLeast problem report
   shown_is_least shown = record {
     period = shown_period problem.circuit problem.tech report shown.timing;
     meets = shown_meets problem.circuit problem.tech report shown.timing;

@@ -9,7 +9,7 @@ use Rattle.cts_model.specs.declared.place.Uv.{Uv}
 use Rattle.cts_model.specs.declared.report.Report.{Report}
 use Rattle.cts_model.specs.declared.tree.Merge.{Merge}
 use Rattle.cts_model.specs.Embeddings.{Embedding, IsEmbedding, IsLeastWire, RealisesOffsets, embedding_of}
-use Rattle.cts_model.specs.Points.{scaled, turned}
+use Rattle.cts_model.specs.Points.{scaled, rotated}
 use Rattle.cts_model.specs.ReportLines.{number_at}
 use Rattle.cts_model.specs.Shown.{IsShownTree}
 use Rattle.cts_model.specs.ShownReaches.{AreReaches, AreShown, ShowsMerge, ShowsSource}
@@ -49,11 +49,11 @@ module _ {sinks : List Sink} {source : Uv} (report : Report)
 
   -- the sinks stand at their places
   stand : (register : ℕ) → (register < length sinks) ⊎ (length sinks ≤ register)
-      → IfSome (slice_get sinks register) (λ sink. turned (tree.place register) ≡ scaled 1 sink.at)
+      → IfSome (slice_get sinks register) (λ sink. rotated (tree.place register) ≡ scaled 1 sink.at)
   stand register (inl within) = IfSome_then (slice_get sinks register)
       (shown.shape register (omega arith)).sink_stands (λ sink is. is ∙ scaled-once sink.at)
   stand register (inr past) = subst (λ found. IfSome found
-      (λ sink. turned (tree.place register) ≡ scaled 1 sink.at))
+      (λ sink. rotated (tree.place register) ≡ scaled 1 sink.at))
       (sym (slice_get_past sinks register past)) tt
 
   -- the tree embeds them

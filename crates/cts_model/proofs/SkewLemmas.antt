@@ -26,7 +26,7 @@ use Rattle.cts_model.proofs.ScaleLemmas.{size_same, scale_le, scale-add, scale-s
 
 -- ---- on plain numbers
 
--- two factors from 0 on, one behind the other
+-- two factors from 0 on, one after the other
 times_times : (m n : ℕ) (z : ℤ) → (z *ℤ pos m) *ℤ pos n ≡ pos (m * n) *ℤ z
 times_times m n z = ap (λ x. x *ℤ pos n) (*ℤ_comm z (pos m)) ∙ *ℤ_comm (pos m *ℤ z) (pos n)
     ∙ sym (scale-finer m n z)

@@ -161,14 +161,14 @@ one_least : (names : List (List ℕ)) (one other : List ℕ) → IsLeastName nam
 one_least names one other first second =
     one_name one other (second.least one first.among) (first.least other second.among)
 
--- some unknown key is told exactly where it is the least
-least_is_told : (names : List (List ℕ)) (name : List ℕ)
+-- some unknown key is given exactly where it is the least
+least_is_denoted : (names : List (List ℕ)) (name : List ℕ)
     → (option_map UnknownKey (least_name names) ≡ Some (UnknownKey name)) ↔ IsLeastName names name
-least_is_told [] name = (λ told. cc, λ least. absurd (omega (arith, least.among.1)))
-least_is_told (start ∷ names) name =
+least_is_denoted [] name = (λ denoted. cc, λ least. absurd (omega (arith, least.among.1)))
+least_is_denoted (start ∷ names) name =
     let (found, is, least) = least_after start names in (
-      λ told. subst (IsLeastName (start ∷ names))
-          (one_key found name (sym (ap (option_map UnknownKey) is) ∙ told)) least,
+      λ denoted. subst (IsLeastName (start ∷ names))
+          (one_key found name (sym (ap (option_map UnknownKey) is) ∙ denoted)) least,
       λ other. ap (option_map UnknownKey) (is ∙ ap Some (one_least (start ∷ names) found name
           least other)),
     )
@@ -179,7 +179,7 @@ least_is_told (start ∷ names) name =
 -- an unknown key is the least of the names that no key has
 pub unknown_key_is_least : (document : Members) (name : List ℕ)
     → (name_flaw document ≡ Some (UnknownKey name)) ↔ IsLeastName (unknown_names document) name
-unknown_key_is_least document name = least_is_told (unknown_names document) name
+unknown_key_is_least document name = least_is_denoted (unknown_names document) name
 
 -- ---- the first that is out of order
 
@@ -187,74 +187,74 @@ unknown_key_is_least document name = least_is_told (unknown_names document) name
 less_is : (one other : ℤ) → (int_lt one other ≡ true) ↔ (one <ℤ other)
 less_is one other = (λ holds. grind (arith, ints), λ less. grind (arith, ints))
 
--- what is told first of a list, where this holds of its items
-pub record IsFirstTold {X : Type 0} (flaw : X → Option TableFlaw) (items : List X)
+-- what is given first of a list, where this holds of its items
+pub record IsFirstDenoted {X : Type 0} (flaw : X → Option TableFlaw) (items : List X)
     (found : TableFlaw) : Type 0 where
   pub before : List X
   pub item : X
   pub after : List X
   pub split : items ≡ before ++ item ∷ after
   pub none : All (λ earlier. flaw earlier ≡ None) before
-  pub told : flaw item ≡ Some found
+  pub denoted : flaw item ≡ Some found
 
-first_is_told : {X : Type 0} (flaw : X → Option TableFlaw) (items : List X) (found : TableFlaw)
-    → first_flaw flaw items ≡ Some found → IsFirstTold flaw items found
-first_is_told flaw [] found told = cc
-first_is_told {X} flaw (item ∷ items) found told =
-    at (first_is_told flaw items found) (flaw item) refl told
+first_is_denoted : {X : Type 0} (flaw : X → Option TableFlaw) (items : List X) (found : TableFlaw)
+    → first_flaw flaw items ≡ Some found → IsFirstDenoted flaw items found
+first_is_denoted flaw [] found denoted = cc
+first_is_denoted {X} flaw (item ∷ items) found denoted =
+    at (first_is_denoted flaw items found) (flaw item) refl denoted
   where
-    later : flaw item ≡ None → IsFirstTold flaw items found
-        → IsFirstTold flaw (item ∷ items) found
+    later : flaw item ≡ None → IsFirstDenoted flaw items found
+        → IsFirstDenoted flaw (item ∷ items) found
     later none first = record {
       before = item ∷ first.before;
       item = first.item;
       after = first.after;
       split = ap (λ rest. item ∷ rest) first.split;
       none = All-cons (λ earlier. flaw earlier ≡ None) item first.before none first.none;
-      told = first.told;
+      denoted = first.denoted;
     }
 
-    at : (first_flaw flaw items ≡ Some found → IsFirstTold flaw items found)
+    at : (first_flaw flaw items ≡ Some found → IsFirstDenoted flaw items found)
         → (o : Option TableFlaw) → flaw item ≡ o → option_or o (first_flaw flaw items) ≡ Some found
-        → IsFirstTold flaw (item ∷ items) found
+        → IsFirstDenoted flaw (item ∷ items) found
     at rest (Some here) is same = record {
       before = [];
       item = item;
       after = items;
       split = refl;
       none = All-nil (λ earlier. flaw earlier ≡ None);
-      told = is ∙ same;
+      denoted = is ∙ same;
     }
     at rest None is same = later is (rest same)
 
--- and what is told of an item behind others of which nothing is told
-first_told : {X : Type 0} (flaw : X → Option TableFlaw) (before : List X) (item : X)
+-- and what is said of an item after others of which nothing is given
+first_denoted : {X : Type 0} (flaw : X → Option TableFlaw) (before : List X) (item : X)
     → (after : List X) (found : TableFlaw) → All (λ earlier. flaw earlier ≡ None) before
     → flaw item ≡ Some found → first_flaw flaw (before ++ item ∷ after) ≡ Some found
-first_told flaw [] item after found none told =
-    ap (λ o. option_or o (first_flaw flaw after)) told
-first_told flaw (first ∷ before) item after found none told =
+first_denoted flaw [] item after found none denoted =
+    ap (λ o. option_or o (first_flaw flaw after)) denoted
+first_denoted flaw (first ∷ before) item after found none denoted =
     ap (λ o. option_or o (first_flaw flaw (before ++ item ∷ after)))
     (All-head (λ earlier. flaw earlier ≡ None) first before none)
-    ∙ first_told flaw before item after found
-    (All-tail (λ earlier. flaw earlier ≡ None) first before none) told
+    ∙ first_denoted flaw before item after found
+    (All-tail (λ earlier. flaw earlier ≡ None) first before none) denoted
 
--- a flaw that is told where a test holds
-abbrev told_where : Bool → List ℕ → Option TableFlaw
-told_where holds name = cond holds (Some (LeastAboveGreatest name)) None
+-- a flaw that is given where a test holds
+abbrev denoted_where : Bool → List ℕ → Option TableFlaw
+denoted_where holds name = cond holds (Some (LeastAboveGreatest name)) None
 
-told_holds : (holds : Bool) (own name : List ℕ)
-    → told_where holds own ≡ Some (LeastAboveGreatest name) → (holds ≡ true) × (name ≡ own)
-told_holds true own name told = (refl, cc)
-told_holds false own name told = cc
+denoted_holds : (holds : Bool) (own name : List ℕ)
+    → denoted_where holds own ≡ Some (LeastAboveGreatest name) → (holds ≡ true) × (name ≡ own)
+denoted_holds true own name denoted = (refl, cc)
+denoted_holds false own name denoted = cc
 
-untold_fails : (holds : Bool) (own : List ℕ) → told_where holds own ≡ None → holds ≡ true → ⊥
-untold_fails true own untold holds = cc
-untold_fails false own untold holds = cc
+absent_fails : (holds : Bool) (own : List ℕ) → denoted_where holds own ≡ None → holds ≡ true → ⊥
+absent_fails true own absent holds = cc
+absent_fails false own absent holds = cc
 
-fails_untold : (holds : Bool) (own : List ℕ) → (holds ≡ true → ⊥) → told_where holds own ≡ None
-fails_untold true own fails = absurd (fails refl)
-fails_untold false own fails = refl
+fails_absent : (holds : Bool) (own : List ℕ) → (holds ≡ true → ⊥) → denoted_where holds own ≡ None
+fails_absent true own fails = absurd (fails refl)
+fails_absent false own fails = refl
 
 -- a least number of the registers is above the greatest
 abbrev registers_test : Members → Bool
@@ -306,13 +306,13 @@ registers_are : (document : Members) → (registers_test document ≡ true)
 registers_are document = less_is (number_at (codes "register" ∷ []) (codes "greatest") document)
     (number_at (codes "register" ∷ []) (codes "least") document)
 
--- the first gate kind that is told
+-- the first gate kind that is given
 first_kind : (document : Members) (name : List ℕ)
-    → IsFirstTold (gate_flaw document) gate_kinds (LeastAboveGreatest name)
+    → IsFirstDenoted (gate_flaw document) gate_kinds (LeastAboveGreatest name)
     → IsFirstKind document name
 first_kind document name first =
-    let (holds, named) = told_holds (kind_test document first.item) (word_of first.item) name
-    first.told in
+    let (holds, named) = denoted_holds (kind_test document first.item) (word_of first.item) name
+    first.denoted in
     record {
       before = first.before;
       kind = first.item;
@@ -320,53 +320,53 @@ first_kind document name first =
       split = first.split;
       ordered = All-weaker (λ kind. gate_flaw document kind ≡ None)
           (λ kind. IsKindDisordered document kind → ⊥)
-          (λ kind none disordered. untold_fails (kind_test document kind) (word_of kind) none
+          (λ kind none disordered. absent_fails (kind_test document kind) (word_of kind) none
           (disordered_kind document kind disordered)) first.before first.none;
       disordered = kind_disordered document first.item holds;
       named = named;
     }
 
--- and it is told
+-- and it is given
 kind_first : (document : Members) (name : List ℕ) → IsFirstKind document name
     → first_flaw (gate_flaw document) gate_kinds ≡ Some (LeastAboveGreatest name)
 kind_first document name first =
     ap (first_flaw (gate_flaw document)) first.split
-    ∙ first_told (gate_flaw document) first.before first.kind first.after
+    ∙ first_denoted (gate_flaw document) first.before first.kind first.after
     (LeastAboveGreatest name)
     (All-weaker (λ kind. IsKindDisordered document kind → ⊥)
     (λ kind. gate_flaw document kind ≡ None)
-    (λ kind ordered. fails_untold (kind_test document kind) (word_of kind)
+    (λ kind ordered. fails_absent (kind_test document kind) (word_of kind)
     (λ holds. ordered (kind_disordered document kind holds))) first.before first.ordered)
-    (ap (λ holds. told_where holds (word_of first.kind))
+    (ap (λ holds. denoted_where holds (word_of first.kind))
     (disordered_kind document first.kind first.disordered)
     ∙ ap (λ own. Some (LeastAboveGreatest own)) (sym first.named))
 
-pub first_disorder_is_told : (document : Members) (name : List ℕ)
+pub first_disorder_is_denoted : (document : Members) (name : List ℕ)
     → (order_flaw document ≡ Some (LeastAboveGreatest name)) ↔ IsFirstDisorder document name
-first_disorder_is_told document name =
+first_disorder_is_denoted document name =
     (forward (registers_test document) (registers_are document), back)
   where
     differ : false ≡ true → ⊥
     differ same = cc
 
     forward : (holds : Bool) → (holds ≡ true) ↔ AreRegistersDisordered document
-        → option_or (told_where holds (codes "register")) (first_flaw (gate_flaw document)
+        → option_or (denoted_where holds (codes "register")) (first_flaw (gate_flaw document)
         gate_kinds) ≡ Some (LeastAboveGreatest name) → IsFirstDisorder document name
-    forward true are told = inl (are.0 refl, cc)
-    forward false are told = inr (
+    forward true are denoted = inl (are.0 refl, cc)
+    forward false are denoted = inr (
       λ disordered. differ (are.1 disordered),
-      first_kind document name (first_is_told (gate_flaw document) gate_kinds
-          (LeastAboveGreatest name) told),
+      first_kind document name (first_is_denoted (gate_flaw document) gate_kinds
+          (LeastAboveGreatest name) denoted),
     )
 
     back : IsFirstDisorder document name → order_flaw document ≡ Some (LeastAboveGreatest name)
     back (inl (disordered, named)) =
-        ap (λ holds. option_or (told_where holds (codes "register")) (first_flaw
+        ap (λ holds. option_or (denoted_where holds (codes "register")) (first_flaw
         (gate_flaw document) gate_kinds)) ((registers_are document).1 disordered)
         ∙ ap (λ own. Some (LeastAboveGreatest own)) (sym named)
     back (inr (ordered, first)) =
         ap (λ flaw. option_or flaw (first_flaw (gate_flaw document) gate_kinds))
-        (fails_untold (registers_test document) (codes "register")
+        (fails_absent (registers_test document) (codes "register")
         (λ holds. ordered ((registers_are document).0 holds)))
         ∙ kind_first document name first
 
@@ -379,11 +379,11 @@ IsOfKey (WrongType name) = Unit {0}
 IsOfKey (OutOfRange name) = Unit {0}
 IsOfKey flaw = ⊥
 
--- a flaw that is told is one of two
-told_either : (one other : Option TableFlaw) (found : TableFlaw) → option_or one other ≡ Some found
+-- a flaw that is given is one of two
+denoted_either : (one other : Option TableFlaw) (found : TableFlaw) → option_or one other ≡ Some found
     → (one ≡ Some found) ⊎ (other ≡ Some found)
-told_either None other found told = inr told
-told_either (Some flaw) other found told = inl told
+denoted_either None other found denoted = inr denoted
+denoted_either (Some flaw) other found denoted = inl denoted
 
 -- whatever a test chooses
 chosen_of_key : (test : Bool) (one other : Option TableFlaw) → IfSome one IsOfKey
@@ -434,19 +434,19 @@ section_of_key document section = either_of_key (way_flaw [] section.way documen
     (first_of_key (key_flaw section.way document) section.keys (key_of_key section.way document))
 
 -- so no key's flaw is of another sort
-keys_untold : (document : Members) (found : TableFlaw) → (IsOfKey found → ⊥)
+keys_absent : (document : Members) (found : TableFlaw) → (IsOfKey found → ⊥)
     → first_flaw (section_flaw document) sections ≡ Some found → ⊥
-keys_untold document found other told = other (subst (λ o. IfSome o IsOfKey) told
+keys_absent document found other denoted = other (subst (λ o. IfSome o IsOfKey) denoted
     (first_of_key (section_flaw document) sections (section_of_key document)))
 
 -- nor is that of a gate kind without its table
-kind_untold : (used : List Bool) (document : Members) (found : TableFlaw)
+kind_absent : (used : List Bool) (document : Members) (found : TableFlaw)
     → ((kind : Kind) → found ≡ MissingKind kind → ⊥)
     → first_flaw (kind_flaw used document) gate_kinds ≡ Some found → ⊥
-kind_untold used document found other told =
-    let first = first_is_told (kind_flaw used document) gate_kinds found told in
+kind_absent used document found other denoted =
+    let first = first_is_denoted (kind_flaw used document) gate_kinds found denoted in
     at (slice_index_or used (place_of first.item) false
-    && is_none (table_at (gate_way first.item) document)) first.item first.told
+    && is_none (table_at (gate_way first.item) document)) first.item first.denoted
   where
     at : (test : Bool) (kind : Kind) → cond test (Some (MissingKind kind)) None ≡ Some found → ⊥
     at true kind same = other kind (one_flaw (MissingKind kind) same)
@@ -455,74 +455,74 @@ kind_untold used document found other told =
         one_flaw flaw same = cc
     at false kind same = cc
 
--- what is told after flaws that aren't
-other_told : (one other : Option TableFlaw) (found : TableFlaw) → (one ≡ Some found → ⊥)
+-- what is given after flaws that aren't
+other_denoted : (one other : Option TableFlaw) (found : TableFlaw) → (one ≡ Some found → ⊥)
     → option_or one other ≡ Some found → other ≡ Some found
-other_told None other found untold told = told
-other_told (Some flaw) other found untold told = absurd (untold told)
+other_denoted None other found absent denoted = denoted
+other_denoted (Some flaw) other found absent denoted = absurd (absent denoted)
 
--- an order tells no unknown key, and an unknown key no order
-order_untold : (document : Members) (name : List ℕ)
+-- an order names no unknown key, and an unknown key no order
+order_absent : (document : Members) (name : List ℕ)
     → order_flaw document ≡ Some (UnknownKey name) → ⊥
-order_untold document name told = elim (told_either (register_flaw document)
-    (first_flaw (gate_flaw document) gate_kinds) (UnknownKey name) told) [
+order_absent document name denoted = elim (denoted_either (register_flaw document)
+    (first_flaw (gate_flaw document) gate_kinds) (UnknownKey name) denoted) [
       | inl registers ↦ differs (registers_test document) (codes "register") registers
       | inr kinds ↦
-          let first = first_is_told (gate_flaw document) gate_kinds (UnknownKey name) kinds in
-          differs (kind_test document first.item) (word_of first.item) first.told
+          let first = first_is_denoted (gate_flaw document) gate_kinds (UnknownKey name) kinds in
+          differs (kind_test document first.item) (word_of first.item) first.denoted
     ]
   where
-    differs : (holds : Bool) (own : List ℕ) → told_where holds own ≡ Some (UnknownKey name) → ⊥
+    differs : (holds : Bool) (own : List ℕ) → denoted_where holds own ≡ Some (UnknownKey name) → ⊥
     differs true own same = cc
     differs false own same = cc
 
-names_untold : (document : Members) (name : List ℕ)
+names_absent : (document : Members) (name : List ℕ)
     → name_flaw document ≡ Some (LeastAboveGreatest name) → ⊥
-names_untold document name told = differs (least_name (unknown_names document)) told
+names_absent document name denoted = differs (least_name (unknown_names document)) denoted
   where
     differs : (least : Option (List ℕ))
         → option_map UnknownKey least ≡ Some (LeastAboveGreatest name) → ⊥
     differs None same = cc
     differs (Some own) same = cc
 
--- what is told behind the keys of a table
-abbrev behind_keys : List Bool → Members → Option TableFlaw
-behind_keys used document = option_or (order_flaw document)
+-- what is given after the keys of a table
+abbrev after_keys : List Bool → Members → Option TableFlaw
+after_keys used document = option_or (order_flaw document)
     (option_or (first_flaw (kind_flaw used document) gate_kinds) (name_flaw document))
 
-told_behind_keys : (used : List Bool) (document : Members) (found : TableFlaw)
+denoted_after_keys : (used : List Bool) (document : Members) (found : TableFlaw)
     → (IsOfKey found → ⊥) → table_flaw used document ≡ Some found
-    → behind_keys used document ≡ Some found
+    → after_keys used document ≡ Some found
 unfolding table_flaw
-told_behind_keys used document found other told =
-    other_told (first_flaw (section_flaw document) sections) (behind_keys used document) found
-    (keys_untold document found other) told
+denoted_after_keys used document found other denoted =
+    other_denoted (first_flaw (section_flaw document) sections) (after_keys used document) found
+    (keys_absent document found other) denoted
 
--- the unknown key that a table's flaw tells is the least
+-- the unknown key that a table's flaw denotes is the least
 pub unknown_of_table : (used : List Bool) (document : Members) (name : List ℕ)
     → table_flaw used document ≡ Some (UnknownKey name)
     → IsLeastName (unknown_names document) name
-unknown_of_table used document name told =
-    let behind = told_behind_keys used document (UnknownKey name) (λ of_key. of_key) told in
-    let names = other_told (order_flaw document)
+unknown_of_table used document name denoted =
+    let suffix = denoted_after_keys used document (UnknownKey name) (λ of_key. of_key) denoted in
+    let names = other_denoted (order_flaw document)
     (option_or (first_flaw (kind_flaw used document) gate_kinds) (name_flaw document))
-    (UnknownKey name) (order_untold document name) behind in
+    (UnknownKey name) (order_absent document name) suffix in
     (unknown_key_is_least document name).0
-    (other_told (first_flaw (kind_flaw used document) gate_kinds) (name_flaw document)
-    (UnknownKey name) (kind_untold used document (UnknownKey name) (λ kind same. cc)) names)
+    (other_denoted (first_flaw (kind_flaw used document) gate_kinds) (name_flaw document)
+    (UnknownKey name) (kind_absent used document (UnknownKey name) (λ kind same. cc)) names)
 
--- and the order that it tells is the first that is out
+-- and the order that it denotes is the first that is out
 pub disorder_of_table : (used : List Bool) (document : Members) (name : List ℕ)
     → table_flaw used document ≡ Some (LeastAboveGreatest name) → IsFirstDisorder document name
-disorder_of_table used document name told =
-    let behind = told_behind_keys used document (LeastAboveGreatest name) (λ of_key. of_key)
-    told in
-    elim (told_either (order_flaw document)
+disorder_of_table used document name denoted =
+    let suffix = denoted_after_keys used document (LeastAboveGreatest name) (λ of_key. of_key)
+    denoted in
+    elim (denoted_either (order_flaw document)
     (option_or (first_flaw (kind_flaw used document) gate_kinds) (name_flaw document))
-    (LeastAboveGreatest name) behind) [
-      | inl order ↦ (first_disorder_is_told document name).0 order
-      | inr rest ↦ absurd (names_untold document name
-          (other_told (first_flaw (kind_flaw used document) gate_kinds) (name_flaw document)
+    (LeastAboveGreatest name) suffix) [
+      | inl order ↦ (first_disorder_is_denoted document name).0 order
+      | inr rest ↦ absurd (names_absent document name
+          (other_denoted (first_flaw (kind_flaw used document) gate_kinds) (name_flaw document)
           (LeastAboveGreatest name)
-          (kind_untold used document (LeastAboveGreatest name) (λ kind same. cc)) rest))
+          (kind_absent used document (LeastAboveGreatest name) (λ kind same. cc)) rest))
     ]

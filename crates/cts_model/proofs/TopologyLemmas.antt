@@ -1,4 +1,4 @@
--- The sinks below the nodes of a topology, as merges come one behind the other.
+-- The sinks below the nodes of a topology, as merges come one after the other.
 use Rattle.std.proofs.Common.{◌≡◌, ℕ, zero, suc, ◌<◌, ◌≤◌, ◌+◌, List, [], ◌∷◌, ◌++◌, length, get_or, take, drop, map, Option, Some, None, inl, inr, refl, sym, ap, subst, ◌∙◌, arith, length-append}
 use Rattle.std.specs.Prelude.{IsSomeAnd}
 use Rattle.std.specs.List.{All, Contains, slice_get, filter_map, range_with_len, cons_option}
@@ -19,7 +19,7 @@ split_at : (merges : List Merge) (place : ℕ) (merge : Merge) → slice_get mer
 split_at merges place merge here =
     let within = slice_get_within merges place merge here in
     sym (take-append-drop (place + 1) merges)
-    ∙ ap (λ front. front ++ drop (place + 1) merges) (take_more merges place merge within
+    ∙ ap (λ prefix. prefix ++ drop (place + 1) merges) (take_more merges place merge within
     ∙ ap (λ item. take place merges ++ item ∷ [])
     (get_or_from_slice_get merges place merge merge here))
 
@@ -29,11 +29,11 @@ pub some_and : {X : Type 0} (found : Option X) (Holds : X → Type 0) → IsSome
 some_and None Holds holds = absurd holds
 some_and (Some value) Holds holds = (value, refl, holds)
 
--- an item stays behind one that may be there
-behind_option : {X : Type 0} (first : Option X) (rest : List X) (item : X)
+-- an item stays after one that may be there
+after_option : {X : Type 0} (first : Option X) (rest : List X) (item : X)
     → Contains rest item → Contains (cons_option first rest) item
-behind_option None rest item contained = contained
-behind_option (Some other) rest item contained =
+after_option None rest item contained = contained
+after_option (Some other) rest item contained =
     Contains-append_right (other ∷ []) rest item contained
 
 -- what is found for an item of a list is among all that is found
@@ -43,7 +43,7 @@ found_among pick [] item value contained picked = absurd (omega (arith, containe
 found_among pick (first ∷ items) item value (zero, within, same) picked =
     rw (ap pick same ∙ picked) (zero, omega arith, refl)
 found_among pick (first ∷ items) item value (suc place, within, same) picked =
-    behind_option (pick first) (filter_map pick items) value
+    after_option (pick first) (filter_map pick items) value
     (found_among pick items item value (place, omega arith, same) picked)
 
 -- and all that is found is so for an item
@@ -98,7 +98,7 @@ sets_after-append sets [] more = refl
 sets_after-append sets (merge ∷ merges) more =
     sets_after-append (sets ++ made_set sets merge ∷ []) merges more
 
--- the last merge adds its set behind the others
+-- the last merge adds its set after the others
 pub sets_after-push : (sets : List (List ℕ)) (merges : List Merge) (merge : Merge)
     → sets_after sets (merges ++ merge ∷ []) ≡ sets_after sets merges
     ++ (numbers_at (sets_after sets merges) merge.first
@@ -159,13 +159,13 @@ pub numbers_below-merge : (sinks : ℕ) (merges : List Merge) (place : ℕ) (mer
     ≡ numbers_below sinks merges merge.first ++ numbers_below sinks merges merge.second
 numbers_below-merge sinks merges place merge here joins =
     let within : place < length merges = slice_get_within merges place merge here in
-    let front : length (take place merges) ≡ place = length-take-le place merges (omega arith) in
+    let prefix : length (take place merges) ≡ place = length-take-le place merges (omega arith) in
     let earlier = take place merges in
     let rest = drop (place + 1) merges in
     ap (λ all. numbers_below sinks all (sinks + place)) (split_at merges place merge here)
     ∙ numbers_below-append sinks (earlier ++ merge ∷ []) rest (sinks + place)
     (omega (arith, length-append earlier (merge ∷ [])))
-    ∙ ap (λ n. numbers_below sinks (earlier ++ merge ∷ []) (sinks + n)) (sym front)
+    ∙ ap (λ n. numbers_below sinks (earlier ++ merge ∷ []) (sinks + n)) (sym prefix)
     ∙ numbers_below-push sinks earlier merge
     ∙ ap (λ numbers. numbers ++ numbers_below sinks earlier merge.second)
     (numbers_below-take sinks merges place merge.first joins.first.made)
@@ -320,13 +320,13 @@ EachMerge-push sinks merges last each joins place merge here =
           (sym item ∙ get_or-append merges more merge place before) in
           subst (λ earlier. IsMerge sinks earlier merge)
           (sym (take-append-le place merges more (omega arith))) (each place merge old)
-      | inr behind ↦
+      | inr suffix ↦
           let end : length merges ≡ place = omega (arith, length-append merges more) in
-          let front = ap (λ n. take n (merges ++ more)) (sym end)
+          let prefix = ap (λ n. take n (merges ++ more)) (sym end)
           ∙ take-append_seam merges more in
           let same = sym (get_or-append_seam merges last [] merge)
           ∙ ap (λ n. get_or (merges ++ more) n merge) end ∙ item in
-          subst (λ earlier. IsMerge sinks earlier merge) (sym front)
+          subst (λ earlier. IsMerge sinks earlier merge) (sym prefix)
           (subst (λ other. IsMerge sinks merges other) same joins)
     ]
 

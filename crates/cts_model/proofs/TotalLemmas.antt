@@ -65,20 +65,20 @@ total_length-scaled scale value (suc bound) =
     ∙ sym (scale-add scale (total_length value bound) (value bound))
 
 -- a sum in two parts
-pub total_length-parts : (value : ℕ → ℤ) (front more : ℕ)
-    → total_length value (front + more)
-    ≡ total_length value front +ℤ total_length (λ node. value (front + node)) more
-total_length-parts value front zero =
-    let same : front + 0 ≡ front = omega arith in
-    let none_more : total_length value front ≡ total_length value front +ℤ pos 0 =
+pub total_length-parts : (value : ℕ → ℤ) (prefix more : ℕ)
+    → total_length value (prefix + more)
+    ≡ total_length value prefix +ℤ total_length (λ node. value (prefix + node)) more
+total_length-parts value prefix zero =
+    let same : prefix + 0 ≡ prefix = omega arith in
+    let none_more : total_length value prefix ≡ total_length value prefix +ℤ pos 0 =
     omega (arith, ints) in
     ap (λ n. total_length value n) same ∙ none_more
-total_length-parts value front (suc more) =
-    let next : front + suc more ≡ suc (front + more) = omega arith in
-    let rest = total_length-parts value front more in
-    let last : total_length value (front + more) +ℤ value (front + more)
-    ≡ total_length value front +ℤ (total_length (λ node. value (front + node)) more
-    +ℤ value (front + more)) = omega (arith, ints) in
+total_length-parts value prefix (suc more) =
+    let next : prefix + suc more ≡ suc (prefix + more) = omega arith in
+    let rest = total_length-parts value prefix more in
+    let last : total_length value (prefix + more) +ℤ value (prefix + more)
+    ≡ total_length value prefix +ℤ (total_length (λ node. value (prefix + node)) more
+    +ℤ value (prefix + more)) = omega (arith, ints) in
     ap (λ n. total_length value n) next ∙ last
 
 -- where two values together are twice a third, so are their sums

@@ -11,7 +11,7 @@ use Rattle.cts_model.specs.declared.tree.Merge.{Merge}
 use Rattle.cts_model.specs.declared.tree.Show.{Show}
 use Rattle.cts_model.specs.declared.tree.Show.TheVariants as shows
 use Rattle.cts_model.specs.Embeddings.{Embedding, IsEmbedding, AreWiresDown, RealisesOffsets, IsLeastWire, total_length, total_wire}
-use Rattle.cts_model.specs.Points.{turned_distance}
+use Rattle.cts_model.specs.Points.{rotated_distance}
 use Rattle.cts_model.specs.Reaches.{HasReaches}
 use Rattle.cts_model.specs.Regions.{span}
 use Rattle.cts_model.specs.ShownReaches.{AreReaches, AreShown, ShowsMerge, ShowsSource}
@@ -191,7 +191,7 @@ module _ {scale : ℕ} {sinks : List Sink} {merges : List Merge} {source : Uv} {
       low_of (shows.Pair first second) is = absurd is
       low_of (shows.Sink register) is =
           let (sink, here, value) = some_and (slice_get sinks register)
-          (λ sink. reach top ≡ sink.offset +ℤ turned_distance source sink.at) is in
+          (λ sink. reach top ≡ sink.offset +ℤ rotated_distance source sink.at) is in
           let low = source_low topology embeds realises register sink here in
           let over = ap (λ z. pos scale *ℤ z) value in
           omega (arith, ints)

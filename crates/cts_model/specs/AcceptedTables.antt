@@ -1,4 +1,4 @@
--- Accepted delay tables, and the table that each tells.
+-- Accepted delay tables, and the table that each denotes.
 use Rattle.std.specs.Prelude.{◌≡◌, ℕ, pos, ◌*ℤ◌, Bool, false, IsTrue, slice_index_or, List, [], ◌∷◌, map, Some, None, IsUtf8, codes}
 use Rattle.toml.specs.Data.{Members}
 use Rattle.toml.specs.Parse.{parse_document}
@@ -32,13 +32,13 @@ pub record IsDelayTable (used : List Bool) (bytes : List ℕ) : Type 0 where
   pub flawless : table_flaw used document ≡ None
 
 -- the wire's fraction, in lowest terms, is the one that a text writes
-abbrev pub TellsFraction : List ℕ → Tech → Type 0
-TellsFraction text tech =
+abbrev pub DenotesFraction : List ℕ → Tech → Type 0
+DenotesFraction text tech =
     tech.wire_num *ℤ pos (denominator_of text) ≡ pos (numerator_of text) *ℤ tech.wire_den
 
--- the table that a document tells
-pub record TellsTable (document : Members) (tech : Tech) : Type 0 where
-  pub wire : TellsFraction (text_at (codes "wire" ∷ []) (codes "delay") document) tech
+-- the table that a document denotes
+pub record DenotesTable (document : Members) (tech : Tech) : Type 0 where
+  pub wire : DenotesFraction (text_at (codes "wire" ∷ []) (codes "delay") document) tech
   pub source : tech.source ≡ text_at (codes "source" ∷ []) (codes "place") document
   pub setup : tech.setup ≡ number_at (codes "register" ∷ []) (codes "setup") document
   pub hold : tech.hold ≡ number_at (codes "register" ∷ []) (codes "hold") document
@@ -53,7 +53,7 @@ pub record AcceptsTable (used : List Bool) (bytes : List ℕ) (tech : Tech) : Ty
   pub document : Members
   pub reads : IsDocument bytes document
   pub flawless : table_flaw used document ≡ None
-  pub tells : TellsTable document tech
+  pub denotes : DenotesTable document tech
 
 -- a table gives each gate kind that a netlist uses
 abbrev pub GivesKinds : List Bool → Tech → Type 0

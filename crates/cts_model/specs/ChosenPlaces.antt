@@ -1,11 +1,11 @@
 -- Where a node of the tree stands, and how far the source has to reach: deferred merging as in
--- Boese and Kahng 1992 and Chao and others 1992. In turned coordinates and grid steps.
+-- Boese and Kahng 1992 and Chao and others 1992. In rotated coordinates and grid steps.
 use Rattle.std.specs.Prelude.{◌≡◌, ◌⊎◌, ℕ, ◌+◌, ℤ, pos, ◌+ℤ◌, ◌*ℤ◌, ◌≤ℤ◌, List, Contains, Some, length, slice_get}
 use Rattle.cts_model.specs.declared.place.Sink.{Sink}
 use Rattle.cts_model.specs.declared.place.Uv.{Uv}
 use Rattle.cts_model.specs.declared.tree.Merge.{Merge}
 use Rattle.cts_model.specs.Embeddings.{Embedding}
-use Rattle.cts_model.specs.Points.{apart, turned, turned_distance}
+use Rattle.cts_model.specs.Points.{apart, rotated, rotated_distance}
 use Rattle.cts_model.specs.Regions.{InRegion, IsReach}
 use Rattle.cts_model.specs.Topologies.{IsParent, sinks_below}
 
@@ -27,13 +27,13 @@ pub record AreChosen (sinks : List Sink) (merges : List Merge) (reach : ℕ → 
   pub places : (place parent : ℕ) (merge : Merge) → slice_get merges place ≡ Some merge
       → IsParent (length sinks) merges (length sinks + place) parent
       → IsChosenPlace (sinks_below sinks merges (length sinks + place))
-      (reach (length sinks + place)) (turned (tree.place parent))
-      (turned (tree.place (length sinks + place)))
+      (reach (length sinks + place)) (rotated (tree.place parent))
+      (rotated (tree.place (length sinks + place)))
 
 -- the greatest of the root's reach and of each sink's distance from the source with its offset
 pub record IsSourceReach (sinks : List Sink) (source : Uv) (root reach : ℤ) : Type 0 where
   pub above_root : root ≤ℤ reach
   pub each : (sink : Sink) → Contains sinks sink
-      → (sink.offset +ℤ turned_distance source sink.at) ≤ℤ reach
+      → (sink.offset +ℤ rotated_distance source sink.at) ≤ℤ reach
   pub attained : (reach ≡ root) ⊎ ((sink : Sink) × Contains sinks sink
-      × (reach ≡ sink.offset +ℤ turned_distance source sink.at))
+      × (reach ≡ sink.offset +ℤ rotated_distance source sink.at))

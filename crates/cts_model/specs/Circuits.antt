@@ -6,7 +6,7 @@ use Rattle.std.specs.List.{enumerate_from, filter_map, sum_by, list_any}
 use Rattle.std.specs.Str.{bytes_eq}
 use Rattle.cts_model.specs.declared.kind.Kind.TheVariants.{Host}
 use Rattle.cts_model.specs.declared.signal.Signal.{Signal}
-use Rattle.cts_model.specs.Kinds.{is_host, is_register, is_gate, is_lawful}
+use Rattle.cts_model.specs.Kinds.{is_host, is_register, is_gate, is_valid}
 use Rattle.cts_model.specs.Names.{is_name, is_short}
 
 -- the number of a signal, if it is a register
@@ -51,7 +51,7 @@ pub record IsHost (signals : List Signal) (outputs : List ℕ) (number : ℕ)
 pub record IsCircuit (signals : List Signal) (registers outputs : List ℕ) : Type 0 where
   pub names : All (λ signal. IsTrue (is_named signal)) signals
   pub distinct : AllPairs (λ first second. first.name ≢ second.name) signals
-  pub lawful : All (λ signal. IsTrue (is_lawful signal.kind (length signal.fan_in))) signals
+  pub valid_inputs : All (λ signal. IsTrue (is_valid signal.kind (length signal.fan_in))) signals
   pub read : All (λ signal. All (λ number. number < length signals) signal.fan_in) signals
   pub host : (number : ℕ) (signal : Signal) → slice_get signals number ≡ Some signal
       → IsTrue (is_host signal.kind) → IsHost signals outputs number signal

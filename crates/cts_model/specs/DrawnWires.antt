@@ -54,7 +54,7 @@ pub record IsDrawn (from to : Point) (long : ℤ) (points : List Point) : Type 0
   pub apart : AllPairs AreApart (pieces points)
   pub no_length : long ≡ pos 0 → points ≡ from ∷ []
 
--- behind the points of a wire there is nothing but (0, 0)
+-- after the points of a wire there is nothing but (0, 0)
 pub record ArePadded (wire : Wire) : Type 0 where
   pub all : length wire.corners ≡ 5
   pub rest : All (λ corner. corner ≡ record { x = pos 0; y = pos 0 })

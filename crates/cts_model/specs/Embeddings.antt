@@ -7,7 +7,7 @@ use Rattle.cts_model.specs.declared.place.Sink.{Sink}
 use Rattle.cts_model.specs.declared.place.Uv.{Uv}
 use Rattle.cts_model.specs.declared.tree.Merge.{Merge}
 use Rattle.cts_model.specs.declared.tree.Tree.{Tree}
-use Rattle.cts_model.specs.Points.{distance, scaled, turned}
+use Rattle.cts_model.specs.Points.{distance, scaled, rotated}
 use Rattle.cts_model.specs.Topologies.{IsParent, source_of}
 
 -- where the nodes stand, and how long their edges are
@@ -26,8 +26,8 @@ embedding_of tree = record {
 pub record IsEmbedding (scale : ℕ) (sinks : List Sink) (merges : List Merge) (source : Uv)
     (tree : Embedding) : Type 0 where
   pub sinks_stand : (register : ℕ) → IfSome (slice_get sinks register)
-      (λ sink. turned (tree.place register) ≡ scaled scale sink.at)
-  pub source_stands : turned (tree.place (source_of (length sinks))) ≡ scaled scale source
+      (λ sink. rotated (tree.place register) ≡ scaled scale sink.at)
+  pub source_stands : rotated (tree.place (source_of (length sinks))) ≡ scaled scale source
   pub long_enough : (node parent : ℕ) → IsParent (length sinks) merges node parent
       → distance (tree.place parent) (tree.place node) ≤ℤ tree.length node
 

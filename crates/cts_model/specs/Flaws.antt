@@ -4,7 +4,7 @@ use Rattle.std.specs.Prelude.{ℕ, Bool, true, false, not, nat_le, nat_lt, List,
 use Rattle.std.specs.Option.{option_map, option_and_then, option_map_or}
 use Rattle.std.specs.List.{filter_map, sum_by, list_any, list_all}
 use Rattle.std.specs.Str.{bytes_eq}
-use Rattle.cts_model.specs.Kinds.{is_register, is_gate, is_lawful, kind_of}
+use Rattle.cts_model.specs.Kinds.{is_register, is_gate, is_valid, kind_of}
 use Rattle.cts_model.specs.Names.{is_short}
 use Rattle.cts_model.specs.Statements.{Statement, Assign, Definition, statement_of, definition_of, names_of}
 
@@ -51,14 +51,14 @@ has_kind (Assign name word inputs) = is_some (kind_of word)
 has_kind _ = true
 
 -- a definition has a number of inputs that its kind may have
-abbrev pub has_lawful_inputs : Definition → Bool
-has_lawful_inputs definition = is_lawful definition.kind (length definition.inputs)
+abbrev pub has_valid_inputs : Definition → Bool
+has_valid_inputs definition = is_valid definition.kind (length definition.inputs)
 
 -- one of the definitions before has its name
 abbrev pub is_defined_before : List Definition → Definition → Bool
 is_defined_before earlier definition = list_any (bytes_eq definition.name) (defined_names earlier)
 
--- the first limit that a definition passes behind those before it, its names aside
+-- the first limit that a definition passes after those before it, its names aside
 abbrev pub definition_excess : List Definition → Definition → Option Limit
 definition_excess earlier definition =
     if nat_le 65536 (length earlier) then Some Signals
@@ -73,17 +73,17 @@ excess_of earlier statement =
     then option_and_then (definition_excess earlier) (definition_of statement)
     else Some Name
 
--- what is wrong with a statement behind the definitions before it
+-- what is wrong with a statement after the definitions before it
 abbrev pub statement_flaw : List Definition → Statement → Option Flaw
 statement_flaw earlier statement =
     if not (has_kind statement) then Some UnknownKind
-    else if not (option_map_or has_lawful_inputs (definition_of statement) true)
+    else if not (option_map_or has_valid_inputs (definition_of statement) true)
     then Some WrongInputs
     else if option_map_or (is_defined_before earlier) (definition_of statement) false
     then Some SignalTwice
     else option_map TooLarge (excess_of earlier statement)
 
--- what is wrong with a line behind the lines before it, if anything is
+-- what is wrong with a line after the lines before it, if anything is
 abbrev pub flaw_of : List (List ℕ) → List ℕ → Option Flaw
 flaw_of earlier line =
     option_map_or (statement_flaw (definitions_in earlier)) (statement_of line) (Some BadLine)

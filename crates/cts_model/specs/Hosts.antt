@@ -1,4 +1,4 @@
--- The host of a circuit: one more signal and register behind the others.
+-- The host of a circuit: one more signal and register after the others.
 use Rattle.std.specs.Prelude.{◌≡◌, ◌++◌, ◌∷◌, [], IsFalse, length}
 use Rattle.cts_model.specs.declared.circuit.Circuit.{Circuit}
 use Rattle.cts_model.specs.Circuits.{has_host, host_signal}

@@ -25,7 +25,7 @@ use Rattle.cts_model.specs.Embeddings.{AreWiresDown, Embedding}
 use Rattle.cts_model.specs.Leads.{ShowsEarliest, lead_at}
 use Rattle.cts_model.specs.LeastPeriods.{IsFloorPeriod}
 use Rattle.cts_model.specs.Paths.{IsPath}
-use Rattle.cts_model.specs.Points.{distance, turned}
+use Rattle.cts_model.specs.Points.{distance, rotated}
 use Rattle.cts_model.specs.Schedules.{arrival_of}
 use Rattle.cts_model.specs.ShownReaches.{ShowsMerge, ShowsSource}
 use Rattle.cts_model.specs.Slacks.{IsSlack}
@@ -36,7 +36,7 @@ use Rattle.cts_model.specs.Topologies.{IsMerge, IsParent, numbers_below, root_of
 abbrev pub IsFromFloor : Tech → Fraction → Type 0
 IsFromFloor tech period = (tech.floor *ℤ period.den) ≤ℤ period.num
 
--- the place behind one in a round of so many
+-- the place after one in a round of so many
 abbrev pub next_place : (places place : ℕ) → ℕ
 next_place places place = if place + 1 == places then 0 else place + 1
 
@@ -77,10 +77,10 @@ pub record MeetsAt (circuit : Circuit) (tech : Tech) (period : Fraction) (at : L
 -- that none before it joined, the lower number first
 pub record HasShape (sinks : List Sink) (merges : List Merge) (source : Uv) (tree : Embedding)
     (node : ℕ) : Type 0 where
-  pub sink_stands : IfSome (slice_get sinks node) (λ sink. turned (tree.place node) ≡ sink.at)
+  pub sink_stands : IfSome (slice_get sinks node) (λ sink. rotated (tree.place node) ≡ sink.at)
   pub joins : (place : ℕ) (merge : Merge) → node ≡ length sinks + place
       → slice_get merges place ≡ Some merge → IsMerge (length sinks) (take place merges) merge
-  pub source_stands : node ≡ source_of (length sinks) → turned (tree.place node) ≡ source
+  pub source_stands : node ≡ source_of (length sinks) → rotated (tree.place node) ≡ source
 
 -- the edge isn't shorter than the way between its ends
 abbrev pub IsLongEnough : (sinks : ℕ) → List Merge → Embedding → (edge : ℕ) → Type 0

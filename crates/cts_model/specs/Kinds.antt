@@ -40,13 +40,13 @@ place_of Buff = 7
 place_of _ = 8
 
 -- whether a kind may have so many inputs; the host has as many as there are primary outputs
-abbrev pub is_lawful : Kind → ℕ → Bool
-is_lawful Host inputs = true
-is_lawful Input inputs = inputs == 0
-is_lawful Dff inputs = inputs == 1
-is_lawful Not inputs = inputs == 1
-is_lawful Buff inputs = inputs == 1
-is_lawful _ inputs = nat_le 1 inputs && nat_le inputs 1024
+abbrev pub is_valid : Kind → ℕ → Bool
+is_valid Host inputs = true
+is_valid Input inputs = inputs == 0
+is_valid Dff inputs = inputs == 1
+is_valid Not inputs = inputs == 1
+is_valid Buff inputs = inputs == 1
+is_valid _ inputs = nat_le 1 inputs && nat_le inputs 1024
 
 -- the kind that a word after `=` names, in any ASCII case
 abbrev pub kind_of : List ℕ → Option Kind

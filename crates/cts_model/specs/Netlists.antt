@@ -1,4 +1,4 @@
--- Accepted netlists of the ISCAS'89 .bench format, and the circuit that each tells.
+-- Accepted netlists of the ISCAS'89 .bench format, and the circuit that each denotes.
 use Rattle.std.specs.Prelude.{◌≡◌, ◌==◌, ◌<◌, ℕ, not, List, [], ◌∷◌, ◌++◌, map, filter, All, Option, None, IsSome, position}
 use Rattle.std.specs.List.{filter_map}
 use Rattle.std.specs.Str.{bytes_eq}
@@ -32,7 +32,7 @@ first_mentions (number ∷ numbers) =
 abbrev pub names_in : List ℕ → List (List ℕ)
 names_in text = defined_names (definitions_in (lines_of text))
 
--- the signals that a text tells: one for each definition
+-- the signals that a text denotes: one for each definition
 abbrev pub signals_of : List ℕ → List Signal
 signals_of text = map (signal_of (names_in text)) (definitions_in (lines_of text))
 
@@ -45,7 +45,7 @@ outputs_of text = first_mentions
 abbrev pub UsesDefined : List (List ℕ) → Statement → Type 0
 UsesDefined names statement = All (λ name. IsSome (number_of names name)) (uses_of statement)
 
--- nothing is wrong with any line behind the lines before it
+-- nothing is wrong with any line after the lines before it
 pub record AreFlawless (lines : List (List ℕ)) : Type 0 where
   pub each : (earlier : List (List ℕ)) (line : List ℕ) (later : List (List ℕ))
       → lines ≡ earlier ++ line ∷ later → flaw_of earlier line ≡ None

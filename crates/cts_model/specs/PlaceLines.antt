@@ -1,5 +1,5 @@
 -- The lines of a placement in the Bookshelf format (.pl), with this project's choice of spellings.
--- What a line says is told by its words, its comment cut off.
+-- What a line says is determined by its words, its comment cut off.
 use Rattle.std.specs.Prelude.{ℕ, Bool, true, false, not, ◌==◌, ◌&&◌, ◌||◌, List, [], ◌∷◌, length, take, drop, Option, Some, None, if◌then◌else◌, codes}
 use Rattle.std.specs.Option.{option_map}
 use Rattle.std.specs.List.{prefix_len, list_any}
@@ -22,12 +22,12 @@ pub data Entry : Type 0 where
 abbrev pub is_not_colon : ℕ → Bool
 is_not_colon byte = not (byte == 58)
 
--- the word has that byte in front
+-- the word has that byte before
 abbrev pub begins_with : ℕ → List ℕ → Bool
 begins_with byte [] = false
 begins_with byte (first ∷ rest) = first == byte
 
--- a compass point, turned over or not, in any case of its letters
+-- a compass point, rotated over or not, in any case of its letters
 abbrev pub is_orientation : List ℕ → Bool
 is_orientation word =
     str_eq_ignore_ascii_case word (codes "N") || str_eq_ignore_ascii_case word (codes "S")
@@ -35,7 +35,7 @@ is_orientation word =
     || str_eq_ignore_ascii_case word (codes "FN") || str_eq_ignore_ascii_case word (codes "FS")
     || str_eq_ignore_ascii_case word (codes "FE") || str_eq_ignore_ascii_case word (codes "FW")
 
--- what is left of a word, if anything is, and the words behind it
+-- what is left of a word, if anything is, and the words after it
 abbrev pub part_and : List ℕ → List (List ℕ) → List (List ℕ)
 part_and part words = if is_not_empty part then part ∷ words else words
 
@@ -49,7 +49,7 @@ abbrev pub is_oriented : List (List ℕ) → Bool
 is_oriented [] = false
 is_oriented (word ∷ rest) = is_orientation word && is_remark rest
 
--- what may stand behind y: a colon with an orientation if wanted, and a remark if wanted
+-- what may stand after y: a colon with an orientation if wanted, and a remark if wanted
 abbrev pub is_tail : List (List ℕ) → Bool
 is_tail [] = true
 is_tail (word ∷ rest) =
@@ -60,7 +60,7 @@ is_tail (word ∷ rest) =
 abbrev pub y_len : List ℕ → ℕ
 y_len word = prefix_len is_not_colon word
 
--- the node of a line, by its name, its x and the words behind x
+-- the node of a line, by its name, its x and the words after x
 abbrev pub node_of : (name x : List ℕ) → List (List ℕ) → Option Node
 node_of name x [] = None
 node_of name x (word ∷ rest) =
@@ -92,6 +92,6 @@ is_not_blank line = not (length (place_words line) == 0)
 abbrev pub has_begun : List (List ℕ) → Bool
 has_begun lines = list_any is_not_blank lines
 
--- what a line is behind these lines, if it has a form
-abbrev pub entry_behind : (earlier : List (List ℕ)) → List ℕ → Option Entry
-entry_behind earlier line = entry_of_words (has_begun earlier) (place_words line)
+-- what a line is after these lines, if it has a form
+abbrev pub entry_after : (earlier : List (List ℕ)) → List ℕ → Option Entry
+entry_after earlier line = entry_of_words (has_begun earlier) (place_words line)

@@ -1,18 +1,18 @@
--- Accepted placements in the Bookshelf format (.pl), and the places that each tells for a circuit's
+-- Accepted placements in the Bookshelf format (.pl), and the places that each denotes for a circuit's
 -- registers, its source and its host.
 use Rattle.std.specs.Prelude.{◌≡◌, ◌⊎◌, ℕ, Bool, false, IsTrue, IsFalse, MatchBool, ◌||◌, List, [], ◌∷◌, ◌++◌, map, Contains, Option, Some, None, if◌then◌else◌, slice_get, ℤ}
 use Rattle.std.specs.Option.{option_map_or}
 use Rattle.std.specs.List.{list_any, cons_option}
 use Rattle.std.specs.Str.{bytes_eq}
 use Rattle.cts_base.specs.Lines.{lines_of}
-use Rattle.cts_base.specs.Decimals.{IsRead, Refuses}
+use Rattle.cts_base.specs.Decimals.{IsRead, RefusesNumber}
 use Rattle.cts_base.specs.declared.number.NumberFault.{NumberFault}
 use Rattle.cts_model.specs.declared.signal.Signal.{Signal}
 use Rattle.cts_model.specs.declared.circuit.Circuit.{Circuit}
 use Rattle.cts_model.specs.declared.place.Point.{Point}
 use Rattle.cts_model.specs.declared.place.Places.{Places}
 use Rattle.cts_model.specs.Kinds.{is_host}
-use Rattle.cts_model.specs.PlaceLines.{Node, Entry, Blank, Header, Stands, is_not_blank, place_words, entry_of_words, entry_behind}
+use Rattle.cts_model.specs.PlaceLines.{Node, Entry, Blank, Header, Stands, is_not_blank, place_words, entry_of_words, entry_after}
 
 -- the node where a register stands: the one of its name, and for the host the one that is given
 abbrev pub node_name : (host : List ℕ) → Signal → List ℕ
@@ -69,11 +69,11 @@ abbrev pub HasNodeFlaw : Node → (placed : Bool) → Option Flaw → Type 0
 HasNodeFlaw node placed None = IsNumber node.x × IsNumber node.y × IsFalse placed
 HasNodeFlaw node placed (Some BadLine) = ⊥
 HasNodeFlaw node placed (Some (BadNumber fault)) =
-    Refuses node.x fault ⊎ (IsNumber node.x × Refuses node.y fault)
+    RefusesNumber node.x fault ⊎ (IsNumber node.x × RefusesNumber node.y fault)
 HasNodeFlaw node placed (Some PlaceTwice) =
     IsNumber node.x × IsNumber node.y × IsTrue placed
 
--- what is wrong with a line that is this, behind these lines
+-- what is wrong with a line that is this, after these lines
 abbrev pub HasEntryFlaw : (wanted earlier : List (List ℕ)) → Option Entry → Option Flaw → Type 0
 HasEntryFlaw wanted earlier None flaw = flaw ≡ Some BadLine
 HasEntryFlaw wanted earlier (Some Blank) flaw = flaw ≡ None
@@ -81,11 +81,11 @@ HasEntryFlaw wanted earlier (Some Header) flaw = flaw ≡ None
 HasEntryFlaw wanted earlier (Some (Stands node)) flaw = MatchBool (is_among wanted node.name)
     (HasNodeFlaw node (is_placed (nodes_in earlier) node.name) flaw) (flaw ≡ None)
 
--- what is wrong with a line behind the lines before it, if anything is
+-- what is wrong with a line after the lines before it, if anything is
 abbrev pub HasFlaw : (wanted earlier : List (List ℕ)) → List ℕ → Option Flaw → Type 0
-HasFlaw wanted earlier line flaw = HasEntryFlaw wanted earlier (entry_behind earlier line) flaw
+HasFlaw wanted earlier line flaw = HasEntryFlaw wanted earlier (entry_after earlier line) flaw
 
--- nothing is wrong with any line behind the lines before it
+-- nothing is wrong with any line after the lines before it
 pub record AreFlawless (wanted lines : List (List ℕ)) : Type 0 where
   pub each : (earlier : List (List ℕ)) (line : List ℕ) (later : List (List ℕ))
       → lines ≡ earlier ++ line ∷ later → HasFlaw wanted earlier line None

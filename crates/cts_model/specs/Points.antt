@@ -1,4 +1,4 @@
--- Points of the plane, and the same points in coordinates turned by 45 degrees, as they serve
+-- Points of the plane, and the same points in coordinates rotated by 45 degrees, as they serve
 -- deferred merging: Boese and Kahng 1992; Chao and others 1992. Wires run along x and y, so the
 -- distance of two points is the Manhattan distance. A definition speaks of whole numbers; taken as
 -- numerators over one denominator, the scale, they are all fractions.
@@ -42,13 +42,13 @@ apart a b = int_max (a -ℤ b) (b -ℤ a)
 abbrev pub distance : Point → Point → ℤ
 distance a b = apart a.x b.x +ℤ apart a.y b.y
 
--- the point in turned coordinates
-abbrev pub turned : Point → Uv
-turned point = record { u = point.x +ℤ point.y; v = point.x -ℤ point.y }
+-- the point in rotated coordinates
+abbrev pub rotated : Point → Uv
+rotated point = record { u = point.x +ℤ point.y; v = point.x -ℤ point.y }
 
--- the distance of two points by their turned coordinates: the greater of the two differences
-abbrev pub turned_distance : Uv → Uv → ℤ
-turned_distance a b = int_max (apart a.u b.u) (apart a.v b.v)
+-- the distance of two points by their rotated coordinates: the greater of the two differences
+abbrev pub rotated_distance : Uv → Uv → ℤ
+rotated_distance a b = int_max (apart a.u b.u) (apart a.v b.v)
 
 -- the point by its numerators over that scale
 abbrev pub scaled : ℕ → Uv → Uv

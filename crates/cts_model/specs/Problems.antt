@@ -11,7 +11,7 @@ use Rattle.cts_model.specs.Circuits.{has_host}
 use Rattle.cts_model.specs.Delays.{delay_of}
 use Rattle.cts_model.specs.Kinds.{is_gate}
 use Rattle.cts_model.specs.Paths.{IsLoop}
-use Rattle.cts_model.specs.Points.{IsPointBelow, turned}
+use Rattle.cts_model.specs.Points.{IsPointBelow, rotated}
 
 -- the table gives the kind of each gate of the circuit
 abbrev pub GivesUsedKinds : Circuit → Tech → Type 0
@@ -51,7 +51,7 @@ scheduled_length tech arrival = pos (8 * 10 ^ 6) *ℤ tech.wire_den *ℤ arrival
 -- a register as the tree sees it
 abbrev pub sink_of : Fraction → Tech → Point → (arrival : ℤ) → Sink
 sink_of period tech place arrival = record {
-  at = turned (on_grid period tech place);
+  at = rotated (on_grid period tech place);
   offset = neg_ℤ (scheduled_length tech arrival);
 }
 

@@ -5,11 +5,11 @@
 use Rattle.std.specs.Prelude.{◌≡◌, ◌⊎◌, ℕ, List, [], ◌∷◌, Contains, ℤ, pos, ◌+ℤ◌, ◌-ℤ◌, ◌*ℤ◌, ◌≤ℤ◌}
 use Rattle.cts_model.specs.declared.place.Sink.{Sink}
 use Rattle.cts_model.specs.declared.place.Uv.{Uv}
-use Rattle.cts_model.specs.Points.{scaled, turned_distance}
+use Rattle.cts_model.specs.Points.{scaled, rotated_distance}
 
 -- the distance of two sinks with both offsets: no node above both has a reach below half of it
 abbrev pub span : Sink → Sink → ℤ
-span one other = one.offset +ℤ other.offset +ℤ turned_distance one.at other.at
+span one other = one.offset +ℤ other.offset +ℤ rotated_distance one.at other.at
 
 -- the greatest span of a sink of the one set and a sink of the other, with a pair that shows it
 pub record IsGreatestSpan (first second : List Sink) (greatest : ℤ) : Type 0 where
@@ -28,7 +28,7 @@ IsReach sinks twice = IsGreatestSpan sinks sinks twice
 -- the point is no further from any of the sinks than the radius less the sink's offset
 abbrev pub InRegion : List Sink → ℕ → ℤ → Uv → Type 0
 InRegion sinks scale radius point = (sink : Sink) → Contains sinks sink
-    → turned_distance (scaled scale sink.at) point ≤ℤ (radius -ℤ pos scale *ℤ sink.offset)
+    → rotated_distance (scaled scale sink.at) point ≤ℤ (radius -ℤ pos scale *ℤ sink.offset)
 
 -- of every two sinks the regions at that radius, which are squares, have a common point
 abbrev pub MeetTwoByTwo : List Sink → ℕ → ℤ → Type 0

@@ -84,7 +84,7 @@ IsSmallLead Zero = Unit {0}
 IsSmallLead (Tight depth constraint) =
     (1 ≤ depth) × (depth ≤ 9999) × HasSmallWeight constraint
 
--- a wire has 1 to 5 points, and none behind them
+-- a wire has 1 to 5 points, and none after them
 pub record IsSmallWire (wire : Wire) : Type 0 where
   pub some : 1 ≤ wire.used
   pub few : wire.used ≤ 5

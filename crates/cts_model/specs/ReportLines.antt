@@ -86,14 +86,14 @@ merge_words circuit report node merge show = signed_decimal (pos node)
     ∷ signed_decimal (pos merge.first) ∷ signed_decimal (pos merge.second)
     ∷ length_text report (number_at report.tree.reach node) ∷ show_words circuit show
 
--- the line of the merge at a place, whose node is behind all sinks and earlier merges
+-- the line of the merge at a place, whose node is after all sinks and earlier merges
 abbrev pub merge_line_at : Circuit → Report → ℕ → Words
 merge_line_at circuit report place = merge_words circuit report
     (length report.schedule.at + place)
     (slice_index_or report.topology.merges place (record { first = 0; second = 0 }))
     (slice_index_or report.shows place Root)
 
--- the source's reach and what shows it; its show is behind those of the merges
+-- the source's reach and what shows it; its show is after those of the merges
 abbrev pub source_line : Circuit → Report → Words
 source_line circuit report = codes "source"
     ∷ length_text report (number_at report.tree.reach (source_of (length report.schedule.at)))

@@ -19,7 +19,7 @@ use Rattle.cts_model.specs.Problems.{on_grid, sinks_of}
 use Rattle.cts_model.specs.RealisedSchedules.{RealisesSchedule}
 use Rattle.cts_model.specs.ReportBounds.{IsOfSize, IsWithinBounds}
 use Rattle.cts_model.specs.ReportLines.{number_at}
-use Rattle.cts_model.specs.Points.{turned}
+use Rattle.cts_model.specs.Points.{rotated}
 use Rattle.cts_model.specs.Schedules.{arrival_of, IsLeastSchedule}
 use Rattle.cts_model.specs.SkewLaws.{IsLeastForSchedule}
 use Rattle.cts_model.specs.Timing.{Meets}
@@ -31,7 +31,7 @@ sinks_in problem report =
     sinks_of report.period problem.tech problem.places.registers report.schedule.at
 
 abbrev pub source_in : Problem → Report → Uv
-source_in problem report = turned (on_grid report.period problem.tech problem.places.source)
+source_in problem report = rotated (on_grid report.period problem.tech problem.places.source)
 
 -- the constraints of the cycle that is shown, and none for the floor
 abbrev pub cycle_of : PeriodShow → List Constraint
@@ -83,7 +83,7 @@ pub record IsShown (problem : Problem) (report : Report) : Type 0 where
 
 -- no smaller period is admitted; the schedule meets it, and the tree, whose wire delays are the
 -- schedule's but for a common one, has the least wire of all such trees over its topology
-pub record IsLeast (problem : Problem) (report : Report) : Type 0 where
+pub record ShowsLeast (problem : Problem) (report : Report) : Type 0 where
   pub period : IsLeastFraction problem.circuit problem.tech report.period
   pub meets : Meets problem.circuit problem.tech (nat_abs report.period.den) report.period.num
       (arrival_of report.schedule.at)
@@ -100,4 +100,4 @@ pub record IsLeast (problem : Problem) (report : Report) : Type 0 where
 -- what a report shows is so. It is the clause of a function of the module laws.
 abbrev pub ShownIsLeast : Type 0
 ShownIsLeast = (problem : Problem) (report : Report) → IsOfSize problem.circuit report
-    → IsWithinBounds problem.tech report → IsShown problem report → IsLeast problem report
+    → IsWithinBounds problem.tech report → IsShown problem report → ShowsLeast problem report

@@ -7,7 +7,7 @@ use Rattle.cts_model.specs.declared.place.Uv.{Uv}
 use Rattle.cts_model.specs.declared.tree.Merge.{Merge}
 use Rattle.cts_model.specs.declared.tree.Show.{Show}
 use Rattle.cts_model.specs.declared.tree.Show.TheVariants as shows
-use Rattle.cts_model.specs.Points.{turned_distance}
+use Rattle.cts_model.specs.Points.{rotated_distance}
 use Rattle.cts_model.specs.Regions.{span}
 use Rattle.cts_model.specs.Topologies.{IsParent, numbers_below, root_of, source_of}
 
@@ -32,7 +32,7 @@ ShowsMerge sinks numbers reach shows.Root = ⊥
 abbrev pub ShowsSource : List Sink → (source : Uv) → (root reach : ℤ) → Show → Type 0
 ShowsSource sinks source root reach (shows.Pair first second) = ⊥
 ShowsSource sinks source root reach (shows.Sink register) = IsSomeAnd (slice_get sinks register)
-    (λ sink. reach ≡ sink.offset +ℤ turned_distance source sink.at)
+    (λ sink. reach ≡ sink.offset +ℤ rotated_distance source sink.at)
 ShowsSource sinks source root reach shows.Root = reach ≡ root
 
 -- a sink's reach is its offset, and each merge and the source has a show

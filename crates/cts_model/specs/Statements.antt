@@ -23,7 +23,7 @@ declaration_of word name =
     else if str_eq_ignore_ascii_case word (codes "OUTPUT") then Some (Output name)
     else None
 
--- after a name in parentheses: more of them behind commas, and then the end of the line
+-- after a name in parentheses: more of them after commas, and then the end of the line
 abbrev pub more_inputs_of : List Token → Option (List (List ℕ))
 more_inputs_of (Close ∷ []) = Some []
 more_inputs_of (Comma ∷ Word name ∷ rest) = option_map (λ names. name ∷ names) (more_inputs_of rest)

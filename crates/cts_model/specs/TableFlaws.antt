@@ -31,7 +31,7 @@ first_flaw flaw (x ∷ xs) = option_or (flaw x) (first_flaw flaw xs)
 abbrev pub is_no_table : Option Data → Bool
 is_no_table value = option_map_or (λ data_there. is_none (as_table data_there)) value false
 
--- the first name on the way to a table, behind those passed, that is there and is no table
+-- the first name on the way to a table, after those passed, that is there and is no table
 abbrev pub way_flaw : List (List ℕ) → List (List ℕ) → Members → Option TableFlaw
 way_flaw passed [] document = None
 way_flaw passed (name ∷ way) document =

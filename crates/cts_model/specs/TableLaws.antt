@@ -51,7 +51,7 @@ abbrev pub IsFirstDisorder : Members → List ℕ → Type 0
 IsFirstDisorder document name = (AreRegistersDisordered document × (name ≡ codes "register"))
     ⊎ (¬ AreRegistersDisordered document × IsFirstKind document name)
 
--- what is told of an order is the first that is out of order
-abbrev pub FirstDisorderIsTold : Type 0
-FirstDisorderIsTold = (document : Members) (name : List ℕ)
+-- what is said of an order is the first that is out of order
+abbrev pub FirstDisorderIsDenoted : Type 0
+FirstDisorderIsDenoted = (document : Members) (name : List ℕ)
     → order_flaw document ≡ Some (LeastAboveGreatest name) ↔ IsFirstDisorder document name

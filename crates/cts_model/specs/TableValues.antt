@@ -9,7 +9,7 @@ use Rattle.cts_model.specs.declared.kind.Kind.{Kind}
 use Rattle.cts_model.specs.declared.tech.GateDelay.{GateDelay}
 use Rattle.cts_model.specs.TableKeys.{Form, Fraction, Node, UpTo, gate_way}
 
--- a name behind those of the tables that lead to it, joined by dots
+-- a name after those of the tables that lead to it, joined by dots
 abbrev pub dotted : List (List ℕ) → List ℕ → List ℕ
 dotted way name = flat_map (λ table. table ++ codes ".") way ++ name
 
@@ -36,7 +36,7 @@ number_at way name document =
 abbrev pub is_slash : ℕ → Bool
 is_slash byte = byte == 47
 
--- the texts before and behind the first slash; where there is none, 1 stands behind it
+-- the texts before and after the first slash; where there is none, 1 stands after it
 abbrev pub numerator_text : List ℕ → List ℕ
 numerator_text text =
     option_map_or (λ slash. take slash text) (position is_slash text) text

@@ -22,7 +22,7 @@ abbrev pub begins_with_name_byte : List ℕ → Bool
 begins_with_name_byte [] = false
 begins_with_name_byte (byte ∷ line) = is_name_byte byte
 
--- a byte of a name, in front of the word that goes on behind it, or as a word of its own
+-- a byte of a name, before the word that goes on after it, or as a word of its own
 abbrev pub onto_word : ℕ → Bool → List Token → List Token
 onto_word byte true (Word bytes ∷ tokens) = Word (byte ∷ bytes) ∷ tokens
 onto_word byte _ tokens = Word (byte ∷ []) ∷ tokens

@@ -6,7 +6,7 @@ ghost use Rattle.cts_model.specs.LeadLaws.{LedArrivalsAreLeast};
 ghost use Rattle.cts_model.specs.SaidReports.{ShownIsWhatItSays};
 ghost use Rattle.cts_model.specs.Shown.{ShownIsLeast};
 ghost use Rattle.cts_model.specs.SkewLaws.{OffsetsAreSkews, SkewsAreOffsets, LeastForSchedule, RealisedMeets};
-ghost use Rattle.cts_model.specs.TableLaws.{UnknownKeyIsLeast, FirstDisorderIsTold};
+ghost use Rattle.cts_model.specs.TableLaws.{UnknownKeyIsLeast, FirstDisorderIsDenoted};
 ghost use Rattle.cts_model.specs.TreeLaws.{ReachesRealise, ShownReachesAreLeast, RealisedHaveReaches, ReachesAreNoLess, WireIsOfReaches};
 
 /// A cycle among constraints bounds the periods at which any arrivals satisfy them.
@@ -27,7 +27,7 @@ pub fn circuits()
 /// What the first flaw of a delay table says of its names and of its order.
 pub fn tables()
     ensures unknown { UnknownKeyIsLeast }
-    ensures disorder { FirstDisorderIsTold }
+    ensures disorder { FirstDisorderIsDenoted }
 {}
 
 /// What the shows of a tree say of every tree with its topology, and what the reaches of every

@@ -1,5 +1,5 @@
 ghost use Rattle.std.specs.Prelude.{◌≡◌, ◌*◌, ◌^◌, pos, ◌+ℤ◌, ◌≤ℤ◌, ◌<ℤ◌};
-ghost use Rattle.cts_model.specs.Points.{IsBelow, IsMultipleOf, IsPointBelow, apart, distance, turned, turned_distance};
+ghost use Rattle.cts_model.specs.Points.{IsBelow, IsMultipleOf, IsPointBelow, apart, distance, rotated, rotated_distance};
 
 use cts_base::Listed;
 
@@ -44,7 +44,7 @@ pub fn manhattan(a: Point, b: Point) -> i128
     requires from { IsPointBelow (10 ^ 33) a }
     requires to { IsPointBelow (10 ^ 33) b }
     ensures value { result ≡ distance a b }
-    ensures turned { result ≡ turned_distance (turned a) (turned b) }
+    ensures rotated { result ≡ rotated_distance (rotated a) (rotated b) }
 {
     apart(a.x, b.x) + apart(a.y, b.y)
 }

@@ -1,10 +1,10 @@
--- What the command `check` is left with: a report that isn't read or isn't shown, behind the files of
+-- What the command `check` is left with: a report that isn't read or isn't shown, after the files of
 -- a problem, or one that is.
 use Rattle.std.proofs.Common.{◌≡◌, ◌≢◌, ℕ, List, [], ◌∷◌, Option, Some, Bor, refl, sym, subst}
 use Rattle.cts_model.specs.declared.problem.Problem.{Problem}
 use Rattle.cts_model.specs.declared.report.Report.{Report}
 use Rattle.cts_model.specs.PrintedLines.{text_of}
-use Rattle.cts_model.specs.Shown.{IsShown, IsLeast}
+use Rattle.cts_model.specs.Shown.{IsShown, ShowsLeast}
 use Rattle.cert_check.specs.declared.verdict.Reason.{Reason}
 use Rattle.cert_check.specs.declared.verdict.Verdict.TheVariants.{Not}
 use Rattle.cert_check.specs.Verdicts.{IsVerdict}
@@ -20,54 +20,54 @@ use Rattle.cts_program.specs.declared.not_shown.NotShown.TheVariants as why
 use Rattle.cts_program.specs.Checks.{shown_line, subject_of, AreOfProblem}
 use Rattle.cts_program.specs.Failures.{report_failure_of}
 use Rattle.cts_program.specs.Files.{IsShortFile, problem_files, files_of, AreContents}
-use Rattle.cts_program.specs.Run.{TellsText, Stops}
-use Rattle.cts_program.specs.Steps.{IsToldAs, TellsProblem, ReadsReport, FailsReport, TellsReason, FailsToShow}
+use Rattle.cts_program.specs.Run.{DenotesText, Stops}
+use Rattle.cts_program.specs.Steps.{IsReportedAs, DenotesProblem, ReadsReport, FailsReport, GivesReason, FailsToShow}
 
 module _ (problem : Problem) (held : Option (List ℕ)) (before now : ℕ) where
-  module _ (bytes : List ℕ) (told : IsToldAs held bytes) (short : IsShortFile bytes) where
-    -- a text that is no report is the failure that it is told as
+  module _ (bytes : List ℕ) (denoted : IsReportedAs held bytes) (short : IsShortFile bytes) where
+    -- a text that is no report is the failure that it is reported as
     pub refused_report : (found : ReportFault) → (found ≢ fault.NoMemory
         → HasFault problem.circuit problem.tech bytes (Some found))
         → FailsReport problem held before now (report_failure_of found)
     refused_report fault.NoMemory has = tt
     refused_report (fault.BadLine line) has =
-        (bytes, told, (short, (λ e. cc e), has (λ e. cc e)))
+        (bytes, denoted, (short, (λ e. cc e), has (λ e. cc e)))
     refused_report (fault.UnknownRegister line) has =
-        (bytes, told, (short, (λ e. cc e), has (λ e. cc e)))
+        (bytes, denoted, (short, (λ e. cc e), has (λ e. cc e)))
     refused_report (fault.Missing line) has =
-        (bytes, told, (short, (λ e. cc e), has (λ e. cc e)))
+        (bytes, denoted, (short, (λ e. cc e), has (λ e. cc e)))
     refused_report (fault.Extra line) has =
-        (bytes, told, (short, (λ e. cc e), has (λ e. cc e)))
+        (bytes, denoted, (short, (λ e. cc e), has (λ e. cc e)))
     refused_report (fault.TooLarge line) has =
-        (bytes, told, (short, (λ e. cc e), has (λ e. cc e)))
+        (bytes, denoted, (short, (λ e. cc e), has (λ e. cc e)))
     refused_report (fault.UnknownSignal line) has =
-        (bytes, told, (short, (λ e. cc e), has (λ e. cc e)))
+        (bytes, denoted, (short, (λ e. cc e), has (λ e. cc e)))
 
--- what tells a reason against a report tells that it isn't shown
-pub told_reason : (problem : Problem) (report : Report) (reason : Reason)
+-- what gives a reason against a report says that it isn't shown
+pub reason_given : (problem : Problem) (report : Report) (reason : Reason)
     → IsVerdict problem report (Not reason) → (failure : Failure)
-    → TellsReason problem.circuit reason failure → FailsToShow problem report failure
-told_reason problem report reason verdict failures.Usage tells = absurd tells
-told_reason problem report reason verdict (failures.TooLong kind) tells = absurd tells
-told_reason problem report reason verdict (failures.Bench other) tells = absurd tells
-told_reason problem report reason verdict (failures.Tech other) tells = absurd tells
-told_reason problem report reason verdict (failures.Placement other) tells = absurd tells
-told_reason problem report reason verdict failures.Pairs tells = absurd tells
-told_reason problem report reason verdict (failures.Unshown why.TooLong) tells = absurd tells
-told_reason problem report reason verdict (failures.Unshown (why.Fault other)) tells =
-    absurd tells
-told_reason problem report reason verdict (failures.Unshown (why.Reason told subject))
+    → GivesReason problem.circuit reason failure → FailsToShow problem report failure
+reason_given problem report reason verdict failures.Usage denotes = absurd denotes
+reason_given problem report reason verdict (failures.TooLong kind) denotes = absurd denotes
+reason_given problem report reason verdict (failures.Bench other) denotes = absurd denotes
+reason_given problem report reason verdict (failures.Tech other) denotes = absurd denotes
+reason_given problem report reason verdict (failures.Placement other) denotes = absurd denotes
+reason_given problem report reason verdict failures.Pairs denotes = absurd denotes
+reason_given problem report reason verdict (failures.Unshown why.TooLong) denotes = absurd denotes
+reason_given problem report reason verdict (failures.Unshown (why.Fault other)) denotes =
+    absurd denotes
+reason_given problem report reason verdict (failures.Unshown (why.Reason denoted subject))
     (same, subject_is) =
     subst (λ r. IsVerdict problem report (Not r) × (subject ≡ subject_of problem.circuit r))
     (sym same) (verdict, subject_is)
-told_reason problem report reason verdict (failures.ReadFault kind) tells = absurd tells
-told_reason problem report reason verdict failures.WriteFault tells = absurd tells
-told_reason problem report reason verdict failures.NoMemory tells = tt
+reason_given problem report reason verdict (failures.ReadFault kind) denotes = absurd denotes
+reason_given problem report reason verdict failures.WriteFault denotes = absurd denotes
+reason_given problem report reason verdict failures.NoMemory denotes = tt
 
--- ---- behind the files of a problem
+-- ---- after the files of a problem
 
 -- the three files that tell it
-record TellsThree (holds : List ℕ → Option (List ℕ)) (files : List (FileKind × List ℕ))
+record DenotesThree (holds : List ℕ → Option (List ℕ)) (files : List (FileKind × List ℕ))
     (problem : Problem) : Type 0 where
   netlist : List ℕ
   table : List ℕ
@@ -76,13 +76,13 @@ record TellsThree (holds : List ℕ → Option (List ℕ)) (files : List (FileKi
   are_of : AreOfProblem (netlist ∷ table ∷ places ∷ []) problem
 
 module _ {holds : List ℕ → Option (List ℕ)} (bench file pl report : Bor (List ℕ))
-    (problem : Problem) (told : TellsProblem holds (problem_files bench file pl) problem) where
+    (problem : Problem) (denoted : DenotesProblem holds (problem_files bench file pl) problem) where
   -- no fewer and no more tell it
-  three_told : TellsThree holds (problem_files bench file pl) problem
-  three_told = at told.contents told.are told.are_of
+  three_denoted : DenotesThree holds (problem_files bench file pl) problem
+  three_denoted = at denoted.contents denoted.are denoted.are_of
     where
       at : (contents : List (List ℕ)) → AreContents holds (problem_files bench file pl) contents
-          → AreOfProblem contents problem → TellsThree holds (problem_files bench file pl) problem
+          → AreOfProblem contents problem → DenotesThree holds (problem_files bench file pl) problem
       at [] are are_of = absurd are_of.tell
       at (netlist ∷ []) are are_of = absurd are_of.tell
       at (netlist ∷ table ∷ []) are are_of = absurd are_of.tell
@@ -90,16 +90,16 @@ module _ {holds : List ℕ → Option (List ℕ)} (bench file pl report : Bor (L
           record { netlist = netlist; table = table; places = places; are = are; are_of = are_of }
       at (netlist ∷ table ∷ places ∷ more ∷ rest) are are_of = absurd are_of.tell
 
-  -- what the report's file holds, behind them
+  -- what the report's file holds, after them
   abbrev contents : (bytes : List ℕ) → List (List ℕ)
-  contents bytes = three_told.netlist ∷ three_told.table ∷ three_told.places ∷ bytes ∷ []
+  contents bytes = three_denoted.netlist ∷ three_denoted.table ∷ three_denoted.places ∷ bytes ∷ []
 
-  -- and that it is told
-  four_told : (bytes : List ℕ) → IsToldAs (holds report.now) bytes
+  -- and that it is given
+  four_denoted : (bytes : List ℕ) → IsReportedAs (holds report.now) bytes
       → AreContents holds (files_of (Check bench file pl report)) (contents bytes)
-  four_told bytes told' =
-      let (netlist, (table, (places, none))) = three_told.are in
-      (netlist, (table, (places, (told', tt))))
+  four_denoted bytes denoted' =
+      let (netlist, (table, (places, none))) = three_denoted.are in
+      (netlist, (table, (places, (denoted', tt))))
 
   module _ (reads reads_now : List ℕ → ℕ) where
     -- a report that isn't read stops the command
@@ -112,24 +112,24 @@ module _ {holds : List ℕ → Option (List ℕ)} (bench file pl report : Bor (L
     report_stops (failures.Tech other) fails = absurd fails
     report_stops (failures.Placement other) fails = absurd fails
     report_stops failures.Pairs fails = absurd fails
-    report_stops (failures.Unshown other) (bytes, told', refusal) = record {
+    report_stops (failures.Unshown other) (bytes, denoted', refusal) = record {
       contents = contents bytes;
-      are = four_told bytes told';
-      refusal = record { problem = problem; problem_is = three_told.are_of; refusal = refusal };
+      are = four_denoted bytes denoted';
+      refusal = record { problem = problem; problem_is = three_denoted.are_of; refusal = refusal };
     }
     report_stops (failures.ReadFault kinds.Bench) (same, rose) = cc same
     report_stops (failures.ReadFault kinds.Tech) (same, rose) = cc same
     report_stops (failures.ReadFault kinds.Placement) (same, rose) = cc same
     report_stops (failures.ReadFault kinds.Report) (same, rose) = record {
-      front = problem_files bench file pl;
+      prefix = problem_files bench file pl;
       file = report.now;
-      behind = [];
+      suffix = [];
       files = refl;
       rose = rose;
-      contents = three_told.netlist ∷ three_told.table ∷ three_told.places ∷ [];
+      contents = three_denoted.netlist ∷ three_denoted.table ∷ three_denoted.places ∷ [];
       before = refl;
-      are = three_told.are;
-      accepted = three_told.are_of.accepted;
+      are = three_denoted.are;
+      accepted = three_denoted.are_of.accepted;
     }
     report_stops failures.WriteFault fails = fails
     report_stops failures.NoMemory fails = tt
@@ -151,7 +151,7 @@ module _ {holds : List ℕ → Option (List ℕ)} (bench file pl report : Bor (L
         (verdict, subject_is) = report_stops reads reads_now
         (failures.Unshown (why.Reason reason subject)) (
           read.bytes,
-          read.told,
+          read.denoted,
           (
             read.short,
             record { report = says; spelled = read.spelled; verdict = verdict },
@@ -163,19 +163,19 @@ module _ {holds : List ℕ → Option (List ℕ)} (bench file pl report : Bor (L
     unshown_stops reads reads_now failures.NoMemory fails = tt
 
     -- one that is shown is the answer
-    pub shown_answer : IsShown problem says → IsLeast problem says → (text : List ℕ)
+    pub shown_answer : IsShown problem says → ShowsLeast problem says → (text : List ℕ)
         → text ≡ text_of (shown_line ∷ [])
-        → TellsText holds (Check bench file pl report) 0 text
+        → DenotesText holds (Check bench file pl report) 0 text
     shown_answer shown least text spelled = record {
       contents = contents read.bytes;
-      are = four_told read.bytes read.told;
+      are = four_denoted read.bytes read.denoted;
       answer = (
         refl,
         refl,
         (
           record {
             problem = problem;
-            problem_is = three_told.are_of;
+            problem_is = three_denoted.are_of;
             shown = record {
               short = read.short;
               report = says;

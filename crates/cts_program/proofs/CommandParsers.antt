@@ -88,7 +88,7 @@ fresh choices (one ∷ more) rows pass lacks =
 record Reads (form : Form) : Type 0 where
   simple : is_simple (parser_for form) ≡ true
   alone : (built (parser_for form)).subs ≡ []
-  behind_name : (name : Word) (others : List Word) → argument_words (parser_for form) (name ∷ others) ≡ others
+  after_name : (name : Word) (others : List Word) → argument_words (parser_for form) (name ∷ others) ≡ others
   each : (word : Word) → is_known (choices_of form) word ≡ true → IsReadBy (built (parser_for form)).top.rules word
   no_request : list_all default_passes (built (parser_for form)).top.rules ≡ true
   no_defaults : AllByRecursion (λ rule. rule.defaults ≡ []) (built (parser_for form)).top.rules
@@ -183,7 +183,7 @@ reads : (form : Form) → Reads form
 reads Zero = record {
   simple = refl;
   alone = refl;
-  behind_name = λ name others. refl;
+  after_name = λ name others. refl;
   each = read_known (built (parser_for Zero)).top.rules (choices_of Zero) (reads_row Zero);
   no_request = refl;
   no_defaults = (refl, (refl, (refl, tt)));
@@ -191,7 +191,7 @@ reads Zero = record {
 reads Period = record {
   simple = refl;
   alone = refl;
-  behind_name = λ name others. refl;
+  after_name = λ name others. refl;
   each = read_known (built (parser_for Period)).top.rules (choices_of Period) (reads_row Period);
   no_request = refl;
   no_defaults = (refl, (refl, (refl, tt)));
@@ -199,7 +199,7 @@ reads Period = record {
 reads Schedule = record {
   simple = refl;
   alone = refl;
-  behind_name = λ name others. refl;
+  after_name = λ name others. refl;
   each = read_known (built (parser_for Schedule)).top.rules (choices_of Schedule) (reads_row Schedule);
   no_request = refl;
   no_defaults = (refl, (refl, (refl, tt)));
@@ -207,7 +207,7 @@ reads Schedule = record {
 reads Synth = record {
   simple = refl;
   alone = refl;
-  behind_name = λ name others. refl;
+  after_name = λ name others. refl;
   each = read_known (built (parser_for Synth)).top.rules (choices_of Synth) (reads_row Synth);
   no_request = refl;
   no_defaults = (refl, (refl, (refl, (refl, tt))));
@@ -215,7 +215,7 @@ reads Synth = record {
 reads Check = record {
   simple = refl;
   alone = refl;
-  behind_name = λ name others. refl;
+  after_name = λ name others. refl;
   each = read_known (built (parser_for Check)).top.rules (choices_of Check) (reads_row Check);
   no_request = refl;
   no_defaults = (refl, (refl, (refl, (refl, (refl, tt)))));
@@ -223,7 +223,7 @@ reads Check = record {
 reads Demo = record {
   simple = refl;
   alone = refl;
-  behind_name = λ name others. refl;
+  after_name = λ name others. refl;
   each = read_known (built (parser_for Demo)).top.rules (choices_of Demo) (reads_row Demo);
   no_request = refl;
   no_defaults = (refl, (refl, (refl, tt)));
@@ -248,7 +248,7 @@ takes_plain : (form : Form) (name : Word) (given : List Given) → are_options (
 takes_plain form name given pass required =
     let r = reads form in
     let top = (built (parser_for form)).top in
-    rw (r.simple, r.behind_name name (option_words given))
+    rw (r.simple, r.after_name name (option_words given))
     (leaf_takes (built (parser_for form)) nothing_held (option_words given) r.alone
     (level-walks top given (walks_plain form given pass) r.no_request r.no_defaults (valid form given required)))
 
@@ -258,7 +258,7 @@ first_of-plain : (form : Form) (name : Word) (given : List Given) → are_option
 first_of-plain form name given pass word =
     let r = reads form in
     let top = (built (parser_for form)).top in
-    ap (first_of word) ((λ i. rows_after top.rules (map label_of (r.alone i)) (r.behind_name name (option_words given) i)) ∙ rows_after-walks top given (walks_plain form given pass) r.no_defaults)
+    ap (first_of word) ((λ i. rows_after top.rules (map label_of (r.alone i)) (r.after_name name (option_words given) i)) ∙ rows_after-walks top given (walks_plain form given pass) r.no_defaults)
     ∙ first_of-rows word given
 
 -- ---- plain words, read
@@ -268,7 +268,7 @@ pub is_simple_parser : (form : Form) → is_simple (parser_for form) ≡ true
 is_simple_parser form = (reads form).simple
 
 module _ (words : List Word) (form : Form) (plain : IsPlain words form) where
-  -- options that spell what stands behind the name pass the reader's test
+  -- options that spell what stands after the name pass the reader's test
   passes : (given : List Given) → words ≡ form_name form ∷ option_words given → are_options (choices_of form) (option_words given) ≡ true
   passes given is = subst (λ others. are_options (choices_of form) others ≡ true) (ap (λ (ws : List Word). drop 1 ws) (sym plain.words_are ∙ is)) plain.options
 

@@ -25,7 +25,7 @@ pub is_false : (b : Bool) → not b ≡ true → b ≡ false
 is_false true pass = absurd (true≢false (sym pass))
 is_false false pass = refl
 
--- the value that stands behind an option
+-- the value that stands after an option
 abbrev pub value_of : Word → List Given → Option Word
 value_of option given = lookup (bytes_eq option) given
 
@@ -122,12 +122,12 @@ listed-known (choice ∷ others) one more row known once =
         rw (left, right) (IsPermutation-refl (one ∷ listed_of others more))
     at false same rest =
         let known' : is_known others one.0 ≡ true = subst (λ test. (test || is_known others one.0) ≡ true) same known in
-        let front = listed_one choice.0 (value_of choice.0 more) in
-        let right : listed_of (choice ∷ others) (one ∷ more) ≡ front ++ listed_of others (one ∷ more) =
+        let prefix = listed_one choice.0 (value_of choice.0 more) in
+        let right : listed_of (choice ∷ others) (one ∷ more) ≡ prefix ++ listed_of others (one ∷ more) =
         ap (λ test. listed_one choice.0 (cond test (Some one.1) (value_of choice.0 more)) ++ listed_of others (one ∷ more)) same in
-        rw right (IsPermutation-trans (one ∷ (front ++ listed_of others more)) (front ++ one ∷ listed_of others more) (front ++ listed_of others (one ∷ more))
-        (IsPermutation-sym (front ++ one ∷ listed_of others more) (one ∷ (front ++ listed_of others more)) (IsPermutation-middle front one (listed_of others more)))
-        (IsPermutation-append_right front (one ∷ listed_of others more) (listed_of others (one ∷ more)) (rest known')))
+        rw right (IsPermutation-trans (one ∷ (prefix ++ listed_of others more)) (prefix ++ one ∷ listed_of others more) (prefix ++ listed_of others (one ∷ more))
+        (IsPermutation-sym (prefix ++ one ∷ listed_of others more) (one ∷ (prefix ++ listed_of others more)) (IsPermutation-middle prefix one (listed_of others more)))
+        (IsPermutation-append_right prefix (one ∷ listed_of others more) (listed_of others (one ∷ more)) (rest known')))
 
 -- options that pass the reader's test are those of the row that have values, in some order
 pub listed-permutes : (choices : List (Word × Bool)) (given : List Given) → IsRow choices → are_options choices (option_words given) ≡ true → IsPermutation given (listed_of choices given)

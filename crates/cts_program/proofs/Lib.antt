@@ -1,11 +1,11 @@
 mod LineLemmas
 mod TimingLines
-mod LineFronts
-mod PeriodFronts
-mod ScheduleFronts
-mod StatusFronts
-mod SynthFronts
-mod DemoFronts
+mod LinePrefixes
+mod PeriodPrefixes
+mod SchedulePrefixes
+mod StatusPrefixes
+mod SynthPrefixes
+mod DemoPrefixes
 mod CycleRegisters
 mod OneText
 mod PieceLemmas
@@ -15,7 +15,7 @@ mod RefusalLemmas
 mod TreeTexts
 mod PlacementLemmas
 mod ResultLemmas
-mod ToldLemmas
+mod DenotedLemmas
 mod CheckLemmas
 mod ReasonLemmas
 mod PlainWordTests

@@ -16,7 +16,7 @@ weight_line result before now word circuit launch capture weight other appended 
     subst (λ w. OnOk result
     (now ≡ before ++ line_of (constraint_line word circuit launch capture w))) same appended
 
--- the next line behind those below its number
+-- the next line after those below its number
 pub next_line : (line_at : ℕ → Words) (count : ℕ) (before written now : List ℕ)
     → written ≡ before ++ text_of (lines_below line_at count)
     → now ≡ written ++ line_of (line_at count)

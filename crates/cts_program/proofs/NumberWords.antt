@@ -16,7 +16,7 @@ all_digits : (word : Word) → list_all is_ascii_digit word ≡ all_ascii_digits
 all_digits [] = refl
 all_digits (byte ∷ bytes) = ap (λ rest. is_ascii_digit byte && rest) (all_digits bytes)
 
--- that test tells decimal numerals, whose value is the number that they stand for
+-- that test finds decimal numerals, whose value is the number that they stand for
 pub numerals : IsNumeralModel (λ word. all_ascii_digits word ≡ true) number_of
 numerals = numerals_by_value (λ word. all_ascii_digits word ≡ true) tells_all_ascii_digits
 

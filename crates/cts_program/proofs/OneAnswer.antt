@@ -1,4 +1,4 @@
--- Contents of files have answers of one status, of which none is a front of another, and files that
+-- Contents of files have answers of one status, of which none is a prefix of another, and files that
 -- are accepted have no refusal.
 use Rattle.std.proofs.Common.{ℕ, ◌≡◌, ◌≢◌, ◌<◌, ◌≤◌, ◌⊎◌, inl, inr, List, [], ◌∷◌, length, take, get_or, refl, ap, ap₂, sym, ◌∙◌, subst, arith}
 use Rattle.std.proofs.lemmas.List.{length-take}
@@ -38,13 +38,13 @@ use Rattle.cts_program.specs.PlainWords.{form_of}
 use Rattle.cts_program.specs.ScheduleTexts.{IsScheduleText}
 use Rattle.cts_program.specs.SynthTexts.{IsSynthText}
 use Rattle.cts_program.specs.Texts.{zero_lines, IsZeroText}
-use Rattle.cts_program.proofs.DemoFronts.{IsDemoTextOf, text_of_demo, are_summaries}
+use Rattle.cts_program.proofs.DemoPrefixes.{IsDemoTextOf, text_of_demo, are_summaries}
 use Rattle.cts_program.proofs.OneText.{one_text}
-use Rattle.cts_program.proofs.PlacementLemmas.{problem_told}
-use Rattle.cts_program.proofs.PeriodFronts.{one_period_status, no_period_front, some_period}
-use Rattle.cts_program.proofs.ScheduleFronts.{one_schedule_status, no_schedule_front, some_schedule}
-use Rattle.cts_program.proofs.StatusFronts.{one_status_with, no_front_with, some_with}
-use Rattle.cts_program.proofs.SynthFronts.{IsSynthTextOf, text_of_problem, are_reports}
+use Rattle.cts_program.proofs.PlacementLemmas.{problem_denoted}
+use Rattle.cts_program.proofs.PeriodPrefixes.{one_period_status, no_period_prefix, some_period}
+use Rattle.cts_program.proofs.SchedulePrefixes.{one_schedule_status, no_schedule_prefix, some_schedule}
+use Rattle.cts_program.proofs.StatusPrefixes.{one_status_with, no_prefix_with, some_with}
+use Rattle.cts_program.proofs.SynthPrefixes.{IsSynthTextOf, text_of_problem, are_reports}
 
 -- ---- one circuit and one table
 
@@ -57,16 +57,16 @@ one_plain tech other plain plain' =
     (plain.host ∙ sym plain'.host) (plain.floor ∙ sym plain'.floor) (plain.gates ∙ sym plain'.gates)
 
 -- contents tell one circuit and one table
-pub one_told : (contents : List (List ℕ)) (circuit other : Circuit) (tech tech' : Tech)
+pub one_denoted : (contents : List (List ℕ)) (circuit other : Circuit) (tech tech' : Tech)
     → Tell contents circuit tech → Tell contents other tech' → (circuit ≡ other) × (tech ≡ tech')
-one_told [] circuit other tech tech' tell tell' = absurd tell
-one_told (netlist ∷ []) circuit other tech tech' (accepts, plain) (accepts', plain') =
+one_denoted [] circuit other tech tech' tell tell' = absurd tell
+one_denoted (netlist ∷ []) circuit other tech tech' (accepts, plain) (accepts', plain') =
     (one_netlist netlist circuit other accepts accepts', one_plain tech tech' plain plain')
-one_told (netlist ∷ table ∷ []) circuit other tech tech' tell tell' =
+one_denoted (netlist ∷ table ∷ []) circuit other tech tech' tell tell' =
     one_both netlist table circuit other tech tech' tell tell'
-one_told (netlist ∷ table ∷ places ∷ []) circuit other tech tech' tell tell' =
+one_denoted (netlist ∷ table ∷ places ∷ []) circuit other tech tech' tell tell' =
     one_both netlist table circuit other tech tech' tell tell'
-one_told (netlist ∷ table ∷ places ∷ more ∷ rest) circuit other tech tech' tell tell' = absurd tell
+one_denoted (netlist ∷ table ∷ places ∷ more ∷ rest) circuit other tech tech' tell tell' = absurd tell
 
 -- ---- what an answer is
 
@@ -125,7 +125,7 @@ problem_so contents Holds Other so tell = record {
   accepted = tell.accepted;
   circuit = tell.problem.circuit;
   tech = tell.problem.tech;
-  tell = problem_told contents tell.problem tell.tell;
+  tell = problem_denoted contents tell.problem tell.tell;
   few = tell.few;
   holds = so tell.problem tell.holds;
 }
@@ -156,7 +156,7 @@ check_answers given (netlist ∷ table ∷ places ∷ bytes ∷ []) status text 
   accepted = answer.0.problem_is.accepted;
   circuit = answer.0.problem.circuit;
   tech = answer.0.problem.tech;
-  tell = problem_told (netlist ∷ table ∷ places ∷ []) answer.0.problem answer.0.problem_is.tell;
+  tell = problem_denoted (netlist ∷ table ∷ places ∷ []) answer.0.problem answer.0.problem_is.tell;
   few = λ other. absurd (other refl);
   holds = (done, answer.1);
   checked = λ same. answer;
@@ -197,12 +197,12 @@ answer_of (Demo registers seed) contents status text (all, answer) = (
       (λ problem says. text_of_demo (number_of registers.now) problem status text says) answer),
 )
 
--- ---- one status, and no text that is a front of another
+-- ---- one status, and no text that is a prefix of another
 
--- a text that is another isn't a front of it that lacks an end
-no_front_of_one : (text text' : List ℕ) → text ≡ text'
+-- a text that is another isn't a prefix of it that lacks an end
+no_prefix_of_one : (text text' : List ℕ) → text ≡ text'
     → (count : ℕ) → text ≡ take count text' → count < length text' → ⊥
-no_front_of_one text text' same count cut short =
+no_prefix_of_one text text' same count cut short =
     let as_long : length text ≡ length text' = ap length same in
     let fewer : length text ≡ length (take count text') = ap length cut in
     omega (arith, length-take count text')
@@ -226,23 +226,23 @@ one_text_status forms.Demo status status' text text' circuit tech spells spells'
     one_status_with circuit tech _ (are_summaries circuit tech) status status' text text' spells
     spells'
 
--- no text of a circuit is a front of another
-no_text_front : (form : Form) (status status' : ℕ) (text text' : List ℕ) (circuit : Circuit)
+-- no text of a circuit is a prefix of another
+no_text_prefix : (form : Form) (status status' : ℕ) (text text' : List ℕ) (circuit : Circuit)
     (tech : Tech) → IsTextOf form status text circuit tech
     → IsTextOf form status' text' circuit tech
     → (count : ℕ) → text ≡ take count text' → count < length text' → ⊥
-no_text_front forms.Zero status status' text text' circuit tech spells spells' =
-    no_front_of_one text text' (one_text circuit tech text text' spells.1 spells'.1)
-no_text_front forms.Period status status' text text' circuit tech spells spells' =
-    no_period_front circuit tech status text spells status' text' spells'
-no_text_front forms.Schedule status status' text text' circuit tech spells spells' =
-    no_schedule_front circuit tech status text spells status' text' spells'
-no_text_front forms.Synth status status' text text' circuit tech spells spells' =
-    no_front_with circuit tech _ (are_reports circuit tech) status status' text text' spells spells'
-no_text_front forms.Check status status' text text' circuit tech spells spells' =
-    no_front_of_one text text' (spells.1 ∙ sym spells'.1)
-no_text_front forms.Demo status status' text text' circuit tech spells spells' =
-    no_front_with circuit tech _ (are_summaries circuit tech) status status' text text' spells
+no_text_prefix forms.Zero status status' text text' circuit tech spells spells' =
+    no_prefix_of_one text text' (one_text circuit tech text text' spells.1 spells'.1)
+no_text_prefix forms.Period status status' text text' circuit tech spells spells' =
+    no_period_prefix circuit tech status text spells status' text' spells'
+no_text_prefix forms.Schedule status status' text text' circuit tech spells spells' =
+    no_schedule_prefix circuit tech status text spells status' text' spells'
+no_text_prefix forms.Synth status status' text text' circuit tech spells spells' =
+    no_prefix_with circuit tech _ (are_reports circuit tech) status status' text text' spells spells'
+no_text_prefix forms.Check status status' text text' circuit tech spells spells' =
+    no_prefix_of_one text text' (spells.1 ∙ sym spells'.1)
+no_text_prefix forms.Demo status status' text text' circuit tech spells spells' =
+    no_prefix_with circuit tech _ (are_summaries circuit tech) status status' text text' spells
     spells'
 
 -- a text for the least period at equal arrivals begins with a word
@@ -274,7 +274,7 @@ module _ (form : Form) (given : List Given) (contents : List (List ℕ)) (status
     -- another text for the same contents is one for the same circuit
     of_one : IsTextOf form status' text' answer.circuit answer.tech
     of_one =
-        let same = one_told (texts_for form given contents) other.circuit answer.circuit other.tech
+        let same = one_denoted (texts_for form given contents) other.circuit answer.circuit other.tech
         answer.tech other.tell answer.tell in
         subst (λ t. IsTextOf form status' text' answer.circuit t) same.1
         (subst (λ c. IsTextOf form status' text' c other.tech) same.0 other.holds)
@@ -285,10 +285,10 @@ module _ (form : Form) (given : List Given) (contents : List (List ℕ)) (status
         one_text_status form status status' text text' answer.circuit answer.tech answer.holds
         of_one
 
-    -- and isn't a front of it
-    pub no_answer_front : (count : ℕ) → text ≡ take count text' → count < length text' → ⊥
-    no_answer_front =
-        no_text_front form status status' text text' answer.circuit answer.tech answer.holds of_one
+    -- and isn't a prefix of it
+    pub no_answer_prefix : (count : ℕ) → text ≡ take count text' → count < length text' → ⊥
+    no_answer_prefix =
+        no_text_prefix form status status' text text' answer.circuit answer.tech answer.holds of_one
 
   -- a text begins with a word
   pub some_text : 0 < length text
@@ -311,12 +311,12 @@ agree_same (one ∷ more) (other ∷ others) (same, agree) as_long =
     ap₂ (λ first rest. first ∷ rest) same (agree_same more others agree (omega arith))
 
 -- either way round
-pub agree_turned : (contents others : List (List ℕ)) → Agree contents others → Agree others contents
-agree_turned [] [] agree = tt
-agree_turned [] (other ∷ others) agree = tt
-agree_turned (one ∷ more) [] agree = tt
-agree_turned (one ∷ more) (other ∷ others) (same, agree) =
-    (sym same, agree_turned more others agree)
+pub agree_rotated : (contents others : List (List ℕ)) → Agree contents others → Agree others contents
+agree_rotated [] [] agree = tt
+agree_rotated [] (other ∷ others) agree = tt
+agree_rotated (one ∷ more) [] agree = tt
+agree_rotated (one ∷ more) (other ∷ others) (same, agree) =
+    (sym same, agree_rotated more others agree)
 
 -- why the first file, the second or the third is refused, and the status for it
 refused_first : (netlist : List ℕ) (failure : Failure) → IsFileRefusal (netlist ∷ []) failure

@@ -24,7 +24,7 @@ use Rattle.cts_program.specs.Failures.{status_of}
 use Rattle.cts_program.specs.Files.{files_of, AreAll}
 use Rattle.cts_program.specs.Judged.{AreAccepted, IsFileRefusal}
 use Rattle.cts_program.specs.PlainWords.{form_of}
-use Rattle.cts_program.proofs.OneAnswer.{Agree, agree_same, agree_turned, Answers, texts_for, one_told, file_status, accepted_not_refused}
+use Rattle.cts_program.proofs.OneAnswer.{Agree, agree_same, agree_rotated, Answers, texts_for, one_denoted, file_status, accepted_not_refused}
 use Rattle.cts_engine.proofs.OneProblem.{one_problem}
 use Rattle.cts_program.proofs.ShownVerdicts.{no_reason}
 
@@ -45,7 +45,7 @@ one_judgement laws problem bytes (why.Fault fault) shown (short, named, has) =
     let same : None ≡ Some fault =
     laws.one_fault problem.circuit problem.tech bytes None (Some fault) none has in
     cc same
-one_judgement laws problem bytes (why.Reason reason subject) shown (short, has, told) =
+one_judgement laws problem bytes (why.Reason reason subject) shown (short, has, denoted) =
     let same : has.report ≡ shown.report = laws.one_report problem.circuit problem.tech bytes
     has.report shown.report has.spelled shown.spelled in
     no_reason problem shown.report reason shown.shown
@@ -90,17 +90,17 @@ agree_self [] = tt
 agree_self (one ∷ more) = (refl, agree_self more)
 
 -- so do their first items
-agree_front : (count : ℕ) (contents others : List (List ℕ)) → Agree contents others
+agree_prefix : (count : ℕ) (contents others : List (List ℕ)) → Agree contents others
     → Agree (take count contents) others
-agree_front zero contents others agree = tt
-agree_front (suc count) [] others agree = tt
-agree_front (suc count) (one ∷ more) [] agree = tt
-agree_front (suc count) (one ∷ more) (other ∷ others) (same, agree) =
-    (same, agree_front count more others agree)
+agree_prefix zero contents others agree = tt
+agree_prefix (suc count) [] others agree = tt
+agree_prefix (suc count) (one ∷ more) [] agree = tt
+agree_prefix (suc count) (one ∷ more) (other ∷ others) (same, agree) =
+    (same, agree_prefix count more others agree)
 
 -- ---- what a refusal is
 
--- a refusal of texts tells of too many pairs, or is that of a file
+-- a refusal of texts speaks of too many pairs, or is that of a file
 text_refusal : (all : Type 0) (texts : List (List ℕ)) (failure : Failure)
     → IsTextRefusal all texts failure
     → ((failure ≡ failures.Pairs) × all × JoinTooMany texts) ⊎ IsFileRefusal texts failure
@@ -178,7 +178,7 @@ report_not_file (netlist ∷ table ∷ []) files reason failure agree refusal fi
 report_not_file (netlist ∷ table ∷ places ∷ []) files reason failure agree refusal file = refusal
 report_not_file (netlist ∷ table ∷ places ∷ bytes ∷ []) files reason failure agree refusal file =
     accepted_not_refused (netlist ∷ table ∷ places ∷ []) files failure
-    (agree_front 3 (netlist ∷ table ∷ places ∷ bytes ∷ []) files agree)
+    (agree_prefix 3 (netlist ∷ table ∷ places ∷ bytes ∷ []) files agree)
     (file_status files failure file).1 refusal.problem_is.accepted file
 report_not_file (netlist ∷ table ∷ places ∷ bytes ∷ more ∷ rest) files reason failure agree
     refusal file = refusal
@@ -193,7 +193,7 @@ one_refusal_status command other form contents refused agree failure failure' re
       | of_files is file ↦ elim (refusal_of other refused failure' refusal') [
         | of_files is' file' ↦ is ∙ sym is'
         | of_report is' check reason unshown ↦ absurd (report_not_file refused contents reason
-            failure (agree_turned contents refused agree) unshown (file (form ∙ check)))
+            failure (agree_rotated contents refused agree) unshown (file (form ∙ check)))
       ]
       | of_report is check reason unshown ↦ elim (refusal_of other refused failure' refusal') [
         | of_files is' file' ↦ absurd (report_not_file contents refused reason failure' agree
@@ -230,7 +230,7 @@ text_beside form given contents refused texts failure all other agree within who
       | inr file ↦ of_file texts agree within file
     ]
 
--- a refusal of a command is one of these, where no fewer contents are told than are refused; where
+-- a refusal of a command is one of these, where no fewer contents are given than are refused; where
 -- a report is checked, that is of the files before it
 refusal_beside : (command : Command) (contents refused : List (List ℕ)) (failure : Failure)
     → Agree contents refused → (length refused ≤ 3 → length refused ≤ length contents)
@@ -252,14 +252,14 @@ refusal_beside (Synth bench tech pl) contents refused failure agree within all r
 refusal_beside (Check bench tech pl report) contents refused failure agree within all refusal =
     elim (check_refusal bench tech pl report refused failure refusal) [
       | inl (reason, is, unshown) ↦ of_shown refl (ap status_of is) reason unshown
-      | inr file ↦ of_file refused (agree_front 3 contents refused agree)
+      | inr file ↦ of_file refused (agree_prefix 3 contents refused agree)
           (λ few. omega (arith, within few, few, length-take 3 contents)) file
     ]
 refusal_beside (Demo registers seed) contents refused failure agree within all (none, refusal) =
     let texts = demo_texts (number_of registers.now) (number_of seed.now) in
     text_beside forms.Demo _ contents refused (take refusal.texts texts) failure _
-    (λ same. cc same) (agree_turned (take refusal.texts texts) texts
-    (agree_front refusal.texts texts texts (agree_self texts)))
+    (λ same. cc same) (agree_rotated (take refusal.texts texts) texts
+    (agree_prefix refusal.texts texts texts (agree_self texts)))
     (λ few. omega (arith, length-take refusal.texts texts))
     (λ three. omega (arith, three, length-take refusal.texts texts)) refusal.refusal
 
@@ -274,7 +274,7 @@ answer_accepts : (form : Form) (given : List Given) (contents : List (List ℕ))
 answer_accepts form given contents status text answer = record {
   accepted = answer.accepted;
   few = λ other many.
-      let same = one_told (texts_for form given contents) many.circuit answer.circuit many.tech
+      let same = one_denoted (texts_for form given contents) many.circuit answer.circuit many.tech
       answer.tech many.tell answer.tell in
       answer.few other (subst (λ c. JoinsMoreThan c 1048576) same.0 many.many);
 }

@@ -99,7 +99,7 @@ form_named name = if bytes_eq name (codes "zero") then Zero
     else if bytes_eq name (codes "synth") then Synth
     else if bytes_eq name (codes "check") then Check else Demo
 
--- a form's name tells it
+-- a form's name denotes it
 form_named-name : (form : Form) → form_named (form_name form) ≡ form
 form_named-name Zero = refl
 form_named-name Period = refl
@@ -197,7 +197,7 @@ pub unnamed : (words : List Word) (name : Word) (others : List Word) → words �
 unnamed words name others is none command means =
     none (form_of command) (sym (name_of-form command) ∙ ap (λ (ws : List Word). get_or ws 0 name) (sym means.words_are ∙ is))
 
--- what a command's words say of what stands behind its name
+-- what a command's words say of what stands after its name
 pub command_passes : (words : List Word) (form : Form) (others : List Word) → words ≡ form_name form ∷ others → (command : Command) → IsCommand words command
     → (are_options (choices_of form) others ≡ true) × (has_required (choices_of form) others ≡ true)
 command_passes words form others is command means =
@@ -211,7 +211,7 @@ command_passes words form others is command means =
 
 -- ---- lists of words that were read one by one
 
--- the first word, and those behind it as a slice pattern gives them
+-- the first word, and those after it as a slice pattern gives them
 pub first_word : {X : Type 0} (read : X → Word) (words : List X) (first : X) → 1 ≤ length words → first ≡ get_or words 0 first
     → map read words ≡ read first ∷ map read (take (length words - 1) (drop 1 words))
 first_word read [] first enough is = absurd (omega arith)

@@ -12,13 +12,13 @@ list_any-map test make [] = refl
 list_any-map test make (x ∷ xs) = ap (λ rest. test (make x) || rest) (list_any-map test make xs)
 
 module _ {X : Type 0} (read : X → Word) where
-  -- what stands behind the first two of a list, as a slice pattern gives it
-  abbrev pub behind_two : List X → List X
-  behind_two words = take (length words - 2) (drop 2 words)
+  -- what stands after the first two of a list, as a slice pattern gives it
+  abbrev pub after_two : List X → List X
+  after_two words = take (length words - 2) (drop 2 words)
 
-  -- those are the words behind the first two
-  behind_two-more : (x y : X) (more : List X) → behind_two (x ∷ y ∷ more) ≡ more
-  behind_two-more x y more = take_all (length (x ∷ y ∷ more) - 2) more (omega arith)
+  -- those are the words after the first two
+  after_two-more : (x y : X) (more : List X) → after_two (x ∷ y ∷ more) ≡ more
+  after_two-more x y more = take_all (length (x ∷ y ∷ more) - 2) more (omega arith)
 
   -- fewer than two words hold no option
   pub has_option-few : (option : Word) (words : List X) → length words < 2 → has_option option (map read words) ≡ false
@@ -29,11 +29,11 @@ module _ {X : Type 0} (read : X → Word) where
 
   -- the first two words are an option and a value
   pub has_option-more : (option : Word) (words : List X) (first : X) → 2 ≤ length words → first ≡ get_or words 0 first
-      → has_option option (map read words) ≡ (bytes_eq option (read first) || has_option option (map read (behind_two words)))
+      → has_option option (map read words) ≡ (bytes_eq option (read first) || has_option option (map read (after_two words)))
   unfolding has_option
   has_option-more option [] first enough is = absurd (omega arith)
   has_option-more option (x ∷ []) first enough is = absurd (omega arith)
-  has_option-more option (x ∷ y ∷ more) first enough is = rw (behind_two-more x y more, is) refl
+  has_option-more option (x ∷ y ∷ more) first enough is = rw (after_two-more x y more, is) refl
 
   -- one word is no option with a value
   pub are_options-one : (choices : List (Word × Bool)) (words : List X) → 1 ≤ length words → length words < 2 → are_options choices (map read words) ≡ false
@@ -50,8 +50,8 @@ module _ {X : Type 0} (read : X → Word) where
 
   -- the first two words are an option and a value
   pub are_options-more : (choices : List (Word × Bool)) (words : List X) (first second : X) → 2 ≤ length words → first ≡ get_or words 0 first → second ≡ get_or words 1 second
-      → are_options choices (map read words) ≡ (is_option choices (read first) (read second) (map read (behind_two words)) && are_options choices (map read (behind_two words)))
+      → are_options choices (map read words) ≡ (is_option choices (read first) (read second) (map read (after_two words)) && are_options choices (map read (after_two words)))
   unfolding are_options
   are_options-more choices [] first second enough is is' = absurd (omega arith)
   are_options-more choices (x ∷ []) first second enough is is' = absurd (omega arith)
-  are_options-more choices (x ∷ y ∷ more) first second enough is is' = rw (behind_two-more x y more, is, is') refl
+  are_options-more choices (x ∷ y ∷ more) first second enough is is' = rw (after_two-more x y more, is, is') refl

@@ -14,16 +14,16 @@ use Rattle.cts_program.specs.declared.file_kind.FileKind.{FileKind}
 use Rattle.cts_program.specs.Answers.{ending_status, IsAnswer, IsRefusal, IsAccepted, IsStatusOf, FindsNoPeriod}
 use Rattle.cts_program.specs.Commands.{options_of, IsCommand, IsSame}
 use Rattle.cts_program.specs.Failures.{words_failure_of, status_of}
-use Rattle.cts_program.specs.Files.{files_of, AreAll, AreContents, AreTold}
+use Rattle.cts_program.specs.Files.{files_of, AreAll, AreContents, AreDenoted}
 use Rattle.cts_program.specs.PlainWords.{form_of}
-use Rattle.cts_program.specs.Run.{IsNoCommand, TellsText, Refuses, CannotRead, EndsInPart, Fails, AreUnrisen}
-use Rattle.cts_program.proofs.OneAnswer.{Agree, IsTextOf, Answers, answer_of, one_status, no_answer_front, some_text, agree_same, agree_turned}
+use Rattle.cts_program.specs.Run.{IsNoCommand, DenotesText, RefusesCommand, CannotRead, EndsInPart, Fails, NoneRose}
+use Rattle.cts_program.proofs.OneAnswer.{Agree, IsTextOf, Answers, answer_of, one_status, no_answer_prefix, some_text, agree_same, agree_rotated}
 use Rattle.cts_program.proofs.OneRefusal.{ReportLaws, answer_not_refused, one_refusal_status, accepted_refusal}
 use Rattle.cts_program.proofs.PlainCommands.{one_command, same_form}
-use Rattle.cts_program.proofs.SameFiles.{same_files, told_contents, contents_within, told_agree}
+use Rattle.cts_program.proofs.SameFiles.{same_files, denoted_contents, contents_within, denoted_agree}
 use Rattle.cts_program.proofs.TextStatuses.{text_status, finds_no_period, finds_all, finds_period}
 
--- ---- what is told of files, against what is known of them
+-- ---- what is said of files, against what is known of them
 
 -- an answer of a command is one of the same command
 answers_moved : (command other : Command) → IsSame command other → (contents : List (List ℕ))
@@ -35,14 +35,14 @@ answers_moved command other same contents status text answer =
     (subst (λ form. Answers form (options_of command) contents status text)
     (same_form command other same.name) answer)
 
--- contents that a command's text is made of, beside those that are told of its files
+-- contents that a command's text is made of, beside those that are said of its files
 module _ (words : List (List ℕ)) (holds : List ℕ → Option (List ℕ)) (command other : Command)
     (means : IsCommand words command) (means' : IsCommand words other) (contents : List (List ℕ))
-    (told : AreTold holds (files_of command) contents) where
+    (denoted : AreDenoted holds (files_of command) contents) where
   -- what is known of the same files agrees with them
   agrees : (known : List (List ℕ)) → AreContents holds (files_of other) known → Agree contents known
   agrees known are =
-      told_agree holds (files_of command) contents known told
+      denoted_agree holds (files_of command) contents known denoted
       (subst (λ files. AreContents holds files known)
       (sym (same_files words command other means means')) are)
 
@@ -50,40 +50,40 @@ module _ (words : List (List ℕ)) (holds : List ℕ → Option (List ℕ)) (com
   as_many : length (files_of command) ≡ length (files_of other)
   as_many = ap length (same_files words command other means means')
 
-  -- and no more are told
-  told_within : length contents ≤ length (files_of command)
-  told_within =
+  -- and no more are given
+  denoted_within : length contents ≤ length (files_of command)
+  denoted_within =
       contents_within holds (files_of command) contents
-      (told_contents holds (files_of command) contents told)
+      (denoted_contents holds (files_of command) contents denoted)
 
   -- both commands are one
   are_same : IsSame command other
   are_same = one_command words command other means means'
 
-  -- a refusal of contents that are told, beside a text
-  pub told_not_refused : ReportLaws → (failure : Failure) → IsRefusal command contents failure
-      → (status : ℕ) (text : List ℕ) → TellsText holds other status text → ⊥
-  told_not_refused laws failure refusal status text tells =
-      let (all, answer) = answer_of other tells.contents status text tells.answer in
+  -- a refusal of contents that are given, beside a text
+  pub denoted_not_refused : ReportLaws → (failure : Failure) → IsRefusal command contents failure
+      → (status : ℕ) (text : List ℕ) → DenotesText holds other status text → ⊥
+  denoted_not_refused laws failure refusal status text denotes =
+      let (all, answer) = answer_of other denotes.contents status text denotes.answer in
       let many = as_many in
-      let within = told_within in
-      answer_not_refused laws command tells.contents contents failure status text
-      (answers_moved other command (one_command words other command means' means) tells.contents
+      let within = denoted_within in
+      answer_not_refused laws command denotes.contents contents failure status text
+      (answers_moved other command (one_command words other command means' means) denotes.contents
       status text answer)
-      (agree_turned contents tells.contents (agrees tells.contents tells.are)) (omega arith)
+      (agree_rotated contents denotes.contents (agrees denotes.contents denotes.are)) (omega arith)
       (λ whole. omega arith) refusal
 
-  -- a refusal of contents that are told, beside another
+  -- a refusal of contents that are given, beside another
   pub refused_alike : (failure failure' : Failure) → IsRefusal command contents failure
-      → Refuses holds other failure' → status_of failure' ≡ status_of failure
+      → RefusesCommand holds other failure' → status_of failure' ≡ status_of failure
   refused_alike failure failure' refusal refuses =
       sym (one_refusal_status command other (same_form command other are_same.name) contents
       refuses.contents (agrees refuses.contents refuses.are) failure failure' refusal
       refuses.refusal)
 
-  -- a refusal, where what is told is accepted, has a status for it
+  -- a refusal, where what is given is accepted, has a status for it
   pub accepted_refused : IsAccepted command contents → (failure : Failure)
-      → Refuses holds other failure → IsStatusOf command (status_of failure)
+      → RefusesCommand holds other failure → IsStatusOf command (status_of failure)
   accepted_refused accepted failure refuses =
       accepted_refusal command other (same_form command other are_same.name) are_same.options
       (same_files words command other means means') contents refuses.contents
@@ -91,84 +91,84 @@ module _ (words : List (List ℕ)) (holds : List ℕ → Option (List ℕ)) (com
       (contents_within holds (files_of other) refuses.contents refuses.are) accepted failure
       refuses.refusal
 
-  -- a text, where the contents of all files are told, is made of these
-  tells_alike : AreAll command contents → (status' : ℕ) (text' : List ℕ)
-      → TellsText holds other status' text'
+  -- a text, where the contents of all files are given, is made of these
+  denotes_alike : AreAll command contents → (status' : ℕ) (text' : List ℕ)
+      → DenotesText holds other status' text'
       → Answers (form_of command) (options_of command) contents status' text'
-  tells_alike all status' text' tells =
-      let (all', told_all') = answer_of other tells.contents status' text' tells.answer in
+  denotes_alike all status' text' denotes =
+      let (all', denoted_all') = answer_of other denotes.contents status' text' denotes.answer in
       let many = as_many in
-      let known = sym (agree_same contents tells.contents (agrees tells.contents tells.are)
+      let known = sym (agree_same contents denotes.contents (agrees denotes.contents denotes.are)
       (omega arith)) in
       answers_moved other command (one_command words other command means' means) contents
       status' text'
-      (subst (λ c. Answers (form_of other) (options_of other) c status' text') known told_all')
+      (subst (λ c. Answers (form_of other) (options_of other) c status' text') known denoted_all')
 
   -- with status 1 it says that they admit no period
-  pub told_never : AreAll command contents → (text' : List ℕ) → TellsText holds other 1 text'
+  pub denoted_never : AreAll command contents → (text' : List ℕ) → DenotesText holds other 1 text'
       → FindsNoPeriod command contents
-  told_never all text' tells =
-      finds_no_period command contents all text' (tells_alike all 1 text' tells)
+  denoted_never all text' denotes =
+      finds_no_period command contents all text' (denotes_alike all 1 text' denotes)
 
   -- and with status 0 they don't
-  pub told_found : FindsNoPeriod command contents → (text' : List ℕ)
-      → TellsText holds other 0 text' → ⊥
-  told_found none text' tells =
+  pub denoted_found : FindsNoPeriod command contents → (text' : List ℕ)
+      → DenotesText holds other 0 text' → ⊥
+  denoted_found none text' denotes =
       finds_period command contents text'
-      (tells_alike (finds_all command contents none) 0 text' tells) none
+      (denotes_alike (finds_all command contents none) 0 text' denotes) none
 
   -- beside an answer it has its status
-  pub told_status : (status : ℕ) (text : List ℕ) → IsAnswer command contents status text
-      → (status' : ℕ) (text' : List ℕ) → TellsText holds other status' text' → status' ≡ status
-  told_status status text answer status' text' tells =
+  pub denoted_status : (status : ℕ) (text : List ℕ) → IsAnswer command contents status text
+      → (status' : ℕ) (text' : List ℕ) → DenotesText holds other status' text' → status' ≡ status
+  denoted_status status text answer status' text' denotes =
       one_status (form_of command) (options_of command) contents status' text'
-      (tells_alike (answer_of command contents status text answer).0 status' text' tells) status
+      (denotes_alike (answer_of command contents status text answer).0 status' text' denotes) status
       text (answer_of command contents status text answer).1
 
-  -- and isn't a front of it
-  pub told_front : (status : ℕ) (text : List ℕ) → IsAnswer command contents status text
-      → (status' : ℕ) (text' : List ℕ) → TellsText holds other status' text'
+  -- and isn't a prefix of it
+  pub denoted_prefix : (status : ℕ) (text : List ℕ) → IsAnswer command contents status text
+      → (status' : ℕ) (text' : List ℕ) → DenotesText holds other status' text'
       → (count : ℕ) → text ≡ take count text' → count < length text' → ⊥
-  told_front status text answer status' text' tells =
-      no_answer_front (form_of command) (options_of command) contents status text
+  denoted_prefix status text answer status' text' denotes =
+      no_answer_prefix (form_of command) (options_of command) contents status text
       (answer_of command contents status text answer).1 status' text'
-      (tells_alike (answer_of command contents status text answer).0 status' text' tells)
+      (denotes_alike (answer_of command contents status text answer).0 status' text' denotes)
 
 -- a file whose count rose is none of those whose counts didn't
-unrisen_read : (reads reads_now : List ℕ → ℕ) (files front : List (FileKind × List ℕ))
-    (file : FileKind × List ℕ) (behind : List (FileKind × List ℕ)) → files ≡ front ++ file ∷ behind
-    → AreUnrisen reads reads_now files → Rose (reads file.1) (reads_now file.1) → ⊥
-unrisen_read reads reads_now files [] file behind is unrisen rose =
-    All-head (λ (f : FileKind × List ℕ). Rose (reads f.1) (reads_now f.1) → ⊥) file behind
-    (subst (AreUnrisen reads reads_now) is unrisen) rose
-unrisen_read reads reads_now files (first ∷ front) file behind is unrisen rose =
-    unrisen_read reads reads_now (front ++ file ∷ behind) front file behind refl
+none_rose_read : (reads reads_now : List ℕ → ℕ) (files prefix : List (FileKind × List ℕ))
+    (file : FileKind × List ℕ) (suffix : List (FileKind × List ℕ)) → files ≡ prefix ++ file ∷ suffix
+    → NoneRose reads reads_now files → Rose (reads file.1) (reads_now file.1) → ⊥
+none_rose_read reads reads_now files [] file suffix is none_rose rose =
+    All-head (λ (f : FileKind × List ℕ). Rose (reads f.1) (reads_now f.1) → ⊥) file suffix
+    (subst (NoneRose reads reads_now) is none_rose) rose
+none_rose_read reads reads_now files (first ∷ prefix) file suffix is none_rose rose =
+    none_rose_read reads reads_now (prefix ++ file ∷ suffix) prefix file suffix refl
     (All-drop (λ (f : FileKind × List ℕ). Rose (reads f.1) (reads_now f.1) → ⊥) 1
-    (first ∷ (front ++ file ∷ behind)) (subst (AreUnrisen reads reads_now) is unrisen)) rose
+    (first ∷ (prefix ++ file ∷ suffix)) (subst (NoneRose reads reads_now) is none_rose)) rose
 
--- what stands behind the same bytes is the same
-same_behind : (before text other : List ℕ) → Some (before ++ text) ≡ Some (before ++ other)
+-- what stands after the same bytes is the same
+same_after : (before text other : List ℕ) → Some (before ++ text) ≡ Some (before ++ other)
     → text ≡ other
-same_behind before text other same = append_cancel_left before text other (cc same)
+same_after before text other same = append_cancel_left before text other (cc same)
 
 -- where nothing was written, the text isn't there
-kept_lacks : (text front : List ℕ) (before now : Option (List ℕ)) → 0 < length text
-    → before ≡ Some front → now ≡ before → now ≡ appended before text → ⊥
-kept_lacks text front before now some is same whole =
-    let there : now ≡ Some (front ++ text) = rw is at whole in
-    let none : 0 ≡ length text = ap length (same_behind front [] text
-    (ap (λ b. Some b) (append-nil front) ∙ (sym is ∙ (sym same ∙ there)))) in
+kept_lacks : (text prefix : List ℕ) (before now : Option (List ℕ)) → 0 < length text
+    → before ≡ Some prefix → now ≡ before → now ≡ appended before text → ⊥
+kept_lacks text prefix before now some is same whole =
+    let there : now ≡ Some (prefix ++ text) = rw is at whole in
+    let none : 0 ≡ length text = ap length (same_after prefix [] text
+    (ap (λ b. Some b) (append-nil prefix) ∙ (sym is ∙ (sym same ∙ there)))) in
     omega arith
 
--- and a front of another text isn't the text
-part_lacks : (text other front : List ℕ) (before now : Option (List ℕ))
-    → ((count : ℕ) → text ≡ take count other → count < length other → ⊥) → before ≡ Some front
+-- and a prefix of another text isn't the text
+part_lacks : (text other prefix : List ℕ) (before now : Option (List ℕ))
+    → ((count : ℕ) → text ≡ take count other → count < length other → ⊥) → before ≡ Some prefix
     → WritesPrefix before other now → now ≡ appended before text → ⊥
-part_lacks text other front before now apart is part whole =
-    let there : now ≡ Some (front ++ text) = rw is at whole in
-    let cut : now ≡ Some (front ++ take part.count other) = rw is at part.written in
+part_lacks text other prefix before now apart is part whole =
+    let there : now ≡ Some (prefix ++ text) = rw is at whole in
+    let cut : now ≡ Some (prefix ++ take part.count other) = rw is at part.written in
     let short = part.short in
-    apart part.count (same_behind front text (take part.count other) (sym there ∙ cut))
+    apart part.count (same_after prefix text (take part.count other) (sym there ∙ cut))
     (omega arith)
 
 -- ---- what a failure's cause is
@@ -188,7 +188,7 @@ module _ (words : List (List ℕ)) (holds : List ℕ → Option (List ℕ)) (rea
   data Cause (failure : Failure) : Type 0 where
     usage : failure ≡ Usage → IsNoCommand words → Cause failure
     refused : IsRefusalStatus (status_of failure) → (command : Command) → IsCommand words command
-        → Refuses holds command failure → Cause failure
+        → RefusesCommand holds command failure → Cause failure
     unread : (kind : FileKind) → failure ≡ ReadFault kind → (command : Command)
         → IsCommand words command → CannotRead holds reads reads_now command kind → Cause failure
     unwritten : failure ≡ WriteFault → EndsInPart words holds before now → Rose writes writes_now
@@ -234,11 +234,11 @@ module _ (words : List (List ℕ)) (holds : List ℕ → Option (List ℕ)) (rea
     ]
 
     -- statuses 3 and 7 are those of refusals
-    pub refusal_told : IsRefusalStatus (status_of failure)
+    pub refusal_given : IsRefusalStatus (status_of failure)
         → (command : Command) × IsCommand words command
         × ((other : Failure) × (status_of other ≡ status_of failure)
-        × Refuses holds command other)
-    refusal_told of_refusal = elim (cause_of failure fails) [
+        × RefusesCommand holds command other)
+    refusal_given of_refusal = elim (cause_of failure fails) [
       | usage is none ↦
           absurd (no_refusal 2 (ap status_of is) (λ e. cc e) (λ e. cc e))
       | refused is command means refuses ↦ (command, means, (failure, refl, refuses))
@@ -271,41 +271,41 @@ module _ (words : List (List ℕ)) (holds : List ℕ → Option (List ℕ)) (rea
     -- a refusal of what the files hold leaves its status, unless a file can't be read or memory
     -- runs out
     pub refused_status : ReportLaws → (command : Command) (contents : List (List ℕ))
-        (other : Failure) → IsCommand words command → AreTold holds (files_of command) contents
+        (other : Failure) → IsCommand words command → AreDenoted holds (files_of command) contents
         → IsRefusal command contents other
         → (status_of failure ≡ status_of other)
         ⊎ ((status_of failure ≡ 4) ⊎ (status_of failure ≡ 6))
-    refused_status laws command contents other means told refusal = elim (cause_of failure fails) [
+    refused_status laws command contents other means denoted refusal = elim (cause_of failure fails) [
       | usage is none ↦ absurd (none command means)
       | refused is command' means' refuses ↦
-          inl (refused_alike words holds command command' means means' contents told other failure
+          inl (refused_alike words holds command command' means means' contents denoted other failure
           refusal refuses)
       | unread kind is command' means' cannot ↦ inr (inl (ap status_of is))
       | unwritten is part rose ↦
-          absurd (told_not_refused words holds command part.command means part.means contents told
-          laws other refusal part.status part.text part.tells)
+          absurd (denoted_not_refused words holds command part.command means part.means contents denoted
+          laws other refusal part.status part.text part.denotes)
       | memory is command' means' ↦ inr (inr (ap status_of is))
     ]
 
     -- no file of the command is one that can't be read, where no count rose
     not_unread : (command command' : Command) → IsCommand words command → IsCommand words command'
         → (kind : FileKind) → CannotRead holds reads reads_now command' kind
-        → AreUnrisen reads reads_now (files_of command) → ⊥
+        → NoneRose reads reads_now (files_of command) → ⊥
     not_unread command command' means means' kind cannot read =
-        unrisen_read reads reads_now (files_of command) cannot.front (kind, cannot.file)
-        cannot.behind (same_files words command command' means means' ∙ cannot.files) read
+        none_rose_read reads reads_now (files_of command) cannot.prefix (kind, cannot.file)
+        cannot.suffix (same_files words command command' means means' ∙ cannot.files) read
         cannot.rose
 
     -- what is accepted has a status for it, unless memory runs out, where no count rose
     pub accepted_status : (command : Command) (contents : List (List ℕ)) → IsCommand words command
-        → AreTold holds (files_of command) contents → IsAccepted command contents
-        → AreUnrisen reads reads_now (files_of command) → (Rose writes writes_now → ⊥)
+        → AreDenoted holds (files_of command) contents → IsAccepted command contents
+        → NoneRose reads reads_now (files_of command) → (Rose writes writes_now → ⊥)
         → IsStatusOf command (status_of failure) ⊎ (status_of failure ≡ 6)
-    accepted_status command contents means told accepted read wrote =
+    accepted_status command contents means denoted accepted read wrote =
         elim (cause_of failure fails) [
           | usage is none ↦ absurd (none command means)
           | refused is command' means' refuses ↦
-              inl (accepted_refused words holds command command' means means' contents told
+              inl (accepted_refused words holds command command' means means' contents denoted
               accepted failure refuses)
           | unread kind is command' means' cannot ↦
               absurd (not_unread command command' means means' kind cannot read)
@@ -315,26 +315,26 @@ module _ (words : List (List ℕ)) (holds : List ℕ → Option (List ℕ)) (rea
 
     -- the text of an answer doesn't stand whole where the command line failed
     pub lacks_text : (command : Command) (contents : List (List ℕ)) (status : ℕ)
-        (text front : List ℕ) → IsCommand words command → AreTold holds (files_of command) contents
+        (text prefix : List ℕ) → IsCommand words command → AreDenoted holds (files_of command) contents
         → IsAnswer command contents status text
-        → (failure ≢ WriteFault → now ≡ before) → before ≡ Some front → now ≡ appended before text
+        → (failure ≢ WriteFault → now ≡ before) → before ≡ Some prefix → now ≡ appended before text
         → ⊥
-    lacks_text command contents status text front means told answer kept is whole =
+    lacks_text command contents status text prefix means denoted answer kept is whole =
         elim (cause_of failure fails) [
           | usage is' none ↦ absurd (none command means)
           | refused is' command' means' refuses ↦
-              kept_lacks text front before now some is (kept (λ same.
+              kept_lacks text prefix before now some is (kept (λ same.
               not_refusal (status_of failure) 5 is' (ap status_of same) (λ e. cc e) (λ e. cc e)))
               whole
           | unread kind is' command' means' cannot ↦
-              kept_lacks text front before now some is
+              kept_lacks text prefix before now some is
               (kept (not_write 4 (ap status_of is') (λ e. cc e))) whole
           | unwritten is' part rose ↦
-              part_lacks text part.text front before now
-              (told_front words holds command part.command means part.means contents told status
-              text answer part.status part.text part.tells) is part.front whole
+              part_lacks text part.text prefix before now
+              (denoted_prefix words holds command part.command means part.means contents denoted status
+              text answer part.status part.text part.denotes) is part.prefix whole
           | memory is' command' means' ↦
-              kept_lacks text front before now some is
+              kept_lacks text prefix before now some is
               (kept (not_write 6 (ap status_of is') (λ e. cc e))) whole
         ]
       where
@@ -352,11 +352,11 @@ module _ (words : List (List ℕ)) (holds : List ℕ → Option (List ℕ)) (rea
 -- a command line that is done has a status of its command
 pub done_status : (words : List (List ℕ)) (holds : List ℕ → Option (List ℕ))
     (command other : Command) → IsCommand words command → IsCommand words other
-    → (ending : Ending) (text : List ℕ) → TellsText holds other (ending_status ending) text
+    → (ending : Ending) (text : List ℕ) → DenotesText holds other (ending_status ending) text
     → IsStatusOf command (ending_status ending)
-done_status words holds command other means means' ending text tells =
+done_status words holds command other means means' ending text denotes =
     let answer =
-    (answer_of other tells.contents (ending_status ending) text tells.answer).1 in
+    (answer_of other denotes.contents (ending_status ending) text denotes.answer).1 in
     let one = one_command words other command means' means in
     text_status command ending text answer.circuit answer.tech
     (subst (λ form. IsTextOf form (ending_status ending) text answer.circuit answer.tech)
@@ -367,28 +367,28 @@ pub not_two : (ending : Ending) → ending_status ending ≡ 2 → ⊥
 not_two Done two = omega arith
 not_two Never two = omega arith
 
--- a count that rises is told by its status alone
-pub risen_status : (failure : Failure) (before now : ℕ)
+-- a count that rises is determined by its status alone
+pub rose_status : (failure : Failure) (before now : ℕ)
     → (((kind : FileKind) × (failure ≡ ReadFault kind) → ⊥) → now ≡ before) → before < now
     → status_of failure ≡ 4
-risen_status (ReadFault kind) before now stays rose = refl
-risen_status Usage before now stays rose =
+rose_status (ReadFault kind) before now stays rose = refl
+rose_status Usage before now stays rose =
     let same = stays (λ (kind, e). cc e) in absurd (omega arith)
-risen_status (TooLong kind) before now stays rose =
+rose_status (TooLong kind) before now stays rose =
     let same = stays (λ (kind, e). cc e) in absurd (omega arith)
-risen_status (Bench fault) before now stays rose =
+rose_status (Bench fault) before now stays rose =
     let same = stays (λ (kind, e). cc e) in absurd (omega arith)
-risen_status (Tech fault) before now stays rose =
+rose_status (Tech fault) before now stays rose =
     let same = stays (λ (kind, e). cc e) in absurd (omega arith)
-risen_status (Placement fault) before now stays rose =
+rose_status (Placement fault) before now stays rose =
     let same = stays (λ (kind, e). cc e) in absurd (omega arith)
-risen_status Pairs before now stays rose =
+rose_status Pairs before now stays rose =
     let same = stays (λ (kind, e). cc e) in absurd (omega arith)
-risen_status (Unshown why) before now stays rose =
+rose_status (Unshown why) before now stays rose =
     let same = stays (λ (kind, e). cc e) in absurd (omega arith)
-risen_status WriteFault before now stays rose =
+rose_status WriteFault before now stays rose =
     let same = stays (λ (kind, e). cc e) in absurd (omega arith)
-risen_status NoMemory before now stays rose =
+rose_status NoMemory before now stays rose =
     let same = stays (λ (kind, e). cc e) in absurd (omega arith)
 
 -- a fault of the words is a failure of the command line

@@ -1,4 +1,4 @@
--- The words of a command line name files in one way, so what is told of their contents is one.
+-- The words of a command line name files in one way, so what is said of their contents is one.
 use Rattle.std.proofs.Common.{ℕ, ◌≡◌, ◌≤◌, if◌then◌else◌, List, [], ◌∷◌, length, Option, Some, None, IfSome, codes, refl, ap, sym, ◌∙◌, subst, arith}
 use Rattle.std.specs.List.{flat_map}
 use Rattle.std.specs.Str.{bytes_eq}
@@ -7,7 +7,7 @@ use Rattle.cts_program.specs.declared.command.Command.TheVariants.{Zero, Period,
 use Rattle.cts_program.specs.declared.file_kind.FileKind.{FileKind}
 use Rattle.cts_program.specs.declared.file_kind.FileKind.TheVariants.{Bench, Tech, Placement, Report}
 use Rattle.cts_program.specs.Commands.{Given, options_of, IsSame, IsCommand}
-use Rattle.cts_program.specs.Files.{files_of, AreContents, AreTold}
+use Rattle.cts_program.specs.Files.{files_of, AreContents, AreDenoted}
 use Rattle.cts_program.proofs.OneAnswer.{Agree}
 use Rattle.cts_program.proofs.PlainCommands.{one_command}
 
@@ -39,14 +39,14 @@ same_files words command other means means' =
     files_same command other (one_command words command other means means')
 
 module _ (holds : List ℕ → Option (List ℕ)) where
-  -- what the device tells is what the files hold
-  pub told_contents : (files : List (FileKind × List ℕ)) (contents : List (List ℕ))
-      → AreTold holds files contents → AreContents holds files contents
-  told_contents files [] told = tt
-  told_contents [] (bytes ∷ contents) told = absurd told
-  told_contents (file ∷ files) (bytes ∷ contents) (is, told) = (
+  -- what the device gives is what the files hold
+  pub denoted_contents : (files : List (FileKind × List ℕ)) (contents : List (List ℕ))
+      → AreDenoted holds files contents → AreContents holds files contents
+  denoted_contents files [] denoted = tt
+  denoted_contents [] (bytes ∷ contents) denoted = absurd denoted
+  denoted_contents (file ∷ files) (bytes ∷ contents) (is, denoted) = (
     subst (λ held. IfSome held (λ b. b ≡ bytes)) (sym is) refl,
-    told_contents files contents told,
+    denoted_contents files contents denoted,
   )
 
   -- of no more files than there are
@@ -57,11 +57,11 @@ module _ (holds : List ℕ → Option (List ℕ)) where
   contents_within (file ∷ files) (bytes ∷ contents) (is, are) =
       let within = contents_within files contents are in omega arith
 
-  -- what is told and what is known besides agree
-  pub told_agree : (files : List (FileKind × List ℕ)) (told contents : List (List ℕ))
-      → AreTold holds files told → AreContents holds files contents → Agree told contents
-  told_agree files [] contents told are = tt
-  told_agree files (bytes ∷ more) [] told are = tt
-  told_agree [] (bytes ∷ more) (other ∷ others) told are = absurd told
-  told_agree (file ∷ files) (bytes ∷ more) (other ∷ others) (is, told) (alike, are) =
-      (subst (λ held. IfSome held (λ b. b ≡ other)) is alike, told_agree files more others told are)
+  -- what is given and what is known besides agree
+  pub denoted_agree : (files : List (FileKind × List ℕ)) (denoted contents : List (List ℕ))
+      → AreDenoted holds files denoted → AreContents holds files contents → Agree denoted contents
+  denoted_agree files [] contents denoted are = tt
+  denoted_agree files (bytes ∷ more) [] denoted are = tt
+  denoted_agree [] (bytes ∷ more) (other ∷ others) denoted are = absurd denoted
+  denoted_agree (file ∷ files) (bytes ∷ more) (other ∷ others) (is, denoted) (alike, are) =
+      (subst (λ held. IfSome held (λ b. b ≡ other)) is alike, denoted_agree files more others denoted are)

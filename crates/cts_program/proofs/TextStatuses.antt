@@ -20,11 +20,11 @@ use Rattle.cts_program.specs.Commands.{Given, options_of}
 use Rattle.cts_program.specs.Files.{AreAll}
 use Rattle.cts_program.specs.PeriodTexts.{outcome_status}
 use Rattle.cts_program.specs.PlainWords.{form_of}
-use Rattle.cts_program.proofs.DemoFronts.{are_summaries}
-use Rattle.cts_program.proofs.OneAnswer.{IsTextOf, Answers, texts_for, one_told}
-use Rattle.cts_program.proofs.ScheduleFronts.{without_is}
-use Rattle.cts_program.proofs.StatusFronts.{AreOfFound, IsTextWith}
-use Rattle.cts_program.proofs.SynthFronts.{are_reports}
+use Rattle.cts_program.proofs.DemoPrefixes.{are_summaries}
+use Rattle.cts_program.proofs.OneAnswer.{IsTextOf, Answers, texts_for, one_denoted}
+use Rattle.cts_program.proofs.SchedulePrefixes.{without_is}
+use Rattle.cts_program.proofs.StatusPrefixes.{AreOfFound, IsTextWith}
+use Rattle.cts_program.proofs.SynthPrefixes.{are_reports}
 
 -- ---- one text
 
@@ -76,9 +76,9 @@ text_says forms.Demo status text circuit tech looks makes says =
 module _ (form : Form) (given : List Given) (contents : List (List ℕ)) (looks : form ≢ forms.Zero)
     (makes : form ≢ forms.Check) where
   -- with status 1 it admits no period
-  none_told : (text : List ℕ) → Answers form given contents 1 text
+  none_denoted : (text : List ℕ) → Answers form given contents 1 text
       → TellWith (texts_for form given contents) HasNoPeriod
-  none_told text answer = record {
+  none_denoted text answer = record {
     accepted = answer.accepted;
     circuit = answer.circuit;
     tech = answer.tech;
@@ -88,10 +88,10 @@ module _ (form : Form) (given : List Given) (contents : List (List ℕ)) (looks 
   }
 
   -- and with status 0 some
-  some_told : (text : List ℕ) → Answers form given contents 0 text
+  some_denoted : (text : List ℕ) → Answers form given contents 0 text
       → TellWith (texts_for form given contents) HasNoPeriod → ⊥
-  some_told text answer none =
-      let same = one_told (texts_for form given contents) none.circuit answer.circuit none.tech
+  some_denoted text answer none =
+      let same = one_denoted (texts_for form given contents) none.circuit answer.circuit none.tech
       answer.tech none.tell answer.tell in
       (text_says form 0 text answer.circuit answer.tech looks makes answer.holds).1 refl
       (subst (λ t. HasNoPeriod answer.circuit t) same.1
@@ -104,15 +104,15 @@ pub finds_no_period : (command : Command) (contents : List (List ℕ)) → AreAl
 finds_no_period (Zero bench tech) contents all text answer =
     let done : 1 ≡ 0 = answer.holds.0 in omega arith
 finds_no_period (Period bench tech) contents all text answer =
-    (all, none_told forms.Period _ contents (λ same. cc same) (λ same. cc same) text answer)
+    (all, none_denoted forms.Period _ contents (λ same. cc same) (λ same. cc same) text answer)
 finds_no_period (Schedule bench tech) contents all text answer =
-    (all, none_told forms.Schedule _ contents (λ same. cc same) (λ same. cc same) text answer)
+    (all, none_denoted forms.Schedule _ contents (λ same. cc same) (λ same. cc same) text answer)
 finds_no_period (Synth bench tech pl) contents all text answer =
-    (all, none_told forms.Synth _ contents (λ same. cc same) (λ same. cc same) text answer)
+    (all, none_denoted forms.Synth _ contents (λ same. cc same) (λ same. cc same) text answer)
 finds_no_period (Check bench tech pl report) contents all text answer =
     let done : 1 ≡ 0 = answer.holds.0 in omega arith
 finds_no_period (Demo registers seed) contents all text answer =
-    (all, none_told forms.Demo _ contents (λ same. cc same) (λ same. cc same) text answer)
+    (all, none_denoted forms.Demo _ contents (λ same. cc same) (λ same. cc same) text answer)
 
 -- where it finds no period the contents of all its files are known
 pub finds_all : (command : Command) (contents : List (List ℕ)) → FindsNoPeriod command contents
@@ -130,18 +130,18 @@ pub finds_period : (command : Command) (contents : List (List ℕ)) (text : List
     → FindsNoPeriod command contents → ⊥
 finds_period (Zero bench tech) contents text answer none = none
 finds_period (Period bench tech) contents text answer none =
-    some_told forms.Period _ contents (λ same. cc same) (λ same. cc same) text answer none.1
+    some_denoted forms.Period _ contents (λ same. cc same) (λ same. cc same) text answer none.1
 finds_period (Schedule bench tech) contents text answer none =
-    some_told forms.Schedule _ contents (λ same. cc same) (λ same. cc same) text answer none.1
+    some_denoted forms.Schedule _ contents (λ same. cc same) (λ same. cc same) text answer none.1
 finds_period (Synth bench tech pl) contents text answer none =
-    some_told forms.Synth _ contents (λ same. cc same) (λ same. cc same) text answer none.1
+    some_denoted forms.Synth _ contents (λ same. cc same) (λ same. cc same) text answer none.1
 finds_period (Check bench tech pl report) contents text answer none = none
 finds_period (Demo registers seed) contents text answer none =
-    some_told forms.Demo _ contents (λ same. cc same) (λ same. cc same) text answer none.1
+    some_denoted forms.Demo _ contents (λ same. cc same) (λ same. cc same) text answer none.1
 
 -- ---- the statuses of a command
 
--- how a command ends is told by 0 or 1
+-- how a command ends is determined by 0 or 1
 done_or_never : (ending : Ending) → (ending_status ending ≡ 0) ⊎ (ending_status ending ≡ 1)
 done_or_never endings.Done = inl refl
 done_or_never endings.Never = inr refl

@@ -60,7 +60,7 @@ no_arrivals : Schedule
 no_arrivals = record { den = pos 1; at = [] }
 
 module _ (circuit : Circuit) where
-  -- the lines of a period and of what shows it, and those of a schedule behind them
+  -- the lines of a period and of what shows it, and those of a schedule after them
   timing_lines_are : (period : Fraction) (shown : PeriodShow) (schedule : Schedule)
       (slacks : List Slack)
       → AreLines ((period_line period ∷ show_lines circuit shown)

@@ -7,7 +7,7 @@ use Rattle.cts_model.specs.declared.report.Report.{Report}
 use Rattle.cts_model.specs.Paths.{register_name}
 use Rattle.cts_model.specs.PrintedLines.{Words, text_of}
 use Rattle.cts_model.specs.ReportBounds.{Spells}
-use Rattle.cts_model.specs.Shown.{IsShown, IsLeast}
+use Rattle.cts_model.specs.Shown.{IsShown, ShowsLeast}
 use Rattle.cert_check.specs.declared.verdict.Reason.{Reason}
 use Rattle.cert_check.specs.declared.verdict.Reason.TheVariants.{ScheduleMisses, SkewDiffers, SlackDiffers, NotLeast}
 use Rattle.cert_check.specs.declared.verdict.Verdict.TheVariants.{Not}
@@ -29,7 +29,7 @@ pub record IsShownReport (problem : Problem) (bytes : List ℕ) : Type 0 where
   pub report : Report
   pub spelled : Spells problem.circuit problem.tech bytes report
   pub shown : IsShown problem report
-  pub least : IsLeast problem report
+  pub least : ShowsLeast problem report
 
 -- the name of the register that a reason is about, and no bytes where it is about none
 abbrev pub subject_of : Circuit → Reason → List ℕ
@@ -59,7 +59,7 @@ pub record AreOfProblem (contents : List (List ℕ)) (problem : Problem) : Type 
   pub accepted : AreAccepted contents
   pub tell : TellProblem contents problem
 
--- the files of a problem, and behind them a report of it that is shown
+-- the files of a problem, and after them a report of it that is shown
 pub record IsShownFor (contents : List (List ℕ)) (bytes : List ℕ) : Type 0 where
   pub problem : Problem
   pub problem_is : AreOfProblem contents problem

@@ -72,7 +72,7 @@ is_value option value =
 abbrev pub option_words : List Given → List Word
 option_words given = flat_map (λ one. one.0 ∷ one.1 ∷ []) given
 
--- the words are the name of the command, and behind it its options in some order
+-- the words are the name of the command, and after it its options in some order
 pub record IsCommand (words : List Word) (command : Command) : Type 0 where
   pub given : List Given
   pub words_are : words ≡ name_of command ∷ option_words given

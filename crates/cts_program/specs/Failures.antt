@@ -87,7 +87,7 @@ limit_word Inputs = codes " inputs"
 
 -- a refusal with the number of a line, and what follows it
 abbrev pub line_at : List ℕ → ℕ → List ℕ → List ℕ
-line_at refusal line behind = ended (refusal ++ decimal line ++ behind)
+line_at refusal line suffix = ended (refusal ++ decimal line ++ suffix)
 
 -- the line for a fault of a netlist, with the number of the fault
 abbrev pub bench_line : BenchFault → List ℕ
@@ -213,14 +213,14 @@ failure_line (ReadFault kind) = ended (codes "read fault " ++ kind_word kind)
 failure_line WriteFault = ended (codes "write fault")
 failure_line NoMemory = ended (codes "no memory")
 
--- the line stands behind what was written before, or a front of it where the sink's count of faults
+-- the line stands after what was written before, or a prefix of it where the sink's count of faults
 -- rose
 abbrev pub Reports : List ℕ → Option (List ℕ) → ℕ → Option (List ℕ) → ℕ → Type 0
 Reports line before faults_before now faults_now = (now ≡ appended before line)
     ⊎ (WritesPrefix before line now × Rose faults_before faults_now)
 
--- what a call that writes bytes answers: they stand whole behind what was written before, or a
--- front of them where the sink failed, whose count of faults rose
+-- what a call that writes bytes answers: they stand whole after what was written before, or a
+-- prefix of them where the sink failed, whose count of faults rose
 abbrev pub Writes : {T E : Type 0} → List ℕ → Option (List ℕ) → ℕ → Option (List ℕ) → ℕ
     → Result T E → Type 0
 Writes bytes before faults_before now faults_now result =

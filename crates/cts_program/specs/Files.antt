@@ -18,7 +18,7 @@ abbrev pub circuit_files : Bor (List ℕ) → Option (Bor (List ℕ)) → List (
 circuit_files bench tech =
     (Bench, bench.now) ∷ map (λ file. (Tech, file.now)) (option_to_list tech)
 
--- the files that tell a problem: with a placement behind them
+-- the files that tell a problem: with a placement after them
 abbrev pub problem_files : (bench tech pl : Bor (List ℕ)) → List (FileKind × List ℕ)
 problem_files bench tech pl = circuit_files bench (Some tech) ++ (Placement, pl.now) ∷ []
 
@@ -36,20 +36,20 @@ files_of (Demo registers seed) = []
 abbrev pub IsShortFile : List ℕ → Type 0
 IsShortFile bytes = length bytes ≤ 16777216
 
--- what the first of these files hold: where the device tells it, it tells these contents
+-- what the first of these files hold: where the device gives it, it gives these contents
 abbrev pub AreContents : (List ℕ → Option (List ℕ)) → List (FileKind × List ℕ) → List (List ℕ)
     → Type 0
 AreContents holds files [] = Unit {0}
 AreContents holds [] (bytes ∷ contents) = ⊥
 AreContents holds (file ∷ files) (bytes ∷ contents) =
-    IfSome (holds file.1) (λ told. told ≡ bytes) × AreContents holds files contents
+    IfSome (holds file.1) (λ denoted. denoted ≡ bytes) × AreContents holds files contents
 
--- the device tells that the first of these files hold these contents
-abbrev pub AreTold : (List ℕ → Option (List ℕ)) → List (FileKind × List ℕ) → List (List ℕ) → Type 0
-AreTold holds files [] = Unit {0}
-AreTold holds [] (bytes ∷ contents) = ⊥
-AreTold holds (file ∷ files) (bytes ∷ contents) =
-    (holds file.1 ≡ Some bytes) × AreTold holds files contents
+-- the device says that the first of these files hold these contents
+abbrev pub AreDenoted : (List ℕ → Option (List ℕ)) → List (FileKind × List ℕ) → List (List ℕ) → Type 0
+AreDenoted holds files [] = Unit {0}
+AreDenoted holds [] (bytes ∷ contents) = ⊥
+AreDenoted holds (file ∷ files) (bytes ∷ contents) =
+    (holds file.1 ≡ Some bytes) × AreDenoted holds files contents
 
 -- these are the contents of all files that the command reads
 abbrev pub AreAll : Command → List (List ℕ) → Type 0

@@ -70,7 +70,7 @@ pub record HasPlaceFault (circuit : Circuit) (tech : Tech) (bytes : List ℕ)
     (fault : PlacementFault) : Type 0 where
   pub found : PlaceFault
   pub named : IsNamedFault circuit found fault
-  pub cause : placement.Refuses bytes circuit tech.source tech.host found
+  pub cause : placement.RefusesPlacement bytes circuit tech.source tech.host found
 
 -- the placement of a netlist and a delay table has this fault
 pub record HasPlacementFault (netlist table bytes : List ℕ) (fault : PlacementFault)

@@ -7,7 +7,7 @@ use Rattle.cts_program.specs.declared.command.table.Form.{Form}
 use Rattle.cts_program.specs.Commands.{Word}
 use Rattle.cts_program.specs.PlainWords.{form_name, choices_of}
 
--- an option's word without the two hyphens in front
+-- an option's word without the two hyphens before
 abbrev pub long_name : Word → Word
 long_name option = if bytes_eq (take 2 option) (codes "--") then drop 2 option else option
 

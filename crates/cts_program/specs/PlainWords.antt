@@ -27,7 +27,7 @@ form_name Synth = codes "synth"
 form_name Check = codes "check"
 form_name Demo = codes "demo"
 
--- the options that may stand behind the name, and whether each is required
+-- the options that may stand after the name, and whether each is required
 abbrev pub choices_of : Form → List (Word × Bool)
 choices_of Zero = (codes "--bench", true) ∷ (codes "--tech", false) ∷ []
 choices_of Period = (codes "--bench", true) ∷ (codes "--tech", true) ∷ []
@@ -83,7 +83,7 @@ abbrev pub has_values : (Word → Option Word) → List (Word × Bool) → Bool
 has_values value_of choices =
     list_all (λ choice. not choice.1 || is_some (value_of choice.0)) choices
 
--- the words are the name of a command of this form, and behind it options of that command, each at
+-- the words are the name of a command of this form, and after it options of that command, each at
 -- most once and each required one among them
 pub record IsPlain (words : List Word) (form : Form) : Type 0 where
   pub others : List Word

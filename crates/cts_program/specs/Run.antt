@@ -1,4 +1,4 @@
--- What the program makes of the words behind its name, the files that they name, and its output.
+-- What the program makes of the words after its name, the files that they name, and its output.
 use Rattle.std.specs.Prelude.{◌≡◌, ℕ, List, ◌∷◌, ◌++◌, length, All, Option}
 use Rattle.cts_io.specs.Device.{Rose, appended, WritesPrefix}
 use Rattle.cts_program.specs.declared.command.Command.{Command}
@@ -15,14 +15,14 @@ abbrev pub IsNoCommand : List (List ℕ) → Type 0
 IsNoCommand words = (command : Command) → IsCommand words command → ⊥
 
 -- this text is the answer for what the files of the command hold
-pub record TellsText (holds : List ℕ → Option (List ℕ)) (command : Command) (status : ℕ)
+pub record DenotesText (holds : List ℕ → Option (List ℕ)) (command : Command) (status : ℕ)
     (text : List ℕ) : Type 0 where
   pub contents : List (List ℕ)
   pub are : AreContents holds (files_of command) contents
   pub answer : IsAnswer command contents status text
 
 -- what the files of the command hold makes it refuse with this failure
-pub record Refuses (holds : List ℕ → Option (List ℕ)) (command : Command)
+pub record RefusesCommand (holds : List ℕ → Option (List ℕ)) (command : Command)
     (failure : Failure) : Type 0 where
   pub contents : List (List ℕ)
   pub are : AreContents holds (files_of command) contents
@@ -31,14 +31,14 @@ pub record Refuses (holds : List ℕ → Option (List ℕ)) (command : Command)
 -- the command reads this kind of file, whose count rose; the files before it are accepted
 pub record CannotRead (holds : List ℕ → Option (List ℕ)) (reads reads_now : List ℕ → ℕ)
     (command : Command) (kind : FileKind) : Type 0 where
-  pub front : List (FileKind × List ℕ)
+  pub prefix : List (FileKind × List ℕ)
   pub file : List ℕ
-  pub behind : List (FileKind × List ℕ)
-  pub files : files_of command ≡ front ++ (kind, file) ∷ behind
+  pub suffix : List (FileKind × List ℕ)
+  pub files : files_of command ≡ prefix ++ (kind, file) ∷ suffix
   pub rose : Rose (reads file) (reads_now file)
   pub contents : List (List ℕ)
-  pub before : length contents ≡ length front
-  pub are : AreContents holds front contents
+  pub before : length contents ≡ length prefix
+  pub are : AreContents holds prefix contents
   pub accepted : AreAccepted contents
 
 -- why a command has no text
@@ -49,7 +49,7 @@ Stops holds reads reads_now command WriteFault = ⊥
 Stops holds reads reads_now command NoMemory = Unit {0}
 Stops holds reads reads_now command (ReadFault kind) =
     CannotRead holds reads reads_now command kind
-Stops holds reads reads_now command failure = Refuses holds command failure
+Stops holds reads reads_now command failure = RefusesCommand holds command failure
 
 -- the words mean a command, whose text stands whole on the output
 pub record Ends (words : List (List ℕ)) (holds : List ℕ → Option (List ℕ)) (status : ℕ)
@@ -57,18 +57,18 @@ pub record Ends (words : List (List ℕ)) (holds : List ℕ → Option (List ℕ
   pub command : Command
   pub means : IsCommand words command
   pub text : List ℕ
-  pub tells : TellsText holds command status text
+  pub denotes : DenotesText holds command status text
   pub whole : now ≡ appended before text
 
--- the same with a front of the text that isn't the whole
+-- the same with a prefix of the text that isn't the whole
 pub record EndsInPart (words : List (List ℕ)) (holds : List ℕ → Option (List ℕ))
     (before now : Option (List ℕ)) : Type 0 where
   pub command : Command
   pub means : IsCommand words command
   pub status : ℕ
   pub text : List ℕ
-  pub tells : TellsText holds command status text
-  pub front : WritesPrefix before text now
+  pub denotes : DenotesText holds command status text
+  pub prefix : WritesPrefix before text now
 
 -- why a command line isn't done: its words, the files that they name, or the output
 abbrev pub Fails : List (List ℕ) → (List ℕ → Option (List ℕ)) → (reads reads_now : List ℕ → ℕ)
@@ -80,5 +80,5 @@ Fails words holds reads reads_now before now writes writes_now failure =
     (command : Command) × IsCommand words command × Stops holds reads reads_now command failure
 
 -- no count of the files that a command reads rose
-abbrev pub AreUnrisen : (reads reads_now : List ℕ → ℕ) → List (FileKind × List ℕ) → Type 0
-AreUnrisen reads reads_now files = All (λ file. Rose (reads file.1) (reads_now file.1) → ⊥) files
+abbrev pub NoneRose : (reads reads_now : List ℕ → ℕ) → List (FileKind × List ℕ) → Type 0
+NoneRose reads reads_now files = All (λ file. Rose (reads file.1) (reads_now file.1) → ⊥) files

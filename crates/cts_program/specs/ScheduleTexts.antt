@@ -1,4 +1,4 @@
--- What the command `schedule` prints: what `period` prints, and behind it when the clock is to
+-- What the command `schedule` prints: what `period` prints, and after it when the clock is to
 -- reach each register and what the register has to spare. Fishburn, "Clock Skew Optimization",
 -- 1990.
 use Rattle.std.specs.Prelude.{◌≡◌, ◌^◌, ℕ, pos, ◌≤ℤ◌, List, ◌∷◌, ◌++◌, All, length, None, slice_index_or, codes}

@@ -15,7 +15,7 @@ use Rattle.cts_model.specs.ReportBounds.{Spells}
 use Rattle.cts_model.specs.UsedKinds.{AreUsedKinds}
 use Rattle.delay_tables.specs.declared.fault.TechFault.{TechFault}
 use Rattle.delay_tables.specs.declared.fault.TechFault.TheVariants as tech
-use Rattle.delay_tables.specs.Refusals.{Refuses}
+use Rattle.delay_tables.specs.Refusals.{RefusesTable}
 use Rattle.place_reader.specs.declared.fault.PlaceFault.{PlaceFault}
 use Rattle.cts_engine.specs.Accepted.{HasFault}
 use Rattle.cts_program.specs.declared.failure.Failure.{Failure}
@@ -35,35 +35,35 @@ use Rattle.cts_program.specs.DemoTexts.{demo_texts}
 use Rattle.cts_program.specs.Files.{IsShortFile, circuit_files, problem_files, files_of, AreContents}
 use Rattle.cts_program.specs.Judged.{HasPlaceFault, IsNamedFault, AreAccepted, Tell}
 
--- these bytes are what a file holds, where the device tells it
-abbrev pub IsToldAs : Option (List ℕ) → List ℕ → Type 0
-IsToldAs held bytes = IfSome held (λ told. told ≡ bytes)
+-- these bytes are what a file holds, where the device gives it
+abbrev pub IsReportedAs : Option (List ℕ) → List ℕ → Type 0
+IsReportedAs held bytes = IfSome held (λ denoted. denoted ≡ bytes)
 
 -- a file isn't read: it is too long, or its count rose, or memory ran out
 abbrev pub FailsToReadFile : FileKind → Option (List ℕ) → ℕ → ℕ → Failure → Type 0
 FailsToReadFile kind held before now (failures.TooLong other) =
-    (kind ≡ other) × ((bytes : List ℕ) × IsToldAs held bytes × (IsShortFile bytes → ⊥))
+    (kind ≡ other) × ((bytes : List ℕ) × IsReportedAs held bytes × (IsShortFile bytes → ⊥))
 FailsToReadFile kind held before now (failures.ReadFault other) = (kind ≡ other) × Rose before now
 FailsToReadFile kind held before now failures.NoMemory = Unit {0}
 FailsToReadFile kind held before now _ = ⊥
 
--- the netlist in a file tells this circuit
+-- the netlist in a file denotes this circuit
 pub record ReadsNetlist (held : Option (List ℕ)) (circuit : Circuit) : Type 0 where
   pub bytes : List ℕ
-  pub told : IsToldAs held bytes
+  pub denoted : IsReportedAs held bytes
   pub short : IsShortFile bytes
   pub accepts : AcceptsNetlist bytes circuit
 
 -- a netlist isn't read, or has a fault
 abbrev pub FailsNetlist : Option (List ℕ) → ℕ → ℕ → Failure → Type 0
 FailsNetlist held before now (failures.Bench fault) =
-    (bytes : List ℕ) × IsToldAs held bytes × IsShortFile bytes × HasFault bytes fault
+    (bytes : List ℕ) × IsReportedAs held bytes × IsShortFile bytes × HasFault bytes fault
 FailsNetlist held before now failure = FailsToReadFile kinds.Bench held before now failure
 
--- the delay table in a file tells these delays, and gives each gate kind of these signals
+-- the delay table in a file denotes these delays, and gives each gate kind of these signals
 pub record ReadsTable (signals : List Signal) (held : Option (List ℕ)) (tech : Tech) : Type 0 where
   pub bytes : List ℕ
-  pub told : IsToldAs held bytes
+  pub denoted : IsReportedAs held bytes
   pub short : IsShortFile bytes
   pub used : List Bool
   pub kinds : AreUsedKinds signals used
@@ -74,43 +74,43 @@ pub record HasFaultFor (signals : List Signal) (bytes : List ℕ) (fault : TechF
   pub named : fault ≡ tech.NoMemory → ⊥
   pub used : List Bool
   pub kinds : AreUsedKinds signals used
-  pub cause : Refuses used bytes fault
+  pub cause : RefusesTable used bytes fault
 
 -- a delay table isn't read, or has a fault
 abbrev pub FailsTable : List Signal → Option (List ℕ) → ℕ → ℕ → Failure → Type 0
 FailsTable signals held before now (failures.Tech fault) =
-    (bytes : List ℕ) × IsToldAs held bytes × IsShortFile bytes × HasFaultFor signals bytes fault
+    (bytes : List ℕ) × IsReportedAs held bytes × IsShortFile bytes × HasFaultFor signals bytes fault
 FailsTable signals held before now failure = FailsToReadFile kinds.Tech held before now failure
 
--- the placement in a file tells these places of the circuit's registers and of the source
+-- the placement in a file denotes these places of the circuit's registers and of the source
 pub record ReadsPlaces (circuit : Circuit) (tech : Tech) (held : Option (List ℕ))
     (places : Places) : Type 0 where
   pub bytes : List ℕ
-  pub told : IsToldAs held bytes
+  pub denoted : IsReportedAs held bytes
   pub short : IsShortFile bytes
   pub accepts : AcceptsPlacement bytes circuit tech.source tech.host places
 
 -- a placement isn't read, or has a fault
 abbrev pub FailsPlaces : Circuit → Tech → Option (List ℕ) → ℕ → ℕ → Failure → Type 0
 FailsPlaces circuit tech held before now (failures.Placement fault) =
-    (bytes : List ℕ) × IsToldAs held bytes × IsShortFile bytes
+    (bytes : List ℕ) × IsReportedAs held bytes × IsShortFile bytes
     × HasPlaceFault circuit tech bytes fault
 FailsPlaces circuit tech held before now failure =
     FailsToReadFile kinds.Placement held before now failure
 
--- a failure that tells a placement's fault; memory may run out at any fault
-abbrev pub TellsFault : Circuit → PlaceFault → Failure → Type 0
-TellsFault circuit fault (failures.Placement named) = IsNamedFault circuit fault named
-TellsFault circuit fault failures.NoMemory = Unit {0}
-TellsFault circuit fault _ = ⊥
+-- a failure that gives a placement's fault; memory may run out at any fault
+abbrev pub GivesFault : Circuit → PlaceFault → Failure → Type 0
+GivesFault circuit fault (failures.Placement named) = IsNamedFault circuit fault named
+GivesFault circuit fault failures.NoMemory = Unit {0}
+GivesFault circuit fault _ = ⊥
 
 -- the first files of the command are a netlist and, if one is named, a delay table for it
 abbrev pub ReadsCircuit : Command → Bor (List ℕ) → Option (Bor (List ℕ)) → Type 0
-ReadsCircuit command bench tech = (behind : List (FileKind × List ℕ))
-    × (files_of command ≡ circuit_files bench tech ++ behind)
+ReadsCircuit command bench tech = (suffix : List (FileKind × List ℕ))
+    × (files_of command ≡ circuit_files bench tech ++ suffix)
 
--- what these files hold is accepted, and tells this circuit and these delays
-pub record TellsCircuit (holds : List ℕ → Option (List ℕ)) (files : List (FileKind × List ℕ))
+-- what these files hold is accepted, and denotes this circuit and these delays
+pub record DenotesCircuit (holds : List ℕ → Option (List ℕ)) (files : List (FileKind × List ℕ))
     (circuit : Circuit) (tech : Tech) : Type 0 where
   pub contents : List (List ℕ)
   pub are : AreContents holds files contents
@@ -120,11 +120,11 @@ pub record TellsCircuit (holds : List ℕ → Option (List ℕ)) (files : List (
 
 -- the first files of the command are those of a problem
 abbrev pub ReadsProblem : Command → (bench tech pl : Bor (List ℕ)) → Type 0
-ReadsProblem command bench tech pl = (behind : List (FileKind × List ℕ))
-    × (files_of command ≡ problem_files bench tech pl ++ behind)
+ReadsProblem command bench tech pl = (suffix : List (FileKind × List ℕ))
+    × (files_of command ≡ problem_files bench tech pl ++ suffix)
 
--- what these files hold is accepted, and tells this problem
-pub record TellsProblem (holds : List ℕ → Option (List ℕ)) (files : List (FileKind × List ℕ))
+-- what these files hold is accepted, and denotes this problem
+pub record DenotesProblem (holds : List ℕ → Option (List ℕ)) (files : List (FileKind × List ℕ))
     (problem : Problem) : Type 0 where
   pub contents : List (List ℕ)
   pub are : AreContents holds files contents
@@ -135,14 +135,14 @@ pub record TellsProblem (holds : List ℕ → Option (List ℕ)) (files : List (
 pub record ReadsReport (problem : Problem) (held : Option (List ℕ)) (report : Report)
     : Type 0 where
   pub bytes : List ℕ
-  pub told : IsToldAs held bytes
+  pub denoted : IsReportedAs held bytes
   pub short : IsShortFile bytes
   pub spelled : Spells problem.circuit problem.tech bytes report
 
 -- a report isn't read, or isn't shown
 abbrev pub FailsReport : Problem → Option (List ℕ) → ℕ → ℕ → Failure → Type 0
 FailsReport problem held before now (failures.Unshown why) =
-    (bytes : List ℕ) × IsToldAs held bytes × IsReportRefusal problem bytes why
+    (bytes : List ℕ) × IsReportedAs held bytes × IsReportRefusal problem bytes why
 FailsReport problem held before now (failures.TooLong kind) = ⊥
 FailsReport problem held before now failure =
     FailsToReadFile kinds.Report held before now failure
@@ -155,12 +155,12 @@ IsRegisterReason (reason.SlackDiffers number) register = number ≡ register
 IsRegisterReason (reason.NotLeast number) register = number ≡ register
 IsRegisterReason reason register = ⊥
 
--- a failure that tells a reason; memory may run out at any reason
-abbrev pub TellsReason : Circuit → Reason → Failure → Type 0
-TellsReason circuit reason (failures.Unshown (why.Reason told subject)) =
-    (told ≡ reason) × (subject ≡ subject_of circuit reason)
-TellsReason circuit reason failures.NoMemory = Unit {0}
-TellsReason circuit reason _ = ⊥
+-- a failure that gives a reason; memory may run out at any reason
+abbrev pub GivesReason : Circuit → Reason → Failure → Type 0
+GivesReason circuit reason (failures.Unshown (why.Reason denoted subject)) =
+    (denoted ≡ reason) × (subject ≡ subject_of circuit reason)
+GivesReason circuit reason failures.NoMemory = Unit {0}
+GivesReason circuit reason _ = ⊥
 
 -- a reason stands against the report, or memory ran out
 abbrev pub FailsToShow : Problem → Report → Failure → Type 0

@@ -1,4 +1,4 @@
-//! A call of the program: the name that it is called by, and the words behind that.
+//! A call of the program: the name that it is called by, and the words after that.
 
 ghost use Rattle.std.specs.Prelude.{◌≡◌, ◌≢◌, ◌<◌, ℕ, List, map, drop, true, string_bytes, IfOk, IfErr};
 ghost use Rattle.std.specs.IoError.{error_kind};
@@ -17,7 +17,7 @@ use std::io::ErrorKind;
 use std::process::ExitCode;
 
 /// Answers a call with these words, the first of which is the program's name, and gives the exit
-/// code. Words that can't be had are told by one line on `err`: those that are no text are wrong
+/// code. Words that can't be had are reported by one line on `err`: those that are no text are wrong
 /// words.
 pub fn answer_call<I: Inputs, O: Sink, E: Sink>(
     alloc: Global,
@@ -26,11 +26,11 @@ pub fn answer_call<I: Inputs, O: Sink, E: Sink>(
     out: &mut O,
     err: &mut E,
 ) -> ExitCode
-    // The words behind the name are answered as by `run`, with its status.
+    // The words after the name are answered as by `run`, with its status.
     ensures done { IfOk words (λ words. is_ending (exit_status result) ≡ true
         → Ends (map string_bytes (drop 1 words.items)) (I.holds inputs.old) (exit_status result)
         (O.written out.old) (O.written out.new)) }
-    ensures told { IfOk words (λ words. is_ending (exit_status result) ≢ true
+    ensures denoted { IfOk words (λ words. is_ending (exit_status result) ≢ true
         → (failure : Failure) × (exit_status result ≡ status_of failure)
         × Fails (map string_bytes (drop 1 words.items)) (I.holds inputs.old) (I.faults inputs.old)
         (I.faults inputs.new) (O.written out.old) (O.written out.new) (O.faults out.old)
@@ -38,7 +38,7 @@ pub fn answer_call<I: Inputs, O: Sink, E: Sink>(
         × Reports (failure_line failure) (E.written err.old) (E.faults err.old) (E.written err.new)
         (E.faults err.new)) }
 
-    // Words that aren't had are told so.
+    // Words that aren't had are reported so.
     ensures no_text { IfErr words (λ error. error_kind error ≢ ErrorKind.OutOfMemory
         → (exit_status result ≡ 2)
         × Reports (failure_line Failure.Usage) (E.written err.old) (E.faults err.old)
@@ -51,7 +51,7 @@ pub fn answer_call<I: Inputs, O: Sink, E: Sink>(
     // What `run` leaves untouched stays so.
     ensures untouched { exit_status result ≡ 2 → inputs.new ≡ inputs.old }
     ensures files { (file : List ℕ) → I.holds inputs.new file ≡ I.holds inputs.old file }
-    ensures risen { (file : List ℕ) → I.faults inputs.old file < I.faults inputs.new file
+    ensures rose { (file : List ℕ) → I.faults inputs.old file < I.faults inputs.new file
         → exit_status result ≡ 4 }
     ensures kept { is_ending (exit_status result) ≢ true → exit_status result ≢ 5
         → O.written out.new ≡ O.written out.old }
@@ -59,26 +59,26 @@ pub fn answer_call<I: Inputs, O: Sink, E: Sink>(
     ensures quiet { is_ending (exit_status result) ≡ true → E.written err.new ≡ E.written err.old }
 {
     match words {
-        Ok(words) => ExitCode::from(run(alloc, behind_name(&words), inputs, out, err)),
+        Ok(words) => ExitCode::from(run(alloc, after_name(&words), inputs, out, err)),
         Err(error) if error.kind() == ErrorKind::OutOfMemory => refuse(Failure::NoMemory, err),
         Err(_) => refuse(Failure::Usage, err),
     }
 }
 
-// The words behind the program's name.
-fn behind_name(words: &[String]) -> &[String]
+// The words after the program's name.
+fn after_name(words: &[String]) -> &[String]
     ensures { result.now ≡ drop 1 words.now }
 {
     match words {
-        [_, behind @ ..] => behind,
+        [_, suffix @ ..] => suffix,
         [] => &[],
     }
 }
 
-// Tells why nothing is answered, and gives the exit code.
+// Reports why nothing is answered, and gives the exit code.
 fn refuse<E: Sink>(failure: Failure, err: &mut E) -> ExitCode
     ensures status { exit_status result ≡ status_of failure }
-    ensures told { Reports (failure_line failure) (E.written err.old) (E.faults err.old)
+    ensures denoted { Reports (failure_line failure) (E.written err.old) (E.faults err.old)
         (E.written err.new) (E.faults err.new) }
 {
     failure.report(err);

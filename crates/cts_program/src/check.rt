@@ -3,11 +3,11 @@
 ghost use Rattle.std.specs.Prelude.{◌≡◌, ◌<◌, ℕ, List, [], ◌∷◌, length, IfOk, IfErr};
 ghost use Rattle.cts_model.specs.PrintedLines.{text_of};
 ghost use Rattle.cts_model.specs.ReportBounds.{IsOfSize, IsWithinBounds};
-ghost use Rattle.cts_model.specs.Shown.{IsShown, IsLeast};
+ghost use Rattle.cts_model.specs.Shown.{IsShown, ShowsLeast};
 ghost use Rattle.cts_program.specs.Answers.{ending_status};
 ghost use Rattle.cts_program.specs.Checks.{shown_line, subject_of};
-ghost use Rattle.cts_program.specs.Run.{TellsText, Stops};
-ghost use Rattle.cts_program.specs.Steps.{IsAnyReadFault, IsRegisterReason, TellsReason, FailsToShow};
+ghost use Rattle.cts_program.specs.Run.{DenotesText, Stops};
+ghost use Rattle.cts_program.specs.Steps.{IsAnyReadFault, IsRegisterReason, GivesReason, FailsToShow};
 
 use crate::command::Command;
 use crate::ending::{Answer, Ending};
@@ -32,7 +32,7 @@ pub fn check<I: Inputs>(
     pl: &str,
     report: &str,
 ) -> Result<Answer, Failure>
-    ensures ok { IfOk result (λ answer. TellsText (I.holds inputs.old)
+    ensures ok { IfOk result (λ answer. DenotesText (I.holds inputs.old)
         (Command.Check bench.entry tech.entry pl.entry report.entry)
         (ending_status answer.ending) answer.text.items) }
     ensures cause { IfErr result (Stops (I.holds inputs.old) (I.faults inputs.old)
@@ -56,7 +56,7 @@ fn require_shown(alloc: Global, problem: &Problem, report: &Report) -> Result<()
     requires size { IsOfSize problem.now.circuit report.now }
     requires bounds { IsWithinBounds problem.now.tech report.now }
     ensures shown { IfOk result (λ _. IsShown problem.now report.now) }
-    ensures least { IfOk result (λ _. IsLeast problem.now report.now) }
+    ensures least { IfOk result (λ _. ShowsLeast problem.now report.now) }
     ensures cause { IfErr result (FailsToShow problem.now report.now) }
 {
     match cert_check::check(alloc, problem, report)? {
@@ -65,11 +65,11 @@ fn require_shown(alloc: Global, problem: &Problem, report: &Report) -> Result<()
     }
 }
 
-// The failure that tells a reason.
+// The failure that gives a reason.
 fn reason_failure(alloc: Global, circuit: &Circuit, reason: Reason) -> Failure
     requires { (register : ℕ) → IsRegisterReason reason register
         → register < length circuit.now.registers }
-    ensures { TellsReason circuit.now reason result }
+    ensures { GivesReason circuit.now reason result }
 {
     match copied(alloc, subject_of(circuit, reason)) {
         Ok(subject) => Failure::Unshown(NotShown::Reason(reason, subject)),

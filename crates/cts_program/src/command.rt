@@ -61,7 +61,7 @@ pub enum WordsFault {
     NoMemory,
 }
 
-/// The command that the words behind the program's name mean. They are judged without memory, and
+/// The command that the words after the program's name mean. They are judged without memory, and
 /// only words that mean a command are parsed.
 pub fn read_command<'a>(alloc: Global, words: &'a [String]) -> Result<Command<'a>, WordsFault>
     ensures ok { IfOk result (IsCommand (map string_bytes words.now)) }

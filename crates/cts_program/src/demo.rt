@@ -81,7 +81,7 @@ fn accepted(alloc: Global, texts: &Demo) -> Result<Problem, Failure>
     }
 }
 
-// The failure that tells a refusal of the texts.
+// The failure that gives a refusal of the texts.
 fn refusal_failure(alloc: Global, texts: &Demo, refusal: Refusal) -> Failure
     requires short { AreShort texts.now }
     requires refusal { IsRefusal texts.now.bench texts.now.tech texts.now.pl refusal }
@@ -95,7 +95,7 @@ fn refusal_failure(alloc: Global, texts: &Demo, refusal: Refusal) -> Failure
     }
 }
 
-// The failure that tells a fault of the placement, with the register that it is about.
+// The failure that gives a fault of the placement, with the register that it is about.
 fn places_failure(alloc: Global, texts: &Demo, fault: PlaceFault) -> Failure
     requires short { AreShort texts.now }
     requires refusal { IsRefusal texts.now.bench texts.now.tech texts.now.pl
@@ -103,7 +103,7 @@ fn places_failure(alloc: Global, texts: &Demo, fault: PlaceFault) -> Failure
     ensures { FailsTexts (texts_of texts.now) result }
 {
     match accept_circuit(alloc, texts.bench.as_slice(), texts.tech.as_slice()) {
-        Ok(told) => placement_failure(alloc, &told.circuit, fault),
+        Ok(denoted) => placement_failure(alloc, &denoted.circuit, fault),
         // Texts that were accepted are refused for want of memory alone.
         Err(_) => Failure::NoMemory,
     }

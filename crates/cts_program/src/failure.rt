@@ -193,7 +193,7 @@ fn write_reason<E: Sink>(reason: Reason, subject: &[u8], err: &mut E) -> Result<
     }
 }
 
-// What is wrong with a number, behind a space.
+// What is wrong with a number, after a space.
 fn number_word(fault: NumberFault) -> &'static [u8]
     ensures { result.now ≡ number_word fault }
 {
@@ -258,7 +258,7 @@ fn shown_byte(byte: u8) -> u8
     }
 }
 
-// The limit that a line passes, behind a space.
+// The limit that a line passes, after a space.
 fn limit_word(which: Which) -> &'static [u8]
     ensures { result.now ≡ limit_word which }
 {
@@ -271,13 +271,13 @@ fn limit_word(which: Which) -> &'static [u8]
 }
 
 // Writes a refusal with the number of a line, and what follows it.
-fn write_at<E: Sink>(refusal: &[u8], line: u32, behind: &[u8], err: &mut E) -> Result<(), Failed>
-    ensures { Writes (ended (refusal.now ++ decimal line ++ behind.now))
+fn write_at<E: Sink>(refusal: &[u8], line: u32, suffix: &[u8], err: &mut E) -> Result<(), Failed>
+    ensures { Writes (ended (refusal.now ++ decimal line ++ suffix.now))
         (E.written err.old) (E.faults err.old) (E.written err.new) (E.faults err.new) result }
 {
     let mut buffer = Buffer::new();
     let line = buffer.format(line).as_bytes();
-    write_line(&[refusal, line, behind], err)
+    write_line(&[refusal, line, suffix], err)
 }
 
 // Writes the refusal of a ring of gates, with their names.

@@ -5,7 +5,7 @@ ghost use Rattle.cts_model.specs.Circuits.{has_host};
 ghost use Rattle.cts_model.specs.Problems.{GivesUsedKinds};
 ghost use Rattle.cts_model.specs.Hosts.{HasNoHost};
 ghost use Rattle.cts_program.specs.Files.{IsShortFile};
-ghost use Rattle.cts_program.specs.Steps.{IsToldAs, FailsToReadFile, ReadsNetlist, FailsNetlist, ReadsTable, FailsTable, ReadsPlaces, FailsPlaces, ReadsReport, FailsReport, IsReadFault};
+ghost use Rattle.cts_program.specs.Steps.{IsReportedAs, FailsToReadFile, ReadsNetlist, FailsNetlist, ReadsTable, FailsTable, ReadsPlaces, FailsPlaces, ReadsReport, FailsReport, IsReadFault};
 
 use crate::failure::Failure;
 use crate::file_kind::FileKind;
@@ -22,7 +22,7 @@ use std::alloc::Global;
 // The most bytes that a file may have.
 const FILE_LIMIT: usize = 16_777_216;
 
-/// The circuit that the netlist in a file tells.
+/// The circuit that the netlist in a file denotes.
 pub fn read_netlist<I: Inputs>(
     alloc: Global,
     inputs: &mut I,
@@ -41,7 +41,7 @@ pub fn read_netlist<I: Inputs>(
     Ok(read_bench(alloc, &bytes)?)
 }
 
-/// The delays that the table in a file tells, for a circuit without the host.
+/// The delays that the table in a file denotes, for a circuit without the host.
 pub fn read_table<I: Inputs>(
     alloc: Global,
     inputs: &mut I,
@@ -121,7 +121,7 @@ fn read_file<I: Inputs>(
     kind: FileKind,
     file: &str,
 ) -> Result<Vec<u8>, Failure>
-    ensures ok { IfOk result (λ bytes. IsToldAs (I.holds inputs.old file.now) bytes.items) }
+    ensures ok { IfOk result (λ bytes. IsReportedAs (I.holds inputs.old file.now) bytes.items) }
     ensures short { IfOk result (λ bytes. IsShortFile bytes.items) }
     ensures cause { IfErr result (FailsToReadFile kind (I.holds inputs.old file.now)
         (I.faults inputs.old file.now) (I.faults inputs.new file.now)) }

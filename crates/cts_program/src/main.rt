@@ -5,6 +5,7 @@ mod call;
 mod check;
 mod command;
 mod demo;
+mod denoted;
 mod ending;
 mod failure;
 mod file_kind;
@@ -20,7 +21,6 @@ mod scheduling;
 mod synth;
 #[cfg(test)]
 mod tests;
-mod told;
 mod zero;
 mod zero_text;
 

@@ -1,4 +1,4 @@
-//! Why a report isn't shown, as it is told.
+//! Why a report isn't shown, as it is reported.
 
 use cert_check::Reason;
 use cts_base::Name;

@@ -5,14 +5,14 @@ ghost use Rattle.cts_model.specs.PairLists.{JoinsMoreThan};
 ghost use Rattle.cts_model.specs.Paths.{IsLoop};
 ghost use Rattle.cts_program.specs.Answers.{ending_status};
 ghost use Rattle.cts_program.specs.PeriodTexts.{outcome_status, IsPeriodText};
-ghost use Rattle.cts_program.specs.Run.{TellsText, Stops};
+ghost use Rattle.cts_program.specs.Run.{DenotesText, Stops};
 ghost use Rattle.cts_program.specs.Steps.{FailsCircuit, IsAnyReadFault};
 
 use crate::command::Command;
+use crate::denoted::read_circuit;
 use crate::ending::{Answer, Ending};
 use crate::failure::Failure;
 use crate::period_text::period_text;
-use crate::told::read_circuit;
 use cts_engine::{PeriodOutcome, period_of};
 use cts_io::Inputs;
 use cts_model::{Circuit, Tech};
@@ -25,7 +25,7 @@ pub fn period<I: Inputs>(
     bench: &str,
     tech: &str,
 ) -> Result<Answer, Failure>
-    ensures ok { IfOk result (λ answer. TellsText (I.holds inputs.old)
+    ensures ok { IfOk result (λ answer. DenotesText (I.holds inputs.old)
         (Command.Period bench.entry tech.entry) (ending_status answer.ending) answer.text.items) }
     ensures cause { IfErr result (Stops (I.holds inputs.old) (I.faults inputs.old)
         (I.faults inputs.new) (Command.Period bench.entry tech.entry)) }
@@ -33,8 +33,8 @@ pub fn period<I: Inputs>(
     ensures stays { ¬ IsAnyReadFault result
         → (file : List ℕ) → I.faults inputs.new file ≡ I.faults inputs.old file }
 {
-    let told = read_circuit(alloc, inputs, bench, Some(tech))?;
-    circuit_answer(alloc, &told.circuit, &told.tech)
+    let denoted = read_circuit(alloc, inputs, bench, Some(tech))?;
+    circuit_answer(alloc, &denoted.circuit, &denoted.tech)
 }
 
 // The answer for a circuit and its delays.

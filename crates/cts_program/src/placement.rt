@@ -1,9 +1,9 @@
-//! Why a placement is refused, as it is told.
+//! Why a placement is refused, as it is reported.
 
 ghost use Rattle.std.specs.Prelude.{◌≡◌, ◌<◌, ◌⊎◌, ℕ, length, IfOk};
 ghost use Rattle.cts_program.specs.declared.failure.Failure.TheVariants as failures;
 ghost use Rattle.cts_program.specs.declared.placement.PlacementFault.TheVariants as faults;
-ghost use Rattle.cts_program.specs.Steps.{TellsFault};
+ghost use Rattle.cts_program.specs.Steps.{GivesFault};
 
 use crate::failure::Failure;
 use cts_base::{Listed, Name, NoMemory, NumberFault};
@@ -30,7 +30,7 @@ pub enum PlacementFault {
 pub fn placement_failure(alloc: Global, circuit: &Circuit, fault: PlaceFault) -> Failure
     requires { (register : ℕ) → fault ≡ PlaceFault.NoPlace register
         → register < length circuit.now.registers }
-    ensures { TellsFault circuit.now fault result }
+    ensures { GivesFault circuit.now fault result }
 {
     match fault {
         PlaceFault::BadLine(line) => Failure::Placement(PlacementFault::BadLine(line)),

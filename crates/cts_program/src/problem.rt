@@ -4,17 +4,17 @@ ghost use Rattle.std.specs.Prelude.{◌≡◌, ℕ, List, IfOk, IfErr};
 ghost use Rattle.cts_program.specs.declared.command.Command.{Command};
 ghost use Rattle.cts_program.specs.Files.{problem_files};
 ghost use Rattle.cts_program.specs.Run.{Stops};
-ghost use Rattle.cts_program.specs.Steps.{ReadsProblem, TellsProblem, IsAnyReadFault};
+ghost use Rattle.cts_program.specs.Steps.{ReadsProblem, DenotesProblem, IsAnyReadFault};
 
+use crate::denoted::read_circuit;
 use crate::failure::Failure;
 use crate::files::read_placement;
-use crate::told::read_circuit;
-use cts_engine::Told;
+use cts_engine::Denoted;
 use cts_io::Inputs;
 use cts_model::Problem;
 use std::alloc::Global;
 
-/// What the netlist in a file tells, with the delays in another and the places in a third.
+/// What the netlist in a file denotes, with the delays in another and the places in a third.
 pub fn read_problem<I: Inputs>(
     alloc: Global,
     inputs: &mut I,
@@ -22,7 +22,7 @@ pub fn read_problem<I: Inputs>(
     tech: &str,
     pl: &str,
 ) -> Result<Problem, Failure>
-    ensures ok { IfOk result (TellsProblem (I.holds inputs.old)
+    ensures ok { IfOk result (DenotesProblem (I.holds inputs.old)
         (problem_files bench.entry tech.entry pl.entry)) }
     ensures cause { IfErr result (λ failure. (command : Command)
         → ReadsProblem command bench.entry tech.entry pl.entry
@@ -31,7 +31,7 @@ pub fn read_problem<I: Inputs>(
     ensures stays { ¬ IsAnyReadFault result
         → (file : List ℕ) → I.faults inputs.new file ≡ I.faults inputs.old file }
 {
-    let Told { circuit, tech } = read_circuit(alloc, inputs, bench, Some(tech))?;
+    let Denoted { circuit, tech } = read_circuit(alloc, inputs, bench, Some(tech))?;
     let places = read_placement(alloc, inputs, pl, &circuit, &tech)?;
     Ok(Problem {
         circuit,

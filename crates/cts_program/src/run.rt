@@ -6,8 +6,8 @@ ghost use Rattle.cts_program.specs.declared.file_kind.FileKind.{FileKind};
 ghost use Rattle.cts_program.specs.Answers.{is_ending, ending_status, IsAnswer, IsRefusal, IsAccepted, IsStatusOf, FindsNoPeriod};
 ghost use Rattle.cts_program.specs.Commands.{is_value, options_of, IsCommand};
 ghost use Rattle.cts_program.specs.Failures.{status_of, failure_line, Reports};
-ghost use Rattle.cts_program.specs.Files.{files_of, AreTold, AreAll};
-ghost use Rattle.cts_program.specs.Run.{IsNoCommand, TellsText, Refuses, CannotRead, Stops, Ends, EndsInPart, Fails, AreUnrisen};
+ghost use Rattle.cts_program.specs.Files.{files_of, AreDenoted, AreAll};
+ghost use Rattle.cts_program.specs.Run.{IsNoCommand, DenotesText, RefusesCommand, CannotRead, Stops, Ends, EndsInPart, Fails, NoneRose};
 ghost use Rattle.cts_program.specs.Steps.{IsAnyReadFault};
 
 use crate::check::check;
@@ -23,8 +23,8 @@ use cts_io::{Inputs, Sink, write_whole};
 use report_text::laws;
 use std::alloc::Global;
 
-/// All that the program does: answers the words behind its name, and gives its exit status. A
-/// refusal is told by one line on `err`; a failing `err` changes no status.
+/// All that the program does: answers the words after its name, and gives its exit status. A
+/// refusal is reported by one line on `err`; a failing `err` changes no status.
 pub fn run<I: Inputs, O: Sink, E: Sink>(
     alloc: Global,
     words: &[String],
@@ -39,7 +39,7 @@ pub fn run<I: Inputs, O: Sink, E: Sink>(
     ensures only { (command : Command) (contents : List (List ℕ)) (status : ℕ)
         (text before : List ℕ)
         → IsCommand (map string_bytes words.now) command
-        → AreTold (I.holds inputs.old) (files_of command) contents
+        → AreDenoted (I.holds inputs.old) (files_of command) contents
         → IsAnswer command contents status text → O.written out.old ≡ Some before
         → O.written out.new ≡ appended (O.written out.old) text → result ≡ status }
 
@@ -47,11 +47,11 @@ pub fn run<I: Inputs, O: Sink, E: Sink>(
     // `check`. Such input gives no 0.
     ensures never { (command : Command) (contents : List (List ℕ))
         → IsCommand (map string_bytes words.now) command
-        → AreTold (I.holds inputs.old) (files_of command) contents → AreAll command contents
+        → AreDenoted (I.holds inputs.old) (files_of command) contents → AreAll command contents
         → result ≡ 1 → FindsNoPeriod command contents }
     ensures found { (command : Command) (contents : List (List ℕ))
         → IsCommand (map string_bytes words.now) command
-        → AreTold (I.holds inputs.old) (files_of command) contents
+        → AreDenoted (I.holds inputs.old) (files_of command) contents
         → FindsNoPeriod command contents → result ≢ 0 }
 
     // 2: exactly where the words are no command. No file is touched then.
@@ -63,23 +63,23 @@ pub fn run<I: Inputs, O: Sink, E: Sink>(
     ensures refused { (result ≡ 3) ⊎ (result ≡ 7) → (command : Command)
         × IsCommand (map string_bytes words.now) command
         × ((failure : Failure) × (status_of failure ≡ result)
-        × Refuses (I.holds inputs.old) command failure) }
+        × RefusesCommand (I.holds inputs.old) command failure) }
     ensures refuses { (command : Command) (contents : List (List ℕ)) (failure : Failure)
         → IsCommand (map string_bytes words.now) command
-        → AreTold (I.holds inputs.old) (files_of command) contents
+        → AreDenoted (I.holds inputs.old) (files_of command) contents
         → IsRefusal command contents failure
         → (result ≡ status_of failure) ⊎ ((result ≡ 4) ⊎ (result ≡ 6)) }
 
-    // 4: only where the count of a file rose that the command reads, behind files that are accepted;
+    // 4: only where the count of a file rose that the command reads, after files that are accepted;
     // and wherever the count of any file is greater.
     ensures read_fault { result ≡ 4 → (command : Command)
         × IsCommand (map string_bytes words.now) command
         × ((kind : FileKind) × CannotRead (I.holds inputs.old) (I.faults inputs.old)
         (I.faults inputs.new) command kind) }
-    ensures risen { (file : List ℕ) → I.faults inputs.old file < I.faults inputs.new file
+    ensures rose { (file : List ℕ) → I.faults inputs.old file < I.faults inputs.new file
         → result ≡ 4 }
 
-    // 5: only where the count of the output rose, and wherever it is greater. A front of the text
+    // 5: only where the count of the output rose, and wherever it is greater. A prefix of the text
     // stands there.
     ensures write_fault { result ≡ 5 → Rose (O.faults out.old) (O.faults out.new) }
     ensures part { result ≡ 5 → EndsInPart (map string_bytes words.now)
@@ -90,8 +90,8 @@ pub fn run<I: Inputs, O: Sink, E: Sink>(
     // whatever its report holds, unless memory runs out.
     ensures complete { (command : Command) (contents : List (List ℕ))
         → IsCommand (map string_bytes words.now) command
-        → AreTold (I.holds inputs.old) (files_of command) contents → IsAccepted command contents
-        → AreUnrisen (I.faults inputs.old) (I.faults inputs.new) (files_of command)
+        → AreDenoted (I.holds inputs.old) (files_of command) contents → IsAccepted command contents
+        → NoneRose (I.faults inputs.old) (I.faults inputs.new) (files_of command)
         → (Rose (O.faults out.old) (O.faults out.new) → ⊥)
         → IsStatusOf command result ⊎ (result ≡ 6) }
 
@@ -101,7 +101,7 @@ pub fn run<I: Inputs, O: Sink, E: Sink>(
 
     // Every other status is that of a failure that has its cause, and whose line stands on `err`.
     ensures quiet { is_ending result ≡ true → E.written err.new ≡ E.written err.old }
-    ensures told { is_ending result ≢ true → (failure : Failure) × (result ≡ status_of failure)
+    ensures denoted { is_ending result ≢ true → (failure : Failure) × (result ≡ status_of failure)
         × Fails (map string_bytes words.now) (I.holds inputs.old) (I.faults inputs.old)
         (I.faults inputs.new) (O.written out.old) (O.written out.new) (O.faults out.old)
         (O.faults out.new) failure
@@ -154,7 +154,7 @@ fn command_answer<I: Inputs>(
     command: Command,
 ) -> Result<Answer, Failure>
     requires { All (λ one. IsTrue (is_value one.0 one.1)) (options_of command) }
-    ensures ok { IfOk result (λ answer. TellsText (I.holds inputs.old) command.entry
+    ensures ok { IfOk result (λ answer. DenotesText (I.holds inputs.old) command.entry
         (ending_status answer.ending) answer.text.items) }
     ensures cause { IfErr result (Stops (I.holds inputs.old) (I.faults inputs.old)
         (I.faults inputs.new) command.entry) }

@@ -6,15 +6,15 @@ ghost use Rattle.cts_model.specs.Paths.{IsLoop};
 ghost use Rattle.cts_engine.specs.ScheduleOutcomes.{period_outcome};
 ghost use Rattle.cts_program.specs.Answers.{ending_status};
 ghost use Rattle.cts_program.specs.PeriodTexts.{outcome_status};
-ghost use Rattle.cts_program.specs.Run.{TellsText, Stops};
+ghost use Rattle.cts_program.specs.Run.{DenotesText, Stops};
 ghost use Rattle.cts_program.specs.ScheduleTexts.{IsScheduleText};
 ghost use Rattle.cts_program.specs.Steps.{FailsCircuit, IsAnyReadFault};
 
 use crate::command::Command;
+use crate::denoted::read_circuit;
 use crate::ending::{Answer, Ending};
 use crate::failure::Failure;
 use crate::schedule_text::schedule_text;
-use crate::told::read_circuit;
 use cts_engine::{ScheduleOutcome, schedule_of};
 use cts_io::Inputs;
 use cts_model::{Circuit, Tech};
@@ -27,7 +27,7 @@ pub fn schedule<I: Inputs>(
     bench: &str,
     tech: &str,
 ) -> Result<Answer, Failure>
-    ensures ok { IfOk result (λ answer. TellsText (I.holds inputs.old)
+    ensures ok { IfOk result (λ answer. DenotesText (I.holds inputs.old)
         (Command.Schedule bench.entry tech.entry) (ending_status answer.ending)
         answer.text.items) }
     ensures cause { IfErr result (Stops (I.holds inputs.old) (I.faults inputs.old)
@@ -36,8 +36,8 @@ pub fn schedule<I: Inputs>(
     ensures stays { ¬ IsAnyReadFault result
         → (file : List ℕ) → I.faults inputs.new file ≡ I.faults inputs.old file }
 {
-    let told = read_circuit(alloc, inputs, bench, Some(tech))?;
-    circuit_answer(alloc, &told.circuit, &told.tech)
+    let denoted = read_circuit(alloc, inputs, bench, Some(tech))?;
+    circuit_answer(alloc, &denoted.circuit, &denoted.tech)
 }
 
 // The answer for a circuit and its delays.

@@ -5,7 +5,7 @@ ghost use Rattle.cts_model.specs.PairLists.{JoinsMoreThan};
 ghost use Rattle.cts_model.specs.PrintedLines.{text_of};
 ghost use Rattle.cts_engine.specs.SynthesisOutcomes.{IsOutcome};
 ghost use Rattle.cts_program.specs.Answers.{ending_status};
-ghost use Rattle.cts_program.specs.Run.{TellsText, Stops};
+ghost use Rattle.cts_program.specs.Run.{DenotesText, Stops};
 ghost use Rattle.cts_program.specs.Steps.{FailsCircuit, IsAnyReadFault};
 ghost use Rattle.cts_program.specs.SynthTexts.{IsSynthText, synth_lines, synth_status};
 
@@ -29,7 +29,7 @@ pub fn synth<I: Inputs>(
     tech: &str,
     pl: &str,
 ) -> Result<Answer, Failure>
-    ensures ok { IfOk result (λ answer. TellsText (I.holds inputs.old)
+    ensures ok { IfOk result (λ answer. DenotesText (I.holds inputs.old)
         (Command.Synth bench.entry tech.entry pl.entry) (ending_status answer.ending)
         answer.text.items) }
     ensures cause { IfErr result (Stops (I.holds inputs.old) (I.faults inputs.old)

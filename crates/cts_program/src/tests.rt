@@ -235,6 +235,6 @@ fn table(alloc: Global, registers: [u32; 4], more: &str) -> Result<String, Alloc
 
 // A text with another in the place of the first such part.
 fn changed(alloc: Global, text: &str, old: &str, new: &str) -> Result<String, Fail> {
-    let (front, behind) = text.split_once(old).ok_or("not in the text")?;
-    Ok(format!(in alloc; "{front}{new}{behind}")?)
+    let (prefix, suffix) = text.split_once(old).ok_or("not in the text")?;
+    Ok(format!(in alloc; "{prefix}{new}{suffix}")?)
 }

@@ -4,14 +4,14 @@ ghost use Rattle.std.specs.Prelude.{◌≡◌, ℕ, List, IfOk, IfErr};
 ghost use Rattle.cts_model.specs.PairLists.{JoinsMoreThan};
 ghost use Rattle.cts_model.specs.Paths.{IsLoop};
 ghost use Rattle.cts_program.specs.Answers.{ending_status};
-ghost use Rattle.cts_program.specs.Run.{TellsText, Stops};
+ghost use Rattle.cts_program.specs.Run.{DenotesText, Stops};
 ghost use Rattle.cts_program.specs.Steps.{FailsCircuit, IsAnyReadFault};
 ghost use Rattle.cts_program.specs.Texts.{IsZeroText};
 
 use crate::command::Command;
+use crate::denoted::read_circuit;
 use crate::ending::{Answer, Ending};
 use crate::failure::Failure;
-use crate::told::read_circuit;
 use crate::zero_text::zero_text;
 use cts_engine::zero_of;
 use cts_io::Inputs;
@@ -25,7 +25,7 @@ pub fn zero<I: Inputs>(
     bench: &str,
     tech: Option<&str>,
 ) -> Result<Answer, Failure>
-    ensures ok { IfOk result (λ answer. TellsText (I.holds inputs.old)
+    ensures ok { IfOk result (λ answer. DenotesText (I.holds inputs.old)
         (Command.Zero bench.entry tech.entry) (ending_status answer.ending) answer.text.items) }
     ensures cause { IfErr result (Stops (I.holds inputs.old) (I.faults inputs.old)
         (I.faults inputs.new) (Command.Zero bench.entry tech.entry)) }
@@ -33,8 +33,8 @@ pub fn zero<I: Inputs>(
     ensures stays { ¬ IsAnyReadFault result
         → (file : List ℕ) → I.faults inputs.new file ≡ I.faults inputs.old file }
 {
-    let told = read_circuit(alloc, inputs, bench, tech)?;
-    let text = circuit_text(alloc, &told.circuit, &told.tech)?;
+    let denoted = read_circuit(alloc, inputs, bench, tech)?;
+    let text = circuit_text(alloc, &denoted.circuit, &denoted.tech)?;
     Ok(Answer {
         ending: Ending::Done,
         text,

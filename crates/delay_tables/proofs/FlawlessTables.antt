@@ -195,18 +195,18 @@ is_flawless used document none =
     record { keys = keys.0; order = order.0; kinds = kinds.0 }
 
 -- what is at a gate kind's place
-at_kind : {X : Type 0} (told : Kind → X) (other : X) (kind : Kind) → IsTrue (is_gate kind) → get_or (map told gate_kinds) (place_of kind) other ≡ told kind
-at_kind told other And gate = refl
-at_kind told other Nand gate = refl
-at_kind told other Or gate = refl
-at_kind told other Nor gate = refl
-at_kind told other Not gate = refl
-at_kind told other Xor gate = refl
-at_kind told other Xnor gate = refl
-at_kind told other Buff gate = refl
-at_kind told other Input gate = absurd (false≢true gate)
-at_kind told other Dff gate = absurd (false≢true gate)
-at_kind told other Host gate = absurd (false≢true gate)
+at_kind : {X : Type 0} (denoted : Kind → X) (other : X) (kind : Kind) → IsTrue (is_gate kind) → get_or (map denoted gate_kinds) (place_of kind) other ≡ denoted kind
+at_kind denoted other And gate = refl
+at_kind denoted other Nand gate = refl
+at_kind denoted other Or gate = refl
+at_kind denoted other Nor gate = refl
+at_kind denoted other Not gate = refl
+at_kind denoted other Xor gate = refl
+at_kind denoted other Xnor gate = refl
+at_kind denoted other Buff gate = refl
+at_kind denoted other Input gate = absurd (false≢true gate)
+at_kind denoted other Dff gate = absurd (false≢true gate)
+at_kind denoted other Host gate = absurd (false≢true gate)
 
 kind_none : (flaw : Kind → Option TableFlaw) (kind : Kind) → IsTrue (is_gate kind) → first_flaw flaw gate_kinds ≡ None → flaw kind ≡ None
 kind_none flaw And gate none = none_at flaw gate_kinds 0 none

@@ -3,6 +3,6 @@ mod Fractions
 mod Judgements
 pub mod OneFault
 pub mod OneTable
-mod ToldTables
+mod DenotedTables
 mod UnknownNames
 mod Ways

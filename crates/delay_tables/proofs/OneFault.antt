@@ -7,7 +7,7 @@ use Rattle.cts_model.specs.TableFlaws as flaws
 use Rattle.cts_model.specs.AcceptedTables.{IsDocument, IsNotToml, HasFlaw, IsDelayTable, AcceptsTable}
 use Rattle.delay_tables.specs.declared.fault.TechFault.{TechFault}
 use Rattle.delay_tables.specs.declared.fault.TechFault.TheVariants.{NotToml, Missing, WrongType, OutOfRange, LeastAboveGreatest, MissingKind, UnknownKey, NoMemory}
-use Rattle.delay_tables.specs.Refusals.{Refuses, IsFaultOf, TellsName}
+use Rattle.delay_tables.specs.Refusals.{RefusesTable, IsFaultOf, DenotesName}
 use Rattle.cts_model.proofs.TableLemmas.{disorder_of_table, unknown_of_table}
 
 -- the fault of a flaw
@@ -20,7 +20,7 @@ fault_of (flaws.MissingKind kind) = MissingKind kind
 fault_of (flaws.UnknownKey name) = UnknownKey name
 
 -- a document whose first flaw is that of a fault is refused with it
-pub refuses_flaw : (used : List Bool) (bytes : List ℕ) (document : Members) (fault : TechFault) → IsDocument bytes document → IsFaultOf (table_flaw used document) fault → Refuses used bytes fault
+pub refuses_flaw : (used : List Bool) (bytes : List ℕ) (document : Members) (fault : TechFault) → IsDocument bytes document → IsFaultOf (table_flaw used document) fault → RefusesTable used bytes fault
 refuses_flaw used bytes document NotToml reads cause = absurd cause
 refuses_flaw used bytes document (Missing name) reads cause = record { document = document; reads = reads; first = cause }
 refuses_flaw used bytes document (WrongType name) reads cause = record { document = document; reads = reads; first = cause }
@@ -36,7 +36,7 @@ data Cause (used : List Bool) (bytes : List ℕ) (fault : TechFault) : Type 0 wh
   flawed : (flaw : TableFlaw) → fault ≡ fault_of flaw → HasFlaw used bytes flaw → Cause used bytes fault
   memory : fault ≡ NoMemory → Cause used bytes fault
 
-cause_of : (used : List Bool) (bytes : List ℕ) (fault : TechFault) → Refuses used bytes fault → Cause used bytes fault
+cause_of : (used : List Bool) (bytes : List ℕ) (fault : TechFault) → RefusesTable used bytes fault → Cause used bytes fault
 cause_of used bytes NotToml refuses = not_toml refl refuses
 cause_of used bytes (Missing name) refuses = flawed (flaws.Missing name) refl refuses
 cause_of used bytes (WrongType name) refuses = flawed (flaws.WrongType name) refl refuses
@@ -85,31 +85,31 @@ one_fault used bytes fault found named (flawed flaw is has) (not_toml found_is n
 one_fault used bytes fault found named (flawed flaw is has) (flawed other found_is has_other) = inl (found_is ∙ (ap fault_of (one_flaw used bytes other flaw has_other has) ∙ sym is))
 
 -- an answer that names only faults that are there accepts each table
-pub accepts_each : (used : List Bool) (bytes : List ℕ) (result : Result Tech TechFault) → IfErr result (Refuses used bytes) → IsDelayTable used bytes → IsOkUnless result NoMemory
+pub accepts_each : (used : List Bool) (bytes : List ℕ) (result : Result Tech TechFault) → IfErr result (RefusesTable used bytes) → IsDelayTable used bytes → IsOkUnless result NoMemory
 accepts_each used bytes (Ok tech) refused table = tt
 accepts_each used bytes (Err fault) refused table = no_fault used bytes fault table (cause_of used bytes fault refused)
 
 -- and names each fault, if it accepts only tables
-pub names_each : (used : List Bool) (bytes : List ℕ) (result : Result Tech TechFault) → IfOk result (AcceptsTable used bytes) → IfErr result (Refuses used bytes)
-    → (fault : TechFault) → fault ≢ NoMemory → Refuses used bytes fault → IsErrAnd result (λ found. (found ≡ fault) ⊎ (found ≡ NoMemory))
+pub names_each : (used : List Bool) (bytes : List ℕ) (result : Result Tech TechFault) → IfOk result (AcceptsTable used bytes) → IfErr result (RefusesTable used bytes)
+    → (fault : TechFault) → fault ≢ NoMemory → RefusesTable used bytes fault → IsErrAnd result (λ found. (found ≡ fault) ⊎ (found ≡ NoMemory))
 names_each used bytes (Ok tech) accepted refused fault named refuses =
     named (no_fault used bytes fault (record { document = accepted.document; reads = accepted.reads; flawless = accepted.flawless }) (cause_of used bytes fault refuses))
 names_each used bytes (Err found) accepted refused fault named refuses = one_fault used bytes fault found named (cause_of used bytes fault refuses) (cause_of used bytes found refused)
 
 -- a delay table has no fault but want of memory
-pub not_refused : (used : List Bool) (bytes : List ℕ) (fault : TechFault) → IsDelayTable used bytes → Refuses used bytes fault → fault ≡ NoMemory
+pub not_refused : (used : List Bool) (bytes : List ℕ) (fault : TechFault) → IsDelayTable used bytes → RefusesTable used bytes fault → fault ≡ NoMemory
 not_refused used bytes fault table refuses = no_fault used bytes fault table (cause_of used bytes fault refuses)
 
--- a fault tells the least unknown key, and the first that is out of order
-pub names_told : (used : List Bool) (bytes : List ℕ) (fault : TechFault)
-    → Refuses used bytes fault → TellsName bytes fault
-names_told used bytes NotToml has = tt
-names_told used bytes (Missing name) has = tt
-names_told used bytes (WrongType name) has = tt
-names_told used bytes (OutOfRange name) has = tt
-names_told used bytes (LeastAboveGreatest name) has =
+-- a fault gives the least unknown key, and the first that is out of order
+pub names_denoted : (used : List Bool) (bytes : List ℕ) (fault : TechFault)
+    → RefusesTable used bytes fault → DenotesName bytes fault
+names_denoted used bytes NotToml has = tt
+names_denoted used bytes (Missing name) has = tt
+names_denoted used bytes (WrongType name) has = tt
+names_denoted used bytes (OutOfRange name) has = tt
+names_denoted used bytes (LeastAboveGreatest name) has =
     (has.document, has.reads, disorder_of_table used has.document name has.first)
-names_told used bytes (MissingKind kind) has = tt
-names_told used bytes (UnknownKey name) has =
+names_denoted used bytes (MissingKind kind) has = tt
+names_denoted used bytes (UnknownKey name) has =
     (has.document, has.reads, unknown_of_table used has.document name has.first)
-names_told used bytes NoMemory has = tt
+names_denoted used bytes NoMemory has = tt

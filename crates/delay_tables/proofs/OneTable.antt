@@ -7,7 +7,7 @@ use Rattle.cts_base.specs.Fractions.{IsLowest}
 use Rattle.cts_base.proofs.OneFraction.{one_fraction}
 use Rattle.cts_model.specs.declared.tech.Tech.{Tech}
 use Rattle.cts_model.specs.TableValues.{text_at, numerator_of, denominator_of}
-use Rattle.cts_model.specs.AcceptedTables.{TellsTable, AcceptsTable}
+use Rattle.cts_model.specs.AcceptedTables.{DenotesTable, AcceptsTable}
 use Rattle.cts_model.proofs.OneRecord.{same_tech}
 use Rattle.delay_tables.proofs.FlawlessTables.{is_flawless, is_top_within}
 use Rattle.delay_tables.proofs.Fractions.{small_denominator}
@@ -16,11 +16,11 @@ use Rattle.delay_tables.proofs.OneFault.{one_document}
 -- two fractions that have the value of a third have one value
 crossed : (a b c d num den : ℕ) → 0 < den → a * den ≡ num * b → c * den ≡ num * d → a * d ≡ c * b
 crossed a b c d num den some first second =
-    let front : (a * d) * den ≡ (a * den) * d = omega arith in
+    let prefix : (a * d) * den ≡ (a * den) * d = omega arith in
     let middle : (num * b) * d ≡ (num * d) * b = omega arith in
     let back : (c * den) * b ≡ (c * b) * den = omega arith in
     let same : (a * d) * den ≡ (c * b) * den =
-    front ∙ ap (λ n. n * d) first ∙ middle ∙ ap (λ n. n * b) (sym second) ∙ back in
+    prefix ∙ ap (λ n. n * d) first ∙ middle ∙ ap (λ n. n * b) (sym second) ∙ back in
     sym (mul-div_cancel (a * d) some) ∙ ap (λ n. n / den) same ∙ mul-div_cancel (c * b) some
 
 -- the wires of two tables that have the fraction of one text have one value
@@ -45,23 +45,23 @@ wire_lowest tech = record {
   coprime = tech.valid.lowest_terms;
 }
 
--- a document tells one table
-one_told : (document : Members) (tech other : Tech)
+-- a document denotes one table
+one_denoted : (document : Members) (tech other : Tech)
     → 0 < denominator_of (text_at (codes "wire" ∷ []) (codes "delay") document)
-    → TellsTable document tech → TellsTable document other → tech ≡ other
-one_told document tech other some tells tells' =
+    → DenotesTable document tech → DenotesTable document other → tech ≡ other
+one_denoted document tech other some denotes denotes' =
     let text = text_at (codes "wire" ∷ []) (codes "delay") document in
     let same = same_value tech.wire_num tech.wire_den other.wire_num other.wire_den
     (numerator_of text) (denominator_of text) some
     tech.valid.wire_num_within.above tech.valid.wire_den_within.above
-    other.valid.wire_num_within.above other.valid.wire_den_within.above tells.wire tells'.wire in
+    other.valid.wire_num_within.above other.valid.wire_den_within.above denotes.wire denotes'.wire in
     let wire = one_fraction tech.wire_num tech.wire_den other.wire_num other.wire_den
     (wire_lowest tech) (wire_lowest other) same in
     same_tech tech other wire.0 wire.1
-    (tells.source ∙ sym tells'.source) (tells.setup ∙ sym tells'.setup)
-    (tells.hold ∙ sym tells'.hold) (tells.least ∙ sym tells'.least)
-    (tells.greatest ∙ sym tells'.greatest) (tells.host ∙ sym tells'.host)
-    (tells.floor ∙ sym tells'.floor) (tells.gates ∙ sym tells'.gates)
+    (denotes.source ∙ sym denotes'.source) (denotes.setup ∙ sym denotes'.setup)
+    (denotes.hold ∙ sym denotes'.hold) (denotes.least ∙ sym denotes'.least)
+    (denotes.greatest ∙ sym denotes'.greatest) (denotes.host ∙ sym denotes'.host)
+    (denotes.floor ∙ sym denotes'.floor) (denotes.gates ∙ sym denotes'.gates)
 
 -- bytes tell one table
 pub one_table : (used : List Bool) (bytes : List ℕ) (tech other : Tech)
@@ -72,5 +72,5 @@ one_table used bytes tech other accepts accepts' =
     let top = is_top_within accepts.document flawless.keys in
     let den = small_denominator text top.small in
     let same = one_document bytes accepts'.document accepts.document accepts'.reads accepts.reads in
-    one_told accepts.document tech other (omega arith) accepts.tells
-    (subst (λ document. TellsTable document other) same accepts'.tells)
+    one_denoted accepts.document tech other (omega arith) accepts.denotes
+    (subst (λ document. DenotesTable document other) same accepts'.denotes)

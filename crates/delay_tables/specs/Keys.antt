@@ -9,7 +9,7 @@ use Rattle.delay_tables.specs.declared.keys.Need.TheVariants.{Always, InTable, O
 use Rattle.delay_tables.specs.declared.keys.Key.{Key}
 use Rattle.delay_tables.specs.declared.keys.Section.{Section}
 
--- the texts behind references
+-- the texts after references
 abbrev pub texts : List (Bor (List ℕ)) → List (List ℕ)
 texts names = map (λ name. name.now) names
 

@@ -10,23 +10,23 @@ use Rattle.delay_tables.specs.declared.fault.TechFault.{TechFault}
 use Rattle.delay_tables.specs.declared.fault.TechFault.TheVariants.{NotToml, Missing, WrongType, OutOfRange, LeastAboveGreatest, MissingKind, UnknownKey, NoMemory}
 
 -- the fault that bytes have, with a netlist that uses these gate kinds; memory may run out at any
-abbrev pub Refuses : List Bool → List ℕ → TechFault → Type 0
-Refuses used bytes NotToml = IsNotToml bytes
-Refuses used bytes (Missing name) = HasFlaw used bytes (flaws.Missing name)
-Refuses used bytes (WrongType name) = HasFlaw used bytes (flaws.WrongType name)
-Refuses used bytes (OutOfRange name) = HasFlaw used bytes (flaws.OutOfRange name)
-Refuses used bytes (LeastAboveGreatest name) = HasFlaw used bytes (flaws.LeastAboveGreatest name)
-Refuses used bytes (MissingKind kind) = HasFlaw used bytes (flaws.MissingKind kind)
-Refuses used bytes (UnknownKey name) = HasFlaw used bytes (flaws.UnknownKey name)
-Refuses used bytes NoMemory = Unit {0}
+abbrev pub RefusesTable : List Bool → List ℕ → TechFault → Type 0
+RefusesTable used bytes NotToml = IsNotToml bytes
+RefusesTable used bytes (Missing name) = HasFlaw used bytes (flaws.Missing name)
+RefusesTable used bytes (WrongType name) = HasFlaw used bytes (flaws.WrongType name)
+RefusesTable used bytes (OutOfRange name) = HasFlaw used bytes (flaws.OutOfRange name)
+RefusesTable used bytes (LeastAboveGreatest name) = HasFlaw used bytes (flaws.LeastAboveGreatest name)
+RefusesTable used bytes (MissingKind kind) = HasFlaw used bytes (flaws.MissingKind kind)
+RefusesTable used bytes (UnknownKey name) = HasFlaw used bytes (flaws.UnknownKey name)
+RefusesTable used bytes NoMemory = Unit {0}
 
 -- the key is the least name that no key has, and what is out of order is the first that is
-abbrev pub TellsName : List ℕ → TechFault → Type 0
-TellsName bytes (UnknownKey name) = (document : Members) × IsDocument bytes document
+abbrev pub DenotesName : List ℕ → TechFault → Type 0
+DenotesName bytes (UnknownKey name) = (document : Members) × IsDocument bytes document
     × IsLeastName (unknown_names document) name
-TellsName bytes (LeastAboveGreatest name) = (document : Members) × IsDocument bytes document
+DenotesName bytes (LeastAboveGreatest name) = (document : Members) × IsDocument bytes document
     × IsFirstDisorder document name
-TellsName bytes _ = Unit {0}
+DenotesName bytes _ = Unit {0}
 
 -- a document with this flaw first has the fault, or memory ran out
 abbrev pub IsFaultOf : Option TableFlaw → TechFault → Type 0

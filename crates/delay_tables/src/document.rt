@@ -2,16 +2,16 @@ ghost use Rattle.std.specs.Prelude.{◌≡◌, IfOk};
 ghost use Rattle.std.specs.Option.{option_map, option_and_then};
 ghost use Rattle.toml.specs.Data.{get_member, as_table};
 ghost use Rattle.toml.specs.View.{view, table_view};
-ghost use Rattle.cts_model.specs.TableValues as told;
+ghost use Rattle.cts_model.specs.TableValues as denoted;
 ghost use Rattle.delay_tables.specs.Keys.{texts};
 
 use cts_base::{Listed, Name, NoMemory};
 use std::alloc::Global;
 use toml::{Table, Value};
 
-/// A name behind those of the tables that lead to it, joined by dots.
+/// A name after those of the tables that lead to it, joined by dots.
 pub(crate) fn dotted(alloc: Global, way: &[&str], name: &str) -> Result<Name, NoMemory>
-    ensures { IfOk result (λ text. text ≡ told.dotted (texts way.now) name.now) }
+    ensures { IfOk result (λ text. text ≡ denoted.dotted (texts way.now) name.now) }
 {
     let mut text = Vec::new(alloc);
     for table in way {
@@ -25,7 +25,7 @@ pub(crate) fn dotted(alloc: Global, way: &[&str], name: &str) -> Result<Name, No
 /// The table that some names lead to.
 pub(crate) fn table_at<'a>(document: &'a Table, way: &[&str]) -> Option<&'a Table>
     ensures { option_map (λ table. table_view table.now) result
-        ≡ told.table_at (texts way.now) (table_view document.now) }
+        ≡ denoted.table_at (texts way.now) (table_view document.now) }
 {
     match way {
         [] => Some(document),
@@ -46,7 +46,7 @@ fn inner_table<'a>(document: &'a Table, name: &str) -> Option<&'a Table>
 /// What stands at a name in the table that some names lead to.
 pub(crate) fn value_at<'a>(document: &'a Table, way: &[&str], name: &str) -> Option<&'a Value>
     ensures { option_map (λ value. view value.now) result
-        ≡ told.value_at (texts way.now) name.now (table_view document.now) }
+        ≡ denoted.value_at (texts way.now) name.now (table_view document.now) }
 {
     match table_at(document, way) {
         Some(table) => table.get(name),
@@ -56,7 +56,7 @@ pub(crate) fn value_at<'a>(document: &'a Table, way: &[&str], name: &str) -> Opt
 
 /// The whole number there, or 0.
 pub(crate) fn number_at(document: &Table, way: &[&str], name: &str) -> i128
-    ensures { result ≡ told.number_at (texts way.now) name.now (table_view document.now) }
+    ensures { result ≡ denoted.number_at (texts way.now) name.now (table_view document.now) }
 {
     match value_at(document, way, name) {
         Some(value) => i128::from(value.as_integer().unwrap_or(0)),
@@ -66,7 +66,7 @@ pub(crate) fn number_at(document: &Table, way: &[&str], name: &str) -> i128
 
 /// The text there, or none.
 pub(crate) fn text_at<'a>(document: &'a Table, way: &[&str], name: &str) -> &'a str
-    ensures { result.now ≡ told.text_at (texts way.now) name.now (table_view document.now) }
+    ensures { result.now ≡ denoted.text_at (texts way.now) name.now (table_view document.now) }
 {
     match value_at(document, way, name) {
         Some(value) => value.as_str().unwrap_or(""),

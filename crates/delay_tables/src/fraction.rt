@@ -2,7 +2,7 @@ ghost use Rattle.std.specs.Prelude.{◌≡◌, ◌≤◌, pos, ◌*ℤ◌, ◌�
 ghost use Rattle.std.specs.List.{list_all};
 ghost use Rattle.std.specs.Char.{is_ascii_digit};
 ghost use Rattle.std.specs.Str.Parse.{digits_value};
-ghost use Rattle.cts_model.specs.TableValues as told;
+ghost use Rattle.cts_model.specs.TableValues as denoted;
 
 use cts_base::Fraction;
 
@@ -11,27 +11,27 @@ const MOST: u32 = 1_000_000;
 
 /// Whether a text is `a/b` or `a`, in digits.
 pub(crate) fn is_fraction(text: &[u8]) -> bool
-    ensures { result ≡ told.is_fraction text.now }
+    ensures { result ≡ denoted.is_fraction text.now }
 {
     is_numeral(numerator_text(text)) && is_numeral(denominator_text(text))
 }
 
 /// Whether both numbers of a fraction are from 1 to 1,000,000.
 pub(crate) fn is_small_fraction(text: &[u8]) -> bool
-    requires { told.is_fraction text.now ≡ true }
-    ensures { result ≡ told.is_small_fraction text.now }
+    requires { denoted.is_fraction text.now ≡ true }
+    ensures { result ≡ denoted.is_small_fraction text.now }
 {
     is_small(numerator_text(text)) && is_small(denominator_text(text))
 }
 
 /// The fraction that a text writes, in lowest terms.
 pub(crate) fn lowest_terms(text: &[u8]) -> Fraction
-    requires form { told.is_fraction text.now ≡ true }
-    requires small { told.is_small_fraction text.now ≡ true }
-    ensures value { (result.num *ℤ pos (told.denominator_of text.now))
-        ≡ (pos (told.numerator_of text.now) *ℤ result.den) }
-    ensures num { nat_abs result.num ≤ told.numerator_of text.now }
-    ensures den { result.den ≤ℤ pos (told.denominator_of text.now) }
+    requires form { denoted.is_fraction text.now ≡ true }
+    requires small { denoted.is_small_fraction text.now ≡ true }
+    ensures value { (result.num *ℤ pos (denoted.denominator_of text.now))
+        ≡ (pos (denoted.numerator_of text.now) *ℤ result.den) }
+    ensures num { nat_abs result.num ≤ denoted.numerator_of text.now }
+    ensures den { result.den ≤ℤ pos (denoted.denominator_of text.now) }
 {
     let num = capped_value(numerator_text(text));
     let den = capped_value(denominator_text(text));
@@ -39,7 +39,7 @@ pub(crate) fn lowest_terms(text: &[u8]) -> Fraction
 }
 
 fn numerator_text(text: &[u8]) -> &[u8]
-    ensures { result.now ≡ told.numerator_text text.now }
+    ensures { result.now ≡ denoted.numerator_text text.now }
 {
     match first_slash(text) {
         Some(slash) => text.split_at(slash).0,
@@ -48,7 +48,7 @@ fn numerator_text(text: &[u8]) -> &[u8]
 }
 
 fn denominator_text(text: &[u8]) -> &[u8]
-    ensures { result.now ≡ told.denominator_text text.now }
+    ensures { result.now ≡ denoted.denominator_text text.now }
 {
     match first_slash(text) {
         Some(slash) => text.split_at(slash + 1).1,
@@ -57,13 +57,13 @@ fn denominator_text(text: &[u8]) -> &[u8]
 }
 
 fn first_slash(text: &[u8]) -> Option<usize>
-    ensures { result ≡ position told.is_slash text.now }
+    ensures { result ≡ position denoted.is_slash text.now }
 {
     text.iter().position(|byte| *byte == b'/')
 }
 
 fn is_numeral(digits: &[u8]) -> bool
-    ensures { result ≡ told.is_numeral digits.now }
+    ensures { result ≡ denoted.is_numeral digits.now }
 {
     !digits.is_empty() && is_all_digits(digits)
 }
@@ -75,8 +75,8 @@ fn is_all_digits(digits: &[u8]) -> bool
 }
 
 fn is_small(digits: &[u8]) -> bool
-    requires { told.is_numeral digits.now ≡ true }
-    ensures { result ≡ told.is_between 1 1000000 (digits_value 10 digits.now) }
+    requires { denoted.is_numeral digits.now ≡ true }
+    ensures { result ≡ denoted.is_between 1 1000000 (digits_value 10 digits.now) }
 {
     let value = capped_value(digits);
     1 <= value && value <= MOST
@@ -84,7 +84,7 @@ fn is_small(digits: &[u8]) -> bool
 
 // The number that digits write, or one that is too large where it is too large.
 fn capped_value(digits: &[u8]) -> u32
-    requires { told.is_numeral digits.now ≡ true }
+    requires { denoted.is_numeral digits.now ≡ true }
     ensures { result ≡ min (digits_value 10 digits.now) 1000001 }
 {
     let mut value = 0;

@@ -3,12 +3,12 @@ ghost use Rattle.toml.specs.View.{table_view};
 ghost use Rattle.cts_model.specs.TableFlaws as flaws;
 ghost use Rattle.cts_model.specs.AcceptedTables.{IsDocument, IsDelayTable, AcceptsTable, GivesKinds};
 ghost use Rattle.delay_tables.specs.declared.fault.TechFault.{TechFault};
-ghost use Rattle.delay_tables.specs.Refusals.{Judges, IsUnread, Refuses, TellsName};
+ghost use Rattle.delay_tables.specs.Refusals.{Judges, IsUnread, RefusesTable, DenotesName};
 
 use crate::TechFault;
 use crate::names::judge_names;
 use crate::order::{judge_kinds, judge_order};
-use crate::table::table_told;
+use crate::table::table_denoted;
 use crate::walk::judge_keys;
 use cts_model::Tech;
 use std::alloc::Global;
@@ -21,23 +21,23 @@ pub fn read_tech(alloc: Global, bytes: &[u8], used: &[bool; 8]) -> Result<Tech, 
     ensures given { IfOk result (GivesKinds used.now) }
     ensures accepted { IsDelayTable used.now bytes.now → IsOkUnless result TechFault.NoMemory }
     // A fault comes exactly where the bytes have it; memory alone is free.
-    ensures refused { IfErr result (Refuses used.now bytes.now) }
+    ensures refused { IfErr result (RefusesTable used.now bytes.now) }
     ensures faulty { (fault : TechFault) → fault ≢ TechFault.NoMemory
-        → Refuses used.now bytes.now fault
+        → RefusesTable used.now bytes.now fault
         → IsErrAnd result (λ found. (found ≡ fault) ⊎ (found ≡ TechFault.NoMemory)) }
-    // The unknown key that is told is the least, and of what is out of order it is the first.
-    ensures told { IfErr result (TellsName bytes.now) }
+    // The unknown key that is given is the least, and of what is out of order it is the first.
+    ensures denoted { IfErr result (DenotesName bytes.now) }
 {
     accepted_table(alloc, bytes, used)
 }
 
 fn accepted_table(alloc: Global, bytes: &[u8], used: &[bool; 8]) -> Result<Tech, TechFault>
     ensures ok { IfOk result (AcceptsTable used.now bytes.now) }
-    ensures refused { IfErr result (Refuses used.now bytes.now) }
+    ensures refused { IfErr result (RefusesTable used.now bytes.now) }
 {
     let document = document_of(alloc, bytes)?;
     judge(alloc, &document, used)?;
-    Ok(table_told(alloc, &document)?)
+    Ok(table_denoted(alloc, &document)?)
 }
 
 fn document_of(alloc: Global, bytes: &[u8]) -> Result<Table, TechFault>

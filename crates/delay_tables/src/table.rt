@@ -1,9 +1,9 @@
 ghost use Rattle.std.specs.Prelude.{◌≡◌, [], ◌∷◌, map, codes, None, IfOk};
 ghost use Rattle.toml.specs.View.{table_view};
 ghost use Rattle.cts_model.specs.TableKeys as tables;
-ghost use Rattle.cts_model.specs.TableValues as told;
+ghost use Rattle.cts_model.specs.TableValues as denoted;
 ghost use Rattle.cts_model.specs.TableFlaws as flaws;
-ghost use Rattle.cts_model.specs.AcceptedTables.{TellsTable};
+ghost use Rattle.cts_model.specs.AcceptedTables.{DenotesTable};
 
 use crate::document::{number_at, table_at, text_at};
 use crate::fraction::lowest_terms;
@@ -13,12 +13,12 @@ use cts_model::{GateDelay, Kind, Tech};
 use std::alloc::Global;
 use toml::Table;
 
-/// The delay table that a document tells.
-pub(crate) fn table_told(alloc: Global, document: &Table) -> Result<Tech, NoMemory>
+/// The delay table that a document denotes.
+pub(crate) fn table_denoted(alloc: Global, document: &Table) -> Result<Tech, NoMemory>
     requires keys { flaws.first_flaw (flaws.section_flaw (table_view document.now)) tables.sections
         ≡ None }
     requires order { flaws.order_flaw (table_view document.now) ≡ None }
-    ensures { IfOk result (TellsTable (table_view document.now)) }
+    ensures { IfOk result (DenotesTable (table_view document.now)) }
 {
     let wire = lowest_terms(text_at(document, &["wire"], "delay").as_bytes());
     Ok(Tech {
@@ -38,20 +38,20 @@ pub(crate) fn table_told(alloc: Global, document: &Table) -> Result<Tech, NoMemo
 // The name of the node where the source or the host stands.
 fn name_at(alloc: Global, document: &Table, table: &str) -> Result<Name, NoMemory>
     ensures { IfOk result
-        (λ name. name ≡ told.text_at (table.now ∷ []) (codes "place") (table_view document.now)) }
+        (λ name. name ≡ denoted.text_at (table.now ∷ []) (codes "place") (table_view document.now)) }
 {
     let name = text_at(document, &[table], "place");
     Ok(Listed::from_vec(Vec::from_slice(alloc, name.as_bytes())?))
 }
 
 fn gate_delays(document: &Table) -> [GateDelay; 8]
-    ensures { result ≡ map (told.gate_delay_at (table_view document.now)) tables.gate_kinds }
+    ensures { result ≡ map (denoted.gate_delay_at (table_view document.now)) tables.gate_kinds }
 {
     GATES.map(|kind| gate_delay(document, kind))
 }
 
 fn gate_delay(document: &Table, kind: Kind) -> GateDelay
-    ensures { result ≡ told.gate_delay_at (table_view document.now) kind }
+    ensures { result ≡ denoted.gate_delay_at (table_view document.now) kind }
 {
     let way = ["gate", gate_name(kind)];
     GateDelay {

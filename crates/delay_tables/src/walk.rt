@@ -1,7 +1,7 @@
 ghost use Rattle.std.specs.Prelude.{◌≡◌, [], ◌∷◌, map, true};
 ghost use Rattle.toml.specs.View.{view, table_view};
 ghost use Rattle.cts_model.specs.TableKeys as tables;
-ghost use Rattle.cts_model.specs.TableValues as told;
+ghost use Rattle.cts_model.specs.TableValues as denoted;
 ghost use Rattle.cts_model.specs.TableFlaws as flaws;
 ghost use Rattle.delay_tables.specs.Keys.{texts, form_of, need_of, key_of, keys_of, section_of};
 ghost use Rattle.delay_tables.specs.Refusals.{Judges};
@@ -106,7 +106,7 @@ fn judge_key(alloc: Global, document: &Table, way: &[&str], key: &Key) -> Result
 
 fn judge_value(alloc: Global, way: &[&str], key: &Key, value: &Value) -> Result<(), TechFault>
     ensures { Judges result (flaws.value_flaw (key_of key.now)
-        (told.dotted (texts way.now) key.now.name.now) (view value.now)) }
+        (denoted.dotted (texts way.now) key.now.name.now) (view value.now)) }
 {
     if !has_form(key.form, value) {
         return Err(TechFault::WrongType(dotted(alloc, way, key.name)?));
@@ -120,7 +120,7 @@ fn judge_value(alloc: Global, way: &[&str], key: &Key, value: &Value) -> Result<
 // Judges a key at which nothing stands, by whether its table is there.
 fn judge_absence(alloc: Global, way: &[&str], key: &Key, there: bool) -> Result<(), TechFault>
     ensures { Judges result (flaws.absence_flaw (key_of key.now)
-        (told.dotted (texts way.now) key.now.name.now) there) }
+        (denoted.dotted (texts way.now) key.now.name.now) there) }
 {
     if is_needed(key.need, there) {
         return Err(TechFault::Missing(dotted(alloc, way, key.name)?));
@@ -139,7 +139,7 @@ fn is_needed(need: Need, there: bool) -> bool
 }
 
 fn has_form(form: Form, value: &Value) -> bool
-    ensures { result ≡ told.has_form (form_of form) (view value.now) }
+    ensures { result ≡ denoted.has_form (form_of form) (view value.now) }
 {
     match form {
         Form::Fraction => is_fraction_value(value),
@@ -149,8 +149,8 @@ fn has_form(form: Form, value: &Value) -> bool
 }
 
 fn is_in_range(form: Form, value: &Value) -> bool
-    requires { told.has_form (form_of form) (view value.now) ≡ true }
-    ensures { result ≡ told.is_in_range (form_of form) (view value.now) }
+    requires { denoted.has_form (form_of form) (view value.now) ≡ true }
+    ensures { result ≡ denoted.is_in_range (form_of form) (view value.now) }
 {
     match form {
         Form::Fraction => is_small_fraction_value(value),
@@ -160,7 +160,7 @@ fn is_in_range(form: Form, value: &Value) -> bool
 }
 
 fn is_fraction_value(value: &Value) -> bool
-    ensures { result ≡ told.has_form tables.Fraction (view value.now) }
+    ensures { result ≡ denoted.has_form tables.Fraction (view value.now) }
 {
     match value.as_str() {
         Some(text) => is_fraction(text.as_bytes()),
@@ -169,8 +169,8 @@ fn is_fraction_value(value: &Value) -> bool
 }
 
 fn is_small_fraction_value(value: &Value) -> bool
-    requires { told.has_form tables.Fraction (view value.now) ≡ true }
-    ensures { result ≡ told.is_in_range tables.Fraction (view value.now) }
+    requires { denoted.has_form tables.Fraction (view value.now) ≡ true }
+    ensures { result ≡ denoted.is_in_range tables.Fraction (view value.now) }
 {
     match value.as_str() {
         Some(text) => is_small_fraction(text.as_bytes()),
@@ -179,7 +179,7 @@ fn is_small_fraction_value(value: &Value) -> bool
 }
 
 fn is_node_value(value: &Value) -> bool
-    ensures { result ≡ told.is_in_range tables.Node (view value.now) }
+    ensures { result ≡ denoted.is_in_range tables.Node (view value.now) }
 {
     match value.as_str() {
         Some(name) => 1 <= name.len() && name.len() <= 255,
@@ -188,7 +188,7 @@ fn is_node_value(value: &Value) -> bool
 }
 
 fn is_number_up_to(value: &Value, most: u32) -> bool
-    ensures { result ≡ told.is_in_range (tables.UpTo most) (view value.now) }
+    ensures { result ≡ denoted.is_in_range (tables.UpTo most) (view value.now) }
 {
     match value.as_integer() {
         Some(number) => 0 <= number && number <= i64::from(most),

@@ -25,7 +25,7 @@ more_lines line_at count before written now so_far next =
     (ended (line_at count))
     ∙ ap (λ bytes. before ++ bytes) (sym (text_of_more line_at count))
 
--- where lines are written behind a beginning, one more line makes it the text with that line last
+-- where lines are written after a beginning, one more line makes it the text with that line last
 pub last_line : (lines : List (List ℕ)) (first last begun written now : List ℕ)
     → begun ≡ first → written ≡ begun ++ text_of lines → now ≡ written ++ ended last
     → now ≡ first ++ text_of (lines ++ last ∷ [])

@@ -36,7 +36,7 @@ fn push_registers(out: &mut Vec<u8>, registers: u32) -> Result<(), NoMemory>
     Ok(())
 }
 
-// Appends the line of a register: it captures what the gates behind the one before it give.
+// Appends the line of a register: it captures what the gates after the one before it give.
 fn push_register(out: &mut Vec<u8>, registers: u32, register: u32) -> Result<(), NoMemory>
     requires few { registers ≤ 1000 }
     requires within { register < registers }

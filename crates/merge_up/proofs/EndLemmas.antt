@@ -11,7 +11,7 @@ use Rattle.cts_model.specs.Regions.{span, IsReach}
 use Rattle.cts_model.specs.ShownReaches.{ShowsMerge}
 use Rattle.tilted_rect.proofs.SpanLemmas.{sinks_of_u_show, sinks_of_v_show, span_is_symmetric, spread_is_reach}
 use Rattle.cts_model.proofs.TopologyLemmas.{found_among}
-use Rattle.tilted_rect.specs.Extremes.{IsExtremes, IsGreatest, IsLeast, spread, u_above, u_below, v_above, v_below}
+use Rattle.tilted_rect.specs.Extremes.{IsExtremes, IsGreatest, IsLeastOf, spread, u_above, u_below, v_above, v_below}
 use Rattle.tilted_rect.proofs.ExtremeLemmas.{append_is_union, greatest_one, greatest_union}
 use Rattle.merge_up.specs.declared.end.End.{End}
 use Rattle.merge_up.specs.declared.ends.Ends.{Ends}
@@ -74,7 +74,7 @@ end_further sinks first second far one other found held others (inr (less, is)) 
 
 least_of_back : (sinks : List Sink) (far under : Sink → ℤ) (number : ℤ)
     → ((sink : Sink) → far sink ≡ neg_ℤ (under sink))
-    → IsGreatest far sinks number → IsLeast under sinks (neg_ℤ number)
+    → IsGreatest far sinks number → IsLeastOf under sinks (neg_ℤ number)
 least_of_back sinks far under number back is = record {
   least = λ sink among. omega (arith, ints, back sink, is.most sink among);
   sink = is.sink;

@@ -7,7 +7,7 @@ use Rattle.cts_model.specs.declared.tree.Merge.{Merge}
 use Rattle.cts_model.specs.Sinks.{AreTreeSinks, IsTreeSink}
 use Rattle.cts_model.specs.Topologies.{IsTopology, Joins, numbers_below, sinks_below}
 use Rattle.cts_model.proofs.TopologyLemmas.{first_made, second_made, number_below, numbers_below-merge, numbers_below-sink, sinks_below-among}
-use Rattle.tilted_rect.specs.Extremes.{IsGreatest, IsLeast, IsRegion, u_below, v_below}
+use Rattle.tilted_rect.specs.Extremes.{IsGreatest, IsLeastOf, IsRegion, u_below, v_below}
 use Rattle.tilted_rect.specs.declared.rect.Rect.{Rect}
 use Rattle.tilted_rect.proofs.CodeNumbers.{kept}
 use Rattle.tilted_rect.proofs.RegionLemmas.{region_extremes, sides_from_region}
@@ -26,7 +26,7 @@ use Rattle.merge_up.specs.declared.side.Side.TheVariants as sides
 -- the least coordinate is the greatest distance to the other side
 back_of_least : (set : List Sink) (far under : Sink → ℤ) (number : ℤ)
     → ((sink : Sink) → far sink ≡ neg_ℤ (under sink))
-    → IsLeast under set number → IsGreatest far set (neg_ℤ number)
+    → IsLeastOf under set number → IsGreatest far set (neg_ℤ number)
 back_of_least set far under number back is = record {
   most = λ sink among. omega (arith, ints, back sink, is.least sink among);
   sink = is.sink;

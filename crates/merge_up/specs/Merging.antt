@@ -9,7 +9,7 @@ use Rattle.cts_model.specs.ShownReaches.{ShowsMerge}
 use Rattle.cts_model.specs.Topologies.{Joins, numbers_below, sinks_below, source_of}
 use Rattle.cts_model.specs.declared.place.Point.{Point}
 use Rattle.cts_model.specs.declared.place.Uv.{Uv}
-use Rattle.cts_model.specs.Points.{turned}
+use Rattle.cts_model.specs.Points.{rotated}
 use Rattle.tilted_rect.specs.Extremes.{IsRegion}
 use Rattle.tilted_rect.specs.Rects.{HasSides}
 use Rattle.tilted_rect.specs.declared.rect.Rect.{Rect}
@@ -117,10 +117,10 @@ pub record IsFresh (places : ℕ) (work : WorkState) : Type 0 where
   pub renewals : work.renewals ≡ 0
 
 -- a node stands there, and its edge has that length; all else stays
-pub record IsPlaced (node : ℕ) (at : Uv) (length : ℤ) (old new : WorkState) : Type 0 where
+pub record IsNodeSettled (node : ℕ) (at : Uv) (length : ℤ) (old new : WorkState) : Type 0 where
   pub fit : IsFit new
   pub point : Point
-  pub stands : turned point ≡ at
+  pub stands : rotated point ≡ at
   pub rest : new ≡ record old {
     tree = record old.tree {
       place = slice_set old.tree.place node point;
@@ -133,7 +133,7 @@ pub record IsPlaced (node : ℕ) (at : Uv) (length : ℤ) (old new : WorkState) 
 pub record IsSourcePlaced (at : Uv) (reach : ℤ) (show : Show) (old new : WorkState) : Type 0 where
   pub fit : IsFit new
   pub point : Point
-  pub stands : turned point ≡ at
+  pub stands : rotated point ≡ at
   pub rest : new ≡ record old {
     tree = record old.tree {
       place = slice_set old.tree.place (source_of old.sinks) point;

@@ -5,7 +5,7 @@ use crate::end::End;
 use cts_model::{Show, Sink, half};
 use tilted_rect::Rect;
 
-/// The sinks of a node that are furthest to the four sides, in turned coordinates.
+/// The sinks of a node that are furthest to the four sides, in rotated coordinates.
 #[derive(Clone, Copy, Debug, PartialEq, Eq)]
 pub struct Ends {
     /// To the side of greater u.

@@ -7,7 +7,7 @@ use crate::ends::Ends;
 use cts_model::Sink;
 use tilted_rect::Rect;
 
-/// A side in turned coordinates: that of greater or of smaller u, or of v.
+/// A side in rotated coordinates: that of greater or of smaller u, or of v.
 #[derive(Clone, Copy)]
 pub(crate) enum Side {
     HighU,

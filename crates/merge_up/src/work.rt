@@ -45,11 +45,11 @@ impl Work {
     ghost use Rattle.cts_model.specs.declared.place.Point.{Point};
     ghost use Rattle.cts_model.specs.declared.place.Sink.{Sink};
     ghost use Rattle.cts_model.specs.declared.tree.Merge.{Merge};
-    ghost use Rattle.cts_model.specs.Points.{IsUvBelow, IsUvMultipleOf, turned};
+    ghost use Rattle.cts_model.specs.Points.{IsUvBelow, IsUvMultipleOf, rotated};
     ghost use Rattle.cts_model.specs.Sinks.{AreTreeSinks, IsTreeSink};
     ghost use Rattle.cts_model.specs.Topologies.{IsTopology, numbers_below};
     ghost use Rattle.tilted_rect.specs.Rects.{Holds};
-    ghost use Rattle.merge_up.specs.Merging.{HoldsJoined, HoldsMerge, HoldsSinks, KeepsEnds, KeepsJoined, IsFresh, IsRenewed, IsSinkSet, IsPlaced, IsSourcePlaced, IsUnsettled};
+    ghost use Rattle.merge_up.specs.Merging.{HoldsJoined, HoldsMerge, HoldsSinks, KeepsEnds, KeepsJoined, IsFresh, IsRenewed, IsSinkSet, IsNodeSettled, IsSourcePlaced, IsUnsettled};
     ghost use Rattle.merge_up.specs.Sides.{AreEnds, IsEnd, far_to};
     ghost use Rattle.merge_up.specs.Views.{cut};
     ghost use Rattle.merge_up.specs.Works.{IsFit, IsSettled};
@@ -121,7 +121,7 @@ impl Work {
         requires within { IsSomeAnd (slice_get self.old.regions node)
             (λ region. Holds region 1 at) }
         requires multiple { IsUvMultipleOf 4 at }
-        ensures { IsPlaced node at length self.old self.new }
+        ensures { IsNodeSettled node at length self.old self.new }
     {
         let node = node as usize;
         self.tree.place.set(node, to_point(at));
@@ -143,7 +143,7 @@ impl Work {
         self.settled[source] = true;
     }
 
-    /// The tree. Where there is room for more sinks than the last merge had, its lists go on behind
+    /// The tree. Where there is room for more sinks than the last merge had, its lists go on after
     /// what they hold of the nodes.
     pub fn tree(&self) -> &Tree
         requires { IsSettled self.now }

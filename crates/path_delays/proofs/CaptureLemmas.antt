@@ -11,7 +11,7 @@ use Rattle.cts_model.specs.declared.kind.Kind.{Kind}
 use Rattle.cts_model.specs.declared.kind.Kind.TheVariants.{And, Nand, Or, Nor, Not, Xor, Xnor, Buff, Input, Dff, Host}
 use Rattle.cts_model.specs.declared.signal.Signal.{Signal}
 use Rattle.cts_model.specs.declared.circuit.Circuit.{Circuit}
-use Rattle.cts_model.specs.Kinds.{is_host, is_lawful}
+use Rattle.cts_model.specs.Kinds.{is_host, is_valid}
 use Rattle.cts_model.specs.Circuits.{has_host}
 use Rattle.cts_model.specs.Paths.{register_signal, Captures}
 use Rattle.path_delays.specs.declared.groups.Groups.{Groups}
@@ -22,18 +22,18 @@ use Rattle.path_delays.proofs.ReachedPairs.{captured_within}
 use Rattle.path_delays.proofs.NetworkLemmas.{Contains-map, Contains-values_at, All-values_at, distinct_length-le}
 
 -- what isn't the host has few inputs
-pub few_inputs : (kind : Kind) (inputs : ℕ) → is_host kind ≡ false → IsTrue (is_lawful kind inputs) → inputs ≤ 1024
-few_inputs And inputs other lawful = grind (arith, nat_tests)
-few_inputs Nand inputs other lawful = grind (arith, nat_tests)
-few_inputs Or inputs other lawful = grind (arith, nat_tests)
-few_inputs Nor inputs other lawful = grind (arith, nat_tests)
-few_inputs Not inputs other lawful = grind (arith, nat_tests)
-few_inputs Xor inputs other lawful = grind (arith, nat_tests)
-few_inputs Xnor inputs other lawful = grind (arith, nat_tests)
-few_inputs Buff inputs other lawful = grind (arith, nat_tests)
-few_inputs Input inputs other lawful = grind (arith, nat_tests)
-few_inputs Dff inputs other lawful = grind (arith, nat_tests)
-few_inputs Host inputs other lawful = cc other
+pub few_inputs : (kind : Kind) (inputs : ℕ) → is_host kind ≡ false → IsTrue (is_valid kind inputs) → inputs ≤ 1024
+few_inputs And inputs other valid_inputs = grind (arith, nat_tests)
+few_inputs Nand inputs other valid_inputs = grind (arith, nat_tests)
+few_inputs Or inputs other valid_inputs = grind (arith, nat_tests)
+few_inputs Nor inputs other valid_inputs = grind (arith, nat_tests)
+few_inputs Not inputs other valid_inputs = grind (arith, nat_tests)
+few_inputs Xor inputs other valid_inputs = grind (arith, nat_tests)
+few_inputs Xnor inputs other valid_inputs = grind (arith, nat_tests)
+few_inputs Buff inputs other valid_inputs = grind (arith, nat_tests)
+few_inputs Input inputs other valid_inputs = grind (arith, nat_tests)
+few_inputs Dff inputs other valid_inputs = grind (arith, nat_tests)
+few_inputs Host inputs other valid_inputs = cc other
 
 -- the host is one at most
 one_host : (b : Bool) → cond {A = ℕ} b 1 0 ≤ 1
@@ -59,8 +59,8 @@ module _ (circuit : Circuit) where
       by : (number : ℕ) → slice_get circuit.signals number ≡ Some signal → (b : Bool) → is_host signal.kind ≡ b → length signal.fan_in ≤ 65537
       by number here true host = rw (circuit.valid.host number signal here (rw host refl)).captures few_outputs
       by number here false other =
-          let lawful = subst (λ (s : Signal). IsTrue (is_lawful s.kind (length s.fan_in))) (get_or_from_slice_get circuit.signals number signal signal here) (circuit.valid.lawful number signal (slice_get_within circuit.signals number signal here)) in
-          omega (arith, few_inputs signal.kind (length signal.fan_in) other lawful)
+          let valid_inputs = subst (λ (s : Signal). IsTrue (is_valid s.kind (length s.fan_in))) (get_or_from_slice_get circuit.signals number signal signal here) (circuit.valid.valid_inputs number signal (slice_get_within circuit.signals number signal here)) in
+          omega (arith, few_inputs signal.kind (length signal.fan_in) other valid_inputs)
 
       at : (listed : Option ℕ) → option_and_then (slice_get circuit.signals) listed ≡ Some signal → length signal.fan_in ≤ 65537
       at None found = cc found

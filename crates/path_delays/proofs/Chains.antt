@@ -68,7 +68,7 @@ module _ (circuit : Circuit) (tech : Tech) where
     greatest = (signal ∷ [], (launched, refl), omega (arith, ints));
   }
 
-  -- the sums behind one more gate are shown by longer chains
+  -- the sums after one more gate are shown by longer chains
   pub shown_through : (from signal gate : ℕ) (sums delay : Sums) → delay.least ≡ least_gate_delay tech (slice_get circuit.signals gate) → delay.greatest ≡ greatest_gate_delay tech (slice_get circuit.signals gate)
       → Reads circuit.signals gate signal → AreShown circuit tech from signal sums → AreShown circuit tech from gate (sums_through sums delay)
   shown_through from signal gate sums delay least_is greatest_is reads shown =

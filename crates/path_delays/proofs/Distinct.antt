@@ -1,4 +1,4 @@
--- Lists of distinct numbers the other way round, in part and turned, and the lowest number of a turned list.
+-- Lists of distinct numbers the other way round, in part and rotated, and the lowest number of a rotated list.
 use Rattle.std.proofs.Common.{ℕ, ◌≡◌, ◌≢◌, ◌<◌, ◌≤◌, ◌+◌, ◌-◌, List, ◌++◌, length, get_or, take, drop, reverse, refl, sym, ◌∙◌, ap, subst, arith, add-zero, All, AllPairs, ⊎_elim}
 use Rattle.std.proofs.lemmas.Bool.{cases_lt}
 use Rattle.std.specs.Prelude.{slice_index}
@@ -22,34 +22,34 @@ distinct_take count numbers once i j d before within same =
     let size = length-take count numbers in
     once i j d before (omega arith) (sym (get_or-take count numbers i d (omega arith)) ∙ same ∙ get_or-take count numbers j d (omega arith))
 
--- so they are with the first of them behind the others
-pub distinct_turned : (front back : List ℕ) → AreDistinct (front ++ back) → AreDistinct (back ++ front)
-distinct_turned front back once i j d before within same =
-    let size : j < length back + length front = omega (arith, length-append back front) in
-    let whole : length (front ++ back) ≡ length front + length back = length-append front back in
+-- so they are with the first of them after the others
+pub distinct_rotated : (prefix back : List ℕ) → AreDistinct (prefix ++ back) → AreDistinct (back ++ prefix)
+distinct_rotated prefix back once i j d before within same =
+    let size : j < length back + length prefix = omega (arith, length-append back prefix) in
+    let whole : length (prefix ++ back) ≡ length prefix + length back = length-append prefix back in
     ⊎_elim
-    (λ low. once (length front + i) (length front + j) d (omega arith) (omega arith) (behind i ∙ sym (ahead i (omega arith)) ∙ same ∙ ahead j low ∙ sym (behind j)))
+    (λ low. once (length prefix + i) (length prefix + j) d (omega arith) (omega arith) (suffix i ∙ sym (ahead i (omega arith)) ∙ same ∙ ahead j low ∙ sym (suffix j)))
     (λ high. ⊎_elim
-    (λ low. once (j - length back) (length front + i) d (omega arith) (omega arith) (sym (wrapped j high size) ∙ sym same ∙ ahead i low ∙ sym (behind i)))
+    (λ low. once (j - length back) (length prefix + i) d (omega arith) (omega arith) (sym (wrapped j high size) ∙ sym same ∙ ahead i low ∙ sym (suffix i)))
     (λ over. once (i - length back) (j - length back) d (omega arith) (omega arith) (sym (wrapped i over (omega arith)) ∙ same ∙ wrapped j high size))
     (cases_lt i (length back)))
     (cases_lt j (length back))
   where
-    behind : (k : ℕ) → get_or (front ++ back) (length front + k) d ≡ get_or back k d
-    behind k = get_or-append-add front back k d
+    suffix : (k : ℕ) → get_or (prefix ++ back) (length prefix + k) d ≡ get_or back k d
+    suffix k = get_or-append-add prefix back k d
 
-    ahead : (k : ℕ) → k < length back → get_or (back ++ front) k d ≡ get_or back k d
-    ahead k low = get_or_append_left back front d k low
+    ahead : (k : ℕ) → k < length back → get_or (back ++ prefix) k d ≡ get_or back k d
+    ahead k low = get_or_append_left back prefix d k low
 
-    wrapped : (k : ℕ) → length back ≤ k → k < length back + length front → get_or (back ++ front) k d ≡ get_or (front ++ back) (k - length back) d
-    wrapped k over within = get_or-append_right back front (length back) k d refl over ∙ sym (get_or_append_left front back d (k - length back) (omega arith))
+    wrapped : (k : ℕ) → length back ≤ k → k < length back + length prefix → get_or (back ++ prefix) k d ≡ get_or (prefix ++ back) (k - length back) d
+    wrapped k over within = get_or-append_right back prefix (length back) k d refl over ∙ sym (get_or_append_left prefix back d (k - length back) (omega arith))
 
 -- where the lowest number comes first it is the lowest still
-pub turned_lowest : (numbers turned : List ℕ) (turn : ℕ) → turn < length numbers → turned ≡ drop turn numbers ++ take turn numbers
-    → All (λ number. slice_index numbers turn ≤ number) numbers → All (λ number. slice_index turned 0 ≤ number) turned
-turned_lowest numbers turned turn within is lowest =
+pub rotated_lowest : (numbers rotated : List ℕ) (turn : ℕ) → turn < length numbers → rotated ≡ drop turn numbers ++ take turn numbers
+    → All (λ number. slice_index numbers turn ≤ number) numbers → All (λ number. slice_index rotated 0 ≤ number) rotated
+rotated_lowest numbers rotated turn within is lowest =
     let first : slice_index (drop turn numbers ++ take turn numbers) 0 ≡ slice_index numbers turn = get_or_append_left (drop turn numbers) (take turn numbers) 0 0 (omega (arith, length-drop turn numbers)) ∙ get_or-drop turn numbers 0 0 ∙ ap (λ n. get_or numbers n 0) (add-zero turn) in
     let P : ℕ → ℕ → Type 0 = λ low number. low ≤ number in
     let parts : All (P (slice_index numbers turn)) (drop turn numbers ++ take turn numbers) = All-append (P (slice_index numbers turn)) (drop turn numbers) (take turn numbers) (All-drop (P (slice_index numbers turn)) turn numbers lowest) (All-take (P (slice_index numbers turn)) turn numbers lowest) in
-    let same : slice_index turned 0 ≡ slice_index numbers turn = ap (λ l. slice_index l 0) is ∙ first in
-    subst (λ low. All (P low) turned) (sym same) (subst (All (P (slice_index numbers turn))) (sym is) parts)
+    let same : slice_index rotated 0 ≡ slice_index numbers turn = ap (λ l. slice_index l 0) is ∙ first in
+    subst (λ low. All (P low) rotated) (sym same) (subst (All (P (slice_index numbers turn))) (sym is) parts)

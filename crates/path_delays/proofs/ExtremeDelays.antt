@@ -45,13 +45,13 @@ through_push : (greatest : Bool) (circuit : Circuit) (tech : Tech) (gates : List
 through_push greatest circuit tech [] gate = omega (arith, ints)
 through_push greatest circuit tech (other ∷ gates) gate = let rest = through_push greatest circuit tech gates gate in omega (arith, ints, rest)
 
--- also behind the register
+-- also after the register
 pub delay_push : (greatest : Bool) (circuit : Circuit) (tech : Tech) (first : ℕ) (gates : List ℕ) (gate : ℕ) → delay_by greatest circuit tech (first ∷ gates ++ gate ∷ []) ≡ delay_by greatest circuit tech (first ∷ gates) +ℤ gate_by greatest tech (slice_get circuit.signals gate)
 delay_push greatest circuit tech first gates gate =
     let whole = delay_is greatest circuit tech first (gates ++ gate ∷ []) in
-    let front = delay_is greatest circuit tech first gates in
+    let prefix = delay_is greatest circuit tech first gates in
     let more = through_push greatest circuit tech gates gate in
-    omega (arith, ints, whole, front, more)
+    omega (arith, ints, whole, prefix, more)
 
 -- the delays over all chains to a signal, the greatest or the least
 pub record IsReachBy (greatest : Bool) (circuit : Circuit) (tech : Tech) (from signal : ℕ) (sums : Sums) : Type 0 where
@@ -76,6 +76,6 @@ no_further_than true one middle other low high = omega (arith, ints)
 no_further_than false one middle other low high = omega (arith, ints)
 
 -- the same on top of both
-pub no_further_behind : (greatest : Bool) (one other more : ℤ) → IsNoFurther greatest one other → IsNoFurther greatest (one +ℤ more) (other +ℤ more)
-no_further_behind true one other more low = omega (arith, ints)
-no_further_behind false one other more low = omega (arith, ints)
+pub no_further_after : (greatest : Bool) (one other more : ℤ) → IsNoFurther greatest one other → IsNoFurther greatest (one +ℤ more) (other +ℤ more)
+no_further_after true one other more low = omega (arith, ints)
+no_further_after false one other more low = omega (arith, ints)

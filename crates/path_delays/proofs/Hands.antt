@@ -3,11 +3,11 @@ use Rattle.std.proofs.Common.{ℕ, List, [], ◌∷◌, ◌++◌, refl, sym, ◌
 use Rattle.path_delays.specs.declared.sums.Sums.{Sums}
 use Rattle.path_delays.specs.declared.network.Network.{Network}
 use Rattle.path_delays.specs.declared.reach.Reach.{Reach}
-use Rattle.path_delays.specs.Handing.{HasRoom, IsSameRoom, IsHanded, AreHanded}
+use Rattle.path_delays.specs.Handing.{HasReachRoom, IsSameRoom, IsHanded, AreHanded}
 
 -- there is room where there is as much as before
-pub HasRoom-same : (network : Network) (old new : Reach) → IsSameRoom old new → HasRoom network old → HasRoom network new
-HasRoom-same network old new same room = record {
+pub HasReachRoom-same : (network : Network) (old new : Reach) → IsSameRoom old new → HasReachRoom network old → HasReachRoom network new
+HasReachRoom-same network old new same room = record {
   starts = room.starts;
   readers = room.readers;
   delays = room.delays;

@@ -1,4 +1,4 @@
--- Hulls of windows: of one window, of two hulls, of many, and behind a delay.
+-- Hulls of windows: of one window, of two hulls, of many, and after a delay.
 use Rattle.std.proofs.Common.{◌≡◌, ℕ, pos, ◌+ℤ◌, ◌*ℤ◌, ◌⊎◌, List, [], ◌∷◌, ◌++◌, Option, Some, None, inl, inr, refl, sym, ◌∙◌, ap, subst, arith}
 use Rattle.std.proofs.lemmas.Int.{ints}
 use Rattle.std.proofs.lemmas.Option.{same_Some}
@@ -7,7 +7,7 @@ use Rattle.cts_model.specs.Points.{IsBelow}
 use Rattle.path_delays.specs.declared.sums.Sums.{Sums}
 use Rattle.path_delays.specs.declared.window.Window.{Window}
 use Rattle.path_delays.specs.Windows.{IsInside, IsHull, IsHullIfAny, IsWindowBelow}
-use Rattle.path_delays.specs.WindowParts.{window_behind, merged_windows, either_window, window_at, ComesFrom}
+use Rattle.path_delays.specs.WindowParts.{window_after, merged_windows, either_window, window_at, ComesFrom}
 use Rattle.path_delays.proofs.Chains.{min_cases, max_cases}
 
 -- the same windows have the same hull
@@ -97,21 +97,21 @@ hull_either First Second (Some first) None one none =
 hull_either First Second (Some first) (Some second) one other =
     hull_merged First Second first second one other
 
--- a hull moves with its windows behind a delay
-pub hull_behind : (Comes : Window → Type 0) (scale : ℕ) (delay : Sums) (hull : Window)
+-- a hull moves with its windows after a delay
+pub hull_after : (Comes : Window → Type 0) (scale : ℕ) (delay : Sums) (hull : Window)
     → IsHull Comes hull
-    → IsHull (λ window. (read : Window) × Comes read × (window_behind scale delay read ≡ window))
-    (window_behind scale delay hull)
-hull_behind Comes scale delay hull is = record {
-  each = λ window (read, comes, same). subst (IsInside (window_behind scale delay hull)) same
+    → IsHull (λ window. (read : Window) × Comes read × (window_after scale delay read ≡ window))
+    (window_after scale delay hull)
+hull_after Comes scale delay hull is = record {
+  each = λ window (read, comes, same). subst (IsInside (window_after scale delay hull)) same
       (record {
         earliest = omega (arith, ints, (is.each read comes).earliest);
         latest = omega (arith, ints, (is.each read comes).latest);
       });
-  first = window_behind scale delay is.first;
+  first = window_after scale delay is.first;
   first_comes = (is.first, is.first_comes, refl);
   earliest = ap (λ time. time +ℤ (pos scale *ℤ delay.least)) is.earliest;
-  last = window_behind scale delay is.last;
+  last = window_after scale delay is.last;
   last_comes = (is.last, is.last_comes, refl);
   latest = ap (λ time. time +ℤ (pos scale *ℤ delay.greatest)) is.latest;
 }

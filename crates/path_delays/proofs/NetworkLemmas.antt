@@ -17,7 +17,7 @@ use Rattle.path_delays.specs.declared.groups.Groups.{Groups}
 use Rattle.path_delays.specs.Grouped.{values_at}
 use Rattle.path_delays.specs.GroupParts.{group_of, HasGroups}
 use Rattle.path_delays.specs.Orders.{IsTopologicalOrder}
-use Rattle.path_delays.specs.Networks.{AreAllReads, all_reads_by, AreReaders, IsPlaced, ArePlaces, AreRanks, weight_of, weight_at}
+use Rattle.path_delays.specs.Networks.{AreAllReads, all_reads_by, AreReaders, HasPlaceInOrder, ArePlaces, AreRanks, weight_of, weight_at}
 use Rattle.path_delays.proofs.ReadLemmas.{Contains-cons, IsGate-from_Reads}
 
 -- no pairs of no signals
@@ -130,11 +130,11 @@ ArePlaces-more limit order passed places number once inside read known so_far = 
   placed = λ other counted. elim (cases_eq other number) [
     | inl same ↦
         let value : get_or (set places number (passed + 1)) other 0 ≡ passed + 1 = ap (λ n. get_or (set places number (passed + 1)) n 0) same ∙ put in
-        let front : passed + 1 - 1 ≡ passed = omega arith in
-        subst (IsPlaced order other) (sym value) (record { counted = omega arith; here = ap (slice_get order) front ∙ (slice_get-get_or order passed 0 inside ∙ ap Some (sym (same ∙ read))) })
+        let prefix : passed + 1 - 1 ≡ passed = omega arith in
+        subst (HasPlaceInOrder order other) (sym value) (record { counted = omega arith; here = ap (slice_get order) prefix ∙ (slice_get-get_or order passed 0 inside ∙ ap Some (sym (same ∙ read))) })
     | inr apart ↦
         let value : get_or (set places number (passed + 1)) other 0 ≡ get_or places other 0 = get_or-set_other places number other (passed + 1) 0 apart in
-        subst (IsPlaced order other) (sym value) (so_far.placed other (rw value at counted))
+        subst (HasPlaceInOrder order other) (sym value) (so_far.placed other (rw value at counted))
   ];
 }
   where
@@ -151,9 +151,9 @@ AreRanks-placed signals order places sorted placed = record {
     | inl counted ↦
         let at = ranked gate (IsGate-from_Reads signals gate read reading) in
         let before = sorted.after at.0 gate read at.1 reading (is_gate_placed read (get_or places read 0) (placed.placed read counted)) in
-        let front : before.0 < at.0 = omega (arith, before.1, length-take at.0 order) in
+        let prefix : before.0 < at.0 = omega (arith, before.1, length-take at.0 order) in
         let inside : before.0 < length order = omega (arith, before.1, length-take at.0 order) in
-        let here : get_or order before.0 0 ≡ read = get_or_default order before.0 0 read inside ∙ (sym (get_or-take at.0 order before.0 read front) ∙ before.2) in
+        let here : get_or order before.0 0 ≡ read = get_or_default order before.0 0 read inside ∙ (sym (get_or-take at.0 order before.0 read prefix) ∙ before.2) in
         omega (arith, stands before.0 read inside here, at.2)
     | inr none ↦ omega (arith, (ranked gate (IsGate-from_Reads signals gate read reading)).2)
   ];
@@ -162,7 +162,7 @@ AreRanks-placed signals order places sorted placed = record {
     stands : (place number : ℕ) → place < length order → get_or order place 0 ≡ number → get_or places number 0 ≡ place + 1
     stands place number inside here = subst (λ n. get_or places n 0 ≡ place + 1) here (placed.each place inside)
 
-    is_gate_placed : (number place : ℕ) → IsPlaced order number place → IsGate signals number
+    is_gate_placed : (number place : ℕ) → HasPlaceInOrder order number place → IsGate signals number
     is_gate_placed number place at = All-contains (IsGate signals) order number sorted.gates (place - 1, slice_get_within order (place - 1) number at.here, get_or_from_slice_get order (place - 1) number number at.here)
 
     ranked : (gate : ℕ) → IsGate signals gate → (place : ℕ) × (slice_get order place ≡ Some gate) × (get_or places gate 0 ≡ place + 1)

@@ -19,7 +19,7 @@ use Rattle.path_delays.specs.Reaches.{IsChain, IsReach}
 use Rattle.path_delays.specs.WalkParts.{sums_to, HasReach}
 use Rattle.path_delays.specs.ExtremePaths.{delay_by, extreme_of, IsNoFurther, IsExtremePath, IsFurthest}
 use Rattle.path_delays.proofs.Rings.{follows_joined}
-use Rattle.path_delays.proofs.ExtremeDelays.{own_by, gate_by, through_by, delay_is, delay_push, IsReachBy, reach_by, same_extreme, no_further_than, no_further_behind}
+use Rattle.path_delays.proofs.ExtremeDelays.{own_by, gate_by, through_by, delay_is, delay_push, IsReachBy, reach_by, same_extreme, no_further_than, no_further_after}
 use Rattle.path_delays.proofs.ReachedPairs.{read_within, captured_within, chain_of_path}
 
 -- a primary input is no gate
@@ -82,19 +82,19 @@ reads_within circuit number read reads = at (slice_get circuit.signals number) r
         rw reads.1.2 at (read_within circuit number signal (slice_get_within circuit.signals number signal here) (sym (get_or_from_slice_get circuit.signals number signal signal here)) reads.1.0 read reads.1.1)
 
 -- a chain to a signal is this signal alone, or goes through one that it reads
-pub record IsBehind (circuit : Circuit) (first : ℕ) (gates : List ℕ) (last : ℕ) : Type 0 where
+pub record IsAfter (circuit : Circuit) (first : ℕ) (gates : List ℕ) (last : ℕ) : Type 0 where
   pub read : ℕ
-  pub front : List ℕ
-  pub is : gates ≡ front ++ last ∷ []
-  pub follows : Follows circuit.signals first front read
+  pub prefix : List ℕ
+  pub is : gates ≡ prefix ++ last ∷ []
+  pub follows : Follows circuit.signals first prefix read
   pub reads : Reads circuit.signals last read
 
 -- and which of the two it is
-pub last_of : (circuit : Circuit) (first : ℕ) (gates : List ℕ) (last : ℕ) → Follows circuit.signals first gates last → ((gates ≡ []) × (first ≡ last)) ⊎ IsBehind circuit first gates last
+pub last_of : (circuit : Circuit) (first : ℕ) (gates : List ℕ) (last : ℕ) → Follows circuit.signals first gates last → ((gates ≡ []) × (first ≡ last)) ⊎ IsAfter circuit first gates last
 last_of circuit first [] last follows = inl (refl, follows)
 last_of circuit first (gate ∷ gates) last follows = elim (last_of circuit gate gates last follows.1) [
-  | inl end ↦ inr (record { read = first; front = []; is = ap (λ g. gate ∷ g) end.0 ∙ ap (λ g. g ∷ []) end.1; follows = refl; reads = subst (λ g. Reads circuit.signals g first) end.1 follows.0 })
-  | inr behind ↦ inr (record { read = behind.read; front = gate ∷ behind.front; is = ap (λ g. gate ∷ g) behind.is; follows = (follows.0, behind.follows); reads = behind.reads })
+  | inl end ↦ inr (record { read = first; prefix = []; is = ap (λ g. gate ∷ g) end.0 ∙ ap (λ g. g ∷ []) end.1; follows = refl; reads = subst (λ g. Reads circuit.signals g first) end.1 follows.0 })
+  | inr suffix ↦ inr (record { read = suffix.read; prefix = gate ∷ suffix.prefix; is = ap (λ g. gate ∷ g) suffix.is; follows = (follows.0, suffix.follows); reads = suffix.reads })
 ]
 
 -- what a register captures is its fan-in
@@ -110,7 +110,7 @@ captures_furthest circuit to captured found walk greatest last furthest = record
 pub captures_within : (circuit : Circuit) (to : ℕ) (captured : Signal) → register_signal circuit to ≡ Some captured → (signal : ℕ) → Captures circuit to signal → signal < length circuit.signals
 captures_within circuit to captured found signal captures = let listed = rw found at captures in rw listed.2 at (captured_within circuit to captured found listed.0 signal listed.1)
 
--- from a signal on, the path to the last one, whose sums are those of the signal and what the gates behind it add
+-- from a signal on, the path to the last one, whose sums are those of the signal and what the gates after it add
 pub record IsBack (circuit : Circuit) (tech : Tech) (walk : Walk) (greatest : Bool) (last : ℕ) (path : List ℕ) (signal : ℕ) : Type 0 where
   pub rest : List ℕ
   pub is : reverse path ≡ signal ∷ rest
@@ -139,9 +139,9 @@ module _ (circuit : Circuit) (tech : Tech) (from : ℕ) (walk : Walk) (greatest 
       at None nothing = absurd (unreached signal chain nothing is_chain)
       at (Some sums) here = (sums, here, (reached signal sums here).extreme chain is_chain)
 
-  -- a chain with a reader of its end behind it is one to the reader
-  chain_push : (first : ℕ) (front : List ℕ) (read gate : ℕ) → IsChain circuit from read (first ∷ front) → Reads circuit.signals gate read → IsChain circuit from gate (first ∷ front ++ gate ∷ [])
-  chain_push first front read gate is_chain reads = (is_chain.0, follows_joined circuit.signals front (gate ∷ []) first read gate is_chain.1 (reads, refl))
+  -- a chain with a reader of its end after it is one to the reader
+  chain_push : (first : ℕ) (prefix : List ℕ) (read gate : ℕ) → IsChain circuit from read (first ∷ prefix) → Reads circuit.signals gate read → IsChain circuit from gate (first ∷ prefix ++ gate ∷ [])
+  chain_push first prefix read gate is_chain reads = (is_chain.0, follows_joined circuit.signals prefix (gate ∷ []) first read gate is_chain.1 (reads, refl))
 
   -- so the walk found no less at a gate than what it reads and the gate add up to
   reader_within : (signal read : ℕ) (sums read_sums : Sums) → Reads circuit.signals signal read → sums_to walk signal ≡ Some sums → sums_to walk read ≡ Some read_sums
@@ -153,9 +153,9 @@ module _ (circuit : Circuit) (tech : Tech) (from : ℕ) (walk : Walk) (greatest 
       at : (chain : List ℕ) → IsChain circuit from read chain → delay_by greatest circuit tech chain ≡ extreme_of greatest read_sums
           → IsNoFurther greatest (extreme_of greatest read_sums +ℤ gate_by greatest tech (slice_get circuit.signals signal)) (extreme_of greatest sums)
       at [] is_chain shown = absurd is_chain
-      at (first ∷ front) is_chain shown =
-          let longer = (reached signal sums here).extreme (first ∷ front ++ signal ∷ []) (chain_push first front read signal is_chain reads) in
-          rw (← shown) (rw (delay_push greatest circuit tech first front signal) at longer)
+      at (first ∷ prefix) is_chain shown =
+          let longer = (reached signal sums here).extreme (first ∷ prefix ++ signal ∷ []) (chain_push first prefix read signal is_chain reads) in
+          rw (← shown) (rw (delay_push greatest circuit tech first prefix signal) at longer)
 
   -- at a gate the walk found what it found at the furthest signal that the gate reads, and the gate's delay
   furthest_adds : (signal read : ℕ) (sums : Sums) → sums_to walk signal ≡ Some sums → (furthest : IsFurthest walk (Reads circuit.signals signal) greatest read)
@@ -164,20 +164,20 @@ module _ (circuit : Circuit) (tech : Tech) (from : ℕ) (walk : Walk) (greatest 
       let shown = reached signal sums here in
       same_extreme greatest _ _ (at shown.chain shown.is_chain shown.shown) (reader_within signal read sums furthest.sums furthest.is_one here furthest.here)
     where
-      behind : (first : ℕ) (gates : List ℕ) → Launches circuit from first → IsBehind circuit first gates signal → delay_by greatest circuit tech (first ∷ gates) ≡ extreme_of greatest sums
+      suffix : (first : ℕ) (gates : List ℕ) → Launches circuit from first → IsAfter circuit first gates signal → delay_by greatest circuit tech (first ∷ gates) ≡ extreme_of greatest sums
           → IsNoFurther greatest (extreme_of greatest sums) (extreme_of greatest furthest.sums +ℤ gate_by greatest tech (slice_get circuit.signals signal))
-      behind first gates launches is_behind shown =
-          let there = chain_within is_behind.read (first ∷ is_behind.front) (launches, is_behind.follows) in
-          let lower = no_further_than greatest _ _ _ there.2 (furthest.furthest is_behind.read there.0 is_behind.reads there.1) in
-          let whole = sym shown ∙ ap (λ l. delay_by greatest circuit tech (first ∷ l)) is_behind.is ∙ delay_push greatest circuit tech first is_behind.front signal in
-          rw whole (no_further_behind greatest _ _ _ lower)
+      suffix first gates launches is_after shown =
+          let there = chain_within is_after.read (first ∷ is_after.prefix) (launches, is_after.follows) in
+          let lower = no_further_than greatest _ _ _ there.2 (furthest.furthest is_after.read there.0 is_after.reads there.1) in
+          let whole = sym shown ∙ ap (λ l. delay_by greatest circuit tech (first ∷ l)) is_after.is ∙ delay_push greatest circuit tech first is_after.prefix signal in
+          rw whole (no_further_after greatest _ _ _ lower)
 
       at : (chain : List ℕ) → IsChain circuit from signal chain → delay_by greatest circuit tech chain ≡ extreme_of greatest sums
           → IsNoFurther greatest (extreme_of greatest sums) (extreme_of greatest furthest.sums +ℤ gate_by greatest tech (slice_get circuit.signals signal))
       at [] is_chain shown = absurd is_chain
       at (first ∷ gates) is_chain shown = elim (last_of circuit first gates signal is_chain.1) [
         | inl alone ↦ absurd (launched_no_gate circuit from signal read (subst (Launches circuit from) alone.1 is_chain.0) furthest.is_one)
-        | inr is_behind ↦ behind first gates is_chain.0 is_behind shown
+        | inr is_after ↦ suffix first gates is_chain.0 is_after shown
       ]
 
   -- where the walk found nothing at what a signal reads, the register launches it
@@ -192,7 +192,7 @@ module _ (circuit : Circuit) (tech : Tech) (from : ℕ) (walk : Walk) (greatest 
             let own = delay_is greatest circuit tech first [] in
             let whole = sym shown ∙ ap (λ l. delay_by greatest circuit tech (first ∷ l)) alone.0 in
             (subst (Launches circuit from) alone.1 is_chain.0, omega (arith, ints, own, whole))
-        | inr is_behind ↦ absurd (unreached is_behind.read (first ∷ is_behind.front) (none is_behind.read is_behind.reads) (is_chain.0, is_behind.follows))
+        | inr is_after ↦ absurd (unreached is_after.read (first ∷ is_after.prefix) (none is_after.read is_after.reads) (is_chain.0, is_after.follows))
       ]
 
   -- the last signal by itself
@@ -226,9 +226,9 @@ module _ (circuit : Circuit) (tech : Tech) (from : ℕ) (walk : Walk) (greatest 
       }
 
   -- back at a signal that the register launches, it is a path, and none is further
-  pub back_at_start : (to last signal : ℕ) (path turned : List ℕ) → turned ≡ reverse path → IsFurthest walk (Captures circuit to) greatest last
-      → ((read : ℕ) → Reads circuit.signals signal read → sums_to walk read ≡ None) → IsBack circuit tech walk greatest last path signal → IsExtremePath circuit tech from to greatest turned
-  back_at_start to last signal path turned is furthest none back =
+  pub back_at_start : (to last signal : ℕ) (path rotated : List ℕ) → rotated ≡ reverse path → IsFurthest walk (Captures circuit to) greatest last
+      → ((read : ℕ) → Reads circuit.signals signal read → sums_to walk read ≡ None) → IsBack circuit tech walk greatest last path signal → IsExtremePath circuit tech from to greatest rotated
+  back_at_start to last signal path rotated is furthest none back =
       let start = is_start signal back.sums back.here none in
       let own = delay_is greatest circuit tech signal back.rest in
       let sum = back.total in

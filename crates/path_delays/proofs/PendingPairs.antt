@@ -23,12 +23,12 @@ module _ {circuit : Circuit} {tech : Tech} {from next : ℕ} {waiting : List ℕ
   pending_here later to taken = skip_pairs circuit tech from next to pairs (pending.above to taken.held) (λ capture path low high is_path.
       let lowest = taken.lowest capture (pending.joined capture path low is_path) in absurd (omega arith)) pending.listed
 
-  -- with the pair of that register, those behind it are left
+  -- with the pair of that register, those after it are left
   pub pending_next : (later : List ℕ) (to : ℕ) (joined : Option PairDelay) (listed : List PairDelay) → IsLowestTaken waiting later to → IsJoinedBy circuit tech from to joined → listed ≡ pairs ++ option_to_list joined
       → ArePending circuit tech from (to + 1) later listed
   pending_next later to joined listed taken is_joined is = record {
     listed = pair_next circuit tech from to pairs listed joined is_joined is (pending_here later to taken);
-    joined = λ capture path behind is_path.
+    joined = λ capture path suffix is_path.
         let low = pending.above to taken.held in
         let differs : capture ≡ to → ⊥ = λ same. absurd (omega arith) in
         taken.each capture ∙ and_from (has_number waiting capture) (not (capture == to)) (pending.joined capture path (omega arith) is_path) (ap not (ne_eqb capture to differs));
@@ -45,4 +45,4 @@ module _ {circuit : Circuit} {tech : Tech} {from next : ℕ} {waiting : List ℕ
 
   -- where none waits, the next register launches
   pub pending_none : ((to : ℕ) → has_number waiting to ≡ false) → ListsPairsBefore circuit tech (from + 1) 0 pairs
-  pending_none none = register_next circuit tech from next pairs (λ capture path behind is_path. true≢false (sym (pending.joined capture path behind is_path) ∙ none capture)) pending.listed
+  pending_none none = register_next circuit tech from next pairs (λ capture path suffix is_path. true≢false (sym (pending.joined capture path suffix is_path) ∙ none capture)) pending.listed

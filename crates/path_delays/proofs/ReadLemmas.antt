@@ -64,7 +64,7 @@ reads_among_are signals gate signal here is_one (input ∷ inputs) all = at (is_
         rest
     at false fails rest = rest
 
--- a list with one more item in front contains what it contained
+-- a list with one more item before contains what it contained
 pub Contains-cons : {X : Type 0} (x y : X) (xs : List X) → Contains xs y → Contains (x ∷ xs) y
 Contains-cons x y xs (k, within, here) = (suc k, omega arith, here)
 

@@ -1,4 +1,4 @@
--- Rings of gates: what closes one, and a ring that is turned.
+-- Rings of gates: what closes one, and a ring that is rotated.
 use Rattle.std.proofs.Common.{ℕ, zero, suc, ◌≡◌, ◌<◌, ◌+◌, List, [], ◌∷◌, ◌++◌, ◌≤◌, length, take, drop, Some, refl, sym, subst, arith, All}
 use Rattle.std.proofs.lemmas.List.{length-append, length-take, take-append-drop}
 use Rattle.std.proofs.lemmas.Option.{slice_get_within}
@@ -6,20 +6,20 @@ use Rattle.std.specs.Prelude.{IsSomeAnd, slice_index}
 use Rattle.std.specs.List.{slice_get}
 use Rattle.cts_model.specs.declared.signal.Signal.{Signal}
 use Rattle.cts_model.specs.Paths.{Follows, IsLoop, IsNamedLoop}
-use Rattle.path_delays.proofs.Distinct.{AreDistinct, distinct_turned}
+use Rattle.path_delays.proofs.Distinct.{AreDistinct, distinct_rotated}
 
 -- a chain of two parts has a gate where they meet
-follows_parts : (signals : List Signal) (front back : List ℕ) (first last : ℕ) → Follows signals first (front ++ back) last
-    → (middle : ℕ) × Follows signals first front middle × Follows signals middle back last
+follows_parts : (signals : List Signal) (prefix back : List ℕ) (first last : ℕ) → Follows signals first (prefix ++ back) last
+    → (middle : ℕ) × Follows signals first prefix middle × Follows signals middle back last
 follows_parts signals [] back first last chain = (first, refl, chain)
-follows_parts signals (gate ∷ front) back first last (reads, chain) =
-    let parts = follows_parts signals front back gate last chain in (parts.0, (reads, parts.1), parts.2)
+follows_parts signals (gate ∷ prefix) back first last (reads, chain) =
+    let parts = follows_parts signals prefix back gate last chain in (parts.0, (reads, parts.1), parts.2)
 
 -- two chains that meet are one
-pub follows_joined : (signals : List Signal) (front back : List ℕ) (first middle last : ℕ) → Follows signals first front middle → Follows signals middle back last
-    → Follows signals first (front ++ back) last
+pub follows_joined : (signals : List Signal) (prefix back : List ℕ) (first middle last : ℕ) → Follows signals first prefix middle → Follows signals middle back last
+    → Follows signals first (prefix ++ back) last
 follows_joined signals [] back first middle last same chain = subst (λ n. Follows signals n back last) (sym same) chain
-follows_joined signals (gate ∷ front) back first middle last (reads, chain) rest = (reads, follows_joined signals front back gate middle last chain rest)
+follows_joined signals (gate ∷ prefix) back first middle last (reads, chain) rest = (reads, follows_joined signals prefix back gate middle last chain rest)
 
 -- a chain up to one of its gates
 follows_to : (signals : List Signal) (gates : List ℕ) (first last place gate : ℕ) → Follows signals first gates last → slice_get gates place ≡ Some gate
@@ -40,13 +40,13 @@ ring_from_closed : (signals : List Signal) (ring : List ℕ) (last : ℕ) → 0 
 ring_from_closed signals [] last some chain = absurd (omega arith)
 ring_from_closed signals (first ∷ gates) last some (reads, chain) = (last, chain, reads)
 
--- a ring with its first gates behind the others is a ring
-turned_ring : (signals : List Signal) (front back : List ℕ) → IsLoop signals (front ++ back) → IsLoop signals (back ++ front)
-turned_ring signals front back ring =
-    let whole = closed signals (front ++ back) ring in
-    let parts = follows_parts signals front back whole.0 whole.0 whole.2 in
-    let some : 0 < length (back ++ front) = omega (arith, length-append front back, length-append back front, whole.1) in
-    ring_from_closed signals (back ++ front) parts.0 some (follows_joined signals back front parts.0 whole.0 parts.0 parts.2 parts.1)
+-- a ring with its first gates after the others is a ring
+rotated_ring : (signals : List Signal) (prefix back : List ℕ) → IsLoop signals (prefix ++ back) → IsLoop signals (back ++ prefix)
+rotated_ring signals prefix back ring =
+    let whole = closed signals (prefix ++ back) ring in
+    let parts = follows_parts signals prefix back whole.0 whole.0 whole.2 in
+    let some : 0 < length (back ++ prefix) = omega (arith, length-append prefix back, length-append back prefix, whole.1) in
+    ring_from_closed signals (back ++ prefix) parts.0 some (follows_joined signals back prefix parts.0 whole.0 parts.0 parts.2 parts.1)
 
 -- what comes back to its first gate is a ring up to there
 pub cut_ring : (signals : List Signal) (gates : List ℕ) (last place gate : ℕ) → Follows signals gate gates last → slice_get gates place ≡ Some gate → IsLoop signals (take (place + 1) gates)
@@ -61,14 +61,14 @@ lowest_first : (signals : List Signal) (ring : List ℕ) → IsLoop signals ring
 lowest_first signals [] loop lowest = absurd loop
 lowest_first signals (first ∷ gates) loop lowest = lowest
 
--- a ring of distinct gates, turned to its lowest number, is a ring as it is named
-pub named_turned : (signals : List Signal) (loop : List ℕ) → IsLoop signals loop → AreDistinct loop → (turn : ℕ) (ring : List ℕ) → ring ≡ drop turn loop ++ take turn loop
+-- a ring of distinct gates, rotated to its lowest number, is a ring as it is named
+pub named_rotated : (signals : List Signal) (loop : List ℕ) → IsLoop signals loop → AreDistinct loop → (turn : ℕ) (ring : List ℕ) → ring ≡ drop turn loop ++ take turn loop
     → All (λ gate. slice_index ring 0 ≤ gate) ring → IsNamedLoop signals ring
-named_turned signals loop is_loop once turn ring turned lowest =
+named_rotated signals loop is_loop once turn ring rotated lowest =
     let parted : loop ≡ take turn loop ++ drop turn loop = sym (take-append-drop turn loop) in
-    let around : IsLoop signals ring = subst (IsLoop signals) (sym turned) (turned_ring signals (take turn loop) (drop turn loop) (subst (IsLoop signals) parted is_loop)) in
+    let around : IsLoop signals ring = subst (IsLoop signals) (sym rotated) (rotated_ring signals (take turn loop) (drop turn loop) (subst (IsLoop signals) parted is_loop)) in
     record {
       ring = around;
-      once = subst AreDistinct (sym turned) (distinct_turned (take turn loop) (drop turn loop) (subst AreDistinct parted once));
+      once = subst AreDistinct (sym rotated) (distinct_rotated (take turn loop) (drop turn loop) (subst AreDistinct parted once));
       lowest = lowest_first signals ring around lowest;
     }

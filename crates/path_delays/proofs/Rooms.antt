@@ -14,7 +14,7 @@ use Rattle.path_delays.specs.declared.reach.Reach.{Reach}
 use Rattle.path_delays.specs.SumParts.{AreWithin, delay_limit}
 use Rattle.path_delays.specs.GroupParts.{group_of}
 use Rattle.path_delays.specs.Networks.{IsNetworkOf, gate_sums, weight_of}
-use Rattle.path_delays.specs.Handing.{HasRoom, rank_at}
+use Rattle.path_delays.specs.Handing.{HasReachRoom, rank_at}
 use Rattle.path_delays.proofs.DelayLemmas.{gate_within}
 use Rattle.path_delays.proofs.NetworkLemmas.{reader_within, weights_within}
 
@@ -46,9 +46,9 @@ module _ (circuit : Circuit) (tech : Tech) (network : Network) (is : IsNetworkOf
       within_higher (weight_of (get_or circuit.signals i d)) delay_limit (gate_sums tech (get_or circuit.signals i d)) (omega (arith, get_or-le-sum_by weight_of circuit.signals i d inside, weights_within circuit)) (gate_within tech (get_or circuit.signals i d))))
 
   -- room for as many signals and gates is room for the network
-  pub HasRoom-made : (reach : Reach) (gates : ℕ) → length network.order.items ≤ gates → length reach.sums.items ≡ length circuit.signals → length circuit.signals < 64 * length reach.reached.words.items
-      → gates < 64 * length reach.waiting.words.items → 64 * length reach.waiting.words.items < 2 ^ 32 → HasRoom network reach
-  HasRoom-made reach gates few sums reached waiting small =
+  pub HasReachRoom-made : (reach : Reach) (gates : ℕ) → length network.order.items ≤ gates → length reach.sums.items ≡ length circuit.signals → length circuit.signals < 64 * length reach.reached.words.items
+      → gates < 64 * length reach.waiting.words.items → 64 * length reach.waiting.words.items < 2 ^ 32 → HasReachRoom network reach
+  HasReachRoom-made reach gates few sums reached waiting small =
       let covers : length circuit.signals ≡ length network.ranks.items = sym is.ranks.covers in
       record {
         starts = is.readers.long ∙ ap (λ n. n + 1) covers;

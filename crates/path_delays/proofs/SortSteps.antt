@@ -24,7 +24,7 @@ gate_within signals gate is_one = elim (cases_lt gate (length signals)) [
 idle_at : (waiting order : List ℕ) (place gate : ℕ) → slice_get order place ≡ Some gate → All (λ other. get_or waiting other 0 ≡ 0) order → get_or waiting gate 0 ≡ 0
 idle_at waiting order place gate here idle = subst (λ other. get_or waiting other 0 ≡ 0) (get_or_from_slice_get order place gate 0 here) (idle place 0 (slice_get_within order place gate here))
 
--- what stands in front of a place stands in front of a later one
+-- what stands before a place stands before a later one
 Contains-take : (before place number : ℕ) (numbers : List ℕ) → before < place → Contains (take (before + 1) numbers) number → Contains (take place numbers) number
 Contains-take before place number numbers earlier (k, inside, here) =
     let near : k < before + 1 = omega (arith, length-take (before + 1) numbers) in
@@ -45,12 +45,12 @@ pub record IsSorting (signals : List Signal) (pairs : List (ℕ × ℕ)) (taken 
 distinct-append : (xs ys : List ℕ) → AllPairs (λ first second. first ≢ second) xs → AllPairs (λ first second. first ≢ second) ys → ((x : ℕ) → Contains xs x → Contains ys x → ⊥) → AllPairs (λ first second. first ≢ second) (xs ++ ys)
 distinct-append xs ys once_x once_y apart i j d before inside = elim (cases_lt j (length xs)) [
   | inl both ↦ λ same. once_x i j d before both (sym (get_or_append_left xs ys d i (omega arith)) ∙ (same ∙ get_or_append_left xs ys d j both))
-  | inr behind ↦ elim (cases_lt i (length xs)) [
-    | inl front ↦ λ same.
-        let value : get_or ys (j - length xs) d ≡ get_or xs i d = sym (get_or-append_right xs ys (length xs) j d refl behind) ∙ (sym same ∙ get_or_append_left xs ys d i front) in
-        apart (get_or xs i d) (Contains-get_or xs i d front) (subst (Contains ys) value (Contains-get_or ys (j - length xs) d (omega (arith, length-append xs ys))))
+  | inr suffix ↦ elim (cases_lt i (length xs)) [
+    | inl prefix ↦ λ same.
+        let value : get_or ys (j - length xs) d ≡ get_or xs i d = sym (get_or-append_right xs ys (length xs) j d refl suffix) ∙ (sym same ∙ get_or_append_left xs ys d i prefix) in
+        apart (get_or xs i d) (Contains-get_or xs i d prefix) (subst (Contains ys) value (Contains-get_or ys (j - length xs) d (omega (arith, length-append xs ys))))
     | inr after ↦ λ same. once_y (i - length xs) (j - length xs) d (omega arith) (omega (arith, length-append xs ys))
-        (sym (get_or-append_right xs ys (length xs) i d refl after) ∙ (same ∙ get_or-append_right xs ys (length xs) j d refl behind))
+        (sym (get_or-append_right xs ys (length xs) i d refl after) ∙ (same ∙ get_or-append_right xs ys (length xs) j d refl suffix))
   ]
 ]
 
@@ -104,10 +104,10 @@ IsSorting-more signals pairs below taken next waiting order later_waiting later_
     | inr old ↦ rw released.put (Contains-append_left order released.added gate (so_far.ready gate is_one (omega arith)))
   ];
   after = λ place gate read here listed. elim (cases_lt taken place) [
-    | inl behind ↦ Contains-take taken place read later_order behind (all_met pairs (take (taken + 1) later_order) gate read (sym (counted gate) ∙ idle_at later_waiting later_order place gate here idle) listed)
+    | inl suffix ↦ Contains-take taken place read later_order suffix (all_met pairs (take (taken + 1) later_order) gate read (sym (counted gate) ∙ idle_at later_waiting later_order place gate here idle) listed)
     | inr before ↦
-        let same_front : take place later_order ≡ take place order = ap (take place) released.put ∙ take-append-le place order released.added (omega arith) in
-        subst (λ front. Contains front read) (sym same_front) (so_far.after place gate read (stood place gate (omega arith) here) listed)
+        let same_prefix : take place later_order ≡ take place order = ap (take place) released.put ∙ take-append-le place order released.added (omega arith) in
+        subst (λ prefix. Contains prefix read) (sym same_prefix) (so_far.after place gate read (stood place gate (omega arith) here) listed)
   ];
 }
   where

@@ -13,7 +13,7 @@ use Rattle.cts_model.specs.declared.circuit.Circuit.{Circuit}
 use Rattle.cts_model.specs.declared.schedule.Schedule.{Schedule}
 use Rattle.cts_model.specs.declared.tech.Tech.{Tech}
 use Rattle.cts_model.specs.Delays.{least_gate_delay, greatest_gate_delay}
-use Rattle.cts_model.specs.Kinds.{is_gate, is_host, is_input, is_lawful}
+use Rattle.cts_model.specs.Kinds.{is_gate, is_host, is_input, is_valid}
 use Rattle.cts_model.specs.Paths.{IsGate, IsInput, Reads, Launches, Captures, register_signal}
 use Rattle.cts_model.specs.Schedules.{arrival_of}
 use Rattle.path_delays.specs.declared.window.Window.{Window}
@@ -21,9 +21,9 @@ use Rattle.path_delays.specs.Networks.{gate_sums}
 use Rattle.path_delays.specs.Orders.{IsTopologicalOrder}
 use Rattle.path_delays.specs.Reaches.{IsChain}
 use Rattle.path_delays.specs.Windows.{window_along, IsHullIfAny, IsWindowBelow, ComesTo, AreWindows}
-use Rattle.path_delays.specs.WindowParts.{window_behind, either_window, window_at, IsGateWindow, ComesCaptured, AreCaptures, start_window, ComesOf, is_input_at, AreInputsStarted, ComesAt, window_limit, IsPassed, AreLaunched, ArePassed}
+use Rattle.path_delays.specs.WindowParts.{window_after, either_window, window_at, IsGateWindow, ComesCaptured, AreCaptures, start_window, ComesOf, is_input_at, AreInputsStarted, ComesAt, window_limit, IsPassed, AreLaunched, ArePassed}
 use Rattle.path_delays.proofs.ExtremeDelays.{delay_push}
-use Rattle.path_delays.proofs.HullLemmas.{hull_same, hull_itself, hull_either, hull_behind, hull_of_hulls, hull_below}
+use Rattle.path_delays.proofs.HullLemmas.{hull_same, hull_itself, hull_either, hull_after, hull_of_hulls, hull_below}
 use Rattle.path_delays.proofs.Launching.{launched_at, launched_within, host_launches, register_launches}
 use Rattle.path_delays.proofs.NetworkLemmas.{few_gates}
 use Rattle.path_delays.proofs.PathsBack.{last_of}
@@ -52,7 +52,7 @@ pub record IsReadGate (circuit : Circuit) (order : List ℕ) (place gate : ℕ)
   pub within : gate < length circuit.signals
   pub here : slice_get circuit.signals gate ≡ Some signal
   pub is_one : is_gate signal.kind ≡ true
-  pub lawful : IsTrue (is_lawful signal.kind (length signal.fan_in))
+  pub valid_inputs : IsTrue (is_valid signal.kind (length signal.fan_in))
   pub reads : All (λ number. number < length circuit.signals) signal.fan_in
 
 -- the next one stands among the signals
@@ -82,7 +82,7 @@ next_read circuit order place gate signal sorted low read signal_read =
       within = within;
       here = here;
       is_one = rw here at (subst (IsGate circuit.signals) (sym read) (sorted.gates place 0 low));
-      lawful = rw (← signal_read) at (circuit.valid.lawful gate signal within);
+      valid_inputs = rw (← signal_read) at (circuit.valid.valid_inputs gate signal within);
       reads = read_within circuit gate signal within signal_read;
     }
 
@@ -276,11 +276,11 @@ module _ (circuit : Circuit) (tech : Tech) (schedule : Schedule) where
               sym (alone from first) ∙ ap (λ rest. window_along circuit tech scale
                   (arrival_of schedule.at) from (first ∷ rest)) (sym end.0) ∙ same,
             )
-            | inr behind ↦ absurd (none_taken signal
-                (passed (IsGate-from_Reads circuit.signals signal behind.read behind.reads)))
+            | inr suffix ↦ absurd (none_taken signal
+                (passed (IsGate-from_Reads circuit.signals signal suffix.read suffix.reads)))
           ]
 
-  -- the windows behind a gate are those of chains with the gate at their end
+  -- the windows after a gate are those of chains with the gate at their end
   module _ (gate : ℕ) (signal : Signal) (here : slice_get circuit.signals gate ≡ Some signal)
       (is_one : is_gate signal.kind ≡ true) where
     abbrev scale : ℕ
@@ -290,12 +290,12 @@ module _ (circuit : Circuit) (tech : Tech) (schedule : Schedule) where
     along = window_along circuit tech scale (arrival_of schedule.at)
 
     -- one gate more moves a chain's window by the gate's delay
-    along-push : (from first : ℕ) (front : List ℕ)
-        → window_behind scale (gate_sums tech signal) (along from (first ∷ front)) ≡ along from
-        (first ∷ front ++ gate ∷ [])
-    along-push from first front =
-        let least = delay_push false circuit tech first front gate in
-        let greatest = delay_push true circuit tech first front gate in
+    along-push : (from first : ℕ) (prefix : List ℕ)
+        → window_after scale (gate_sums tech signal) (along from (first ∷ prefix)) ≡ along from
+        (first ∷ prefix ++ gate ∷ [])
+    along-push from first prefix =
+        let least = delay_push false circuit tech first prefix gate in
+        let greatest = delay_push true circuit tech first prefix gate in
         let least_is : (gate_sums tech signal).least ≡ least_gate_delay tech
         (slice_get circuit.signals gate) = rw (here, is_one) refl in
         let greatest_is : (gate_sums tech signal).greatest ≡ greatest_gate_delay tech
@@ -317,42 +317,42 @@ module _ (circuit : Circuit) (tech : Tech) (schedule : Schedule) where
     ComesRead window = (read : ℕ) × Contains signal.fan_in read
         × ComesAt circuit tech schedule read window
 
-    -- comes behind it
+    -- comes after it
     forth : (window inner : Window) (read from : ℕ) (chain : List ℕ) → Contains signal.fan_in read
         → IsChain circuit from read chain → along from chain ≡ inner
-        → window_behind scale (gate_sums tech signal) inner ≡ window
+        → window_after scale (gate_sums tech signal) inner ≡ window
         → ComesAt circuit tech schedule gate window
-    forth window inner read from [] listed none same behind = absurd none
-    forth window inner read from (first ∷ front) listed is_chain same behind = (
+    forth window inner read from [] listed none same suffix = absurd none
+    forth window inner read from (first ∷ prefix) listed is_chain same suffix = (
       from,
-      first ∷ front ++ gate ∷ [],
+      first ∷ prefix ++ gate ∷ [],
       (
         is_chain.0,
-        follows_joined circuit.signals front (gate ∷ []) first read gate is_chain.1
+        follows_joined circuit.signals prefix (gate ∷ []) first read gate is_chain.1
             (reads_of read listed, refl),
       ),
-      sym (along-push from first front) ∙ ap (window_behind scale (gate_sums tech signal)) same
-          ∙ behind,
+      sym (along-push from first prefix) ∙ ap (window_after scale (gate_sums tech signal)) same
+          ∙ suffix,
     )
 
     -- and nothing else does
     back : (window : Window) (from : ℕ) (chain : List ℕ) → IsChain circuit from gate chain
         → along from chain ≡ window
         → (inner : Window) × ComesRead inner
-        × (window_behind scale (gate_sums tech signal) inner ≡ window)
+        × (window_after scale (gate_sums tech signal) inner ≡ window)
     back window from [] none same = absurd none
     back window from (first ∷ gates) (launches, follows) same =
         elim (last_of circuit first gates gate follows) [
           | inl end ↦ absurd (launches_no_gate from (subst (Launches circuit from) end.1 launches))
-          | inr behind ↦ (
-            along from (first ∷ behind.front),
+          | inr suffix ↦ (
+            along from (first ∷ suffix.prefix),
             (
-              behind.read,
-              listed_of behind.read behind.reads,
-              (from, first ∷ behind.front, (launches, behind.follows), refl),
+              suffix.read,
+              listed_of suffix.read suffix.reads,
+              (from, first ∷ suffix.prefix, (launches, suffix.follows), refl),
             ),
-            along-push from first behind.front
-                ∙ ap (λ rest. along from (first ∷ rest)) (sym behind.is) ∙ same,
+            along-push from first suffix.prefix
+                ∙ ap (λ rest. along from (first ∷ rest)) (sym suffix.is) ∙ same,
           )
         ]
       where
@@ -368,24 +368,24 @@ module _ (circuit : Circuit) (tech : Tech) (schedule : Schedule) where
         → IsHullIfAny (ComesAt circuit tech schedule read) (window_at windows read))
         → IsGateWindow windows signal.fan_in scale (gate_sums tech signal) found
         → IsHullIfAny (ComesAt circuit tech schedule gate) found
-    gate_hull windows found hulls of = rw of.behind
+    gate_hull windows found hulls of = rw of.suffix
         (at of.read (hull_of_hulls windows (Contains signal.fan_in)
         (ComesAt circuit tech schedule) hulls of.read of.hull))
       where
         at : (read : Option Window) → IsHullIfAny ComesRead read
             → IsHullIfAny (ComesAt circuit tech schedule gate)
-            (option_map (window_behind scale (gate_sums tech signal)) read)
+            (option_map (window_after scale (gate_sums tech signal)) read)
         at None none = λ window (from, chain, is_chain, same).
             let read = back window from chain is_chain same in
             none read.0 read.1
         at (Some hull) is = hull_same (λ window. (inner : Window) × ComesRead inner
-            × (window_behind scale (gate_sums tech signal) inner ≡ window))
+            × (window_after scale (gate_sums tech signal) inner ≡ window))
             (ComesAt circuit tech schedule gate)
-            (λ window (inner, (read, listed, (from, chain, is_chain, same)), behind). forth window
-            inner read from chain listed is_chain same behind)
+            (λ window (inner, (read, listed, (from, chain, is_chain, same)), suffix). forth window
+            inner read from chain listed is_chain same suffix)
             (λ window (from, chain, is_chain, same). back window from chain is_chain same)
-            (Some (window_behind scale (gate_sums tech signal) hull))
-            (hull_behind ComesRead scale (gate_sums tech signal) hull is)
+            (Some (window_after scale (gate_sums tech signal) hull))
+            (hull_after ComesRead scale (gate_sums tech signal) hull is)
 
     -- and the gate is passed
     pub passed_next : (order : List ℕ) (place : ℕ) (windows : List (Option Window))

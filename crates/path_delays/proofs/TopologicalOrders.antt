@@ -42,7 +42,7 @@ module _ (signals : List Signal) (order : List ℕ) (sorted : IsTopologicalOrder
       let end = no_earlier gate gates last next.0 next.1 next_is_one rest in
       (end.0, end.1, omega (arith, end.2), end.3)
 
-  -- so no gate reads, along a path, one that stands behind it
+  -- so no gate reads, along a path, one that stands after it
   pub no_loop : (loop : List ℕ) → IsLoop signals loop → ⊥
   no_loop [] ring = ring
   no_loop (first ∷ gates) (last, path, closes) =

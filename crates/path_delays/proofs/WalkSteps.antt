@@ -93,8 +93,8 @@ module _ (circuit : Circuit) (tech : Tech) (from : ℕ) (network : Network) (is 
       let whole = ap (λ n. sum_by weight (take n order)) next in
       let more = sum_by_more weight order place gate (slice_get_within order place gate placed.here) in
       let last = ap weight (get_or_from_slice_get order place gate gate placed.here) in
-      let front = ap (sum_by weight) (take-take (rank_at network read) place order lower) in
-      omega (arith, whole, more, last, front, sum_by-take-le weight (take place order) (rank_at network read))
+      let prefix = ap (sum_by weight) (take-take (rank_at network read) place order lower) in
+      omega (arith, whole, more, last, prefix, sum_by-take-le weight (take place order) (rank_at network read))
 
   -- no limit is beyond the limit of all delays
   pub limit_within : (rank : ℕ) → limit_at circuit.signals network.order.items rank ≤ delay_limit

@@ -9,7 +9,7 @@ use Rattle.cts_model.specs.declared.signal.Signal.{Signal}
 use Rattle.cts_model.specs.Paths.{Reads, Follows, IsNamedLoop}
 use Rattle.path_delays.proofs.Distinct.{AreDistinct, distinct_reverse, distinct_take}
 use Rattle.path_delays.proofs.WaitingInputs.{waits_within}
-use Rattle.path_delays.proofs.Rings.{cut_ring, named_turned}
+use Rattle.path_delays.proofs.Rings.{cut_ring, named_rotated}
 
 -- the gates gone through, each of which reads the next, up to one that waits: they are those that were seen
 pub record IsWalk (signals : List Signal) (waiting : List ℕ) (start : ℕ) (path : List ℕ) (seen : List Bool) (gate : ℕ) : Type 0 where
@@ -71,11 +71,11 @@ module _ {signals : List Signal} {waiting : List ℕ} {start : ℕ} {path : List
     covers = length-set seen gate true ∙ walk.covers;
   }
 
-  -- the path back to a gate that comes again, turned to its lowest number, is a ring as it is named
+  -- the path back to a gate that comes again, rotated to its lowest number, is a ring as it is named
   pub named_ring : (place : ℕ) → slice_get (reverse path) place ≡ Some gate
       → (turn : ℕ) (ring : List ℕ) → ring ≡ drop turn (take (place + 1) (reverse path)) ++ take turn (take (place + 1) (reverse path))
       → All (λ number. slice_index ring 0 ≤ number) ring → IsNamedLoop signals ring
-  named_ring place here turn ring turned lowest =
+  named_ring place here turn ring rotated lowest =
       let cut = take (place + 1) (reverse path) in
       let once = distinct_take (place + 1) (reverse path) (distinct_reverse path walk.once) in
-      named_turned signals cut (cut_ring signals (reverse path) start place gate walk.chain here) once turn ring turned lowest
+      named_rotated signals cut (cut_ring signals (reverse path) start place gate walk.chain here) once turn ring rotated lowest

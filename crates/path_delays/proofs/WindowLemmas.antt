@@ -10,7 +10,7 @@ use Rattle.std.proofs.lemmas.List.{length-set, length_push, get_or-set_same, get
 use Rattle.std.proofs.lemmas.Option.{same_Some, slice_get_within, slice_get-get_or, get_or_from_slice_get}
 use Rattle.cts_model.specs.declared.signal.Signal.{Signal}
 use Rattle.cts_model.specs.declared.circuit.Circuit.{Circuit}
-use Rattle.cts_model.specs.Kinds.{is_gate, is_host, is_input, is_lawful}
+use Rattle.cts_model.specs.Kinds.{is_gate, is_host, is_input, is_valid}
 use Rattle.cts_model.specs.declared.kind.Kind.{Kind}
 use Rattle.cts_model.specs.declared.kind.Kind.TheVariants.{Host}
 use Rattle.cts_model.specs.declared.tech.Tech.{Tech}
@@ -151,10 +151,10 @@ either_below bound known found window before now is = at known before is
 
 -- a gate's delays are small
 pub gate_small : (tech : Tech) (signal : Signal) → is_gate signal.kind ≡ true
-    → IsTrue (is_lawful signal.kind (length signal.fan_in))
+    → IsTrue (is_valid signal.kind (length signal.fan_in))
     → AreWithin 2024000 (gate_sums tech signal)
-gate_small tech signal is_one lawful =
-    let few = few_inputs signal.kind (length signal.fan_in) (no_host signal.kind is_one) lawful in
+gate_small tech signal is_one valid_inputs =
+    let few = few_inputs signal.kind (length signal.fan_in) (no_host signal.kind is_one) valid_inputs in
     let inputs : gate_inputs signal ≡ length signal.fan_in =
     ap (λ b. cond b (length signal.fan_in) 0) is_one in
     within_higher (weight_of signal) 2024000 (gate_sums tech signal) (omega (arith, inputs, few))

@@ -25,7 +25,7 @@ delay_at network number =
     slice_index_or network.delays.items number (record { least = pos 0; greatest = pos 0 })
 
 -- room for the signals of a network, whose delays are small
-pub record HasRoom (network : Network) (reach : Reach) : Type 0 where
+pub record HasReachRoom (network : Network) (reach : Reach) : Type 0 where
   pub starts : vec_len network.readers.starts ≡ length network.ranks.items + 1
   pub readers : (signal : ℕ) → signal < length network.ranks.items
       → All (λ gate. gate < length network.ranks.items) (group_of network.readers signal)
@@ -49,7 +49,7 @@ pub record IsMarked (signal : ℕ) (sums : Sums) (old new : Reach) : Type 0 wher
   pub others : (other : ℕ) → other ≢ signal → sums_at new other ≡ sums_at old other
   pub waits : (rank : ℕ) → waits_at new rank ≡ waits_at old rank
 
--- a gate gets the sums behind it, and waits to be taken where it is reached first
+-- a gate gets the sums after it, and waits to be taken where it is reached first
 pub record IsHanded (network : Network) (given : Sums) (gate : ℕ) (old new : Reach) : Type 0 where
   pub room : IsSameRoom old new
   pub at : sums_at new gate

@@ -35,7 +35,7 @@ pub record AreReaders (signals : List Signal) (readers : Groups) : Type 0 where
   pub all : (read gate : ℕ) → Reads signals gate read → Contains (group_of readers read) gate
 
 -- the number stands in the list at this place, counted from 1
-pub record IsPlaced (order : List ℕ) (number place : ℕ) : Type 0 where
+pub record HasPlaceInOrder (order : List ℕ) (number place : ℕ) : Type 0 where
   pub counted : 1 ≤ place
   pub here : slice_get order (place - 1) ≡ Some number
 
@@ -45,13 +45,13 @@ pub record ArePlaces (limit : ℕ) (order : List ℕ) (passed : ℕ) (places : L
   pub each : (place : ℕ) → place < passed
       → slice_index places (slice_index order place) ≡ place + 1
   pub placed : (number : ℕ) → 0 < slice_index places number
-      → IsPlaced order number (slice_index places number)
+      → HasPlaceInOrder order number (slice_index places number)
 
 -- a gate's rank is its place in the order, counted from 1: above the rank of all that it reads.
 -- What is no gate has the rank 0
 pub record AreRanks (signals : List Signal) (order ranks : List ℕ) : Type 0 where
   pub covers : length ranks ≡ length signals
-  pub gates : (gate : ℕ) → IsGate signals gate → IsPlaced order gate (slice_index ranks gate)
+  pub gates : (gate : ℕ) → IsGate signals gate → HasPlaceInOrder order gate (slice_index ranks gate)
   pub others : (number : ℕ) → 0 < slice_index ranks number → IsGate signals number
   pub rising : (gate read : ℕ) → Reads signals gate read
       → slice_index ranks read < slice_index ranks gate

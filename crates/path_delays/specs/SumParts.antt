@@ -4,7 +4,7 @@ use Rattle.std.specs.Int.{int_min, int_max}
 use Rattle.cts_model.specs.Tables.{IsWithin}
 use Rattle.path_delays.specs.declared.sums.Sums.{Sums}
 
--- the sums behind one more gate
+-- the sums after one more gate
 abbrev pub sums_through : Sums → Sums → Sums
 sums_through sums delay = record {
   least = sums.least +ℤ delay.least;

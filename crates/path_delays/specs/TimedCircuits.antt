@@ -1,4 +1,4 @@
--- What paths and their delays are told of.
+-- What paths and their delays are said of.
 use Rattle.cts_model.specs.declared.circuit.Circuit.{Circuit}
 use Rattle.cts_model.specs.declared.tech.Tech.{Tech}
 

@@ -5,7 +5,7 @@ use Rattle.cts_model.specs.declared.tech.Tech.{Tech}
 use Rattle.path_delays.specs.declared.sums.Sums.{Sums}
 use Rattle.path_delays.specs.declared.walk.Walk.{Walk}
 use Rattle.path_delays.specs.Networks.{IsNetworkOf}
-use Rattle.path_delays.specs.Handing.{HasRoom, sums_at}
+use Rattle.path_delays.specs.Handing.{HasReachRoom, sums_at}
 use Rattle.path_delays.specs.Reaches.{IsReach}
 
 -- the sums to a signal, if the register reaches it
@@ -15,7 +15,7 @@ sums_to walk signal = sums_at walk.reach signal
 -- the walk's network is that of the circuit and the table
 pub record IsRoomFor (circuit : Circuit) (tech : Tech) (walk : Walk) : Type 0 where
   pub network : IsNetworkOf circuit tech walk.network
-  pub room : HasRoom walk.network walk.reach
+  pub room : HasReachRoom walk.network walk.reach
 
 -- the walk has the sums to all that the register reaches
 pub record HasReach (circuit : Circuit) (tech : Tech) (from : ℕ) (walk : Walk) : Type 0 where

@@ -1,4 +1,4 @@
--- Windows of signals: how they move behind a gate, and how several become one.
+-- Windows of signals: how they move after a gate, and how several become one.
 use Rattle.std.specs.Prelude.{Bool, false, if◌then◌else◌, ◌≡◌, ◌<◌, ◌≤◌, ◌+◌, ◌*◌, ◌^◌, ℕ, pos, ◌+ℤ◌, ◌*ℤ◌, List, length, take, Contains, Option, Some, None, nat_abs, slice_get, slice_index_or}
 use Rattle.std.specs.Option.{option_map, option_map_or}
 use Rattle.std.specs.Int.{int_min, int_max}
@@ -13,9 +13,9 @@ use Rattle.path_delays.specs.declared.window.Window.{Window}
 use Rattle.path_delays.specs.Reaches.{IsChain}
 use Rattle.path_delays.specs.Windows.{window_along, IsHullIfAny, IsWindowBelow}
 
--- the window behind a delay
-abbrev pub window_behind : (scale : ℕ) → Sums → Window → Window
-window_behind scale delay window = record {
+-- the window after a delay
+abbrev pub window_after : (scale : ℕ) → Sums → Window → Window
+window_after scale delay window = record {
   earliest = window.earliest +ℤ (pos scale *ℤ delay.least);
   latest = window.latest +ℤ (pos scale *ℤ delay.greatest);
 }
@@ -42,12 +42,12 @@ abbrev pub ComesFrom : List (Option Window) → List ℕ → Window → Type 0
 ComesFrom windows signals window =
     (signal : ℕ) × Contains signals signal × (window_at windows signal ≡ Some window)
 
--- the hull of what a gate reads, behind the gate's delay
+-- the hull of what a gate reads, after the gate's delay
 pub record IsGateWindow (windows : List (Option Window)) (reads : List ℕ) (scale : ℕ) (delay : Sums)
     (found : Option Window) : Type 0 where
   pub read : Option Window
   pub hull : IsHullIfAny (ComesFrom windows reads) read
-  pub behind : found ≡ option_map (window_behind scale delay) read
+  pub suffix : found ≡ option_map (window_after scale delay) read
 
 -- a signal that the register captures has this window
 abbrev pub ComesCaptured : Circuit → List (Option Window) → ℕ → Window → Type 0

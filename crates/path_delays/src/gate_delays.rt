@@ -1,5 +1,5 @@
 ghost use Rattle.std.specs.Prelude.{◌≡◌, ◌≤◌, ◌<◌, ◌+ℤ◌, ◌*ℤ◌, pos, IsTrue, IfOk, length, map};
-ghost use Rattle.cts_model.specs.Kinds.{is_gate, is_lawful};
+ghost use Rattle.cts_model.specs.Kinds.{is_gate, is_valid};
 ghost use Rattle.cts_model.specs.Kinds as places;
 ghost use Rattle.cts_model.specs.Delays.{delay_of};
 ghost use Rattle.cts_model.specs.Tables.{IsGateDelay, IsWithin};
@@ -28,7 +28,7 @@ pub(crate) fn gate_delays(
 
 /// The least and the greatest delay of a signal, 0 if it is no gate.
 pub(crate) fn gate_delay(tech: &Tech, signal: &Signal) -> Sums
-    requires { IsTrue (is_lawful signal.now.kind (length signal.now.fan_in)) }
+    requires { IsTrue (is_valid signal.now.kind (length signal.now.fan_in)) }
     ensures { result ≡ gate_sums tech.now signal.now }
 {
     if !signal.kind.is_gate() {

@@ -63,7 +63,7 @@ fn waits(waiting: &[u32], number: u32) -> bool
 // Turns a ring so that its lowest number comes first.
 fn turn_to_lowest(ring: &mut [u32])
     requires { 0 < length ring.old }
-    ensures turned { (place : ℕ) × (ring.new ≡ drop place ring.old ++ take place ring.old) }
+    ensures rotated { (place : ℕ) × (ring.new ≡ drop place ring.old ++ take place ring.old) }
     ensures lowest { All (λ gate. slice_index ring.new 0 ≤ gate) ring.new }
 {
     ring.rotate_left(place_of_lowest(ring));

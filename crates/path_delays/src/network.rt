@@ -13,7 +13,7 @@ use std::alloc::Global;
 pub(crate) struct Network {
     /// The gates that read each signal, each as often as it reads it.
     pub(crate) readers: Groups,
-    /// The gates, each behind those that it reads.
+    /// The gates, each after those that it reads.
     pub(crate) order: Vec<u32>,
     /// For each signal its place in the order, counted from 1, or 0 where it is no gate.
     pub(crate) ranks: Vec<u32>,

@@ -20,7 +20,7 @@ pub(crate) struct Reach {
 impl Reach {
     ghost use Rattle.path_delays.specs.declared.sums.Sums.{Sums};
     ghost use Rattle.path_delays.specs.SumParts.{AreWithin, delay_limit};
-    ghost use Rattle.path_delays.specs.Handing.{AreHanded, HasRoom, IsCleared, IsHanded, IsHandedOn, IsMarked, IsSameRoom, IsStarted, delay_at, sums_at};
+    ghost use Rattle.path_delays.specs.Handing.{AreHanded, HasReachRoom, IsCleared, IsHanded, IsHandedOn, IsMarked, IsSameRoom, IsStarted, delay_at, sums_at};
 
     /// Nothing reached yet, with room for so many signals and gates.
     pub(crate) fn new(alloc: Global, signals: u32, gates: u32) -> Result<Reach, NoMemory>
@@ -63,11 +63,11 @@ impl Reach {
 
     /// Reaches a signal, and hands the sums to its readers.
     pub(crate) fn start(&mut self, network: &Network, signal: u32, sums: Sums)
-        requires room { HasRoom network.now self.old }
+        requires room { HasReachRoom network.now self.old }
         requires signal { signal < length network.now.ranks.items }
         requires sums { AreWithin delay_limit sums }
         ensures started { IsStarted network.now signal sums self.old self.new }
-        ensures room { HasRoom network.now self.new }
+        ensures room { HasReachRoom network.now self.new }
     {
         self.mark(signal, sums);
         self.hand_on(network, signal);
@@ -75,13 +75,13 @@ impl Reach {
 
     /// Hands the sums to a signal to each gate that reads it.
     pub(crate) fn hand_on(&mut self, network: &Network, signal: u32)
-        requires room { HasRoom network.now self.old }
+        requires room { HasReachRoom network.now self.old }
         requires signal { signal < length network.now.ranks.items }
         requires reached { IsSome (sums_at self.old signal) }
         requires small { (given : Sums)
             → sums_at self.old signal ≡ Some given → AreWithin delay_limit given }
         ensures on { IsHandedOn network.now signal self.old self.new }
-        ensures room { HasRoom network.now self.new }
+        ensures room { HasReachRoom network.now self.new }
     {
         let given = self.sums_at(signal).unwrap();
         for gate in network.readers.group(signal as usize) {
@@ -91,7 +91,7 @@ impl Reach {
 
     // Hands sums to a gate: it keeps the least and the greatest of those that come.
     fn hand_to(&mut self, network: &Network, gate: u32, given: Sums)
-        requires room { HasRoom network.now self.old }
+        requires room { HasReachRoom network.now self.old }
         requires gate { gate < length network.now.ranks.items }
         requires given { AreWithin delay_limit given }
         ensures { IsHanded network.now given gate self.old self.new }

@@ -11,7 +11,7 @@ impl Sums {
     ghost use Rattle.path_delays.specs.SumParts.{AreWithin, delay_limit, merged_sums, sums_through};
     ghost use Rattle.path_delays.specs.ExtremePaths.{extreme_of};
 
-    /// The sums behind one more gate.
+    /// The sums after one more gate.
     pub(crate) fn through(self, delay: Sums) -> Sums
         requires sums { AreWithin delay_limit self }
         requires delay { AreWithin delay_limit delay }

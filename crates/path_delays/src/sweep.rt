@@ -1,6 +1,6 @@
 ghost use Rattle.std.specs.Prelude.{◌≡◌, ◌<◌, ◌≤◌, ◌+◌, ◌*◌, ◌^◌, ℕ, if◌then◌else◌, All, IfOk, IsTrue, Some, length, nat_abs, slice_get, slice_set};
 ghost use Rattle.cts_model.specs.Kinds as kinds;
-ghost use Rattle.cts_model.specs.Kinds.{is_gate, is_lawful};
+ghost use Rattle.cts_model.specs.Kinds.{is_gate, is_valid};
 ghost use Rattle.cts_model.specs.Tables.{IsWithin};
 ghost use Rattle.path_delays.specs.declared.window.Window.{Window};
 ghost use Rattle.path_delays.specs.LevelParts.{IsLevelsOf};
@@ -90,7 +90,7 @@ fn started(tech: &Tech, schedule: &Schedule, from: usize) -> Window
         earliest: at,
         latest: at,
     };
-    edge.behind(start_sums(tech), schedule.den)
+    edge.suffix(start_sums(tech), schedule.den)
 }
 
 // Starts at each input.
@@ -157,17 +157,17 @@ fn gate_window(
     scale: i128,
 ) -> Option<Window>
     requires gate { IsTrue (is_gate gate.now.kind) }
-    requires lawful { IsTrue (is_lawful gate.now.kind (length gate.now.fan_in)) }
+    requires valid_inputs { IsTrue (is_valid gate.now.kind (length gate.now.fan_in)) }
     requires reads { All (λ number. number < length windows.now) gate.now.fan_in }
     requires scale { IsWithin 1 4097 scale }
     requires small { AreBelow (2 * 10 ^ 19) windows.now }
-    ensures behind { IsGateWindow windows.now gate.now.fan_in (nat_abs scale)
+    ensures suffix { IsGateWindow windows.now gate.now.fan_in (nat_abs scale)
         (gate_sums tech.now gate.now) result }
     ensures small { (bound : ℕ) (window : Window) → AreBelow bound windows.now
         → result ≡ Some window → IsWindowBelow (bound + 10 ^ 10) window }
 {
     let read = merged_windows(windows, gate.fan_in.as_slice())?;
-    Some(read.behind(gate_delay(tech, gate), scale))
+    Some(read.suffix(gate_delay(tech, gate), scale))
 }
 
 // The window over some signals.

@@ -75,18 +75,18 @@ impl Walk {
 
 impl Reach {
     ghost use Rattle.path_delays.specs.Networks.{IsNetworkOf};
-    ghost use Rattle.path_delays.specs.Handing.{HasRoom, IsCleared, IsStarted, sums_at};
+    ghost use Rattle.path_delays.specs.Handing.{HasReachRoom, IsCleared, IsStarted, sums_at};
     ghost use Rattle.path_delays.specs.Reaches.{IsReach};
     ghost use Rattle.path_delays.specs.Walking.{IsReachedBelow};
 
     // Reaches all that a register reaches: each gate hands on its sums when no lower rank waits.
     fn reach_all(&mut self, network: &Network, circuit: &Circuit, tech: &Tech, from: u32)
         requires network { IsNetworkOf circuit.now tech.now network.now }
-        requires room { HasRoom network.now self.old }
+        requires room { HasReachRoom network.now self.old }
         requires from { from < length circuit.now.registers }
         ensures reach { (signal : ℕ)
             → IsReach circuit.now tech.now from signal (sums_at self.new signal) }
-        ensures room { HasRoom network.now self.new }
+        ensures room { HasReachRoom network.now self.new }
     {
         self.clear();
         self.launch(network, circuit, tech, from);
@@ -100,11 +100,11 @@ impl Reach {
     // Starts at all that a register launches: its own signal, or for the host each input.
     fn launch(&mut self, network: &Network, circuit: &Circuit, tech: &Tech, from: u32)
         requires network { IsNetworkOf circuit.now tech.now network.now }
-        requires room { HasRoom network.now self.old }
+        requires room { HasReachRoom network.now self.old }
         requires clear { IsCleared self.old }
         requires from { from < length circuit.now.registers }
         ensures reached { IsReachedBelow circuit.now tech.now from network.now 1 self.new }
-        ensures room { HasRoom network.now self.new }
+        ensures room { HasReachRoom network.now self.new }
     {
         if is_host(circuit.register_signal(from as usize).kind) {
             self.start_inputs(network, circuit, tech, from);
@@ -117,12 +117,12 @@ impl Reach {
     // Starts at each input.
     fn start_inputs(&mut self, network: &Network, circuit: &Circuit, tech: &Tech, from: u32)
         requires network { IsNetworkOf circuit.now tech.now network.now }
-        requires room { HasRoom network.now self.old }
+        requires room { HasReachRoom network.now self.old }
         requires clear { IsCleared self.old }
         requires host { (number : ℕ)
             → Launches circuit.now from number ↔ IsInput circuit.now number }
         ensures reached { IsReachedBelow circuit.now tech.now from network.now 1 self.new }
-        ensures room { HasRoom network.now self.new }
+        ensures room { HasReachRoom network.now self.new }
     {
         let sums = start_sums(tech);
         for (number, signal) in circuit.signals.as_slice().iter().enumerate() {
@@ -132,12 +132,12 @@ impl Reach {
 
     // Starts at a signal, if it is an input.
     fn start_input(&mut self, network: &Network, kind: Kind, number: u32, sums: Sums)
-        requires room { HasRoom network.now self.old }
+        requires room { HasReachRoom network.now self.old }
         requires number { number < length network.now.ranks.items }
         requires sums { AreWithin delay_limit sums }
         ensures started { MatchBool (kinds.is_input kind)
             (IsStarted network.now number sums self.old self.new) (self.new ≡ self.old) }
-        ensures room { HasRoom network.now self.new }
+        ensures room { HasReachRoom network.now self.new }
     {
         if is_input(kind) {
             self.start(network, number, sums);

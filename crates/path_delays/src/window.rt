@@ -16,14 +16,14 @@ pub struct Window {
 impl Window {
     ghost use Rattle.path_delays.specs.SumParts.{AreWithin};
     ghost use Rattle.path_delays.specs.Windows.{IsWindowBelow};
-    ghost use Rattle.path_delays.specs.WindowParts.{either_window, merged_windows, window_behind};
+    ghost use Rattle.path_delays.specs.WindowParts.{either_window, merged_windows, window_after};
 
-    /// The window behind a delay in ticks.
-    pub(crate) fn behind(self, delay: Sums, scale: i128) -> Window
+    /// The window after a delay in ticks.
+    pub(crate) fn suffix(self, delay: Sums, scale: i128) -> Window
         requires window { IsWindowBelow (2 * 10 ^ 19) self }
         requires delay { AreWithin 2024000 delay }
         requires scale { IsWithin 1 4097 scale }
-        ensures behind { result ≡ window_behind (nat_abs scale) delay self }
+        ensures suffix { result ≡ window_after (nat_abs scale) delay self }
         ensures small { (bound : ℕ) → IsWindowBelow bound self
             → IsWindowBelow (bound + 10 ^ 10) result }
     {
@@ -55,7 +55,7 @@ impl Window {
     }
 }
 
-// A time, and ticks behind it.
+// A time, and ticks after it.
 fn later(time: i128, ticks: i128) -> i128
     requires time { IsBelow (2 * 10 ^ 19) time }
     requires ticks { IsWithin 0 8292328000 ticks }

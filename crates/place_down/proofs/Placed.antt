@@ -13,7 +13,7 @@ use Rattle.cts_model.specs.declared.tree.Show.{Show}
 use Rattle.cts_model.specs.declared.tree.Show.TheVariants.{Root}
 use Rattle.cts_model.specs.ChosenPlaces.{AreChosen, IsSourceReach}
 use Rattle.cts_model.specs.Embeddings.{IsEmbedding, embedding_of}
-use Rattle.cts_model.specs.Points.{apart, IsBelow, IsMultipleOf, IsUvBelow, IsUvMultipleOf, scaled, turned, turned_distance}
+use Rattle.cts_model.specs.Points.{apart, IsBelow, IsMultipleOf, IsUvBelow, IsUvMultipleOf, scaled, rotated, rotated_distance}
 use Rattle.cts_model.specs.Regions.{InRegion, IsReach}
 use Rattle.cts_model.specs.ShownReaches.{AreShownBy, ShowsMerge, ShowsSource}
 use Rattle.cts_model.specs.Sinks.{AreTreeSinks}
@@ -154,7 +154,7 @@ parent_high topology node parent (inl (place, is, found)) = omega (arith, is)
 parent_high topology node parent (inr (is_root, is)) = omega (arith, is, topology.all)
 
 -- no distance leaves one point
-one_place : (a b : Uv) (far less : ℤ) → far ≡ less → turned_distance a b ≤ℤ (far -ℤ pos 1 *ℤ less)
+one_place : (a b : Uv) (far less : ℤ) → far ≡ less → rotated_distance a b ≤ℤ (far -ℤ pos 1 *ℤ less)
     → b ≡ a
 one_place a b far less same near =
     let u = no_way a.u b.u a.v b.v far less same near in
@@ -190,10 +190,10 @@ module _ {sinks : List Sink} {merges : List Merge} (are : AreTreeSinks sinks)
   }
 
   -- the source stands
-  source_at : turned (point_of first (source_of (length sinks))) ≡ source
-  source_at = subst (λ n. turned (point_of first (source_of n)) ≡ source) merged.count
-      (ap (λ work. turned (point_of work (source_of old.sinks))) placed.rest
-      ∙ ap turned (get_or-set_same old.tree.place (source_of old.sinks) placed.point origin
+  source_at : rotated (point_of first (source_of (length sinks))) ≡ source
+  source_at = subst (λ n. rotated (point_of first (source_of n)) ≡ source) merged.count
+      (ap (λ work. rotated (point_of work (source_of old.sinks))) placed.rest
+      ∙ ap rotated (get_or-set_same old.tree.place (source_of old.sinks) placed.point origin
       (omega (arith, fit, merged.count, are.some)))
       ∙ placed.stands)
 
@@ -263,7 +263,7 @@ module _ {sinks : List Sink} {merges : List Merge} (are : AreTreeSinks sinks)
         (subst (λ node. StandsBelow sinks merges second node (source_of (length sinks)))
         (sym is_root) root_stands)
 
-    -- so merges may come one behind the other
+    -- so merges may come one after the other
     pub root_stand : StandFrom sinks merges (length merges) second
     root_stand = record {
       fit = settled.placed.fit;
@@ -288,8 +288,8 @@ module _ {sinks : List Sink} {merges : List Merge} (are : AreTreeSinks sinks)
           stand.each node parent below (parent_high topology node parent below)
 
       -- the source stands where it did
-      source_stands : turned (point_of new (source_of (length sinks))) ≡ source
-      source_stands = ap turned (subst (λ n. point_of new (source_of n)
+      source_stands : rotated (point_of new (source_of (length sinks))) ≡ source
+      source_stands = ap rotated (subst (λ n. point_of new (source_of n)
           ≡ point_of first (source_of n)) first_kept.count all_above.source) ∙ source_at
 
       -- the source's reach and show, and the root's reach, are those found
@@ -336,8 +336,8 @@ module _ {sinks : List Sink} {merges : List Merge} (are : AreTreeSinks sinks)
 
       -- and so is where it stands
       place_at : (node : ℕ) → node < length new.tree.place
-          → IsUvBelow (5 * 10 ^ 31) (turned (point_of new node))
-          × IsUvMultipleOf 4 (turned (point_of new node))
+          → IsUvBelow (5 * 10 ^ 31) (rotated (point_of new node))
+          × IsUvMultipleOf 4 (rotated (point_of new node))
       place_at node within = elim (cases_lt node (source_of (length sinks))) [
         | inl below ↦
             let parent = has_parent topology node below in
@@ -348,12 +348,12 @@ module _ {sinks : List Sink} {merges : List Merge} (are : AreTreeSinks sinks)
             let reach = subst (λ z. IsReach (sinks_below sinks merges node) (z +ℤ z)) (sym same)
             held.is_reach in
             let low = place_of_node are topology node (reach_in new.tree node)
-            (turned (point_of new node)) below reach stands.chosen.within in
+            (rotated (point_of new node)) below reach stands.chosen.within in
             (low, stands.multiple)
         | inr high ↦
             let last : node ≡ source_of (length sinks) =
             omega (arith, high, within, stand.fit, stand.merged.count, are.some) in
-            let same = ap (λ n. turned (point_of new n)) last ∙ source_stands in (
+            let same = ap (λ n. rotated (point_of new n)) last ∙ source_stands in (
               subst (IsUvBelow (5 * 10 ^ 31)) (sym same) source_near,
               subst (IsUvMultipleOf 4) (sym same) source_multiple,
             )
@@ -402,9 +402,9 @@ module _ {sinks : List Sink} {merges : List Merge} (are : AreTreeSinks sinks)
             below_more (omega arith) small);
         reach_multiples = λ node default within. subst (IsMultipleOf 4)
             (get_or_any new.tree.reach node (pos 0) default within) (reach_at node within).1;
-        places = λ node default within. subst (λ point. IsUvBelow (5 * 10 ^ 31) (turned point))
+        places = λ node default within. subst (λ point. IsUvBelow (5 * 10 ^ 31) (rotated point))
             (get_or_any new.tree.place node origin default within) (place_at node within).0;
-        place_multiples = λ node default within. subst (λ point. IsUvMultipleOf 4 (turned point))
+        place_multiples = λ node default within. subst (λ point. IsUvMultipleOf 4 (rotated point))
             (get_or_any new.tree.place node origin default within) (place_at node within).1;
         lengths = λ node default within. subst IsEdgeLength
             (get_or_any new.tree.length node (pos 0) default within)
@@ -438,7 +438,7 @@ module _ {sinks : List Sink} {merges : List Merge} (are : AreTreeSinks sinks)
 
       -- a sink stands at its place
       sink_stands : (register : ℕ) (sink : Sink) → slice_get sinks register ≡ Some sink
-          → turned (point_of new register) ≡ scaled 1 sink.at
+          → rotated (point_of new register) ≡ scaled 1 sink.at
       sink_stands register sink here =
           let within = slice_get_within sinks register sink here in
           let parent = has_parent topology register (omega (arith, within)) in
@@ -446,9 +446,9 @@ module _ {sinks : List Sink} {merges : List Merge} (are : AreTreeSinks sinks)
           let reach = get_or_from_slice_get new.tree.reach register sink.offset (pos 0)
           (stand.merged.of_sinks register sink here).reach in
           let region = subst (λ set. InRegion set 1 (reach_in new.tree register)
-          (turned (point_of new register))) (sinks_below-sink sinks merges register sink here)
+          (rotated (point_of new register))) (sinks_below-sink sinks merges register sink here)
           stands.chosen.within in
-          one_place (scaled 1 sink.at) (turned (point_of new register))
+          one_place (scaled 1 sink.at) (rotated (point_of new register))
           (reach_in new.tree register) sink.offset reach (region sink (contains_itself sink))
 
       -- so the tree embeds the topology

@@ -11,7 +11,7 @@ use Rattle.cts_model.specs.declared.place.Sink.{Sink}
 use Rattle.cts_model.specs.declared.place.Uv.{Uv}
 use Rattle.cts_model.specs.declared.tree.Merge.{Merge}
 use Rattle.cts_model.specs.ChosenPlaces.{IsChosenPlace, IsSourceReach}
-use Rattle.cts_model.specs.Points.{IsBelow, IsMultipleOf, IsPointBelow, IsUvBelow, apart, scaled, turned, turned_distance}
+use Rattle.cts_model.specs.Points.{IsBelow, IsMultipleOf, IsPointBelow, IsUvBelow, apart, scaled, rotated, rotated_distance}
 use Rattle.cts_model.specs.Regions.{InRegion, IsReach}
 use Rattle.cts_model.specs.Sinks.{AreTreeSinks, IsTreeSink}
 use Rattle.cts_model.specs.Topologies.{IsTopology, Joins, sinks_below, source_of}
@@ -37,7 +37,7 @@ apart_over_one : (a b : ℤ) → apart (pos 1 *ℤ a) b ≡ apart b a
 apart_over_one a b = rw (over_one a) (omega (arith, ints, clamps))
 
 -- and so for two points
-distance_over_one : (a b : Uv) → turned_distance (scaled 1 a) b ≡ turned_distance b a
+distance_over_one : (a b : Uv) → rotated_distance (scaled 1 a) b ≡ rotated_distance b a
 distance_over_one a b = rw (apart_over_one a.u b.u, apart_over_one a.v b.v) refl
 
 -- no axis is further than the distance
@@ -58,8 +58,8 @@ pub point_below_more : {small large : ℕ} {at : Uv} → small ≤ large → IsU
 point_below_more wider below =
     record { u = below_more wider below.u; v = below_more wider below.v }
 
--- a point by its turned coordinates, with the room that a sum needs
-pub point_below : (point : Point) → IsUvBelow (10 ^ 32) (turned point)
+-- a point by its rotated coordinates, with the room that a sum needs
+pub point_below : (point : Point) → IsUvBelow (10 ^ 32) (rotated point)
     → IsPointBelow (10 ^ 32) point
 point_below point below = record {
   x = record {
@@ -130,7 +130,7 @@ region_of_part part whole radius at among region = λ sink in_part. region sink 
 pub chosen_near : (set : List Sink) (rect : Rect) (own wide : ℤ) (at found : Uv)
     → IsReach set (own +ℤ own) → IsRegion rect set own → InRegion set 1 wide at
     → IsNearest rect at found
-    → IsChosenPlace set own at found × (turned_distance at found ≤ℤ (wide -ℤ own))
+    → IsChosenPlace set own at found × (rotated_distance at found ≤ℤ (wide -ℤ own))
 chosen_near set rect own wide at found reach region within nearest =
     let room = (region_has_point set (own +ℤ own) 1 wide reach).0 (at, within) in
     let wider : own ≤ℤ wide = omega (arith, ints, room) in

@@ -1,4 +1,4 @@
--- How far the source reaches, one sink behind the other.
+-- How far the source reaches, one sink after the other.
 use Rattle.std.proofs.Common.{◌≡◌, ℕ, ◌*◌, ◌^◌, inl, inr, ℤ, pos, ◌+ℤ◌, ◌-ℤ◌, ◌≤ℤ◌, ◌<ℤ◌, List, [], ◌∷◌, ◌++◌, Some, slice_get, refl, sym, subst, true, false, cond, int_lt, arith}
 use Rattle.std.specs.List.{Contains}
 use Rattle.std.proofs.lemmas.Int.{ints, clamps}
@@ -8,7 +8,7 @@ use Rattle.cts_model.specs.declared.place.Sink.{Sink}
 use Rattle.cts_model.specs.declared.place.Uv.{Uv}
 use Rattle.cts_model.specs.declared.tree.Show.{Show}
 use Rattle.cts_model.specs.declared.tree.Show.TheVariants as shows
-use Rattle.cts_model.specs.Points.{IsBelow, IsMultipleOf, IsUvBelow, apart, turned_distance}
+use Rattle.cts_model.specs.Points.{IsBelow, IsMultipleOf, IsUvBelow, apart, rotated_distance}
 use Rattle.cts_model.specs.Sinks.{IsTreeSink}
 use Rattle.tilted_rect.proofs.ExtremeLemmas.{contains_itself, contains_one}
 use Rattle.place_down.specs.Sources.{IsTop}
@@ -24,7 +24,7 @@ apart_below a b first second = (omega (arith, ints, clamps), omega (arith, ints,
 
 -- and so are two points
 pub distance_below : (a b : Uv) → IsUvBelow (10 ^ 31) a → IsUvBelow (10 ^ 31) b
-    → (pos 0 ≤ℤ turned_distance a b) × (turned_distance a b <ℤ pos (2 * 10 ^ 31))
+    → (pos 0 ≤ℤ rotated_distance a b) × (rotated_distance a b <ℤ pos (2 * 10 ^ 31))
 distance_below a b first second =
     let u = apart_below a.u b.u first.u second.u in
     let v = apart_below a.v b.v first.v second.v in
@@ -44,7 +44,7 @@ apart_multiple a b first second =
 
 -- so the source is less than that far from a sink, with its offset
 pub far_below : (sink : Sink) (source : Uv) → IsTreeSink sink → IsTreeSource source
-    → IsBelow (3 * 10 ^ 31) (sink.offset +ℤ turned_distance source sink.at)
+    → IsBelow (3 * 10 ^ 31) (sink.offset +ℤ rotated_distance source sink.at)
 far_below sink source placed from =
     let way = distance_below source sink.at from.below placed.at_below in
     let offset = placed.offset_below in
@@ -52,12 +52,12 @@ far_below sink source placed from =
 
 -- by a multiple of 8
 pub far_multiple : (sink : Sink) (source : Uv) → IsTreeSink sink → IsTreeSource source
-    → IsMultipleOf 8 (sink.offset +ℤ turned_distance source sink.at)
+    → IsMultipleOf 8 (sink.offset +ℤ rotated_distance source sink.at)
 far_multiple sink source placed from =
     let way = greater_multiple (apart source.u sink.at.u) (apart source.v sink.at.v)
     (apart_multiple source.u sink.at.u from.multiple.u placed.at_multiple.u)
     (apart_multiple source.v sink.at.v from.multiple.v placed.at_multiple.v) in
-    sum_of sink.offset (turned_distance source sink.at) placed.offset_multiple way
+    sum_of sink.offset (rotated_distance source sink.at) placed.offset_multiple way
   where
     sum_of : (a b : ℤ) → IsMultipleOf 8 a → IsMultipleOf 8 b → IsMultipleOf 8 (a +ℤ b)
     sum_of a b first second = omega (arith, ints)
@@ -91,18 +91,18 @@ top_first sinks source root below multiple = record {
 
 -- a sink's distance with its offset
 abbrev far : (source : Uv) → Sink → ℤ
-far source sink = sink.offset +ℤ turned_distance source sink.at
+far source sink = sink.offset +ℤ rotated_distance source sink.at
 
 module _ {sinks first : List Sink} {source : Uv} {root : ℤ} {top : Top} (sink : Sink)
     (held : IsTop sinks first source root top) where
   -- what reaches all the first sinks and the next one reaches all of them
   reaches_each : (reach : ℤ) → top.reach ≤ℤ reach → far source sink ≤ℤ reach → (other : Sink)
       → Contains (first ++ sink ∷ []) other
-      → (other.offset +ℤ turned_distance source other.at) ≤ℤ reach
+      → (other.offset +ℤ rotated_distance source other.at) ≤ℤ reach
   reaches_each reach more near other among =
       elim (Contains-append_cases first (sink ∷ []) other among) [
         | inl before ↦ omega (arith, ints, held.reach.each other before)
-        | inr last ↦ subst (λ (one : Sink). (one.offset +ℤ turned_distance source one.at) ≤ℤ reach)
+        | inr last ↦ subst (λ (one : Sink). (one.offset +ℤ rotated_distance source one.at) ≤ℤ reach)
             (contains_one sink other last) near
       ]
 

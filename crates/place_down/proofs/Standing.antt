@@ -10,14 +10,14 @@ use Rattle.cts_model.specs.declared.place.Uv.{Uv}
 use Rattle.cts_model.specs.declared.tree.Merge.{Merge}
 use Rattle.cts_model.specs.ChosenPlaces.{IsChosenPlace}
 use Rattle.cts_model.specs.Embeddings.{embedding_of}
-use Rattle.cts_model.specs.Points.{IsBelow, IsMultipleOf, IsUvBelow, IsUvMultipleOf, turned, turned_distance}
+use Rattle.cts_model.specs.Points.{IsBelow, IsMultipleOf, IsUvBelow, IsUvMultipleOf, rotated, rotated_distance}
 use Rattle.cts_model.specs.Regions.{InRegion, IsReach}
 use Rattle.cts_model.specs.Sinks.{AreTreeSinks}
 use Rattle.cts_model.specs.Topologies.{IsTopology, IsParent, Joins, sinks_below, source_of}
 use Rattle.cts_model.proofs.ParentLemmas.{made_parent, has_parent, parent_above, one_parent}
-use Rattle.cts_model.proofs.PointLemmas.{distance-turned}
+use Rattle.cts_model.proofs.PointLemmas.{distance-rotated}
 use Rattle.cts_model.proofs.TopologyLemmas.{first_made, second_made}
-use Rattle.merge_up.specs.Merging.{IsMerged, IsPlaced}
+use Rattle.merge_up.specs.Merging.{IsMerged, IsNodeSettled}
 use Rattle.merge_up.specs.Works.{WorkState, IsFit}
 use Rattle.tilted_rect.specs.Rects.{IsNearest}
 use Rattle.place_down.specs.Descents.{CanSettle, IsSettledBelow, StandFrom, StandsBelow, StaysAbove}
@@ -39,12 +39,12 @@ length_of work node = (embedding_of work.tree).length node
 -- ---- one node placed
 
 module _ {node : ℕ} {at : Uv} {long : ℤ} {old new : WorkState}
-    (placed : IsPlaced node at long old new) where
+    (placed : IsNodeSettled node at long old new) where
   -- it stands there
-  placed_at : node < length old.tree.place → turned (point_of new node) ≡ at
+  placed_at : node < length old.tree.place → rotated (point_of new node) ≡ at
   placed_at within =
-      ap (λ work. turned (point_of work node)) placed.rest
-      ∙ ap turned (get_or-set_same old.tree.place node placed.point origin within)
+      ap (λ work. rotated (point_of work node)) placed.rest
+      ∙ ap rotated (get_or-set_same old.tree.place node placed.point origin within)
       ∙ placed.stands
 
   -- its edge has that length
@@ -173,7 +173,7 @@ module _ {sinks : List Sink} {merges : List Merge} (are : AreTreeSinks sinks)
   pub settled_stands : {node : ℕ} {reach : ℤ} {at : Uv} {old new : WorkState} (parent : ℕ)
       → IsFit old → IsMerged sinks merges old → IsSettledBelow node reach at old new
       → node < source_of (length sinks) → node < parent → reach_in old.tree parent ≡ reach
-      → turned (point_of old parent) ≡ at → InRegion (sinks_below sinks merges node) 1 reach at
+      → rotated (point_of old parent) ≡ at → InRegion (sinks_below sinks merges node) 1 reach at
       → StandsBelow sinks merges new node parent
   settled_stands {node} {reach} {at} {old} {new} parent fit merged settled below above parent_reach
       stands within =
@@ -192,33 +192,33 @@ module _ {sinks : List Sink} {merges : List Merge} (are : AreTreeSinks sinks)
       let in_lengths : node < length old.tree.length = omega (arith, fit, all, below) in
       let in_settled : node < length old.settled = omega (arith, fit, all, below) in
       let place = placed_at settled.placed in_places in
-      let above_place = ap turned (placed_other settled.placed parent
+      let above_place = ap rotated (placed_other settled.placed parent
       (λ same. omega (arith, above, same))) ∙ stands in
       let own = placed_reach settled.placed node
       ∙ get_or_from_slice_get old.tree.reach node held.reach (pos 0) held.reach_held in
       let wide = placed_reach settled.placed parent ∙ parent_reach in
       let long = placed_length settled.placed in_lengths ∙ ap (λ z. reach -ℤ z) same_reach in
       let set = sinks_below sinks merges node in
-      let way = distance-turned (point_of new parent) (point_of new node)
-      ∙ ap (λ z. turned_distance z (turned (point_of new node))) above_place
-      ∙ ap (turned_distance at) place in
+      let way = distance-rotated (point_of new parent) (point_of new node)
+      ∙ ap (λ z. rotated_distance z (rotated (point_of new node))) above_place
+      ∙ ap (rotated_distance at) place in
       record {
-        chosen = subst (λ z. IsChosenPlace set z (turned (point_of new parent))
-            (turned (point_of new node))) (sym own)
-            (subst (λ z. IsChosenPlace set held.reach z (turned (point_of new node)))
+        chosen = subst (λ z. IsChosenPlace set z (rotated (point_of new parent))
+            (rotated (point_of new node))) (sym own)
+            (subst (λ z. IsChosenPlace set held.reach z (rotated (point_of new node)))
             (sym above_place) (subst (λ z. IsChosenPlace set held.reach at z) (sym place)
             chosen.0));
         multiple = subst (IsUvMultipleOf 4) (sym place) settled.multiple;
         length = rw (own, wide) long;
         near = subst (λ z. z ≤ℤ length_of new node) (sym way)
-            (subst (λ z. turned_distance at settled.found ≤ℤ z) (sym long) chosen.1);
+            (subst (λ z. rotated_distance at settled.found ≤ℤ z) (sym long) chosen.1);
         settled = placed_settled settled.placed in_settled;
       }
 
   -- what a node needs whose children get their places: where it stands, and its reach
   pub record IsReady (work : WorkState) (parent : ℕ) (reach : ℤ) (at : Uv) : Type 0 where
     pub reach_is : reach_in work.tree parent ≡ reach
-    pub stands : turned (point_of work parent) ≡ at
+    pub stands : rotated (point_of work parent) ≡ at
     pub small : IsBelow (10 ^ 32) reach
     pub below : IsUvBelow (10 ^ 32) at
     pub multiple : IsUvMultipleOf 4 at
@@ -249,7 +249,7 @@ module _ {sinks : List Sink} {merges : List Merge} (are : AreTreeSinks sinks)
       → StandFrom sinks merges (place + 1) work
       → slice_get work.tree.reach (length sinks + place) ≡ Some reach
       → slice_get work.tree.place (length sinks + place) ≡ Some point
-      → IsReady work (length sinks + place) reach (turned point)
+      → IsReady work (length sinks + place) reach (rotated point)
   ready {work} place reach point within stand reach_held point_held =
       let node = length sinks + place in
       let below : node < source_of (length sinks) = omega (arith, topology.all) in
@@ -265,10 +265,10 @@ module _ {sinks : List Sink} {merges : List Merge} (are : AreTreeSinks sinks)
       let small = reach_of_node are topology node reach is_reach in
       let point_is = get_or_from_slice_get work.tree.place node point origin point_held in
       let region = rw (reach_is, point_is) at stands.chosen.within in
-      let low = place_of_node are topology node reach (turned point) below is_reach region in
+      let low = place_of_node are topology node reach (rotated point) below is_reach region in
       record {
         reach_is = reach_is;
-        stands = ap turned point_is;
+        stands = ap rotated point_is;
         small = below_more (omega arith) small.0;
         below = point_below_more (omega arith) low;
         multiple = rw point_is at stands.multiple;
@@ -342,7 +342,7 @@ module _ {sinks : List Sink} {merges : List Merge} (are : AreTreeSinks sinks)
       second_stands = settled_stands (length sinks + place) first.placed.fit first_merged second
           (omega (arith, second_low, place_low)) second_low
           (placed_reach first.placed (length sinks + place) ∙ is.reach_is)
-          (ap turned (placed_other first.placed (length sinks + place)
+          (ap rotated (placed_other first.placed (length sinks + place)
           (λ same. omega (arith, same, first_low))) ∙ is.stands)
           (region_of_joined are topology place merge merge.second reach at here (inr refl)
           is.within)

@@ -5,9 +5,9 @@ use Rattle.cts_model.specs.declared.place.Uv.{Uv}
 use Rattle.cts_model.specs.declared.tree.Merge.{Merge}
 use Rattle.cts_model.specs.ChosenPlaces.{IsChosenPlace}
 use Rattle.cts_model.specs.Embeddings.{embedding_of}
-use Rattle.cts_model.specs.Points.{IsBelow, IsUvBelow, IsUvMultipleOf, distance, turned}
+use Rattle.cts_model.specs.Points.{IsBelow, IsUvBelow, IsUvMultipleOf, distance, rotated}
 use Rattle.cts_model.specs.Topologies.{IsParent, sinks_below, source_of}
-use Rattle.merge_up.specs.Merging.{IsMerged, IsPlaced}
+use Rattle.merge_up.specs.Merging.{IsMerged, IsNodeSettled}
 use Rattle.merge_up.specs.Works.{WorkState, IsFit}
 use Rattle.tilted_rect.specs.Rects.{IsNearest}
 use Rattle.tilted_rect.specs.declared.rect.Rect.{Rect}
@@ -31,15 +31,15 @@ pub record IsSettledBelow (node : ℕ) (reach : ℤ) (at : Uv) (old new : WorkSt
   pub region_held : slice_get old.regions node ≡ Some region
   pub nearest : IsNearest region at found
   pub multiple : IsUvMultipleOf 4 found
-  pub placed : IsPlaced node found (reach -ℤ own) old new
+  pub placed : IsNodeSettled node found (reach -ℤ own) old new
 
 -- the node stands at its chosen place below its parent's, and its edge is long enough
 pub record StandsBelow (sinks : List Sink) (merges : List Merge) (work : WorkState)
     (node parent : ℕ) : Type 0 where
   pub chosen : IsChosenPlace (sinks_below sinks merges node) (reach_in work.tree node)
-      (turned ((embedding_of work.tree).place parent))
-      (turned ((embedding_of work.tree).place node))
-  pub multiple : IsUvMultipleOf 4 (turned ((embedding_of work.tree).place node))
+      (rotated ((embedding_of work.tree).place parent))
+      (rotated ((embedding_of work.tree).place node))
+  pub multiple : IsUvMultipleOf 4 (rotated ((embedding_of work.tree).place node))
   pub length : (embedding_of work.tree).length node
       ≡ reach_in work.tree parent -ℤ reach_in work.tree node
   pub near : distance ((embedding_of work.tree).place parent)

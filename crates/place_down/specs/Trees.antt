@@ -9,7 +9,7 @@ use Rattle.cts_model.specs.declared.tree.Show.TheVariants.{Root}
 use Rattle.cts_model.specs.declared.tree.Tree.{Tree}
 use Rattle.cts_model.specs.ChosenPlaces.{AreChosen, IsSourceReach}
 use Rattle.cts_model.specs.Embeddings.{IsEmbedding, embedding_of}
-use Rattle.cts_model.specs.Points.{IsBelow, IsMultipleOf, IsUvBelow, IsUvMultipleOf, turned}
+use Rattle.cts_model.specs.Points.{IsBelow, IsMultipleOf, IsUvBelow, IsUvMultipleOf, rotated}
 use Rattle.cts_model.specs.ShownReaches.{AreReaches, AreShownBy}
 use Rattle.cts_model.specs.Topologies.{root_of, source_of}
 use Rattle.merge_up.specs.Works.{WorkState}
@@ -43,12 +43,12 @@ pub record IsEdgeLength (length : ℤ) : Type 0 where
   pub multiple : IsMultipleOf 4 length
 
 -- the numbers of a tree stay below 10^32, and its places so far below that detours do too; places
--- are whole numbers of 4 grid steps in turned coordinates, and so are distances
+-- are whole numbers of 4 grid steps in rotated coordinates, and so are distances
 pub record HasTreeNumbers (tree : Tree) : Type 0 where
   pub reaches : All (IsBelow (10 ^ 32)) tree.reach
   pub reach_multiples : All (IsMultipleOf 4) tree.reach
-  pub places : All (λ place. IsUvBelow (5 * 10 ^ 31) (turned place)) tree.place
-  pub place_multiples : All (λ place. IsUvMultipleOf 4 (turned place)) tree.place
+  pub places : All (λ place. IsUvBelow (5 * 10 ^ 31) (rotated place)) tree.place
+  pub place_multiples : All (λ place. IsUvMultipleOf 4 (rotated place)) tree.place
   pub lengths : All IsEdgeLength tree.length
 
 -- the reaches, regions and shows of sinks and merges stay, and so does the count of renewals

@@ -1,6 +1,6 @@
 ghost use Rattle.std.specs.Prelude.{◌≡◌, ◌*◌, ◌^◌, ◌++◌, [], ◌∷◌, ℤ, ◌+ℤ◌, List, Some, slice_get};
 ghost use Rattle.cts_model.specs.declared.place.Sink.{Sink};
-ghost use Rattle.cts_model.specs.Points.{IsBelow, IsMultipleOf, turned, turned_distance};
+ghost use Rattle.cts_model.specs.Points.{IsBelow, IsMultipleOf, rotated, rotated_distance};
 ghost use Rattle.cts_model.specs.Sinks.{AreTreeSinks, IsTreeSink};
 ghost use Rattle.place_down.specs.Sources.{IsTop};
 ghost use Rattle.place_down.specs.Trees.{IsTreeSource};
@@ -41,10 +41,10 @@ impl Top {
     // With one more sink, at that distance from the source.
     fn further(self, register: u32, sink: Sink, source: Point) -> Top
         requires sink { IsTreeSink sink }
-        requires source { IsTreeSource (turned source) }
+        requires source { IsTreeSource (rotated source) }
         ensures { (sinks first : List Sink) (root : ℤ) → slice_get sinks register ≡ Some sink
-            → IsTop sinks first (turned source) root self
-            → IsTop sinks (first ++ sink ∷ []) (turned source) root result }
+            → IsTop sinks first (rotated source) root self
+            → IsTop sinks (first ++ sink ∷ []) (rotated source) root result }
     {
         let reach = reach_to(source, sink);
         if reach <= self.reach {
@@ -60,8 +60,8 @@ impl Top {
 // How far the source is from a sink, with the sink's offset.
 fn reach_to(source: Point, sink: Sink) -> i128
     requires sink { IsTreeSink sink }
-    requires source { IsTreeSource (turned source) }
-    ensures value { result ≡ sink.offset +ℤ turned_distance (turned source) sink.at }
+    requires source { IsTreeSource (rotated source) }
+    ensures value { result ≡ sink.offset +ℤ rotated_distance (rotated source) sink.at }
     ensures below { IsBelow (3 * 10 ^ 31) result }
     ensures multiple { IsMultipleOf 8 result }
 {

@@ -6,5 +6,5 @@ mod PlacePush
 mod PlaceWalk
 mod RegisterPlaces
 mod TakenLines
-mod ToldPlaces
+mod DenotedPlaces
 pub mod OneFault

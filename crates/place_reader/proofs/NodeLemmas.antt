@@ -6,10 +6,10 @@ use Rattle.std.specs.Str.{bytes_eq}
 use Rattle.std.proofs.Math.Bool.{or-false, or_assoc}
 use Rattle.std.proofs.lemmas.Bool.Decides.{nat_tests}
 use Rattle.std.proofs.lemmas.List.Folds.{list_any-append}
-use Rattle.cts_model.specs.PlaceLines.{Node, Entry, Blank, Header, Stands, entry_behind, entry_of_words, has_begun, is_header, is_not_blank, node_of, place_words}
+use Rattle.cts_model.specs.PlaceLines.{Node, Entry, Blank, Header, Stands, entry_after, entry_of_words, has_begun, is_header, is_not_blank, node_of, place_words}
 use Rattle.cts_model.specs.Placements.{is_placed, nodes_from, nodes_in, placed_by}
 
--- an item in front of a list in two parts
+-- an item before a list in two parts
 cons_option-append : {X : Type 0} (o : Option X) (xs ys : List X) → cons_option o (xs ++ ys) ≡ cons_option o xs ++ ys
 cons_option-append None xs ys = refl
 cons_option-append (Some x) xs ys = refl
@@ -23,7 +23,7 @@ nodes_from-push begun seen (first ∷ lines) line so =
     let node = placed_by (entry_of_words begun (place_words first)) in
     ap (cons_option node) rest ∙ cons_option-append node (nodes_from (begun || is_not_blank first) lines) (cons_option (placed_by (entry_of_words seen (place_words line))) [])
 
-pub nodes_push : (earlier : List (List ℕ)) (line : List ℕ) → nodes_in (earlier ++ line ∷ []) ≡ nodes_in earlier ++ cons_option (placed_by (entry_behind earlier line)) []
+pub nodes_push : (earlier : List (List ℕ)) (line : List ℕ) → nodes_in (earlier ++ line ∷ []) ≡ nodes_in earlier ++ cons_option (placed_by (entry_after earlier line)) []
 nodes_push earlier line = nodes_from-push false (has_begun earlier) earlier line refl
 
 -- one of the lines isn't blank

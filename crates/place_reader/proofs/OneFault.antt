@@ -5,30 +5,30 @@ use Rattle.std.proofs.lemmas.Option.{same_Some}
 use Rattle.cts_base.specs.Lines.{lines_of}
 use Rattle.cts_base.specs.Decimals as numbers
 use Rattle.cts_base.specs.declared.number.NumberFault.{NumberFault}
-use Rattle.cts_base.proofs.ListPlaces.{IsBehind, same_place, same_parts}
+use Rattle.cts_base.proofs.ListPlaces.{IsAfter, same_place, same_parts}
 use Rattle.cts_model.specs.declared.circuit.Circuit.{Circuit}
 use Rattle.cts_model.specs.declared.place.Places.{Places}
-use Rattle.cts_model.specs.PlaceLines.{Node, Entry, Blank, Header, Stands, entry_behind}
+use Rattle.cts_model.specs.PlaceLines.{Node, Entry, Blank, Header, Stands, entry_after}
 use Rattle.cts_model.specs.Placements.{Flaw, HasNodeFlaw, HasEntryFlaw, HasFlaw, AreFlawless, ArePlaced, IsNumber, IsPlacement, AcceptsPlacement, is_among, is_placed, nodes_in, register_nodes, wanted_nodes}
 use Rattle.cts_model.specs.Placements as flaws
 use Rattle.place_reader.specs.declared.fault.PlaceFault.{PlaceFault}
 use Rattle.place_reader.specs.declared.fault.PlaceFault.TheVariants.{BadLine, BadNumber, PlaceTwice, NoPlace, NoSource, NoMemory}
-use Rattle.place_reader.specs.Refusals.{IsFirstFlawed, IsFirstUnplaced, Refuses}
+use Rattle.place_reader.specs.Refusals.{IsFirstFlawed, IsFirstUnplaced, RefusesPlacement}
 use Rattle.place_reader.proofs.NumberFaults.{read_not_refused, one_number_fault}
 
 -- a number has no fault
-number_unrefused : (text : List ℕ) (fault : NumberFault) → IsNumber text → numbers.Refuses text fault → ⊥
+number_unrefused : (text : List ℕ) (fault : NumberFault) → IsNumber text → numbers.RefusesNumber text fault → ⊥
 number_unrefused text fault number refused = read_not_refused text number.0 fault number.1 refused
 
 -- nor have two
-numbers_unrefused : (node : Node) (fault : NumberFault) → IsNumber node.x → IsNumber node.y → numbers.Refuses node.x fault ⊎ (IsNumber node.x × numbers.Refuses node.y fault) → ⊥
+numbers_unrefused : (node : Node) (fault : NumberFault) → IsNumber node.x → IsNumber node.y → numbers.RefusesNumber node.x fault ⊎ (IsNumber node.x × numbers.RefusesNumber node.y fault) → ⊥
 numbers_unrefused node fault x y refused = elim refused [
   | inl first ↦ number_unrefused node.x fault x first
   | inr second ↦ number_unrefused node.y fault y second.1
 ]
 
 -- two numbers have one fault
-one_of_two : (node : Node) (fault other : NumberFault) → numbers.Refuses node.x fault ⊎ (IsNumber node.x × numbers.Refuses node.y fault) → numbers.Refuses node.x other ⊎ (IsNumber node.x × numbers.Refuses node.y other) → fault ≡ other
+one_of_two : (node : Node) (fault other : NumberFault) → numbers.RefusesNumber node.x fault ⊎ (IsNumber node.x × numbers.RefusesNumber node.y fault) → numbers.RefusesNumber node.x other ⊎ (IsNumber node.x × numbers.RefusesNumber node.y other) → fault ≡ other
 one_of_two node fault other first second = elim first [
   | inl x ↦ elim second [
     | inl x' ↦ one_number_fault node.x fault other x x'
@@ -62,7 +62,7 @@ one_node_flaw node placed (Some flaws.PlaceTwice) (Some flaws.PlaceTwice) first 
 
 -- and with a line
 one_flaw : (wanted earlier : List (List ℕ)) (line : List ℕ) (flaw other : Option Flaw) → HasFlaw wanted earlier line flaw → HasFlaw wanted earlier line other → flaw ≡ other
-one_flaw wanted earlier line flaw other first second = at (entry_behind earlier line) first second
+one_flaw wanted earlier line flaw other first second = at (entry_after earlier line) first second
   where
     at : (entry : Option Entry) → HasEntryFlaw wanted earlier entry flaw → HasEntryFlaw wanted earlier entry other → flaw ≡ other
     at None first second = first ∙ sym second
@@ -83,8 +83,8 @@ same_unplaced : (nodes : List Node) (names : List (List ℕ)) (number other : �
 same_unplaced nodes names number other first second = elim (cases_lt number other) [
   | inl before ↦ absurd (not_both (is_placed nodes first.name) (second.before number first.name before first.here) first.unplaced)
   | inr not_before ↦ elim (cases_lt other number) [
-    | inl behind ↦ absurd (not_both (is_placed nodes second.name) (first.before other second.name behind second.here) second.unplaced)
-    | inr not_behind ↦ omega arith
+    | inl suffix ↦ absurd (not_both (is_placed nodes second.name) (first.before other second.name suffix second.here) second.unplaced)
+    | inr not_after ↦ omega arith
   ]
 ]
 
@@ -113,16 +113,16 @@ module _ (text : List ℕ) (circuit : Circuit) (source host : List ℕ) where
   not_among number flaw first flawless =
       none_differs flaw (one_flaw wanted first.earlier first.line None (Some flaw) (flawless.each first.earlier first.line first.place.later first.place.split) first.flawed)
 
-  -- a first flawed line isn't behind another
-  not_behind : (number other : ℕ) (flaw other_flaw : Flaw) (first : IsFirstFlawed wanted text number flaw) (second : IsFirstFlawed wanted text other other_flaw) → IsBehind first.earlier second.earlier first.line → ⊥
-  not_behind number other flaw other_flaw first second found =
+  -- a first flawed line isn't after another
+  not_after : (number other : ℕ) (flaw other_flaw : Flaw) (first : IsFirstFlawed wanted text number flaw) (second : IsFirstFlawed wanted text other other_flaw) → IsAfter first.earlier second.earlier first.line → ⊥
+  not_after number other flaw other_flaw first second found =
       none_differs flaw (one_flaw wanted first.earlier first.line None (Some flaw) (second.flawless.each first.earlier first.line found.between found.split) first.flawed)
 
   module _ (number other : ℕ) (flaw other_flaw : Flaw) (first : IsFirstFlawed wanted text number flaw) (second : IsFirstFlawed wanted text other other_flaw) where
     -- two first flawed lines have as many lines before them
     place : length first.earlier ≡ length second.earlier
     place = same_place first.earlier first.line first.place.later second.earlier second.line second.place.later (sym first.place.split ∙ second.place.split)
-        (not_behind number other flaw other_flaw first second) (not_behind other number other_flaw flaw second first)
+        (not_after number other flaw other_flaw first second) (not_after other number other_flaw flaw second first)
 
     -- so they have one number
     same_number : number ≡ other
@@ -133,7 +133,7 @@ module _ (text : List ℕ) (circuit : Circuit) (source host : List ℕ) where
     same_flaw =
         let parts = same_parts first.earlier first.line first.place.later second.earlier second.line second.place.later (sym first.place.split ∙ second.place.split) place in
         let flawed : HasFlaw wanted second.earlier second.line (Some flaw) =
-        subst (λ line. HasFlaw wanted second.earlier line (Some flaw)) parts.same_item (subst (λ earlier. HasFlaw wanted earlier first.line (Some flaw)) parts.same_front first.flawed) in
+        subst (λ line. HasFlaw wanted second.earlier line (Some flaw)) parts.same_item (subst (λ earlier. HasFlaw wanted earlier first.line (Some flaw)) parts.same_prefix first.flawed) in
         same_Some flaw other_flaw (one_flaw wanted second.earlier second.line (Some flaw) (Some other_flaw) flawed second.flawed)
 
   -- a line with a flaw is the fault
@@ -144,7 +144,7 @@ module _ (text : List ℕ) (circuit : Circuit) (source host : List ℕ) where
     fault_is : fault_at number flaw ≡ fault
 
   -- a fault is one of a line, or no line has a flaw
-  flawed_or_not : (fault : PlaceFault) → fault ≢ NoMemory → Refuses text circuit source host fault → IsLineFlaw fault ⊎ AreFlawless wanted (lines_of text)
+  flawed_or_not : (fault : PlaceFault) → fault ≢ NoMemory → RefusesPlacement text circuit source host fault → IsLineFlaw fault ⊎ AreFlawless wanted (lines_of text)
   flawed_or_not (BadLine number) named first = inl (record { number = number; flaw = flaws.BadLine; first = first; fault_is = refl })
   flawed_or_not (BadNumber number fault) named first = inl (record { number = number; flaw = flaws.BadNumber fault; first = first; fault_is = refl })
   flawed_or_not (PlaceTwice number) named first = inl (record { number = number; flaw = flaws.PlaceTwice; first = first; fault_is = refl })
@@ -153,7 +153,7 @@ module _ (text : List ℕ) (circuit : Circuit) (source host : List ℕ) where
   flawed_or_not NoMemory named free = absurd (named refl)
 
   -- where no line has a flaw there is one fault
-  one_later_fault : (fault other : PlaceFault) → AreFlawless wanted (lines_of text) → Refuses text circuit source host fault → Refuses text circuit source host other → fault ≢ NoMemory → other ≢ NoMemory → fault ≡ other
+  one_later_fault : (fault other : PlaceFault) → AreFlawless wanted (lines_of text) → RefusesPlacement text circuit source host fault → RefusesPlacement text circuit source host other → fault ≢ NoMemory → other ≢ NoMemory → fault ≡ other
   one_later_fault (BadLine number) other flawless first cause named named' = absurd (not_among number _ first flawless)
   one_later_fault (BadNumber number fault) other flawless first cause named named' = absurd (not_among number _ first flawless)
   one_later_fault (PlaceTwice number) other flawless first cause named named' = absurd (not_among number _ first flawless)
@@ -168,7 +168,7 @@ module _ (text : List ℕ) (circuit : Circuit) (source host : List ℕ) where
   one_later_fault NoSource NoSource flawless none none' named named' = refl
 
   -- a text has one fault
-  one_fault : (fault other : PlaceFault) → fault ≢ NoMemory → other ≢ NoMemory → Refuses text circuit source host fault → Refuses text circuit source host other → fault ≡ other
+  one_fault : (fault other : PlaceFault) → fault ≢ NoMemory → other ≢ NoMemory → RefusesPlacement text circuit source host fault → RefusesPlacement text circuit source host other → fault ≡ other
   one_fault fault other named named' cause cause' = elim (flawed_or_not fault named cause) [
     | inr flawless ↦ one_later_fault fault other flawless cause cause' named named'
     | inl line ↦ elim (flawed_or_not other named' cause') [
@@ -181,7 +181,7 @@ module _ (text : List ℕ) (circuit : Circuit) (source host : List ℕ) where
   ]
 
   -- a placement has none
-  pub no_fault : (fault : PlaceFault) → IsPlacement text circuit source host → Refuses text circuit source host fault → fault ≡ NoMemory
+  pub no_fault : (fault : PlaceFault) → IsPlacement text circuit source host → RefusesPlacement text circuit source host fault → fault ≡ NoMemory
   no_fault (BadLine number) placement first = absurd (not_among number _ first placement.flawless)
   no_fault (BadNumber number fault) placement first = absurd (not_among number _ first placement.flawless)
   no_fault (PlaceTwice number) placement first = absurd (not_among number _ first placement.flawless)
@@ -190,13 +190,13 @@ module _ (text : List ℕ) (circuit : Circuit) (source host : List ℕ) where
   no_fault NoMemory placement free = refl
 
   -- an answer that names only faults that are there accepts each placement
-  pub accepts_each : (result : Result Places PlaceFault) → IfErr result (Refuses text circuit source host) → IsPlacement text circuit source host → IsOkUnless result NoMemory
+  pub accepts_each : (result : Result Places PlaceFault) → IfErr result (RefusesPlacement text circuit source host) → IsPlacement text circuit source host → IsOkUnless result NoMemory
   accepts_each (Ok places) cause placement = tt
   accepts_each (Err fault) cause placement = no_fault fault placement cause
 
   -- and one that accepts only placements names each fault
-  pub names_each : (result : Result Places PlaceFault) → IfOk result (AcceptsPlacement text circuit source host) → IfErr result (Refuses text circuit source host)
-      → (fault : PlaceFault) → fault ≢ NoMemory → Refuses text circuit source host fault → IsErrAnd result (λ found. (found ≡ fault) ⊎ (found ≡ NoMemory))
+  pub names_each : (result : Result Places PlaceFault) → IfOk result (AcceptsPlacement text circuit source host) → IfErr result (RefusesPlacement text circuit source host)
+      → (fault : PlaceFault) → fault ≢ NoMemory → RefusesPlacement text circuit source host fault → IsErrAnd result (λ found. (found ≡ fault) ⊎ (found ≡ NoMemory))
   names_each (Ok places) accepts cause fault named refuses = absurd (named (no_fault fault accepts.placement refuses))
   names_each (Err found) accepts cause fault named refuses = elim (memory_or_not found) [
     | inl memory ↦ inr memory

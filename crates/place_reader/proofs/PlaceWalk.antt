@@ -48,7 +48,7 @@ module _ {wanted : List (List ℕ)} {text : List ℕ} {left more : List (ℕ × 
       → ((names earlier : List (List ℕ)) → HasTaken names old earlier → IsLineFault names earlier line fault)
       → ((earlier : List (List ℕ)) → IsLine text number earlier line → AreFlawless wanted earlier → IsLineFault wanted earlier line fault → RefusesLine wanted text refusal)
       → RefusesLine wanted text refusal
-  refuses_next fault refusal before some judged tells = tells before.passed (next_line number line more before.walk some).place before.flawless (judged wanted before.passed before.has)
+  refuses_next fault refusal before some judged denotes = denotes before.passed (next_line number line more before.walk some).place before.flawless (judged wanted before.passed before.has)
 
 module _ {wanted : List (List ℕ)} {text : List ℕ} {left : List (ℕ × List ℕ)} {placing : Placing} where
   -- at the end

@@ -21,17 +21,17 @@ slice_get-take (suc n) (x ∷ xs) zero below = refl
 slice_get-take (suc n) (x ∷ xs) (suc k) below = slice_get-take n xs k (omega arith)
 
 module _ (placed : List (List ℕ × Point)) where
-  -- a name whose place is told has one
+  -- a name whose place is given has one
   pub placed_at : (points : List Point) (names : List (List ℕ)) → map Some points ≡ map (place_of placed) names → (k : ℕ) (name : List ℕ) → slice_get names k ≡ Some name → is_some (place_of placed name) ≡ true
-  placed_at points names told k name here =
-      at (slice_get points k) (sym (slice_get-map Some points k) ∙ ap (λ l. slice_get l k) told ∙ slice_get-map (place_of placed) names k ∙ ap (option_map (place_of placed)) here)
+  placed_at points names denoted k name here =
+      at (slice_get points k) (sym (slice_get-map Some points k) ∙ ap (λ l. slice_get l k) denoted ∙ slice_get-map (place_of placed) names k ∙ ap (option_map (place_of placed)) here)
     where
       at : (o : Option Point) → option_map Some o ≡ Some (place_of placed name) → is_some (place_of placed name) ≡ true
       at None same = cc
       at (Some point) same = let found : Some point ≡ place_of placed name = cc same in ap is_some (sym found)
 
   module _ (names : List (List ℕ)) (place : ℕ) (name : List ℕ) (points : List Point) (here : slice_get names place ≡ Some name) (before : map Some points ≡ map (place_of placed) (take place names)) where
-    -- the next place is told
+    -- the next place is given
     pub points_next : (new : List Point) (point : Point) → place_of placed name ≡ Some point → new ≡ points ++ point ∷ [] → map Some new ≡ map (place_of placed) (take (place + 1) names)
     points_next new point found put =
         ap (map Some) put ∙ map_push Some points point ∙ ap (λ l. l ++ Some point ∷ []) before ∙ ap (λ o. map (place_of placed) (take place names) ++ o ∷ []) (sym found)
@@ -48,10 +48,10 @@ module _ (placed : List (List ℕ × Point)) where
 
   -- the nodes stand at these points
   pub stand_at : (wanted : List (List ℕ)) (nodes : List Node) → HasPlaces wanted placed nodes → (points : List Point) (names : List (List ℕ)) → map Some points ≡ map (place_of placed) names → StandAt nodes names points
-  stand_at wanted nodes has [] [] told = tt
-  stand_at wanted nodes has [] (name ∷ names) told = cc
-  stand_at wanted nodes has (point ∷ points) [] told = cc
-  stand_at wanted nodes has (point ∷ points) (name ∷ names) told =
-      let first : Some point ≡ place_of placed name = cc told in
-      let rest : map Some points ≡ map (place_of placed) names = cc told in
+  stand_at wanted nodes has [] [] denoted = tt
+  stand_at wanted nodes has [] (name ∷ names) denoted = cc
+  stand_at wanted nodes has (point ∷ points) [] denoted = cc
+  stand_at wanted nodes has (point ∷ points) (name ∷ names) denoted =
+      let first : Some point ≡ place_of placed name = cc denoted in
+      let rest : map Some points ≡ map (place_of placed) names = cc denoted in
       (has.stands name point (sym first), stand_at wanted nodes has points names rest)

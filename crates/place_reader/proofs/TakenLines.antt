@@ -2,7 +2,7 @@
 use Rattle.std.proofs.Common.{◌≡◌, ℕ, Bool, true, false, ◌||◌, MatchBool, List, [], ◌∷◌, ◌++◌, Option, Some, None, is_some, Result, Ok, Err, MatchResult, refl, sym, ap, ◌∙◌, subst, append-nil}
 use Rattle.std.specs.List.{cons_option}
 use Rattle.std.proofs.Math.Bool.{or-false, or-true}
-use Rattle.cts_model.specs.PlaceLines.{Node, Entry, Blank, Header, Stands, entry_behind, entry_of_words, has_begun, is_not_blank, place_words}
+use Rattle.cts_model.specs.PlaceLines.{Node, Entry, Blank, Header, Stands, entry_after, entry_of_words, has_begun, is_not_blank, place_words}
 use Rattle.cts_model.specs.Placements.{Flaw, HasEntryFlaw, HasFlaw, HasNodeFlaw, is_among, is_placed, nodes_in, placed_by}
 use Rattle.cts_model.specs.Placements as flaws
 use Rattle.place_reader.specs.declared.entry.Node as code
@@ -25,17 +25,17 @@ stands_differs node same = cc
 
 module _ (wanted earlier : List (List ℕ)) (line : List ℕ) (old : Placing) (has : HasTaken wanted old earlier) where
   module _ (entry : Option Entry) (read : entry_of_words old.begun (place_words line) ≡ entry) where
-    -- the line is this behind those before it
-    behind : entry_behind earlier line ≡ entry
-    behind = ap (λ b. entry_of_words b (place_words line)) (sym has.begun) ∙ read
+    -- the line is this after those before it
+    suffix : entry_after earlier line ≡ entry
+    suffix = ap (λ b. entry_of_words b (place_words line)) (sym has.begun) ∙ read
 
     -- so this is what may be wrong with it
     flaw_is : (flaw : Option Flaw) → HasEntryFlaw wanted earlier entry flaw → HasFlaw wanted earlier line flaw
-    flaw_is flaw judged = subst (λ e. HasEntryFlaw wanted earlier e flaw) (sym behind) judged
+    flaw_is flaw judged = subst (λ e. HasEntryFlaw wanted earlier e flaw) (sym suffix) judged
 
     -- and its node comes last
     nodes_are : nodes_in (earlier ++ line ∷ []) ≡ nodes_in earlier ++ cons_option (placed_by entry) []
-    nodes_are = nodes_push earlier line ∙ ap (λ e. nodes_in earlier ++ cons_option (placed_by e) []) behind
+    nodes_are = nodes_push earlier line ∙ ap (λ e. nodes_in earlier ++ cons_option (placed_by e) []) suffix
 
     -- a line without a node leaves the places as they are
     places_stay : placed_by entry ≡ None → HasPlaces wanted old.placed (nodes_in (earlier ++ line ∷ []))
@@ -118,15 +118,15 @@ module _ (wanted earlier : List (List ℕ)) (line : List ℕ) (old : Placing) (h
 
       -- what is wrong with a node's line is wrong with the line
       line_fault : (fault : LineFault) → IsNodeFault mid node fault → IsLineFault wanted earlier line fault
-      line_fault BadLine told = absurd told
-      line_fault (BadNumber fault) told = node_flaw_is (Some (flaws.BadNumber fault)) (sym among_is ∙ told.0) told.1
-      line_fault PlaceTwice told =
-          let among : is_among wanted node.name.now ≡ true = sym among_is ∙ told.0 in
-          node_flaw_is (Some flaws.PlaceTwice) among ((told.1.0.x, told.1.1.x), (told.1.0.y, told.1.1.y), sym (known among) ∙ told.2)
-      line_fault NoMemory told = tt
+      line_fault BadLine denoted = absurd denoted
+      line_fault (BadNumber fault) denoted = node_flaw_is (Some (flaws.BadNumber fault)) (sym among_is ∙ denoted.0) denoted.1
+      line_fault PlaceTwice denoted =
+          let among : is_among wanted node.name.now ≡ true = sym among_is ∙ denoted.0 in
+          node_flaw_is (Some flaws.PlaceTwice) among ((denoted.1.0.x, denoted.1.1.x), (denoted.1.0.y, denoted.1.1.y), sym (known among) ∙ denoted.2)
+      line_fault NoMemory denoted = tt
 
       -- so the judgement of a node's line is that of the line
       pub node_judged : {T : Type 0} (new : Placing) (result : Result T LineFault) → MatchResult result (λ _. TakesNode mid new node) (IsNodeFault mid node)
           → MatchResult result (λ _. HasFlaw wanted earlier line None × HasTaken wanted new (earlier ++ line ∷ [])) (IsLineFault wanted earlier line)
       node_judged new (Ok done) takes = line_taken new takes
-      node_judged new (Err fault) told = line_fault fault told
+      node_judged new (Err fault) denoted = line_fault fault denoted

@@ -1,6 +1,6 @@
 -- The coordinates of a node's line.
 use Rattle.std.specs.Prelude.{◌⊎◌}
-use Rattle.cts_base.specs.Decimals.{IsRead, Refuses}
+use Rattle.cts_base.specs.Decimals.{IsRead, RefusesNumber}
 use Rattle.cts_base.specs.declared.number.NumberFault.{NumberFault}
 use Rattle.cts_model.specs.declared.place.Point.{Point}
 use Rattle.cts_model.specs.Placements.{IsNumber}
@@ -14,4 +14,4 @@ pub record IsPointOf (node : Node) (point : Point) : Type 0 where
 -- x is refused so, or else y
 abbrev pub IsPointFault : Node → NumberFault → Type 0
 IsPointFault node fault =
-    Refuses node.x.now fault ⊎ (IsNumber node.x.now × Refuses node.y.now fault)
+    RefusesNumber node.x.now fault ⊎ (IsNumber node.x.now × RefusesNumber node.y.now fault)

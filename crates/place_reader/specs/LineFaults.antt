@@ -10,7 +10,7 @@ use Rattle.place_reader.specs.declared.fault.PlaceFault.TheVariants as faults
 use Rattle.place_reader.specs.Refusals.{IsFirstFlawed}
 use Rattle.place_reader.specs.Known.{IsFirstWithout}
 
--- the line has this fault behind the lines before it; memory may run out at any
+-- the line has this fault after the lines before it; memory may run out at any
 abbrev pub IsLineFault : (wanted earlier : List (List ℕ)) → List ℕ → LineFault → Type 0
 IsLineFault wanted earlier line BadLine = HasFlaw wanted earlier line (Some flaws.BadLine)
 IsLineFault wanted earlier line (BadNumber fault) =

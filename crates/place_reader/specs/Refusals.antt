@@ -40,13 +40,13 @@ pub record HasNoSource (text : List ℕ) (circuit : Circuit) (source host : List
   pub unplaced : IsFalse (is_placed (nodes_in (lines_of text)) source)
 
 -- the fault that a text has; memory may run out at any text
-abbrev pub Refuses : List ℕ → Circuit → (source host : List ℕ) → PlaceFault → Type 0
-Refuses text circuit source host (BadLine number) =
+abbrev pub RefusesPlacement : List ℕ → Circuit → (source host : List ℕ) → PlaceFault → Type 0
+RefusesPlacement text circuit source host (BadLine number) =
     IsFirstFlawed (wanted_nodes circuit source host) text number flaws.BadLine
-Refuses text circuit source host (BadNumber number fault) =
+RefusesPlacement text circuit source host (BadNumber number fault) =
     IsFirstFlawed (wanted_nodes circuit source host) text number (flaws.BadNumber fault)
-Refuses text circuit source host (PlaceTwice number) =
+RefusesPlacement text circuit source host (PlaceTwice number) =
     IsFirstFlawed (wanted_nodes circuit source host) text number flaws.PlaceTwice
-Refuses text circuit source host (NoPlace register) = HasNoPlace text circuit source host register
-Refuses text circuit source host NoSource = HasNoSource text circuit source host
-Refuses text circuit source host NoMemory = Unit {0}
+RefusesPlacement text circuit source host (NoPlace register) = HasNoPlace text circuit source host register
+RefusesPlacement text circuit source host NoSource = HasNoSource text circuit source host
+RefusesPlacement text circuit source host NoMemory = Unit {0}

@@ -2,7 +2,7 @@ ghost use Rattle.std.specs.Prelude.{◌≡◌, ◌≢◌, ◌≤◌, ◌⊎◌, 
 ghost use Rattle.cts_model.specs.Hosts.{HasNoHost};
 ghost use Rattle.cts_model.specs.Placements.{IsPlacement, AcceptsPlacement, register_nodes};
 ghost use Rattle.place_reader.specs.declared.fault.PlaceFault.{PlaceFault};
-ghost use Rattle.place_reader.specs.Refusals.{Refuses};
+ghost use Rattle.place_reader.specs.Refusals.{RefusesPlacement};
 ghost use Rattle.place_reader.specs.LineFaults.{RefusesRegister};
 ghost use Rattle.place_reader.specs.Known.{place_of};
 
@@ -30,16 +30,16 @@ pub fn read_places(
     ensures accepted { IsPlacement bytes.now circuit.now source.now host.now
         → IsOkUnless result PlaceFault.NoMemory }
     // A fault comes exactly where the bytes have it; memory alone is free.
-    ensures refused { IfErr result (Refuses bytes.now circuit.now source.now host.now) }
+    ensures refused { IfErr result (RefusesPlacement bytes.now circuit.now source.now host.now) }
     ensures faulty { (fault : PlaceFault) → fault ≢ PlaceFault.NoMemory
-        → Refuses bytes.now circuit.now source.now host.now fault
+        → RefusesPlacement bytes.now circuit.now source.now host.now fault
         → IsErrAnd result (λ found. (found ≡ fault) ⊎ (found ≡ PlaceFault.NoMemory)) }
 {
-    places_told(alloc, bytes, circuit, source, host)
+    places_denoted(alloc, bytes, circuit, source, host)
 }
 
 // The places, or the first fault.
-fn places_told(
+fn places_denoted(
     alloc: Global,
     bytes: &[u8],
     circuit: &Circuit,
@@ -48,7 +48,7 @@ fn places_told(
 ) -> Result<Places, PlaceFault>
     requires { length bytes.now ≤ 16777216 }
     ensures ok { IfOk result (AcceptsPlacement bytes.now circuit.now source.now host.now) }
-    ensures refused { IfErr result (Refuses bytes.now circuit.now source.now host.now) }
+    ensures refused { IfErr result (RefusesPlacement bytes.now circuit.now source.now host.now) }
 {
     let wanted = NodeNames::wanted(alloc, circuit, source, host)?;
     let placed = read_nodes(alloc, bytes, wanted)?;

@@ -4,7 +4,7 @@ ghost use Rattle.cts_model.specs.PlaceLines.{begins_with, is_orientation, part_a
 
 use cts_base::Words;
 
-/// Whether what is left of a word and the words behind it may stand behind y.
+/// Whether what is left of a word and the words after it may stand after y.
 pub(crate) fn is_tail<'a>(part: &'a [u8], mut words: Words<'a>) -> bool
     ensures { result ≡ is_tail (part_and part.now words.entry) }
 {
@@ -18,7 +18,7 @@ pub(crate) fn is_tail<'a>(part: &'a [u8], mut words: Words<'a>) -> bool
     }
 }
 
-// Whether what is left of a word and the words behind it may stand behind a colon.
+// Whether what is left of a word and the words after it may stand after a colon.
 fn is_oriented<'a>(part: &'a [u8], mut words: Words<'a>) -> bool
     ensures { result ≡ is_oriented (part_and part.now words.entry) }
 {

@@ -10,7 +10,7 @@ fn read(rt: &impl Abort, alloc: Global, text: &[u8]) -> Result<Circuit, BenchFau
 }
 
 // The number of a fault, and its line if it has one.
-fn told(fault: &BenchFault) -> (u8, u32) {
+fn denoted(fault: &BenchFault) -> (u8, u32) {
     match fault {
         BenchFault::BadLine(line) => (1, *line),
         BenchFault::UnknownKind(line) => (2, *line),
@@ -105,7 +105,7 @@ fn names_the_first_fault(rt: HostRuntime) -> Result<(), Fail> {
         ("a = DFF()", 3, 1),
         ("a = DFF(a, a)", 3, 1),
         ("a = DFF(a)\ng = AND()", 3, 2),
-        // A second definition comes behind a wrong number of inputs.
+        // A second definition comes after a wrong number of inputs.
         ("a = DFF(a)\na = NOT(a)", 4, 2),
         ("a = DFF(a)\na = NOT(a, a)", 3, 2),
         ("INPUT(x)\n\nINPUT(x)", 4, 3),
@@ -124,7 +124,7 @@ fn names_the_first_fault(rt: HostRuntime) -> Result<(), Fail> {
         let fault = read(&rt, rt.alloc(), text.as_bytes())
             .err()
             .ok_or("a fault")?;
-        assert_eq!(rt; told(&fault), (number, line), "at {text:?}");
+        assert_eq!(rt; denoted(&fault), (number, line), "at {text:?}");
     }
     Ok(())
 }
@@ -165,11 +165,11 @@ fn names_a_ring_of_gates(rt: HostRuntime) -> Result<(), Fail> {
     Ok(())
 }
 
-// A first line that names so many bytes, and what stands behind it.
-fn long_name(alloc: Global, length: usize, behind: &str) -> Result<Vec<u8>, Fail> {
+// A first line that names so many bytes, and what stands after it.
+fn long_name(alloc: Global, length: usize, suffix: &str) -> Result<Vec<u8>, Fail> {
     let mut text = Vec::from_slice(alloc, b"INPUT(")?;
     text.extend_from_slice(&vec![in alloc; b'x'; length]?)?;
-    text.extend_from_slice(behind.as_bytes())?;
+    text.extend_from_slice(suffix.as_bytes())?;
     Ok(text)
 }
 

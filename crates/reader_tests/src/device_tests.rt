@@ -3,7 +3,7 @@ ghost use Rattle.std.specs.Prelude.{◌≤◌, IsOk, IsErrOf};
 use cts_base::{Listed, Name, NoMemory};
 use cts_io::{
     Failed, FileOpener, HeldFile, HostInputs, HostSink, Inputs, NeverFails, ReadWhole, StartFault,
-    open_file, read_next, read_whole, write_front, write_whole,
+    open_file, read_next, read_whole, write_prefix, write_whole,
 };
 use std::alloc::Global;
 use std::io;
@@ -26,7 +26,7 @@ const WHOLE: &[Turn] = &[Turn::Gives(9)];
 
 const WORDS: &[u8] = b"abcdef";
 
-// The turns of a stream, and how many of them are over. Behind the last one it gives nothing.
+// The turns of a stream, and how many of them are over. After the last one it gives nothing.
 #[derive(Drop)]
 struct Turns<'a> {
     turns: &'a [Turn],
@@ -119,7 +119,7 @@ fn reads_what_a_stream_gives(rt: HostRuntime) -> Result<(), Fail> {
             &[Turn::Gives(1), INTERRUPTED, INTERRUPTED, Turn::Gives(2)],
             [Ok(1), Ok(2), Ok(0)],
         ),
-        // An error is no end, and what comes behind it is still read.
+        // An error is no end, and what comes after it is still read.
         (
             &[Turn::Gives(3), BROKEN, Turn::Gives(2)],
             [Ok(3), Err(Failed), Ok(2)],
@@ -130,13 +130,13 @@ fn reads_what_a_stream_gives(rt: HostRuntime) -> Result<(), Fail> {
         ),
         (&[], [Ok(0), Ok(0), Ok(0)]),
     ];
-    for (turns, told) in rows {
+    for (turns, denoted) in rows {
         let mut stream = Reader {
             turns: Turns { turns, over: 0 },
             bytes: b"abcdef",
         };
         let mut seen = Vec::new(rt.alloc());
-        for want in told {
+        for want in denoted {
             let mut buffer = [0u8; 4];
             let read = read_next(&mut stream, &mut buffer);
             assert_eq!(rt; read, want, "over {turns:?}");
@@ -149,7 +149,7 @@ fn reads_what_a_stream_gives(rt: HostRuntime) -> Result<(), Fail> {
     Ok(())
 }
 
-// A start over an opener: what it tells, how many calls it made, and what a take gives behind it.
+// A start over an opener: what it gives, how many calls it made, and what a take gives after it.
 #[test]
 fn starts_what_an_opener_gives(rt: HostRuntime) -> Result<(), Fail> {
     let memory = Turn::Errs(ErrorKind::OutOfMemory);
@@ -166,24 +166,24 @@ fn starts_what_an_opener_gives(rt: HostRuntime) -> Result<(), Fail> {
         (&[memory, Turn::Gives(6)], Err(StartFault::NoMemory), 1, 0),
         (&[INTERRUPTED, memory], Err(StartFault::NoMemory), 2, 0),
     ];
-    for (turns, told, calls, given) in rows {
+    for (turns, denoted, calls, given) in rows {
         let mut opener = Opener {
             turns: Turns { turns, over: 0 },
         };
         let opened = open_file(&mut opener, "a");
-        assert_eq!(rt; opened.err(), told.err(), "over {turns:?}");
+        assert_eq!(rt; opened.err(), denoted.err(), "over {turns:?}");
         assert_eq!(rt; opener.turns.over, calls, "over {turns:?}");
         let mut inputs = HostInputs::new(Opener {
             turns: Turns { turns, over: 0 },
         });
         let mut buffer = [0u8; 8];
-        assert_eq!(rt; inputs.start("a"), told, "over {turns:?}");
+        assert_eq!(rt; inputs.start("a"), denoted, "over {turns:?}");
         assert_eq!(rt; inputs.take("a", &mut buffer), Ok(given), "over {turns:?}");
     }
     Ok(())
 }
 
-// A write of a piece: what it tells, what is written, and how many calls it made.
+// A write of a piece: what it gives, what is written, and how many calls it made.
 #[test]
 fn writes_what_a_stream_takes(rt: HostRuntime) -> Result<(), Fail> {
     let rows: [(&str, &[Turn], Result<usize, Failed>, &str, usize); 8] = [
@@ -202,10 +202,10 @@ fn writes_what_a_stream_takes(rt: HostRuntime) -> Result<(), Fail> {
         ("abcdef", &[INTERRUPTED, Turn::Gives(0)], Err(Failed), "", 2),
         ("", &[BROKEN], Ok(0), "", 0),
     ];
-    for (piece, turns, told, written, calls) in rows {
+    for (piece, turns, denoted, written, calls) in rows {
         let mut stream = writer_over(rt.alloc(), turns);
-        let write = write_front(&mut stream, piece.as_bytes());
-        assert_eq!(rt; write, told, "over {turns:?}");
+        let write = write_prefix(&mut stream, piece.as_bytes());
+        assert_eq!(rt; write, denoted, "over {turns:?}");
         assert_eq!(rt;
             stream.written.as_slice(),
             written.as_bytes(),
@@ -218,7 +218,7 @@ fn writes_what_a_stream_takes(rt: HostRuntime) -> Result<(), Fail> {
 
 // The sink of the host over a stream: all of "abcdef", or what was taken before the fault.
 #[test]
-fn sinks_write_on_behind_short_pieces(rt: HostRuntime) -> Result<(), Fail> {
+fn sinks_write_on_after_short_pieces(rt: HostRuntime) -> Result<(), Fail> {
     let rows: [(&[Turn], Result<(), Failed>, &str); 3] = [
         (
             &[Turn::Gives(2), INTERRUPTED, Turn::Gives(3), Turn::Gives(9)],
@@ -228,10 +228,10 @@ fn sinks_write_on_behind_short_pieces(rt: HostRuntime) -> Result<(), Fail> {
         (&[Turn::Gives(2), BROKEN, Turn::Gives(9)], Err(Failed), "ab"),
         (&[Turn::Gives(5), Turn::Gives(0)], Err(Failed), "abcde"),
     ];
-    for (turns, told, written) in rows {
+    for (turns, denoted, written) in rows {
         let mut stream = writer_over(rt.alloc(), turns);
         let all = write_whole(&mut HostSink::new(&mut stream), b"abcdef");
-        assert_eq!(rt; all, told, "over {turns:?}");
+        assert_eq!(rt; all, denoted, "over {turns:?}");
         assert_eq!(rt;
             stream.written.as_slice(),
             written.as_bytes(),

@@ -82,7 +82,7 @@ fn fractions_are_compared(rt: HostRuntime) {
     }
 }
 
-// The bytes behind those that stand there; there is ample memory.
+// The bytes after those that stand there; there is ample memory.
 #[test]
 fn fractions_are_spelled(rt: HostRuntime) -> Result<(), Fail> {
     let rows = [

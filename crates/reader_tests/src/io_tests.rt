@@ -60,9 +60,9 @@ fn reads_whole_files_in_pieces(rt: HostRuntime) -> Result<(), Fail> {
 }
 
 // In pieces of 4 the file is started by call 1, calls 2 to 4 take its bytes, and call 5 finds its
-// end. Where 10 bytes are the limit, call 4 takes the byte behind them. No call comes after these.
+// end. Where 10 bytes are the limit, call 4 takes the byte after them. No call comes after these.
 #[test]
-fn tells_each_read_that_fails(rt: HostRuntime) -> Result<(), Fail> {
+fn denotes_each_read_that_fails(rt: HostRuntime) -> Result<(), Fail> {
     let alloc = rt.alloc();
     for (limit, call, want) in [
         (100, 1, Some(ReadWhole::Failed)),
@@ -84,7 +84,7 @@ fn tells_each_read_that_fails(rt: HostRuntime) -> Result<(), Fail> {
     Ok(())
 }
 
-// What is left behind a file that is too long, whatever the pieces are.
+// What is left after a file that is too long, whatever the pieces are.
 #[test]
 fn reads_one_byte_more_than_the_limit(rt: HostRuntime) -> Result<(), Fail> {
     let alloc = rt.alloc();
@@ -172,7 +172,7 @@ fn opens_exactly_the_named_file(rt: HostRuntime) -> Result<(), Fail> {
     }
     let bytes = read_whole(alloc, &mut inputs, "./cts_io_names/../cts_io_names/a", 20)?;
     assert_eq!(rt; bytes.as_slice(), b"plain".as_slice());
-    // A name that is missing is told twice, so nothing was made of it.
+    // A name that is missing is given twice, so nothing was made of it.
     for name in [
         "a",
         "cts_io_names/b",
@@ -190,7 +190,7 @@ fn opens_exactly_the_named_file(rt: HostRuntime) -> Result<(), Fail> {
 }
 
 #[test]
-fn tells_that_the_host_writes_no_more(rt: HostRuntime) -> Result<(), Fail> {
+fn denotes_that_the_host_writes_no_more(rt: HostRuntime) -> Result<(), Fail> {
     let alloc = rt.alloc();
     let name = "cts_io_test_written.txt";
     let mut sink = HostSink::new(fs::create(&rt, name)?);

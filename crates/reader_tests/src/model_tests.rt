@@ -71,7 +71,7 @@ fn gives_a_circuit_the_host(rt: HostRuntime) -> Result<(), Fail> {
 }
 
 #[test]
-fn tells_which_kinds_are_used(rt: HostRuntime) -> Result<(), Fail> {
+fn denotes_which_kinds_are_used(rt: HostRuntime) -> Result<(), Fail> {
     for (text, used) in [
         ("a = DFF(a)", [false; 8]),
         (

@@ -20,7 +20,7 @@ fn at(x: i128, y: i128) -> Point {
     Point { x, y }
 }
 
-// What a placement tells of the registers and the source of a netlist without a host.
+// What a placement denotes of the registers and the source of a netlist without a host.
 fn read(
     rt: &impl Abort,
     alloc: Global,

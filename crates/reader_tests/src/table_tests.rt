@@ -32,7 +32,7 @@ least = 2
 greatest = 3
 ";
 
-// What a table tells, or the number of its fault and the name.
+// What a table gives, or the number of its fault and the name.
 fn answer(alloc: Global, bytes: &[u8]) -> Result<String, Fail> {
     let (number, name) = match read_tech(alloc, bytes, &USED) {
         Ok(tech) => return table_text(alloc, &tech),
@@ -60,8 +60,8 @@ fn table_text(alloc: Global, tech: &Tech) -> Result<String, Fail> {
 
 // The table with one text in the place of another.
 fn changed(alloc: Global, old: &str, new: &str) -> Result<String, Fail> {
-    let (front, back) = TABLE.split_once(old).ok_or("not in the table")?;
-    Ok(format!(in alloc; "{front}{new}{back}")?)
+    let (prefix, back) = TABLE.split_once(old).ok_or("not in the table")?;
+    Ok(format!(in alloc; "{prefix}{new}{back}")?)
 }
 
 #[test]
@@ -169,8 +169,8 @@ fn answers_each_change_of_the_table(rt: HostRuntime) -> Result<(), Fail> {
     ];
     for (old, new, expected) in rows {
         let text = changed(rt.alloc(), old, new)?;
-        let told = answer(rt.alloc(), text.as_bytes())?;
-        assert_eq!(rt; told.as_str(), expected, "{new:?} for {old:?}");
+        let denoted = answer(rt.alloc(), text.as_bytes())?;
+        assert_eq!(rt; denoted.as_str(), expected, "{new:?} for {old:?}");
     }
     Ok(())
 }
@@ -189,16 +189,16 @@ fn answers_short_tables(rt: HostRuntime) -> Result<(), Fail> {
         ),
     ];
     for (bytes, expected) in rows {
-        let told = answer(rt.alloc(), bytes)?;
-        assert_eq!(rt; told.as_str(), expected);
+        let denoted = answer(rt.alloc(), bytes)?;
+        assert_eq!(rt; denoted.as_str(), expected);
     }
     Ok(())
 }
 
 #[test]
 fn a_gate_that_is_no_table(rt: HostRuntime) -> Result<(), Fail> {
-    let (front, _) = TABLE.split_once("[gate.NOT]").ok_or("not in the table")?;
-    let text = format!(in rt.alloc(); "{front}[gate]\nAND = 1")?;
+    let (prefix, _) = TABLE.split_once("[gate.NOT]").ok_or("not in the table")?;
+    let text = format!(in rt.alloc(); "{prefix}[gate]\nAND = 1")?;
     assert_eq!(rt; answer(rt.alloc(), text.as_bytes())?.as_str(), "3 gate.AND");
     Ok(())
 }

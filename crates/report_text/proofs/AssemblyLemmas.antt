@@ -23,7 +23,7 @@ use Rattle.cts_model.specs.Topologies.{root_of, source_of}
 use Rattle.report_text.specs.declared.sections.Parts.{Parts}
 use Rattle.report_text.specs.Parts.{scale_in}
 use Rattle.report_text.specs.Sections.{merged_line, placed_line, placed_words, timed_line}
-use Rattle.report_text.specs.ToldReports.{AreTold, begin_of, report_told, sink_reach, sink_reaches, sourced_line, told_lines}
+use Rattle.report_text.specs.DenotedReports.{AreDenoted, begin_of, report_denoted, sink_reach, sink_reaches, sourced_line, denoted_lines}
 use Rattle.report_text.proofs.FlawlessReport.{parts_apart}
 use Rattle.report_text.proofs.GridLemmas.{scheduled_size}
 use Rattle.report_text.proofs.WalkLemmas.{lines_same}
@@ -48,9 +48,9 @@ sink_below tech arrival small =
 
 -- ---- the report
 
-module _ (circuit : Circuit) (tech : Tech) (parts : Parts) (are : AreTold circuit parts) where
+module _ (circuit : Circuit) (tech : Tech) (parts : Parts) (are : AreDenoted circuit parts) where
   abbrev report : Report
-  report = report_told tech parts
+  report = report_denoted tech parts
 
   abbrev sinks : List ℤ
   sinks = sink_reaches tech parts.body.timings.at
@@ -62,8 +62,8 @@ module _ (circuit : Circuit) (tech : Tech) (parts : Parts) (are : AreTold circui
   as_many = length-map parts.body.timings.at (sink_reach tech)
 
   -- the lists are as long as the circuit has them
-  pub told_size : IsOfSize circuit report
-  told_size = record {
+  pub denoted_size : IsOfSize circuit report
+  denoted_size = record {
     arrivals = are.timing.at;
     slacks = are.timing.slacks;
     merges = omega (arith, are.tree.merges, some);
@@ -99,8 +99,8 @@ module _ (circuit : Circuit) (tech : Tech) (parts : Parts) (are : AreTold circui
     each_path = are.timing.signals;
   }
 
-  told_timing_bounds : HasTimingBounds report
-  told_timing_bounds = record {
+  denoted_timing_bounds : HasTimingBounds report
+  denoted_timing_bounds = record {
     period = are.timing.period;
     den = refl;
     cycle = are.timing.weights;
@@ -164,20 +164,20 @@ module _ (circuit : Circuit) (tech : Tech) (parts : Parts) (are : AreTold circui
       ap (λ n. get_or parts.body.placed.wires n no_wire) last
       ∙ get_or_from_slice_get parts.body.placed.wires root wire no_wire here in
       let corners = (subst IsSmallWire is root_small).padded.all in
-      let behind : length parts.body.placed.places ≡ source =
+      let suffix : length parts.body.placed.places ≡ source =
       omega (arith, are.tree.places, are.timing.at, some) in
       let begin = begin_of parts.body.placed.wires in
       slice_get-get_or report.tree.place source origin
-      (omega (arith, behind, length_push parts.body.placed.places begin))
-      ∙ ap Some (get_or_push parts.body.placed.places begin origin source behind
+      (omega (arith, suffix, length_push parts.body.placed.places begin))
+      ∙ ap Some (get_or_push parts.body.placed.places begin origin source suffix
       ∙ ap (λ w. get_or w.corners 0 origin) is)
       ∙ sym (slice_get-get_or wire.corners 0 origin (omega (arith, corners)))
 
-  told_tree_bounds : HasTreeBounds tech report
-  told_tree_bounds =
+  denoted_tree_bounds : HasTreeBounds tech report
+  denoted_tree_bounds =
       let same : length parts.body.merged.shows ≡ length parts.body.merged.merges =
       are.tree.shows ∙ sym are.tree.merges in
-      let behind = parts.body.source.show ∷ [] in
+      let suffix = parts.body.source.show ∷ [] in
       record {
         grid = refl;
         merges = are.tree.small_merges;
@@ -190,9 +190,9 @@ module _ (circuit : Circuit) (tech : Tech) (parts : Parts) (are : AreTold circui
         lengths = are.tree.small_lengths;
         wires = are.tree.small_wires;
         total = are.tree.total;
-        merge_shows = subst (All IsMergeShow) (sym (take_at parts.body.merged.shows behind
+        merge_shows = subst (All IsMergeShow) (sym (take_at parts.body.merged.shows suffix
             (length parts.body.merged.merges) same)) are.tree.merge_shows;
-        source_show = subst (All IsSourceShow) (sym (drop_at parts.body.merged.shows behind
+        source_show = subst (All IsSourceShow) (sym (drop_at parts.body.merged.shows suffix
             (length parts.body.merged.merges) same))
             (All-cons IsSourceShow parts.body.source.show [] are.tree.source_show
             (All-nil IsSourceShow));
@@ -201,8 +201,8 @@ module _ (circuit : Circuit) (tech : Tech) (parts : Parts) (are : AreTold circui
       }
 
   -- the numbers are within their bounds
-  pub told_bounds : IsWithinBounds tech report
-  told_bounds = record { timing = told_timing_bounds; tree = told_tree_bounds }
+  pub denoted_bounds : IsWithinBounds tech report
+  denoted_bounds = record { timing = denoted_timing_bounds; tree = denoted_tree_bounds }
 
   -- ---- the lines
 
@@ -238,7 +238,7 @@ module _ (circuit : Circuit) (tech : Tech) (parts : Parts) (are : AreTold circui
   source_same : source_line circuit report ≡ sourced_line circuit grid parts.body.source
   source_same =
       let node = source_of (length parts.body.timings.at) in
-      let behind : length (sinks ++ parts.body.merged.reaches) ≡ node = omega (
+      let suffix : length (sinks ++ parts.body.merged.reaches) ≡ node = omega (
         arith,
         length-append sinks parts.body.merged.reaches,
         as_many,
@@ -247,7 +247,7 @@ module _ (circuit : Circuit) (tech : Tech) (parts : Parts) (are : AreTold circui
         some,
       ) in
       let reach = get_or_push (sinks ++ parts.body.merged.reaches) parts.body.source.reach (pos 0)
-      node behind
+      node suffix
       in
       let show = get_or_push parts.body.merged.shows parts.body.source.show Root
       (length parts.body.merged.merges)
@@ -304,9 +304,9 @@ module _ (circuit : Circuit) (tech : Tech) (parts : Parts) (are : AreTold circui
       ++ (codes "wire" ∷ quotient_text parts.body.total grid ∷ []) ∷ [])
 
   -- the lines of the report are those that tell it
-  pub lines_told : report_lines circuit report
-      ≡ told_lines circuit (scale_in tech parts.heading.period) parts
-  lines_told = ap₂ (λ timing tree. timing ++ tree) timing_same tree_same
+  pub lines_denoted : report_lines circuit report
+      ≡ denoted_lines circuit (scale_in tech parts.heading.period) parts
+  lines_denoted = ap₂ (λ timing tree. timing ++ tree) timing_same tree_same
       ∙ parts_apart (version_line parts.heading.version ∷ period_line parts.heading.period
       ∷ period_show_lines parts.heading.version circuit parts.shown.shown parts.shown.paths)
       (count_line (codes "registers") count

@@ -1,4 +1,4 @@
--- The sections of a report behind what shows its period.
+-- The sections of a report after what shows its period.
 use Rattle.std.proofs.Common.{◌≡◌, ◌≤◌, ◌+◌, ◌-◌, ◌*◌, ℕ, List, [], ◌∷◌, ◌++◌, codes, map, length, subst, append-nil, Option, arith}
 use Rattle.std.specs.List.{range_with_len}
 use Rattle.std.proofs.lemmas.List.{length-replicate}
@@ -23,9 +23,9 @@ use Rattle.report_text.specs.Forms.{lead_forms}
 use Rattle.report_text.specs.ReportFaults.{HasFirstFault}
 use Rattle.report_text.specs.Sections.{HasMerged, HasPlaced, HasTimings, merged_line, placed_line, timed_line}
 use Rattle.report_text.specs.Walks.{Left, Reads, Stops}
-use Rattle.report_text.proofs.WalkLemmas.{read_more, stop_behind, stop_before}
+use Rattle.report_text.proofs.WalkLemmas.{read_more, stop_after, stop_before}
 
--- a fault in one of five sections that are due one behind the other
+-- a fault in one of five sections that are due one after the other
 module _ (circuit : Circuit) (scale : Scale) (a b c d e : List Form) (old : Left)
     (fault : ReportFault) where
   after_fourth : Stops circuit scale (a ++ b ++ c ++ d) old fault
@@ -48,25 +48,25 @@ module _ (circuit : Circuit) (scale : Scale) (a b c d e : List Form) (old : Left
     pub second_stops : Reads circuit scale a lines old between
         → Stops circuit scale b between fault
         → Stops circuit scale (a ++ b ++ c ++ d ++ e) old fault
-    second_stops read stops = after_second (stop_behind read b fault stops)
+    second_stops read stops = after_second (stop_after read b fault stops)
 
     pub third_stops : Reads circuit scale (a ++ b) lines old between
         → Stops circuit scale c between fault
         → Stops circuit scale (a ++ b ++ c ++ d ++ e) old fault
-    third_stops read stops = after_third (stop_behind read c fault stops)
+    third_stops read stops = after_third (stop_after read c fault stops)
 
     pub fourth_stops : Reads circuit scale (a ++ b ++ c) lines old between
         → Stops circuit scale d between fault
         → Stops circuit scale (a ++ b ++ c ++ d ++ e) old fault
-    fourth_stops read stops = after_fourth (stop_behind read d fault stops)
+    fourth_stops read stops = after_fourth (stop_after read d fault stops)
 
     pub fifth_stops : Reads circuit scale (a ++ b ++ c ++ d) lines old between
         → Stops circuit scale e between fault
         → Stops circuit scale (a ++ b ++ c ++ d ++ e) old fault
-    fifth_stops read stops = stop_behind read e fault stops
+    fifth_stops read stops = stop_after read e fault stops
 
 module _ {circuit : Circuit} {scale : Scale} {count : ℕ} {old new : Left} where
-  -- the lines of the registers, behind how many they are
+  -- the lines of the registers, after how many they are
   pub registers_read : {timings : Timings} → Counted circuit scale word.Registers count
       (HasTimings circuit scale count) old new timings
       → Reads circuit scale (register_forms count)
@@ -88,7 +88,7 @@ module _ {circuit : Circuit} {scale : Scale} {count : ℕ} {old new : Left} wher
         length-map-range_with_len form.Register 0 count,
       )
 
-  -- the lines of the merges, behind how many they are
+  -- the lines of the merges, after how many they are
   pub merges_read : {merged : Merged} → Counted circuit scale word.Merges count
       (HasMerged circuit scale count) old new merged
       → Reads circuit scale (merge_forms circuit count)
@@ -110,7 +110,7 @@ module _ {circuit : Circuit} {scale : Scale} {count : ℕ} {old new : Left} wher
         length-map-range_with_len form.Merge (length circuit.registers) count,
       )
 
-  -- the lines of the nodes, behind how many they are
+  -- the lines of the nodes, after how many they are
   pub nodes_read : {placed : Placed} → Counted circuit scale word.Nodes count
       (HasPlaced circuit scale count) old new placed
       → Reads circuit scale (node_forms count)
@@ -175,18 +175,18 @@ module _ {circuit : Circuit} {scale : Scale} {version : Version} {count : ℕ} {
       (read_more
       (read_more (leads_read has.timings has.leads) (merge_forms circuit (count - 1))
       (count_line (codes "merges") (count - 1)
-      ∷ lines_below (merged_line circuit scale.grid body.merged) (count - 1)) has.behind_merges
+      ∷ lines_below (merged_line circuit scale.grid body.merged) (count - 1)) has.after_merges
       (merges_read has.merged))
       (form.Source ∷ node_forms (2 * count - 1))
       (has.source.words ∷ count_line (codes "nodes") (2 * count - 1)
-      ∷ lines_below (placed_line scale.grid body.placed) (2 * count - 1)) has.behind_nodes
+      ∷ lines_below (placed_line scale.grid body.placed) (2 * count - 1)) has.after_nodes
       (read_more source (node_forms (2 * count - 1))
       (count_line (codes "nodes") (2 * count - 1)
-      ∷ lines_below (placed_line scale.grid body.placed) (2 * count - 1)) has.behind_nodes
+      ∷ lines_below (placed_line scale.grid body.placed) (2 * count - 1)) has.after_nodes
       (nodes_read has.placed)))
       (form.Total ∷ []) (has.total.words ∷ []) new total
 
-  -- a fault behind all sections
+  -- a fault after all sections
   pub body_ends : {body : Body} {new : Left}
       → HasBody circuit scale version count old new body → (fault : Option ReportFault)
       → HasFirstFault circuit scale [] new.line new.text fault

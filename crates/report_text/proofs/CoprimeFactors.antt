@@ -20,7 +20,7 @@ coprime_less : (a b : ℕ) → b ≤ a → IsGcd a b 1 → IsGcd (a - b) b 1
 coprime_less a b less greatest = (
   one-dvd (a - b),
   one-dvd b,
-  λ d front back. greatest.2 d ((dvd-sub_iff_left d less back).0 front) back,
+  λ d prefix back. greatest.2 d ((dvd-sub_iff_left d less back).0 prefix) back,
 )
 
 -- coprime to 0 is 1 alone
@@ -48,8 +48,8 @@ rest_factor p d x rest same = grind arith
 cancel : (p b c k m : ℕ) → 0 < p → p * c ≡ b * k → k ≡ p * m → c ≡ b * m
 cancel p b c k m some same is =
     let product : p * c ≡ b * (p * m) = same ∙ ap (λ n. b * n) is in
-    let turned : c * p ≡ (b * m) * p = grind arith in
-    ap nat_abs (same_factor (pos c) (pos (b * m)) p some (ap pos turned))
+    let rotated : c * p ≡ (b * m) * p = grind arith in
+    ap nat_abs (same_factor (pos c) (pos (b * m)) p some (ap pos rotated))
 
 -- no factor but 0
 none_factor : (a c k : ℕ) → suc a * c ≡ 0 * k → c ≡ 0 * 0
@@ -103,13 +103,13 @@ divides_steps over num (pos b) steps lowest are =
     let some = lowest.some_den in
     let sizes : nat_abs num * nat_abs over ≡ b * nat_abs steps =
     sym (unsigned_abs-mul num over) ∙ ap nat_abs are ∙ unsigned_abs-mul steps (pos b)
-    ∙ turned (nat_abs steps) b in
+    ∙ rotated (nat_abs steps) b in
     let (m, is) = divides_by (nat_abs num + b) (nat_abs num) b (nat_abs over) (nat_abs steps)
     (omega arith) lowest.coprime sizes in
     no_rest over b (mod-eq-zero_of_dvd b (subst (λ n. b ∣ n) (sym is) (dvd-mul_right b m)))
   where
-    turned : (p q : ℕ) → p * q ≡ q * p
-    turned p q = omega arith
+    rotated : (p q : ℕ) → p * q ≡ q * p
+    rotated p q = omega arith
 divides_steps over num (negsuc b) steps lowest are =
     let some = lowest.some_den in absurd (omega (arith, ints, some))
 

@@ -22,12 +22,12 @@ module _ (Holds : Field → List ℕ → Type 0) where
   each_at (field ∷ fields) (word ∷ words) each (suc place) default within =
       each_at fields words each.1 place default (omega (arith, within))
 
-  -- and behind the first two words
-  pub behind_two : (first second : Field) (fields : List Field) (words : List (List ℕ))
+  -- and after the first two words
+  pub after_two : (first second : Field) (fields : List Field) (words : List (List ℕ))
       → EachWord Holds (first ∷ second ∷ fields) words → EachWord Holds fields (drop 2 words)
-  behind_two first second fields [] each = absurd each
-  behind_two first second fields (word ∷ []) each = absurd each.1
-  behind_two first second fields (word ∷ word' ∷ words) each = each.1.1
+  after_two first second fields [] each = absurd each
+  after_two first second fields (word ∷ []) each = absurd each.1
+  after_two first second fields (word ∷ word' ∷ words) each = each.1.1
 
 -- lines of so many words
 pub one_word : (words : List (List ℕ)) → length words ≡ 1 → words ≡ get_or words 0 [] ∷ []

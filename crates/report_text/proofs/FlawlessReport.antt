@@ -57,7 +57,7 @@ module _ (circuit : Circuit) (scale : Scale) where
       line_passed circuit scale due forms line words (text_of lines) None are.0 flawless.0
       (no_first_fault forms lines (line + 1) are.1 flawless.1)
 
-  -- lines behind others
+  -- lines after others
   both_flawless : (forms more : List Form) (lines others : List Words) → AreFlawless forms lines
       → AreFlawless more others → AreFlawless (forms ++ more) (lines ++ others)
   both_flawless [] more [] others is is' = is'
@@ -309,7 +309,7 @@ module _ (circuit : Circuit) (tech : Tech) (report : Report) (size : IsOfSize ci
   pub report_flawless : AreFlawless circuit scale
       (forms_of report.version (cycle_length report.shown) count) (report_lines circuit report)
   report_flawless =
-      let front : List Words = version_line report.version ∷ period_line report.period
+      let prefix : List Words = version_line report.version ∷ period_line report.period
       ∷ period_show_lines report.version circuit report.shown report.paths in
       let registers : List Words = count_line (codes "registers") (length report.schedule.at)
       ∷ lines_below (register_line_at circuit report) (length report.schedule.at) in
@@ -320,7 +320,7 @@ module _ (circuit : Circuit) (tech : Tech) (report : Report) (size : IsOfSize ci
       ∷ count_line (codes "nodes") (length report.tree.length)
       ∷ lines_below (node_line_at circuit report) (length report.tree.length) in
       let total : List Words = (codes "wire" ∷ length_text report report.total ∷ []) ∷ [] in
-      let front_forms : List Form = form.Version ∷ form.Period ∷ form.Show
+      let prefix_forms : List Form = form.Version ∷ form.Period ∷ form.Show
       ∷ cycle_forms report.version (cycle_length report.shown) in
       let register_forms : List Form = form.Count word.Registers count
       ∷ map form.Register (range_with_len 0 count) in
@@ -329,7 +329,7 @@ module _ (circuit : Circuit) (tech : Tech) (report : Report) (size : IsOfSize ci
       ∷ map form.Merge (range_with_len count (count - 1)) in
       let node_forms : List Form = form.Source ∷ form.Count word.Nodes (2 * count - 1)
       ∷ map form.Node (range_with_len 0 (2 * count - 1)) in
-      let front_are : AreFlawless circuit scale front_forms front = (
+      let prefix_are : AreFlawless circuit scale prefix_forms prefix = (
         version_flawless circuit scale report.version,
         (
           period_flawless circuit scale report.period bounds.timing.period,
@@ -375,7 +375,7 @@ module _ (circuit : Circuit) (tech : Tech) (report : Report) (size : IsOfSize ci
       ) in
       let total_are : AreFlawless circuit scale (form.Total ∷ []) total =
       (plain_total circuit scale report.total small bounds.tree.total, tt) in
-      let behind_are =
+      let after_are =
       both_flawless circuit scale (((register_forms ++ leads_forms) ++ merge_forms) ++ node_forms)
       (form.Total ∷ []) (((registers ++ leads) ++ merges) ++ nodes) total
       (both_flawless circuit scale ((register_forms ++ leads_forms) ++ merge_forms) node_forms
@@ -386,7 +386,7 @@ module _ (circuit : Circuit) (tech : Tech) (report : Report) (size : IsOfSize ci
       leads_are) merges_are) nodes_are) total_are in
       subst (AreFlawless circuit scale
       (forms_of report.version (cycle_length report.shown) count))
-      (sym (parts_apart front registers leads merges nodes total))
-      (both_flawless circuit scale front_forms
+      (sym (parts_apart prefix registers leads merges nodes total))
+      (both_flawless circuit scale prefix_forms
       ((((register_forms ++ leads_forms) ++ merge_forms) ++ node_forms) ++ form.Total ∷ [])
-      front ((((registers ++ leads) ++ merges) ++ nodes) ++ total) front_are behind_are)
+      prefix ((((registers ++ leads) ++ merges) ++ nodes) ++ total) prefix_are after_are)

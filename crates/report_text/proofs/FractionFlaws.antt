@@ -30,7 +30,7 @@ read_quotient_is text fraction small same =
     fraction_spelled text fraction.num fraction.den (few_digits fraction.num small.0)
     (few_digits fraction.den small.1) lowest.some_den same
 
--- and a fault that is told is one of the text
+-- and a fault that is given is one of the text
 pub refused : (text : List ℕ) (fault : NumberFault)
     → ((fault ≡ NotNumber) → IsNoFraction text) → ((fault ≡ TooLarge) → IsLargeQuotient text)
     → ((fault ≡ TooFine) → ⊥) → RefusesFraction text fault
@@ -49,10 +49,10 @@ module _ (text : List ℕ) (num den : ℤ) (spells : SpellsQuotient text num den
       subst (λ d. Holds num' d) both.1 (subst (λ n. Holds n den) both.0 holds)
 
   -- a small quotient in lowest terms, by what is wrong with its number of steps
-  pub steps_told : (over bound : ℤ) → HaveSmallSizes num den → IsLowest num den
+  pub steps_denoted : (over bound : ℤ) → HaveSmallSizes num den → IsLowest num den
       → (flaw : Option Flaw) → HasStepsFlaw over bound num den flaw → (circuit : Circuit)
       → WordHasFlaw circuit (Steps over bound) text flaw
-  steps_told over bound small lowest flaw has circuit = at flaw has
+  steps_denoted over bound small lowest flaw has circuit = at flaw has
     where
       formed : IsFormed (Steps over bound) text
       formed = (num, den, (spells, λ _. lowest))
@@ -77,11 +77,11 @@ module _ (text : List ℕ) (num den : ℤ) (spells : SpellsQuotient text num den
       at (Some Large) has = (formed, tt, whole has.2, λ are. has.3 (are num den spells).1)
 
   -- a small quotient in lowest terms that is to be a period
-  pub period_told : HaveSmallSizes num den → IsLowest num den
+  pub period_denoted : HaveSmallSizes num den → IsLowest num den
       → (IsNegativeQuotient text → ⊥) → (within : Bool)
       → IsTrue within ↔ ((num <ℤ pos (10 ^ 18)) × (den ≤ℤ pos 4097)) → (circuit : Circuit)
       → WordHasFlaw circuit Period text (large_flaw within)
-  period_told small lowest not_negative within is circuit = at within is
+  period_denoted small lowest not_negative within is circuit = at within is
     where
       formed : IsFormed Period text
       formed = (
@@ -167,13 +167,13 @@ negative_refused text (num, den, spells, below) (num', den', form, above) =
     let below' = of_each text num den spells (λ n d. n <ℤ pos 0) below num' den' form.0 in
     omega (arith, ints, above, below')
 
--- whether a quotient is below 0 is told by the number that is kept of it
+-- whether a quotient is below 0 is determined by the number that is kept of it
 pub negative_kept : (text : List ℕ) (num den kept : ℤ) (below : Bool)
     → SpellsQuotient text num den → kept ≡ kept_size num → IsTrue below ↔ (kept <ℤ pos 0)
     → IsTrue below ↔ IsNegativeQuotient text
-negative_kept text num den kept below spells is told = (
-  λ yes. (num, den, spells, kept_below num (subst (λ n. n <ℤ pos 0) is (told.0 yes))),
-  λ other. told.1 (subst (λ n. n <ℤ pos 0) (sym is) (below_kept num
+negative_kept text num den kept below spells is denoted = (
+  λ yes. (num, den, spells, kept_below num (subst (λ n. n <ℤ pos 0) is (denoted.0 yes))),
+  λ other. denoted.1 (subst (λ n. n <ℤ pos 0) (sym is) (below_kept num
       (of_each text other.0 other.1 other.2 (λ n d. n <ℤ pos 0) other.3 num den spells))),
 )
   where
@@ -188,19 +188,19 @@ negative_kept text num den kept below spells is told = (
 -- ---- slacks
 
 -- a word that isn't `-` has the flaw that it has as a number of steps
-pub slack_told : (over bound : ℤ) (text : List ℕ) → (text ≡ codes "-" → ⊥)
+pub slack_denoted : (over bound : ℤ) (text : List ℕ) → (text ≡ codes "-" → ⊥)
     → (flaw : Option Flaw) (circuit : Circuit)
     → WordHasFlaw circuit (Steps over bound) text flaw
     → WordHasFlaw circuit (Slack over bound) text flaw
-slack_told over bound text differs None circuit has = (inr has.0, has.1, has.2, has.3)
-slack_told over bound text differs (Some Form) circuit has = at
+slack_denoted over bound text differs None circuit has = (inr has.0, has.1, has.2, has.3)
+slack_denoted over bound text differs (Some Form) circuit has = at
   where
     at : IsFormed (Slack over bound) text → ⊥
     at (inl dash) = differs dash
     at (inr form) = has form
-slack_told over bound text differs (Some Unknown) circuit has = absurd (has.1 tt)
-slack_told over bound text differs (Some Unfit) circuit has = (inr has.0, has.1, has.2)
-slack_told over bound text differs (Some Large) circuit has = (inr has.0, has.1, has.2, has.3)
+slack_denoted over bound text differs (Some Unknown) circuit has = absurd (has.1 tt)
+slack_denoted over bound text differs (Some Unfit) circuit has = (inr has.0, has.1, has.2)
+slack_denoted over bound text differs (Some Large) circuit has = (inr has.0, has.1, has.2, has.3)
 
 -- ---- numbers of steps
 

@@ -12,7 +12,7 @@ use Rattle.report_text.specs.declared.form.Scale.{Scale}
 use Rattle.report_text.specs.Fields.{LineHasFlaw}
 use Rattle.report_text.specs.Forms.{fields_of, forms_of}
 use Rattle.report_text.specs.Laws.{HasFaultOrReport}
-use Rattle.report_text.specs.ReportFaults.{HasFault, HasFirstFault, cycle_told, fault_of, is_line_feed, scale_told, version_told, words_of}
+use Rattle.report_text.specs.ReportFaults.{HasFault, HasFirstFault, cycle_denoted, fault_of, is_line_feed, scale_denoted, version_denoted, words_of}
 use Rattle.report_text.proofs.JudgedWords.{line_judged}
 use Rattle.report_text.proofs.PassedTexts.{report_spelled}
 
@@ -55,8 +55,8 @@ forms_judged circuit scale (due ∷ more) line text =
 pub fault_or_report : (circuit : Circuit) (tech : Tech) (text : List ℕ)
     → HasFaultOrReport circuit tech text
 fault_or_report circuit tech text =
-    let (fault, has) = forms_judged circuit (scale_told tech text)
-    (forms_of (version_told text) (cycle_told text) (length circuit.registers)) 1 text in
+    let (fault, has) = forms_judged circuit (scale_denoted tech text)
+    (forms_of (version_denoted text) (cycle_denoted text) (length circuit.registers)) 1 text in
     at fault has
   where
     at : (fault : Option ReportFault) → HasFault circuit tech text fault

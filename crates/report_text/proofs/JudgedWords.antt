@@ -20,10 +20,10 @@ use Rattle.report_text.specs.Fields.{EachWord, IsFit, IsFormed, IsKnown, IsWithi
 use Rattle.report_text.specs.FlawOrder.{large_flaw, sooner_flaw}
 use Rattle.report_text.specs.JudgedFractions.{HasStepsFlaw, IsNegativeQuotient, fault_flaw}
 use Rattle.report_text.specs.Keywords.{keyword_text}
-use Rattle.report_text.specs.NamesOf.{TellsRegister, TellsSignal, register_names, signal_names}
+use Rattle.report_text.specs.NamesOf.{DenotesRegister, DenotesSignal, register_names, signal_names}
 use Rattle.report_text.proofs.FlawLemmas.{sooner_of}
-use Rattle.report_text.proofs.FractionFlaws.{negative_refused, period_refused, period_told, slack_told, steps_fit, steps_refused, steps_told, steps_unfit}
-use Rattle.report_text.proofs.NameNumbers.{register_told, signal_told}
+use Rattle.report_text.proofs.FractionFlaws.{negative_refused, period_refused, period_denoted, slack_denoted, steps_fit, steps_refused, steps_denoted, steps_unfit}
+use Rattle.report_text.proofs.NameNumbers.{register_denoted, signal_denoted}
 use Rattle.report_text.proofs.OneName.{one_register}
 use Rattle.report_text.proofs.SpelledNumbers.{OrNot, fraction_or_not, quotient_or_not, same_text, same_whole, size_or_not, whole_or_not}
 
@@ -160,23 +160,23 @@ module _ (circuit : Circuit) where
       → Judged (field.Steps over bound) text
   whole_steps_judged over bound text num den spells small lowest =
       elim (same_whole (int_rem over den) (pos 0)) [
-        | inr rest ↦ told (Some Unfit) (steps_unfit over bound num den lowest rest)
+        | inr rest ↦ denoted (Some Unfit) (steps_unfit over bound num den lowest rest)
         | inl none ↦
             let steps = num *ℤ int_div over den in
             by_lt_z steps bound
             (λ below. by_lt_z (pos 0) (steps +ℤ bound)
-            (λ above. told None (steps_fit over bound num den lowest none true
+            (λ above. denoted None (steps_fit over bound num den lowest none true
             (λ is. (below, above), λ both. refl)))
-            (λ low. told (Some Large) (steps_fit over bound num den lowest none false
+            (λ low. denoted (Some Large) (steps_fit over bound num den lowest none false
             (λ is. absurd (true≢false (sym is)), λ both. absurd (both_past steps both.1 low)))))
-            (λ past. told (Some Large) (steps_fit over bound num den lowest none false
+            (λ past. denoted (Some Large) (steps_fit over bound num den lowest none false
             (λ is. absurd (true≢false (sym is)), λ both. absurd (past_bound steps both.0 past))))
       ]
     where
-      told : (flaw : Option Flaw) → HasStepsFlaw over bound num den flaw
+      denoted : (flaw : Option Flaw) → HasStepsFlaw over bound num den flaw
           → Judged (field.Steps over bound) text
-      told flaw has =
-          (flaw, steps_told text num den spells over bound small lowest flaw has circuit)
+      denoted flaw has =
+          (flaw, steps_denoted text num den spells over bound small lowest flaw has circuit)
 
       both_past : (steps : ℤ) → pos 0 <ℤ (steps +ℤ bound) → (steps +ℤ bound) ≤ℤ pos 0 → ⊥
       both_past steps above low = omega (arith, ints, above, low)
@@ -222,24 +222,24 @@ module _ (circuit : Circuit) where
           → HaveSmallSizes num den → IsLowest num den → Judged field.Period text
       small_judged positive num den spells small lowest = by_lt_z num (pos (10 ^ 18))
           (λ below. by_lt_z (pos 4097) den
-          (λ past. told false (
+          (λ past. denoted false (
             λ is. absurd (true≢false (sym is)),
             λ both.
                 let few = both.1 in absurd (omega (arith, ints, few, past)),
           ))
-          (λ few. told true (λ is. (below, few), λ both. refl)))
-          (λ past. told false (
+          (λ few. denoted true (λ is. (below, few), λ both. refl)))
+          (λ past. denoted false (
             λ is. absurd (true≢false (sym is)),
             λ both.
                 let below = both.0 in absurd (omega (arith, ints, below, past)),
           ))
         where
-          told : (within : Bool)
+          denoted : (within : Bool)
               → IsTrue within ↔ ((num <ℤ pos (10 ^ 18)) × (den ≤ℤ pos 4097))
               → Judged field.Period text
-          told within is = (
+          denoted within is = (
             large_flaw within,
-            period_told text num den spells small lowest positive within is circuit,
+            period_denoted text num den spells small lowest positive within is circuit,
           )
 
   -- a minus alone is no number and no quotient
@@ -249,8 +249,8 @@ module _ (circuit : Circuit) where
 
   no_quotient_minus : (num den : ℤ) → SpellsQuotient (codes "-") num den → ⊥
   no_quotient_minus num den (inl one) = no_whole_minus num one.1
-  no_quotient_minus num den (inr (some, (front, back, split, above, below))) =
-      slash_differs (codes "-") front back ((λ is. omega (arith, is)), tt) split
+  no_quotient_minus num den (inr (some, (prefix, back, split, above, below))) =
+      slash_differs (codes "-") prefix back ((λ is. omega (arith, is)), tt) split
 
   slack_judged : (over bound : ℤ) (text : List ℕ) → Judged (field.Slack over bound) text
   slack_judged over bound text = elim (same_text text (codes "-")) [
@@ -267,24 +267,24 @@ module _ (circuit : Circuit) where
         )
     | inr other ↦
         let (flaw, has) = steps_judged over bound text in
-        (flaw, slack_told over bound text other flaw circuit has)
+        (flaw, slack_denoted over bound text other flaw circuit has)
   ]
 
   -- ---- names
 
   register_judged : (text : List ℕ) → Judged field.Register text
   register_judged text = at (position (bytes_eq text) (register_names circuit))
-      (register_told circuit text (register_names circuit) refl)
+      (register_denoted circuit text (register_names circuit) refl)
     where
-      at : (found : Option ℕ) → TellsRegister circuit text found → Judged field.Register text
+      at : (found : Option ℕ) → DenotesRegister circuit text found → Judged field.Register text
       at None none = (Some Unknown, (tt, none))
       at (Some register) is = (None, (tt, (register, is.0, is.1), tt, tt))
 
   named_judged : (number : ℕ) (text : List ℕ) → Judged (field.Named number) text
   named_judged number text = at (position (bytes_eq text) (register_names circuit))
-      (register_told circuit text (register_names circuit) refl)
+      (register_denoted circuit text (register_names circuit) refl)
     where
-      at : (found : Option ℕ) → TellsRegister circuit text found
+      at : (found : Option ℕ) → DenotesRegister circuit text found
           → Judged (field.Named number) text
       at None none = (Some Unknown, (tt, none))
       at (Some register) is = elim (same_text (register_name circuit number) text) [
@@ -294,9 +294,9 @@ module _ (circuit : Circuit) where
 
   from_judged : (first : ℕ) (text : List ℕ) → Judged (field.From first) text
   from_judged first text = at (position (bytes_eq text) (register_names circuit))
-      (register_told circuit text (register_names circuit) refl)
+      (register_denoted circuit text (register_names circuit) refl)
     where
-      at : (found : Option ℕ) → TellsRegister circuit text found → Judged (field.From first) text
+      at : (found : Option ℕ) → DenotesRegister circuit text found → Judged (field.From first) text
       at None none = (Some Unknown, (tt, none))
       at (Some register) is = elim (cases_lt register first) [
         | inl before ↦ (
@@ -322,9 +322,9 @@ module _ (circuit : Circuit) where
 
   signal_judged : (text : List ℕ) → Judged field.Signal text
   signal_judged text = at (position (bytes_eq text) (signal_names circuit))
-      (signal_told circuit text (signal_names circuit) refl)
+      (signal_denoted circuit text (signal_names circuit) refl)
     where
-      at : (found : Option ℕ) → TellsSignal circuit text found → Judged field.Signal text
+      at : (found : Option ℕ) → DenotesSignal circuit text found → Judged field.Signal text
       at None none = (Some Unknown, (tt, none))
       at (Some number) is = (None, (tt, (number, is.0, is.1), tt, tt))
 
@@ -346,7 +346,7 @@ module _ (circuit : Circuit) where
   word_judged (field.From first) text = from_judged first text
   word_judged field.Signal text = signal_judged text
 
-  -- what holds of the first word and of those behind it
+  -- what holds of the first word and of those after it
   same_parts : (Holds : Field → List ℕ → Type 0) (due : Field) (fields : List Field)
       → (word : List ℕ) (words : List (List ℕ))
       → EachWord Holds (due ∷ fields) (word ∷ words)

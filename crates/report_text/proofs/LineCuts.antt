@@ -1,4 +1,4 @@
--- Where a text is first cut, and what stands before and behind that place.
+-- Where a text is first cut, and what stands before and after that place.
 use Rattle.std.proofs.Common.{ℕ, ◌≡◌, ◌<◌, ◌+◌, Bool, Some, List, ◌∷◌, length, take, drop, refl, sym, arith, get_or, drop-cons}
 use Rattle.std.proofs.lemmas.Bool.Decides.{nat_tests}
 use Rattle.std.specs.List.{slice_split, position_or_len, position}
@@ -20,7 +20,7 @@ first_part p text end found =
     let after : drop (end + 1) text ≡ drop 1 (drop end text) = sym (drop-drop 1 end text) in
     rw (slice_split_first p text 0 within, at, after) refl
 
--- what is left is its first byte, and what stands behind that
+-- what is left is its first byte, and what stands after that
 pub byte_then : (text : List ℕ) (place : ℕ) → place < length text
     → drop place text ≡ get_or text place 0 ∷ drop 1 (drop place text)
 byte_then text place within = rw (drop-cons text place 0 within) refl

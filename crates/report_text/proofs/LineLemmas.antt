@@ -7,9 +7,9 @@ use Rattle.std.proofs.lemmas.List.FromFn.{map-range_with_len_more}
 use Rattle.cts_model.specs.declared.circuit.Circuit.{Circuit}
 use Rattle.cts_model.specs.PrintedLines.{Words, line_of, text_of}
 use Rattle.cts_model.specs.ReportLines.{lines_below, path_line, signal_name}
-use Rattle.report_text.specs.Pieces.{behind}
+use Rattle.report_text.specs.Pieces.{suffix}
 
--- each word after the first stands behind the byte
+-- each word after the first stands after the byte
 pub join_with_byte-map : {X : Type 0} (read : X → List ℕ) (byte : ℕ) (word : List ℕ)
     (others : List X) → join_with_byte byte (word ∷ map read others) ≡ word ++ flat_map
     (λ other. byte ∷ read other) others
@@ -17,14 +17,14 @@ join_with_byte-map read byte word [] = sym (append-nil word)
 join_with_byte-map read byte word (other ∷ others) =
     ap (λ rest. word ++ byte ∷ rest) (join_with_byte-map read byte (read other) others)
 
--- a line is its first word, those behind it, and a line feed
-pub line_of-behind : (word : List ℕ) (others : Words)
-    → line_of (word ∷ others) ≡ word ++ (behind others ++ 10 ∷ [])
-line_of-behind word [] = ap (λ bytes. bytes ++ 10 ∷ []) refl
-line_of-behind word (other ∷ others) =
+-- a line is its first word, those after it, and a line feed
+pub line_of-suffix : (word : List ℕ) (others : Words)
+    → line_of (word ∷ others) ≡ word ++ (suffix others ++ 10 ∷ [])
+line_of-suffix word [] = ap (λ bytes. bytes ++ 10 ∷ []) refl
+line_of-suffix word (other ∷ others) =
     append_assoc word (32 ∷ join_with_byte 32 (other ∷ others)) (10 ∷ [])
-    ∙ ap (λ rest. word ++ 32 ∷ rest) (line_of-behind other others
-    ∙ sym (append_assoc other (behind others) (10 ∷ [])))
+    ∙ ap (λ rest. word ++ 32 ∷ rest) (line_of-suffix other others
+    ∙ sym (append_assoc other (suffix others) (10 ∷ [])))
 
 -- a text with one more line
 pub text_of-push : (lines : List Words) (line : Words)
@@ -51,26 +51,26 @@ more_lines line_at count before written now so_far next =
     ∙ append_assoc before (text_of (lines_below line_at count)) (line_of (line_at count))
     ∙ ap (λ bytes. before ++ bytes) (sym (text_of-more line_at count))
 
--- words behind others, and more behind those
-pub behind_more : (before written now : List ℕ) (words others : Words)
-    → written ≡ before ++ behind words → now ≡ written ++ behind others
-    → now ≡ before ++ behind (words ++ others)
-behind_more before written now words others so_far next =
-    next ∙ ap (λ bytes. bytes ++ behind others) so_far
-    ∙ append_assoc before (behind words) (behind others)
+-- words after others, and more after those
+pub after_more : (before written now : List ℕ) (words others : Words)
+    → written ≡ before ++ suffix words → now ≡ written ++ suffix others
+    → now ≡ before ++ suffix (words ++ others)
+after_more before written now words others so_far next =
+    next ∙ ap (λ bytes. bytes ++ suffix others) so_far
+    ∙ append_assoc before (suffix words) (suffix others)
     ∙ ap (λ bytes. before ++ bytes) (sym (flat_map-append (λ word. 32 ∷ word) words others))
 
--- a line of a first word and those behind it was appended
+-- a line of a first word and those after it was appended
 pub whole_line : (before begun written now word : List ℕ) (others : Words)
-    → begun ≡ before ++ word → written ≡ begun ++ behind others → now ≡ written ++ 10 ∷ []
+    → begun ≡ before ++ word → written ≡ begun ++ suffix others → now ≡ written ++ 10 ∷ []
     → now ≡ before ++ line_of (word ∷ others)
 whole_line before begun written now word others first more last =
-    last ∙ ap (λ bytes. bytes ++ 10 ∷ []) (more ∙ ap (λ bytes. bytes ++ behind others) first)
-    ∙ append_assoc (before ++ word) (behind others) (10 ∷ [])
-    ∙ append_assoc before word (behind others ++ 10 ∷ [])
-    ∙ ap (λ bytes. before ++ bytes) (sym (line_of-behind word others))
+    last ∙ ap (λ bytes. bytes ++ 10 ∷ []) (more ∙ ap (λ bytes. bytes ++ suffix others) first)
+    ∙ append_assoc (before ++ word) (suffix others) (10 ∷ [])
+    ∙ append_assoc before word (suffix others ++ 10 ∷ [])
+    ∙ ap (λ bytes. before ++ bytes) (sym (line_of-suffix word others))
 
--- lines behind others
+-- lines after others
 pub lines_more : (before written now : List ℕ) (lines others : List Words)
     → written ≡ before ++ text_of lines → now ≡ written ++ text_of others
     → now ≡ before ++ text_of (lines ++ others)

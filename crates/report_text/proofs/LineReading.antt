@@ -102,11 +102,11 @@ lacks_each : (byte : ℕ) (bytes : List ℕ) → Lacks byte bytes
 lacks_each byte bytes = All-from_recursion (λ other. (other == byte) ≡ false) bytes
 
 -- the parts of bytes lack it
-lacks_both : (byte : ℕ) (front back : List ℕ) → Lacks byte front → Lacks byte back
-    → Lacks byte (front ++ back)
+lacks_both : (byte : ℕ) (prefix back : List ℕ) → Lacks byte prefix → Lacks byte back
+    → Lacks byte (prefix ++ back)
 lacks_both byte [] back lacks lacks' = lacks'
-lacks_both byte (first ∷ front) back lacks lacks' =
-    (lacks.0, lacks_both byte front back lacks.1 lacks')
+lacks_both byte (first ∷ prefix) back lacks lacks' =
+    (lacks.0, lacks_both byte prefix back lacks.1 lacks')
 
 -- words with spaces between them have no line feed
 words_lack : (words : Words) → IsLine words → Lacks 10 (join_with_byte 32 words)
@@ -137,13 +137,13 @@ first_place byte (first ∷ bytes) rest lacks =
     lacks.0
     ∙ omega (arith, first_place byte bytes rest lacks.1)
 
--- what stands behind it
-pub behind_place : (byte : ℕ) (bytes rest : List ℕ)
+-- what stands after it
+pub after_place : (byte : ℕ) (bytes rest : List ℕ)
     → drop (length bytes + 1) (bytes ++ byte ∷ rest) ≡ rest
-behind_place byte [] rest = refl
-behind_place byte (first ∷ bytes) rest =
+after_place byte [] rest = refl
+after_place byte (first ∷ bytes) rest =
     let next : suc (length bytes) + 1 ≡ suc (length bytes + 1) = omega arith in
-    ap (λ n. drop n (first ∷ (bytes ++ byte ∷ rest))) next ∙ behind_place byte bytes rest
+    ap (λ n. drop n (first ∷ (bytes ++ byte ∷ rest))) next ∙ after_place byte bytes rest
 
 -- the first line feed
 feed_found : (bytes rest : List ℕ) → Lacks 10 bytes
@@ -157,7 +157,7 @@ feed_found bytes rest lacks =
 
 -- ---- a line without a flaw
 
--- the first fault is that of the lines behind it
+-- the first fault is that of the lines after it
 pub line_passed : (circuit : Circuit) (scale : Scale) (due : Form) (more : List Form) (line : ℕ)
     (words : Words) (rest : List ℕ) (fault : Option ReportFault) → IsLine words
     → IsFlawless circuit scale due words
@@ -167,10 +167,10 @@ line_passed circuit scale due more line words rest fault is flawless later =
     let bytes : List ℕ = join_with_byte 32 words in
     let text : List ℕ = bytes ++ 10 ∷ rest in
     let lacks = words_lack words is in
-    let front : take (length bytes) text ≡ bytes =
+    let prefix : take (length bytes) text ≡ bytes =
     take_at bytes (10 ∷ rest) (length bytes) refl in
     let words_are : words ≡ words_of (take (length bytes) text) =
-    sym (words_cut words is) ∙ ap words_of (sym front) in
+    sym (words_cut words is) ∙ ap words_of (sym prefix) in
     let some : (length text == 0) ≡ false =
     ne_eqb (length text) 0 (λ none. omega (arith, none, length-append bytes (10 ∷ rest))) in
     let judged : IsJudged circuit scale due more line text fault (length bytes) = (
@@ -178,7 +178,7 @@ line_passed circuit scale due more line words rest fault is flawless later =
       subst (λ (ws : Words). LineHasFlaw circuit (fields_of circuit scale due ws) ws None)
           words_are flawless,
       subst (λ (bs : List ℕ). HasFirstFault circuit scale more (line + 1) bs fault)
-          (sym (behind_place 10 bytes rest)) later,
+          (sym (after_place 10 bytes rest)) later,
     ) in
     subst (λ (bs : List ℕ). HasFirstFault circuit scale (due ∷ more) line bs fault)
     (sym (append_assoc bytes (10 ∷ []) rest))
@@ -209,8 +209,8 @@ line_cut (words ∷ lines) zero are within = words_cut words are.0
 line_cut (words ∷ lines) (suc place) are within =
     line_cut lines place are.1 (omega (arith, within))
 
-pub word_told : (lines : List Words) (line place : ℕ) → AreLines lines → line < length lines
+pub word_denoted : (lines : List Words) (line place : ℕ) → AreLines lines → line < length lines
     → word_at (text_of lines) line place ≡ get_or (get_or lines line []) place []
-word_told lines line place are within =
+word_denoted lines line place are within =
     ap (λ (parts : Words). get_or (words_of (get_or parts line [])) place []) (text_cut lines are)
     ∙ ap (λ (words : Words). get_or words place []) (line_cut lines line are within)

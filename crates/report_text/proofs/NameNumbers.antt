@@ -16,7 +16,7 @@ use Rattle.cts_model.specs.declared.circuit.Circuit.{Circuit}
 use Rattle.cts_model.specs.Circuits.{has_host}
 use Rattle.cts_model.specs.Paths.{register_name}
 use Rattle.cts_model.specs.ReportLines.{signal_name}
-use Rattle.report_text.specs.NamesOf.{register_names, signal_names, TellsRegister, TellsSignal}
+use Rattle.report_text.specs.NamesOf.{register_names, signal_names, DenotesRegister, DenotesSignal}
 use Rattle.report_text.proofs.OneName.{one_register, one_signal}
 
 -- ---- keys
@@ -96,29 +96,29 @@ module _ (name_at : ℕ → List ℕ) (count : ℕ) (name : List ℕ) where
 -- ---- a circuit's
 
 module _ (circuit : Circuit) (name : List ℕ) where
-  -- what is told of a register by its name
-  pub register_told : (names : List (List ℕ)) → names ≡ register_names circuit
-      → TellsRegister circuit name (position (bytes_eq name) names)
-  register_told names are =
-      subst (λ (n : List (List ℕ)). TellsRegister circuit name (position (bytes_eq name) n))
+  -- what is said of a register by its name
+  pub register_denoted : (names : List (List ℕ)) → names ≡ register_names circuit
+      → DenotesRegister circuit name (position (bytes_eq name) names)
+  register_denoted names are =
+      subst (λ (n : List (List ℕ)). DenotesRegister circuit name (position (bytes_eq name) n))
       (sym are) (at (position (bytes_eq name) (register_names circuit)) refl)
     where
       at : (found : Option ℕ) → position (bytes_eq name) (register_names circuit) ≡ found
-          → TellsRegister circuit name found
+          → DenotesRegister circuit name found
       at (Some number) is = found_below (register_name circuit) (length circuit.registers) name
           number is
       at None is = λ other. missed_below (register_name circuit) (length circuit.registers) name
           is other.0 other.1 other.2
 
   -- and of a signal
-  pub signal_told : (names : List (List ℕ)) → names ≡ signal_names circuit
-      → TellsSignal circuit name (position (bytes_eq name) names)
-  signal_told names are =
-      subst (λ (n : List (List ℕ)). TellsSignal circuit name (position (bytes_eq name) n))
+  pub signal_denoted : (names : List (List ℕ)) → names ≡ signal_names circuit
+      → DenotesSignal circuit name (position (bytes_eq name) names)
+  signal_denoted names are =
+      subst (λ (n : List (List ℕ)). DenotesSignal circuit name (position (bytes_eq name) n))
       (sym are) (at (position (bytes_eq name) (signal_names circuit)) refl)
     where
       at : (found : Option ℕ) → position (bytes_eq name) (signal_names circuit) ≡ found
-          → TellsSignal circuit name found
+          → DenotesSignal circuit name found
       at (Some number) is = found_below (signal_name circuit) (length circuit.signals) name
           number is
       at None is = λ other. missed_below (signal_name circuit) (length circuit.signals) name

@@ -174,10 +174,10 @@ module _ (over steps num den : ℤ) (fraction : HasFraction over steps num den) 
           )
 
 -- a word of whole steps within the bound is what a report has for some
-pub told_steps : (word : List ℕ) (over num den : ℤ) (bound : ℕ) → pos 1 ≤ℤ over
+pub denoted_steps : (word : List ℕ) (over num den : ℤ) (bound : ℕ) → pos 1 ≤ℤ over
     → IsFractionForm word num den → IsWholeSteps over word → AreFewSteps over (pos bound) word
     → (steps : ℤ) × IsBelow bound steps × (word ≡ quotient_text steps over)
-told_steps word over num den bound some form whole few =
+denoted_steps word over num den bound some form whole few =
     let (small, each) = few num den form.0 in
     let (steps, are) = whole num den form.0 small in
     let (low, high) = each steps are in (

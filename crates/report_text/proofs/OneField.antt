@@ -1,4 +1,4 @@
--- What a line of a report says is told by its words.
+-- What a line of a report says is determined by its words.
 use Rattle.std.proofs.Common.{◌≡◌, ◌<◌, ◌≤◌, ◌^◌, ℕ, suc, ℤ, pos, negsuc, ◌≤ℤ◌, nat_abs, Bool, true, false, List, [], ◌∷◌, ◌++◌, Option, Some, None, All, map, take, drop, get_or, length, codes, if◌then◌else◌, refl, sym, ap, ap₂, ◌∙◌, arith}
 use Rattle.std.specs.Fmt.{signed_decimal}
 use Rattle.std.specs.List.{flat_map}
@@ -47,7 +47,7 @@ pub few_digits : (bound : ℕ) (number : ℤ) → bound ≤ 10 ^ 64 → IsBelow 
 few_digits bound (pos number) low below = omega (arith, ints, below.below)
 few_digits bound (negsuc number) low below = omega (arith, ints, below.above)
 
--- a length is told by its text, over one grid
+-- a length is determined by its text, over one grid
 pub one_length : (bound : ℕ) (grid grid' a b : ℤ) → bound ≤ 10 ^ 64 → pos 1 ≤ℤ grid
     → nat_abs grid < 10 ^ 64 → grid ≡ grid' → IsBelow bound a → IsBelow bound b
     → quotient_text a grid ≡ quotient_text b grid' → a ≡ b
@@ -55,7 +55,7 @@ one_length bound grid grid' a b low some small same_grid below below' same =
     one_quotient_text a b grid some (few_digits bound a low below) (few_digits bound b low below')
     small (same ∙ ap (quotient_text b) (sym same_grid))
 
--- a count is told by its digits
+-- a count is determined by its digits
 pub one_count : (a b : ℕ) → a ≤ 9999 → b ≤ 9999
     → signed_decimal (pos a) ≡ signed_decimal (pos b) → a ≡ b
 one_count a b small small' same = one_decimal a b (omega arith) (omega arith) same
@@ -71,7 +71,7 @@ slack_digits (pos den) slack some low small =
       omega (arith, ints, sizes.1),
     )
 
--- a slack is told by its word
+-- a slack is determined by its word
 pub one_slack : (den : ℤ) (slack other : Option Fraction) → pos 1 ≤ℤ den → den ≤ℤ pos 4097
     → IsSmallSlack den slack → IsSmallSlack den other
     → slack_text slack ≡ slack_text other → slack ≡ other
@@ -90,7 +90,7 @@ one_slack den (Some slack) (Some other) some low small small' same =
 
 -- ---- points and wires
 
--- points are told by their words
+-- points are determined by their words
 pub one_points : (grid grid' : ℤ) (points others : List Point) → pos 1 ≤ℤ grid
     → nat_abs grid < 10 ^ 64 → grid ≡ grid' → All (IsPointBelow (10 ^ 32)) points
     → All (IsPointBelow (10 ^ 32)) others
@@ -125,7 +125,7 @@ one_padding x (a ∷ xs) (b ∷ ys) as_many each each' =
     (one_padding x xs ys (omega arith) (λ i d within. each (suc i) d (omega arith))
     (λ i d within. each' (suc i) d (omega arith)))
 
--- a wire is told by its points
+-- a wire is determined by its points
 pub one_wire : (wire other : Wire) → IsSmallWire wire → IsSmallWire other
     → wire.used ≡ other.used
     → take wire.used wire.corners ≡ take other.used other.corners → wire ≡ other
@@ -147,7 +147,7 @@ one_wire wire other small small' used points =
 -- ---- constraints, leads, paths and shows
 
 module _ (circuit : Circuit) where
-  -- a constraint is told by its line
+  -- a constraint is determined by its line
   pub one_constraint : (constraint other : Constraint)
       → IsBetweenRegisters (length circuit.registers) constraint
       → IsBetweenRegisters (length circuit.registers) other
@@ -212,7 +212,7 @@ module _ (circuit : Circuit) where
       (one_constraint constraint constraint' among among' small.2 small'.2
       (words_from 2 _ _ same))
 
-  -- signals are told by their names
+  -- signals are determined by their names
   one_signals : (path other : List ℕ) → All (λ n. n < length circuit.signals) path
       → All (λ n. n < length circuit.signals) other
       → map (signal_name circuit) path ≡ map (signal_name circuit) other → path ≡ other
@@ -235,7 +235,7 @@ module _ (circuit : Circuit) where
   one_path (first ∷ more) (first' ∷ more') within within' same =
       one_signals (first ∷ more) (first' ∷ more') within within' (words_from 2 _ _ same)
 
-  -- what shows a reach is told by its words
+  -- what shows a reach is determined by its words
   pub one_show : (show other : Show) → ShowsAmong (length circuit.registers) show
       → ShowsAmong (length circuit.registers) other
       → show_words circuit show ≡ show_words circuit other → show ≡ other

@@ -3,7 +3,7 @@ use Rattle.std.proofs.Common.{◌≡◌, ◌<◌, ℕ, suc, List, [], ◌∷◌,
 use Rattle.std.specs.List.{range_with_len}
 use Rattle.std.proofs.lemmas.List.FromFn.{get_or-map-range_with_len}
 
--- of two lists that are one, fronts of one length are one, and so is what stands behind them
+-- of two lists that are one, prefixes of one length are one, and so is what stands after them
 pub one_append : {X : Type 0} (xs ys xs' ys' : List X) → length xs ≡ length ys
     → xs ++ xs' ≡ ys ++ ys' → (xs ≡ ys) × (xs' ≡ ys')
 one_append [] [] xs' ys' as_many same = (refl, same)
@@ -33,14 +33,14 @@ same_at (x ∷ xs) (y ∷ ys) default as_many each =
     ap₂ (λ a more. a ∷ more) (each 0 (omega arith))
     (same_at xs ys default (omega arith) (λ place within. each (suc place) (omega arith)))
 
--- items that are told by their images are told in lists
+-- items that are determined by their images are given in lists
 pub one_map : {X Y : Type 0} (P : X → Type 0) (f : X → Y) (xs ys : List X) → All P xs → All P ys
     → ((x y : X) → P x → P y → f x ≡ f y → x ≡ y) → map f xs ≡ map f ys → xs ≡ ys
-one_map P f [] [] each each' told same = refl
-one_map P f [] (y ∷ ys) each each' told same = absurd (omega (arith, ap length same))
-one_map P f (x ∷ xs) [] each each' told same = absurd (omega (arith, ap length same))
-one_map P f (x ∷ xs) (y ∷ ys) each each' told same =
-    ap₂ (λ a more. a ∷ more) (told x y (each 0 x (omega arith)) (each' 0 x (omega arith))
+one_map P f [] [] each each' denoted same = refl
+one_map P f [] (y ∷ ys) each each' denoted same = absurd (omega (arith, ap length same))
+one_map P f (x ∷ xs) [] each each' denoted same = absurd (omega (arith, ap length same))
+one_map P f (x ∷ xs) (y ∷ ys) each each' denoted same =
+    ap₂ (λ a more. a ∷ more) (denoted x y (each 0 x (omega arith)) (each' 0 x (omega arith))
     (ap (λ l. get_or l 0 (f x)) same))
     (one_map P f xs ys (λ i d within. each (suc i) d (omega arith))
-    (λ i d within. each' (suc i) d (omega arith)) told (ap (drop 1) same))
+    (λ i d within. each' (suc i) d (omega arith)) denoted (ap (drop 1) same))

@@ -1,4 +1,4 @@
--- A circuit's signals and registers are told by their names.
+-- A circuit's signals and registers are determined by their names.
 use Rattle.std.proofs.Common.{◌≡◌, ◌<◌, ◌≤◌, ◌+◌, ℕ, suc, zero, Bool, true, false, if◌then◌else◌, List, [], ◌∷◌, Some, None, get_or, length, inl, inr, refl, sym, ◌∙◌, arith}
 use Rattle.std.specs.List.{filter_map, enumerate_from, cons_option}
 use Rattle.std.proofs.lemmas.Bool.{cases_lt}
@@ -66,7 +66,7 @@ signal_name_is : (circuit : Circuit) (number : ℕ) (default : Signal)
 signal_name_is circuit number default within =
     rw (slice_get-get_or circuit.signals number default within) refl
 
--- a signal is told by its name
+-- a signal is determined by its name
 pub one_signal : (circuit : Circuit) (a b : ℕ) → a < length circuit.signals
     → b < length circuit.signals → signal_name circuit a ≡ signal_name circuit b → a ≡ b
 one_signal circuit a b within within' same = elim ((slice_get_cases circuit.signals a).1) [
@@ -105,7 +105,7 @@ higher circuit a b before within =
     let are = circuit.valid.registers_are in
     rw are (rising 0 circuit.signals a b before (rw are at within))
 
--- a register is told by its name
+-- a register is determined by its name
 pub one_register : (circuit : Circuit) (a b : ℕ) → a < length circuit.registers
     → b < length circuit.registers → register_name circuit a ≡ register_name circuit b → a ≡ b
 one_register circuit a b within within' same =

@@ -1,4 +1,4 @@
--- The timing of a report is told by its lines.
+-- The timing of a report is determined by its lines.
 use Rattle.std.proofs.Common.{◌≡◌, ◌<◌, ◌^◌, ℕ, suc, pos, ◌≤ℤ◌, nat_abs, List, [], ◌∷◌, ◌++◌, None, All, map, drop, get_or, length, codes, refl, sym, ap, ap₂, ◌∙◌, subst, append_assoc, arith}
 use Rattle.std.proofs.lemmas.Int.{ints}
 use Rattle.std.proofs.lemmas.List.{length-map}
@@ -34,7 +34,7 @@ pub lines_from : (place : ℕ) (lines others : List Words) → lines ≡ others
     → drop place lines ≡ drop place others
 lines_from place lines others same = ap (λ (l : List Words). drop place l) same
 
--- a version is told by the first line
+-- a version is determined by the first line
 one_version : (version other : Version) → version_line version ≡ version_line other
     → version ≡ other
 one_version First First same = refl
@@ -80,7 +80,7 @@ IsPrintable circuit constraint = IsBetweenRegisters (length circuit.registers) c
     × HasSmallWeight constraint
 
 module _ (circuit : Circuit) where
-  -- constraints are told by their lines, and so is what stands behind them
+  -- constraints are determined by their lines, and so is what stands after them
   one_cycle : (cycle other : List Constraint) (rest rest' : List Words)
       → length cycle ≡ length other → All (IsPrintable circuit) cycle
       → All (IsPrintable circuit) other
@@ -154,7 +154,7 @@ module _ (circuit : Circuit) where
   no_paths [] (p ∷ other) none none' = absurd (omega arith)
   no_paths (p ∷ paths) other none none' = absurd (omega arith)
 
-  -- is told by its lines, and so is what stands behind them
+  -- is determined by its lines, and so is what stands after them
   one_shown : (version : Version) (shown other : PeriodShow) (paths paths' : List (List ℕ))
       (rest rest' : List Words)
       → IsPrintableShow version shown paths → IsPrintableShow version other paths'
@@ -282,14 +282,14 @@ module _ (circuit : Circuit) (report other : Report) (size : IsOfSize circuit re
           none : Slack
           none = record { setup = None; hold = None }
 
-  -- the leads are told by their lines
+  -- the leads are determined by their lines
   one_leads : leads_of report ≡ leads_of other → report.leads ≡ other.leads
   one_leads same = one_map (IsPrintableLead circuit) (lead_line circuit) report.leads other.leads
       (λ i d within. (size.each_lead i d within, bounds.leads i d within))
       (λ i d within. (size'.each_lead i d within, bounds'.leads i d within))
       (λ a b is is' lines. one_lead circuit a b is.0 is'.0 is.1 is'.1 lines) same
 
-  -- the timing is told by the lines of a report, and so are the lines of its tree
+  -- the timing is determined by the lines of a report, and so are the lines of its tree
   pub one_timing : report_lines circuit report ≡ report_lines circuit other
       → SameTiming circuit report other
   one_timing same =

@@ -1,4 +1,4 @@
--- The tree of a report is told by its lines.
+-- The tree of a report is determined by its lines.
 use Rattle.std.proofs.Common.{◌≡◌, ◌<◌, ◌≤◌, ◌+◌, ◌-◌, ◌*◌, ◌^◌, ℕ, ℤ, pos, neg_ℤ, List, [], ◌∷◌, ◌++◌, Some, inl, inr, take, get_or, slice_get, length, codes, sym, ap, ap₂, ◌∙◌, subst, append_assoc, arith}
 use Rattle.std.specs.Option.{unwrap_or}
 use Rattle.std.proofs.lemmas.Bool.{cases_lt}
@@ -63,21 +63,21 @@ module _ (circuit : Circuit) (tech : Tech) (report other : Report) (size : IsOfS
   abbrev last_of : Report → List Words
   last_of r = (codes "wire" ∷ length_text r r.total ∷ []) ∷ []
 
-  -- the tree's lines are told one by one
+  -- the tree's lines are given one by one
   same_lines : SameLines circuit report other
   same_lines =
-      let fronts = one_append (merges_of report) (merges_of other)
+      let prefixes = one_append (merges_of report) (merges_of other)
       (from_source report ++ last_of report) (from_source other ++ last_of other) as_many_merges
       (sym (append_assoc (merges_of report) (from_source report) (last_of report)) ∙ timing.tree
       ∙ append_assoc (merges_of other) (from_source other) (last_of other)) in
       let nodes = one_append (nodes_of report) (nodes_of other) (last_of report) (last_of other)
-      as_many_nodes (lines_from 2 _ _ fronts.1) in
+      as_many_nodes (lines_from 2 _ _ prefixes.1) in
       record {
         merge = λ place within.
             one_image (merge_line_at circuit report) (merge_line_at circuit other)
             (length report.topology.merges) (length other.topology.merges) place
-            (lines_from 1 _ _ fronts.0) within (omega (arith, size.merges, size'.merges));
-        source = line 0 _ _ fronts.1;
+            (lines_from 1 _ _ prefixes.0) within (omega (arith, size.merges, size'.merges));
+        source = line 0 _ _ prefixes.1;
         node = λ node within.
             one_image (node_line_at circuit report) (node_line_at circuit other)
             (length report.tree.length) (length other.tree.length) node nodes.0 within
@@ -110,10 +110,10 @@ module _ (circuit : Circuit) (tech : Tech) (report other : Report) (size : IsOfS
   one_grid = bounds.tree.grid ∙ ap (λ (p : Fraction). grid_of p tech) timing.period
       ∙ sym bounds'.tree.grid
 
-  -- lengths are told by their texts
-  told : (bound : ℕ) (a b : ℤ) → bound ≤ 10 ^ 64 → IsBelow bound a → IsBelow bound b
+  -- lengths are determined by their texts
+  denoted : (bound : ℕ) (a b : ℤ) → bound ≤ 10 ^ 64 → IsBelow bound a → IsBelow bound b
       → length_text report a ≡ length_text other b → a ≡ b
-  told bound a b low below below' same =
+  denoted bound a b low below below' same =
       let grid = grid_bounds tech report bounds.timing bounds.tree in
       one_length bound report.grid other.grid a b low grid.0
       (few_digits (10 ^ 37) report.grid (omega arith) grid.1) one_grid below below' same
@@ -171,7 +171,7 @@ module _ (circuit : Circuit) (tech : Tech) (report other : Report) (size : IsOfS
           → length_text report (get_or report.tree.reach node (pos 0))
           ≡ length_text other (get_or other.tree.reach node (pos 0))
           → get_or report.tree.reach node (pos 0) ≡ get_or other.tree.reach node (pos 0)
-      printed node within same = told (10 ^ 32) (get_or report.tree.reach node (pos 0))
+      printed node within same = denoted (10 ^ 32) (get_or report.tree.reach node (pos 0))
           (get_or other.tree.reach node (pos 0)) (omega arith)
           (bounds.tree.reaches node (pos 0) within)
           (bounds'.tree.reaches node (pos 0) (omega (arith, size.reaches, size'.reaches))) same
@@ -204,7 +204,7 @@ module _ (circuit : Circuit) (tech : Tech) (report other : Report) (size : IsOfS
   one_lengths : report.tree.length ≡ other.tree.length
   one_lengths = same_at report.tree.length other.tree.length (pos 0)
       (omega (arith, size.lengths, size'.lengths)) (λ node within.
-      told (10 ^ 32) (get_or report.tree.length node (pos 0))
+      denoted (10 ^ 32) (get_or report.tree.length node (pos 0))
       (get_or other.tree.length node (pos 0)) (omega arith)
       (bounds.tree.lengths node (pos 0) within)
       (bounds'.tree.lengths node (pos 0) (omega (arith, size.lengths, size'.lengths)))
@@ -239,8 +239,8 @@ module _ (circuit : Circuit) (tech : Tech) (report other : Report) (size : IsOfS
             (omega (arith, size.places, size'.places)) in
             let a = get_or report.tree.place node origin in
             let b = get_or other.tree.place node origin in
-            let x = told (10 ^ 32) a.x b.x (omega arith) here.x there.x (word 1 _ _ lines) in
-            let y = told (10 ^ 32) a.y b.y (omega arith) here.y there.y (word 2 _ _ lines) in
+            let x = denoted (10 ^ 32) a.x b.x (omega arith) here.x there.x (word 1 _ _ lines) in
+            let y = denoted (10 ^ 32) a.y b.y (omega arith) here.y there.y (word 2 _ _ lines) in
             λ i. record { x = x i; y = y i }
         | inr source ↦
             let last : source_of (length report.schedule.at) ≡ node =
@@ -273,7 +273,7 @@ module _ (circuit : Circuit) (tech : Tech) (report other : Report) (size : IsOfS
           ∙ ap (λ o. unwrap_or o origin) begins
           ∙ unwrap_or-slice_get other.tree.place source origin
 
-  -- the tree is told by its lines
+  -- the tree is determined by its lines
   pub one_tree : SameTree report other
   one_tree = record {
     grid = one_grid;
@@ -283,6 +283,6 @@ module _ (circuit : Circuit) (tech : Tech) (report other : Report) (size : IsOfS
     length = one_lengths;
     shows = one_shows;
     wires = one_wires;
-    total = told (10 ^ 36) report.total other.total (omega arith) bounds.tree.total
+    total = denoted (10 ^ 36) report.total other.total (omega arith) bounds.tree.total
         bounds'.tree.total same_lines.total;
   }

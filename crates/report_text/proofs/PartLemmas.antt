@@ -1,4 +1,4 @@
--- What the first lines of a text tell of the lines behind them, and where its first fault is.
+-- What the first lines of a text tell of the lines after them, and where its first fault is.
 use Rattle.std.proofs.Common.{◌≡◌, ◌≢◌, ◌≤◌, ◌^◌, ℕ, zero, suc, pos, ◌*ℤ◌, Option, Some, None, List, [], ◌∷◌, ◌++◌, map, length, get_or, codes, if◌then◌else◌, refl, sym, ap, subst, ◌∙◌, append-nil, arith}
 use Rattle.std.specs.List.{slice_split}
 use Rattle.std.specs.Str.{bytes_eq}
@@ -16,13 +16,13 @@ use Rattle.report_text.specs.declared.form.Form.TheVariants as form
 use Rattle.report_text.specs.declared.form.Scale.{Scale}
 use Rattle.report_text.specs.declared.sections.Heading.{Heading}
 use Rattle.report_text.specs.declared.sections.Shown.{Shown}
-use Rattle.report_text.specs.Forms.{cycle_forms, forms_behind, forms_of}
+use Rattle.report_text.specs.Forms.{cycle_forms, forms_after, forms_of}
 use Rattle.report_text.specs.Headings.{HasHeading, HasShown, IsSmallCount, count_of, heading_forms, shown_line}
 use Rattle.report_text.specs.Parts.{scale_in, whole}
-use Rattle.report_text.specs.ReportFaults.{HasFault, HasFirstFault, cycle_told, den_told, is_line_feed, scale_told, version_told, word_at, words_of}
+use Rattle.report_text.specs.ReportFaults.{HasFault, HasFirstFault, cycle_denoted, den_denoted, is_line_feed, scale_denoted, version_denoted, word_at, words_of}
 use Rattle.report_text.specs.Walks.{Left, Stops}
 use Rattle.report_text.proofs.SectionLemmas.{length_pathed}
-use Rattle.report_text.proofs.ToldForms.{cycle_of, den_of, fraction_den, small_count, value_of}
+use Rattle.report_text.proofs.DenotedForms.{cycle_of, den_of, fraction_den, small_count, value_of}
 
 -- the image of an item
 map_at : (xs : List (List ℕ)) (place : ℕ)
@@ -31,7 +31,7 @@ map_at [] place = refl
 map_at (x ∷ xs) zero = refl
 map_at (x ∷ xs) (suc place) = map_at xs place
 
--- what is told of the line that shows the period
+-- what is said of the line that shows the period
 shown_count : (count : Option ℕ) → IsSmallCount count
     → cycle_of (get_or (shown_line count) 0 []) (get_or (shown_line count) 1 []) ≡ count_of count
 shown_count None small = refl
@@ -55,17 +55,17 @@ module _ {circuit : Circuit} {text : List ℕ} {new : Left} {heading : Heading}
       ∷ rest
 
   -- the words of the lines
-  told : (line place : ℕ)
+  denoted : (line place : ℕ)
       → word_at text line place ≡ get_or (get_or lines line (words_of [])) place []
-  told line place =
+  denoted line place =
       let read = has.lines (record { den = pos 1; grid = pos 1 }) in
       ap (λ ws. get_or ws place [])
       (sym (map_at (slice_split is_line_feed text) line)
       ∙ ap (λ ls. get_or ls line (words_of [])) read.words)
 
-  pub told_version : version_told text ≡ heading.version
-  told_version =
-      ap (λ word. if bytes_eq word (codes "1") then First else Second) (told 0 1)
+  pub denoted_version : version_denoted text ≡ heading.version
+  denoted_version =
+      ap (λ word. if bytes_eq word (codes "1") then First else Second) (denoted 0 1)
       ∙ at heading.version
     where
       at : (version : Version)
@@ -74,44 +74,44 @@ module _ {circuit : Circuit} {text : List ℕ} {new : Left} {heading : Heading}
       at First = refl
       at Second = refl
 
-  told_den : den_told text ≡ heading.period.den
-  told_den =
+  denoted_den : den_denoted text ≡ heading.period.den
+  denoted_den =
       let some = heading.period.lowest.some_den in
       let from = has.small.from_zero in
       let below = has.small.small in
       let low = has.small.low in
-      ap den_of (told 1 1)
+      ap den_of (denoted 1 1)
       ∙ fraction_den heading.period.num heading.period.den some
       (record { above = omega (arith, ints, from); below = omega (arith, ints, below) })
       (record { above = omega (arith, ints, some); below = omega (arith, ints, low) })
 
-  pub told_scale : (tech : Tech) → scale_told tech text ≡ scale_in tech heading.period
-  told_scale tech = λ i. record {
-    den = told_den i;
-    grid = pos (10 ^ 6) *ℤ (pos 8 *ℤ told_den i *ℤ tech.wire_num);
+  pub denoted_scale : (tech : Tech) → scale_denoted tech text ≡ scale_in tech heading.period
+  denoted_scale tech = λ i. record {
+    den = denoted_den i;
+    grid = pos (10 ^ 6) *ℤ (pos 8 *ℤ denoted_den i *ℤ tech.wire_num);
   }
 
-  pub told_cycle : cycle_told text ≡ count_of heading.count
-  told_cycle =
-      ap (λ word. cycle_of word (word_at text 2 1)) (told 2 0)
-      ∙ ap (λ count. cycle_of (get_or (shown_line heading.count) 0 []) count) (told 2 1)
+  pub denoted_cycle : cycle_denoted text ≡ count_of heading.count
+  denoted_cycle =
+      ap (λ word. cycle_of word (word_at text 2 1)) (denoted 2 0)
+      ∙ ap (λ count. cycle_of (get_or (shown_line heading.count) 0 []) count) (denoted 2 1)
       ∙ shown_count heading.count has.count
 
-  -- the first fault by the forms that the heading tells
-  pub told_fault : (tech : Tech) (fault : Option ReportFault)
+  -- the first fault by the forms that the heading gives
+  pub fault_given : (tech : Tech) (fault : Option ReportFault)
       → HasFirstFault circuit (scale_in tech heading.period)
       (forms_of heading.version (count_of heading.count) (length circuit.registers)) 1 text fault
       → HasFault circuit tech text fault
-  told_fault tech fault found =
+  fault_given tech fault found =
       subst (λ (scale : Scale). HasFirstFault circuit scale
-      (forms_of (version_told text) (cycle_told text) (length circuit.registers)) 1 text fault)
-      (sym (told_scale tech))
+      (forms_of (version_denoted text) (cycle_denoted text) (length circuit.registers)) 1 text fault)
+      (sym (denoted_scale tech))
       (subst (λ (version : Version). HasFirstFault circuit (scale_in tech heading.period)
-      (forms_of version (cycle_told text) (length circuit.registers)) 1 text fault)
-      (sym told_version)
+      (forms_of version (cycle_denoted text) (length circuit.registers)) 1 text fault)
+      (sym denoted_version)
       (subst (λ (count : ℕ). HasFirstFault circuit (scale_in tech heading.period)
       (forms_of heading.version count (length circuit.registers)) 1 text fault)
-      (sym told_cycle) found))
+      (sym denoted_cycle) found))
 
   -- a fault in what shows the period
   pub shown_fault : (tech : Tech) (fault : ReportFault)
@@ -119,36 +119,36 @@ module _ {circuit : Circuit} {text : List ℕ} {new : Left} {heading : Heading}
       (cycle_forms heading.version (count_of heading.count)) new fault
       → fault ≢ NoMemory → HasFault circuit tech text (Some fault)
   shown_fault tech fault stops named =
-      let behind = forms_behind heading.version (length circuit.registers) in
+      let suffix = forms_after heading.version (length circuit.registers) in
       let read = has.lines (scale_in tech heading.period) in
-      told_fault tech (Some fault)
-      (read.faults (cycle_forms heading.version (count_of heading.count) ++ behind) (Some fault)
-      (stops named behind))
+      fault_given tech (Some fault)
+      (read.faults (cycle_forms heading.version (count_of heading.count) ++ suffix) (Some fault)
+      (stops named suffix))
 
   module _ (tech : Tech) {further : Left} {shown : Shown}
       (next : HasShown circuit (scale_in tech heading.period) heading.version heading.count new
       further shown) where
-    -- a fault behind that
-    pub behind_fault : (fault : Option ReportFault)
+    -- a fault after that
+    pub after_fault : (fault : Option ReportFault)
         → HasFirstFault circuit (scale_in tech heading.period)
-        (forms_behind heading.version (length circuit.registers)) further.line further.text fault
+        (forms_after heading.version (length circuit.registers)) further.line further.text fault
         → HasFault circuit tech text fault
-    behind_fault fault found =
-        let behind = forms_behind heading.version (length circuit.registers) in
+    after_fault fault found =
+        let suffix = forms_after heading.version (length circuit.registers) in
         let read = has.lines (scale_in tech heading.period) in
-        told_fault tech fault
-        (read.faults (cycle_forms heading.version (count_of heading.count) ++ behind) fault
-        (next.lines.faults behind fault found))
+        fault_given tech fault
+        (read.faults (cycle_forms heading.version (count_of heading.count) ++ suffix) fault
+        (next.lines.faults suffix fault found))
 
     pub body_fault : (fault : ReportFault)
         → Stops circuit (scale_in tech heading.period)
-        (forms_behind heading.version (length circuit.registers)) further fault
+        (forms_after heading.version (length circuit.registers)) further fault
         → fault ≢ NoMemory → HasFault circuit tech text (Some fault)
     body_fault fault stops named =
-        behind_fault (Some fault)
+        after_fault (Some fault)
         (subst (λ forms. HasFirstFault circuit (scale_in tech heading.period) forms further.line
         further.text (Some fault))
-        (append-nil (forms_behind heading.version (length circuit.registers)))
+        (append-nil (forms_after heading.version (length circuit.registers)))
         (stops named []))
 
 -- a fault in the heading
@@ -156,6 +156,6 @@ pub heading_fault : (circuit : Circuit) (tech : Tech) (text : List ℕ) (fault :
     → ((scale : Scale) → Stops circuit scale heading_forms (whole text) fault)
     → fault ≢ NoMemory → HasFault circuit tech text (Some fault)
 heading_fault circuit tech text fault stops named =
-    stops (scale_told tech text) named
-    (cycle_forms (version_told text) (cycle_told text)
-    ++ forms_behind (version_told text) (length circuit.registers))
+    stops (scale_denoted tech text) named
+    (cycle_forms (version_denoted text) (cycle_denoted text)
+    ++ forms_after (version_denoted text) (length circuit.registers))

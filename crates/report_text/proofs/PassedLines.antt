@@ -13,7 +13,7 @@ use Rattle.report_text.specs.Fields.{LineHasFlaw}
 use Rattle.report_text.specs.Forms.{fields_of}
 use Rattle.report_text.specs.ReportFaults.{HasFirstFault, fault_of, is_line_feed, words_of}
 use Rattle.report_text.specs.TimingValues.{IsFlawless}
-use Rattle.report_text.specs.Walks.{Left, ReadsLine, TakesLine, TellsLine}
+use Rattle.report_text.specs.Walks.{Left, ReadsLine, TakesLine, DenotesLine}
 use Rattle.report_text.proofs.LineCuts.{cut_within}
 use Rattle.report_text.proofs.WalkLemmas.{line_read}
 
@@ -22,7 +22,7 @@ abbrev pub IsSound : Circuit → Scale → List Form → Left → Type 0
 IsSound circuit scale forms left =
     HasFirstFault circuit scale forms left.line left.text None
 
--- a value that is told up to a place, and behind it no fault by the forms that are to follow
+-- a value that is given up to a place, and after it no fault by the forms that are to follow
 pub record Passed {X : Type 0} (circuit : Circuit) (scale : Scale) (more : List Form)
     (Has : Left → X → Type 0) : Type 0 where
   pub new : Left
@@ -86,18 +86,18 @@ line_passed circuit scale due more old sound =
         absurd (none-some (fault_of due old.line flaw) is)
 
 -- where words without a flaw tell a value, the next line does
-pub told_passed : {X : Type 0} (circuit : Circuit) (scale : Scale) (due : Form) (more : List Form)
-    → (Tells : Words → X → Type 0) (old : Left)
+pub denoted_passed : {X : Type 0} (circuit : Circuit) (scale : Scale) (due : Form) (more : List Form)
+    → (Denotes : Words → X → Type 0) (old : Left)
     → ((words : Words) → 0 < length words → IsFlawless circuit scale due words
-    → (value : X) × Tells words value) → IsSound circuit scale (due ∷ more) old
-    → Passed circuit scale more (TellsLine circuit scale due Tells old)
-told_passed circuit scale due more Tells old tells sound =
+    → (value : X) × Denotes words value) → IsSound circuit scale (due ∷ more) old
+    → Passed circuit scale more (DenotesLine circuit scale due Denotes old)
+denoted_passed circuit scale due more Denotes old denotes sound =
     let passed = line_passed circuit scale due more old sound in
-    let (value, told) = tells passed.words passed.line.some passed.line.flawless in
+    let (value, denoted) = denotes passed.words passed.line.some passed.line.flawless in
     record {
       new = passed.new;
       value = value;
-      has = record { words = passed.words; line = passed.line; told = told };
+      has = record { words = passed.words; line = passed.line; denoted = denoted };
       rest = passed.rest;
     }
 
@@ -107,9 +107,9 @@ pub steps_passed : {X : Type 0} (circuit : Circuit) (scale : Scale) (more : List
     → (forms : (place rest : ℕ) → List Form)
     → ((place rest : ℕ) → forms place (suc rest) ≡ due place ++ forms (place + 1) rest)
     → ((place : ℕ) → forms place 0 ≡ [])
-    → ((place : ℕ) (behind : List Form) (between : Left) (value : X) → place < count
-    → Has place between value → IsSound circuit scale (due place ++ behind) between
-    → Passed circuit scale behind (Has (place + 1)))
+    → ((place : ℕ) (suffix : List Form) (between : Left) (value : X) → place < count
+    → Has place between value → IsSound circuit scale (due place ++ suffix) between
+    → Passed circuit scale suffix (Has (place + 1)))
     → (rest place : ℕ) → place + rest ≡ count → (between : Left) (value : X)
     → Has place between value → IsSound circuit scale (forms place rest ++ more) between
     → Passed circuit scale more (Has count)

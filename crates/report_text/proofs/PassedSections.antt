@@ -20,13 +20,13 @@ use Rattle.report_text.specs.Bodies.{Counted, HasBody, HasVersionLeads, merge_fo
 use Rattle.report_text.specs.Forms.{cycle_forms, lead_forms}
 use Rattle.report_text.specs.Keywords.{keyword_text}
 use Rattle.report_text.specs.Sections.{HasCycle, HasLeads, HasMerged, HasPathed, HasPlaced, HasTimings}
-use Rattle.report_text.specs.TimingValues.{TellsConstraint, TellsLead, TellsPath}
+use Rattle.report_text.specs.TimingValues.{DenotesConstraint, DenotesLead, DenotesPath}
 use Rattle.report_text.specs.Values.{IsSmallScale, SaysMerge, SaysNode, SaysSource, SaysTotal}
-use Rattle.report_text.specs.Walks.{Left, ReadsLine, TellsTimed}
-use Rattle.report_text.proofs.PassedLines.{IsSound, Passed, steps_passed, told_passed}
+use Rattle.report_text.specs.Walks.{Left, ReadsLine, DenotesTimed}
+use Rattle.report_text.proofs.PassedLines.{IsSound, Passed, steps_passed, denoted_passed}
 use Rattle.report_text.proofs.SectionLemmas.{cycle_next, leads_next, merged_next, pathed_next, placed_next, timings_next}
 use Rattle.report_text.proofs.TimingFound.{constraint_found, lead_found, path_found, timed_found}
-use Rattle.report_text.proofs.TimingTold.{count_told}
+use Rattle.report_text.proofs.TimingDenoted.{count_denoted}
 use Rattle.report_text.proofs.TreeFound.{merge_found, node_found, source_found, total_found}
 use Rattle.report_text.proofs.WalkLemmas.{read_none}
 
@@ -47,13 +47,13 @@ module _ (circuit : Circuit) (scale : Scale) where
         small_slacks = λ place default within. absurd (omega (arith, within));
       }) sound
     where
-      next : (place : ℕ) (behind : List Form) (between : Left) (value : Timings) → place < count
+      next : (place : ℕ) (suffix : List Form) (between : Left) (value : Timings) → place < count
           → HasTimings circuit scale place old between value
-          → IsSound circuit scale (form.Register place ∷ behind) between
-          → Passed circuit scale behind (HasTimings circuit scale (place + 1) old)
-      next place behind between value within has sound =
-          let line = told_passed circuit scale (form.Register place) behind
-          (TellsTimed circuit scale place) between
+          → IsSound circuit scale (form.Register place ∷ suffix) between
+          → Passed circuit scale suffix (HasTimings circuit scale (place + 1) old)
+      next place suffix between value within has sound =
+          let line = denoted_passed circuit scale (form.Register place) suffix
+          (DenotesTimed circuit scale place) between
           (λ words some. timed_found circuit scale place words small) sound in
           record {
             new = line.new;
@@ -93,13 +93,13 @@ module _ (circuit : Circuit) (scale : Scale) where
       registers : ℕ
       registers = length circuit.registers
 
-      next : (place : ℕ) (behind : List Form) (between : Left) (value : Merged) → place < count
+      next : (place : ℕ) (suffix : List Form) (between : Left) (value : Merged) → place < count
           → HasMerged circuit scale place old between value
-          → IsSound circuit scale (form.Merge (length circuit.registers + place) ∷ behind) between
-          → Passed circuit scale behind (HasMerged circuit scale (place + 1) old)
-      next place behind between value within has sound =
+          → IsSound circuit scale (form.Merge (length circuit.registers + place) ∷ suffix) between
+          → Passed circuit scale suffix (HasMerged circuit scale (place + 1) old)
+      next place suffix between value within has sound =
           let node = length circuit.registers + place in
-          let line = told_passed circuit scale (form.Merge node) behind
+          let line = denoted_passed circuit scale (form.Merge node) suffix
           (SaysMerge circuit scale.grid node) between
           (λ words some. merge_found circuit scale node words small (omega (arith, few, within)))
           sound in
@@ -132,12 +132,12 @@ module _ (circuit : Circuit) (scale : Scale) where
         small_wires = λ place default within. absurd (omega (arith, within));
       }) sound
     where
-      next : (place : ℕ) (behind : List Form) (between : Left) (value : Placed) → place < count
+      next : (place : ℕ) (suffix : List Form) (between : Left) (value : Placed) → place < count
           → HasPlaced circuit scale place old between value
-          → IsSound circuit scale (form.Node place ∷ behind) between
-          → Passed circuit scale behind (HasPlaced circuit scale (place + 1) old)
-      next place behind between value within has sound =
-          let line = told_passed circuit scale (form.Node place) behind
+          → IsSound circuit scale (form.Node place ∷ suffix) between
+          → Passed circuit scale suffix (HasPlaced circuit scale (place + 1) old)
+      next place suffix between value within has sound =
+          let line = denoted_passed circuit scale (form.Node place) suffix
           (SaysNode scale.grid place) between
           (λ words some. node_found circuit scale place words small (omega (arith, few, within))
           some) sound in
@@ -165,12 +165,12 @@ module _ (circuit : Circuit) (scale : Scale) where
         small = λ place default within. absurd (omega (arith, within));
       }) sound
     where
-      next : (place : ℕ) (behind : List Form) (between : Left) (value : List Lead)
+      next : (place : ℕ) (suffix : List Form) (between : Left) (value : List Lead)
           → place < count → HasLeads circuit scale place old between value
-          → IsSound circuit scale (form.Lead ∷ behind) between
-          → Passed circuit scale behind (HasLeads circuit scale (place + 1) old)
-      next place behind between value within has sound =
-          let line = told_passed circuit scale form.Lead behind (TellsLead circuit) between
+          → IsSound circuit scale (form.Lead ∷ suffix) between
+          → Passed circuit scale suffix (HasLeads circuit scale (place + 1) old)
+      next place suffix between value within has sound =
+          let line = denoted_passed circuit scale form.Lead suffix (DenotesLead circuit) between
           (λ words some. lead_found circuit scale words) sound in
           record {
             new = line.new;
@@ -192,12 +192,12 @@ module _ (circuit : Circuit) (scale : Scale) where
         weights = λ place default within. absurd (omega (arith, within));
       }) sound
     where
-      next : (place : ℕ) (behind : List Form) (between : Left) (value : List Constraint)
+      next : (place : ℕ) (suffix : List Form) (between : Left) (value : List Constraint)
           → place < count → HasCycle circuit scale place old between value
-          → IsSound circuit scale (form.Constraint ∷ behind) between
-          → Passed circuit scale behind (HasCycle circuit scale (place + 1) old)
-      next place behind between value within has sound =
-          let line = told_passed circuit scale form.Constraint behind (TellsConstraint circuit)
+          → IsSound circuit scale (form.Constraint ∷ suffix) between
+          → Passed circuit scale suffix (HasCycle circuit scale (place + 1) old)
+      next place suffix between value within has sound =
+          let line = denoted_passed circuit scale form.Constraint suffix (DenotesConstraint circuit)
           between (λ words some. constraint_found circuit scale words) sound in
           record {
             new = line.new;
@@ -223,15 +223,15 @@ module _ (circuit : Circuit) (scale : Scale) where
         few = λ place default within. absurd (omega (arith, within));
       }) sound
     where
-      next : (place : ℕ) (behind : List Form) (between : Left) (value : Pathed)
+      next : (place : ℕ) (suffix : List Form) (between : Left) (value : Pathed)
           → place < count → HasPathed circuit scale place old between value
-          → IsSound circuit scale (form.Constraint ∷ form.Path ∷ behind) between
-          → Passed circuit scale behind (HasPathed circuit scale (place + 1) old)
-      next place behind between value within has sound =
-          let line = told_passed circuit scale form.Constraint (form.Path ∷ behind)
-          (TellsConstraint circuit) between
+          → IsSound circuit scale (form.Constraint ∷ form.Path ∷ suffix) between
+          → Passed circuit scale suffix (HasPathed circuit scale (place + 1) old)
+      next place suffix between value within has sound =
+          let line = denoted_passed circuit scale form.Constraint (form.Path ∷ suffix)
+          (DenotesConstraint circuit) between
           (λ words some. constraint_found circuit scale words) sound in
-          let way = told_passed circuit scale form.Path behind (TellsPath circuit) line.new
+          let way = denoted_passed circuit scale form.Path suffix (DenotesPath circuit) line.new
           (λ words some. path_found circuit scale words) line.rest in
           record {
             new = way.new;
@@ -245,7 +245,7 @@ module _ (circuit : Circuit) (scale : Scale) where
 
   -- ---- the sections
 
-  -- so many lines behind how many they are
+  -- so many lines after how many they are
   counted_passed : {X : Type 0} (keyword : Keyword) (count : ℕ) (forms more : List Form)
       → (Has : Left → Left → X → Type 0) → count < 10 ^ 37
       → ((between : Left) → IsSound circuit scale (forms ++ more) between
@@ -253,9 +253,9 @@ module _ (circuit : Circuit) (scale : Scale) where
       → IsSound circuit scale (form.Count keyword count ∷ forms ++ more) old
       → Passed circuit scale more (Counted circuit scale keyword count Has old)
   counted_passed keyword count forms more Has few has old sound =
-      let line = told_passed circuit scale (form.Count keyword count) (forms ++ more)
-      (λ words (told : ℕ). words ≡ count_line (keyword_text keyword) count) old
-      (λ words some flawless. (0, count_told circuit scale keyword count words few flawless))
+      let line = denoted_passed circuit scale (form.Count keyword count) (forms ++ more)
+      (λ words (denoted : ℕ). words ≡ count_line (keyword_text keyword) count) old
+      (λ words some flawless. (0, count_denoted circuit scale keyword count words few flawless))
       sound in
       let section = has line.new line.rest in
       record {
@@ -264,7 +264,7 @@ module _ (circuit : Circuit) (scale : Scale) where
         has = record {
           between = line.new;
           counted = subst (λ words. ReadsLine circuit scale (form.Count keyword count) words old
-              line.new) line.has.told line.has.line;
+              line.new) line.has.denoted line.has.line;
           has = section.has;
         };
         rest = section.rest;
@@ -298,7 +298,7 @@ module _ (circuit : Circuit) (scale : Scale) where
         rest = leads.rest;
       }
 
-  -- the forms of all sections, one behind the other
+  -- the forms of all sections, one after the other
   forms_apart : (a b c d e more : List Form)
       → (a ++ b ++ c ++ d ++ e) ++ more ≡ a ++ (b ++ (c ++ (d ++ (e ++ more))))
   forms_apart a b c d e more =
@@ -332,7 +332,7 @@ module _ (circuit : Circuit) (scale : Scale) where
       (form.Source ∷ nodes ++ last) (HasMerged circuit scale (count - 1)) (omega (arith, some))
       (λ between. merged_passed (count - 1) (form.Source ∷ nodes ++ last) between small
       (omega (arith, few, some))) leads.new leads.rest in
-      let source = told_passed circuit scale form.Source (nodes ++ last)
+      let source = denoted_passed circuit scale form.Source (nodes ++ last)
       (SaysSource circuit scale.grid) merged.new
       (λ words there. source_found circuit scale words small) merged.rest in
       let placed = counted_passed word.Nodes (2 * count - 1)
@@ -340,7 +340,7 @@ module _ (circuit : Circuit) (scale : Scale) where
       (HasPlaced circuit scale (2 * count - 1)) (omega (arith, some))
       (λ between. placed_passed (2 * count - 1) last between small (omega (arith, some)))
       source.new source.rest in
-      let total = told_passed circuit scale form.Total more (SaysTotal scale.grid) placed.new
+      let total = denoted_passed circuit scale form.Total more (SaysTotal scale.grid) placed.new
       (λ words there. total_found circuit scale words small) placed.rest in
       record {
         new = total.new;
@@ -353,11 +353,11 @@ module _ (circuit : Circuit) (scale : Scale) where
           total = total.value;
         };
         has = record {
-          behind_registers = timings.new;
-          behind_leads = leads.new;
-          behind_merges = merged.new;
-          behind_source = source.new;
-          behind_nodes = placed.new;
+          after_registers = timings.new;
+          after_leads = leads.new;
+          after_merges = merged.new;
+          after_source = source.new;
+          after_nodes = placed.new;
           timings = timings.has;
           leads = leads.has;
           merged = merged.has;

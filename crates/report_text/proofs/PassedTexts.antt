@@ -18,18 +18,18 @@ use Rattle.report_text.specs.declared.form.Form.TheVariants as form
 use Rattle.report_text.specs.declared.form.Scale.{Scale}
 use Rattle.report_text.specs.declared.sections.Heading.{Heading}
 use Rattle.report_text.specs.declared.sections.Parts.{Parts}
-use Rattle.report_text.specs.Forms.{cycle_forms, forms_behind}
+use Rattle.report_text.specs.Forms.{cycle_forms, forms_after}
 use Rattle.report_text.specs.Headings.{HasHeading, HasShown, IsSmallCount, count_of, heading_forms}
 use Rattle.report_text.specs.Parts.{HasParts, scale_in, whole}
-use Rattle.report_text.specs.ReportFaults.{HasFault, cycle_told, scale_told, version_told}
-use Rattle.report_text.specs.TimingValues.{TellsPeriod, TellsShow}
-use Rattle.report_text.specs.ToldReports.{report_told}
-use Rattle.report_text.specs.Walks.{Left, TellsVersion}
+use Rattle.report_text.specs.ReportFaults.{HasFault, cycle_denoted, scale_denoted, version_denoted}
+use Rattle.report_text.specs.TimingValues.{DenotesPeriod, DenotesShow}
+use Rattle.report_text.specs.DenotedReports.{report_denoted}
+use Rattle.report_text.specs.Walks.{Left, DenotesVersion}
 use Rattle.report_text.proofs.GridLemmas.{scale_small}
 use Rattle.report_text.proofs.HeadingLemmas.{heading_read}
-use Rattle.report_text.proofs.PartLemmas.{told_cycle, told_scale, told_version}
-use Rattle.report_text.proofs.PartsTold.{parts_spelled}
-use Rattle.report_text.proofs.PassedLines.{IsSound, Passed, told_passed}
+use Rattle.report_text.proofs.PartLemmas.{denoted_cycle, denoted_scale, denoted_version}
+use Rattle.report_text.proofs.PartsDenoted.{parts_spelled}
+use Rattle.report_text.proofs.PassedLines.{IsSound, Passed, denoted_passed}
 use Rattle.report_text.proofs.PassedSections.{body_passed, cycle_passed, pathed_passed}
 use Rattle.report_text.proofs.TimingFound.{period_found, show_found, version_found}
 use Rattle.report_text.proofs.WalkLemmas.{read_none}
@@ -39,11 +39,11 @@ heading_passed : (circuit : Circuit) (scale : Scale) (more : List Form) (old : L
     → IsSound circuit scale (heading_forms ++ more) old
     → Passed circuit scale more (HasHeading circuit old)
 heading_passed circuit scale more old sound =
-    let version = told_passed circuit scale form.Version (form.Period ∷ form.Show ∷ more)
-    TellsVersion old (λ words some. version_found circuit scale words) sound in
-    let period = told_passed circuit scale form.Period (form.Show ∷ more) TellsPeriod version.new
+    let version = denoted_passed circuit scale form.Version (form.Period ∷ form.Show ∷ more)
+    DenotesVersion old (λ words some. version_found circuit scale words) sound in
+    let period = denoted_passed circuit scale form.Period (form.Show ∷ more) DenotesPeriod version.new
     (λ words some. period_found circuit scale words) version.rest in
-    let count = told_passed circuit scale form.Show more TellsShow period.new
+    let count = denoted_passed circuit scale form.Show more DenotesShow period.new
     (λ words some. show_found circuit scale words) period.rest in
     record {
       new = count.new;
@@ -131,24 +131,24 @@ shown_passed circuit scale Second (Some count) more old small sound =
       rest = pathed.rest;
     }
 
--- behind the heading the forms are those that it tells
-forms_told : {circuit : Circuit} {text : List ℕ} {new : Left} {heading : Heading}
+-- after the heading the forms are those that it denotes
+forms_denoted : {circuit : Circuit} {text : List ℕ} {new : Left} {heading : Heading}
     → HasHeading circuit (whole text) new heading → (tech : Tech)
-    → IsSound circuit (scale_told tech text) (cycle_forms (version_told text) (cycle_told text)
-    ++ forms_behind (version_told text) (length circuit.registers)) new
+    → IsSound circuit (scale_denoted tech text) (cycle_forms (version_denoted text) (cycle_denoted text)
+    ++ forms_after (version_denoted text) (length circuit.registers)) new
     → IsSound circuit (scale_in tech heading.period)
     (cycle_forms heading.version (count_of heading.count)
-    ++ forms_behind heading.version (length circuit.registers)) new
-forms_told {circuit} {text} {new} {heading} has tech sound =
+    ++ forms_after heading.version (length circuit.registers)) new
+forms_denoted {circuit} {text} {new} {heading} has tech sound =
     subst (λ (scale : Scale). IsSound circuit scale
     (cycle_forms heading.version (count_of heading.count)
-    ++ forms_behind heading.version (length circuit.registers)) new) (told_scale has tech)
-    (subst (λ (version : Version). IsSound circuit (scale_told tech text)
+    ++ forms_after heading.version (length circuit.registers)) new) (denoted_scale has tech)
+    (subst (λ (version : Version). IsSound circuit (scale_denoted tech text)
     (cycle_forms version (count_of heading.count)
-    ++ forms_behind version (length circuit.registers)) new) (told_version has)
-    (subst (λ (count : ℕ). IsSound circuit (scale_told tech text)
-    (cycle_forms (version_told text) count
-    ++ forms_behind (version_told text) (length circuit.registers)) new) (told_cycle has) sound))
+    ++ forms_after version (length circuit.registers)) new) (denoted_version has)
+    (subst (λ (count : ℕ). IsSound circuit (scale_denoted tech text)
+    (cycle_forms (version_denoted text) count
+    ++ forms_after (version_denoted text) (length circuit.registers)) new) (denoted_cycle has) sound))
 
 -- where nothing more is to follow, nothing is left
 nothing_left : (circuit : Circuit) (scale : Scale) (left : Left) → IsSound circuit scale [] left
@@ -179,21 +179,21 @@ parts_passed : (circuit : Circuit) (tech : Tech) (text : List ℕ) → HasFault 
 parts_passed circuit tech text sound =
     let registers = length circuit.registers in
     let few = few_registers circuit in
-    let heading = heading_passed circuit (scale_told tech text)
-    (cycle_forms (version_told text) (cycle_told text)
-    ++ forms_behind (version_told text) registers) (whole text) sound in
+    let heading = heading_passed circuit (scale_denoted tech text)
+    (cycle_forms (version_denoted text) (cycle_denoted text)
+    ++ forms_after (version_denoted text) registers) (whole text) sound in
     let scale = scale_in tech heading.value.period in
-    let behind : List Form = forms_behind heading.value.version registers in
-    let shown = shown_passed circuit scale heading.value.version heading.value.count behind
-    heading.new heading.has.count (forms_told heading.has tech heading.rest) in
+    let suffix : List Form = forms_after heading.value.version registers in
+    let shown = shown_passed circuit scale heading.value.version heading.value.count suffix
+    heading.new heading.has.count (forms_denoted heading.has tech heading.rest) in
     let body = body_passed circuit scale heading.value.version registers [] shown.new
     (scale_small tech heading.value.period heading.has.small) few few
-    (subst (λ forms. IsSound circuit scale forms shown.new) (sym (append-nil behind))
+    (subst (λ forms. IsSound circuit scale forms shown.new) (sym (append-nil suffix))
     shown.rest) in (
       record { heading = heading.value; shown = shown.value; body = body.value },
       record {
-        behind_heading = heading.new;
-        behind_shown = shown.new;
+        after_heading = heading.new;
+        after_shown = shown.new;
         end = body.new;
         heading = heading.has;
         shown = shown.has;
@@ -207,4 +207,4 @@ pub report_spelled : (circuit : Circuit) (tech : Tech) (text : List ℕ)
     → HasFault circuit tech text None → (report : Report) × Spells circuit tech text report
 report_spelled circuit tech text sound =
     let (parts, has) = parts_passed circuit tech text sound in
-    (report_told tech parts, parts_spelled has)
+    (report_denoted tech parts, parts_spelled has)

@@ -16,7 +16,7 @@ use Rattle.report_text.specs.declared.field.Field.TheVariants as field
 use Rattle.report_text.specs.Fields.{EachWord, LineHasFlaw, WordHasFlaw}
 use Rattle.report_text.specs.Forms.{register_named}
 use Rattle.report_text.specs.Values.{SpellsNumber, SpellsRegister, SpellsSteps}
-use Rattle.report_text.proofs.NumberWords.{few_steps, number_small, number_spelled, spelled_steps, told_steps, whole_steps, whole_word}
+use Rattle.report_text.proofs.NumberWords.{few_steps, number_small, number_spelled, spelled_steps, denoted_steps, whole_steps, whole_word}
 use Rattle.report_text.proofs.OneName.{one_register}
 use Rattle.report_text.proofs.RegisterNames.{named_register}
 
@@ -56,10 +56,10 @@ one_number word a b spells other =
     omega (arith, ints, same)
 
 -- a number without a flaw
-pub told_number : (circuit : Circuit) (least most : ℕ) (word : List ℕ) → most < 2 ^ 32
+pub denoted_number : (circuit : Circuit) (least most : ℕ) (word : List ℕ) → most < 2 ^ 32
     → IsPlain circuit (field.Number least most) word
     → (number : ℕ) × (least ≤ number) × (number ≤ most) × SpellsNumber word number
-told_number circuit least most word small ((value, spells, low), known, fit, within) =
+denoted_number circuit least most word small ((value, spells, low), known, fit, within) =
     at value spells low (within value spells)
   where
     at : (v : ℤ) → SpellsWhole word v → pos least ≤ℤ v → v ≤ℤ pos most
@@ -89,9 +89,9 @@ plain_number circuit least most number small low high =
     )
 
 -- the word of a number that is due
-pub told_exactly : (circuit : Circuit) (number : ℕ) (word : List ℕ) → number < 2 ^ 32
+pub denoted_exactly : (circuit : Circuit) (number : ℕ) (word : List ℕ) → number < 2 ^ 32
     → IsPlain circuit (field.Exactly number) word → word ≡ signed_decimal (pos number)
-told_exactly circuit number word small plain =
+denoted_exactly circuit number word small plain =
     whole_word word (pos number) (number_small number small) plain.0
 
 pub plain_exactly : (circuit : Circuit) (number : ℕ) → number < 2 ^ 32
@@ -120,11 +120,11 @@ one_length over word a b some small spells other =
     (few_digits over small) (sym spells.1 ∙ other.1)
 
 -- steps without a flaw
-pub told_length : (circuit : Circuit) (over : ℤ) (bound : ℕ) (word : List ℕ) → pos 1 ≤ℤ over
+pub denoted_length : (circuit : Circuit) (over : ℤ) (bound : ℕ) (word : List ℕ) → pos 1 ≤ℤ over
     → bound ≤ 10 ^ 37 → IsPlain circuit (field.Steps over (pos bound)) word
     → (steps : ℤ) × IsBelow bound steps × SpellsSteps over word steps
-told_length circuit over bound word some less ((num, den, form), known, whole, few) =
-    let (steps, small, same) = told_steps word over num den bound some form whole few in
+denoted_length circuit over bound word some less ((num, den, form), known, whole, few) =
+    let (steps, small, same) = denoted_steps word over num den bound some form whole few in
     (steps, small, (size_below bound steps less small, same))
 
 -- the word of steps within the bound has none
@@ -143,10 +143,10 @@ plain_length circuit over bound steps some small less below =
 -- ---- registers
 
 -- a register from the one of a name on isn't before it
-pub told_order : (circuit : Circuit) (name word : List ℕ) (first second : ℕ)
+pub denoted_order : (circuit : Circuit) (name word : List ℕ) (first second : ℕ)
     → IsPlain circuit (field.From (register_named circuit name)) word
     → SpellsRegister circuit name first → SpellsRegister circuit word second → first ≤ second
-told_order circuit name word first second (formed, known, fit, within) spells other =
+denoted_order circuit name word first second (formed, known, fit, within) spells other =
     let least = fit second other.0 other.1 in
     omega (arith, least, named_register circuit name first spells.0 spells.1)
 

@@ -28,7 +28,7 @@ AreWords words = AllByRecursion IsWord words
 abbrev pub AreLines : List Words → Type 0
 AreLines lines = AllByRecursion IsLine lines
 
--- one list behind another
+-- one list after another
 appended : {X : Type 0} (P : X → Type 0) (xs ys : List X) → AllByRecursion P xs
     → AllByRecursion P ys → AllByRecursion P (xs ++ ys)
 appended P [] ys each each' = each'
@@ -192,11 +192,11 @@ count_is word count is = (is, (number_word (pos count), tt))
 timing_are : (circuit : Circuit) (report : Report) → AreLines (timing_lines circuit report)
 timing_are circuit report =
     let shown = period_show_lines report.version circuit report.shown report.paths in
-    let front = version_line report.version ∷ period_line report.period ∷ shown in
+    let prefix = version_line report.version ∷ period_line report.period ∷ shown in
     let registers = lines_below (register_line_at circuit report) (length report.schedule.at) in
     let count = count_line (codes "registers") (length report.schedule.at) in
     let leads = map (lead_line circuit) report.leads in
-    let front_are : AreLines front = (
+    let prefix_are : AreLines prefix = (
       version_is report.version,
       (
         (
@@ -212,8 +212,8 @@ timing_are circuit report =
       mapped IsLine (register_line_at circuit report)
           (range_with_len 0 (length report.schedule.at)) (register_is circuit report),
     ) in
-    appended IsLine (front ++ count ∷ registers) leads
-    (appended IsLine front (count ∷ registers) front_are registers_are)
+    appended IsLine (prefix ++ count ∷ registers) leads
+    (appended IsLine prefix (count ∷ registers) prefix_are registers_are)
     (mapped IsLine (lead_line circuit) report.leads (lead_is circuit))
 
 -- the words for what shows a reach
@@ -291,11 +291,11 @@ tree_are : (circuit : Circuit) (report : Report) → AreLines (tree_lines circui
 tree_are circuit report =
     let merges = length report.topology.merges in
     let nodes = length report.tree.length in
-    let front = count_line (codes "merges") merges
+    let prefix = count_line (codes "merges") merges
     ∷ lines_below (merge_line_at circuit report) merges in
     let back = source_line circuit report ∷ count_line (codes "nodes") nodes
     ∷ lines_below (node_line_at circuit report) nodes in
-    let front_are : AreLines front = (
+    let prefix_are : AreLines prefix = (
       count_is (codes "merges") merges word_of_merges,
       mapped IsLine (merge_line_at circuit report) (range_with_len 0 merges)
           (merge_is circuit report),
@@ -308,8 +308,8 @@ tree_are circuit report =
             (node_is circuit report),
       ),
     ) in
-    appended IsLine (front ++ back) ((codes "wire" ∷ length_text report report.total ∷ []) ∷ [])
-    (appended IsLine front back front_are back_are)
+    appended IsLine (prefix ++ back) ((codes "wire" ∷ length_text report report.total ∷ []) ∷ [])
+    (appended IsLine prefix back prefix_are back_are)
     ((word_of_wire, (quotient_word report.total report.grid, tt)), tt)
 
 -- the lines of a report are lines

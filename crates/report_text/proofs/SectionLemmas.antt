@@ -32,9 +32,9 @@ use Rattle.report_text.specs.declared.tree_values.MergeLine.{MergeLine}
 use Rattle.report_text.specs.declared.tree_values.NodeLine.{NodeLine}
 use Rattle.report_text.specs.Forms.{cycle_forms}
 use Rattle.report_text.specs.Sections.{HasCycle, HasLeads, HasMerged, HasPathed, HasPlaced, HasTimings, merged_line, placed_line, placed_words, timed_line}
-use Rattle.report_text.specs.TimingValues.{TellsConstraint, TellsLead, TellsPath}
+use Rattle.report_text.specs.TimingValues.{DenotesConstraint, DenotesLead, DenotesPath}
 use Rattle.report_text.specs.Values.{SaysMerge, SaysNode}
-use Rattle.report_text.specs.Walks.{Left, Reads, Stops, StopsLine, TellsLine, TellsTimed}
+use Rattle.report_text.specs.Walks.{Left, Reads, Stops, StopsLine, DenotesLine, DenotesTimed}
 use Rattle.report_text.proofs.WalkLemmas.{next_read, next_stops, numbered_more, read_more, stop_line}
 
 -- a list with one more item
@@ -95,7 +95,7 @@ module _ {circuit : Circuit} {scale : Scale} {place : ℕ} {old between new : Le
   -- one more register
   pub timings_next : (timings timings' : Timings) (timed : Timed)
       → HasTimings circuit scale place old between timings
-      → TellsLine circuit scale (form.Register place) (TellsTimed circuit scale place)
+      → DenotesLine circuit scale (form.Register place) (DenotesTimed circuit scale place)
       between new timed
       → timings'.at ≡ timings.at ++ timed.arrival ∷ []
       → timings'.slacks ≡ timings.slacks ++ timed.slack ∷ []
@@ -115,21 +115,21 @@ module _ {circuit : Circuit} {scale : Scale} {place : ℕ} {old between new : Le
             within i)
             (before_last timings.slacks timings'.slacks timed.slack slacks none place k has.slacks
             within i))
-            (next.told.line ∙ λ i. register_line circuit scale.den place
+            (next.denoted.line ∙ λ i. register_line circuit scale.den place
             (last_of timings.at timings'.at timed.arrival at (pos 0) place has.arrivals i)
             (last_of timings.slacks timings'.slacks timed.slack slacks none place has.slacks i)));
         arrivals = longer timings.at timings'.at timed.arrival at place has.arrivals;
         slacks = longer timings.slacks timings'.slacks timed.slack slacks place has.slacks;
         small = all_with timings.at timings'.at timed.arrival at (IsBelow (10 ^ 19)) has.small
-            next.told.small;
+            next.denoted.small;
         small_slacks = all_with timings.slacks timings'.slacks timed.slack slacks
-            (AreSmallSlacks scale.den) has.small_slacks next.told.slacks;
+            (AreSmallSlacks scale.den) has.small_slacks next.denoted.slacks;
       }
 
   -- one more merge
   pub merged_next : (merged merged' : Merged) (line : MergeLine)
       → HasMerged circuit scale place old between merged
-      → TellsLine circuit scale (form.Merge (length circuit.registers + place))
+      → DenotesLine circuit scale (form.Merge (length circuit.registers + place))
       (SaysMerge circuit scale.grid (length circuit.registers + place)) between new line
       → merged'.merges ≡ merged.merges ++ line.merge ∷ []
       → merged'.reaches ≡ merged.reaches ++ line.reach ∷ []
@@ -165,26 +165,26 @@ module _ {circuit : Circuit} {scale : Scale} {place : ℕ} {old between new : Le
             ∷ signed_decimal (pos (joined k within i).second)
             ∷ quotient_text (reached k within i) scale.grid
             ∷ show_words circuit (shown k within i))
-            (next.told.words_are ∙ λ i. signed_decimal (pos (length circuit.registers + place))
+            (next.denoted.words_are ∙ λ i. signed_decimal (pos (length circuit.registers + place))
             ∷ signed_decimal (pos (join i).first) ∷ signed_decimal (pos (join i).second)
             ∷ quotient_text (reach i) scale.grid ∷ show_words circuit (show i)));
         merges = longer merged.merges merged'.merges line.merge merges place has.merges;
         reaches = longer merged.reaches merged'.reaches line.reach reaches place has.reaches;
         shows = longer merged.shows merged'.shows line.show shows place has.shows;
         small = all_with merged.merges merged'.merges line.merge merges IsSmallMerge has.small
-            next.told.merge;
+            next.denoted.merge;
         small_reaches = all_with merged.reaches merged'.reaches line.reach reaches
-            (IsBelow (10 ^ 32)) has.small_reaches next.told.reach;
+            (IsBelow (10 ^ 32)) has.small_reaches next.denoted.reach;
         merge_shows = all_with merged.shows merged'.shows line.show shows IsMergeShow
-            has.merge_shows next.told.show;
+            has.merge_shows next.denoted.show;
         among = all_with merged.shows merged'.shows line.show shows
-            (ShowsAmong (length circuit.registers)) has.among next.told.among;
+            (ShowsAmong (length circuit.registers)) has.among next.denoted.among;
       }
 
   -- one more node
   pub placed_next : (placed placed' : Placed) (line : NodeLine)
       → HasPlaced circuit scale place old between placed
-      → TellsLine circuit scale (form.Node place) (SaysNode scale.grid place) between new line
+      → DenotesLine circuit scale (form.Node place) (SaysNode scale.grid place) between new line
       → placed'.places ≡ placed.places ++ line.place ∷ []
       → placed'.lengths ≡ placed.lengths ++ line.length ∷ []
       → placed'.wires ≡ placed.wires ++ line.wire ∷ []
@@ -204,7 +204,7 @@ module _ {circuit : Circuit} {scale : Scale} {place : ℕ} {old between new : Le
         (before_last placed.lengths placed'.lengths line.length lengths (pos 0) place k has.lengths
         within i)
         (before_last placed.wires placed'.wires line.wire wires no_wire place k has.wires within i))
-        (next.told.words_are ∙ λ i. placed_words scale.grid place
+        (next.denoted.words_are ∙ λ i. placed_words scale.grid place
         (last_of placed.places placed'.places line.place places origin place has.places i)
         (last_of placed.lengths placed'.lengths line.length lengths (pos 0) place has.lengths i)
         (last_of placed.wires placed'.wires line.wire wires no_wire place has.wires i)));
@@ -212,17 +212,17 @@ module _ {circuit : Circuit} {scale : Scale} {place : ℕ} {old between new : Le
     lengths = longer placed.lengths placed'.lengths line.length lengths place has.lengths;
     wires = longer placed.wires placed'.wires line.wire wires place has.wires;
     small_places = all_with placed.places placed'.places line.place places
-        (IsPointBelow (10 ^ 32)) has.small_places next.told.place;
+        (IsPointBelow (10 ^ 32)) has.small_places next.denoted.place;
     small_lengths = all_with placed.lengths placed'.lengths line.length lengths
-        (IsBelow (10 ^ 32)) has.small_lengths next.told.edge;
+        (IsBelow (10 ^ 32)) has.small_lengths next.denoted.edge;
     small_wires = all_with placed.wires placed'.wires line.wire wires IsSmallWire
-        has.small_wires next.told.wire;
+        has.small_wires next.denoted.wire;
   }
 
   -- one more lead
   pub leads_next : (leads leads' : List Lead) (lead : Lead)
       → HasLeads circuit scale place old between leads
-      → TellsLine circuit scale form.Lead (TellsLead circuit) between new lead
+      → DenotesLine circuit scale form.Lead (DenotesLead circuit) between new lead
       → leads' ≡ leads ++ lead ∷ []
       → HasLeads circuit scale (place + 1) old new leads'
   leads_next leads leads' lead has next is = record {
@@ -231,17 +231,17 @@ module _ {circuit : Circuit} {scale : Scale} {place : ℕ} {old between new : Le
         (map (lead_line circuit) leads') old between new has.lines
         (next.line.read scale next.line.flawless)
         (ap (map (lead_line circuit)) is ∙ map-append (lead_line circuit) leads (lead ∷ [])
-        ∙ ap (λ words. map (lead_line circuit) leads ++ words ∷ []) (sym next.told.line));
+        ∙ ap (λ words. map (lead_line circuit) leads ++ words ∷ []) (sym next.denoted.line));
     as_many = longer leads leads' lead is place has.as_many;
     among = all_with leads leads' lead is (LeadsAmong (length circuit.registers)) has.among
-        next.told.registers;
-    small = all_with leads leads' lead is IsSmallLead has.small next.told.small;
+        next.denoted.registers;
+    small = all_with leads leads' lead is IsSmallLead has.small next.denoted.small;
   }
 
   -- one more constraint
   pub cycle_next : (cycle cycle' : List Constraint) (constraint : Constraint)
       → HasCycle circuit scale place old between cycle
-      → TellsLine circuit scale form.Constraint (TellsConstraint circuit) between new constraint
+      → DenotesLine circuit scale form.Constraint (DenotesConstraint circuit) between new constraint
       → cycle' ≡ cycle ++ constraint ∷ []
       → HasCycle circuit scale (place + 1) old new cycle'
   cycle_next cycle cycle' constraint has next is = record {
@@ -250,18 +250,18 @@ module _ {circuit : Circuit} {scale : Scale} {place : ℕ} {old between new : Le
         (next.words ∷ []) (map (line_for circuit) cycle') old between new has.lines
         (next.line.read scale next.line.flawless)
         (ap (map (line_for circuit)) is ∙ map-append (line_for circuit) cycle (constraint ∷ [])
-        ∙ ap (λ words. map (line_for circuit) cycle ++ words ∷ []) (sym next.told.line));
+        ∙ ap (λ words. map (line_for circuit) cycle ++ words ∷ []) (sym next.denoted.line));
     as_many = longer cycle cycle' constraint is place has.as_many;
     registers = all_with cycle cycle' constraint is
-        (IsBetweenRegisters (length circuit.registers)) has.registers next.told.registers;
-    weights = all_with cycle cycle' constraint is HasSmallWeight has.weights next.told.weight;
+        (IsBetweenRegisters (length circuit.registers)) has.registers next.denoted.registers;
+    weights = all_with cycle cycle' constraint is HasSmallWeight has.weights next.denoted.weight;
   }
 
   -- one more constraint and its path
   pub pathed_next : (middle : Left) (pathed pathed' : Pathed) (constraint : Constraint)
       (path : List ℕ) → HasPathed circuit scale place old between pathed
-      → TellsLine circuit scale form.Constraint (TellsConstraint circuit) between middle constraint
-      → TellsLine circuit scale form.Path (TellsPath circuit) middle new path
+      → DenotesLine circuit scale form.Constraint (DenotesConstraint circuit) between middle constraint
+      → DenotesLine circuit scale form.Path (DenotesPath circuit) middle new path
       → pathed'.cycle ≡ pathed.cycle ++ constraint ∷ []
       → pathed'.paths ≡ pathed.paths ++ path ∷ []
       → HasPathed circuit scale (place + 1) old new pathed'
@@ -276,17 +276,17 @@ module _ {circuit : Circuit} {scale : Scale} {place : ℕ} {old between new : Le
         ∙ pathed_more circuit pathed.cycle pathed.paths constraint path
         (has.as_many ∙ sym has.paths)
         ∙ ap₂ (λ first second. pathed_lines circuit pathed.cycle pathed.paths
-        ++ first ∷ second ∷ []) (sym next.told.line) (sym way.told.line));
+        ++ first ∷ second ∷ []) (sym next.denoted.line) (sym way.denoted.line));
     as_many = longer pathed.cycle pathed'.cycle constraint cycle place has.as_many;
     paths = longer pathed.paths pathed'.paths path paths place has.paths;
     registers = all_with pathed.cycle pathed'.cycle constraint cycle
-        (IsBetweenRegisters (length circuit.registers)) has.registers next.told.registers;
+        (IsBetweenRegisters (length circuit.registers)) has.registers next.denoted.registers;
     weights = all_with pathed.cycle pathed'.cycle constraint cycle HasSmallWeight has.weights
-        next.told.weight;
+        next.denoted.weight;
     signals = all_with pathed.paths pathed'.paths path paths
-        (All (λ number. number < length circuit.signals)) has.signals way.told.signals;
+        (All (λ number. number < length circuit.signals)) has.signals way.denoted.signals;
     few = all_with pathed.paths pathed'.paths path paths (λ (each : List ℕ). length each ≤ 65536)
-        has.few way.told.few;
+        has.few way.denoted.few;
   }
 
 -- a fault of the next line of some that are due one after the other

@@ -88,7 +88,7 @@ WholeOrNot text = ((value : ℤ) × SpellsWhole text value)
 pub whole_or_not : (text : List ℕ) → WholeOrNot text
 whole_or_not text = at (starts_with_minus text) refl
   where
-    -- behind a minus the number isn't 0
+    -- after a minus the number isn't 0
     below : starts_with_minus text ≡ true → IsPlainNumeral (drop 1 text) → (size : ℕ)
         → digits_value 10 (drop 1 text) ≡ size → WholeOrNot text
     below minus plain zero is = inr none
@@ -119,8 +119,8 @@ whole_or_not text = at (starts_with_minus text) refl
 -- ---- quotients
 
 -- a text has no slash, or there is a first one
-slash_or_not : (text : List ℕ) → HasNoSlash text ⊎ ((front : List ℕ) × (back : List ℕ)
-    × (text ≡ front ++ 47 ∷ back) × HasNoSlash front)
+slash_or_not : (text : List ℕ) → HasNoSlash text ⊎ ((prefix : List ℕ) × (back : List ℕ)
+    × (text ≡ prefix ++ 47 ∷ back) × HasNoSlash prefix)
 slash_or_not [] = inl tt
 slash_or_not (byte ∷ bytes) = elim (same_number byte 47) [
   | inl slash ↦ inr ([], bytes, ap (λ b. b ∷ bytes) slash, tt)
@@ -136,21 +136,21 @@ abbrev pub QuotientOrNot : List ℕ → Type 0
 QuotientOrNot text = ((num : ℤ) × (den : ℤ) × SpellsQuotient text num den)
     ⊎ ((num den : ℤ) → SpellsQuotient text num den → ⊥)
 
-module _ (text front back : List ℕ) (split : text ≡ front ++ 47 ∷ back) (first : HasNoSlash front)
+module _ (text prefix back : List ℕ) (split : text ≡ prefix ++ 47 ∷ back) (first : HasNoSlash prefix)
   where
-    -- what stands before and behind the first slash isn't two numbers
-    no_quotient : ((num den : ℤ) → SpellsWhole front num → SpellsWhole back den → pos 2 ≤ℤ den → ⊥)
+    -- what stands before and after the first slash isn't two numbers
+    no_quotient : ((num den : ℤ) → SpellsWhole prefix num → SpellsWhole back den → pos 2 ≤ℤ den → ⊥)
         → (num den : ℤ) → SpellsQuotient text num den → ⊥
     no_quotient none num den (inl one) =
-        slash_differs text front back (whole_no_slash text num one.1) split
-    no_quotient none num den (inr (some, (front', back', split', above, below))) =
-        let both = one_split front front' back back' first (whole_no_slash front' num above)
+        slash_differs text prefix back (whole_no_slash text num one.1) split
+    no_quotient none num den (inr (some, (prefix', back', split', above, below))) =
+        let both = one_split prefix prefix' back back' first (whole_no_slash prefix' num above)
         (sym split ∙ split') in
         none num den (subst (λ t. SpellsWhole t num) (sym both.0) above)
         (subst (λ t. SpellsWhole t den) (sym both.1) below) some
 
     split_or_not : QuotientOrNot text
-    split_or_not = elim (whole_or_not front) [
+    split_or_not = elim (whole_or_not prefix) [
       | inl above ↦ elim (whole_or_not back) [
         | inl below ↦ by_lt_z (pos 1) below.0
             (λ some. inl (
@@ -158,7 +158,7 @@ module _ (text front back : List ℕ) (split : text ≡ front ++ 47 ∷ back) (f
               below.0,
               inr (
                 omega (arith, ints, some),
-                (front, back, split, above.1, below.1),
+                (prefix, back, split, above.1, below.1),
               ),
             ))
             (λ low. inr (no_quotient (λ num den spells spells' some.
@@ -181,8 +181,8 @@ quotient_or_not text = elim (slash_or_not text) [
     alone : HasNoSlash text → ((value : ℤ) → SpellsWhole text value → ⊥) → (num den : ℤ)
         → SpellsQuotient text num den → ⊥
     alone none other num den (inl one) = other num one.1
-    alone none other num den (inr (some, (front, back, split, above, below))) =
-        slash_differs text front back none split
+    alone none other num den (inr (some, (prefix, back, split, above, below))) =
+        slash_differs text prefix back none split
 
 -- ---- fractions
 

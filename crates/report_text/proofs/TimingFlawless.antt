@@ -243,8 +243,8 @@ no_quotient_minus num den (inl one) = no_whole_minus num one.1
     no_whole_minus : (n : ℤ) → SpellsWhole (codes "-") n → ⊥
     no_whole_minus (pos n) spells = plain_no_minus (codes "-") spells.0 refl
     no_whole_minus (negsuc n) spells = omega (arith, spells.1.0.0.0)
-no_quotient_minus num den (inr (some, (front, back, is, above, below))) =
-    slash_differs (codes "-") front back ((λ same. omega (arith, same)), tt) is
+no_quotient_minus num den (inr (some, (prefix, back, is, above, below))) =
+    slash_differs (codes "-") prefix back ((λ same. omega (arith, same)), tt) is
 
 -- the word of a small slack may stand for one
 slack_word : (den : ℤ) (slack : Option Fraction) → pos 1 ≤ℤ den → den ≤ℤ pos 4097

@@ -1,4 +1,4 @@
--- A line of the timing without a flaw tells a value.
+-- A line of the timing without a flaw denotes a value.
 use Rattle.std.proofs.Common.{◌≡◌, ◌<◌, ◌^◌, ◌⊎◌, ℕ, zero, suc, ℤ, Bool, true, false, inl, inr, List, [], ◌∷◌, All, Option, Some, None, drop, get_or, length, codes, refl, ◌∙◌, arith}
 use Rattle.std.proofs.lemmas.Int.{ints}
 use Rattle.std.specs.Str.{bytes_eq}
@@ -22,17 +22,17 @@ use Rattle.report_text.specs.declared.form.Scale.{Scale}
 use Rattle.report_text.specs.declared.timing_values.Timed.{Timed}
 use Rattle.report_text.specs.Fields.{IsFormed, IsFractionForm, IsKnown, IsWithin, NamesSignal}
 use Rattle.report_text.specs.Forms.{constraint_fields, is_word}
-use Rattle.report_text.specs.TimingValues.{IsFlawless, IsSlackWord, NamesSignals, TellsConstraint, TellsLead, TellsPath, TellsPeriod, TellsShow}
+use Rattle.report_text.specs.TimingValues.{IsFlawless, IsSlackWord, NamesSignals, DenotesConstraint, DenotesLead, DenotesPath, DenotesPeriod, DenotesShow}
 use Rattle.report_text.specs.Values.{IsSmallScale}
-use Rattle.report_text.specs.Walks.{TellsTimed, TellsVersion}
+use Rattle.report_text.specs.Walks.{DenotesTimed, DenotesVersion}
 use Rattle.report_text.proofs.FieldWords.{as_many, each_at, no_words, two_words}
-use Rattle.report_text.proofs.TimingTold.{IsWeightOf, arrival_told, below_bound, constraint_flawless, cycle_told, depth_told, floor_told, hold_told, hold_word, no_signals, path_known, path_told, register_told, setup_told, setup_word, tight_told, zero_told}
+use Rattle.report_text.proofs.TimingDenoted.{IsWeightOf, arrival_denoted, below_bound, constraint_flawless, cycle_denoted, depth_denoted, floor_denoted, hold_denoted, hold_word, no_signals, path_known, path_denoted, register_denoted, setup_denoted, setup_word, tight_denoted, zero_denoted}
 
 -- ---- the heading
 
 module _ (circuit : Circuit) (scale : Scale) (words : Words) where
   pub version_found : IsFlawless circuit scale form.Version words
-      → (version : Version) × TellsVersion words version
+      → (version : Version) × DenotesVersion words version
   version_found flawless =
       let long = as_many IsFormed fields words flawless.0 in
       let first = each_at IsFormed fields words flawless.0 0 field.Kind (omega arith) in
@@ -43,7 +43,7 @@ module _ (circuit : Circuit) (scale : Scale) (words : Words) where
 
       at : length words ≡ 2 → get_or words 0 [] ≡ codes "cts"
           → (get_or words 1 [] ≡ codes "1") ⊎ (get_or words 1 [] ≡ codes "2")
-          → (version : Version) × TellsVersion words version
+          → (version : Version) × DenotesVersion words version
       at long first (inl is) = (
         First,
         two_words words (omega (arith, long))
@@ -56,7 +56,7 @@ module _ (circuit : Circuit) (scale : Scale) (words : Words) where
       )
 
   pub period_found : IsFlawless circuit scale form.Period words
-      → (period : Fraction) × TellsPeriod words period
+      → (period : Fraction) × DenotesPeriod words period
   period_found (formed, known, fit, within) =
       let fields : List Field = field.Word word.Period ∷ field.Period ∷ [] in
       let long = as_many IsFormed fields words formed in
@@ -81,20 +81,20 @@ module _ (circuit : Circuit) (scale : Scale) (words : Words) where
       )
 
   pub show_found : IsFlawless circuit scale form.Show words
-      → (count : Option ℕ) × TellsShow words count
+      → (count : Option ℕ) × DenotesShow words count
   show_found flawless = at (is_word words 0 word.Floor) refl
     where
       at : (floor : Bool) → is_word words 0 word.Floor ≡ floor
-          → (count : Option ℕ) × TellsShow words count
-      at true is = (None, floor_told circuit scale words flawless is)
+          → (count : Option ℕ) × DenotesShow words count
+      at true is = (None, floor_denoted circuit scale words flawless is)
       at false differs =
-          let (count, spells, tells) = cycle_told circuit scale words flawless differs in
-          (Some count, tells)
+          let (count, spells, denotes) = cycle_denoted circuit scale words flawless differs in
+          (Some count, denotes)
 
   -- ---- a constraint
 
   pub constraint_found : IsFlawless circuit scale form.Constraint words
-      → (constraint : Constraint) × TellsConstraint circuit words constraint
+      → (constraint : Constraint) × DenotesConstraint circuit words constraint
   constraint_found (formed, known, fit, within) =
       let (launch, low, name) =
       each_at (IsKnown circuit) constraint_fields words known 1 field.Kind (omega arith) in
@@ -107,17 +107,17 @@ module _ (circuit : Circuit) (scale : Scale) (words : Words) where
       at (bytes_eq (get_or words 0 []) (codes "setup"))
       (λ is. (
         _,
-        setup_told circuit words launch capture weight formed known within
+        setup_denoted circuit words launch capture weight formed known within
             (λ named. (low, name)) (λ named. (low', name')) weighs is,
       ))
       (λ differs. (
         _,
-        hold_told circuit words launch capture weight formed known within
+        hold_denoted circuit words launch capture weight formed known within
             (λ named. (low, name)) (λ named. (low', name')) weighs differs,
       ))
     where
       Found : Type 0
-      Found = (constraint : Constraint) × TellsConstraint circuit words constraint
+      Found = (constraint : Constraint) × DenotesConstraint circuit words constraint
 
       at : (setup : Bool) → (setup ≡ true → Found) → (setup ≡ false → Found) → Found
       at true then other = then refl
@@ -149,11 +149,11 @@ signals_found circuit (name ∷ names) known =
 
 pub path_found : (circuit : Circuit) (scale : Scale) (words : Words)
     → IsFlawless circuit scale form.Path words
-    → (path : List ℕ) × TellsPath circuit words path
+    → (path : List ℕ) × DenotesPath circuit words path
 path_found circuit scale words flawless =
     let (path, named) = signals_found circuit (drop 2 words)
     (path_known circuit scale words flawless) in
-    (path, path_told circuit scale words path flawless named)
+    (path, path_denoted circuit scale words path flawless named)
 
 -- ---- a register
 
@@ -176,16 +176,16 @@ slack_found den text slack = at slack.form
 
 pub timed_found : (circuit : Circuit) (scale : Scale) (register : ℕ) (words : Words)
     → IsSmallScale scale → IsFlawless circuit scale (form.Register register) words
-    → (timed : Timed) × TellsTimed circuit scale register words timed
+    → (timed : Timed) × DenotesTimed circuit scale register words timed
 timed_found circuit scale register words small flawless =
-    let (arrival, below, spells) = arrival_told circuit scale register words flawless
+    let (arrival, below, spells) = arrival_denoted circuit scale register words flawless
     small.some_den in
     let (setup, setup_is, setup_small) = slack_found scale.den (get_or words 2 [])
     (setup_word circuit scale register words flawless) in
     let (hold, hold_is, hold_small) = slack_found scale.den (get_or words 3 [])
     (hold_word circuit scale register words flawless) in (
       record { arrival = arrival; slack = record { setup = setup; hold = hold } },
-      register_told circuit scale register words flawless small.some_den small.small_den arrival
+      register_denoted circuit scale register words flawless small.some_den small.small_den arrival
           (record { setup = setup; hold = hold }) spells (setup_is, setup_small)
           (hold_is, hold_small),
     )
@@ -193,16 +193,16 @@ timed_found circuit scale register words small flawless =
 -- ---- a lead
 
 pub lead_found : (circuit : Circuit) (scale : Scale) (words : Words)
-    → IsFlawless circuit scale form.Lead words → (lead : Lead) × TellsLead circuit words lead
+    → IsFlawless circuit scale form.Lead words → (lead : Lead) × DenotesLead circuit words lead
 lead_found circuit scale words flawless = at (is_word words 1 word.Zero) refl
   where
     at : (zero : Bool) → is_word words 1 word.Zero ≡ zero
-        → (lead : Lead) × TellsLead circuit words lead
-    at true is = (Zero, zero_told circuit scale words flawless is)
+        → (lead : Lead) × DenotesLead circuit words lead
+    at true is = (Zero, zero_denoted circuit scale words flawless is)
     at false differs =
-        let (depth, spells, some, few) = depth_told circuit scale words flawless differs in
-        let (constraint, told) = constraint_found circuit scale (drop 2 words)
+        let (depth, spells, some, few) = depth_denoted circuit scale words flawless differs in
+        let (constraint, denoted) = constraint_found circuit scale (drop 2 words)
         (constraint_flawless circuit scale words flawless differs) in (
           Tight depth constraint,
-          tight_told circuit scale words flawless differs depth constraint spells told,
+          tight_denoted circuit scale words flawless differs depth constraint spells denoted,
         )

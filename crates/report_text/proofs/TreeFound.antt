@@ -1,4 +1,4 @@
--- A line of the tree without a flaw tells a value.
+-- A line of the tree without a flaw denotes a value.
 use Rattle.std.proofs.Common.{◌≡◌, ◌<◌, ◌≤◌, ◌+◌, ◌^◌, ℕ, ℤ, Bool, true, false, true≢false, inl, inr, length, refl, sym, ◌∙◌, arith}
 use Rattle.std.proofs.lemmas.Bool.{cases_lt}
 use Rattle.cts_model.specs.declared.circuit.Circuit.{Circuit}
@@ -66,11 +66,11 @@ corner_found grid words corners place from = elim (cases_lt (place + 1) (length 
         record { x = x; y = y },
         record {
           within = λ within. (spells, spells');
-          behind = λ past. absurd (omega arith);
+          suffix = λ past. absurd (omega arith);
         },
       )
   | inr past ↦
-      (origin, record { within = λ within. absurd (omega arith); behind = λ behind. refl })
+      (origin, record { within = λ within. absurd (omega arith); suffix = λ suffix. refl })
 ]
 
 pub node_found : (circuit : Circuit) (scale : Scale) (node : ℕ) (words : Words)

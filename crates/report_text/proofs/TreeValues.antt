@@ -28,7 +28,7 @@ use Rattle.report_text.specs.Forms.{fields_of, has_points, is_word, length_field
 use Rattle.report_text.specs.declared.field.Keyword.TheVariants as word
 use Rattle.report_text.specs.Values.{HasCorners, IsCorner, IsLengthWord, IsSinkOf, IsSmallScale, SaysMerge, SaysNode, SaysSource, SaysTotal, SaysWire, SpellsPoint, coordinates, SpellsNumber, SpellsRegister, SpellsSteps}
 use Rattle.report_text.proofs.WordBytes.{both}
-use Rattle.report_text.proofs.PlainWords.{IsPlain, each_plain, plain_line, one_number, one_length, told_exactly, told_length, told_number, told_order, plain_exactly, plain_length, plain_number, plain_order}
+use Rattle.report_text.proofs.PlainWords.{IsPlain, each_plain, plain_line, one_number, one_length, denoted_exactly, denoted_length, denoted_number, denoted_order, plain_exactly, plain_length, plain_number, plain_order}
 
 -- ---- the whole wire
 
@@ -48,7 +48,7 @@ total_line circuit scale words small line =
     at (a ∷ []) each = absurd each.1
     at (a ∷ b ∷ []) each = record {
       words_are = ap (λ w. w ∷ b ∷ []) each.0.0;
-      total = told_length circuit scale.grid (10 ^ 36) b small.some_grid (omega arith) each.1.0;
+      total = denoted_length circuit scale.grid (10 ^ 36) b small.some_grid (omega arith) each.1.0;
     }
     at (a ∷ b ∷ c ∷ more) each = absurd each.1.1
 
@@ -110,18 +110,18 @@ merge_line circuit scale node words small below line =
     at (a ∷ b ∷ c ∷ d ∷ e ∷ f ∷ []) each = absurd each.1.1.1.1.1.1
     at (a ∷ b ∷ c ∷ d ∷ e ∷ f ∷ g ∷ []) (node', (first, (second, (reach, (pair, registers))))) =
         let ((formed, known, fit, within), (right, end)) = registers in
-        let (n, low, high, spells) = told_number circuit 0 9999 b (omega arith) first in
-        let (m, low', high', spells') = told_number circuit 0 9999 c (omega arith) second in
+        let (n, low, high, spells) = denoted_number circuit 0 9999 b (omega arith) first in
+        let (m, low', high', spells') = denoted_number circuit 0 9999 c (omega arith) second in
         record {
-          words_are = λ i. told_exactly circuit node a below node' i ∷ b ∷ c ∷ d ∷ pair.0 i ∷ f
+          words_are = λ i. denoted_exactly circuit node a below node' i ∷ b ∷ c ∷ d ∷ pair.0 i ∷ f
               ∷ g ∷ [];
           first = (n, high, spells);
           second = (m, high', spells');
-          reach = told_length circuit scale.grid (10 ^ 32) d small.some_grid (omega arith) reach;
+          reach = denoted_length circuit scale.grid (10 ^ 32) d small.some_grid (omega arith) reach;
           left = known;
           right = right.1;
           order = λ register other spells other_spells.
-              told_order circuit f g register other right spells other_spells;
+              denoted_order circuit f g register other right spells other_spells;
         }
     at (a ∷ b ∷ c ∷ d ∷ e ∷ f ∷ g ∷ h ∷ more) each = absurd each.1.1.1.1.1.1.1
 
@@ -215,7 +215,7 @@ root_words circuit scale (a ∷ []) small each = absurd each.1
 root_words circuit scale (a ∷ b ∷ []) small each = absurd each.1.1
 root_words circuit scale (a ∷ b ∷ c ∷ []) small (source, (reach, (root, end))) = (
   (λ i. source.0 i ∷ b ∷ root.0 i ∷ []),
-  told_length circuit scale.grid (10 ^ 32) b small.some_grid (omega arith) reach,
+  denoted_length circuit scale.grid (10 ^ 32) b small.some_grid (omega arith) reach,
 )
 root_words circuit scale (a ∷ b ∷ c ∷ d ∷ more) small each = absurd each.1.1.1
 
@@ -233,7 +233,7 @@ sink_words circuit scale (a ∷ b ∷ c ∷ []) small each = absurd each.1.1.1
 sink_words circuit scale (a ∷ b ∷ c ∷ d ∷ []) small (source, (reach, (sink, (register, end)))) =
     let (formed, known, fit, within) = register in (
       (λ i. source.0 i ∷ b ∷ sink.0 i ∷ d ∷ []),
-      told_length circuit scale.grid (10 ^ 32) b small.some_grid (omega arith) reach,
+      denoted_length circuit scale.grid (10 ^ 32) b small.some_grid (omega arith) reach,
       known,
     )
 sink_words circuit scale (a ∷ b ∷ c ∷ d ∷ e ∷ more) small each = absurd each.1.1.1.1
@@ -375,15 +375,15 @@ points_line circuit scale node points (a ∷ b ∷ c ∷ d ∷ []) small below a
     absurd each.1.1.1.1
 points_line circuit scale node points (a ∷ b ∷ c ∷ d ∷ e ∷ rest) small below are all some few
     (node', (x, (y, (edge, (count, each))))) =
-    let told = λ (word : List ℕ) (plain : IsPlain circuit (length_field scale) word).
-    told_length circuit scale.grid (10 ^ 32) word small.some_grid (omega arith) plain in
+    let denoted = λ (word : List ℕ) (plain : IsPlain circuit (length_field scale) word).
+    denoted_length circuit scale.grid (10 ^ 32) word small.some_grid (omega arith) plain in
     record {
-      words_are = λ i. told_exactly circuit node a below node' i ∷ b ∷ c ∷ d
-          ∷ (told_exactly circuit points e (omega (arith, few)) count
+      words_are = λ i. denoted_exactly circuit node a below node' i ∷ b ∷ c ∷ d
+          ∷ (denoted_exactly circuit points e (omega (arith, few)) count
           ∙ ap (λ n. signed_decimal (pos n)) (sym are)) i ∷ rest;
-      x = told b x;
-      y = told c y;
-      edge = told d edge;
+      x = denoted b x;
+      y = denoted c y;
+      edge = denoted d edge;
       corners = record {
         all = all ∙ ap (λ n. 5 + 2 * n) (sym are);
         some = omega (arith, some, are);
@@ -400,7 +400,7 @@ points_line circuit scale node points (a ∷ b ∷ c ∷ d ∷ e ∷ rest) small
     corner (suc (suc (suc zero))) from within = absurd (omega (arith, from))
     corner (suc (suc (suc (suc zero)))) from within = absurd (omega (arith, from))
     corner (suc (suc (suc (suc (suc place))))) from within =
-        told_length circuit scale.grid (10 ^ 32) (get_or rest place []) small.some_grid
+        denoted_length circuit scale.grid (10 ^ 32) (get_or rest place []) small.some_grid
         (omega arith) (each_of_equal (IsPlain circuit) (length_field scale) (2 * points) rest each
         place (omega (arith, within)))
 
@@ -527,7 +527,7 @@ module _ (grid : ℤ) (words : Words) (some : pos 1 ≤ℤ grid) (small : HasSiz
                 let inside : used + k < 5 =
                 omega (arith, within, length-drop used five) in
                 get_or-drop used five k default ∙ any_default (used + k) default inside
-                ∙ (corner_at (used + k) inside).behind (omega (arith, all, same));
+                ∙ (corner_at (used + k) inside).suffix (omega (arith, all, same));
           };
           each = λ k default within.
               let before : k < used = omega (arith, within, length-take used five) in

@@ -18,10 +18,10 @@ use Rattle.report_text.specs.Fields.{LineHasFlaw}
 use Rattle.report_text.specs.Forms.{fields_of}
 use Rattle.report_text.specs.ReportFaults.{HasFirstFault, is_line_feed, is_space, words_of, fault_of}
 use Rattle.report_text.specs.TimingValues.{IsFlawless}
-use Rattle.report_text.specs.Walks.{Left, TakesLine, Reads, ReadsLine, Stops, StopsLine, TellsLine}
+use Rattle.report_text.specs.Walks.{Left, TakesLine, Reads, ReadsLine, Stops, StopsLine, DenotesLine}
 use Rattle.report_text.proofs.LineCuts.{byte_then, cut_within, first_part}
 
--- the first line feed, and what stands behind it
+-- the first line feed, and what stands after it
 feed_then : (text : List ℕ) (end : ℕ) → position is_line_feed text ≡ Some end
     → drop end text ≡ 10 ∷ drop (end + 1) text
 feed_then text end found =
@@ -38,7 +38,7 @@ module _ {old new : Left} {line : List ℕ} (taken : TakesLine old line new) whe
   line_then : old.text ≡ line ++ 10 ∷ new.text
   line_then =
       sym (take-append-drop (length line) old.text)
-      ∙ ap₂ (λ front rest. front ++ rest) (sym taken.line_is)
+      ∙ ap₂ (λ prefix rest. prefix ++ rest) (sym taken.line_is)
       (feed_then old.text (length line) taken.end
       ∙ ap (λ rest. 10 ∷ rest) (sym taken.text))
 
@@ -93,7 +93,7 @@ read_none circuit scale left = record {
 
 module _ {circuit : Circuit} {scale : Scale} {forms : List Form} {lines : List Words}
     {old between : Left} (first : Reads circuit scale forms lines old between) where
-  -- lines, and more behind them
+  -- lines, and more after them
   pub read_more : (forms' : List Form) (lines' : List Words) (new : Left)
       → Reads circuit scale forms' lines' between new
       → Reads circuit scale (forms ++ forms') (lines ++ lines') old new
@@ -112,11 +112,11 @@ module _ {circuit : Circuit} {scale : Scale} {forms : List Form} {lines : List W
         (first.faults (forms' ++ more) fault (second.faults more fault found));
   }
 
-  -- lines, and a fault behind them
-  pub stop_behind : (forms' : List Form) (fault : ReportFault)
+  -- lines, and a fault after them
+  pub stop_after : (forms' : List Form) (fault : ReportFault)
       → Stops circuit scale forms' between fault
       → Stops circuit scale (forms ++ forms') old fault
-  stop_behind forms' fault stops memory more =
+  stop_after forms' fault stops memory more =
       subst (λ fs. HasFirstFault circuit scale fs old.line old.text (Some fault))
       (sym (append_assoc forms forms' more))
       (first.faults (forms' ++ more) (Some fault) (stops memory more))
@@ -170,15 +170,15 @@ module _ (circuit : Circuit) (scale : Scale) (form : Form) {old new : Left}
       line.flawless
 
   -- and tell what they say
-  pub line_told : {X : Type 0} (Tells : Words → X → Type 0) (value : X)
+  pub line_denoted : {X : Type 0} (Denotes : Words → X → Type 0) (value : X)
       → (IsFlawless circuit scale form (map (λ word. word.now) slice)
-      → Tells (map (λ word. word.now) slice) value)
-      → TellsLine circuit scale form Tells old new value
-  line_told Tells value tells = record {
+      → Denotes (map (λ word. word.now) slice) value)
+      → DenotesLine circuit scale form Denotes old new value
+  line_denoted Denotes value denotes = record {
     words = map (λ word. word.now) slice;
     line = subst (λ words. ReadsLine circuit scale form (map (λ word. word.now) words) old new)
         (sym same) line;
-    told = tells line_flawless;
+    denoted = denotes line_flawless;
   }
 
 -- what is said alike of numbers below another
@@ -197,20 +197,20 @@ pub numbered_more : (line line' : ℕ → Words) (count : ℕ) (words : Words)
     → map line' (range_with_len 0 (count + 1)) ≡ map line (range_with_len 0 count) ++ words ∷ []
 numbered_more line line' count words same is =
     map-range_with_len_more line' 0 count count (omega arith)
-    ∙ ap₂ (λ front last. front ++ last ∷ []) (sym (lines_same line line' count same)) (sym is)
+    ∙ ap₂ (λ prefix last. prefix ++ last ∷ []) (sym (lines_same line line' count same)) (sym is)
 
 -- forms that are due one after the other
 module _ (forms due : ℕ → List Form) (step : (n : ℕ) → forms (n + 1) ≡ forms n ++ due n) where
-  forms_behind : (place more : ℕ) → (rest : List Form)
+  forms_after : (place more : ℕ) → (rest : List Form)
       × (forms (place + more) ≡ forms place ++ rest)
-  forms_behind place zero =
+  forms_after place zero =
       ([], ap forms (omega arith) ∙ sym (append-nil (forms place)))
-  forms_behind place (suc more) =
-      let behind = forms_behind place more in (
-        behind.0 ++ due (place + more),
+  forms_after place (suc more) =
+      let suffix = forms_after place more in (
+        suffix.0 ++ due (place + more),
         ap forms (omega arith) ∙ step (place + more)
-            ∙ ap (λ front. front ++ due (place + more)) behind.1
-            ∙ append_assoc (forms place) behind.0 (due (place + more)),
+            ∙ ap (λ prefix. prefix ++ due (place + more)) suffix.1
+            ∙ append_assoc (forms place) suffix.0 (due (place + more)),
       )
 
 -- and are read
@@ -231,8 +231,8 @@ module _ {circuit : Circuit} {scale : Scale} (forms due : ℕ → List Form)
       (fault : ReportFault) → place < count → Reads circuit scale (forms place) lines old between
       → Stops circuit scale (due place) between fault → Stops circuit scale (forms count) old fault
   next_stops place count lines old between fault within read stops =
-      let behind = forms_behind forms due step (place + 1) (count - (place + 1)) in
+      let suffix = forms_after forms due step (place + 1) (count - (place + 1)) in
       subst (λ fs. Stops circuit scale fs old fault)
-      (ap (λ front. front ++ behind.0) (sym (step place)) ∙ sym behind.1 ∙ ap forms (omega arith))
-      (stop_before circuit scale (forms place ++ due place) behind.0 old fault
-      (stop_behind read (due place) fault stops))
+      (ap (λ prefix. prefix ++ suffix.0) (sym (step place)) ∙ sym suffix.1 ∙ ap forms (omega arith))
+      (stop_before circuit scale (forms place ++ due place) suffix.0 old fault
+      (stop_after read (due place) fault stops))

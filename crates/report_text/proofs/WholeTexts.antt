@@ -14,14 +14,14 @@ use Rattle.report_text.specs.declared.fault.ReportFault.TheVariants.{BadLine, Un
 use Rattle.report_text.specs.declared.form.Scale.{Scale}
 use Rattle.report_text.specs.Forms.{forms_of}
 use Rattle.report_text.specs.Laws.{OneReport}
-use Rattle.report_text.specs.ReportFaults.{HasFault, HasFirstFault, cycle_told, scale_told, version_told}
+use Rattle.report_text.specs.ReportFaults.{HasFault, HasFirstFault, cycle_denoted, scale_denoted, version_denoted}
 use Rattle.report_text.proofs.FlawlessReport.{no_first_fault, report_flawless, scale_of}
 use Rattle.report_text.proofs.LineReading.{one_first_fault}
 use Rattle.report_text.proofs.OneLine.{one_text}
 use Rattle.report_text.proofs.OneTiming.{one_timing}
 use Rattle.report_text.proofs.OneTree.{one_tree}
 use Rattle.report_text.proofs.ReportWords.{report_lines_are}
-use Rattle.report_text.proofs.ToldForms.{same_cycle, same_scale, same_version}
+use Rattle.report_text.proofs.DenotedForms.{same_cycle, same_scale, same_version}
 
 -- two reports of a text are the same
 pub one_report : OneReport
@@ -54,8 +54,8 @@ pub one_fault : (circuit : Circuit) (tech : Tech) (text : List ℕ)
     (fault other : Option ReportFault) → HasFault circuit tech text fault
     → HasFault circuit tech text other → fault ≡ other
 one_fault circuit tech text fault other is is' =
-    one_first_fault circuit (scale_told tech text)
-    (forms_of (version_told text) (cycle_told text) (length circuit.registers)) 1 text fault other
+    one_first_fault circuit (scale_denoted tech text)
+    (forms_of (version_denoted text) (cycle_denoted text) (length circuit.registers)) 1 text fault other
     is is'
 
 -- a text that spells a report has none
@@ -70,10 +70,10 @@ no_fault circuit tech text report spells =
     (report_flawless circuit tech report spells.size spells.bounds) in
     subst (λ (t : List ℕ). HasFault circuit tech t None) (sym spells.lines)
     (subst (λ (s : Scale). HasFirstFault circuit s
-    (forms_of (version_told bytes) (cycle_told bytes) registers) 1 bytes None)
+    (forms_of (version_denoted bytes) (cycle_denoted bytes) registers) 1 bytes None)
     (sym (same_scale circuit tech report spells.bounds))
     (subst (λ (v : Version). HasFirstFault circuit (scale_of report)
-    (forms_of v (cycle_told bytes) registers) 1 bytes None)
+    (forms_of v (cycle_denoted bytes) registers) 1 bytes None)
     (sym (same_version circuit tech report spells.bounds))
     (subst (λ n. HasFirstFault circuit (scale_of report)
     (forms_of report.version n registers) 1 bytes None)

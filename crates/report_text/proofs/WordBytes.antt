@@ -42,19 +42,19 @@ glyph_above digit = at (nat_lt digit 10)
     at false = omega arith
 
 -- so are the digits of a number
-digits_above : (most base number : ℕ) (behind : List ℕ) → IsWord behind
-    → IsWord (digits_onto most base false number behind)
-digits_above zero base number behind is = is
-digits_above (suc most) base number behind is =
+digits_above : (most base number : ℕ) (suffix : List ℕ) → IsWord suffix
+    → IsWord (digits_onto most base false number suffix)
+digits_above zero base number suffix is = is
+digits_above (suc most) base number suffix is =
     let digit = digit_glyph false (number % base) in
     at (number / base == 0) (glyph_above (number % base), is)
-    (digits_above most base (number / base) (digit ∷ behind) (glyph_above (number % base), is))
+    (digits_above most base (number / base) (digit ∷ suffix) (glyph_above (number % base), is))
   where
-    at : (last : Bool) → IsWord (digit_glyph false (number % base) ∷ behind)
+    at : (last : Bool) → IsWord (digit_glyph false (number % base) ∷ suffix)
         → IsWord (digits_onto most base false (number / base)
-        (digit_glyph false (number % base) ∷ behind))
-        → IsWord (cond last (digit_glyph false (number % base) ∷ behind)
-        (digits_onto most base false (number / base) (digit_glyph false (number % base) ∷ behind)))
+        (digit_glyph false (number % base) ∷ suffix))
+        → IsWord (cond last (digit_glyph false (number % base) ∷ suffix)
+        (digits_onto most base false (number / base) (digit_glyph false (number % base) ∷ suffix)))
     at true here more = here
     at false here more = more
 

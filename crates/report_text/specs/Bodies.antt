@@ -1,4 +1,4 @@
--- The sections of a report behind what shows its period, one behind the other.
+-- The sections of a report after what shows its period, one after the other.
 use Rattle.std.specs.Prelude.{◌≡◌, ◌-◌, ◌*◌, ℕ, List, [], ◌∷◌, ◌++◌, All, length, map}
 use Rattle.std.specs.List.{range_with_len}
 use Rattle.cts_model.specs.declared.circuit.Circuit.{Circuit}
@@ -17,7 +17,7 @@ use Rattle.report_text.specs.Forms.{lead_forms}
 use Rattle.report_text.specs.Keywords.{keyword_text}
 use Rattle.report_text.specs.Sections.{HasMerged, HasPlaced, HasTimings}
 use Rattle.report_text.specs.Values.{SaysSource, SaysTotal}
-use Rattle.report_text.specs.Walks.{Left, Reads, ReadsLine, TellsLine}
+use Rattle.report_text.specs.Walks.{Left, Reads, ReadsLine, DenotesLine}
 
 -- a line says how many lines follow, and they do
 pub record Counted {X : Type 0} (circuit : Circuit) (scale : Scale) (keyword : Keyword) (count : ℕ)
@@ -53,22 +53,22 @@ section_forms circuit version count = register_forms count ++ lead_forms version
     ++ merge_forms circuit (count - 1) ++ form.Source ∷ node_forms (2 * count - 1)
     ++ form.Total ∷ []
 
--- all sections, one behind the other
+-- all sections, one after the other
 pub record HasBody (circuit : Circuit) (scale : Scale) (version : Version) (registers : ℕ)
     (old new : Left) (body : Body) : Type 0 where
-  pub behind_registers : Left
-  pub behind_leads : Left
-  pub behind_merges : Left
-  pub behind_source : Left
-  pub behind_nodes : Left
+  pub after_registers : Left
+  pub after_leads : Left
+  pub after_merges : Left
+  pub after_source : Left
+  pub after_nodes : Left
   pub timings : Counted circuit scale word.Registers registers
-      (HasTimings circuit scale registers) old behind_registers body.timings
-  pub leads : HasVersionLeads circuit scale version registers behind_registers behind_leads
+      (HasTimings circuit scale registers) old after_registers body.timings
+  pub leads : HasVersionLeads circuit scale version registers after_registers after_leads
       body.leads
   pub merged : Counted circuit scale word.Merges (registers - 1)
-      (HasMerged circuit scale (registers - 1)) behind_leads behind_merges body.merged
-  pub source : TellsLine circuit scale form.Source (SaysSource circuit scale.grid) behind_merges
-      behind_source body.source
+      (HasMerged circuit scale (registers - 1)) after_leads after_merges body.merged
+  pub source : DenotesLine circuit scale form.Source (SaysSource circuit scale.grid) after_merges
+      after_source body.source
   pub placed : Counted circuit scale word.Nodes (2 * registers - 1)
-      (HasPlaced circuit scale (2 * registers - 1)) behind_source behind_nodes body.placed
-  pub total : TellsLine circuit scale form.Total (SaysTotal scale.grid) behind_nodes new body.total
+      (HasPlaced circuit scale (2 * registers - 1)) after_source after_nodes body.placed
+  pub total : DenotesLine circuit scale form.Total (SaysTotal scale.grid) after_nodes new body.total

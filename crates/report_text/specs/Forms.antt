@@ -1,5 +1,5 @@
 -- Which fields a line of each form has, and which forms a report's lines have in order. Where a
--- form has several kinds of lines, a fixed word tells which. The forms are this project's choice.
+-- form has several kinds of lines, a fixed word denotes which. The forms are this project's choice.
 use Rattle.std.specs.Prelude.{ℕ, zero, suc, ◌+◌, ◌-◌, ◌*◌, ◌/◌, ◌^◌, ◌==◌, ◌&&◌, nat_le, Bool, pos, List, [], ◌∷◌, ◌++◌, length, map, replicate, get_or, if◌then◌else◌}
 use Rattle.std.specs.List.{position_or_len, range_with_len}
 use Rattle.std.specs.Str.{bytes_eq}
@@ -114,9 +114,9 @@ abbrev pub lead_forms : Version → (count : ℕ) → List Form
 lead_forms version.First count = []
 lead_forms version.Second count = replicate count form.Lead
 
--- the lines behind what shows the period
-abbrev pub forms_behind : Version → (registers : ℕ) → List Form
-forms_behind version registers = form.Count word.Registers registers
+-- the lines after what shows the period
+abbrev pub forms_after : Version → (registers : ℕ) → List Form
+forms_after version registers = form.Count word.Registers registers
     ∷ map form.Register (range_with_len 0 registers) ++ lead_forms version registers
     ++ form.Count word.Merges (registers - 1)
     ∷ map form.Merge (range_with_len registers (registers - 1))
@@ -126,4 +126,4 @@ forms_behind version registers = form.Count word.Registers registers
 -- all lines, with a cycle of so many constraints
 abbrev pub forms_of : Version → (cycle registers : ℕ) → List Form
 forms_of version cycle registers = form.Version ∷ form.Period ∷ form.Show
-    ∷ cycle_forms version cycle ++ forms_behind version registers
+    ∷ cycle_forms version cycle ++ forms_after version registers

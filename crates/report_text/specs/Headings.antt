@@ -39,7 +39,7 @@ pub record HasHeading (circuit : Circuit) (old new : Left) (heading : Heading) :
   pub small : IsSmallPeriod heading.period
   pub count : IsSmallCount heading.count
 
--- the lines behind these, as far as they show the period
+-- the lines after these, as far as they show the period
 pub record HasShown (circuit : Circuit) (scale : Scale) (version : Version) (count : Option ℕ)
     (old new : Left) (shown : Shown) : Type 0 where
   pub lines : Reads circuit scale (cycle_forms version (count_of count))

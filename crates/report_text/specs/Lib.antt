@@ -14,4 +14,4 @@ pub mod Sections
 pub mod Headings
 pub mod Bodies
 pub mod Parts
-pub mod ToldReports
+pub mod DenotedReports

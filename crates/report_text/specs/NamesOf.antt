@@ -1,4 +1,4 @@
--- Registers and signals that are told by their names.
+-- Registers and signals that are determined by their names.
 use Rattle.std.specs.Prelude.{◌≡◌, ◌<◌, ℕ, List, Option, Some, None, length, map}
 use Rattle.std.specs.List.{range_with_len}
 use Rattle.cts_model.specs.declared.circuit.Circuit.{Circuit}
@@ -20,13 +20,13 @@ pub record AreNamesOf (circuit : Circuit) (names : Names) : Type 0 where
   pub signals : names.signals ≡ signal_names circuit
 
 -- the register of that name, or that no register has it; a circuit has at most one
-abbrev pub TellsRegister : Circuit → List ℕ → Option ℕ → Type 0
-TellsRegister circuit name None = NamesRegister circuit name → ⊥
-TellsRegister circuit name (Some register) =
+abbrev pub DenotesRegister : Circuit → List ℕ → Option ℕ → Type 0
+DenotesRegister circuit name None = NamesRegister circuit name → ⊥
+DenotesRegister circuit name (Some register) =
     (register < length circuit.registers) × (register_name circuit register ≡ name)
 
 -- and likewise the signal
-abbrev pub TellsSignal : Circuit → List ℕ → Option ℕ → Type 0
-TellsSignal circuit name None = NamesSignal circuit name → ⊥
-TellsSignal circuit name (Some number) =
+abbrev pub DenotesSignal : Circuit → List ℕ → Option ℕ → Type 0
+DenotesSignal circuit name None = NamesSignal circuit name → ⊥
+DenotesSignal circuit name (Some number) =
     (number < length circuit.signals) × (signal_name circuit number ≡ name)

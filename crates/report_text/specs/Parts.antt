@@ -1,4 +1,4 @@
--- The parts of a whole report, one behind the other.
+-- The parts of a whole report, one after the other.
 use Rattle.std.specs.Prelude.{◌≡◌, ℕ, List, [], length}
 use Rattle.cts_base.specs.declared.fraction.Fraction.{Fraction}
 use Rattle.cts_model.specs.declared.circuit.Circuit.{Circuit}
@@ -18,15 +18,15 @@ scale_in tech period = record { den = period.den; grid = grid_of period tech }
 abbrev pub whole : List ℕ → Left
 whole text = record { line = 1; text = text }
 
--- the heading, what shows the period, and all sections behind these, up to the end of the text
+-- the heading, what shows the period, and all sections after these, up to the end of the text
 pub record HasParts (circuit : Circuit) (tech : Tech) (text : List ℕ) (parts : Parts)
     : Type 0 where
-  pub behind_heading : Left
-  pub behind_shown : Left
+  pub after_heading : Left
+  pub after_shown : Left
   pub end : Left
-  pub heading : HasHeading circuit (whole text) behind_heading parts.heading
+  pub heading : HasHeading circuit (whole text) after_heading parts.heading
   pub shown : HasShown circuit (scale_in tech parts.heading.period) parts.heading.version
-      parts.heading.count behind_heading behind_shown parts.shown
+      parts.heading.count after_heading after_shown parts.shown
   pub body : HasBody circuit (scale_in tech parts.heading.period) parts.heading.version
-      (length circuit.registers) behind_shown end parts.body
+      (length circuit.registers) after_shown end parts.body
   pub ended : end.text ≡ []

@@ -6,9 +6,9 @@ use Rattle.cts_model.specs.Points.{IsBelow, IsPointBelow}
 use Rattle.cts_model.specs.PrintedLines.{Words}
 use Rattle.cts_model.specs.ReportBounds.{IsSmallWire}
 
--- words that stand behind others on a line: each after a space
-abbrev pub behind : Words → List ℕ
-behind words = flat_map (λ word. 32 ∷ word) words
+-- words that stand after others on a line: each after a space
+abbrev pub suffix : Words → List ℕ
+suffix words = flat_map (λ word. 32 ∷ word) words
 
 -- lengths, reaches and points are small enough to be brought to lowest terms
 pub record HasSmallLengths (report : Report) : Type 0 where

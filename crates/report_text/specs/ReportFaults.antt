@@ -62,27 +62,27 @@ abbrev pub word_at : List ℕ → (line place : ℕ) → List ℕ
 word_at text line place =
     get_or (words_of (get_or (slice_split is_line_feed text) line [])) place []
 
--- what the first three lines tell of the lines behind them: the version, the steps, and how many
+-- what the first three lines tell of the lines after them: the version, the steps, and how many
 -- constraints the cycle has
-abbrev pub version_told : List ℕ → Version
-version_told text =
+abbrev pub version_denoted : List ℕ → Version
+version_denoted text =
     if bytes_eq (word_at text 0 1) (codes "1") then version.First else version.Second
 
-abbrev pub den_told : List ℕ → ℤ
-den_told text = if list_any is_slash (word_at text 1 1)
+abbrev pub den_denoted : List ℕ → ℤ
+den_denoted text = if list_any is_slash (word_at text 1 1)
     then pos (digits_value 10 (after_first is_slash (word_at text 1 1))) else pos 1
 
-abbrev pub scale_told : Tech → List ℕ → Scale
-scale_told tech text = record {
-  den = den_told text;
-  grid = pos (10 ^ 6) *ℤ (pos 8 *ℤ den_told text *ℤ tech.wire_num);
+abbrev pub scale_denoted : Tech → List ℕ → Scale
+scale_denoted tech text = record {
+  den = den_denoted text;
+  grid = pos (10 ^ 6) *ℤ (pos 8 *ℤ den_denoted text *ℤ tech.wire_num);
 }
 
-abbrev pub cycle_told : List ℕ → ℕ
-cycle_told text = if is_word (word_at text 2 0 ∷ []) 0 word.Floor
+abbrev pub cycle_denoted : List ℕ → ℕ
+cycle_denoted text = if is_word (word_at text 2 0 ∷ []) 0 word.Floor
     then 0 else digits_value 10 (word_at text 2 1)
 
 -- the text has this fault first as a report of the circuit with these delays, or none
 abbrev pub HasFault : Circuit → Tech → List ℕ → Option ReportFault → Type 0
-HasFault circuit tech text fault = HasFirstFault circuit (scale_told tech text)
-    (forms_of (version_told text) (cycle_told text) (length circuit.registers)) 1 text fault
+HasFault circuit tech text fault = HasFirstFault circuit (scale_denoted tech text)
+    (forms_of (version_denoted text) (cycle_denoted text) (length circuit.registers)) 1 text fault

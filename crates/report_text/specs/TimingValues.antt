@@ -23,17 +23,17 @@ abbrev pub IsFlawless : Circuit → Scale → Form → Words → Type 0
 IsFlawless circuit scale form words =
     LineHasFlaw circuit (fields_of circuit scale form words) words None
 
-pub record TellsPeriod (words : Words) (period : Fraction) : Type 0 where
+pub record DenotesPeriod (words : Words) (period : Fraction) : Type 0 where
   pub line : words ≡ period_line period
   pub small : IsSmallPeriod period
 
 -- how many constraints show the period, or that the floor does
-abbrev pub TellsShow : Words → Option ℕ → Type 0
-TellsShow words None = words ≡ floor_line
-TellsShow words (Some count) =
+abbrev pub DenotesShow : Words → Option ℕ → Type 0
+DenotesShow words None = words ≡ floor_line
+DenotesShow words (Some count) =
     (words ≡ count_line (codes "cycle") count) × (1 ≤ count) × (count ≤ 9999)
 
-pub record TellsConstraint (circuit : Circuit) (words : Words)
+pub record DenotesConstraint (circuit : Circuit) (words : Words)
     (constraint : Constraint) : Type 0 where
   pub line : words ≡ line_for circuit constraint
   pub registers : IsBetweenRegisters (length circuit.registers) constraint
@@ -45,19 +45,19 @@ pub record NamesSignals (circuit : Circuit) (names : Words) (signals : List ℕ)
   pub within : All (λ number. number < length circuit.signals) signals
 
 -- the signals of a path, none where it isn't printed
-pub record TellsPath (circuit : Circuit) (words : Words) (path : List ℕ) : Type 0 where
+pub record DenotesPath (circuit : Circuit) (words : Words) (path : List ℕ) : Type 0 where
   pub line : words ≡ path_line circuit path
   pub signals : All (λ number. number < length circuit.signals) path
   pub few : length path ≤ 65536
 
 -- the arrival of a register, in steps, and its slacks
-pub record TellsArrival (circuit : Circuit) (den : ℤ) (register : ℕ) (words : Words) (arrival : ℤ)
+pub record DenotesArrival (circuit : Circuit) (den : ℤ) (register : ℕ) (words : Words) (arrival : ℤ)
     (slack : Slack) : Type 0 where
   pub line : words ≡ register_line circuit den register arrival slack
   pub small : IsBelow (10 ^ 19) arrival
   pub slacks : AreSmallSlacks den slack
 
-pub record TellsLead (circuit : Circuit) (words : Words) (lead : Lead) : Type 0 where
+pub record DenotesLead (circuit : Circuit) (words : Words) (lead : Lead) : Type 0 where
   pub line : words ≡ lead_line circuit lead
   pub registers : LeadsAmong (length circuit.registers) lead
   pub small : IsSmallLead lead

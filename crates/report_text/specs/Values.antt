@@ -98,11 +98,11 @@ pub record HasCorners (grid : ℤ) (words : Words) : Type 0 where
   pub each : (place : ℕ) → 5 ≤ place → place < length words
       → IsLengthWord grid (get_or words place [])
 
--- the point that two words from the place on tell, and (0, 0) behind the last
+-- the point that two words from the place on tell, and (0, 0) after the last
 pub record IsCorner (grid : ℤ) (words : Words) (place : ℕ) (point : Point) : Type 0 where
   pub within : place + 1 < length words
       → SpellsPoint grid (get_or words place []) (get_or words (place + 1) []) point
-  pub behind : length words ≤ place + 1 → point ≡ origin
+  pub suffix : length words ≤ place + 1 → point ≡ origin
 
 -- the wire that those words tell
 pub record SaysWire (grid : ℤ) (words : Words) (wire : Wire) : Type 0 where

@@ -14,7 +14,7 @@ use Rattle.report_text.specs.ReportFaults.{HasFirstFault, fault_of, is_line_feed
 use Rattle.report_text.specs.declared.timing_values.Timed.{Timed}
 use Rattle.cts_model.specs.declared.report.Version.{Version}
 use Rattle.cts_model.specs.ReportLines.{version_line}
-use Rattle.report_text.specs.TimingValues.{IsFlawless, TellsArrival}
+use Rattle.report_text.specs.TimingValues.{IsFlawless, DenotesArrival}
 
 -- what is left of a text, and the number of its first line
 pub record Left : Type 0 where
@@ -69,17 +69,17 @@ StopsLine circuit scale form left fault = fault ≢ NoMemory
     (fields_of circuit scale form (words_of (take end left.text)))
     (words_of (take end left.text)) (Some flaw) × (fault ≡ fault_of form left.line flaw)))
 
--- the next line has no flaw by the form, and tells this value
-pub record TellsLine {X : Type 0} (circuit : Circuit) (scale : Scale) (form : Form)
-    (Tells : Words → X → Type 0) (old new : Left) (value : X) : Type 0 where
+-- the next line has no flaw by the form, and denotes this value
+pub record DenotesLine {X : Type 0} (circuit : Circuit) (scale : Scale) (form : Form)
+    (Denotes : Words → X → Type 0) (old new : Left) (value : X) : Type 0 where
   pub words : Words
   pub line : ReadsLine circuit scale form words old new
-  pub told : Tells words value
+  pub denoted : Denotes words value
 
 -- what the lines of some forms tell
-abbrev pub TellsVersion : Words → Version → Type 0
-TellsVersion words version = words ≡ version_line version
+abbrev pub DenotesVersion : Words → Version → Type 0
+DenotesVersion words version = words ≡ version_line version
 
-abbrev pub TellsTimed : Circuit → Scale → (register : ℕ) → Words → Timed → Type 0
-TellsTimed circuit scale register words timed =
-    TellsArrival circuit scale.den register words timed.arrival timed.slack
+abbrev pub DenotesTimed : Circuit → Scale → (register : ℕ) → Words → Timed → Type 0
+DenotesTimed circuit scale register words timed =
+    DenotesArrival circuit scale.den register words timed.arrival timed.slack

@@ -6,7 +6,7 @@ ghost use Rattle.cts_model.specs.Points.{IsBelow};
 ghost use Rattle.cts_model.specs.ReportBounds.{Spells};
 ghost use Rattle.cts_model.specs.Schedules.{IsSmallPeriod};
 ghost use Rattle.report_text.specs.Parts.{HasParts};
-ghost use Rattle.report_text.specs.ToldReports.{begin_of, report_told, sink_reach, sink_reaches};
+ghost use Rattle.report_text.specs.DenotedReports.{begin_of, report_denoted, sink_reach, sink_reaches};
 
 use crate::grid::{grid_of, scheduled_length};
 use crate::sections::{Body, Parts};
@@ -14,7 +14,7 @@ use cts_base::{Listed, NoMemory};
 use cts_model::{Point, Report, Schedule, Tech, Topology, Tree, Wire};
 use std::alloc::Global;
 
-/// The report that is told by the parts of a text.
+/// The report that the parts of a text make up.
 pub(crate) fn report_of(alloc: Global, tech: &Tech, parts: Parts) -> Result<Report, NoMemory>
     requires { (circuit : model.Circuit) × (text : List ℕ)
         × HasParts circuit tech.now text parts }
@@ -29,7 +29,7 @@ pub(crate) fn report_of(alloc: Global, tech: &Tech, parts: Parts) -> Result<Repo
 fn put_together(alloc: Global, tech: &Tech, parts: Parts) -> Result<Report, NoMemory>
     requires period { IsSmallPeriod parts.heading.period }
     requires arrivals { All (IsBelow (10 ^ 19)) parts.body.timings.at }
-    ensures { IfOk result (λ report. report ≡ report_told tech.now parts) }
+    ensures { IfOk result (λ report. report ≡ report_denoted tech.now parts) }
 {
     let reach = reaches_of(alloc, tech, &parts.body)?;
     let heading = parts.heading;

@@ -12,7 +12,7 @@ pub enum ReportFault {
     UnknownRegister(u32),
     /// The text ends before this line.
     Missing(u32),
-    /// The text goes on with this line behind the last one that is due.
+    /// The text goes on with this line after the last one that is due.
     Extra(u32),
     /// A number of the line is past its bound.
     TooLarge(u32),

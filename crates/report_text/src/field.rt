@@ -34,7 +34,7 @@ pub enum Field {
     Exactly(u32),
     /// A whole number.
     Number { least: u32, most: u32 },
-    /// How many words stand behind it, at least one.
+    /// How many words stand after it, at least one.
     Counted { count: usize, most: usize },
     /// A whole number of ticks.
     Weight,

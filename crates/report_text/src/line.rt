@@ -3,7 +3,7 @@
 ghost use Rattle.std.specs.Prelude.{◌≡◌, ◌<◌, pos, ◌++◌, ◌∷◌, [], length, map, OnOk};
 ghost use Rattle.std.specs.Fmt.{signed_decimal};
 ghost use Rattle.cts_model.specs.PrintedLines.{line_of, count_line, constraint_line, line_for};
-ghost use Rattle.report_text.specs.Pieces.{behind};
+ghost use Rattle.report_text.specs.Pieces.{suffix};
 
 use cts_base::NoMemory;
 use cts_model::{Circuit, Constraint};
@@ -74,7 +74,7 @@ pub fn push_count(out: &mut Vec<u8>, word: &[u8], count: usize) -> Result<(), No
     push_line(out, word, &[count])
 }
 
-/// Appends the line of a word and others behind it.
+/// Appends the line of a word and others after it.
 pub fn push_line(out: &mut Vec<u8>, word: &[u8], others: &[&[u8]]) -> Result<(), NoMemory>
     ensures { OnOk result (out.new.items ≡ out.old.items
         ++ line_of (word.now ∷ map (λ other. other.now) others.now)) }
@@ -87,19 +87,19 @@ pub fn push_line(out: &mut Vec<u8>, word: &[u8], others: &[&[u8]]) -> Result<(),
     Ok(())
 }
 
-/// Appends a word behind others.
+/// Appends a word after others.
 pub fn push_word(out: &mut Vec<u8>, word: &[u8]) -> Result<(), NoMemory>
-    ensures { OnOk result (out.new.items ≡ out.old.items ++ behind (word.now ∷ [])) }
+    ensures { OnOk result (out.new.items ≡ out.old.items ++ suffix (word.now ∷ [])) }
 {
     out.push(b' ')?;
     out.extend_from_slice(word)?;
     Ok(())
 }
 
-/// Appends a number behind other words.
+/// Appends a number after other words.
 pub fn push_number(out: &mut Vec<u8>, number: usize) -> Result<(), NoMemory>
     ensures { OnOk result (out.new.items
-        ≡ out.old.items ++ behind (signed_decimal (pos number) ∷ [])) }
+        ≡ out.old.items ++ suffix (signed_decimal (pos number) ∷ [])) }
 {
     let mut buffer = Buffer::new();
     push_word(out, buffer.format(number).as_bytes())

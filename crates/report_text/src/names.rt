@@ -16,7 +16,7 @@ pub(crate) struct Names {
 impl Names {
     ghost use Rattle.std.specs.Prelude.{◌≡◌};
     ghost use Rattle.cts_model.specs.declared.circuit.Circuit as model;
-    ghost use Rattle.report_text.specs.NamesOf.{AreNamesOf, TellsRegister, TellsSignal};
+    ghost use Rattle.report_text.specs.NamesOf.{AreNamesOf, DenotesRegister, DenotesSignal};
 
     /// The names of a circuit.
     pub(crate) fn new(alloc: Global, circuit: &Circuit) -> Result<Names, NoMemory>
@@ -30,7 +30,7 @@ impl Names {
     /// The number of the register of that name. `None` says that no register has it.
     pub(crate) fn register(&self, name: &[u8]) -> Option<u32>
         ensures { (circuit : model.Circuit) → AreNamesOf circuit self.now
-            → TellsRegister circuit name.now result }
+            → DenotesRegister circuit name.now result }
     {
         self.registers.number_of(name)
     }
@@ -38,7 +38,7 @@ impl Names {
     /// The number of the signal of that name. `None` says that no signal has it.
     pub(crate) fn signal(&self, name: &[u8]) -> Option<u32>
         ensures { (circuit : model.Circuit) → AreNamesOf circuit self.now
-            → TellsSignal circuit name.now result }
+            → DenotesSignal circuit name.now result }
     {
         self.signals.number_of(name)
     }

@@ -15,7 +15,7 @@ pub(crate) struct Parts {
     pub heading: Heading,
     /// What shows the period.
     pub shown: Shown,
-    /// The sections behind these.
+    /// The sections after these.
     pub body: Body,
 }
 
@@ -48,7 +48,7 @@ pub(crate) struct Timings {
     pub slacks: Listed<Slack>,
 }
 
-/// All sections behind what shows the period.
+/// All sections after what shows the period.
 #[derive(Drop)]
 pub(crate) struct Body {
     /// The registers.

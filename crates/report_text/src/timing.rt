@@ -7,7 +7,7 @@ ghost use Rattle.cts_model.specs.PrintedLines.{line_of, text_of, count_line, reg
 ghost use Rattle.cts_model.specs.ReportBounds.{IsOfSize, HasTimingBounds, IsBetweenRegisters, ShowsPeriodAmong, LeadsAmong, cycle_length};
 ghost use Rattle.cts_model.specs.ReportLines.{version_line, path_line, pathed_lines, period_show_lines, register_line_at, lead_line, lines_below, timing_lines, signal_name};
 ghost use Rattle.cts_model.specs.Schedules.{arrival_of};
-ghost use Rattle.report_text.specs.Pieces.{behind};
+ghost use Rattle.report_text.specs.Pieces.{suffix};
 
 use crate::line::{push_count, push_line, push_line_for, push_number, push_word};
 use crate::period::{push_period, push_show};
@@ -110,11 +110,11 @@ fn push_path(out: &mut Vec<u8>, circuit: &Circuit, path: &[u32]) -> Result<(), N
     Ok(())
 }
 
-// Appends the names of signals behind other words.
+// Appends the names of signals after other words.
 fn push_signals(out: &mut Vec<u8>, circuit: &Circuit, path: &[u32]) -> Result<(), NoMemory>
     requires { All (λ number. number < length circuit.now.signals) path.now }
     ensures { OnOk result (out.new.items
-        ≡ out.old.items ++ behind (map (signal_name circuit.now) path.now)) }
+        ≡ out.old.items ++ suffix (map (signal_name circuit.now) path.now)) }
 {
     for number in path {
         push_word(out, signal_name(circuit, *number as usize))?;
@@ -184,13 +184,13 @@ pub fn push_register(
     Ok(())
 }
 
-// Appends an arrival in ticks behind other words.
+// Appends an arrival in ticks after other words.
 fn push_arrival(out: &mut Vec<u8>, schedule: &Schedule, register: usize) -> Result<(), NoMemory>
     requires within { register < length schedule.now.at }
     requires some_den { pos 1 ≤ℤ schedule.now.den }
     requires small_den { HasSizeBelow (10 ^ 37) schedule.now.den }
     requires small { HasSizeBelow (10 ^ 37) (arrival_of schedule.now.at register) }
-    ensures { OnOk result (out.new.items ≡ out.old.items ++ behind
+    ensures { OnOk result (out.new.items ≡ out.old.items ++ suffix
         (quotient_text (arrival_of schedule.now.at register) schedule.now.den ∷ [])) }
 {
     out.push(b' ')?;
@@ -198,9 +198,9 @@ fn push_arrival(out: &mut Vec<u8>, schedule: &Schedule, register: usize) -> Resu
     Ok(())
 }
 
-// Appends a slack in ticks behind other words.
+// Appends a slack in ticks after other words.
 fn push_slack(out: &mut Vec<u8>, slack: Option<Fraction>) -> Result<(), NoMemory>
-    ensures { OnOk result (out.new.items ≡ out.old.items ++ behind (slack_text slack ∷ [])) }
+    ensures { OnOk result (out.new.items ≡ out.old.items ++ suffix (slack_text slack ∷ [])) }
 {
     match slack {
         None => push_word(out, b"-"),

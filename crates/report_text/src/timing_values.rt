@@ -12,14 +12,14 @@ ghost use Rattle.report_text.specs.declared.form.Form.TheVariants as form;
 ghost use Rattle.report_text.specs.declared.form.Scale as scales;
 ghost use Rattle.report_text.specs.Fields.{IsFractionForm, NamesSignal};
 ghost use Rattle.report_text.specs.NamesOf.{AreNamesOf};
-ghost use Rattle.report_text.specs.TimingValues.{IsFlawless, TellsPeriod, TellsShow, TellsConstraint, TellsPath, NamesSignals, TellsArrival, TellsLead, IsSlackWord};
+ghost use Rattle.report_text.specs.TimingValues.{IsFlawless, DenotesPeriod, DenotesShow, DenotesConstraint, DenotesPath, NamesSignals, DenotesArrival, DenotesLead, IsSlackWord};
 
 use crate::field::Keyword;
 use crate::form::Scale;
 use crate::known::{known_register, known_signal};
 use crate::names::Names;
 use crate::number::{number_of, steps_of};
-use crate::words::{is_word, word_at, words_behind};
+use crate::words::{is_word, word_at, words_after};
 use cts_base::{Fraction, Listed, NoMemory, read_fraction, read_whole};
 use cts_model::{Constraint, Lead, Slack, Version};
 use std::alloc::Global;
@@ -47,7 +47,7 @@ fn is_one(word: &[u8]) -> bool
 pub(crate) fn period_of(words: &[&[u8]]) -> Fraction
     ensures { (circuit : model.Circuit) (scale : scales.Scale)
         → IsFlawless circuit scale form.Period (map (λ word. word.now) words.now)
-        → TellsPeriod (map (λ word. word.now) words.now) result }
+        → DenotesPeriod (map (λ word. word.now) words.now) result }
 {
     fraction_of(word_at(words, 1))
 }
@@ -67,7 +67,7 @@ fn fraction_of(word: &[u8]) -> Fraction
 pub(crate) fn show_of(words: &[&[u8]]) -> Option<u32>
     requires { (circuit : model.Circuit) × (scale : scales.Scale)
         × IsFlawless circuit scale form.Show (map (λ word. word.now) words.now) }
-    ensures { TellsShow (map (λ word. word.now) words.now) result }
+    ensures { DenotesShow (map (λ word. word.now) words.now) result }
 {
     if is_word(words, 0, Keyword::Floor) {
         None
@@ -80,7 +80,7 @@ pub(crate) fn show_of(words: &[&[u8]]) -> Option<u32>
 pub(crate) fn constraint_of(names: &Names, words: &[&[u8]]) -> Constraint
     ensures { (circuit : model.Circuit) (scale : scales.Scale) → AreNamesOf circuit names.now
         → IsFlawless circuit scale form.Constraint (map (λ word. word.now) words.now)
-        → TellsConstraint circuit (map (λ word. word.now) words.now) result }
+        → DenotesConstraint circuit (map (λ word. word.now) words.now) result }
 {
     let launch = known_register(names, word_at(words, 1));
     let capture = known_register(names, word_at(words, 2));
@@ -128,9 +128,9 @@ pub(crate) fn path_of(
     ensures { IfOk result (λ path. (circuit : model.Circuit) (scale : scales.Scale)
         → AreNamesOf circuit names.now
         → IsFlawless circuit scale form.Path (map (λ word. word.now) words.now)
-        → TellsPath circuit (map (λ word. word.now) words.now) path) }
+        → DenotesPath circuit (map (λ word. word.now) words.now) path) }
 {
-    let path = signals_of(alloc, names, words_behind(words, 2))?;
+    let path = signals_of(alloc, names, words_after(words, 2))?;
     Ok(path)
 }
 
@@ -147,7 +147,7 @@ fn signals_of(alloc: Global, names: &Names, words: &[&[u8]]) -> Result<Listed<u3
     Ok(path)
 }
 
-/// What the line of a register tells of it.
+/// What the line of a register denotes of it.
 #[derive(Clone, Copy, Debug, PartialEq, Eq)]
 pub(crate) struct Timed {
     /// When the clock reaches it, in steps.
@@ -164,7 +164,7 @@ pub(crate) fn timed_of(scale: Scale, words: &[&[u8]]) -> Timed
         × IsFlawless circuit scale (form.Register register) (map (λ word. word.now) words.now) }
     ensures { (circuit : model.Circuit) (register : ℕ)
         → IsFlawless circuit scale (form.Register register) (map (λ word. word.now) words.now)
-        → TellsArrival circuit scale.den register (map (λ word. word.now) words.now)
+        → DenotesArrival circuit scale.den register (map (λ word. word.now) words.now)
         result.arrival result.slack }
 {
     Timed {
@@ -193,13 +193,13 @@ pub(crate) fn lead_of(names: &Names, words: &[&[u8]]) -> Lead
         × IsFlawless circuit scale form.Lead (map (λ word. word.now) words.now) }
     ensures { (circuit : model.Circuit) (scale : scales.Scale) → AreNamesOf circuit names.now
         → IsFlawless circuit scale form.Lead (map (λ word. word.now) words.now)
-        → TellsLead circuit (map (λ word. word.now) words.now) result }
+        → DenotesLead circuit (map (λ word. word.now) words.now) result }
 {
     if is_word(words, 1, Keyword::Zero) {
         return Lead::Zero;
     }
     Lead::Tight {
         depth: number_of(word_at(words, 1)),
-        constraint: constraint_of(names, words_behind(words, 2)),
+        constraint: constraint_of(names, words_after(words, 2)),
     }
 }

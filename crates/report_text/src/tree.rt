@@ -7,7 +7,7 @@ ghost use Rattle.cts_model.specs.Points.{IsBelow, IsPointBelow};
 ghost use Rattle.cts_model.specs.PrintedLines.{line_of, text_of};
 ghost use Rattle.cts_model.specs.ReportBounds.{IsOfSize, IsSmallWire, ShowsAmong};
 ghost use Rattle.cts_model.specs.ReportLines.{length_text, lines_below, merge_line_at, merge_words, no_wire, node_line_at, number_at, point_words, show_words, source_line, tree_lines, wire_words};
-ghost use Rattle.report_text.specs.Pieces.{behind, HasSmallLengths};
+ghost use Rattle.report_text.specs.Pieces.{suffix, HasSmallLengths};
 
 use crate::line::{push_count, push_node, push_number, push_word};
 use cts_base::{NoMemory, push_quotient};
@@ -103,12 +103,12 @@ fn push_reach(out: &mut Vec<u8>, report: &Report, node: usize) -> Result<(), NoM
     requires within { node < length report.now.tree.reach }
     requires small { HasSmallLengths report.now }
     ensures { OnOk result (out.new.items ≡ out.old.items
-        ++ behind (length_text report.now (number_at report.now.tree.reach node) ∷ [])) }
+        ++ suffix (length_text report.now (number_at report.now.tree.reach node) ∷ [])) }
 {
     push_length(out, report, report.tree.reach.as_slice()[node])
 }
 
-// What shows the reach of a merge, or behind all of them that of the source.
+// What shows the reach of a merge, or after all of them that of the source.
 fn show_at(report: &Report, place: usize) -> Show
     requires { place < length report.now.shows }
     ensures { result ≡ slice_index_or report.now.shows place Root }
@@ -120,7 +120,7 @@ fn show_at(report: &Report, place: usize) -> Show
 fn push_shown(out: &mut Vec<u8>, circuit: &Circuit, show: Show) -> Result<(), NoMemory>
     requires show { ShowsAmong (length circuit.now.registers) show }
     ensures { OnOk result (out.new.items
-        ≡ out.old.items ++ behind (show_words circuit.now show)) }
+        ≡ out.old.items ++ suffix (show_words circuit.now show)) }
 {
     match show {
         Show::Pair(first, second) => {
@@ -175,7 +175,7 @@ fn push_edge(out: &mut Vec<u8>, report: &Report, node: usize) -> Result<(), NoMe
     requires within { node < length report.now.tree.length }
     requires small { HasSmallLengths report.now }
     ensures { OnOk result (out.new.items ≡ out.old.items
-        ++ behind (length_text report.now (number_at report.now.tree.length node) ∷ [])) }
+        ++ suffix (length_text report.now (number_at report.now.tree.length node) ∷ [])) }
 {
     push_length(out, report, report.tree.length.as_slice()[node])
 }
@@ -194,7 +194,7 @@ fn wire_at(report: &Report, node: usize) -> Wire
 fn push_wire(out: &mut Vec<u8>, report: &Report, wire: Wire) -> Result<(), NoMemory>
     requires wire { IsSmallWire wire }
     requires small { HasSmallLengths report.now }
-    ensures { OnOk result (out.new.items ≡ out.old.items ++ behind (wire_words report.now wire)) }
+    ensures { OnOk result (out.new.items ≡ out.old.items ++ suffix (wire_words report.now wire)) }
 {
     push_number(out, wire.used as usize)?;
     push_points(out, report, wire.corners.split_at(wire.used as usize).0)
@@ -205,7 +205,7 @@ fn push_points(out: &mut Vec<u8>, report: &Report, points: &[Point]) -> Result<(
     requires points { All (IsPointBelow (10 ^ 32)) points.now }
     requires small { HasSmallLengths report.now }
     ensures { OnOk result (out.new.items
-        ≡ out.old.items ++ behind (flat_map (point_words report.now) points.now)) }
+        ≡ out.old.items ++ suffix (flat_map (point_words report.now) points.now)) }
 {
     for point in points {
         push_point(out, report, *point)?;
@@ -218,7 +218,7 @@ fn push_point(out: &mut Vec<u8>, report: &Report, point: Point) -> Result<(), No
     requires point { IsPointBelow (10 ^ 32) point }
     requires small { HasSmallLengths report.now }
     ensures { OnOk result (out.new.items
-        ≡ out.old.items ++ behind (point_words report.now point)) }
+        ≡ out.old.items ++ suffix (point_words report.now point)) }
 {
     push_length(out, report, point.x)?;
     push_length(out, report, point.y)
@@ -241,7 +241,7 @@ fn push_length(out: &mut Vec<u8>, report: &Report, steps: i128) -> Result<(), No
     requires steps { IsBelow (10 ^ 36) steps }
     requires small { HasSmallLengths report.now }
     ensures { OnOk result (out.new.items
-        ≡ out.old.items ++ behind (length_text report.now steps ∷ [])) }
+        ≡ out.old.items ++ suffix (length_text report.now steps ∷ [])) }
 {
     out.push(b' ')?;
     push_quotient(out, steps, report.grid)?;

@@ -146,7 +146,7 @@ fn points_of(words: &[&[u8]]) -> u8
     ((words.len() - 5) / 2) as u8
 }
 
-// The point that the words at a place and behind it tell, and (0, 0) where they aren't there.
+// The point that the words at a place and after it tell, and (0, 0) where they aren't there.
 fn corner_at(scale: Scale, words: &[&[u8]], place: usize) -> Point
     requires scale { IsSmallScale scale }
     requires corners { HasCorners scale.grid (map (λ word. word.now) words.now) }
@@ -161,7 +161,7 @@ fn corner_at(scale: Scale, words: &[&[u8]], place: usize) -> Point
     }
 }
 
-// The point that the words at a place and behind it tell.
+// The point that the words at a place and after it tell.
 fn point_at(scale: Scale, words: &[&[u8]], place: usize) -> Point
     requires scale { IsSmallScale scale }
     requires place { place ≤ 13 }

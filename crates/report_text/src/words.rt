@@ -17,8 +17,8 @@ pub(crate) fn word_at<'a>(words: &[&'a [u8]], place: usize) -> &'a [u8]
     }
 }
 
-/// The words behind so many, none where there are no more.
-pub(crate) fn words_behind<'a>(words: &'a [&'a [u8]], count: usize) -> &'a [&'a [u8]]
+/// The words after so many, none where there are no more.
+pub(crate) fn words_after<'a>(words: &'a [&'a [u8]], count: usize) -> &'a [&'a [u8]]
     ensures { map (λ word. word.now) result.now ≡ drop count (map (λ word. word.now) words.now) }
 {
     if words.len() < count {

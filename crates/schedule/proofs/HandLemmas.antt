@@ -11,9 +11,9 @@ use Rattle.cts_model.specs.declared.schedule.Lead.TheVariants.{Tight}
 use Rattle.cts_model.specs.Schedules.{arrival_of}
 use Rattle.cts_model.specs.Leads.{IsTight, IsTightLead, depth_of, lead_at}
 use Rattle.schedule.specs.Tails.{IsLastBefore}
-use Rattle.schedule.specs.Reaching.{IsAdded, IsGiven, IsGrown, IsHanded, IsHandedBy, IsKept, IsReached, IsReaching}
+use Rattle.schedule.specs.Reaching.{IsAdded, IsGiven, IsGrown, IsHanded, IsHandedBy, IsReachKept, IsReached, IsReaching}
 use Rattle.schedule.proofs.SweepLemmas.{nowhere}
-use Rattle.schedule.proofs.ReachLemmas.{IsKept-added, IsReaching-added, flag_here}
+use Rattle.schedule.proofs.ReachLemmas.{IsReachKept-added, IsReaching-added, flag_here}
 
 -- the constraints that lead from the register are looked at, up to the mark's
 pub record IsHanding (constraints : List Constraint) (period : Fraction) (at : List ℤ)
@@ -33,17 +33,17 @@ pub record IsTaking (constraints : List Constraint) (period : Fraction) (at : Li
       → IsHandedBy constraints period at reach place
 
 -- nothing changed
-IsKept-same : (reach : Reach) → IsKept reach reach
-IsKept-same reach = record {
+IsReachKept-same : (reach : Reach) → IsReachKept reach reach
+IsReachKept-same reach = record {
   kept = λ register reached. reached;
   longer = omega arith;
   same = λ place below. refl;
 }
 
 -- one step after the other
-IsKept-then : {first second third : Reach} → IsKept first second → IsKept second third
-    → IsKept first third
-IsKept-then one two = record {
+IsReachKept-then : {first second third : Reach} → IsReachKept first second → IsReachKept second third
+    → IsReachKept first third
+IsReachKept-then one two = record {
   kept = λ register reached. two.kept register (one.kept register reached);
   longer = omega (arith, one.longer, two.longer);
   same = λ place below.
@@ -88,7 +88,7 @@ module _ {constraints : List Constraint} {period : Fraction} {at : List ℤ} {ol
     pub IsGrown-offered : {new : Reach} → IsAdded it.head (Tight depth it) old new
         → IsGrown constraints period at place old new
     IsGrown-offered {new} added = record {
-      keeps = IsKept-added reaching added head first;
+      keeps = IsReachKept-added reaching added head first;
       reaching = IsReaching-added reaching added head first led tail
           (omega (arith, depth_is, reaching.low it.tail)) (length at) head (omega arith)
           (λ other early. inl early);
@@ -106,7 +106,7 @@ module _ {constraints : List Constraint} {period : Fraction} {at : List ℤ}
       → IsHanding constraints period at register mark old old
   IsHanding-none reaching last = record {
     handed = record {
-      keeps = IsKept-same old;
+      keeps = IsReachKept-same old;
       reaching = reaching;
       handed = λ place default past within tail. absurd (last.none place default past within tail);
     };
@@ -126,7 +126,7 @@ module _ {constraints : List Constraint} {period : Fraction} {at : List ℤ}
       → IsHanding constraints period at register before old new
   IsHanding-more {now} {new} handing place place_is grown before last = record {
     handed = record {
-      keeps = IsKept-then handing.handed.keeps grown.keeps;
+      keeps = IsReachKept-then handing.handed.keeps grown.keeps;
       reaching = grown.reaching;
       handed = handed;
     };

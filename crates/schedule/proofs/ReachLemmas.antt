@@ -10,7 +10,7 @@ use Rattle.cts_model.specs.declared.schedule.Lead.{Lead}
 use Rattle.cts_model.specs.declared.schedule.Lead.TheVariants.{Zero, Tight}
 use Rattle.schedule.specs.declared.reach.Reach.{Reach}
 use Rattle.cts_model.specs.Leads.{IsLead, depth_of, lead_at}
-use Rattle.schedule.specs.Reaching.{IsAdded, IsFromReached, IsKept, IsReached, IsReaching, unreached}
+use Rattle.schedule.specs.Reaching.{IsAdded, IsFromReached, IsReachKept, IsReached, IsReaching, unreached}
 
 module _ {constraints : List Constraint} {period : Fraction} {at : List ℤ} {looked : ℕ}
     {old new : Reach} {register : ℕ} {lead : Lead}
@@ -65,8 +65,8 @@ module _ {constraints : List Constraint} {period : Fraction} {at : List ℤ} {lo
       ∙ get_or-append_seam old.queue.items register [] 0
 
   -- what is reached stays so
-  pub IsKept-added : IsKept old new
-  IsKept-added = record {
+  pub IsReachKept-added : IsReachKept old new
+  IsReachKept-added = record {
     kept = still;
     longer = omega (arith, queue_len);
     same = queue_same;

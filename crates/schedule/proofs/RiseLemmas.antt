@@ -96,8 +96,8 @@ times_offer times from asked due =
     omega (arith, ints, over)
 
 -- a product of three
-turned : (scale times n : ℕ) → scale * times * n ≡ times * (scale * n)
-turned scale times n = grind arith
+rotated : (scale times n : ℕ) → scale * times * n ≡ times * (scale * n)
+rotated scale times n = grind arith
 
 -- what is asked at a scale that many times as fine
 asked_times : (scale times : ℕ) (weight : ℤ)
@@ -111,8 +111,8 @@ asked_times scale times weight =
       arith,
       ints,
       over,
-      turned scale times (up weight),
-      turned scale times (down weight),
+      rotated scale times (up weight),
+      rotated scale times (down weight),
     )
 
 -- what is due for a constraint

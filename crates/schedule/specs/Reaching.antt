@@ -64,7 +64,7 @@ pub record IsAdded (register : ℕ) (lead : Lead) (old new : Reach) : Type 0 whe
   pub queue : new.queue.items ≡ old.queue.items ++ register ∷ []
 
 -- what is reached stays so, in its place in the queue
-pub record IsKept (old new : Reach) : Type 0 where
+pub record IsReachKept (old new : Reach) : Type 0 where
   pub kept : (register : ℕ) → IsReached old register → IsReached new register
   pub longer : length old.queue.items ≤ length new.queue.items
   pub same : (place : ℕ) → place < length old.queue.items
@@ -79,14 +79,14 @@ IsHandedBy constraints period at reach place = (default : Constraint)
 -- a constraint is looked at
 pub record IsGrown (constraints : List Constraint) (period : Fraction) (at : List ℤ)
     (place : ℕ) (old new : Reach) : Type 0 where
-  pub keeps : IsKept old new
+  pub keeps : IsReachKept old new
   pub reaching : IsReaching constraints period at (length at) new
   pub handed : IsHandedBy constraints period at new place
 
 -- the constraints from this place on that lead from the register are looked at
 pub record IsHanded (constraints : List Constraint) (period : Fraction) (at : List ℤ)
     (register start : ℕ) (old new : Reach) : Type 0 where
-  pub keeps : IsKept old new
+  pub keeps : IsReachKept old new
   pub reaching : IsReaching constraints period at (length at) new
   pub handed : (place : ℕ) (default : Constraint) → start ≤ place → place < length constraints
       → (slice_index_or constraints place default).tail ≡ register

@@ -16,7 +16,7 @@ use Rattle.tilted_rect.specs.ClusterSets.{IsCluster}
 use Rattle.tilted_rect.specs.Corners.{bound}
 use Rattle.tilted_rect.specs.Intervals.{between}
 use Rattle.tilted_rect.specs.Extremes.{Extremes, IsExtremes, joined as joined_extremes, spread, IsGrown, IsMeeting, AreMultiplesOf, joined_twice}
-use Rattle.tilted_rect.specs.Rects.{HasSides, HasRoom, gap_of}
+use Rattle.tilted_rect.specs.Rects.{HasSides, CanGrowBy, gap_of}
 use Rattle.tilted_rect.specs.declared.cluster.Cluster.{Cluster}
 use Rattle.tilted_rect.specs.declared.rect.Rect.{Rect}
 use Rattle.tilted_rect.proofs.CodeNumbers.{kept, difference_read, sum_read}
@@ -257,15 +257,15 @@ sides_above : (side least radius wide : ℤ) → side ≡ least +ℤ radius → 
     → IsBelow (10 ^ 32) wide → IsBelow bound (side +ℤ (wide -ℤ radius))
 sides_above side least radius wide is small within = omega (arith, ints)
 
-one_room : (rect : Rect) (by : ℤ) → IsProp (HasRoom rect by)
+one_room : (rect : Rect) (by : ℤ) → IsProp (CanGrowBy rect by)
 one_room rect by = hlevel props
 
 -- a cluster's region has room to grow to a small reach
 pub has_room : (self : Cluster) (wide : ℤ) → IsBelow (10 ^ 32) wide
-    → HasRoom self.region (wide -ℤ self.reach)
+    → CanGrowBy self.region (wide -ℤ self.reach)
 has_room self wide within = ∥∥₁_elim self.sinks (one_room self.region (wide -ℤ self.reach)) with
   where
-    with : HasTreeSinks self.reach self.region → HasRoom self.region (wide -ℤ self.reach)
+    with : HasTreeSinks self.reach self.region → CanGrowBy self.region (wide -ℤ self.reach)
     with one =
         let extremes = region_extremes one.sinks self.region self.reach one.held.region in
         let small = small_extremes one.sinks extremes.0 one.each extremes.1 in

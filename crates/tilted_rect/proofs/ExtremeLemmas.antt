@@ -6,11 +6,11 @@ use Rattle.std.proofs.lemmas.List.Elements.{Contains-append_left, Contains-appen
 use Rattle.std.specs.Int.{int_max, int_min}
 use Rattle.cts_model.specs.declared.place.Sink.{Sink}
 use Rattle.cts_model.specs.Regions.{IsUnion}
-use Rattle.tilted_rect.specs.Extremes.{IsGreatest, IsLeast, u_above, u_below, v_above, v_below, Extremes, IsExtremes, joined}
+use Rattle.tilted_rect.specs.Extremes.{IsGreatest, IsLeastOf, u_above, u_below, v_above, v_below, Extremes, IsExtremes, joined}
 
 -- ---- sets of sinks
 
--- one list behind the other has the sinks of both
+-- one list after the other has the sinks of both
 pub append_is_union : (first second : List Sink) → IsUnion first second (first ++ second)
 append_is_union first second = record {
   first_in = Contains-append_left first second;
@@ -42,7 +42,7 @@ greatest_one of sink = record {
   attained = refl;
 }
 
-pub least_one : (of : Sink → ℤ) (sink : Sink) → IsLeast of (sink ∷ []) (of sink)
+pub least_one : (of : Sink → ℤ) (sink : Sink) → IsLeastOf of (sink ∷ []) (of sink)
 least_one of sink = record {
   least = λ other among. subst (λ s. of sink ≤ℤ of s) (contains_one sink other among) (omega (arith, ints));
   sink = sink;
@@ -79,7 +79,7 @@ greatest_union of first second both a b union one other =
       | inr held ↦ omega (arith, ints, clamps, other.most sink held)
     ]
 
-pub least_union : (of : Sink → ℤ) (first second both : List Sink) (a b : ℤ) → IsUnion first second both → IsLeast of first a → IsLeast of second b → IsLeast of both (int_min a b)
+pub least_union : (of : Sink → ℤ) (first second both : List Sink) (a b : ℤ) → IsUnion first second both → IsLeastOf of first a → IsLeastOf of second b → IsLeastOf of both (int_min a b)
 least_union of first second both a b union one other =
     by_lt_z b a
     (λ below. record {

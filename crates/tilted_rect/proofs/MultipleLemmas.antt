@@ -5,7 +5,7 @@ use Rattle.std.proofs.lemmas.Int.{ints}
 use Rattle.cts_model.specs.declared.place.Sink.{Sink}
 use Rattle.cts_model.specs.Points.{IsMultipleOf, apart}
 use Rattle.cts_model.specs.Regions.{span, IsGreatestSpan, IsReach}
-use Rattle.tilted_rect.specs.Extremes.{u_above, u_below, v_above, v_below, Extremes, IsExtremes, IsGreatest, IsLeast, AreMultiplesOf, AreSidesMultiples}
+use Rattle.tilted_rect.specs.Extremes.{u_above, u_below, v_above, v_below, Extremes, IsExtremes, IsGreatest, IsLeastOf, AreMultiplesOf, AreSidesMultiples}
 use Rattle.tilted_rect.proofs.RectLemmas.{max_either}
 use Rattle.cts_model.proofs.PointLemmas.{halves}
 
@@ -73,5 +73,5 @@ corners_are_multiples sinks extremes radius multiples held multiple = record {
     greatest : (of : Sink → ℤ) → ((sink : Sink) → Contains sinks sink → IsMultipleOf 8 (of sink)) → (number : ℤ) → IsGreatest of sinks number → IsMultipleOf 8 number
     greatest of each number is = subst (IsMultipleOf 8) is.attained (each is.sink is.among)
 
-    least : (of : Sink → ℤ) → ((sink : Sink) → Contains sinks sink → IsMultipleOf 8 (of sink)) → (number : ℤ) → IsLeast of sinks number → IsMultipleOf 8 number
+    least : (of : Sink → ℤ) → ((sink : Sink) → Contains sinks sink → IsMultipleOf 8 (of sink)) → (number : ℤ) → IsLeastOf of sinks number → IsMultipleOf 8 number
     least of each number is = subst (IsMultipleOf 8) is.attained (each is.sink is.among)

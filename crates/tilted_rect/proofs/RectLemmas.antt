@@ -3,11 +3,11 @@ use Rattle.std.proofs.Common.{◌≡◌, ℕ, true, false, cond, int_lt, ℤ, po
 use Rattle.std.proofs.lemmas.Int.{ints}
 use Rattle.std.specs.Int.{int_max, int_min}
 use Rattle.cts_model.specs.declared.place.Uv.{Uv}
-use Rattle.cts_model.specs.Points.{IsMultipleOf, apart, turned_distance, scaled}
+use Rattle.cts_model.specs.Points.{IsMultipleOf, apart, rotated_distance, scaled}
 use Rattle.tilted_rect.specs.declared.rect.Rect.{Rect}
 use Rattle.tilted_rect.specs.Corners.{IsSide, IsRect}
 use Rattle.tilted_rect.specs.Intervals.{between, clamped}
-use Rattle.tilted_rect.specs.Rects.{Holds, HoldBoth, IsNear, HasSides, HasRoom, gap_of, IsLeastDistance, clamped_into, IsNearest}
+use Rattle.tilted_rect.specs.Rects.{Holds, HoldBoth, IsNear, HasSides, CanGrowBy, gap_of, IsLeastDistance, clamped_into, IsNearest}
 use Rattle.tilted_rect.proofs.IntervalLemmas.{clamped_ge, clamped_le, clamped_near, near_ge, near_le, clamped_least, between_least, between_shown, between_above, between_none, max_le, le_max_left, le_max_right, max_mono, above_left, above_right, le_min, min_le_left, min_le_right}
 use Rattle.cts_model.proofs.ScaleLemmas.{scale_le, scale-sub, scale-add, scale-max, scale-apart}
 use Rattle.tilted_rect.proofs.Scaling.{scale-min, scale-clamped, scale-between}
@@ -89,11 +89,11 @@ axis_apart scale lo hi other_lo other_hi from to above below other_above other_b
     (between_least (pos scale *ℤ lo) (pos scale *ℤ hi) (pos scale *ℤ other_lo) (pos scale *ℤ other_hi) from to above below other_above other_below)
 
 -- points of two rectangles are no closer than the gap
-gap_least : (rect other : Rect) (scale : ℕ) (from to : Uv) → Holds rect scale from → Holds other scale to → (pos scale *ℤ gap_of rect other) ≤ℤ turned_distance from to
+gap_least : (rect other : Rect) (scale : ℕ) (from to : Uv) → Holds rect scale from → Holds other scale to → (pos scale *ℤ gap_of rect other) ≤ℤ rotated_distance from to
 gap_least rect other scale from to held other_held =
     let u = between rect.ulo rect.uhi other.ulo other.uhi in
     let v = between rect.vlo rect.vhi other.vlo other.vhi in
-    subst (λ z. z ≤ℤ turned_distance from to) (sym (scale-max scale u v))
+    subst (λ z. z ≤ℤ rotated_distance from to) (sym (scale-max scale u v))
     (max_mono (pos scale *ℤ u) (pos scale *ℤ v) (apart from.u to.u) (apart from.v to.v)
     (axis_apart scale rect.ulo rect.uhi other.ulo other.uhi from.u to.u held.ulo held.uhi other_held.ulo other_held.uhi)
     (axis_apart scale rect.vlo rect.vhi other.vlo other.vhi from.v to.v held.vlo held.vhi other_held.vlo other_held.vhi))
@@ -136,7 +136,7 @@ clamped_nearest rect to =
       least = λ scale at held.
           let u = apart to.u (clamped rect.ulo rect.uhi to.u) in
           let v = apart to.v (clamped rect.vlo rect.vhi to.v) in
-          subst (λ z. z ≤ℤ turned_distance (scaled scale to) at) (sym (scale-max scale u v))
+          subst (λ z. z ≤ℤ rotated_distance (scaled scale to) at) (sym (scale-max scale u v))
           (max_mono (pos scale *ℤ u) (pos scale *ℤ v) (apart (pos scale *ℤ to.u) at.u) (apart (pos scale *ℤ to.v) at.v) (in_u scale at held) (in_v scale at held));
     }
 
@@ -225,7 +225,7 @@ sum_multiple : (a b : ℤ) → IsMultipleOf 4 a → IsMultipleOf 4 b → IsMulti
 sum_multiple a b first second = omega (arith, ints)
 
 -- the sides of a grown rectangle
-pub grown_valid : (rect : Rect) (by : ℤ) → pos 0 ≤ℤ by → IsMultipleOf 4 by → HasRoom rect by → IsRect (rect.ulo -ℤ by) (rect.uhi +ℤ by) (rect.vlo -ℤ by) (rect.vhi +ℤ by)
+pub grown_valid : (rect : Rect) (by : ℤ) → pos 0 ≤ℤ by → IsMultipleOf 4 by → CanGrowBy rect by → IsRect (rect.ulo -ℤ by) (rect.uhi +ℤ by) (rect.vlo -ℤ by) (rect.vhi +ℤ by)
 grown_valid rect by least multiple room = record {
   u_ordered = grown_ordered rect.ulo rect.uhi by rect.valid.u_ordered least;
   v_ordered = grown_ordered rect.vlo rect.vhi by rect.valid.v_ordered least;

@@ -6,7 +6,7 @@ use Rattle.std.proofs.lemmas.List.Elements.{Contains-append_right}
 use Rattle.std.specs.Int.{int_max}
 use Rattle.cts_model.specs.declared.place.Sink.{Sink}
 use Rattle.cts_model.specs.declared.place.Uv.{Uv}
-use Rattle.cts_model.specs.Points.{apart, scaled, turned_distance}
+use Rattle.cts_model.specs.Points.{apart, scaled, rotated_distance}
 use Rattle.cts_model.specs.Regions.{span, IsReach, InRegion, MeetTwoByTwo}
 use Rattle.tilted_rect.specs.Extremes.{Extremes, IsExtremes, spread, IsBetween, HasExtremeSides, IsRegion}
 use Rattle.tilted_rect.specs.Intervals.{clamped}
@@ -39,9 +39,9 @@ near_both x x' point a b near far = omega (arith, ints, clamps)
 axis_through : (x from to by part : ℤ) → apart x from ≤ℤ part → apart from to ≤ℤ by → apart x to ≤ℤ (part +ℤ by)
 axis_through x from to by part near far = omega (arith, ints, clamps)
 
-distance_through : (at from to : Uv) (by : ℤ) → turned_distance from to ≤ℤ by → turned_distance at to ≤ℤ (turned_distance at from +ℤ by)
+distance_through : (at from to : Uv) (by : ℤ) → rotated_distance from to ≤ℤ by → rotated_distance at to ≤ℤ (rotated_distance at from +ℤ by)
 distance_through at from to by near =
-    let part = turned_distance at from in
+    let part = rotated_distance at from in
     let same : part ≤ℤ part = omega (arith, ints) in
     max_le (apart at.u to.u) (apart at.v to.v) (part +ℤ by)
     (axis_through at.u from.u to.u by part (le_max_left (apart at.u from.u) (apart at.v from.v) part same) (le_max_left (apart from.u to.u) (apart from.v to.v) by near))
@@ -206,7 +206,7 @@ near_from_between rect extremes radius wide scale point sides more between =
 -- a point near one of the region is in the region at the greater radius
 region_from_near : (sinks : List Sink) (rect : Rect) (radius wide : ℤ) (scale : ℕ) (point : Uv) → IsRegion rect sinks radius → IsNear rect (wide -ℤ radius) scale point → InRegion sinks scale (pos scale *ℤ wide) point
 region_from_near sinks rect radius wide scale point region near sink among =
-    further (turned_distance (scaled scale sink.at) near.from) (pos scale *ℤ radius) (pos scale *ℤ sink.offset) (pos scale *ℤ wide) (pos scale *ℤ (wide -ℤ radius)) (turned_distance (scaled scale sink.at) point)
+    further (rotated_distance (scaled scale sink.at) near.from) (pos scale *ℤ radius) (pos scale *ℤ sink.offset) (pos scale *ℤ wide) (pos scale *ℤ (wide -ℤ radius)) (rotated_distance (scaled scale sink.at) point)
     ((region scale near.from).0 near.holds sink among)
     (scale-sub scale wide radius)
     (distance_through (scaled scale sink.at) near.from point (pos scale *ℤ (wide -ℤ radius)) near.near)
@@ -233,9 +233,9 @@ wider_region_is_near sinks rect radius wide scale point region more =
 -- ---- where a region has a point
 
 -- a span over a scale
-scale-span : (scale : ℕ) (one other : Sink) → pos scale *ℤ span one other ≡ pos scale *ℤ one.offset +ℤ pos scale *ℤ other.offset +ℤ turned_distance (scaled scale one.at) (scaled scale other.at)
+scale-span : (scale : ℕ) (one other : Sink) → pos scale *ℤ span one other ≡ pos scale *ℤ one.offset +ℤ pos scale *ℤ other.offset +ℤ rotated_distance (scaled scale one.at) (scaled scale other.at)
 scale-span scale one other =
-    let across = turned_distance one.at other.at in
+    let across = rotated_distance one.at other.at in
     scale-add scale (one.offset +ℤ other.offset) across
     ∙ ap (λ z. z +ℤ pos scale *ℤ across) (scale-add scale one.offset other.offset)
     ∙ ap (λ z. pos scale *ℤ one.offset +ℤ pos scale *ℤ other.offset +ℤ z)
@@ -247,7 +247,7 @@ scale-span scale one other =
 both_within : (a b radius across : ℤ) → across ≤ℤ ((radius -ℤ a) +ℤ (radius -ℤ b)) → (a +ℤ b +ℤ across) ≤ℤ (radius +ℤ radius)
 both_within a b radius across within = omega (arith, ints)
 
-distance_within : (from to point : Uv) (a b : ℤ) → turned_distance from point ≤ℤ a → turned_distance to point ≤ℤ b → turned_distance from to ≤ℤ (a +ℤ b)
+distance_within : (from to point : Uv) (a b : ℤ) → rotated_distance from point ≤ℤ a → rotated_distance to point ≤ℤ b → rotated_distance from to ≤ℤ (a +ℤ b)
 distance_within from to point a b near far =
     max_le (apart from.u to.u) (apart from.v to.v) (a +ℤ b)
     (near_both from.u to.u point.u a b (le_max_left (apart from.u point.u) (apart from.v point.v) a near) (le_max_left (apart to.u point.u) (apart to.v point.v) b far))
@@ -257,7 +257,7 @@ distance_within from to point a b near far =
 pub span_within : (sinks : List Sink) (scale : ℕ) (radius : ℤ) (point : Uv) (one other : Sink) → Contains sinks one → Contains sinks other → InRegion sinks scale radius point → (pos scale *ℤ span one other) ≤ℤ (radius +ℤ radius)
 span_within sinks scale radius point one other among other_among region =
     subst (λ z. z ≤ℤ (radius +ℤ radius)) (sym (scale-span scale one other))
-    (both_within (pos scale *ℤ one.offset) (pos scale *ℤ other.offset) radius (turned_distance (scaled scale one.at) (scaled scale other.at))
+    (both_within (pos scale *ℤ one.offset) (pos scale *ℤ other.offset) radius (rotated_distance (scaled scale one.at) (scaled scale other.at))
     (distance_within (scaled scale one.at) (scaled scale other.at) point (radius -ℤ pos scale *ℤ one.offset) (radius -ℤ pos scale *ℤ other.offset) (region one among) (region other other_among)))
 
 -- between extremes that differ by no more than twice the radius there is a point

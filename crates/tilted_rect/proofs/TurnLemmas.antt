@@ -2,7 +2,7 @@
 use Rattle.std.proofs.Common.{◌≡◌, ◌+ℤ◌, ◌-ℤ◌}
 use Rattle.cts_model.specs.declared.place.Point.{Point}
 use Rattle.cts_model.specs.declared.place.Uv.{Uv}
-use Rattle.cts_model.specs.Points.{turned}
+use Rattle.cts_model.specs.Points.{rotated}
 
 pub same_uv : {a b : Uv} → a.u ≡ b.u → a.v ≡ b.v → a ≡ b
 same_uv u v = λ i. record { u = u i; v = v i }
@@ -10,6 +10,6 @@ same_uv u v = λ i. record { u = u i; v = v i }
 pub same_point : {a b : Point} → a.x ≡ b.x → a.y ≡ b.y → a ≡ b
 same_point x y = λ i. record { x = x i; y = y i }
 
--- a point has the turned coordinates that its sum and difference are
-pub turned_is : (point : Point) (at : Uv) → point.x +ℤ point.y ≡ at.u → point.x -ℤ point.y ≡ at.v → turned point ≡ at
-turned_is point at u v = λ i. record { u = u i; v = v i }
+-- a point has the rotated coordinates that its sum and difference are
+pub rotated_is : (point : Point) (at : Uv) → point.x +ℤ point.y ≡ at.u → point.x -ℤ point.y ≡ at.v → rotated point ≡ at
+rotated_is point at u v = λ i. record { u = u i; v = v i }

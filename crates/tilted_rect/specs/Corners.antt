@@ -1,4 +1,4 @@
--- What a tilted rectangle keeps of its sides, in turned coordinates and grid steps.
+-- What a tilted rectangle keeps of its sides, in rotated coordinates and grid steps.
 use Rattle.std.specs.Prelude.{ℕ, ◌^◌, ℤ, ◌≤ℤ◌}
 use Rattle.cts_model.specs.Points.{IsBelow, IsMultipleOf}
 
@@ -6,7 +6,7 @@ use Rattle.cts_model.specs.Points.{IsBelow, IsMultipleOf}
 abbrev pub bound : ℕ
 bound = 10 ^ 33
 
--- at multiples of 4 in both turned coordinates the plain ones are multiples of 2
+-- at multiples of 4 in both rotated coordinates the plain ones are multiples of 2
 pub record IsSide (at : ℤ) : Type 0 where
   pub below : IsBelow bound at
   pub multiple : IsMultipleOf 4 at

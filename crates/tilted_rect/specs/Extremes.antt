@@ -17,7 +17,7 @@ pub record IsGreatest (of : Sink → ℤ) (sinks : List Sink) (number : ℤ) : T
   pub attained : of sink ≡ number
 
 -- no sink of the set has less, and one has as little
-pub record IsLeast (of : Sink → ℤ) (sinks : List Sink) (number : ℤ) : Type 0 where
+pub record IsLeastOf (of : Sink → ℤ) (sinks : List Sink) (number : ℤ) : Type 0 where
   pub least : (sink : Sink) → Contains sinks sink → number ≤ℤ of sink
   pub sink : Sink
   pub among : Contains sinks sink
@@ -45,9 +45,9 @@ pub record Extremes : Type 0 where
 -- in u and in v the greatest sum with the offset and the least difference from it
 pub record IsExtremes (sinks : List Sink) (extremes : Extremes) : Type 0 where
   pub greatest_u : IsGreatest u_above sinks extremes.greatest_u
-  pub least_u : IsLeast u_below sinks extremes.least_u
+  pub least_u : IsLeastOf u_below sinks extremes.least_u
   pub greatest_v : IsGreatest v_above sinks extremes.greatest_v
-  pub least_v : IsLeast v_below sinks extremes.least_v
+  pub least_v : IsLeastOf v_below sinks extremes.least_v
 
 -- the greater of what the extremes differ by in u and in v
 abbrev pub spread : Extremes → ℤ

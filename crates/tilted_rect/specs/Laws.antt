@@ -75,7 +75,7 @@ abbrev pub SinkRegion : Type 0
 SinkRegion = (sink : Sink) (rect : Rect) → HasSides rect sink.at.u sink.at.u sink.at.v sink.at.v
     → IsRegion rect (sink ∷ []) sink.offset
 
--- one list behind the other has the sinks of both
+-- one list after the other has the sinks of both
 abbrev pub AppendIsUnion : Type 0
 AppendIsUnion = (first second : List Sink) → IsUnion first second (first ++ second)
 

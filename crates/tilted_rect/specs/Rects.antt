@@ -3,7 +3,7 @@
 use Rattle.std.specs.Prelude.{◌≡◌, ℕ, ℤ, pos, ◌+ℤ◌, ◌-ℤ◌, ◌*ℤ◌, ◌≤ℤ◌}
 use Rattle.std.specs.Int.{int_max}
 use Rattle.cts_model.specs.declared.place.Uv.{Uv}
-use Rattle.cts_model.specs.Points.{IsBelow, apart, turned_distance, scaled}
+use Rattle.cts_model.specs.Points.{IsBelow, apart, rotated_distance, scaled}
 use Rattle.tilted_rect.specs.Corners.{bound}
 use Rattle.tilted_rect.specs.Intervals.{between, clamped}
 use Rattle.tilted_rect.specs.declared.rect.Rect.{Rect}
@@ -24,7 +24,7 @@ pub record HoldBoth (rect other : Rect) (scale : ℕ) (at : Uv) : Type 0 where
 pub record IsNear (rect : Rect) (by : ℤ) (scale : ℕ) (at : Uv) : Type 0 where
   pub from : Uv
   pub holds : Holds rect scale from
-  pub near : turned_distance from at ≤ℤ (pos scale *ℤ by)
+  pub near : rotated_distance from at ≤ℤ (pos scale *ℤ by)
 
 -- the rectangle has these sides
 pub record HasSides (rect : Rect) (least_u greatest_u least_v greatest_v : ℤ) : Type 0 where
@@ -34,7 +34,7 @@ pub record HasSides (rect : Rect) (least_u greatest_u least_v greatest_v : ℤ) 
   pub vhi : rect.vhi ≡ greatest_v
 
 -- grown by so much it stays below the bound
-pub record HasRoom (rect : Rect) (by : ℤ) : Type 0 where
+pub record CanGrowBy (rect : Rect) (by : ℤ) : Type 0 where
   pub ulo : IsBelow bound (rect.ulo -ℤ by)
   pub uhi : IsBelow bound (rect.uhi +ℤ by)
   pub vlo : IsBelow bound (rect.vlo -ℤ by)
@@ -49,12 +49,12 @@ gap_of rect other =
 -- no two points of the rectangles are closer, and two are no further apart
 pub record IsLeastDistance (rect other : Rect) (gap : ℤ) : Type 0 where
   pub least : (scale : ℕ) (from to : Uv) → Holds rect scale from → Holds other scale to
-      → (pos scale *ℤ gap) ≤ℤ turned_distance from to
+      → (pos scale *ℤ gap) ≤ℤ rotated_distance from to
   pub from : Uv
   pub to : Uv
   pub from_held : Holds rect 1 from
   pub to_held : Holds other 1 to
-  pub shown : turned_distance from to ≡ gap
+  pub shown : rotated_distance from to ≡ gap
 
 -- the point with u and v moved into the rectangle, each by itself
 abbrev pub clamped_into : Rect → Uv → Uv
@@ -69,4 +69,4 @@ pub record IsNearest (rect : Rect) (to found : Uv) : Type 0 where
   pub v : (scale : ℕ) (at : Uv) → Holds rect scale at
       → (pos scale *ℤ apart to.v found.v) ≤ℤ apart (pos scale *ℤ to.v) at.v
   pub least : (scale : ℕ) (at : Uv) → Holds rect scale at
-      → (pos scale *ℤ turned_distance to found) ≤ℤ turned_distance (scaled scale to) at
+      → (pos scale *ℤ rotated_distance to found) ≤ℤ rotated_distance (scaled scale to) at

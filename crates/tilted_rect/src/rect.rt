@@ -24,7 +24,7 @@ impl Rect {
     ghost use Rattle.cts_model.specs.declared.place.Uv.{Uv};
     ghost use Rattle.cts_model.specs.Points.{IsMultipleOf, IsUvBelow, IsUvMultipleOf, scaled};
     ghost use Rattle.tilted_rect.specs.Corners.{bound};
-    ghost use Rattle.tilted_rect.specs.Rects.{Holds, HoldBoth, IsNear, HasSides, HasRoom, gap_of, IsLeastDistance, clamped_into, IsNearest};
+    ghost use Rattle.tilted_rect.specs.Rects.{Holds, HoldBoth, IsNear, HasSides, CanGrowBy, gap_of, IsLeastDistance, clamped_into, IsNearest};
 
     /// The one point.
     pub fn point(at: Uv) -> Rect
@@ -46,7 +46,7 @@ impl Rect {
     pub fn grown(self, by: i128) -> Rect
         requires least { pos 0 ≤ℤ by }
         requires multiple { IsMultipleOf 4 by }
-        requires room { HasRoom self by }
+        requires room { CanGrowBy self by }
         ensures sides { HasSides result
             (self.ulo -ℤ by) (self.uhi +ℤ by) (self.vlo -ℤ by) (self.vhi +ℤ by) }
         ensures points { (scale : ℕ) (point : Uv)

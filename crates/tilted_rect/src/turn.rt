@@ -1,14 +1,14 @@
 ghost use Rattle.std.specs.Prelude.{◌≡◌, ◌^◌, pos, ◌+ℤ◌};
-ghost use Rattle.cts_model.specs.Points.{IsMultipleOf, IsPointBelow, IsUvBelow, IsUvMultipleOf, IsPointMultipleOf, distance, turned, turned_distance};
+ghost use Rattle.cts_model.specs.Points.{IsMultipleOf, IsPointBelow, IsUvBelow, IsUvMultipleOf, IsPointMultipleOf, distance, rotated, rotated_distance};
 ghost use Rattle.cts_model.specs.declared.place.Point.{Point};
 
 use cts_model::{Point, Uv, half};
 
-/// A point in turned coordinates.
+/// A point in rotated coordinates.
 pub fn to_uv(at: Point) -> Uv
     requires { IsPointBelow (10 ^ 33) at }
-    ensures value { result ≡ turned at }
-    ensures distance { (other : Point) → distance at other ≡ turned_distance result (turned other) }
+    ensures value { result ≡ rotated at }
+    ensures distance { (other : Point) → distance at other ≡ rotated_distance result (rotated other) }
 {
     Uv {
         u: at.x + at.y,
@@ -16,12 +16,12 @@ pub fn to_uv(at: Point) -> Uv
     }
 }
 
-/// The point with these turned coordinates.
+/// The point with these rotated coordinates.
 pub fn to_point(at: Uv) -> Point
     requires below { IsUvBelow (10 ^ 33) at }
     requires multiple { IsUvMultipleOf 4 at }
-    ensures back { turned result ≡ at }
-    ensures only { (point : Point) → turned point ≡ at → point ≡ result }
+    ensures back { rotated result ≡ at }
+    ensures only { (point : Point) → rotated point ≡ at → point ≡ result }
     ensures multiple { IsPointMultipleOf 2 result }
     ensures below { IsPointBelow (10 ^ 33) result }
 {

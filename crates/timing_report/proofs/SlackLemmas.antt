@@ -77,7 +77,7 @@ module _ (circuit : Circuit) (tech : Tech) (period : Fraction) (arrival : ℕ �
         omega (arith, ints, late, sum);
   }
 
-  -- and the earliest what is left behind the hold time
+  -- and the earliest what is left after the hold time
   hold_least : (hull : Window) → IsHull (ComesTo circuit tech scale arrival to) hull
       → IsLeastSpare circuit (hold_spare circuit tech scale arrival) to
       (hold_ticks tech period (arrival to) hull.earliest)

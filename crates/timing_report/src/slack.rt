@@ -90,7 +90,7 @@ fn setup_slack(latest: i128, at: i128, tech: &Tech, period: Fraction) -> Fractio
     over(period, left(settled, later(at, period.num())))
 }
 
-// What is left behind the edge, less the hold time.
+// What is left after the edge, less the hold time.
 fn hold_slack(earliest: i128, at: i128, tech: &Tech, period: Fraction) -> Fraction
     requires earliest { IsBelow (2 * 10 ^ 19) earliest }
     requires at { IsBelow (10 ^ 19) at }
@@ -122,7 +122,7 @@ fn left(from: i128, to: i128) -> i128
     to - from
 }
 
-// A time, and ticks behind it.
+// A time, and ticks after it.
 fn later(time: i128, ticks: i128) -> i128
     requires time { IsBelow (2 * 10 ^ 19) time }
     requires ticks { IsWithin 0 (10 ^ 18) ticks }

@@ -20,7 +20,7 @@ hold = 0\nleast = 1\ngreatest = 2\n";
 const PLACES: &str = "UCLA pl 1.0\nA 1 2 : N\nCLK 3 4 : N\n";
 
 // What three texts, each short enough for a file, tell.
-fn told(
+fn denoted(
     rt: &impl Abort,
     alloc: Global,
     bench: &str,
@@ -47,7 +47,7 @@ fn refuses_the_first_faulty_text(rt: HostRuntime) -> Result<(), Fail> {
         (TO_OUTPUT, TABLE, "A 1 2 : N", "Places(NoSource)"),
         (TO_OUTPUT, HOSTED, PLACES, "Places(NoPlace(1))"),
     ] {
-        match told(&rt, alloc, bench, tech, places) {
+        match denoted(&rt, alloc, bench, tech, places) {
             Ok(_) => return Err("a refusal".into()),
             Err(refusal) => {
                 let found = format!(in alloc; "{refusal:?}")?;
@@ -69,7 +69,7 @@ fn accepts_three_texts(rt: HostRuntime) -> Result<(), Fail> {
         x: 3_000_000,
         y: 4_000_000,
     };
-    let Ok(problem) = told(&rt, alloc, TO_OUTPUT, TABLE, PLACES) else {
+    let Ok(problem) = denoted(&rt, alloc, TO_OUTPUT, TABLE, PLACES) else {
         return Err("a problem".into());
     };
     assert_eq!(rt; problem.circuit.registers.as_slice(), [1u32].as_slice());
@@ -84,10 +84,10 @@ fn accepts_three_texts(rt: HostRuntime) -> Result<(), Fail> {
 fn accepts_a_circuit_without_places(rt: HostRuntime) -> Result<(), Fail> {
     let alloc = rt.alloc();
     for (tech, registers) in [(TABLE, 1), (HOSTED, 2)] {
-        let Ok(told) = accept_circuit(alloc, TO_OUTPUT.as_bytes(), tech.as_bytes()) else {
+        let Ok(denoted) = accept_circuit(alloc, TO_OUTPUT.as_bytes(), tech.as_bytes()) else {
             return Err("a circuit".into());
         };
-        assert_eq!(rt; told.circuit.registers.len(), registers, "at {tech:?}");
+        assert_eq!(rt; denoted.circuit.registers.len(), registers, "at {tech:?}");
     }
     Ok(())
 }

@@ -49,7 +49,7 @@ pub(crate) fn circuit_of(
 // The setup and the hold time and the least and the greatest delay of registers.
 pub(crate) type Registers = (u32, u32, u32, u32);
 
-// A table of registers, with the text of its other sections behind them.
+// A table of registers, with the text of its other sections after them.
 pub(crate) fn table_of(
     alloc: Global,
     circuit: &Circuit,

@@ -12,7 +12,7 @@ fn circuit_of(rt: &impl Abort, alloc: Global, text: &[u8]) -> Result<Circuit, Fa
 }
 
 #[test]
-fn orders_gates_behind_those_that_they_read(rt: HostRuntime) -> Result<(), Fail> {
+fn orders_gates_after_those_that_they_read(rt: HostRuntime) -> Result<(), Fail> {
     let alloc = rt.alloc();
     for (text, gates) in [
         ("a = DFF(a)", [].as_slice()),
@@ -31,7 +31,7 @@ fn orders_gates_behind_those_that_they_read(rt: HostRuntime) -> Result<(), Fail>
     Ok(())
 }
 
-// A register and a chain of inverters, each of which reads the one on the line behind it.
+// A register and a chain of inverters, each of which reads the one on the line after it.
 fn chain(alloc: Global, length: u32) -> Result<Vec<u8>, AllocError> {
     let mut text = Vec::from_slice(alloc, b"g0 = DFF(g0)\n")?;
     for gate in 0..length {

@@ -17,7 +17,7 @@ fn pair(row: (u32, u32, i128, i128)) -> PairDelay {
     }
 }
 
-// The one of the rows that tells of a pair.
+// The one of the rows that is about a pair.
 fn row_of(rows: &[(u32, u32, i128, i128)], from: u32, to: u32) -> Option<PairDelay> {
     for row in rows {
         if row.0 == from && row.1 == to {
@@ -207,7 +207,7 @@ fn finds_the_delays_of_given_pairs(rt: HostRuntime) -> Result<(), Fail> {
     Ok(())
 }
 
-// The names of signals, a space behind each, and nothing where no path is.
+// The names of signals, a space after each, and nothing where no path is.
 fn names_of(
     alloc: Global,
     circuit: &Circuit,
@@ -316,7 +316,7 @@ fn finds_one_path_after_the_other(rt: HostRuntime) -> Result<(), Fail> {
 }
 
 #[test]
-fn tells_the_least_period_at_equal_arrivals(rt: HostRuntime) -> Result<(), Fail> {
+fn denotes_the_least_period_at_equal_arrivals(rt: HostRuntime) -> Result<(), Fail> {
     let alloc = rt.alloc();
     let tech = Tech::plain(alloc);
     for (text, host, wanted) in [
@@ -360,7 +360,7 @@ fn tells_the_least_period_at_equal_arrivals(rt: HostRuntime) -> Result<(), Fail>
 }
 
 #[test]
-fn tells_the_least_period_of_tables(rt: HostRuntime) -> Result<(), Fail> {
+fn denotes_the_least_period_of_tables(rt: HostRuntime) -> Result<(), Fail> {
     let alloc = rt.alloc();
     for (text, host, registers, rest, wanted) in [
         (
@@ -502,7 +502,7 @@ fn lists_1048576_pairs_and_no_more(rt: HostRuntime) -> Result<(), Fail> {
     Ok(())
 }
 
-// Two registers, and so many inverters one behind the other from the first to the second.
+// Two registers, and so many inverters one after the other from the first to the second.
 fn chain(alloc: Global, length: u32) -> Result<String, AllocError> {
     let mut text = format!(in alloc; "INPUT(x)\nA = DFF(x)\nn0 = NOT(A)\n")?;
     for gate in 1..length {
@@ -534,7 +534,7 @@ fn adds_up_a_chain_of_60000_inverters(rt: HostRuntime) -> Result<(), Fail> {
 
 // Gates with as many inputs as there may be, and no register that a register launches to.
 #[test]
-fn adds_up_nothing_behind_262144_inputs(rt: HostRuntime) -> Result<(), Fail> {
+fn adds_up_nothing_after_262144_inputs(rt: HostRuntime) -> Result<(), Fail> {
     let alloc = rt.alloc();
     let tech = Tech::plain(alloc);
     let mut text = format!(in alloc; "INPUT(x)\na = DFF(x)\n")?;

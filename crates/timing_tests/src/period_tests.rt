@@ -38,7 +38,7 @@ fn finds_the_least_period(rt: HostRuntime) -> Result<(), Fail> {
         (1, 3, [hold(0, 0, 1)].as_slice(), "never 0"),
         // A hold cycle with sum 0 admits every period.
         (1, 0, [hold(0, 0, 0), setup(0, 0, 4)].as_slice(), "4/1 1"),
-        // Two cycles with one value: the first one is told.
+        // Two cycles with one value: the first one is given.
         (
             4,
             0,
@@ -55,7 +55,7 @@ fn finds_the_least_period(rt: HostRuntime) -> Result<(), Fail> {
         (2, 5, [setup(0, 1, 6), setup(1, 0, 4)].as_slice(), "floor"),
         (2, 6, [setup(0, 1, 6), setup(1, 0, 4)].as_slice(), "floor"),
         (2, 4, [setup(0, 1, 6), setup(1, 0, 4)].as_slice(), "5/1 0 1"),
-        // The cycle is told from its lowest tail on, wherever its constraints stand.
+        // The cycle is given from its lowest tail on, wherever its constraints stand.
         (
             3,
             0,

@@ -8,7 +8,7 @@ use Rattle.slab.specs.Slab.{Slab, get}
 use Rattle.slab.proofs.SlabLemmas.{ContainsKey-within, Updates-with_value}
 use Rattle.topology.specs.declared.live.Live.{Live}
 use Rattle.topology.specs.declared.pair.Pair.{Pair}
-use Rattle.topology.specs.LiveClusters.{unpaired, HaveSameClusters, pair_of, Pairs, has_second, IsLeast, Keeps, IsKept, KeepPairs, AreBelow, IsLookedAnew, IsPair, IsCheapestPair}
+use Rattle.topology.specs.LiveClusters.{unpaired, HaveSameClusters, pair_of, Pairs, has_second, IsLeastPair, Keeps, IsPairKept, KeepPairs, AreBelow, IsLookedAnew, IsPair, IsCheapestPair}
 use Rattle.topology.specs.Pairs.{IsAtMost}
 use Rattle.topology.proofs.SearchLemmas.{at_most_along}
 
@@ -122,8 +122,8 @@ module _ {old new : Slab Live} {key : ℕ} (looked : IsLookedAnew old new key) w
   ]
 
   -- what is kept of a pair needs only the clusters
-  kept_stays : (at : ℕ) (live : Live) (pair : Pair) → IsKept old at live pair
-      → IsKept new at live pair
+  kept_stays : (at : ℕ) (live : Live) (pair : Pair) → IsPairKept old at live pair
+      → IsPairKept new at live pair
   kept_stays at live pair held = record {
     first = held.first;
     node = held.node;
@@ -136,7 +136,7 @@ module _ {old new : Slab Live} {key : ℕ} (looked : IsLookedAnew old new key) w
 
   -- the pair that was found is of the cluster and one that is there
   found_kept : (pair : Pair) → looked.found ≡ Some pair
-      → IsKept old key (record looked.live { kept = looked.found }) pair
+      → IsPairKept old key (record looked.live { kept = looked.found }) pair
   found_kept pair found =
       let given = looked.least.there pair found in
       let made = given.gives.1 in
@@ -180,10 +180,10 @@ module _ {old new : Slab Live} {key : ℕ} (looked : IsLookedAnew old new key) w
 
       kept_here : (at : ℕ) (live : Live) (pair : Pair) → at ≡ key
           → live ≡ record looked.live { kept = looked.found } → live.kept ≡ Some pair
-          → IsKept old at live pair
+          → IsPairKept old at live pair
       kept_here at live pair is same keeps =
-          subst (λ k. IsKept old k live pair) (sym is)
-          (subst (λ x. IsKept old key x pair) (sym same)
+          subst (λ k. IsPairKept old k live pair) (sym is)
+          (subst (λ x. IsPairKept old key x pair) (sym same)
           (found_kept pair (sym (ap (λ (x : Live). x.kept) same) ∙ keeps)))
 
   pub looked_below : (number : ℕ) → AreBelow number old → AreBelow number new
@@ -259,7 +259,7 @@ module _ {old new : Slab Live} {key : ℕ} (looked : IsLookedAnew old new key) w
       omega (arith, sums, was, is, total)
 
 -- the first of kept pairs stands where it says
-pub first_there : (slab : Slab Live) (pair : Pair) → KeepPairs slab → IsLeast Keeps slab (Some pair)
+pub first_there : (slab : Slab Live) (pair : Pair) → KeepPairs slab → IsLeastPair Keeps slab (Some pair)
     → (live : Live) × (get slab pair.first ≡ Some live) × (live.kept ≡ Some pair)
 first_there slab pair held least =
     let given = least.there pair refl in (
@@ -270,7 +270,7 @@ first_there slab pair held least =
     )
 
 -- so fewer are broken up where that one looks anew
-pub fewer_left : (old new : Slab Live) (pair : Pair) → KeepPairs old → IsLeast Keeps old (Some pair)
+pub fewer_left : (old new : Slab Live) (pair : Pair) → KeepPairs old → IsLeastPair Keeps old (Some pair)
     → has_second old pair ≡ false → IsLookedAnew old new pair.first
     → broken_pairs new < broken_pairs old
 fewer_left old new pair held least broken looked =
@@ -283,7 +283,7 @@ fewer_left old new pair held least broken looked =
 
 -- the least of the kept pairs, where its second cluster is there, is the cheapest of all
 pub cheapest_there : (slab : Slab Live) (pair : Pair) → KeepPairs slab
-    → IsLeast Keeps slab (Some pair) → has_second slab pair ≡ true → IsCheapestPair slab (Some pair)
+    → IsLeastPair Keeps slab (Some pair) → has_second slab pair ≡ true → IsCheapestPair slab (Some pair)
 cheapest_there slab pair held least there = record {
   bound = λ key other_key live other next at other_at pairs. at_most_along live.kept
       (Some pair) next (held.bound key live at other_key other next other_at pairs)
@@ -321,7 +321,7 @@ cheapest_there slab pair held least there = record {
         }
 
 -- where no cluster keeps a pair there is none
-pub cheapest_none : (slab : Slab Live) → KeepPairs slab → IsLeast Keeps slab None
+pub cheapest_none : (slab : Slab Live) → KeepPairs slab → IsLeastPair Keeps slab None
     → IsCheapestPair slab None
 cheapest_none slab held least = record {
   bound = λ key other_key live other next at other_at pairs. at_most_along live.kept None next

@@ -70,7 +70,7 @@ cheaper_stays (Some pair) other cost within costs = record {
     not_before : (next : Pair) → next.cost ≡ cost → IsAtMost (Some pair) next
     not_before next same before = grind (arith, ints, within)
 
--- two that may be there are one where the same pairs are told to be there
+-- two that may be there are one where the same pairs are said to be there
 pub one_found : (Gives : Pair → Type 0) (one other : Option Pair)
     → ((pair : Pair) → (one ≡ Some pair) ↔ Gives pair)
     → ((pair : Pair) → (other ≡ Some pair) ↔ Gives pair) → one ≡ other

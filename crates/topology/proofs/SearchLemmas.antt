@@ -6,7 +6,7 @@ use Rattle.slab.specs.Slab.{Slab, get, entries}
 use Rattle.slab.proofs.SlabLemmas.{Contains-cons, Contains-cons_cases, Contains-entries}
 use Rattle.topology.specs.declared.live.Live.{Live}
 use Rattle.topology.specs.declared.pair.Pair.{Pair}
-use Rattle.topology.specs.LiveClusters.{IsGiven, IsLeast, IsPairBefore, Pairs, pair_of}
+use Rattle.topology.specs.LiveClusters.{IsGiven, IsLeastPair, IsPairBefore, Pairs, pair_of}
 use Rattle.topology.specs.Pairs.{IsBefore, IsAtMost, IsCheaperOf}
 
 -- ---- the order of pairs
@@ -84,7 +84,7 @@ module _ {Gives : ℕ → Live → Pair → Type 0} {slab : Slab Live} where
 
   -- after the last one
   pub search_ends : (rest : List (ℕ × Live)) (least : Option Pair) → rest ≡ []
-      → IsSearched Gives slab rest least → IsLeast Gives slab least
+      → IsSearched Gives slab rest least → IsLeastPair Gives slab least
   search_ends rest least none held = record {
     bound = λ key live pair at gives. elim (held.bound key live pair at gives) [
       | inl among ↦ absurd (omega (arith, (subst (λ xs. Contains xs (key, live)) none among).1))

@@ -93,7 +93,7 @@ pub record IsGiven (Gives : ℕ → Live → Pair → Type 0) (slab : Slab Live)
   pub gives : Gives key live pair
 
 -- of the pairs that clusters in the slab give, none is to be merged before the one that is found
-pub record IsLeast (Gives : ℕ → Live → Pair → Type 0) (slab : Slab Live)
+pub record IsLeastPair (Gives : ℕ → Live → Pair → Type 0) (slab : Slab Live)
     (found : Option Pair) : Type 0 where
   pub bound : (key : ℕ) (live : Live) (pair : Pair) → get slab key ≡ Some live
       → Gives key live pair → IsAtMost found pair
@@ -121,7 +121,7 @@ abbrev pub Keeps : (key : ℕ) → Live → Pair → Type 0
 Keeps key live pair = live.kept ≡ Some pair
 
 -- the pair was of the cluster and a later one, and still is where that one is there
-pub record IsKept (slab : Slab Live) (key : ℕ) (live : Live) (pair : Pair) : Type 0 where
+pub record IsPairKept (slab : Slab Live) (key : ℕ) (live : Live) (pair : Pair) : Type 0 where
   pub first : pair.first ≡ key
   pub node : pair.merge.first ≡ live.node
   pub later : live.node < pair.merge.second
@@ -134,7 +134,7 @@ pub record KeepPairs (slab : Slab Live) : Type 0 where
       → (other_key : ℕ) (other : Live) (pair : Pair) → get slab other_key ≡ Some other
       → Pairs key live other_key other pair → IsAtMost live.kept pair
   pub kept : (key : ℕ) (live : Live) (pair : Pair) → get slab key ≡ Some live
-      → live.kept ≡ Some pair → IsKept slab key live pair
+      → live.kept ≡ Some pair → IsPairKept slab key live pair
 
 -- all nodes of clusters and of their pairs are below the number
 pub record AreBelow (number : ℕ) (slab : Slab Live) : Type 0 where
@@ -163,7 +163,7 @@ pub record IsLookedAnew (old new : Slab Live) (key : ℕ) : Type 0 where
   pub live : Live
   pub found : Option Pair
   pub at : get old key ≡ Some live
-  pub least : IsLeast (Pairs key live) old found
+  pub least : IsLeastPair (Pairs key live) old found
   pub new_is : new ≡ with_value old key (record live { kept = found })
 
 -- the cluster may keep its pair with the newest one instead

@@ -7,7 +7,7 @@ use std::alloc::Global;
 use std::process::Abort;
 use std::test::Fail;
 
-// A room that has merged sinks at these turned coordinates, with these offsets.
+// A room that has merged sinks at these rotated coordinates, with these offsets.
 fn merged(
     rt: &impl Abort,
     alloc: Global,
@@ -40,7 +40,7 @@ fn reaches_of(
     Ok(reaches)
 }
 
-// Sinks on the line y = 0, where both turned coordinates are x.
+// Sinks on the line y = 0, where both rotated coordinates are x.
 #[test]
 fn finds_reaches(rt: HostRuntime) -> Result<(), Fail> {
     let alloc = rt.alloc();

@@ -9,7 +9,7 @@ use std::alloc::Global;
 use std::process::Abort;
 use std::test::Fail;
 
-// The tree over sinks at these turned coordinates, with these offsets, and its shows.
+// The tree over sinks at these rotated coordinates, with these offsets, and its shows.
 fn placed(
     rt: &impl Abort,
     alloc: Global,
@@ -31,7 +31,7 @@ fn at(x: i128, y: i128) -> Point {
     Point { x, y }
 }
 
-// The length of each edge, and how far the source reaches. Where both turned coordinates of a sink
+// The length of each edge, and how far the source reaches. Where both rotated coordinates of a sink
 // are alike, they are x, and y is 0.
 #[test]
 fn measures_edges(rt: HostRuntime) -> Result<(), Fail> {

@@ -21,7 +21,7 @@ fn step(rt: &impl Abort, number: i128) -> i128
     number
 }
 
-/// A sink at these turned coordinates, with its offset, in grid steps.
+/// A sink at these rotated coordinates, with its offset, in grid steps.
 pub(crate) fn sink(rt: &impl Abort, place: (i128, i128, i128)) -> Sink
     ensures { IsTreeSink result }
 {

@@ -155,14 +155,14 @@ pub wire_shortest : (from to : Point) (long : ℤ) (wire : Wire) → long ≡ di
     → (from.x ≢ to.x → from.y ≡ to.y → wire ≡ shown 2 (from ∷ to ∷ []))
     → (from.x ≢ to.x → from.y ≢ to.y → wire ≡ shown 3 (bent from to))
     → IsEdgeWire from to long wire
-wire_shortest from to long wire is place upright level turned =
+wire_shortest from to long wire is place upright level rotated =
     by_same from.x to.x
     (λ x. by_same from.y to.y
     (λ y. subst (IsEdgeWire from to long) (sym (place x y)) (wire_place from to long is x y))
     (λ y. subst (IsEdgeWire from to long) (sym (upright x y)) (wire_upright from to long is x y)))
     (λ x. by_same from.y to.y
     (λ y. subst (IsEdgeWire from to long) (sym (level x y)) (wire_level from to long is x y))
-    (λ y. subst (IsEdgeWire from to long) (sym (turned x y)) (wire_bent from to long is x y)))
+    (λ y. subst (IsEdgeWire from to long) (sym (rotated x y)) (wire_bent from to long is x y)))
 
 -- ---- with a detour
 

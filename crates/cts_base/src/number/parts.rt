@@ -11,7 +11,7 @@ pub struct Parts<'a> {
     pub whole: &'a [u8],
     /// The digits after the point.
     pub fraction: &'a [u8],
-    /// What stands behind the exponent's mark.
+    /// What stands after the exponent's mark.
     pub exponent: &'a [u8],
     /// Whether there is such a mark.
     pub is_marked: bool,

@@ -6,7 +6,7 @@ ghost use Rattle.cts_base.specs.Decimals.{is_zero};
 /// One millionth past the greatest size: what grows beyond it is kept there.
 pub const CEILING: u128 = 1_000_000_000_000_001;
 
-/// The number that digits write behind another number, or the ceiling where that is less.
+/// The number that digits write after another number, or the ceiling where that is less.
 pub fn number_after(start: u128, digits: &[u8], ceiling: u128) -> u128
     requires digits { AllDigits 10 digits.now }
     requires start { start ≤ ceiling }
@@ -32,8 +32,8 @@ pub fn kept_number(whole: &[u8], fraction: &[u8], kept: usize) -> u128
     number_after(number, &fraction[..kept - within], CEILING)
 }
 
-/// Whether all digits behind the first so many are 0.
-pub fn is_zero_behind(whole: &[u8], fraction: &[u8], kept: usize) -> bool
+/// Whether all digits after the first so many are 0.
+pub fn is_zero_after(whole: &[u8], fraction: &[u8], kept: usize) -> bool
     requires { kept ≤ length whole.now + length fraction.now }
     ensures { result ≡ list_all is_zero (drop kept (whole.now ++ fraction.now)) }
 {

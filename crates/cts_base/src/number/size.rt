@@ -4,7 +4,7 @@ ghost use Rattle.cts_base.specs.Decimals.{IsDecimal, IsSizeRead, RefusesSize};
 
 use crate::number::NumberFault;
 use crate::number::parts::{begins_with_minus, parts_of, without_sign};
-use crate::number::scale::{CEILING, is_zero_behind, kept_number, number_after, raised_number};
+use crate::number::scale::{CEILING, is_zero_after, kept_number, number_after, raised_number};
 
 /// What an exponent is taken for if it is larger: no text has so many digits.
 const GREATEST_EXPONENT: u128 = 1_267_650_600_228_229_401_496_703_205_376;
@@ -18,7 +18,7 @@ pub fn size_of(text: &[u8]) -> Result<u64, NumberFault>
     let minus = begins_with_minus(parts.exponent);
     let places = places_of(minus, parts.whole.len(), exponent_of(parts.exponent));
     let kept = kept_of(places, parts.whole.len() + parts.fraction.len());
-    if !is_zero_behind(parts.whole, parts.fraction, kept) {
+    if !is_zero_after(parts.whole, parts.fraction, kept) {
         return Err(NumberFault::TooFine);
     }
     let number = kept_number(parts.whole, parts.fraction, kept);
@@ -37,7 +37,7 @@ fn exponent_of(exponent: &[u8]) -> u128
     number_after(0, without_sign(exponent), GREATEST_EXPONENT)
 }
 
-// How many digits, and zeros behind them, make the millionths.
+// How many digits, and zeros after them, make the millionths.
 fn places_of(minus: bool, whole: usize, exponent: u128) -> u128
     requires { exponent ≤ GREATEST_EXPONENT }
     ensures { result ≡ (if minus then whole + 6 - exponent else whole + 6 + exponent) }

@@ -82,7 +82,7 @@ fn argument<'a>(alloc: Global, choice: Choice) -> Arg<'a>
         .action(ArgAction::Set)
 }
 
-// The option's word without the two hyphens in front.
+// The option's word without the two hyphens before.
 fn long_name(option: &'static str) -> &'static str
     ensures { result.now ≡ long_name option.entry.now }
 {

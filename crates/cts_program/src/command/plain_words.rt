@@ -1,4 +1,4 @@
-//! Whether words are plain: a command's name, and behind it options of that command with values.
+//! Whether words are plain: a command's name, and after it options of that command with values.
 
 ghost use Rattle.std.specs.Prelude.{◌≡◌, ◌||◌, not, map, string_bytes, IfSome, IsNone};
 ghost use Rattle.std.specs.Char.{is_ascii_digit};

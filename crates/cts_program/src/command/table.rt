@@ -16,7 +16,7 @@ pub enum Form {
     Demo,
 }
 
-/// An option that stands at most once behind a command's name.
+/// An option that stands at most once after a command's name.
 #[derive(Clone, Copy, Debug, Drop)]
 pub struct Choice {
     pub option: &'static str,

@@ -78,7 +78,7 @@ fn write_failing(
     )
 }
 
-// Each of so many writes fails in turn, and then the one behind them, which never comes.
+// Each of so many writes fails in turn, and then the one after them, which never comes.
 fn expect_write_faults(
     rt: &impl Abort,
     alloc: Global,
@@ -88,9 +88,9 @@ fn expect_write_faults(
     text: &str,
 ) -> Result<(), Fail> {
     for before in 0..writes {
-        let front = text.get(..usize::from(before) * 16).ok_or("no such piece")?;
+        let prefix = text.get(..usize::from(before) * 16).ok_or("no such piece")?;
         let seen = write_failing(alloc, command, texts, u64::from(before) + 1)?;
-        seen.expect(rt, 5, front, "write fault\n", "a failing write");
+        seen.expect(rt, 5, prefix, "write fault\n", "a failing write");
     }
     let seen = write_failing(alloc, command, texts, u64::from(writes) + 1)?;
     seen.expect(rt, 0, text, "", "no write that fails");
@@ -99,7 +99,7 @@ fn expect_write_faults(
 
 // The tree of s27 has 318 bytes, and its last write has 14.
 #[test]
-fn writes_a_front_of_each_text(rt: HostRuntime) -> Result<(), Fail> {
+fn writes_a_prefix_of_each_text(rt: HostRuntime) -> Result<(), Fail> {
     let alloc = rt.alloc();
     let texts = texts_with(S27_PROBLEM, S27_TREE.as_bytes());
     expect_write_faults(&rt, alloc, &SYNTH, &texts, 20, S27_TREE)?;

@@ -115,7 +115,7 @@ pub fn texts_of<'a>(problem: [&'a str; 3]) -> [&'a [u8]; 3] {
     [bench.as_bytes(), tech.as_bytes(), pl.as_bytes()]
 }
 
-// The same with a report behind them.
+// The same with a report after them.
 pub fn texts_with<'a>(problem: [&'a str; 3], report: &'a [u8]) -> [&'a [u8]; 4] {
     let [bench, tech, pl] = problem;
     [bench.as_bytes(), tech.as_bytes(), pl.as_bytes(), report]

@@ -158,7 +158,7 @@ fn refuses_whole_tables(rt: HostRuntime) -> Result<(), Fail> {
         let seen = zero_with(alloc, NO_PATH.as_bytes(), tech.as_bytes())?;
         seen.expect(&rt, 3, "", line, more);
     }
-    // Of two unknown names the first in the order of bytes is told.
+    // Of two unknown names the first in the order of bytes is given.
     let one = changed(alloc, S27_TABLE, "[source]", "zz = 1\n[source]")?;
     let two = changed(alloc, &one, "[gate.OR]", "a = 1\n[gate.OR]")?;
     let seen = zero_with(alloc, S27.as_bytes(), two.as_bytes())?;
@@ -175,7 +175,7 @@ fn refuses_whole_tables(rt: HostRuntime) -> Result<(), Fail> {
 // In one piece a netlist takes a start, a take, and one that finds its end: the fourth call is the
 // start of the table.
 #[test]
-fn starts_no_table_behind_a_refused_netlist(rt: HostRuntime) -> Result<(), Fail> {
+fn starts_no_table_after_a_refused_netlist(rt: HostRuntime) -> Result<(), Fail> {
     let alloc = rt.alloc();
     for (bench, line) in [
         ("INPUT(x)\n", "refused bench 8\n"),

@@ -36,7 +36,7 @@ pub(crate) fn number_flaw(least: u32, most: u32, word: &[u8]) -> Option<Flaw>
     None
 }
 
-/// What is wrong with a word that is to tell how many words stand behind it.
+/// What is wrong with a word that is to tell how many words stand after it.
 pub(crate) fn counted_flaw(count: usize, most: usize, word: &[u8]) -> Option<Flaw>
     ensures { (circuit : Circuit) → WordHasFlaw circuit (Counted count most) word.now result }
 {

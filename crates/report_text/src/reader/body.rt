@@ -1,11 +1,11 @@
-//! The sections of a report behind what shows its period.
+//! The sections of a report after what shows its period.
 
 ghost use Rattle.std.specs.Prelude.{◌≡◌, ◌<◌, ◌≤◌, ◌∷◌, IfOk, IfErr, length, map};
 ghost use Rattle.std.specs.List.{range_with_len};
 ghost use Rattle.report_text.specs.declared.field.Keyword.TheVariants as word;
 ghost use Rattle.report_text.specs.declared.form.Form.TheVariants as form;
 ghost use Rattle.report_text.specs.Bodies.{Counted, HasBody, HasVersionLeads, section_forms};
-ghost use Rattle.report_text.specs.Forms.{forms_behind, lead_forms};
+ghost use Rattle.report_text.specs.Forms.{forms_after, lead_forms};
 ghost use Rattle.report_text.specs.NamesOf.{AreNamesOf};
 ghost use Rattle.report_text.specs.Sections.{HasMerged, HasPlaced, HasTimings};
 ghost use Rattle.report_text.specs.Values.{IsSmallScale};
@@ -24,7 +24,7 @@ use cts_base::Listed;
 use cts_model::{Circuit, Lead, Version};
 use std::alloc::Global;
 
-/// Reads the registers, behind how many they are.
+/// Reads the registers, after how many they are.
 pub(crate) fn read_counted_registers(
     alloc: Global,
     names: &Names,
@@ -55,7 +55,7 @@ pub(crate) fn read_counted_registers(
     Ok(timings)
 }
 
-/// Reads so many merges, behind how many they are.
+/// Reads so many merges, after how many they are.
 pub(crate) fn read_counted_merges(
     alloc: Global,
     names: &Names,
@@ -78,7 +78,7 @@ pub(crate) fn read_counted_merges(
     Ok(merged)
 }
 
-/// Reads the nodes below a number, behind how many they are.
+/// Reads the nodes below a number, after how many they are.
 pub(crate) fn read_counted_nodes(
     alloc: Global,
     names: &Names,
@@ -127,7 +127,7 @@ pub(crate) fn read_version_leads(
     }
 }
 
-/// Reads all sections behind what shows the period.
+/// Reads all sections after what shows the period.
 pub(crate) fn read_body(
     alloc: Global,
     names: &Names,
@@ -142,7 +142,7 @@ pub(crate) fn read_body(
     ensures ok { IfOk result (HasBody circuit.now scale version (length circuit.now.registers)
         cursor.old cursor.new) }
     ensures fault { IfErr result (Stops circuit.now scale
-        (forms_behind version (length circuit.now.registers)) cursor.old) }
+        (forms_after version (length circuit.now.registers)) cursor.old) }
 {
     let count = registers_of(circuit);
     read_sections(alloc, names, circuit, scale, version, count, cursor)

@@ -49,7 +49,7 @@ pub(crate) fn read_registers(
     Ok(timings)
 }
 
-/// Reads so many merges, whose nodes are behind all sinks.
+/// Reads so many merges, whose nodes are after all sinks.
 pub(crate) fn read_merges(
     alloc: Global,
     names: &Names,

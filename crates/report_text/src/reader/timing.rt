@@ -5,9 +5,9 @@ ghost use Rattle.cts_model.specs.PrintedLines.{count_line};
 ghost use Rattle.report_text.specs.Keywords.{keyword_text};
 ghost use Rattle.report_text.specs.declared.form.Form.TheVariants as form;
 ghost use Rattle.report_text.specs.NamesOf.{AreNamesOf};
-ghost use Rattle.report_text.specs.TimingValues.{TellsConstraint, TellsLead, TellsPath, TellsPeriod, TellsShow};
+ghost use Rattle.report_text.specs.TimingValues.{DenotesConstraint, DenotesLead, DenotesPath, DenotesPeriod, DenotesShow};
 ghost use Rattle.report_text.specs.Values.{IsSmallScale};
-ghost use Rattle.report_text.specs.Walks.{ReadsLine, StopsLine, TellsLine, TellsTimed, TellsVersion};
+ghost use Rattle.report_text.specs.Walks.{ReadsLine, StopsLine, DenotesLine, DenotesTimed, DenotesVersion};
 
 use crate::cursor::Cursor;
 use crate::fault::ReportFault;
@@ -32,8 +32,8 @@ pub(crate) fn read_version(
 ) -> Result<Version, ReportFault>
     requires names { AreNamesOf circuit.now names.now }
     requires line { cursor.old.line < 1000000 }
-    ensures ok { IfOk result (TellsLine circuit.now scale form.Version
-        TellsVersion cursor.old cursor.new) }
+    ensures ok { IfOk result (DenotesLine circuit.now scale form.Version
+        DenotesVersion cursor.old cursor.new) }
     ensures fault { IfErr result (StopsLine circuit.now scale form.Version cursor.old) }
 {
     let words = read_line(alloc, names, circuit, scale, Form::Version, cursor)?;
@@ -50,8 +50,8 @@ pub(crate) fn read_period(
 ) -> Result<Fraction, ReportFault>
     requires names { AreNamesOf circuit.now names.now }
     requires line { cursor.old.line < 1000000 }
-    ensures ok { IfOk result (TellsLine circuit.now scale form.Period
-        TellsPeriod cursor.old cursor.new) }
+    ensures ok { IfOk result (DenotesLine circuit.now scale form.Period
+        DenotesPeriod cursor.old cursor.new) }
     ensures fault { IfErr result (StopsLine circuit.now scale form.Period cursor.old) }
 {
     let words = read_line(alloc, names, circuit, scale, Form::Period, cursor)?;
@@ -68,8 +68,8 @@ pub(crate) fn read_show(
 ) -> Result<Option<u32>, ReportFault>
     requires names { AreNamesOf circuit.now names.now }
     requires line { cursor.old.line < 1000000 }
-    ensures ok { IfOk result (TellsLine circuit.now scale form.Show
-        TellsShow cursor.old cursor.new) }
+    ensures ok { IfOk result (DenotesLine circuit.now scale form.Show
+        DenotesShow cursor.old cursor.new) }
     ensures fault { IfErr result (StopsLine circuit.now scale form.Show cursor.old) }
 {
     let words = read_line(alloc, names, circuit, scale, Form::Show, cursor)?;
@@ -86,8 +86,8 @@ pub(crate) fn read_constraint(
 ) -> Result<Constraint, ReportFault>
     requires names { AreNamesOf circuit.now names.now }
     requires line { cursor.old.line < 1000000 }
-    ensures ok { IfOk result (TellsLine circuit.now scale form.Constraint
-        (TellsConstraint circuit.now) cursor.old cursor.new) }
+    ensures ok { IfOk result (DenotesLine circuit.now scale form.Constraint
+        (DenotesConstraint circuit.now) cursor.old cursor.new) }
     ensures fault { IfErr result (StopsLine circuit.now scale form.Constraint cursor.old) }
 {
     let words = read_line(alloc, names, circuit, scale, Form::Constraint, cursor)?;
@@ -104,8 +104,8 @@ pub(crate) fn read_path(
 ) -> Result<Listed<u32>, ReportFault>
     requires names { AreNamesOf circuit.now names.now }
     requires line { cursor.old.line < 1000000 }
-    ensures ok { IfOk result (TellsLine circuit.now scale form.Path
-        (TellsPath circuit.now) cursor.old cursor.new) }
+    ensures ok { IfOk result (DenotesLine circuit.now scale form.Path
+        (DenotesPath circuit.now) cursor.old cursor.new) }
     ensures fault { IfErr result (StopsLine circuit.now scale form.Path cursor.old) }
 {
     let words = read_line(alloc, names, circuit, scale, Form::Path, cursor)?;
@@ -125,8 +125,8 @@ pub(crate) fn read_register(
     requires names { AreNamesOf circuit.now names.now }
     requires line { cursor.old.line < 1000000 }
     requires scale { IsSmallScale scale }
-    ensures ok { IfOk result (TellsLine circuit.now scale (form.Register register)
-        (TellsTimed circuit.now scale register) cursor.old cursor.new) }
+    ensures ok { IfOk result (DenotesLine circuit.now scale (form.Register register)
+        (DenotesTimed circuit.now scale register) cursor.old cursor.new) }
     ensures fault { IfErr result (StopsLine circuit.now scale (form.Register register) cursor.old) }
 {
     let words = read_line(
@@ -150,8 +150,8 @@ pub(crate) fn read_lead(
 ) -> Result<Lead, ReportFault>
     requires names { AreNamesOf circuit.now names.now }
     requires line { cursor.old.line < 1000000 }
-    ensures ok { IfOk result (TellsLine circuit.now scale form.Lead
-        (TellsLead circuit.now) cursor.old cursor.new) }
+    ensures ok { IfOk result (DenotesLine circuit.now scale form.Lead
+        (DenotesLead circuit.now) cursor.old cursor.new) }
     ensures fault { IfErr result (StopsLine circuit.now scale form.Lead cursor.old) }
 {
     let words = read_line(alloc, names, circuit, scale, Form::Lead, cursor)?;

@@ -4,7 +4,7 @@ ghost use Rattle.std.specs.Prelude.{◌<◌, IfOk, IfErr};
 ghost use Rattle.report_text.specs.declared.form.Form.TheVariants as form;
 ghost use Rattle.report_text.specs.NamesOf.{AreNamesOf};
 ghost use Rattle.report_text.specs.Values.{IsSmallScale, SaysMerge, SaysNode, SaysSource, SaysTotal};
-ghost use Rattle.report_text.specs.Walks.{StopsLine, TellsLine};
+ghost use Rattle.report_text.specs.Walks.{StopsLine, DenotesLine};
 
 use crate::cursor::Cursor;
 use crate::fault::ReportFault;
@@ -27,7 +27,7 @@ pub(crate) fn read_merge(
     requires names { AreNamesOf circuit.now names.now }
     requires line { cursor.old.line < 1000000 }
     requires scale { IsSmallScale scale }
-    ensures ok { IfOk result (TellsLine circuit.now scale (form.Merge node)
+    ensures ok { IfOk result (DenotesLine circuit.now scale (form.Merge node)
         (SaysMerge circuit.now scale.grid node) cursor.old cursor.new) }
     ensures fault { IfErr result (StopsLine circuit.now scale (form.Merge node) cursor.old) }
 {
@@ -46,7 +46,7 @@ pub(crate) fn read_source(
     requires names { AreNamesOf circuit.now names.now }
     requires line { cursor.old.line < 1000000 }
     requires scale { IsSmallScale scale }
-    ensures ok { IfOk result (TellsLine circuit.now scale form.Source
+    ensures ok { IfOk result (DenotesLine circuit.now scale form.Source
         (SaysSource circuit.now scale.grid) cursor.old cursor.new) }
     ensures fault { IfErr result (StopsLine circuit.now scale form.Source cursor.old) }
 {
@@ -66,7 +66,7 @@ pub(crate) fn read_node(
     requires names { AreNamesOf circuit.now names.now }
     requires line { cursor.old.line < 1000000 }
     requires scale { IsSmallScale scale }
-    ensures ok { IfOk result (TellsLine circuit.now scale (form.Node node)
+    ensures ok { IfOk result (DenotesLine circuit.now scale (form.Node node)
         (SaysNode scale.grid node) cursor.old cursor.new) }
     ensures fault { IfErr result (StopsLine circuit.now scale (form.Node node) cursor.old) }
 {
@@ -85,7 +85,7 @@ pub(crate) fn read_total(
     requires names { AreNamesOf circuit.now names.now }
     requires line { cursor.old.line < 1000000 }
     requires scale { IsSmallScale scale }
-    ensures ok { IfOk result (TellsLine circuit.now scale form.Total
+    ensures ok { IfOk result (DenotesLine circuit.now scale form.Total
         (SaysTotal scale.grid) cursor.old cursor.new) }
     ensures fault { IfErr result (StopsLine circuit.now scale form.Total cursor.old) }
 {

@@ -1,7 +1,7 @@
 use Rattle.std.proofs.Common.{◌≡◌, ◌<◌, ◌∙◌, length, refl, arith}
 use Rattle.std.proofs.lemmas.Bool.Decides.{nat_tests}
 use Rattle.std.proofs.lemmas.Result.{err_from_is_err_and}
-use Rattle.bench_reader.proofs.ToldCircuits.{no_registers, parts_circuit, parts_told, line_refused, use_refused}
+use Rattle.bench_reader.proofs.DenotedCircuits.{no_registers, parts_circuit, parts_denoted, line_refused, use_refused}
 use Rattle.bench_reader.proofs.read.circuit_of_lines.Goals as goal
 
 pub returns-in_err-names-clause-refused : goal.returns-in_err-names-clause-refused
@@ -17,7 +17,7 @@ returns-in_err-signals-clause-refused c =
 pub returns-then-is_empty-clause-refused : goal.returns-then-is_empty-clause-refused
 returns-then-is_empty-clause-refused c =
     let none : length c.in_ok-signals.field-0.registers ≡ 0 = grind (arith, nat_tests) in
-    no_registers c.args.bytes.now _ c.in_ok-signals.field-0 c.in_ok-names.ensures.flawless c.in_ok-names.ensures.names c.in_ok-signals.ensures.told none
+    no_registers c.args.bytes.now _ c.in_ok-signals.field-0 c.in_ok-names.ensures.flawless c.in_ok-names.ensures.names c.in_ok-signals.ensures.denoted none
 
 pub returns-in_err-from_slice-clause-refused : goal.returns-in_err-from_slice-clause-refused
 returns-in_err-from_slice-clause-refused c =
@@ -28,12 +28,12 @@ pub invariant_of-result : goal.invariant_of-result
 invariant_of-result c =
     let some : 0 < length c.in_ok-signals.field-0.registers = grind (arith, nat_tests) in
     record {
-      valid = parts_circuit c.args.bytes.now _ c.in_ok-signals.field-0 c.in_ok-names.ensures.flawless c.in_ok-names.ensures.names c.in_ok-signals.ensures.told some c.from_vec-outputs.result
+      valid = parts_circuit c.args.bytes.now _ c.in_ok-signals.field-0 c.in_ok-names.ensures.flawless c.in_ok-names.ensures.names c.in_ok-signals.ensures.denoted some c.from_vec-outputs.result
           (c.from_vec-outputs.ensures ∙ c.in_ok-from_slice.ensures.items ∙ c.as_slice.ensures.keys);
     }
 
-pub returns-clause-told : goal.returns-clause-told
-returns-clause-told c =
+pub returns-clause-denoted : goal.returns-clause-denoted
+returns-clause-denoted c =
     let some : 0 < length c.in_ok-signals.field-0.registers = grind (arith, nat_tests) in
-    parts_told c.args.bytes.now _ c.in_ok-signals.field-0 c.in_ok-names.ensures.flawless c.in_ok-names.ensures.names c.in_ok-signals.ensures.told some c.from_vec-outputs.result
+    parts_denoted c.args.bytes.now _ c.in_ok-signals.field-0 c.in_ok-names.ensures.flawless c.in_ok-names.ensures.names c.in_ok-signals.ensures.denoted some c.from_vec-outputs.result
     (c.from_vec-outputs.ensures ∙ c.in_ok-from_slice.ensures.items ∙ c.as_slice.ensures.keys) _ refl refl refl

@@ -1,4 +1,4 @@
--- Behind its first signal a path has gates alone.
+-- After its first signal a path has gates alone.
 use Rattle.std.proofs.Common.{rules, IsTrue}
 use Rattle.cert_check.proofs.WalkLemmas.{path_gates}
 use Rattle.cert_check.proofs.given_path.gives_setup.Goals as goal

@@ -3,7 +3,7 @@ use Rattle.std.proofs.Common.{◌^◌, pos, arith}
 use Rattle.std.proofs.lemmas.Int.{ints}
 use Rattle.cts_model.specs.declared.place.Sink.{Sink}
 use Rattle.cts_model.specs.ReportLines.{number_at}
-use Rattle.cert_check.proofs.ShowLemmas.{kept_below, tells_level}
+use Rattle.cert_check.proofs.ShowLemmas.{kept_below, denotes_level}
 use Rattle.cert_check.proofs.reaches.is_level.Goals as goal
 
 pub difference-requires-clause-one : goal.difference-requires-clause-one
@@ -26,7 +26,7 @@ returns c =
     (omega (arith, c.requires.register, c.requires.all)) in
     let one = c.difference-wire.ensures in
     let other = c.difference.ensures in
-    tells_level c.args.sinks.now (number_at c.args.wires.now) c.args.register none
+    denotes_level c.args.sinks.now (number_at c.args.wires.now) c.args.register none
     c.are_same.result c.requires.register (
       λ holds.
           let same = c.are_same.ensures.0 holds in

@@ -4,7 +4,7 @@ use Rattle.std.specs.List.{All}
 use Rattle.cts_model.specs.Points.{IsBelow, IsUvBelow}
 use Rattle.cts_model.specs.Shown.{source_in}
 use Rattle.cert_check.specs.Judged.{FindsFirst}
-use Rattle.cert_check.proofs.ReachLemmas.{Reached, Skewed, none_found, reach_found, parts_of, source_small, total_found, total_told}
+use Rattle.cert_check.proofs.ReachLemmas.{Reached, Skewed, none_found, reach_found, parts_of, source_small, total_found, total_denoted}
 use Rattle.cert_check.proofs.reaches.judge_reaches.Goals as goal
 
 pub first_skewed-requires : goal.first_skewed-requires
@@ -42,7 +42,7 @@ pub returns-then-report-total_of : goal.returns-then-report-total_of
 returns-then-report-total_of c =
     let sinks = c.args.sinks.now in
     let report = c.args.report.now in
-    let told = total_told sinks report
+    let denoted = total_denoted sinks report
     (parts_of c.args.problem.now report c.requires.size c.requires.bounds sinks c.requires.sinks
     c.requires.topology) c.as_slice.result.now c.as_slice.ensures
     c.total_of.result c.total_of.ensures c.requires.bounds.tree.total in
@@ -53,13 +53,13 @@ returns-then-report-total_of c =
     (Reached sinks (source_in c.args.problem.now report) report)) c.in_default-2.is
     (subst (λ source. FindsFirst (2 * length sinks) (Reached sinks source report)
     c.in_ok-node.field-0) c.source_of.ensures c.in_ok-node.ensures))
-    (λ total. c.if-report-total_of.true (told.1 total))
+    (λ total. c.if-report-total_of.true (denoted.1 total))
 
 pub returns : goal.returns
 returns c =
     let sinks = c.args.sinks.now in
     let report = c.args.report.now in
-    let told = total_told sinks report
+    let denoted = total_denoted sinks report
     (parts_of c.args.problem.now report c.requires.size c.requires.bounds sinks c.requires.sinks
     c.requires.topology) c.as_slice.result.now c.as_slice.ensures
     c.total_of.result c.total_of.ensures c.requires.bounds.tree.total in
@@ -70,4 +70,4 @@ returns c =
     (Reached sinks (source_in c.args.problem.now report) report)) c.in_default-2.is
     (subst (λ source. FindsFirst (2 * length sinks) (Reached sinks source report)
     c.in_ok-node.field-0) c.source_of.ensures c.in_ok-node.ensures))
-    (told.0 c.if-report-total_of.false)
+    (denoted.0 c.if-report-total_of.false)

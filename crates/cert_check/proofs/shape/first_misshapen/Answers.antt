@@ -1,7 +1,7 @@
 use Rattle.std.proofs.Common.{◌≡◌, refl}
 use Rattle.cts_model.specs.Embeddings.{embedding_of}
 use Rattle.cert_check.proofs.FirstPlaces.{denied}
-use Rattle.cts_model.specs.Points.{turned}
+use Rattle.cts_model.specs.Points.{rotated}
 use Rattle.cts_model.specs.Topologies.{source_of}
 use Rattle.std.specs.Prelude.{length}
 use Rattle.cert_check.proofs.ShapeLemmas.{all_shaped, moved, source_moved, unjoined}
@@ -27,5 +27,5 @@ returns-else-stands c =
     let is = rw c.as_slice.ensures at c.stands.ensures in
     source_moved c.args.sinks.now c.args.merges.now c.args.source (embedding_of c.args.tree.now)
     c.requires.merges c.in_default.ensures (rw c.in_default-2.is at c.in_ok-place.ensures)
-    (denied (turned ((embedding_of c.args.tree.now).place (source_of (length c.args.sinks.now)))
+    (denied (rotated ((embedding_of c.args.tree.now).place (source_of (length c.args.sinks.now)))
     ≡ c.args.source) c.stands.result is c.if-stands.false)

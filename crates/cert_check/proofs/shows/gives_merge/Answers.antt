@@ -8,10 +8,10 @@ use Rattle.cert_check.proofs.shows.gives_merge.Goals as goal
 
 pub returns-in-Pair : goal.returns-in-Pair
 returns-in-Pair c =
-    let tells = subst (λ z. IsTrue c.is_pair_placed.result
+    let denotes = subst (λ z. IsTrue c.is_pair_placed.result
     ↔ IsPairPlaced c.args.sinks.now c.args.order.now c.args.node z c.in-Pair.first c.in-Pair.second)
     (to_z-of_z w128 c.args.reach c.ranges.reach) c.is_pair_placed.ensures in
-    rw c.in-Pair.is tells
+    rw c.in-Pair.is denotes
 
 pub returns-in-Sink : goal.returns-in-Sink
 returns-in-Sink c = rw c.in-Sink.is (λ holds. absurd (false≢true holds), λ shown. absurd shown)

@@ -4,8 +4,8 @@ use mir.Syntax.{w128}
 use Rattle.std.proofs.lemmas.Bool.{false≢true}
 use Rattle.std.proofs.lemmas.Int.{to_z-of_z}
 use Rattle.cts_model.specs.declared.place.Sink.{Sink}
-use Rattle.cts_model.specs.Points.{turned_distance}
-use Rattle.cert_check.proofs.ShowLemmas.{tells_found}
+use Rattle.cts_model.specs.Points.{rotated_distance}
+use Rattle.cert_check.proofs.ShowLemmas.{denotes_found}
 use Rattle.cert_check.proofs.shows.gives_source.Goals as goal
 
 pub returns-in-Pair : goal.returns-in-Pair
@@ -19,12 +19,12 @@ returns-in-Sink c =
     let source = c.args.source in
     let reach = c.args.reach in
     let low : register < length sinks = rw c.in-Sink.is at c.requires.among in
-    let tells = subst (λ z. IsTrue c.is_reach_from.result
+    let denotes = subst (λ z. IsTrue c.is_reach_from.result
     ↔ (z ≡ (get_or sinks register none).offset
-    +ℤ turned_distance source (get_or sinks register none).at))
+    +ℤ rotated_distance source (get_or sinks register none).at))
     (to_z-of_z w128 reach c.ranges.reach) c.is_reach_from.ensures in
-    rw c.in-Sink.is (tells_found (λ sink. reach ≡ sink.offset +ℤ turned_distance source sink.at)
-    sinks register none c.is_reach_from.result low tells)
+    rw c.in-Sink.is (denotes_found (λ sink. reach ≡ sink.offset +ℤ rotated_distance source sink.at)
+    sinks register none c.is_reach_from.result low denotes)
 
 pub returns-in-Root : goal.returns-in-Root
 returns-in-Root c =

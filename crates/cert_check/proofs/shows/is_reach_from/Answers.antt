@@ -6,8 +6,8 @@ use Rattle.cert_check.proofs.shows.is_reach_from.Goals as goal
 pub returns : goal.returns
 returns c =
     let sum = c.sum.ensures in
-    let apart = c.turned_distance.ensures.value in
-    let near = c.turned_distance.ensures.below in
+    let apart = c.rotated_distance.ensures.value in
+    let near = c.rotated_distance.ensures.below in
     let offset = c.requires.sink.offset in (
       λ holds.
           let same = c.are_same.ensures.0 holds in

@@ -4,7 +4,7 @@ use Rattle.std.specs.Prelude.{IsSomeAnd, slice_get}
 use Rattle.cts_model.specs.ReportLines.{number_at}
 use Rattle.cts_model.specs.ShownReaches.{ShowsSource}
 use Rattle.cts_model.specs.Topologies.{root_of, source_of}
-use Rattle.cert_check.proofs.ShowLemmas.{kept_at, tells_source}
+use Rattle.cert_check.proofs.ShowLemmas.{kept_at, denotes_source}
 use Rattle.cert_check.proofs.shows.shows_source.Goals as goal
 
 pub returns : goal.returns
@@ -18,7 +18,7 @@ returns c =
     subst (λ place. IsTrue c.gives_source.result ↔ IsSomeAnd (slice_get report.shows place)
     (ShowsSource sinks c.args.source (number_at reaches (root_of (length sinks)))
     (number_at reaches (source_of (length sinks))))) last
-    (tells_source sinks c.args.source c.len.result report.shows c.as_slice.result.now
+    (denotes_source sinks c.args.source c.len.result report.shows c.as_slice.result.now
     c.as_slice.ensures (omega (arith, parts.shows, all, last))
     (number_at reaches (root_of (length sinks))) (number_at reaches (source_of (length sinks))) _ _
     (kept_at reaches c.as_slice-reaches.result.now (root_of (length sinks))

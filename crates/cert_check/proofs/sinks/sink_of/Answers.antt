@@ -15,4 +15,4 @@ returns c =
     let small : unsigned_abs c.scheduled_length.result ≤ 10 ^ 32 =
     omega (arith, size, ap unsigned_abs is) in
     let offset = neg_read c.scheduled_length.result small ∙ ap neg_ℤ is in
-    λ i. record { at = c.turned_on_grid.ensures i; offset = offset i }
+    λ i. record { at = c.rotated_on_grid.ensures i; offset = offset i }

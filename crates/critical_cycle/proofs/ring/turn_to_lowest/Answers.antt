@@ -1,10 +1,10 @@
--- What was lowest where it stood is lowest at the front.
-use Rattle.critical_cycle.proofs.Turns.{turned_from_lowest}
+-- What was lowest where it stood is lowest at the start.
+use Rattle.critical_cycle.proofs.Turns.{rotated_from_lowest}
 use Rattle.critical_cycle.proofs.ring.turn_to_lowest.Goals as goal
 
 pub returns-clause-lowest : goal.returns-clause-lowest
 returns-clause-lowest c =
-    turned_from_lowest c.args.constraints.now c.args.cycle.now c.rotate_left.new.self
+    rotated_from_lowest c.args.constraints.now c.args.cycle.now c.rotate_left.new.self
     c.place_of_lowest.result
     c.requires.within c.place_of_lowest.ensures.within c.rotate_left.ensures.after
     c.place_of_lowest.ensures.lowest

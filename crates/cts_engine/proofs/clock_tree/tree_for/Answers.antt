@@ -25,6 +25,6 @@ tree_over-requires-clause-sinks c =
 pub tree_over-requires-clause-source : goal.tree_over-requires-clause-source
 tree_over-requires-clause-source c =
     let problem = c.args.problem.now in
-    rw c.turned_on_grid-source.ensures
+    rw c.rotated_on_grid-source.ensures
     (tree_source c.args.period problem.tech c.requires.period problem.places.source
     problem.valid.source_near)

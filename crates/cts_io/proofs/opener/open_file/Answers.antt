@@ -1,6 +1,6 @@
 use Rattle.std.proofs.Common.{rules, refl, Err, ◌≡◌, ◌-◌, ◌^◌}
-use Rattle.cts_io.specs.Stream.{IsInterrupted, TellsOpen}
-use Rattle.cts_io.proofs.TriedLemmas.{none_interrupted, one_more_interrupted, told_at_the_limit}
+use Rattle.cts_io.specs.Stream.{IsInterrupted, AnswersOpen}
+use Rattle.cts_io.proofs.TriedLemmas.{none_interrupted, one_more_interrupted, denoted_at_the_limit}
 use Rattle.cts_io.proofs.opener.open_file.Goals as goal
 
 pub loop-try-init : goal.loop-try-init
@@ -16,7 +16,7 @@ pub returns : goal.returns
 returns g c =
     let limit : c.loop-try._try ≡ 2 ^ 64 - 1 = search rules in
     record {
-      told = told_at_the_limit (g.O.FileOpener.opens c.args.name.now) TellsOpen _ _ _ _
+      denoted = denoted_at_the_limit (g.O.FileOpener.opens c.args.name.now) AnswersOpen _ _ _ _
           c.loop-try.invariant limit
           (λ error interrupted. (λ memory. cc (interrupted, memory), λ other. refl));
     }

@@ -9,14 +9,14 @@ loop-taken-preserved g c =
     let grown : c.extend_from_slice.new.self.items ≡ c.loop-taken.bytes.items ++ take c.in-Ok.taken c.take.new.into = grind (arith, common_steps) in
     record {
       within = grind (arith, common_steps);
-      told = λ held is. let t = i.told held is in Takes-next _ _ _ _ _ _ _ t.2 (c.in-Ok.ensures.ok _ t.1) grown;
+      denoted = λ held is. let t = i.denoted held is in Takes-next _ _ _ _ _ _ _ t.2 (c.in-Ok.ensures.ok _ t.1) grown;
       files = λ file. c.in-Ok.ensures.files file ∙ i.files file;
       stays = λ file. c.in-Ok.ensures.stays file ∙ i.stays file;
     }
 
 pub returns-then-limit-len-clause-stops : goal.returns-then-limit-len-clause-stops
 returns-then-limit-len-clause-stops g c long held is =
-    let t = c.loop-taken.invariant.told held is in
+    let t = c.loop-taken.invariant.denoted held is in
     let all : length c.loop-taken.bytes.items + c.in-Ok.taken ≡ c.args.limit + 1 =
     grind (arith, common_steps) in
     Takes-leaves _ _ _ _ _ _ _ t.2 (c.in-Ok.ensures.ok _ t.1) all

@@ -18,6 +18,6 @@ loop-rest-preserved g c =
     record {
       done = i.done ++ take n c.loop-rest.rest.now;
       parts = rw c.split_at.ensures.back (append-moved _ i.done c.loop-rest.rest.now n i.parts);
-      written = c.in_ok-taken.ensures.ok ∙ ap (λ told. appended told (take n c.loop-rest.rest.now)) i.written ∙ appended-appended _ _ _;
+      written = c.in_ok-taken.ensures.ok ∙ ap (λ denoted. appended denoted (take n c.loop-rest.rest.now)) i.written ∙ appended-appended _ _ _;
       stays = c.in_ok-taken.ensures.stays ∙ i.stays;
     }

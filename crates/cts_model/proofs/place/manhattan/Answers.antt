@@ -1,7 +1,7 @@
 use Rattle.std.proofs.Common.{FitsSigned, ◌∙◌, arith, rules}
 use Rattle.std.specs.Int.{w128}
 use Rattle.std.proofs.lemmas.Int.{ints, to_z-of_z}
-use Rattle.cts_model.proofs.PointLemmas.{apart-turned, sum_of_values}
+use Rattle.cts_model.proofs.PointLemmas.{apart-rotated, sum_of_values}
 use Rattle.cts_model.proofs.place.manhattan.Goals as goal
 
 pub overflow_add-result : goal.overflow_add-result
@@ -17,5 +17,5 @@ returns-clause-value c =
     let y = simp to_z-of_z at c.apart-2.ensures.value in
     sum_of_values x y (omega (arith, ints))
 
-pub returns-clause-turned : goal.returns-clause-turned
-returns-clause-turned c = returns-clause-value c ∙ apart-turned c.args.a.x c.args.a.y c.args.b.x c.args.b.y
+pub returns-clause-rotated : goal.returns-clause-rotated
+returns-clause-rotated c = returns-clause-value c ∙ apart-rotated c.args.a.x c.args.a.y c.args.b.x c.args.b.y

@@ -1,4 +1,4 @@
-use Rattle.cts_program.proofs.CheckLemmas.{told_reason}
+use Rattle.cts_program.proofs.CheckLemmas.{reason_given}
 use Rattle.cts_program.proofs.ReasonLemmas.{reason_within}
 use Rattle.cts_program.proofs.check.require_shown.Goals as goal
 
@@ -9,6 +9,6 @@ reason_failure-requires c =
 
 pub returns-in-Not-clause-cause : goal.returns-in-Not-clause-cause
 returns-in-Not-clause-cause c =
-    told_reason c.args.problem.now c.args.report.now c.in-Not.reason
+    reason_given c.args.problem.now c.args.report.now c.in-Not.reason
     (rw c.in-Not.is at c.in_ok-check.ensures.verdict) c.reason_failure.result
     c.reason_failure.ensures

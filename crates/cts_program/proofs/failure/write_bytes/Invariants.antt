@@ -3,7 +3,7 @@ use Rattle.cts_io.specs.Device.{appended}
 use Rattle.cts_program.specs.Failures.{shown}
 use Rattle.cts_program.proofs.failure.write_bytes.Given as goal
 
--- the bytes behind us are written, and the count hasn't fallen
+-- the bytes after us are written, and the count hasn't fallen
 abbrev pub invariant-loop-byte : goal.invariant-loop-byte
 invariant-loop-byte g l = record {
   written : g.E.Sink.written l.err ≡ appended (g.E.Sink.written l.fn.err) (shown (take l.byte-index l.bytes));

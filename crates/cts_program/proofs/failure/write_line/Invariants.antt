@@ -3,7 +3,7 @@ use Rattle.std.specs.List.{flat_map}
 use Rattle.cts_io.specs.Device.{appended}
 use Rattle.cts_program.proofs.failure.write_line.Given as goal
 
--- the pieces behind us are written, and the count hasn't fallen
+-- the pieces after us are written, and the count hasn't fallen
 abbrev pub invariant-loop-piece : goal.invariant-loop-piece
 invariant-loop-piece g l = record {
   written : g.E.Sink.written l.err ≡ appended (g.E.Sink.written l.fn.err) (flat_map (λ piece. piece.now) (take l.piece-index l.pieces));

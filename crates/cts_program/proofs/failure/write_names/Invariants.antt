@@ -3,7 +3,7 @@ use Rattle.cts_io.specs.Device.{appended}
 use Rattle.cts_program.specs.Failures.{spaced}
 use Rattle.cts_program.proofs.failure.write_names.Given as goal
 
--- the names behind us are written, and the count hasn't fallen
+-- the names after us are written, and the count hasn't fallen
 abbrev pub invariant-loop-name : goal.invariant-loop-name
 invariant-loop-name g l = record {
   written : g.E.Sink.written l.err ≡ appended (g.E.Sink.written l.fn.err) (spaced (take l.name-index l.names));

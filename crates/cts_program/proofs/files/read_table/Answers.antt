@@ -17,7 +17,7 @@ returns-clause-kinds g c =
 pub returns-clause-ok : goal.returns-clause-ok
 returns-clause-ok g c = record {
   bytes = c.in_ok-bytes.bytes.items;
-  told = c.in_ok-bytes.ensures.ok;
+  denoted = c.in_ok-bytes.ensures.ok;
   short = c.in_ok-bytes.ensures.short;
   used = c.used_kinds.result;
   kinds = c.used_kinds.ensures;

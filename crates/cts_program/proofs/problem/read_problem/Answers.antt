@@ -2,9 +2,9 @@ use Rattle.std.proofs.Common.{◌∷◌, Err, ap, ◌∙◌}
 use Rattle.std.proofs.lemmas.Result.{err_from_is_err_and}
 use Rattle.cts_program.specs.declared.failure.Failure.{Failure}
 use Rattle.cts_program.specs.declared.file_kind.FileKind.TheVariants as kinds
-use Rattle.cts_program.proofs.PlacementLemmas.{placement_stops, placed_tells}
+use Rattle.cts_program.proofs.PlacementLemmas.{placement_stops, placed_denotes}
 use Rattle.cts_engine.proofs.ProblemLemmas.{problem_of}
-use Rattle.cts_program.proofs.ToldLemmas.{told_acyclic}
+use Rattle.cts_program.proofs.DenotedLemmas.{denoted_acyclic}
 use Rattle.cts_program.proofs.problem.read_problem.Goals as goal
 
 pub returns-in_err-circuit-clause-cause : goal.returns-in_err-circuit-clause-cause
@@ -36,14 +36,14 @@ returns-in_err-places-clause-stays g c none file =
 pub invariant_of-result : goal.invariant_of-result
 invariant_of-result g c = record {
   valid = problem_of _ _ c.in_ok-places.places c.in_ok-places.ensures.ok.bytes
-      (told_acyclic c.in_ok-circuit.ensures.ok) c.in_ok-circuit.ensures.kinds
+      (denoted_acyclic c.in_ok-circuit.ensures.ok) c.in_ok-circuit.ensures.kinds
       c.in_ok-circuit.ensures.host c.in_ok-places.ensures.ok.accepts;
 }
 
 pub returns-clause-ok : goal.returns-clause-ok
 returns-clause-ok g c =
     let placed = rw (c.in_ok-circuit.ensures.files c.args.pl.now) at c.in_ok-places.ensures.ok in
-    placed_tells c.args.bench c.args.tech c.args.pl _ c.in_ok-circuit.ensures.ok placed
+    placed_denotes c.args.bench c.args.tech c.args.pl _ c.in_ok-circuit.ensures.ok placed
 
 pub returns-clause-files : goal.returns-clause-files
 returns-clause-files g c file =

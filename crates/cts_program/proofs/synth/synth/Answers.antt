@@ -1,9 +1,9 @@
 use Rattle.std.proofs.Common.{[], refl}
 use Rattle.std.proofs.lemmas.Result.{err_from_is_err_and}
 use Rattle.cts_program.specs.declared.command.Command.TheVariants.{Synth}
-use Rattle.cts_program.proofs.PlacementLemmas.{circuit_told, synth_answer}
+use Rattle.cts_program.proofs.PlacementLemmas.{circuit_denoted, synth_answer}
 use Rattle.cts_program.proofs.ResultLemmas.{if_err_from}
-use Rattle.cts_program.proofs.ToldLemmas.{circuit_stops}
+use Rattle.cts_program.proofs.DenotedLemmas.{circuit_stops}
 use Rattle.cts_program.proofs.synth.synth.Goals as goal
 
 pub returns-in_err-problem-clause-cause : goal.returns-in_err-problem-clause-cause
@@ -22,5 +22,5 @@ pub returns-clause-cause : goal.returns-clause-cause
 returns-clause-cause g c =
     if_err_from c.problem_answer.result _ _ c.problem_answer.ensures.cause
     (λ failure fails. circuit_stops _ _ (Synth c.args.bench c.args.tech c.args.pl)
-    (circuit_told c.in_ok-problem.problem c.in_ok-problem.ensures.ok) (λ pairs. pairs) failure
+    (circuit_denoted c.in_ok-problem.problem c.in_ok-problem.ensures.ok) (λ pairs. pairs) failure
     fails)

@@ -19,5 +19,5 @@ returns c =
     let ring = c.turn_to_lowest.new.ring in
     let same : c.from_vec.result ≡ ring = c.from_vec.ensures ∙ with_items_is c.truncate.new.self ring (omega arith) in
     let here = rw (c.deref.ensures.value, c.reverse.ensures.items) at c.place_of.ensures.holds in
-    let turned = rw (c.deref_mut.ensures.value, c.truncate.ensures.items, c.reverse.ensures.items) at c.turn_to_lowest.ensures.turned.1 in
-    rw same (named_ring c.loop-seen.invariant c.place_of.result here c.turn_to_lowest.ensures.turned.0 ring turned c.turn_to_lowest.ensures.lowest)
+    let rotated = rw (c.deref_mut.ensures.value, c.truncate.ensures.items, c.reverse.ensures.items) at c.turn_to_lowest.ensures.rotated.1 in
+    rw same (named_ring c.loop-seen.invariant c.place_of.result here c.turn_to_lowest.ensures.rotated.0 ring rotated c.turn_to_lowest.ensures.lowest)

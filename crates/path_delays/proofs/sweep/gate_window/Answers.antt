@@ -8,39 +8,39 @@ use Rattle.path_delays.proofs.HullLemmas.{hull_below}
 use Rattle.path_delays.proofs.WindowLemmas.{gate_small, kept_ticks}
 use Rattle.path_delays.proofs.sweep.gate_window.Goals as goal
 
-pub returns-in_err-read-clause-behind : goal.returns-in_err-read-clause-behind
-returns-in_err-read-clause-behind c =
+pub returns-in_err-read-clause-suffix : goal.returns-in_err-read-clause-suffix
+returns-in_err-read-clause-suffix c =
     rw c.from_residual.ensures (record {
       read = None;
       hull =
           rw c.as_slice.ensures at c.in_err-read.ensures;
-      behind = refl;
+      suffix = refl;
     })
 
-pub behind-requires-clause-window : goal.behind-requires-clause-window
-behind-requires-clause-window c =
+pub suffix-requires-clause-window : goal.suffix-requires-clause-window
+suffix-requires-clause-window c =
     hull_below (ComesFrom c.args.windows.now c.as_slice.result.now)
     (2 * 10 ^ 19) c.in_ok-read.read c.in_ok-read.ensures
     (λ window (signal, listed, here). c.requires.small signal window here)
 
-pub behind-requires-clause-delay : goal.behind-requires-clause-delay
-behind-requires-clause-delay c =
+pub suffix-requires-clause-delay : goal.suffix-requires-clause-delay
+suffix-requires-clause-delay c =
     rw c.gate_delay.ensures (gate_small c.args.tech.now c.args.gate.now c.requires.gate
-    c.requires.lawful)
+    c.requires.valid_inputs)
 
-pub returns-clause-behind : goal.returns-clause-behind
-returns-clause-behind c = record {
+pub returns-clause-suffix : goal.returns-clause-suffix
+returns-clause-suffix c = record {
   read = Some c.in_ok-read.read;
   hull = rw c.as_slice.ensures at c.in_ok-read.ensures;
-  behind = ap (λ (window : Window). Some window)
+  suffix = ap (λ (window : Window). Some window)
       (rw (c.gate_delay.ensures, kept_ticks c.args.scale c.requires.scale (omega arith)) at
-      c.behind.ensures.behind);
+      c.suffix.ensures.suffix);
 }
 
 pub returns-clause-small : goal.returns-clause-small
 returns-clause-small c bound window below same =
-    subst (IsWindowBelow (bound + 10 ^ 10)) (same_Some c.behind.result window same)
-    (c.behind.ensures.small bound (hull_below
+    subst (IsWindowBelow (bound + 10 ^ 10)) (same_Some c.suffix.result window same)
+    (c.suffix.ensures.small bound (hull_below
     (ComesFrom c.args.windows.now c.as_slice.result.now) bound c.in_ok-read.read
     c.in_ok-read.ensures
     (λ other (signal, listed, here). below signal other here)))

@@ -31,15 +31,15 @@ gate_window-window-requires-clause-gate c =
     (ap (λ l. get_or l place 0) c.gates-gate-items.ensures)
     (rw c.as_slice.ensures at c.index-as_slice-gate.is)).is_one
 
-pub gate_window-window-requires-clause-lawful : goal.gate_window-window-requires-clause-lawful
-gate_window-window-requires-clause-lawful c =
+pub gate_window-window-requires-clause-valid_inputs : goal.gate_window-window-requires-clause-valid_inputs
+gate_window-window-requires-clause-valid_inputs c =
     let order = c.gates-gate-items.result.now in
     let place = c.loop-gate.gate-index in
     (next_read c.args.circuit.now c.args.levels.now place
     (get_or order place 0) c.index-as_slice-gate.result c.requires.levels
     (rw c.gates-gate-items.ensures at c.loop-gate-test.true)
     (ap (λ l. get_or l place 0) c.gates-gate-items.ensures)
-    (rw c.as_slice.ensures at c.index-as_slice-gate.is)).lawful
+    (rw c.as_slice.ensures at c.index-as_slice-gate.is)).valid_inputs
 
 pub gate_window-window-requires-clause-reads : goal.gate_window-window-requires-clause-reads
 gate_window-window-requires-clause-reads c k d within =
@@ -92,7 +92,7 @@ loop-gate-preserved c =
       c.as_slice-in-loop-gate.ensures.value,
       kept_ticks c.args.schedule.now.den c.requires.schedule.den (omega arith),
     ) at
-    c.gate_window-window.ensures.behind)
+    c.gate_window-window.ensures.suffix)
     (λ window same. subst (λ n. IsWindowBelow n window) (omega arith)
     (c.gate_window-window.ensures.small (window_limit place) window
     (rw c.as_slice-in-loop-gate.ensures.value c.loop-gate.invariant.small) same))

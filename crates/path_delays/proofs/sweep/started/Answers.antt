@@ -3,8 +3,8 @@ use Rattle.std.proofs.Common.{◌*◌, ◌^◌, pos, get_or, arith}
 use Rattle.path_delays.proofs.WindowLemmas.{kept, edge_below, below_wider}
 use Rattle.path_delays.proofs.sweep.started.Goals as goal
 
-pub behind-requires-clause-window : goal.behind-requires-clause-window
-behind-requires-clause-window c =
+pub suffix-requires-clause-window : goal.suffix-requires-clause-window
+suffix-requires-clause-window c =
     let time = get_or c.args.schedule.now.at c.args.from (pos 0) in
     let small = edge_below (10 ^ 19) time (omega arith)
     (c.requires.schedule.small c.args.from (pos 0) c.requires.from) in
@@ -16,4 +16,4 @@ returns-clause-small c =
     let time = get_or c.args.schedule.now.at c.args.from (pos 0) in
     let small = edge_below (10 ^ 19) time (omega arith)
     (c.requires.schedule.small c.args.from (pos 0) c.requires.from) in
-    c.behind.ensures.small (10 ^ 19) (rw c.as_slice.ensures small)
+    c.suffix.ensures.small (10 ^ 19) (rw c.as_slice.ensures small)

@@ -1,7 +1,7 @@
 use Rattle.std.proofs.Common.{subst, arith}
 use Rattle.std.proofs.lemmas.Int.{ints}
 use Rattle.tilted_rect.proofs.CodeNumbers.{difference_read}
-use Rattle.merge_up.specs.Merging.{IsPlaced}
+use Rattle.merge_up.specs.Merging.{IsNodeSettled}
 use Rattle.place_down.proofs.top_down.settle_below.Goals as goal
 
 pub returns : goal.returns
@@ -17,6 +17,6 @@ returns c =
       region_held = c.region.ensures.value;
       nearest = c.nearest-found.ensures.nearest;
       multiple = c.nearest-found.ensures.multiple;
-      placed = subst (λ length. IsPlaced c.args.node c.nearest-found.result length c.args.work.now
+      placed = subst (λ length. IsNodeSettled c.args.node c.nearest-found.result length c.args.work.now
           c.settle.new.self) length c.settle.ensures;
     }

@@ -1,10 +1,10 @@
 use Rattle.std.proofs.Common.{◌≡◌, ◌++◌, map, take}
 use Rattle.cts_model.specs.ReportLines.{signal_name}
-use Rattle.report_text.specs.Pieces.{behind}
+use Rattle.report_text.specs.Pieces.{suffix}
 use Rattle.report_text.proofs.timing.push_signals.Given as goal
 
 -- the names so far
 abbrev pub invariant-loop-number : goal.invariant-loop-number
 invariant-loop-number l =
     l.out.items
-    ≡ l.fn.out.items ++ behind (map (signal_name l.circuit) (take l.number-index l.path))
+    ≡ l.fn.out.items ++ suffix (map (signal_name l.circuit) (take l.number-index l.path))

@@ -1,11 +1,11 @@
 use Rattle.std.proofs.Common.{ℕ, List, map, sym, ap, ◌∙◌, subst, codes}
 use Rattle.std.specs.Str.{bytes_eq}
-use Rattle.report_text.proofs.TimingTold.{IsNumberOf, IsWeightOf, setup_told, hold_told}
+use Rattle.report_text.proofs.TimingDenoted.{IsNumberOf, IsWeightOf, setup_denoted, hold_denoted}
 use Rattle.report_text.proofs.timing_values.constraint_of.Goals as goal
 
 pub returns-then-is_setup : goal.returns-then-is_setup
 returns-then-is_setup c circuit scale are (formed, known, fit, within) =
-    setup_told circuit (map (λ word. word.now) c.args.words.now) c.known_register-launch.result
+    setup_denoted circuit (map (λ word. word.now) c.args.words.now) c.known_register-launch.result
     c.known_register-capture.result c.weight_of-weight.result formed known within
     (subst (IsNumberOf circuit c.known_register-launch.result) c.word_at.ensures
     (c.known_register-launch.ensures circuit are))
@@ -17,7 +17,7 @@ returns-then-is_setup c circuit scale are (formed, known, fit, within) =
 
 pub returns-else-is_setup : goal.returns-else-is_setup
 returns-else-is_setup c circuit scale are (formed, known, fit, within) =
-    hold_told circuit (map (λ word. word.now) c.args.words.now) c.known_register-launch.result
+    hold_denoted circuit (map (λ word. word.now) c.args.words.now) c.known_register-launch.result
     c.known_register-capture.result c.weight_of-weight.result formed known within
     (subst (IsNumberOf circuit c.known_register-launch.result) c.word_at.ensures
     (c.known_register-launch.ensures circuit are))

@@ -1,5 +1,5 @@
 use Rattle.std.proofs.Common.{Ok, Err}
-use Rattle.report_text.proofs.TimingTold.{fraction_read}
+use Rattle.report_text.proofs.TimingDenoted.{fraction_read}
 use Rattle.report_text.proofs.timing_values.fraction_of.Goals as goal
 
 pub returns-in-Ok : goal.returns-in-Ok

@@ -2,12 +2,12 @@ use Rattle.std.proofs.Common.{◌≡◌, ℕ, ℤ, List, map, subst}
 use Rattle.cts_base.specs.Fractions.{fraction_text}
 use Rattle.cts_base.specs.NumberTexts.{HaveSmallSizes}
 use Rattle.report_text.specs.Fields.{IsFractionForm}
-use Rattle.report_text.proofs.TimingTold.{period_told}
+use Rattle.report_text.proofs.TimingDenoted.{period_denoted}
 use Rattle.report_text.proofs.timing_values.period_of.Goals as goal
 
 pub returns : goal.returns
 returns c circuit scale flawless =
-    period_told circuit scale (map (λ word. word.now) c.args.words.now) c.fraction_of.result
+    period_denoted circuit scale (map (λ word. word.now) c.args.words.now) c.fraction_of.result
     flawless
     (subst (λ (word : List ℕ). (num den : ℤ) → IsFractionForm word num den
     → HaveSmallSizes num den

@@ -1,5 +1,5 @@
 use Rattle.std.proofs.Common.{Ok, Err}
-use Rattle.report_text.proofs.TimingTold.{slack_read}
+use Rattle.report_text.proofs.TimingDenoted.{slack_read}
 use Rattle.report_text.proofs.timing_values.slack_of.Goals as goal
 
 pub returns-in-Ok : goal.returns-in-Ok

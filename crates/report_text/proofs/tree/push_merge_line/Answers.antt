@@ -1,7 +1,7 @@
 use Rattle.std.proofs.Common.{◌∷◌, [], pos}
 use Rattle.std.specs.Fmt.{signed_decimal}
 use Rattle.cts_model.specs.ReportLines.{length_text, number_at, show_words}
-use Rattle.report_text.proofs.LineLemmas.{behind_more, whole_line}
+use Rattle.report_text.proofs.LineLemmas.{after_more, whole_line}
 use Rattle.report_text.proofs.tree.push_merge_line.Goals as goal
 
 pub returns : goal.returns
@@ -12,11 +12,11 @@ returns c =
     let first = signed_decimal (pos merge.first) in
     let second = signed_decimal (pos merge.second) in
     let begun = c.push_node.new.out.items in
-    let both = behind_more begun _ _ (first ∷ []) (second ∷ [])
+    let both = after_more begun _ _ (first ∷ []) (second ∷ [])
     c.in_ok-push_number.ensures c.in_ok-push_number-2.ensures in
-    let reached = behind_more begun _ _ (first ∷ second ∷ []) (reach ∷ [])
+    let reached = after_more begun _ _ (first ∷ second ∷ []) (reach ∷ [])
     both c.in_ok-push_reach.ensures in
-    let shown = behind_more begun _ _ (first ∷ second ∷ reach ∷ [])
+    let shown = after_more begun _ _ (first ∷ second ∷ reach ∷ [])
     (show_words c.args.circuit.now c.args.show) reached c.in_ok-push_shown.ensures in
     whole_line c.args.out.now.items begun _ _ (signed_decimal (pos c.args.node))
     (first ∷ second ∷ reach ∷ show_words c.args.circuit.now c.args.show)

@@ -1,7 +1,7 @@
 use Rattle.std.proofs.Common.{◌≡◌, ◌++◌, take}
 use Rattle.std.specs.List.{flat_map}
 use Rattle.cts_model.specs.ReportLines.{point_words}
-use Rattle.report_text.specs.Pieces.{behind}
+use Rattle.report_text.specs.Pieces.{suffix}
 use Rattle.report_text.proofs.tree.push_points.Given as goal
 
 -- the points so far
@@ -9,4 +9,4 @@ abbrev pub invariant-loop-point : goal.invariant-loop-point
 invariant-loop-point l =
     l.out.items
     ≡ l.fn.out.items
-    ++ behind (flat_map (point_words l.report) (take l.point-index l.points))
+    ++ suffix (flat_map (point_words l.report) (take l.point-index l.points))

@@ -2,7 +2,7 @@ use Rattle.std.proofs.Common.{◌∷◌, [], length, codes, slice_index_or}
 use Rattle.cts_model.specs.ReportLines.{length_text, number_at, show_words}
 use Rattle.cts_model.specs.Topologies.{source_of}
 use Rattle.cts_model.specs.declared.tree.Show.TheVariants.{Root}
-use Rattle.report_text.proofs.LineLemmas.{behind_more, whole_line}
+use Rattle.report_text.proofs.LineLemmas.{after_more, whole_line}
 use Rattle.report_text.proofs.tree.push_source.Goals as goal
 
 pub returns : goal.returns
@@ -13,7 +13,7 @@ returns c =
     let words = show_words c.args.circuit.now
     (slice_index_or report.shows (length report.topology.merges) Root) in
     let begun = c.extend_from_slice.new.self.items in
-    let shown = behind_more begun _ _ (reach ∷ []) words
+    let shown = after_more begun _ _ (reach ∷ []) words
     (rw c.len.ensures at c.in_ok-push_reach.ensures)
     (rw (c.show_at.ensures, c.len-2.ensures) at c.in_ok-push_shown.ensures) in
     whole_line c.args.out.now.items begun _ _ (codes "source") (reach ∷ words)

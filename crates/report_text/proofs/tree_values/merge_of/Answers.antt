@@ -56,7 +56,7 @@ returns c circuit node names below flawless =
         → (register < length circuit.registers) × (register_name circuit register ≡ word))
         → word ≡ at → NamesRegister circuit at
         → SpellsRegister circuit at register
-    register_at {register} told same known =
+    register_at {register} denoted same known =
         subst (λ w. SpellsRegister circuit w register) same
-        (told circuit names
+        (denoted circuit names
         (subst (NamesRegister circuit) (sym same) known))

@@ -1,7 +1,7 @@
 use Rattle.std.proofs.Common.{◌≡◌, sym, subst, arith}
 use Rattle.std.proofs.lemmas.Int.{ints}
-use Rattle.cts_model.specs.Points.{distance, turned, turned_distance}
-use Rattle.cts_model.proofs.PointLemmas.{apart-turned}
+use Rattle.cts_model.specs.Points.{distance, rotated, rotated_distance}
+use Rattle.cts_model.proofs.PointLemmas.{apart-rotated}
 use Rattle.tilted_rect.proofs.TurnLemmas.{same_uv}
 use Rattle.tilted_rect.proofs.turn.to_uv.Goals as goal
 
@@ -10,4 +10,4 @@ returns-clause-value c = same_uv (omega (arith, ints)) (omega (arith, ints))
 
 pub returns-clause-distance : goal.returns-clause-distance
 returns-clause-distance c = λ other.
-    subst (λ at. distance c.args.at other ≡ turned_distance at (turned other)) (sym (returns-clause-value c)) (apart-turned c.args.at.x c.args.at.y other.x other.y)
+    subst (λ at. distance c.args.at other ≡ rotated_distance at (rotated other)) (sym (returns-clause-value c)) (apart-rotated c.args.at.x c.args.at.y other.x other.y)

@@ -1,5 +1,5 @@
 use Rattle.std.proofs.Common.{◌≡◌, refl, subst}
-use Rattle.topology.specs.LiveClusters.{IsLeast, Pairs}
+use Rattle.topology.specs.LiveClusters.{IsLeastPair, Pairs}
 use Rattle.topology.proofs.live.look_anew.Goals as goal
 
 pub returns-clause-anew : goal.returns-clause-anew
@@ -9,7 +9,7 @@ returns-clause-anew c =
       live = c.index_mut.result.now;
       found = c.nearest.result;
       at = c.index_mut.ensures.value;
-      least = subst (λ live. IsLeast (Pairs c.args.key live) c.args.clusters.now c.nearest.result)
+      least = subst (λ live. IsLeastPair (Pairs c.args.key live) c.args.clusters.now c.nearest.result)
           same c.nearest.ensures;
       new_is = refl;
     }

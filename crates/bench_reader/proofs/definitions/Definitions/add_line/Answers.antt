@@ -25,7 +25,7 @@ returns-else-not-may_have c earlier =
     let word = c.in-Assign.word.now in
     let short = rw c.in-Assign.is at c.has_short_names-short.ensures in
     let kind = sym c.in-Some-kind_of.ensures in
-    let lawful = rw c.len-count.ensures at (sym c.may_have.ensures ∙ c.if-not-may_have.false) in
+    let valid_inputs = rw c.len-count.ensures at (sym c.may_have.ensures ∙ c.if-not-may_have.false) in
     let judged = rw (short, c.len-count.ensures) at c.define-in-Assign.ensures in
     defining_adds earlier c.args.line.now (Assign name word c.in-Assign.inputs) (sym (rw c.in-Assign.is at c.in-Some.ensures)) (record { name = name; kind = c.in-Some-kind_of.kind; inputs = c.in-Assign.inputs })
-    (rw kind refl) (rw kind refl) lawful c.define-in-Assign.new.self c.define-in-Assign.result judged
+    (rw kind refl) (rw kind refl) valid_inputs c.define-in-Assign.new.self c.define-in-Assign.result judged

@@ -12,10 +12,10 @@ invariant_of-result c =
     let num_is = to_z-of_z w128 c.args.num c.ranges.num in
     let den_is = to_z-of_z w128 c.args.den c.ranges.den in
     let greatest = rw (num_is, den_is) at divisor.ensures.greatest in
-    let front = quotient_is c.args.num divisor.result c.ranges.num fits some in
+    let prefix = quotient_is c.args.num divisor.result c.ranges.num fits some in
     let back = quotient_is c.args.den divisor.result c.ranges.den fits some in
     let some_den = c.requires.some_den in
-    rw (front, back) (record {
+    rw (prefix, back) (record {
       lowest = lowest_quotients c.args.num c.args.den divisor.result some_den some greatest;
     })
 
@@ -27,9 +27,9 @@ returns-clause-value c =
     let num_is = to_z-of_z w128 c.args.num c.ranges.num in
     let den_is = to_z-of_z w128 c.args.den c.ranges.den in
     let greatest = rw (num_is, den_is) at divisor.ensures.greatest in
-    let front = quotient_is c.args.num divisor.result c.ranges.num fits some in
+    let prefix = quotient_is c.args.num divisor.result c.ranges.num fits some in
     let back = quotient_is c.args.den divisor.result c.ranges.den fits some in
-    rw (front, back)
+    rw (prefix, back)
     (same_value c.args.num c.args.den divisor.result c.requires.some_den some greatest)
 
 pub returns-clause-num : goal.returns-clause-num
@@ -37,5 +37,5 @@ returns-clause-num c =
     let divisor = c.common_divisor-divisor in
     let some = divisor.ensures.some in
     let fits : FitsSigned w128 divisor.result = search rules in
-    let front = quotient_is c.args.num divisor.result c.ranges.num fits some in
-    rw front (int_div-le c.args.num divisor.result some)
+    let prefix = quotient_is c.args.num divisor.result c.ranges.num fits some in
+    rw prefix (int_div-le c.args.num divisor.result some)

@@ -4,7 +4,7 @@ use Rattle.std.proofs.lemmas.List.{take_all, take_more}
 use Rattle.path_delays.specs.declared.sums.Sums.{Sums}
 use Rattle.path_delays.specs.GroupParts.{group_of}
 use Rattle.path_delays.specs.Handing.{AreHanded}
-use Rattle.path_delays.proofs.Hands.{HasRoom-same, AreHanded-push}
+use Rattle.path_delays.proofs.Hands.{HasReachRoom-same, AreHanded-push}
 use Rattle.path_delays.proofs.reach.Reach.hand_on.Goals as goal
 
 pub loop-gate-init : goal.loop-gate-init
@@ -14,7 +14,7 @@ pub loop-gate-preserved : goal.loop-gate-preserved
 loop-gate-preserved c =
     let readers = c.group-gate-items.result.now in
     let network = c.args.network.now in (
-      HasRoom-same network c.loop-gate.self c.hand_to.new.self c.hand_to.ensures.room c.loop-gate.invariant.0,
+      HasReachRoom-same network c.loop-gate.self c.hand_to.new.self c.hand_to.ensures.room c.loop-gate.invariant.0,
       rw (take_more readers c.loop-gate.gate-index 0 c.loop-gate-test.true)
           (AreHanded-push network c.unwrap-given.result (take c.loop-gate.gate-index readers) (get_or readers c.loop-gate.gate-index 0) c.args.self.now c.loop-gate.self c.hand_to.new.self c.loop-gate.invariant.1 c.hand_to.ensures),
     )

@@ -5,7 +5,7 @@ use Rattle.path_delays.specs.declared.reach.Reach.{Reach}
 use Rattle.path_delays.specs.SumParts.{delay_limit}
 use Rattle.path_delays.specs.Walking.{limit_at}
 use Rattle.path_delays.specs.Handing.{rank_at}
-use Rattle.path_delays.proofs.Hands.{HasRoom-same}
+use Rattle.path_delays.proofs.Hands.{HasReachRoom-same}
 use Rattle.path_delays.proofs.Rooms.{within_higher}
 use Rattle.path_delays.proofs.WalkSteps.{next_gate, next_within, limit_within, IsReaching-taken, IsReaching-on, reach_shown}
 use Rattle.path_delays.proofs.reach.Reach.reach_all.Goals as goal
@@ -56,5 +56,5 @@ returns c =
     let taken : Reach = record { reached = c.loop-next.self.reached; sums = c.loop-next.self.sums; waiting = c.take_lowest.new.self } in
     record {
       reach = reach_shown c.args.circuit.now c.args.tech.now c.args.from c.args.network.now c.requires.network c.loop-next.self c.loop-next.rank c.loop-next.invariant.0 c.in_default.ensures.none;
-      room = HasRoom-same c.args.network.now c.loop-next.self taken (record { sums = refl; reached = refl; waiting = c.in_default.ensures.covers }) c.loop-next.invariant.1;
+      room = HasReachRoom-same c.args.network.now c.loop-next.self taken (record { sums = refl; reached = refl; waiting = c.in_default.ensures.covers }) c.loop-next.invariant.1;
     }

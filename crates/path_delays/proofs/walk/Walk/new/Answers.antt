@@ -1,7 +1,7 @@
 -- There are few gates, and room for them.
 use Rattle.std.proofs.Common.{◌≤◌, length, arith, ap, ◌∙◌}
 use Rattle.path_delays.proofs.NetworkLemmas.{few_gates}
-use Rattle.path_delays.proofs.Rooms.{HasRoom-made}
+use Rattle.path_delays.proofs.Rooms.{HasReachRoom-made}
 use Rattle.path_delays.proofs.walk.Walk.new.Goals as goal
 
 pub overflow_cast-gates : goal.overflow_cast-gates
@@ -13,7 +13,7 @@ returns c =
     let few : length network.order.items ≤ length c.gates.result.now = omega (arith, ap length c.in_ok-network.ensures.order, ap length c.gates.ensures) in
     record {
       network = c.in_ok-network.ensures.network;
-      room = HasRoom-made c.args.circuit.now c.args.tech.now network c.in_ok-network.ensures.network c.in_ok-reach.reach (length c.gates.result.now) few
+      room = HasReachRoom-made c.args.circuit.now c.args.tech.now network c.in_ok-network.ensures.network c.in_ok-reach.reach (length c.gates.result.now) few
           (c.in_ok-reach.ensures.sums ∙ c.len-signals.ensures) (omega (arith, c.in_ok-reach.ensures.reached)) c.in_ok-reach.ensures.waiting
           (c.in_ok-reach.ensures.small (omega (arith, few_gates c.args.circuit.now c.args.levels.now c.requires, ap length c.gates.ensures)));
     }

@@ -2,7 +2,7 @@ use Rattle.std.proofs.Common.{[], ◌∷◌, ◌++◌, sym, subst, arith}
 use Rattle.std.proofs.lemmas.Int.{ints, to_z-of_z}
 use Rattle.std.specs.Int.{w128}
 use Rattle.cts_model.specs.declared.tree.Show.TheVariants as shows
-use Rattle.cts_model.specs.Points.{turned}
+use Rattle.cts_model.specs.Points.{rotated}
 use Rattle.place_down.specs.Sources.{IsTop}
 use Rattle.place_down.proofs.SourceLemmas.{top_kept, top_further}
 use Rattle.place_down.proofs.source.Top.further.Goals as goal
@@ -15,7 +15,7 @@ pub returns : goal.returns
 returns c = λ sinks first root here held.
     let reach = c.reach_to-reach.result in
     let is = to_z-of_z w128 reach (omega (arith, ints, c.reach_to-reach.ensures.below)) in
-    subst (λ z. IsTop sinks (first ++ c.args.sink ∷ []) (turned c.args.source) root
+    subst (λ z. IsTop sinks (first ++ c.args.sink ∷ []) (rotated c.args.source) root
     (record { reach = z; show = shows.Sink c.args.register })) (sym is)
     (top_further c.args.sink held c.args.register reach here c.reach_to-reach.ensures.value
     (omega (arith, ints, c.if-reach-self.false)) c.reach_to-reach.ensures.below

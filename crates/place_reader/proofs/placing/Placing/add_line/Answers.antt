@@ -1,5 +1,4 @@
 use Rattle.std.proofs.Common.{sym, refl, true}
-use Rattle.place_reader.specs.View.{node_said}
 use Rattle.place_reader.proofs.TakenLines.{blank_taken, header_taken, node_judged}
 use Rattle.place_reader.proofs.placing.Placing.add_line.Goals as goal
 

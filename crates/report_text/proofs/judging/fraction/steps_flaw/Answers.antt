@@ -5,7 +5,7 @@ use Rattle.std.proofs.lemmas.Int.{to_z-of_z}
 use mir.Syntax.{w128}
 use Rattle.report_text.specs.Fields.{WordHasFlaw}
 use Rattle.report_text.specs.declared.field.Field.TheVariants.{Steps}
-use Rattle.report_text.proofs.FractionFlaws.{read_quotient_is, refused, steps_refused, steps_told}
+use Rattle.report_text.proofs.FractionFlaws.{read_quotient_is, refused, steps_refused, steps_denoted}
 use Rattle.report_text.proofs.judging.fraction.steps_flaw.Goals as goal
 
 pub returns-in-Ok : goal.returns-in-Ok
@@ -17,16 +17,16 @@ returns-in-Ok c circuit =
       to_z-of_z w128 c.args.over c.ranges.over,
       to_z-of_z w128 c.args.bound c.ranges.bound,
     ) at c.step_flaw.ensures in
-    steps_told c.args.word.now fraction.num fraction.den spells c.args.over c.args.bound small
+    steps_denoted c.args.word.now fraction.num fraction.den spells c.args.over c.args.bound small
     fraction.lowest c.step_flaw.result has circuit
 
 pub returns-in-Err : goal.returns-in-Err
 returns-in-Err c circuit =
-    let told = c.in-Err.ensures in
+    let denoted = c.in-Err.ensures in
     let refuses = refused c.args.word.now c.in-Err.fault
-    (λ is. told.not_number.0 (ap {B = Result Fraction NumberFault} Err is))
-    (λ is. told.too_large.0 (ap {B = Result Fraction NumberFault} Err is))
-    (λ is. told.too_fine (ap {B = Result Fraction NumberFault} Err is)) in
+    (λ is. denoted.not_number.0 (ap {B = Result Fraction NumberFault} Err is))
+    (λ is. denoted.too_large.0 (ap {B = Result Fraction NumberFault} Err is))
+    (λ is. denoted.too_fine (ap {B = Result Fraction NumberFault} Err is)) in
     subst (λ flaw. WordHasFlaw circuit (Steps c.args.over c.args.bound) c.args.word.now (Some flaw))
     (sym c.fault_flaw.ensures) (steps_refused c.args.over c.args.bound c.args.word.now
     c.in-Err.fault refuses circuit)

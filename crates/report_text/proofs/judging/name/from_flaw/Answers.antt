@@ -5,15 +5,15 @@ use Rattle.report_text.proofs.judging.name.from_flaw.Goals as goal
 pub returns-in-Some : goal.returns-in-Some
 returns-in-Some c =
     let circuit = c.args.circuit.now in
-    let told = c.in-Some.ensures circuit c.requires.names in (
+    let denoted = c.in-Some.ensures circuit c.requires.names in (
       tt,
-      (c.in-Some.found, told.0, told.1),
+      (c.in-Some.found, denoted.0, denoted.1),
       λ register within same.
           omega (
             arith,
             c.if-first-found.true,
-            one_register circuit c.in-Some.found register told.0
-                within (told.1 ∙ sym same),
+            one_register circuit c.in-Some.found register denoted.0
+                within (denoted.1 ∙ sym same),
           ),
       tt,
     )

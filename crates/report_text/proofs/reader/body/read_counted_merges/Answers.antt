@@ -3,7 +3,7 @@ use Rattle.std.specs.List.{range_with_len}
 use Rattle.report_text.specs.declared.field.Keyword.TheVariants as word
 use Rattle.report_text.specs.declared.form.Form.TheVariants as form
 use Rattle.report_text.specs.Walks.{Stops}
-use Rattle.report_text.proofs.WalkLemmas.{passed_on, stop_before, stop_behind, stop_line}
+use Rattle.report_text.proofs.WalkLemmas.{passed_on, stop_before, stop_after, stop_line}
 use Rattle.report_text.proofs.reader.body.read_counted_merges.Goals as goal
 
 pub read_merges-requires-clause-line : goal.read_merges-requires-clause-line
@@ -31,6 +31,6 @@ returns-in_err-merged-clause-fault c =
     (Stops c.args.circuit.now c.args.scale (form.Count word.Merges c.args.count
     ∷ map form.Merge (range_with_len (length c.args.circuit.now.registers) c.args.count)) c.args.cursor.now)
     c.from_residual-in_err-merged.ensures.1
-    (stop_behind (line.read c.args.scale line.flawless)
+    (stop_after (line.read c.args.scale line.flawless)
     (map form.Merge (range_with_len (length c.args.circuit.now.registers) c.args.count))
     c.in_err-merged.field-0.0 c.in_err-merged.ensures.fault)

@@ -4,7 +4,7 @@ use Rattle.report_text.specs.Bodies.{merge_forms, node_forms, register_forms, se
 use Rattle.report_text.specs.Forms.{lead_forms}
 use Rattle.report_text.specs.Walks.{Stops}
 use Rattle.report_text.proofs.BodyLemmas.{fifth_stops, first_stops, fourth_stops, leads_line, leads_read, merges_line, merges_read, nodes_line, nodes_read, registers_line, registers_read, second_stops, third_stops}
-use Rattle.report_text.proofs.WalkLemmas.{passed_on, read_more, stop_before, stop_behind, stop_line}
+use Rattle.report_text.proofs.WalkLemmas.{passed_on, read_more, stop_before, stop_after, stop_line}
 use Rattle.report_text.proofs.reader.body.read_sections.Goals as goal
 
 pub read_version_leads-requires-clause-line : goal.read_version_leads-requires-clause-line
@@ -131,7 +131,7 @@ returns-in_err-placed-clause-fault c =
     (read_more (leads_read c.in_ok-timings.ensures.ok c.in_ok-leads.ensures.ok)
     (merge_forms c.args.circuit.now (c.args.count - 1)) _ c.read_counted_merges.new.cursor
     (merges_read c.in_ok-merged.ensures.ok))
-    (stop_behind (c.in_ok-source.ensures.ok.line.read c.args.scale c.in_ok-source.ensures.ok.line.flawless)
+    (stop_after (c.in_ok-source.ensures.ok.line.read c.args.scale c.in_ok-source.ensures.ok.line.flawless)
     (node_forms (2 * c.args.count - 1)) c.in_err-placed.field-0.0 c.in_err-placed.ensures.fault))
 
 pub returns-in_err-total-clause-fault : goal.returns-in_err-total-clause-fault

@@ -3,12 +3,12 @@ use Rattle.report_text.specs.declared.fault.ReportFault.{ReportFault}
 use Rattle.report_text.specs.declared.fault.ReportFault.TheVariants.{NoMemory}
 use Rattle.report_text.specs.declared.form.Scale.{Scale}
 use Rattle.report_text.specs.Bodies.{HasBody}
-use Rattle.report_text.specs.Forms.{cycle_forms, forms_behind}
+use Rattle.report_text.specs.Forms.{cycle_forms, forms_after}
 use Rattle.report_text.specs.Headings.{HasHeading, HasShown, count_of, heading_forms}
 use Rattle.report_text.specs.ReportFaults.{HasFault}
 use Rattle.report_text.specs.Walks.{Left, Stops}
 use Rattle.report_text.proofs.BodyLemmas.{body_ends}
-use Rattle.report_text.proofs.PartLemmas.{behind_fault, body_fault, cycle_few, heading_fault, shown_fault}
+use Rattle.report_text.proofs.PartLemmas.{after_fault, body_fault, cycle_few, heading_fault, shown_fault}
 use Rattle.report_text.proofs.WalkLemmas.{passed_on}
 use Rattle.report_text.proofs.reader.parts.read_parts.Goals as goal
 
@@ -70,7 +70,7 @@ returns-in_err-body-clause-fault c =
     c.from_residual-in_err-body.ensures.1
     (body_fault heading c.args.tech.now shown c.in_err-body.field-0.0
     (subst (λ (scale : Scale). Stops c.args.circuit.now scale
-    (forms_behind c.in_ok-heading.heading.version (length c.args.circuit.now.registers))
+    (forms_after c.in_ok-heading.heading.version (length c.args.circuit.now.registers))
     c.read_shown.new.cursor c.in_err-body.field-0.0) c.scale_of-scale.ensures.value
     c.in_err-body.ensures.fault))
 
@@ -90,5 +90,5 @@ returns-in_err-at_end-clause-fault c =
     (λ (found : ReportFault). found ≢ NoMemory → HasFault c.args.circuit.now c.args.tech.now
     c.args.bytes.now (Some found))
     c.from_residual-in_err-at_end.ensures.1
-    (λ named. behind_fault heading c.args.tech.now shown (Some c.in_err-at_end.field-0.0)
+    (λ named. after_fault heading c.args.tech.now shown (Some c.in_err-at_end.field-0.0)
     (body_ends body (Some c.in_err-at_end.field-0.0) c.in_err-at_end.ensures.fault))

@@ -3,7 +3,7 @@ use Rattle.std.specs.List.{range_with_len}
 use Rattle.std.proofs.lemmas.List.FromFn.{length-map-range_with_len}
 use Rattle.report_text.specs.declared.form.Form.TheVariants as form
 use Rattle.report_text.specs.Values.{SaysMerge}
-use Rattle.report_text.specs.Walks.{Stops, StopsLine, TellsLine}
+use Rattle.report_text.specs.Walks.{Stops, StopsLine, DenotesLine}
 use Rattle.report_text.proofs.SectionLemmas.{merged_next, numbered_step, section_stops}
 use Rattle.report_text.proofs.WalkLemmas.{passed_on}
 use Rattle.report_text.proofs.reader.section.read_merges.Goals as goal
@@ -35,7 +35,7 @@ pub loop-place-preserved : goal.loop-place-preserved
 loop-place-preserved c =
     merged_next c.loop-place.merged c.push_merged.new.merged c.in_ok-line.line
     c.loop-place.invariant
-    (subst (λ sinks. TellsLine c.args.circuit.now c.args.scale
+    (subst (λ sinks. DenotesLine c.args.circuit.now c.args.scale
     (form.Merge (sinks + c.loop-place.place))
     (SaysMerge c.args.circuit.now c.args.scale.grid (sinks + c.loop-place.place))
     c.loop-place.cursor c.read_merge.new.cursor c.in_ok-line.line)

@@ -4,7 +4,7 @@ use Rattle.report_text.specs.declared.form.Form.TheVariants as form
 use Rattle.report_text.specs.Forms.{cycle_forms}
 use Rattle.report_text.specs.Walks.{Stops}
 use Rattle.report_text.proofs.SectionLemmas.{length_pathed, pathed_next, pathed_step}
-use Rattle.report_text.proofs.WalkLemmas.{next_stops, passed_on, stop_before, stop_behind, stop_line}
+use Rattle.report_text.proofs.WalkLemmas.{next_stops, passed_on, stop_before, stop_after, stop_line}
 use Rattle.report_text.proofs.reader.section.read_pathed.Goals as goal
 
 pub read_constraint-requires-clause-line : goal.read_constraint-requires-clause-line
@@ -54,7 +54,7 @@ returns-in_err-path-clause-fault c =
     (next_stops (cycle_forms version.Second) (λ n. form.Constraint ∷ form.Path ∷ []) pathed_step
     c.loop-place._place c.args.count _ c.args.cursor.now c.loop-place.cursor
     c.in_err-path.field-0.0 c.loop-place-test.true c.loop-place.invariant.lines
-    (stop_behind (next.line.read c.args.scale next.line.flawless) (form.Path ∷ [])
+    (stop_after (next.line.read c.args.scale next.line.flawless) (form.Path ∷ [])
     c.in_err-path.field-0.0
     (stop_line c.args.circuit.now c.args.scale form.Path c.read_constraint.new.cursor
     c.in_err-path.field-0.0 c.in_err-path.ensures.fault)))

@@ -1,10 +1,10 @@
 use Rattle.report_text.specs.declared.form.Form.TheVariants as form
-use Rattle.report_text.specs.TimingValues.{TellsPeriod}
-use Rattle.report_text.proofs.WalkLemmas.{line_told}
+use Rattle.report_text.specs.TimingValues.{DenotesPeriod}
+use Rattle.report_text.proofs.WalkLemmas.{line_denoted}
 use Rattle.report_text.proofs.reader.timing.read_period.Goals as goal
 
 pub returns-clause-ok : goal.returns-clause-ok
 returns-clause-ok c =
-    line_told c.args.circuit.now c.args.scale form.Period c.in_ok-words.words.items
-    c.as_slice.result.now c.as_slice.ensures.value c.in_ok-words.ensures.ok TellsPeriod c.period_of.result
+    line_denoted c.args.circuit.now c.args.scale form.Period c.in_ok-words.words.items
+    c.as_slice.result.now c.as_slice.ensures.value c.in_ok-words.ensures.ok DenotesPeriod c.period_of.result
     (c.period_of.ensures c.args.circuit.now c.args.scale)

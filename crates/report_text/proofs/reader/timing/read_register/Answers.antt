@@ -1,6 +1,6 @@
 use Rattle.report_text.specs.declared.form.Form.TheVariants as form
-use Rattle.report_text.specs.Walks.{TellsTimed}
-use Rattle.report_text.proofs.WalkLemmas.{line_flawless, line_told}
+use Rattle.report_text.specs.Walks.{DenotesTimed}
+use Rattle.report_text.proofs.WalkLemmas.{line_flawless, line_denoted}
 use Rattle.report_text.proofs.reader.timing.read_register.Goals as goal
 
 pub timed_of-requires-clause-flawless : goal.timed_of-requires-clause-flawless
@@ -13,6 +13,6 @@ timed_of-requires-clause-flawless c = (
 
 pub returns-clause-ok : goal.returns-clause-ok
 returns-clause-ok c =
-    line_told c.args.circuit.now c.args.scale (form.Register c.args.register) c.in_ok-words.words.items
-    c.as_slice.result.now c.as_slice.ensures.value c.in_ok-words.ensures.ok (TellsTimed c.args.circuit.now c.args.scale c.args.register) c.timed_of.result
+    line_denoted c.args.circuit.now c.args.scale (form.Register c.args.register) c.in_ok-words.words.items
+    c.as_slice.result.now c.as_slice.ensures.value c.in_ok-words.ensures.ok (DenotesTimed c.args.circuit.now c.args.scale c.args.register) c.timed_of.result
     (c.timed_of.ensures c.args.circuit.now c.args.register)

@@ -1,12 +1,12 @@
 use Rattle.std.proofs.Common.{sym, subst}
 use Rattle.tilted_rect.specs.Extremes.{IsGrown}
-use Rattle.tilted_rect.specs.Rects.{HasRoom}
+use Rattle.tilted_rect.specs.Rects.{CanGrowBy}
 use Rattle.tilted_rect.proofs.ClusterLemmas.{reaches_apart, has_room}
 use Rattle.tilted_rect.proofs.cluster.Cluster.grown_to.Goals as goal
 
 pub grown-requires-clause-room : goal.grown-requires-clause-room
 grown-requires-clause-room c =
-    subst (HasRoom c.args.self.now.region)
+    subst (CanGrowBy c.args.self.now.region)
     (sym (reaches_apart c.args.reach c.args.self.now.reach c.requires.below
     c.args.self.now.below))
     (has_room c.args.self.now c.args.reach c.requires.below)

@@ -1,0 +1,61 @@
+use Rattle.std.proofs.Common.{◌≡◌, [], ◌∷◌, codes, true, arith}
+use Rattle.std.proofs.lemmas.Int.{ints}
+use Rattle.cts_model.specs.TableValues.{text_at, is_small_fraction}
+use Rattle.delay_tables.proofs.Fractions.{numerator_within, denominator_within}
+use Rattle.delay_tables.proofs.DenotedTables.{is_table, fraction_denoted}
+use Rattle.toml.specs.View.{table_view}
+use Rattle.delay_tables.proofs.FlawlessTables.{is_top_within}
+use Rattle.delay_tables.proofs.table.table_denoted.Goals as goal
+
+pub lowest_terms-wire-requires-clause-form : goal.lowest_terms-wire-requires-clause-form
+lowest_terms-wire-requires-clause-form c =
+    let top = is_top_within (table_view c.args.document.now) c.requires.keys in
+    rw (c.as_bytes.ensures.value, c.text_at.ensures) top.form
+
+pub lowest_terms-wire-requires-clause-small : goal.lowest_terms-wire-requires-clause-small
+lowest_terms-wire-requires-clause-small c =
+    let top = is_top_within (table_view c.args.document.now) c.requires.keys in
+    rw (c.as_bytes.ensures.value, c.text_at.ensures) top.small
+
+pub invariant_of-result : goal.invariant_of-result
+invariant_of-result c =
+    let wire = c.lowest_terms-wire in
+    let bytes = c.as_bytes.result.now in
+    let top = is_top_within (table_view c.args.document.now) c.requires.keys in
+    let small : is_small_fraction bytes ≡ true =
+    rw (c.as_bytes.ensures.value, c.text_at.ensures) top.small in
+    let lowest = wire.result.lowest in
+    let num = numerator_within bytes wire.result.num wire.result.den small lowest.some_den
+    wire.ensures.value wire.ensures.num in
+    let den = denominator_within bytes wire.result.den small lowest.some_den wire.ensures.den in
+    record {
+      valid = is_table (table_view c.args.document.now) wire.result.num wire.result.den
+          _ _ _ _ _ _ _ _ c.requires.keys c.requires.order num den lowest
+          (omega (arith, ints)) (omega (arith, ints))
+          (record {
+            setup_is = omega (arith, ints);
+            hold_is = omega (arith, ints);
+            least_is = omega (arith, ints);
+            greatest_is = omega (arith, ints);
+            floor_is = omega (arith, ints);
+            gates_are = c.gate_delays.ensures;
+          });
+    }
+
+pub returns : goal.returns
+returns c =
+    let text = text_at (codes "wire" ∷ []) (codes "delay") (table_view c.args.document.now) in
+    let wire = c.lowest_terms-wire in
+    let value = rw (c.as_bytes.ensures.value, c.text_at.ensures) at wire.ensures.value in
+    record {
+      wire = fraction_denoted text wire.result.num wire.result.den _ _ (omega (arith, ints))
+          (omega (arith, ints)) value;
+      source = c.in_ok-name_at.ensures;
+      setup = omega (arith, ints);
+      hold = omega (arith, ints);
+      least = omega (arith, ints);
+      greatest = omega (arith, ints);
+      host = c.in_ok-name_at-2.ensures;
+      floor = omega (arith, ints);
+      gates = c.gate_delays.ensures;
+    }
