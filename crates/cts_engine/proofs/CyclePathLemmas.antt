@@ -11,7 +11,7 @@ use Rattle.cts_model.specs.ConstraintPaths.{ArePathsWithin, GivesWeight}
 use Rattle.cts_model.specs.Constraints.{IsConstraintOf, IsHoldConstraint, IsSetupConstraint}
 use Rattle.cts_model.specs.Delays.{least_delay, greatest_delay}
 use Rattle.cts_model.specs.Paths.{IsPath}
-use Rattle.cts_engine.specs.CyclePaths.{IsPathWithin, IsPathWithin, path_signals}
+use Rattle.cts_engine.specs.CyclePaths.{FitsRoom, IsPathWithin, path_signals}
 
 -- paths of the constraints from this place on, for which there is room, come after those before
 abbrev pub AreEarlierPaths : Circuit → Tech → (cycle : List Constraint) (place room : ℕ)
@@ -34,7 +34,7 @@ without_room circuit tech constraint room path is_one full none =
     let found = at constraint.setup is_one in
     record { whole = found.0; gives = found.1; kept = found.2 }
   where
-    kept : (from to : ℕ) (whole : List ℕ) → IsPath circuit from to whole → IsPathWithin whole room path
+    kept : (from to : ℕ) (whole : List ℕ) → IsPath circuit from to whole → FitsRoom whole room path
     kept from to whole joins = record {
       whole_kept = λ fits. absurd (some_signal circuit from to whole joins
           (subst (λ n. length whole ≤ n) full fits));
@@ -49,7 +49,7 @@ without_room circuit tech constraint room path is_one full none =
         × (greatest_delay circuit tech whole +ℤ tech.setup ≡ constraint.weight))
         (IsPath circuit constraint.head constraint.tail whole
         × (tech.hold -ℤ least_delay circuit tech whole ≡ constraint.weight))
-        × IsPathWithin whole room path
+        × FitsRoom whole room path
     at true is_one = (
       is_one.path,
       (is_one.joins, is_one.weight_is),
@@ -64,7 +64,7 @@ without_room circuit tech constraint room path is_one full none =
 -- what is kept of a path takes what it has of the room
 kept_first : (circuit : Circuit) (tech : Tech) (room : ℕ) (constraint : Constraint)
     → (more : List Constraint) (whole path : List ℕ) (rest : List (List ℕ))
-    → GivesWeight circuit tech constraint whole → IsPathWithin whole room path
+    → GivesWeight circuit tech constraint whole → FitsRoom whole room path
     → ArePathsWithin circuit tech (room - length path) more rest
     → ArePathsWithin circuit tech room (constraint ∷ more) (path ∷ rest)
 kept_first circuit tech room constraint more whole path rest gives kept within =

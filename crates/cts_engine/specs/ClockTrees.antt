@@ -18,7 +18,7 @@ pub record AreTreeLists (sinks : ℕ) (tree : Tree) : Type 0 where
   pub lengths : length tree.length + 1 ≡ 2 * sinks
 
 -- the topology's tree with its nodes in their places, and what shows its reaches
-pub record IsPlacedTree (sinks : List Sink) (merges : List Merge) (source : Uv) (tree : Tree)
+pub record IsMadeTree (sinks : List Sink) (merges : List Merge) (source : Uv) (tree : Tree)
     (shows : List Show) : Type 0 where
   pub placed : IsPlacedTree sinks merges source tree shows
   pub numbers : HasTreeNumbers tree

@@ -17,7 +17,7 @@ abbrev pub path_signals : ℕ
 path_signals = 4096
 
 -- the path is whole where there is room for it, and else empty
-pub record IsPathWithin (whole : List ℕ) (room : ℕ) (path : List ℕ) : Type 0 where
+pub record FitsRoom (whole : List ℕ) (room : ℕ) (path : List ℕ) : Type 0 where
   pub whole_kept : length whole ≤ room → path ≡ whole
   pub none : room < length whole → path ≡ []
 
@@ -26,4 +26,4 @@ pub record IsPathWithin (circuit : Circuit) (tech : Tech) (constraint : Constrai
     (path : List ℕ) : Type 0 where
   pub whole : List ℕ
   pub gives : GivesWeight circuit tech constraint whole
-  pub kept : IsPathWithin whole room path
+  pub kept : FitsRoom whole room path

@@ -4,7 +4,7 @@ ghost use Rattle.cts_model.specs.Problems.{on_grid, sinks_of};
 ghost use Rattle.cts_model.specs.Schedules.{IsSmallPeriod};
 ghost use Rattle.cts_model.specs.Sinks.{AreTreeSinks};
 ghost use Rattle.cts_model.specs.Topologies.{IsTopology};
-ghost use Rattle.cts_engine.specs.ClockTrees.{IsClockTree, IsPlacedTree};
+ghost use Rattle.cts_engine.specs.ClockTrees.{IsClockTree, IsMadeTree};
 ghost use Rattle.place_down.specs.Trees.{IsTreeSource};
 ghost use Rattle.cts_engine.specs.RegisterTimes.{AreTreeArrivals};
 
@@ -76,7 +76,7 @@ fn placed(
     requires sinks { AreTreeSinks sinks.now }
     requires topology { IsTopology (length sinks.now) topology.now.merges }
     requires source { IsTreeSource source }
-    ensures { IfOk result (λ parts. IsPlacedTree sinks.now topology.now.merges source parts.0 parts.1) }
+    ensures { IfOk result (λ parts. IsMadeTree sinks.now topology.now.merges source parts.0 parts.1) }
 {
     let mut work = Work::with_room(alloc, sinks.len())?;
     merge(&mut work, sinks, topology);

@@ -4,7 +4,7 @@ ghost use Rattle.cts_model.specs.Constraints.{IsConstraintOf};
 ghost use Rattle.cts_model.specs.PairLists.{AreJoined};
 ghost use Rattle.path_delays.specs.ExtremePaths.{IsExtremePath};
 ghost use Rattle.path_delays.specs.LevelParts.{IsLevelsOf};
-ghost use Rattle.cts_engine.specs.CyclePaths.{IsShownBy, IsPathWithin, IsPathWithin, path_signals};
+ghost use Rattle.cts_engine.specs.CyclePaths.{IsShownBy, FitsRoom, IsPathWithin, path_signals};
 
 use cts_base::{Listed, NoMemory};
 use cts_model::{Circuit, Constraint, PeriodShow, Tech};
@@ -78,7 +78,7 @@ fn path_within(
 
 // The path, if there is room for so many signals, and else none.
 fn kept(alloc: Global, whole: Listed<u32>, room: usize) -> Listed<u32>
-    ensures { IsPathWithin whole room result }
+    ensures { FitsRoom whole room result }
 {
     if whole.len() <= room {
         whole

@@ -1,12 +1,12 @@
 use Rattle.std.proofs.Common.{◌*◌, ◌∙◌, ap, sym, subst, arith}
-use Rattle.cts_engine.specs.ClockTrees.{IsPlacedTree}
+use Rattle.cts_engine.specs.ClockTrees.{IsMadeTree}
 use Rattle.cts_engine.proofs.clock_tree.placed.Goals as goal
 
 pub returns : goal.returns
 returns c =
     let placed = c.place.ensures in
     let count = placed.merged.count in
-    subst (λ parts. IsPlacedTree c.args.sinks.now c.args.topology.now.merges c.args.source parts.0
+    subst (λ parts. IsMadeTree c.args.sinks.now c.args.topology.now.merges c.args.source parts.0
     parts.1) (sym c.into_parts.ensures) (record {
       placed = placed.tree;
       numbers = placed.numbers;
