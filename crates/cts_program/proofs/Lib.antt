@@ -1,13 +1,10 @@
 mod LineLemmas
-mod TimingLines
+mod CountedLines
 mod LinePrefixes
-mod PeriodPrefixes
-mod SchedulePrefixes
-mod StatusPrefixes
-mod SynthPrefixes
-mod DemoPrefixes
+mod TextLines
+mod TextCounts
+mod AnswerTexts
 mod CycleRegisters
-mod OneText
 mod PieceLemmas
 mod FileLemmas
 mod PlainDelays

@@ -1,20 +1,19 @@
--- Texts of lines, of which one is a prefix of the other.
-use Rattle.std.proofs.Common.{◌≡◌, ◌<◌, ℕ, List, [], ◌∷◌, ◌++◌, length, take, drop, get_or, refl, sym, ap, ap₂, ◌∙◌, subst, append_assoc, append-nil, length-append, arith}
-use Rattle.std.specs.List.{AllByRecursion, join_with_byte}
+-- A text of lines that are counted is no prefix of another such text.
+use Rattle.std.proofs.Common.{◌≡◌, ◌<◌, ◌==◌, ℕ, List, [], ◌∷◌, ◌++◌, length, take, drop, get_or, refl, sym, ap, ap₂, ◌∙◌, subst, append_assoc, append-nil, length-append, arith}
+use Rattle.std.specs.List.{AllByRecursion, join_with_byte, position_or_len}
+use Rattle.std.proofs.Math.Seq.{take-append_seam, drop-append_seam}
+use Rattle.std.proofs.lemmas.Bool.Decides.{nat_tests}
 use Rattle.std.proofs.lemmas.List.{length-take, take-append-drop}
 use Rattle.cts_model.specs.PrintedLines.{Words, text_of}
-use Rattle.report_text.proofs.OneLine.{IsWord, IsLine}
+use Rattle.report_text.proofs.OneLine.{IsWord, IsLine, one_text}
 use Rattle.report_text.proofs.ReportWords.{AreLines}
+use Rattle.cts_program.proofs.CountedLines.{AreCounted, no_more}
+
+-- ---- one line
 
 -- the words of a line with the spaces between them
-abbrev pub joined : Words → List ℕ
+abbrev joined : Words → List ℕ
 joined words = join_with_byte 32 words
-
--- the first lines of the one are those of the other
-abbrev pub ArePrefix : List Words → List Words → Type 0
-ArePrefix [] others = Unit {0}
-ArePrefix (line ∷ lines) [] = ⊥
-ArePrefix (line ∷ lines) (other ∷ others) = (joined line ≡ joined other) × ArePrefix lines others
 
 -- each byte is above the line feed
 abbrev IsInLine : List ℕ → Type 0
@@ -35,70 +34,81 @@ joined_in_line (word ∷ next ∷ more) is =
     word_before word (32 ∷ joined (next ∷ more)) is.0
     (omega arith, joined_in_line (next ∷ more) is.1)
 
--- the first bytes of two texts that are one
-first_byte : (bytes others : List ℕ) → bytes ≡ others → get_or bytes 0 0 ≡ get_or others 0 0
-first_byte bytes others same = ap (λ (b : List ℕ). get_or b 0 0) same
+-- where the first line feed stands
+first_feed : List ℕ → ℕ
+first_feed bytes = position_or_len (λ byte. byte == 10) bytes
 
--- where two texts are one, so are their first lines, and what stands after those
-first_line : (line other suffix suffix' : List ℕ) → IsInLine line → IsInLine other
-    → line ++ 10 ∷ suffix ≡ other ++ 10 ∷ suffix' → (line ≡ other) × (suffix ≡ suffix')
-first_line [] [] suffix suffix' in_line in_line' same =
-    (refl, ap (λ (bytes : List ℕ). drop 1 bytes) same)
-first_line [] (byte ∷ other) suffix suffix' in_line in_line' same =
-    let is : 10 ≡ byte = first_byte _ _ same in absurd (omega (arith, in_line'.0))
-first_line (byte ∷ line) [] suffix suffix' in_line in_line' same =
-    let is : byte ≡ 10 = first_byte _ _ same in absurd (omega (arith, in_line.0))
-first_line (byte ∷ line) (byte' ∷ other) suffix suffix' in_line in_line' same =
-    let rest = first_line line other suffix suffix' in_line.1 in_line'.1
-    (ap (λ (bytes : List ℕ). drop 1 bytes) same) in
-    (ap₂ (λ b bs. b ∷ bs) (first_byte _ _ same) rest.0, rest.1)
+-- it ends the line
+first_feed-line : (line suffix : List ℕ) → IsInLine line
+    → first_feed (line ++ 10 ∷ suffix) ≡ length line
+unfolding first_feed
+first_feed-line [] suffix in_line = refl
+first_feed-line (byte ∷ line) suffix in_line =
+    let rest = first_feed-line line suffix in_line.1 in
+    let above : 10 < byte = in_line.0 in
+    grind (arith, nat_tests)
 
--- a line before two texts
-line_before : (line suffix more : List ℕ)
-    → line ++ 10 ∷ (suffix ++ more) ≡ ((line ++ 10 ∷ []) ++ suffix) ++ more
-line_before line suffix more =
-    sym (append_assoc (line ++ 10 ∷ []) suffix more ∙ append_assoc line (10 ∷ []) (suffix ++ more))
+-- lines that begin one text are one, and so is what stands after them
+one_line : (line other : Words) (suffix suffix' : List ℕ) → IsLine line → IsLine other
+    → joined line ++ 10 ∷ suffix ≡ joined other ++ 10 ∷ suffix'
+    → (line ≡ other) × (suffix ≡ suffix')
+one_line line other suffix suffix' is is' same =
+    let as_long : length (joined line) ≡ length (joined other) =
+    sym (first_feed-line (joined line) suffix (joined_in_line line is)) ∙ ap first_feed same
+    ∙ first_feed-line (joined other) suffix' (joined_in_line other is') in
+    let bytes : joined line ≡ joined other =
+    sym (take-append_seam (joined line) (10 ∷ suffix)) ∙ ap₂ take as_long same
+    ∙ take-append_seam (joined other) (10 ∷ suffix') in
+    let after : 10 ∷ suffix ≡ 10 ∷ suffix' =
+    sym (drop-append_seam (joined line) (10 ∷ suffix)) ∙ ap₂ drop as_long same
+    ∙ drop-append_seam (joined other) (10 ∷ suffix') in
+    let lines = one_text (line ∷ []) (other ∷ []) (is, tt) (is', tt)
+    (ap (λ b. (b ++ 10 ∷ []) ++ []) bytes) in
+    (ap (λ l. get_or l 0 []) lines, ap (drop 1) after)
 
--- a line isn't nothing
-some_line : (line suffix : List ℕ) → line ++ 10 ∷ suffix ≡ [] → ⊥
-some_line line suffix none =
-    let empty : length (line ++ 10 ∷ suffix) ≡ 0 = ap length none in
-    omega (arith, length-append line (10 ∷ suffix))
+-- ---- texts
 
--- the lines of a text that is a prefix of another are those of the other
-prefix_lines : (lines others : List Words) (rest : List ℕ) → AreLines lines → AreLines others
-    → text_of lines ++ rest ≡ text_of others → ArePrefix lines others
-prefix_lines [] others rest each each' same = tt
-prefix_lines (line ∷ lines) [] rest each each' same =
-    absurd (some_line (joined line) (text_of lines ++ rest)
-    (line_before (joined line) (text_of lines) rest ∙ same))
-prefix_lines (line ∷ lines) (other ∷ others) rest each each' same =
-    let first = first_line (joined line) (joined other) (text_of lines ++ rest) (text_of others)
-    (joined_in_line line each.0) (joined_in_line other each'.0)
+-- a line before the rest of a text
+line_before : (line suffix rest : List ℕ)
+    → line ++ 10 ∷ (suffix ++ rest) ≡ ((line ++ 10 ∷ []) ++ suffix) ++ rest
+line_before line suffix rest =
+    sym (append_assoc (line ++ 10 ∷ []) suffix rest ∙ append_assoc line (10 ∷ []) (suffix ++ rest))
+
+-- a text with a line isn't empty
+pub some_text_of : (lines : List Words) → 0 < length lines → 0 < length (text_of lines)
+some_text_of [] some = some
+some_text_of (line ∷ lines) some =
+    omega (
+      arith,
+      length-append (joined line ++ 10 ∷ []) (text_of lines),
+      length-append (joined line) (10 ∷ []),
+    )
+
+-- where a text begins another, its lines begin those of the other
+first_lines : (lines others : List Words) (rest : List ℕ) → AreLines lines → AreLines others
+    → text_of lines ++ rest ≡ text_of others → (more : List Words) × (others ≡ lines ++ more)
+first_lines [] others rest each each' same = (others, refl)
+first_lines (line ∷ lines) [] rest each each' same =
+    let none : length (joined line ++ 10 ∷ (text_of lines ++ rest)) ≡ 0 =
+    ap length (line_before (joined line) (text_of lines) rest ∙ same) in
+    absurd (omega (arith, length-append (joined line) (10 ∷ (text_of lines ++ rest))))
+first_lines (line ∷ lines) (other ∷ others) rest each each' same =
+    let first = one_line line other (text_of lines ++ rest) (text_of others) each.0 each'.0
     (line_before (joined line) (text_of lines) rest ∙ same
     ∙ append_assoc (joined other) (10 ∷ []) (text_of others)) in
-    (first.0, prefix_lines lines others rest each.1 each'.1 first.1)
+    let (more, are) = first_lines lines others rest each.1 each'.1 first.1 in
+    (more, ap₂ (λ l ls. l ∷ ls) (sym first.0) are)
 
--- where there are as many, the texts are one
-prefix_text : (lines others : List Words) → ArePrefix lines others → length lines ≡ length others
-    → text_of lines ≡ text_of others
-prefix_text [] [] prefix as_many = refl
-prefix_text [] (other ∷ others) prefix as_many = absurd (omega arith)
-prefix_text (line ∷ lines) [] prefix as_many = absurd prefix
-prefix_text (line ∷ lines) (other ∷ others) prefix as_many =
-    ap₂ (λ bytes rest. (bytes ++ 10 ∷ []) ++ rest) prefix.0
-    (prefix_text lines others prefix.1 (omega arith))
-
--- a text that lacks nothing but an end of another has fewer lines
-pub no_prefix : (lines others : List Words) (count : ℕ) → AreLines lines → AreLines others
-    → (ArePrefix lines others → length lines ≡ length others)
+-- so a text of counted lines doesn't lack the end of another
+pub no_prefix : {plan : List ℕ} (lines others : List Words) (count : ℕ) → AreLines lines
+    → AreLines others → AreCounted plan lines → AreCounted plan others
     → text_of lines ≡ take count (text_of others) → count < length (text_of others) → ⊥
-no_prefix lines others count each each' as_many cut short =
-    let whole : text_of lines ++ drop count (text_of others) ≡ text_of others =
-    ap (λ prefix. prefix ++ drop count (text_of others)) cut
-    ∙ take-append-drop count (text_of others) in
-    let prefix = prefix_lines lines others (drop count (text_of others)) each each' whole in
-    let same : length (text_of lines) ≡ length (text_of others) =
-    ap length (prefix_text lines others prefix (as_many prefix)) in
-    let fewer : length (text_of lines) ≡ length (take count (text_of others)) = ap length cut in
+no_prefix {plan} lines others count each each' counted counted' cut short =
+    let (more, are) = first_lines lines others (drop count (text_of others)) each each'
+    (ap (λ prefix. prefix ++ drop count (text_of others)) cut
+    ∙ take-append-drop count (text_of others)) in
+    let none = no_more lines more counted (subst (AreCounted plan) are counted') in
+    let same : others ≡ lines = are ∙ ap (λ m. lines ++ m) none ∙ append-nil lines in
+    let as_long : length (text_of others) ≡ length (take count (text_of others)) =
+    ap (λ l. length (text_of l)) same ∙ ap length cut in
     omega (arith, length-take count (text_of others))

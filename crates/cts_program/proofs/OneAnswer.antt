@@ -1,12 +1,9 @@
 -- Contents of files have answers of one status, of which none is a prefix of another, and files that
 -- are accepted have no refusal.
-use Rattle.std.proofs.Common.{ℕ, ◌≡◌, ◌≢◌, ◌<◌, ◌≤◌, ◌⊎◌, inl, inr, List, [], ◌∷◌, length, take, get_or, refl, ap, ap₂, sym, ◌∙◌, subst, arith}
-use Rattle.std.proofs.lemmas.List.{length-take}
+use Rattle.std.proofs.Common.{ℕ, ◌≡◌, ◌≢◌, ◌<◌, ◌≤◌, ◌⊎◌, inl, inr, Bool, true, false, List, [], ◌∷◌, length, take, get_or, refl, ap, ap₂, sym, ◌∙◌, subst, arith}
 use Rattle.cts_model.specs.declared.circuit.Circuit.{Circuit}
 use Rattle.cts_model.specs.declared.problem.Problem.{Problem}
 use Rattle.cts_model.specs.declared.tech.Tech.{Tech}
-use Rattle.cts_model.specs.declared.timing.ZeroSkew.{ZeroSkew}
-use Rattle.cts_model.specs.declared.timing.ZeroSkew.TheVariants.{Fails, Floor, Setup}
 use Rattle.cts_model.specs.PairLists.{JoinsMoreThan}
 use Rattle.cts_model.specs.PlainTable.{IsPlainTable}
 use Rattle.cts_model.proofs.OneRecord.{same_tech}
@@ -16,7 +13,6 @@ use Rattle.delay_tables.specs.declared.fault.TechFault.{TechFault}
 use Rattle.place_reader.specs.declared.fault.PlaceFault.TheVariants as place
 use Rattle.cts_engine.specs.Accepted.{HasFault, HasTableFault}
 use Rattle.cts_engine.proofs.OneProblem.{one_netlist, one_both, table_fine, placement_fine}
-use Rattle.cts_model.specs.PrintedLines.{text_of}
 use Rattle.cts_program.specs.declared.command.Command.{Command}
 use Rattle.cts_program.specs.declared.command.Command.TheVariants.{Zero, Period, Schedule, Synth, Check, Demo}
 use Rattle.cts_program.specs.declared.command.table.Form.{Form}
@@ -27,24 +23,21 @@ use Rattle.cts_program.specs.declared.file_kind.FileKind.TheVariants as kinds
 use Rattle.cts_program.specs.declared.placement.PlacementFault.{PlacementFault}
 use Rattle.cts_program.specs.declared.placement.PlacementFault.TheVariants as placements
 use Rattle.cts_program.specs.Answers.{TellWith, TellProblemWith, IsAnswer}
-use Rattle.cts_program.specs.Checks.{shown_line, IsCheckAnswer}
+use Rattle.cts_program.specs.Checks.{IsCheckAnswer}
 use Rattle.cts_program.specs.Commands.{Given, number_of, options_of}
 use Rattle.cts_program.specs.DemoTexts.{demo_texts, IsDemoText}
 use Rattle.cts_program.specs.Failures.{status_of}
 use Rattle.cts_program.specs.Files.{IsShortFile, AreAll}
 use Rattle.cts_program.specs.Judged.{IsNetlistFile, IsTableFile, IsPlacementFile, AreAccepted, HasPlacementFault, IsNamedFault, IsFileRefusal, Tell}
-use Rattle.cts_program.specs.PeriodTexts.{IsPeriodText}
 use Rattle.cts_program.specs.PlainWords.{form_of}
+use Rattle.cts_program.specs.PeriodTexts.{IsPeriodText}
 use Rattle.cts_program.specs.ScheduleTexts.{IsScheduleText}
 use Rattle.cts_program.specs.SynthTexts.{IsSynthText}
-use Rattle.cts_program.specs.Texts.{zero_lines, IsZeroText}
-use Rattle.cts_program.proofs.DemoPrefixes.{IsDemoTextOf, text_of_demo, are_summaries}
-use Rattle.cts_program.proofs.OneText.{one_text}
+use Rattle.cts_program.specs.Texts.{IsZeroText}
+use Rattle.cts_program.proofs.AnswerTexts.{looks_for_period, SaysOfPeriods, plan_of, IsTextOf, zero_text, period_text, schedule_text, check_text, synth_text, demo_text}
+use Rattle.cts_program.proofs.CountedLines.{AreCounted}
+use Rattle.cts_program.proofs.LinePrefixes.{no_prefix, some_text_of}
 use Rattle.cts_program.proofs.PlacementLemmas.{problem_denoted}
-use Rattle.cts_program.proofs.PeriodPrefixes.{one_period_status, no_period_prefix, some_period}
-use Rattle.cts_program.proofs.SchedulePrefixes.{one_schedule_status, no_schedule_prefix, some_schedule}
-use Rattle.cts_program.proofs.StatusPrefixes.{one_status_with, no_prefix_with, some_with}
-use Rattle.cts_program.proofs.SynthPrefixes.{IsSynthTextOf, text_of_problem, are_reports}
 
 -- ---- one circuit and one table
 
@@ -70,16 +63,6 @@ one_denoted (netlist ∷ table ∷ places ∷ more ∷ rest) circuit other tech 
 
 -- ---- what an answer is
 
--- the text of a command of this form for a circuit and its delays
-abbrev pub IsTextOf : Form → ℕ → List ℕ → Circuit → Tech → Type 0
-IsTextOf forms.Zero status text circuit delays = (status ≡ 0) × IsZeroText circuit delays text
-IsTextOf forms.Period status text circuit delays = IsPeriodText circuit delays status text
-IsTextOf forms.Schedule status text circuit delays = IsScheduleText circuit delays status text
-IsTextOf forms.Synth status text circuit delays = IsSynthTextOf circuit delays status text
-IsTextOf forms.Check status text circuit delays =
-    (status ≡ 0) × (text ≡ text_of (shown_line ∷ []))
-IsTextOf forms.Demo status text circuit delays = IsDemoTextOf circuit delays status text
-
 -- the number that the value of an option spells
 abbrev pub number_given : List Given → (place : ℕ) → ℕ
 number_given given place = number_of (get_or given place ([], [])).1
@@ -103,45 +86,36 @@ pub record Answers (form : Form) (given : List Given) (contents : List (List ℕ
   pub holds : IsTextOf form status text circuit tech
   pub checked : form ≡ forms.Check → IsCheckAnswer contents text
 
--- what holds of the circuit that contents tell
-tell_so : (contents : List (List ℕ)) (Holds Other : Circuit → Tech → Type 0)
-    → ((circuit : Circuit) (tech : Tech) → Holds circuit tech → Other circuit tech)
-    → TellWith contents Holds → TellWith contents Other
-tell_so contents Holds Other so tell = record {
-  accepted = tell.accepted;
-  circuit = tell.circuit;
-  tech = tell.tech;
-  tell = tell.tell;
-  few = tell.few;
-  holds = so tell.circuit tell.tech tell.holds;
-}
-
--- what holds of the problem holds of its circuit and its delays
-problem_so : (contents : List (List ℕ)) (Holds : Problem → Type 0)
-    (Other : Circuit → Tech → Type 0)
-    → ((problem : Problem) → Holds problem → Other problem.circuit problem.tech)
-    → TellProblemWith contents Holds → TellWith contents Other
-problem_so contents Holds Other so tell = record {
-  accepted = tell.accepted;
-  circuit = tell.problem.circuit;
-  tech = tell.problem.tech;
-  tell = problem_denoted contents tell.problem tell.tell;
-  few = tell.few;
-  holds = so tell.problem tell.holds;
-}
-
--- a text for what contents tell, of a command that checks no report
+-- a text for the circuit and the delays that contents tell, of a command that checks no report
 answers_with : (form : Form) (given : List Given) (contents : List (List ℕ)) (status : ℕ)
-    (text : List ℕ) → form ≢ forms.Check
-    → TellWith (texts_for form given contents) (IsTextOf form status text)
+    (text : List ℕ) (Holds : Circuit → Tech → Type 0) → form ≢ forms.Check
+    → ((circuit : Circuit) (tech : Tech) → Holds circuit tech → IsTextOf form status text circuit tech)
+    → TellWith (texts_for form given contents) Holds
     → Answers form given contents status text
-answers_with form given contents status text other tell = record {
+answers_with form given contents status text Holds other so tell = record {
   accepted = tell.accepted;
   circuit = tell.circuit;
   tech = tell.tech;
   tell = tell.tell;
   few = λ other many. tell.few many;
-  holds = tell.holds;
+  holds = so tell.circuit tell.tech tell.holds;
+  checked = λ same. absurd (other same);
+}
+
+-- or for the problem that they tell
+answers_problem : (form : Form) (given : List Given) (contents : List (List ℕ)) (status : ℕ)
+    (text : List ℕ) (Holds : Problem → Type 0) → form ≢ forms.Check
+    → ((problem : Problem) → Holds problem
+    → IsTextOf form status text problem.circuit problem.tech)
+    → TellProblemWith (texts_for form given contents) Holds
+    → Answers form given contents status text
+answers_problem form given contents status text Holds other so tell = record {
+  accepted = tell.accepted;
+  circuit = tell.problem.circuit;
+  tech = tell.problem.tech;
+  tell = problem_denoted (texts_for form given contents) tell.problem tell.tell;
+  few = λ other many. tell.few many;
+  holds = so tell.problem tell.holds;
   checked = λ same. absurd (other same);
 }
 
@@ -158,7 +132,7 @@ check_answers given (netlist ∷ table ∷ places ∷ bytes ∷ []) status text 
   tech = answer.0.problem.tech;
   tell = problem_denoted (netlist ∷ table ∷ places ∷ []) answer.0.problem answer.0.problem_is.tell;
   few = λ other. absurd (other refl);
-  holds = (done, answer.1);
+  holds = check_text answer.0.problem.circuit answer.0.problem.tech status text done answer.1;
   checked = λ same. answer;
 }
 check_answers given (netlist ∷ table ∷ places ∷ bytes ∷ more ∷ rest) status text done answer =
@@ -170,103 +144,47 @@ pub answer_of : (command : Command) (contents : List (List ℕ)) (status : ℕ) 
     × Answers (form_of command) (options_of command) contents status text
 answer_of (Zero bench tech) contents status text (all, done, answer) = (
   all,
-  answers_with forms.Zero _ contents status text (λ same. cc same)
-      (tell_so contents _ (IsTextOf forms.Zero status text)
-      (λ circuit delays spells. (done, spells))
-      answer),
+  answers_with forms.Zero _ contents status text (λ circuit delays. IsZeroText circuit delays text)
+      (λ same. cc same) (λ circuit delays. zero_text circuit delays status text done) answer,
 )
-answer_of (Period bench tech) contents status text (all, answer) =
-    (all, answers_with forms.Period _ contents status text (λ same. cc same) answer)
-answer_of (Schedule bench tech) contents status text (all, answer) =
-    (all, answers_with forms.Schedule _ contents status text (λ same. cc same) answer)
+answer_of (Period bench tech) contents status text (all, answer) = (
+  all,
+  answers_with forms.Period _ contents status text
+      (λ circuit delays. IsPeriodText circuit delays status text) (λ same. cc same)
+      (λ circuit delays. period_text circuit delays status text) answer,
+)
+answer_of (Schedule bench tech) contents status text (all, answer) = (
+  all,
+  answers_with forms.Schedule _ contents status text
+      (λ circuit delays. IsScheduleText circuit delays status text) (λ same. cc same)
+      (λ circuit delays. schedule_text circuit delays status text) answer,
+)
 answer_of (Synth bench tech pl) contents status text (all, answer) = (
   all,
-  answers_with forms.Synth _ contents status text (λ same. cc same)
-      (problem_so contents (λ problem. IsSynthText problem status text)
-      (IsTextOf forms.Synth status text)
-      (λ problem says. text_of_problem problem status text says) answer),
+  answers_problem forms.Synth _ contents status text (λ problem. IsSynthText problem status text)
+      (λ same. cc same) (λ problem. synth_text problem status text) answer,
 )
 answer_of (Check bench tech pl report) contents status text (all, done, answer) =
     (all, check_answers _ contents status text done answer)
 answer_of (Demo registers seed) contents status text (all, answer) = (
   all,
-  answers_with forms.Demo _ contents status text (λ same. cc same)
-      (problem_so (demo_texts (number_of registers.now) (number_of seed.now))
+  answers_problem forms.Demo _ contents status text
       (λ problem. IsDemoText (number_of registers.now) problem status text)
-      (IsTextOf forms.Demo status text)
-      (λ problem says. text_of_demo (number_of registers.now) problem status text says) answer),
+      (λ same. cc same)
+      (λ problem. demo_text problem (number_of registers.now) status text) answer,
 )
 
 -- ---- one status, and no text that is a prefix of another
 
--- a text that is another isn't a prefix of it that lacks an end
-no_prefix_of_one : (text text' : List ℕ) → text ≡ text'
-    → (count : ℕ) → text ≡ take count text' → count < length text' → ⊥
-no_prefix_of_one text text' same count cut short =
-    let as_long : length text ≡ length text' = ap length same in
-    let fewer : length text ≡ length (take count text') = ap length cut in
-    omega (arith, length-take count text')
-
--- a circuit has texts of one status
-one_text_status : (form : Form) (status status' : ℕ) (text text' : List ℕ) (circuit : Circuit)
-    (tech : Tech) → IsTextOf form status text circuit tech
-    → IsTextOf form status' text' circuit tech → status ≡ status'
-one_text_status forms.Zero status status' text text' circuit tech spells spells' =
-    spells.0 ∙ sym spells'.0
-one_text_status forms.Period status status' text text' circuit tech spells spells' =
-    one_period_status circuit tech status status' text text' spells spells'
-one_text_status forms.Schedule status status' text text' circuit tech spells spells' =
-    one_schedule_status circuit tech status status' text text' spells spells'
-one_text_status forms.Synth status status' text text' circuit tech spells spells' =
-    one_status_with circuit tech _ (are_reports circuit tech) status status' text text' spells
-    spells'
-one_text_status forms.Check status status' text text' circuit tech spells spells' =
-    spells.0 ∙ sym spells'.0
-one_text_status forms.Demo status status' text text' circuit tech spells spells' =
-    one_status_with circuit tech _ (are_summaries circuit tech) status status' text text' spells
-    spells'
-
--- no text of a circuit is a prefix of another
-no_text_prefix : (form : Form) (status status' : ℕ) (text text' : List ℕ) (circuit : Circuit)
-    (tech : Tech) → IsTextOf form status text circuit tech
-    → IsTextOf form status' text' circuit tech
-    → (count : ℕ) → text ≡ take count text' → count < length text' → ⊥
-no_text_prefix forms.Zero status status' text text' circuit tech spells spells' =
-    no_prefix_of_one text text' (one_text circuit tech text text' spells.1 spells'.1)
-no_text_prefix forms.Period status status' text text' circuit tech spells spells' =
-    no_period_prefix circuit tech status text spells status' text' spells'
-no_text_prefix forms.Schedule status status' text text' circuit tech spells spells' =
-    no_schedule_prefix circuit tech status text spells status' text' spells'
-no_text_prefix forms.Synth status status' text text' circuit tech spells spells' =
-    no_prefix_with circuit tech _ (are_reports circuit tech) status status' text text' spells spells'
-no_text_prefix forms.Check status status' text text' circuit tech spells spells' =
-    no_prefix_of_one text text' (spells.1 ∙ sym spells'.1)
-no_text_prefix forms.Demo status status' text text' circuit tech spells spells' =
-    no_prefix_with circuit tech _ (are_summaries circuit tech) status status' text text' spells
-    spells'
-
--- a text for the least period at equal arrivals begins with a word
-some_lines : (circuit : Circuit) (tech : Tech) (outcome : ZeroSkew)
-    → 0 < length (text_of (zero_lines circuit tech outcome))
-some_lines circuit tech (Fails pair) = omega arith
-some_lines circuit tech (Floor value) = omega arith
-some_lines circuit tech (Setup value pair) = omega arith
-
--- and so does every text
-some_text_of : (form : Form) (status : ℕ) (text : List ℕ) (circuit : Circuit) (tech : Tech)
-    → IsTextOf form status text circuit tech → 0 < length text
-some_text_of forms.Zero status text circuit tech spells =
-    subst (λ t. 0 < length t) (sym spells.1.spelled) (some_lines circuit tech spells.1.outcome)
-some_text_of forms.Period status text circuit tech spells =
-    some_period circuit tech status text spells
-some_text_of forms.Schedule status text circuit tech spells =
-    some_schedule circuit tech status text spells
-some_text_of forms.Synth status text circuit tech spells =
-    some_with circuit tech _ (are_reports circuit tech) status text spells
-some_text_of forms.Check status text circuit tech spells =
-    subst (λ t. 0 < length t) (sym spells.1) (omega arith)
-some_text_of forms.Demo status text circuit tech spells =
-    some_with circuit tech _ (are_summaries circuit tech) status text spells
+-- what is said of a circuit's periods is said with one status
+one_status_says : (looks : Bool) (circuit : Circuit) (tech : Tech) (status other : ℕ)
+    → SaysOfPeriods looks circuit tech status → SaysOfPeriods looks circuit tech other
+    → status ≡ other
+one_status_says false circuit tech status other says says' = says ∙ sym says'
+one_status_says true circuit tech status other (inl found) (inl found') = found.0 ∙ sym found'.0
+one_status_says true circuit tech status other (inl found) (inr never) = absurd (found.1 never.1)
+one_status_says true circuit tech status other (inr never) (inl found) = absurd (found.1 never.1)
+one_status_says true circuit tech status other (inr never) (inr never') = never.0 ∙ sym never'.0
 
 module _ (form : Form) (given : List Given) (contents : List (List ℕ)) (status : ℕ)
     (text : List ℕ) (answer : Answers form given contents status text) where
@@ -282,17 +200,23 @@ module _ (form : Form) (given : List Given) (contents : List (List ℕ)) (status
     -- so it has the same status
     pub one_status : status ≡ status'
     one_status =
-        one_text_status form status status' text text' answer.circuit answer.tech answer.holds
-        of_one
+        one_status_says (looks_for_period form) answer.circuit answer.tech status status'
+        answer.holds.are.says of_one.are.says
 
     -- and isn't a prefix of it
     pub no_answer_prefix : (count : ℕ) → text ≡ take count text' → count < length text' → ⊥
-    no_answer_prefix =
-        no_text_prefix form status status' text text' answer.circuit answer.tech answer.holds of_one
+    no_answer_prefix count cut short =
+        no_prefix answer.holds.lines of_one.lines count answer.holds.are.each of_one.are.each
+        answer.holds.are.counted
+        (subst (λ s. AreCounted (plan_of s form) of_one.lines) (sym one_status) of_one.are.counted)
+        (sym answer.holds.spelled ∙ cut ∙ ap (take count) of_one.spelled)
+        (subst (λ bytes. count < length bytes) of_one.spelled short)
 
-  -- a text begins with a word
+  -- a text has a line
   pub some_text : 0 < length text
-  some_text = some_text_of form status text answer.circuit answer.tech answer.holds
+  some_text =
+      subst (λ bytes. 0 < length bytes) (sym answer.holds.spelled)
+      (some_text_of answer.holds.lines answer.holds.are.some)
 
 -- ---- no refusal
 

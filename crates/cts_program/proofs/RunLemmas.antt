@@ -17,7 +17,8 @@ use Rattle.cts_program.specs.Failures.{words_failure_of, status_of}
 use Rattle.cts_program.specs.Files.{files_of, AreAll, AreContents, AreDenoted}
 use Rattle.cts_program.specs.PlainWords.{form_of}
 use Rattle.cts_program.specs.Run.{IsNoCommand, DenotesText, RefusesCommand, CannotRead, EndsInPart, Fails, NoneRose}
-use Rattle.cts_program.proofs.OneAnswer.{Agree, IsTextOf, Answers, answer_of, one_status, no_answer_prefix, some_text, agree_same, agree_rotated}
+use Rattle.cts_program.proofs.AnswerTexts.{IsTextOf}
+use Rattle.cts_program.proofs.OneAnswer.{Agree, Answers, answer_of, one_status, no_answer_prefix, some_text, agree_same, agree_rotated}
 use Rattle.cts_program.proofs.OneRefusal.{ReportLaws, answer_not_refused, one_refusal_status, accepted_refusal}
 use Rattle.cts_program.proofs.PlainCommands.{one_command, same_form}
 use Rattle.cts_program.proofs.SameFiles.{same_files, denoted_contents, contents_within, denoted_agree}

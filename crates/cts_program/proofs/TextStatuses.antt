@@ -1,143 +1,102 @@
 -- What the status of a text says: 1 that the circuit admits no period, 0 that it admits one where a
 -- command looks for it; and `zero` and `check` have no text with another.
-use Rattle.std.proofs.Common.{◌≡◌, ◌≢◌, ◌⊎◌, inl, inr, ℕ, zero, suc, List, refl, subst, arith}
+use Rattle.std.proofs.Common.{◌≡◌, ◌⊎◌, inl, inr, ℕ, Bool, true, false, List, refl, ap, sym, ◌∙◌, subst, arith}
 use Rattle.cts_model.specs.declared.circuit.Circuit.{Circuit}
 use Rattle.cts_model.specs.declared.tech.Tech.{Tech}
 use Rattle.cts_model.specs.LeastPeriods.{HasNoPeriod}
-use Rattle.cts_model.proofs.CircuitConstraints.{forbidding_at_all}
-use Rattle.cts_engine.specs.declared.period.PeriodOutcome.{PeriodOutcome}
-use Rattle.cts_engine.specs.declared.period.PeriodOutcome.TheVariants.{Found, Never}
-use Rattle.cts_engine.specs.Outcomes.{IsPeriodOutcome}
-use Rattle.cts_engine.specs.ScheduleOutcomes.{period_outcome}
 use Rattle.cts_program.specs.declared.command.Command.{Command}
 use Rattle.cts_program.specs.declared.command.Command.TheVariants.{Zero, Period, Schedule, Synth, Check, Demo}
-use Rattle.cts_program.specs.declared.command.table.Form.{Form}
-use Rattle.cts_program.specs.declared.command.table.Form.TheVariants as forms
 use Rattle.cts_program.specs.declared.ending.Ending.{Ending}
 use Rattle.cts_program.specs.declared.ending.Ending.TheVariants as endings
 use Rattle.cts_program.specs.Answers.{ending_status, TellWith, IsStatusOf, FindsNoPeriod}
-use Rattle.cts_program.specs.Commands.{Given, options_of}
+use Rattle.cts_program.specs.Commands.{options_of}
 use Rattle.cts_program.specs.Files.{AreAll}
-use Rattle.cts_program.specs.PeriodTexts.{outcome_status}
 use Rattle.cts_program.specs.PlainWords.{form_of}
-use Rattle.cts_program.proofs.DemoPrefixes.{are_summaries}
-use Rattle.cts_program.proofs.OneAnswer.{IsTextOf, Answers, texts_for, one_denoted}
-use Rattle.cts_program.proofs.SchedulePrefixes.{without_is}
-use Rattle.cts_program.proofs.StatusPrefixes.{AreOfFound, IsTextWith}
-use Rattle.cts_program.proofs.SynthPrefixes.{are_reports}
+use Rattle.cts_program.proofs.AnswerTexts.{looks_for_period, SaysOfPeriods, IsTextOf}
+use Rattle.cts_program.proofs.OneAnswer.{Answers, texts_for, one_denoted}
 
--- ---- one text
+-- ---- no period
 
--- a text with this status says whether a period is admitted
-abbrev SaysOfPeriods : Circuit → Tech → ℕ → Type 0
-SaysOfPeriods circuit tech status = (status ≡ 1 → HasNoPeriod circuit tech)
-    × (status ≡ 0 → HasNoPeriod circuit tech → ⊥)
+-- a status of 1 says that no period is admitted, and only where a command looks for one
+says_none : (looks : Bool) (circuit : Circuit) (tech : Tech) → SaysOfPeriods looks circuit tech 1
+    → (looks ≡ true) × HasNoPeriod circuit tech
+says_none false circuit tech one = absurd (omega (arith, one))
+says_none true circuit tech (inl found) = absurd (omega (arith, found.0))
+says_none true circuit tech (inr never) = (refl, never.1)
 
--- a text of an outcome says so
-outcome_says : (circuit : Circuit) (tech : Tech) (outcome : PeriodOutcome)
-    → IsPeriodOutcome circuit tech outcome → (status : ℕ) → status ≡ outcome_status outcome
-    → SaysOfPeriods circuit tech status
-outcome_says circuit tech (Found least period shown) found status status_is =
-    (λ one. absurd (omega arith), λ done none. none _ _ found.least.proper found.least.admitted)
-outcome_says circuit tech (Never cycle) forbids status status_is =
-    (λ one. forbidding_at_all circuit tech cycle forbids, λ done. absurd (omega arith))
+-- and one of 0 that some is, if a command looks for one
+says_some : (looks : Bool) (circuit : Circuit) (tech : Tech) → looks ≡ true
+    → SaysOfPeriods looks circuit tech 0 → HasNoPeriod circuit tech → ⊥
+says_some false circuit tech is says none = cc is
+says_some true circuit tech is (inl found) none = found.1 none
+says_some true circuit tech is (inr never) none = absurd (omega (arith, never.0))
 
--- and so does one of a tree, or of the cycle that forbids it
-tree_says : (circuit : Circuit) (tech : Tech) (Spells : List ℕ → Type 0)
-    → AreOfFound circuit tech Spells → (status : ℕ) (text : List ℕ)
-    → IsTextWith circuit tech Spells status text → SaysOfPeriods circuit tech status
-tree_says circuit tech Spells are zero text says = (
-  λ one. absurd (omega arith),
-  λ done none. let (period, least) = are.least text says in
-      none _ _ least.proper least.admitted,
-)
-tree_says circuit tech Spells are (suc zero) text says =
-    (λ one. forbidding_at_all circuit tech says.cycle says.forbids, λ done. absurd (omega arith))
-tree_says circuit tech Spells are (suc (suc more)) text says = absurd says
+-- what it is that a command finds no period
+record FindsNone (command : Command) (contents : List (List ℕ)) : Type 0 where
+  looks : looks_for_period (form_of command) ≡ true
+  all : AreAll command contents
+  none : TellWith (texts_for (form_of command) (options_of command) contents) HasNoPeriod
 
--- so does each of a command that looks for a period
-text_says : (form : Form) (status : ℕ) (text : List ℕ) (circuit : Circuit) (tech : Tech)
-    → form ≢ forms.Zero → form ≢ forms.Check → IsTextOf form status text circuit tech
-    → SaysOfPeriods circuit tech status
-text_says forms.Zero status text circuit tech looks makes says = absurd (looks refl)
-text_says forms.Period status text circuit tech looks makes says =
-    outcome_says circuit tech says.outcome says.least status says.status_is
-text_says forms.Schedule status text circuit tech looks makes says =
-    outcome_says circuit tech (period_outcome says.outcome)
-    (without_is circuit tech says.outcome says.least) status says.status_is
-text_says forms.Synth status text circuit tech looks makes says =
-    tree_says circuit tech _ (are_reports circuit tech) status text says
-text_says forms.Check status text circuit tech looks makes says = absurd (makes refl)
-text_says forms.Demo status text circuit tech looks makes says =
-    tree_says circuit tech _ (are_summaries circuit tech) status text says
+finds_by : (command : Command) (contents : List (List ℕ)) → FindsNone command contents
+    → FindsNoPeriod command contents
+finds_by (Zero bench tech) contents finds = absurd (cc finds.looks)
+finds_by (Period bench tech) contents finds = (finds.all, finds.none)
+finds_by (Schedule bench tech) contents finds = (finds.all, finds.none)
+finds_by (Synth bench tech pl) contents finds = (finds.all, finds.none)
+finds_by (Check bench tech pl report) contents finds = absurd (cc finds.looks)
+finds_by (Demo registers seed) contents finds = (finds.all, finds.none)
 
--- ---- what a command goes by
+found_by : (command : Command) (contents : List (List ℕ)) → FindsNoPeriod command contents
+    → FindsNone command contents
+found_by (Zero bench tech) contents finds = absurd finds
+found_by (Period bench tech) contents (all, none) =
+    record { looks = refl; all = all; none = none }
+found_by (Schedule bench tech) contents (all, none) =
+    record { looks = refl; all = all; none = none }
+found_by (Synth bench tech pl) contents (all, none) =
+    record { looks = refl; all = all; none = none }
+found_by (Check bench tech pl report) contents finds = absurd finds
+found_by (Demo registers seed) contents (all, none) =
+    record { looks = refl; all = all; none = none }
 
-module _ (form : Form) (given : List Given) (contents : List (List ℕ)) (looks : form ≢ forms.Zero)
-    (makes : form ≢ forms.Check) where
-  -- with status 1 it admits no period
-  none_denoted : (text : List ℕ) → Answers form given contents 1 text
-      → TellWith (texts_for form given contents) HasNoPeriod
-  none_denoted text answer = record {
-    accepted = answer.accepted;
-    circuit = answer.circuit;
-    tech = answer.tech;
-    tell = answer.tell;
-    few = answer.few makes;
-    holds = (text_says form 1 text answer.circuit answer.tech looks makes answer.holds).0 refl;
-  }
+-- where a command finds no period the contents of all its files are known
+pub finds_all : (command : Command) (contents : List (List ℕ)) → FindsNoPeriod command contents
+    → AreAll command contents
+finds_all command contents finds = (found_by command contents finds).all
 
-  -- and with status 0 some
-  some_denoted : (text : List ℕ) → Answers form given contents 0 text
-      → TellWith (texts_for form given contents) HasNoPeriod → ⊥
-  some_denoted text answer none =
-      let same = one_denoted (texts_for form given contents) none.circuit answer.circuit none.tech
-      answer.tech none.tell answer.tell in
-      (text_says form 0 text answer.circuit answer.tech looks makes answer.holds).1 refl
-      (subst (λ t. HasNoPeriod answer.circuit t) same.1
-      (subst (λ c. HasNoPeriod c none.tech) same.0 none.holds))
-
--- so it is with a command
+-- with a text of status 1 it finds none
 pub finds_no_period : (command : Command) (contents : List (List ℕ)) → AreAll command contents
     → (text : List ℕ) → Answers (form_of command) (options_of command) contents 1 text
     → FindsNoPeriod command contents
-finds_no_period (Zero bench tech) contents all text answer =
-    let done : 1 ≡ 0 = answer.holds.0 in omega arith
-finds_no_period (Period bench tech) contents all text answer =
-    (all, none_denoted forms.Period _ contents (λ same. cc same) (λ same. cc same) text answer)
-finds_no_period (Schedule bench tech) contents all text answer =
-    (all, none_denoted forms.Schedule _ contents (λ same. cc same) (λ same. cc same) text answer)
-finds_no_period (Synth bench tech pl) contents all text answer =
-    (all, none_denoted forms.Synth _ contents (λ same. cc same) (λ same. cc same) text answer)
-finds_no_period (Check bench tech pl report) contents all text answer =
-    let done : 1 ≡ 0 = answer.holds.0 in omega arith
-finds_no_period (Demo registers seed) contents all text answer =
-    (all, none_denoted forms.Demo _ contents (λ same. cc same) (λ same. cc same) text answer)
+finds_no_period command contents all text answer =
+    let says = says_none (looks_for_period (form_of command)) answer.circuit answer.tech
+    answer.holds.are.says in
+    finds_by command contents (record {
+      looks = says.0;
+      all = all;
+      none = record {
+        accepted = answer.accepted;
+        circuit = answer.circuit;
+        tech = answer.tech;
+        tell = answer.tell;
+        few = answer.few (λ check. let clash = sym (ap looks_for_period check) ∙ says.0 in cc clash);
+        holds = says.1;
+      };
+    })
 
--- where it finds no period the contents of all its files are known
-pub finds_all : (command : Command) (contents : List (List ℕ)) → FindsNoPeriod command contents
-    → AreAll command contents
-finds_all (Zero bench tech) contents none = absurd none
-finds_all (Period bench tech) contents none = none.0
-finds_all (Schedule bench tech) contents none = none.0
-finds_all (Synth bench tech pl) contents none = none.0
-finds_all (Check bench tech pl report) contents none = absurd none
-finds_all (Demo registers seed) contents none = none.0
-
--- and it has no text with status 0
+-- and then it has no text with status 0
 pub finds_period : (command : Command) (contents : List (List ℕ)) (text : List ℕ)
     → Answers (form_of command) (options_of command) contents 0 text
     → FindsNoPeriod command contents → ⊥
-finds_period (Zero bench tech) contents text answer none = none
-finds_period (Period bench tech) contents text answer none =
-    some_denoted forms.Period _ contents (λ same. cc same) (λ same. cc same) text answer none.1
-finds_period (Schedule bench tech) contents text answer none =
-    some_denoted forms.Schedule _ contents (λ same. cc same) (λ same. cc same) text answer none.1
-finds_period (Synth bench tech pl) contents text answer none =
-    some_denoted forms.Synth _ contents (λ same. cc same) (λ same. cc same) text answer none.1
-finds_period (Check bench tech pl report) contents text answer none = none
-finds_period (Demo registers seed) contents text answer none =
-    some_denoted forms.Demo _ contents (λ same. cc same) (λ same. cc same) text answer none.1
+finds_period command contents text answer finds =
+    let found = found_by command contents finds in
+    let none = found.none in
+    let same = one_denoted (texts_for (form_of command) (options_of command) contents)
+    none.circuit answer.circuit none.tech answer.tech none.tell answer.tell in
+    says_some (looks_for_period (form_of command)) answer.circuit answer.tech found.looks
+    answer.holds.are.says
+    (subst (λ t. HasNoPeriod answer.circuit t) same.1
+    (subst (λ c. HasNoPeriod c none.tech) same.0 none.holds))
 
 -- ---- the statuses of a command
 
@@ -150,9 +109,9 @@ done_or_never endings.Never = inr refl
 pub text_status : (command : Command) (ending : Ending) (text : List ℕ) (circuit : Circuit)
     (tech : Tech) → IsTextOf (form_of command) (ending_status ending) text circuit tech
     → IsStatusOf command (ending_status ending)
-text_status (Zero bench tech) ending text circuit delays says = says.0
-text_status (Period bench tech) ending text circuit delays says = done_or_never ending
-text_status (Schedule bench tech) ending text circuit delays says = done_or_never ending
-text_status (Synth bench tech pl) ending text circuit delays says = done_or_never ending
-text_status (Check bench tech pl report) ending text circuit delays says = inl says.0
-text_status (Demo registers seed) ending text circuit delays says = done_or_never ending
+text_status (Zero bench tech) ending text circuit delays is = is.are.says
+text_status (Period bench tech) ending text circuit delays is = done_or_never ending
+text_status (Schedule bench tech) ending text circuit delays is = done_or_never ending
+text_status (Synth bench tech pl) ending text circuit delays is = done_or_never ending
+text_status (Check bench tech pl report) ending text circuit delays is = inl is.are.says
+text_status (Demo registers seed) ending text circuit delays is = done_or_never ending

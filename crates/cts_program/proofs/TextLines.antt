@@ -1,5 +1,5 @@
--- The lines for periods and schedules are lines: such lines stand in reports.
-use Rattle.std.proofs.Common.{ℤ, pos, true, List, [], ◌∷◌, ◌++◌, arith}
+-- The lines of each text are lines, as those of reports are.
+use Rattle.std.proofs.Common.{ℕ, ℤ, pos, true, false, List, [], ◌∷◌, ◌++◌, arith}
 use Rattle.std.specs.Fmt.{signed_decimal}
 use Rattle.std.proofs.lemmas.Int.{ints}
 use Rattle.std.proofs.lemmas.Nat.Gcd.{dvd_refl}
@@ -7,29 +7,36 @@ use Rattle.cts_base.specs.declared.fraction.Fraction.{Fraction}
 use Rattle.cts_model.specs.declared.circuit.Circuit.{Circuit}
 use Rattle.cts_model.specs.declared.constraint.Constraint.{Constraint}
 use Rattle.cts_model.specs.declared.period.PeriodShow.{PeriodShow}
-use Rattle.cts_model.specs.declared.period.PeriodShow.TheVariants.{Cycle}
+use Rattle.cts_model.specs.declared.period.PeriodShow.TheVariants as shows
 use Rattle.cts_model.specs.declared.report.Report.{Report}
 use Rattle.cts_model.specs.declared.report.Version.TheVariants.{First}
 use Rattle.cts_model.specs.declared.schedule.Schedule.{Schedule}
 use Rattle.cts_model.specs.declared.schedule.Slack.{Slack}
+use Rattle.cts_model.specs.declared.tech.Tech.{Tech}
 use Rattle.cts_model.specs.declared.timing.ZeroSkew.{ZeroSkew}
 use Rattle.cts_model.specs.declared.timing.ZeroSkew.TheVariants.{Fails, Floor, Setup}
-use Rattle.cts_model.specs.PrintedLines.{Words, period_line, show_lines}
+use Rattle.cts_model.specs.PrintedLines.{Words, period_line, line_for, show_lines}
 use Rattle.cts_model.specs.ReportLines.{version_line, tree_lines}
 use Rattle.report_text.proofs.OneLine.{IsWord, IsLine}
 use Rattle.report_text.proofs.ReportWords.{AreLines, report_lines_are}
+use Rattle.cts_program.specs.DemoTexts.{summary_lines}
 use Rattle.cts_program.specs.PeriodTexts.{found_lines, never_lines}
 use Rattle.cts_program.specs.ScheduleTexts.{register_lines}
-use Rattle.cts_program.specs.Texts.{zero_line}
+use Rattle.cts_program.specs.Texts.{zero_line, zero_lines}
 
 -- lines before others are lines
 lines_before : (lines others : List Words) → AreLines (lines ++ others) → AreLines lines
 lines_before [] others are = tt
 lines_before (line ∷ lines) others are = (are.0, lines_before lines others are.1)
 
--- a report of these times, whose tree has no node
-report_with : Fraction → PeriodShow → Schedule → List Slack → Report
-report_with period shown schedule slacks = record {
+-- and so are lines after others
+lines_after : (lines others : List Words) → AreLines (lines ++ others) → AreLines others
+lines_after [] others are = are
+lines_after (line ∷ lines) others are = lines_after lines others are.1
+
+-- a report of these times, whose tree has no node, and this wire
+abbrev report_with : Fraction → PeriodShow → Schedule → List Slack → (grid total : ℤ) → Report
+report_with period shown schedule slacks grid total = record {
   version = First;
   period = period;
   shown = shown;
@@ -37,12 +44,12 @@ report_with period shown schedule slacks = record {
   schedule = schedule;
   slacks = slacks;
   leads = [];
-  grid = pos 1;
+  grid = grid;
   topology = record { merges = [] };
   tree = record { reach = []; place = []; length = [] };
   shows = [];
   wires = [];
-  total = pos 0;
+  total = total;
 }
 
 -- the period of one tick, and no arrivals
@@ -56,7 +63,7 @@ one_tick = record {
   };
 }
 
-no_arrivals : Schedule
+abbrev no_arrivals : Schedule
 no_arrivals = record { den = pos 1; at = [] }
 
 module _ (circuit : Circuit) where
@@ -65,9 +72,8 @@ module _ (circuit : Circuit) where
       (slacks : List Slack)
       → AreLines ((period_line period ∷ show_lines circuit shown)
       ++ register_lines circuit schedule slacks)
-  unfolding report_with
   timing_lines_are period shown schedule slacks =
-      let report = report_with period shown schedule slacks in
+      let report = report_with period shown schedule slacks (pos 1) (pos 0) in
       let timing = (version_line First ∷ period_line period ∷ show_lines circuit shown)
       ++ register_lines circuit schedule slacks in
       (lines_before timing [] (lines_before (timing ++ []) (tree_lines circuit report)
@@ -79,24 +85,33 @@ module _ (circuit : Circuit) where
       lines_before (show_lines circuit shown) (register_lines circuit no_arrivals [])
       (timing_lines_are one_tick shown no_arrivals []).1
 
-  -- a number is a word, as a weight is
-  pub number_word : (number : ℤ) → IsWord (signed_decimal number)
+  -- and so is that of a constraint, whose weight is a word
+  constraint_is : (constraint : Constraint) → IsLine (line_for circuit constraint)
+  constraint_is constraint = (show_lines_are (shows.Cycle (constraint ∷ []))).1.0
+
+  number_word : (number : ℤ) → IsWord (signed_decimal number)
   number_word number =
-      let weight : Constraint = record { setup = true; tail = 0; head = 0; weight = number } in
-      (show_lines_are (Cycle (weight ∷ []))).1.0.1.1.1.0
+      (constraint_is (record { setup = true; tail = 0; head = 0; weight = number })).1.1.1.0
 
-  -- the line for the least period at equal arrivals is a line
+  -- the line for the least period at equal arrivals
   zero_line_is : (zero : ZeroSkew) → IsLine (zero_line zero)
-  zero_line_is (Fails pair) = (
-    (omega arith, (omega arith, (omega arith, (omega arith, tt)))),
-    ((omega arith, (omega arith, (omega arith, (omega arith, tt)))), tt),
-  )
-  zero_line_is (Floor value) =
-      ((omega arith, (omega arith, (omega arith, (omega arith, tt)))), (number_word value, tt))
-  zero_line_is (Setup value pair) =
-      ((omega arith, (omega arith, (omega arith, (omega arith, tt)))), (number_word value, tt))
+  zero_line_is (Fails pair) = search arith
+  zero_line_is (Floor value) = (search arith, (number_word value, tt))
+  zero_line_is (Setup value pair) = (search arith, (number_word value, tt))
 
-  -- so those of a period with its schedule are lines
+  -- those of a text for it
+  pub zero_lines_are : (tech : Tech) (zero : ZeroSkew) → AreLines (zero_lines circuit tech zero)
+  zero_lines_are tech (Fails pair) = (
+    zero_line_is (Fails pair),
+    (constraint_is (record { setup = false; tail = pair.to; head = pair.from; weight = _ }), tt),
+  )
+  zero_lines_are tech (Floor value) = (zero_line_is (Floor value), search arith)
+  zero_lines_are tech (Setup value pair) = (
+    zero_line_is (Setup value pair),
+    (constraint_is (record { setup = true; tail = pair.from; head = pair.to; weight = _ }), tt),
+  )
+
+  -- those of a period with its schedule
   pub scheduled_lines_are : (zero : ZeroSkew) (period : Fraction) (shown : PeriodShow)
       (schedule : Schedule) (slacks : List Slack)
       → AreLines (found_lines circuit zero period shown ++ register_lines circuit schedule slacks)
@@ -111,9 +126,14 @@ module _ (circuit : Circuit) where
       lines_before (found_lines circuit zero period shown) (register_lines circuit no_arrivals [])
       (scheduled_lines_are zero period shown no_arrivals [])
 
-  -- and those of a cycle that forbids every period
+  -- those of a cycle that forbids every period
   pub never_lines_are : (cycle : List Constraint) → AreLines (never_lines circuit cycle)
-  never_lines_are cycle = (
-    ((omega arith, (omega arith, (omega arith, (omega arith, (omega arith, tt))))), tt),
-    show_lines_are (Cycle cycle),
-  )
+  never_lines_are cycle = (search arith, show_lines_are (shows.Cycle cycle))
+
+  -- and those of the summary of a report
+  pub summary_lines_are : (registers : ℕ) (report : Report)
+      → AreLines (summary_lines registers report)
+  summary_lines_are registers report =
+      let wired = report_with report.period shows.Floor no_arrivals [] report.grid report.total in
+      let are = report_lines_are circuit wired in
+      ((search arith, (number_word (pos registers), tt)), (are.1.0, (are.1.1.1.1.1.1.1.0, search arith)))
