@@ -1,0 +1,6 @@
+mod WordNumbers
+mod EntryLemmas
+mod MarkLemmas
+mod TakenLines
+mod TopologyWalk
+pub mod OneFault

@@ -1,0 +1,6 @@
+pub mod Entries
+pub mod Kept
+pub mod LineFaults
+pub mod Refusals
+pub mod Taken
+pub mod TopologyTexts

@@ -1,0 +1,33 @@
+-- What the reader has taken in from the lines so far.
+use Rattle.std.specs.Prelude.{◌≡◌, ◌≢◌, ◌<◌, ◌+◌, ◌↔◌, ℕ, Bool, true, false, List, [], ◌∷◌, ◌++◌, length, All, slice_index_or, slice_set}
+use Rattle.cts_model.specs.declared.tree.Merge.{Merge}
+use Rattle.topology_file.specs.declared.joining.Joining.{Joining}
+use Rattle.topology_file.specs.Entries.{entries_in, merges_of}
+use Rattle.topology_file.specs.LineFaults.{AreFaultless}
+
+-- exactly the nodes that these merges join are marked
+abbrev pub AreMarked : List Merge → (marks : List Bool) → Type 0
+AreMarked merges marks = (node : ℕ) → node < length marks
+    → (slice_index_or marks node false ≡ false)
+    ↔ (All (λ merge. (merge.first ≢ node) × (merge.second ≢ node)) merges)
+
+-- this is taken in from the lines
+pub record HasTaken (sinks : ℕ) (joining : Joining) (lines : List (List ℕ)) : Type 0 where
+  pub sinks_are : joining.sinks ≡ sinks
+  pub merges_are : joining.merges ≡ merges_of (entries_in lines)
+  pub faultless : AreFaultless sinks (entries_in lines)
+  pub marked : AreMarked joining.merges joining.joined.items
+
+-- the merge joins two nodes that are made and aren't marked, the lower first
+pub record IsOfOpen (joining : Joining) (merge : Merge) : Type 0 where
+  pub ordered : merge.first < merge.second
+  pub made : merge.second < joining.sinks + length joining.merges
+  pub first : slice_index_or joining.joined.items merge.first false ≡ false
+  pub second : slice_index_or joining.joined.items merge.second false ≡ false
+
+-- a merge is taken in
+pub record TakesMerge (old new : Joining) (merge : Merge) : Type 0 where
+  pub sinks : new.sinks ≡ old.sinks
+  pub merges : new.merges ≡ old.merges ++ merge ∷ []
+  pub joined : new.joined.items
+      ≡ slice_set (slice_set old.joined.items merge.first true) merge.second true

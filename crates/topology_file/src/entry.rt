@@ -1,0 +1,49 @@
+ghost use Rattle.std.specs.Prelude.{◌≡◌, ◌<◌, ◌-◌, ◌^◌, ◌∷◌, ◌↔◌, IfSome, IsNone, min};
+ghost use Rattle.std.specs.Str.Parse.{digits_value};
+ghost use Rattle.cts_base.specs.NumberTexts.{IsPlainNumeral};
+ghost use Rattle.topology_file.specs.Entries.{IsEntry, merge_of, words_in};
+ghost use Rattle.topology_file.specs.Kept.{kept_number, IsKept};
+
+use cts_base::{Words, before_comment, read_whole, words};
+use cts_model::Merge;
+
+/// The words of a line, its comment cut off.
+pub(crate) fn words_in<'a>(line: &'a [u8]) -> Words<'a>
+    ensures { result ≡ words_in line.now }
+{
+    words(before_comment(line))
+}
+
+/// The merge that the words of a line name, the lower node first, where they are three numbers and
+/// the first is the node that is due. Numbers are kept as `number_of` keeps them.
+pub(crate) fn merge_of(due: u32, made: &[u8], mut words: Words) -> Option<Merge>
+    requires { due < 2 ^ 32 - 1 }
+    ensures some { IfSome result (λ merge. IsEntry due (made.now ∷ words.entry)
+        × IsKept (merge_of (made.now ∷ words.entry)) merge) }
+    ensures none { IsNone result → ¬ (IsEntry due (made.now ∷ words.entry)) }
+{
+    let mut words = words;
+    let made = number_of(made)?;
+    let one = number_of(words.next()?)?;
+    let other = number_of(words.next()?)?;
+    if made != due || words.next().is_some() {
+        return None;
+    }
+    Some(Merge {
+        first: one.min(other),
+        second: one.max(other),
+    })
+}
+
+// The number that a word spells without a sign. One that no node has is kept at the greatest `u32`.
+fn number_of(word: &[u8]) -> Option<u32>
+    ensures some { IfSome result (λ number. IsPlainNumeral word.now
+        × (number ≡ kept_number (digits_value 10 word.now))) }
+    ensures none { IsNone result → ¬ (IsPlainNumeral word.now) }
+{
+    let number = read_whole(word)?;
+    if number < 0 {
+        return None;
+    }
+    Some(number.min(u32::MAX as i128) as u32)
+}
