@@ -1,5 +1,5 @@
 //! Tests on the public calls of the crates that read and write: numbers, lines, devices, netlists,
-//! tables and placements, a file for each crate.
+//! tables, placements and topologies, a file for each crate.
 #![tactic(auto)]
 
 #[cfg(test)]
@@ -24,3 +24,5 @@ mod place_tests;
 mod spelling_tests;
 #[cfg(test)]
 mod table_tests;
+#[cfg(test)]
+mod topology_file_tests;

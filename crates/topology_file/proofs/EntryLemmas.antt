@@ -8,7 +8,7 @@ use Rattle.std.proofs.lemmas.Option.{same_Some}
 use Rattle.cts_model.specs.Topologies.{IsMerge}
 use Rattle.cts_model.proofs.TopologyLemmas.{EachMerge, EachMerge-push}
 use Rattle.topology_file.specs.Entries.{AreEntries, IsEntry, entries_in, has_words, merge_of, merges_of, words_in}
-use Rattle.topology_file.specs.LineFaults.{AreFaultless}
+use Rattle.topology_file.specs.Flaws.{AreFlawless}
 
 -- a blank line has no entry
 pub entries_blank : (earlier : List (List ℕ)) (line : List ℕ) → words_in line ≡ []
@@ -55,12 +55,12 @@ AreEntries-push sinks entries entry before here = record {
 }
 
 -- and joins two open nodes
-pub AreFaultless-push : (sinks : ℕ) (entries : List (List (List ℕ))) (entry : List (List ℕ))
-    → AreFaultless sinks entries → length entries + 1 < sinks
+pub AreFlawless-push : (sinks : ℕ) (entries : List (List (List ℕ))) (entry : List (List ℕ))
+    → AreFlawless sinks entries → length entries + 1 < sinks
     → IsEntry (sinks + length entries) entry
     → IsMerge sinks (merges_of entries) (merge_of entry)
-    → AreFaultless sinks (entries ++ entry ∷ [])
-AreFaultless-push sinks entries entry before few made joins = record {
+    → AreFlawless sinks (entries ++ entry ∷ [])
+AreFlawless-push sinks entries entry before few made joins = record {
   made = AreEntries-push sinks entries entry before.made made;
   joined = subst (EachMerge sinks) (sym (map_push merge_of entries entry))
       (EachMerge-push sinks (merges_of entries) (merge_of entry) before.joined joins);

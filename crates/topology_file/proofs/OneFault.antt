@@ -9,11 +9,9 @@ use Rattle.cts_model.specs.declared.tree.Topology.{Topology}
 use Rattle.cts_model.specs.Topologies.{IsMerge}
 use Rattle.topology_file.specs.declared.fault.TopologyFault.{TopologyFault}
 use Rattle.topology_file.specs.declared.fault.TopologyFault.TheVariants as faults
-use Rattle.topology_file.specs.declared.line_fault.LineFault.{LineFault}
-use Rattle.topology_file.specs.declared.line_fault.LineFault.TheVariants.{Extra, BadLine, NotOpen, NoMemory}
 use Rattle.topology_file.specs.Entries.{IsEntry, entries_in, entries_of, merge_of, merges_of, words_in}
-use Rattle.topology_file.specs.LineFaults.{AreFaultless, IsEntryFault, IsLineFault}
-use Rattle.topology_file.specs.Refusals.{EndsEarly, IsFirstFaulty, RefusesTopology}
+use Rattle.topology_file.specs.Flaws.{AreFlawless, BadLine, Extra, Flaw, HasEntryFlaw, HasFlaw, NotOpen}
+use Rattle.topology_file.specs.Refusals.{EndsEarly, IsFirstFlawed, RefusesTopology}
 use Rattle.topology_file.proofs.EntryLemmas.{entries_round}
 use Rattle.topology_file.specs.TopologyTexts.{AcceptsTopology, IsTopologyText}
 
@@ -26,16 +24,16 @@ at_seam [] item more = refl
 at_seam (x ∷ xs) item more = at_seam xs item more
 
 -- an entry joins two open nodes after those before it
-record IsFaultless (sinks : ℕ) (merges : List Merge) (entry : List (List ℕ)) : Type 0 where
+record IsFlawless (sinks : ℕ) (merges : List Merge) (entry : List (List ℕ)) : Type 0 where
   few : length merges + 1 < sinks
   made : IsEntry (sinks + length merges) entry
   joins : IsMerge sinks merges (merge_of entry)
 
 -- each that is followed by others does
-each_faultless : (sinks : ℕ) (entries : List (List (List ℕ))) (entry : List (List ℕ))
-    (more : List (List (List ℕ))) → AreFaultless sinks (entries ++ entry ∷ more)
-    → IsFaultless sinks (merges_of entries) entry
-each_faultless sinks entries entry more are =
+each_flawless : (sinks : ℕ) (entries : List (List (List ℕ))) (entry : List (List ℕ))
+    (more : List (List (List ℕ))) → AreFlawless sinks (entries ++ entry ∷ more)
+    → IsFlawless sinks (merges_of entries) entry
+each_flawless sinks entries entry more are =
     let count = length-map entries merge_of in
     let made = are.made.each (length entries) entry (at_seam entries entry more) in
     let split = map-append merge_of entries (entry ∷ more) in
@@ -54,47 +52,40 @@ each_faultless sinks entries entry more are =
       joins = subst (λ merges. IsMerge sinks merges (merge_of entry)) before joins;
     }
 
--- such an entry has no fault
-unfaulty : (sinks : ℕ) (merges : List Merge) (entry : List (List ℕ)) (fault : LineFault)
-    → fault ≢ NoMemory → IsFaultless sinks merges entry → IsEntryFault sinks merges entry fault → ⊥
-unfaulty sinks merges entry Extra named are faulty = omega (arith, are.few, faulty)
-unfaulty sinks merges entry BadLine named are faulty = faulty.1 are.made
-unfaulty sinks merges entry NotOpen named are faulty = faulty.2 are.joins
-unfaulty sinks merges entry NoMemory named are faulty = named refl
+-- such an entry has no flaw
+unflawed : (sinks : ℕ) (merges : List Merge) (entry : List (List ℕ)) (flaw : Flaw)
+    → IsFlawless sinks merges entry → HasEntryFlaw sinks merges entry flaw → ⊥
+unflawed sinks merges entry Extra are flawed = omega (arith, are.few, flawed)
+unflawed sinks merges entry BadLine are flawed = flawed.1 are.made
+unflawed sinks merges entry NotOpen are flawed = flawed.2 are.joins
 
--- an entry has one fault
-one_entry_fault : (sinks : ℕ) (merges : List Merge) (entry : List (List ℕ))
-    (fault other : LineFault) → fault ≢ NoMemory → other ≢ NoMemory
-    → IsEntryFault sinks merges entry fault → IsEntryFault sinks merges entry other → fault ≡ other
-one_entry_fault sinks merges entry NoMemory other named named' first second = absurd (named refl)
-one_entry_fault sinks merges entry fault NoMemory named named' first second = absurd (named' refl)
-one_entry_fault sinks merges entry Extra Extra named named' first second = refl
-one_entry_fault sinks merges entry Extra BadLine named named' first second =
+-- an entry has one flaw
+one_entry_flaw : (sinks : ℕ) (merges : List Merge) (entry : List (List ℕ)) (flaw other : Flaw)
+    → HasEntryFlaw sinks merges entry flaw → HasEntryFlaw sinks merges entry other → flaw ≡ other
+one_entry_flaw sinks merges entry Extra Extra first second = refl
+one_entry_flaw sinks merges entry Extra BadLine first second =
     absurd (omega (arith, first, second.0))
-one_entry_fault sinks merges entry Extra NotOpen named named' first second =
+one_entry_flaw sinks merges entry Extra NotOpen first second =
     absurd (omega (arith, first, second.0))
-one_entry_fault sinks merges entry BadLine Extra named named' first second =
+one_entry_flaw sinks merges entry BadLine Extra first second =
     absurd (omega (arith, first.0, second))
-one_entry_fault sinks merges entry BadLine BadLine named named' first second = refl
-one_entry_fault sinks merges entry BadLine NotOpen named named' first second =
-    absurd (first.1 second.1)
-one_entry_fault sinks merges entry NotOpen Extra named named' first second =
+one_entry_flaw sinks merges entry BadLine BadLine first second = refl
+one_entry_flaw sinks merges entry BadLine NotOpen first second = absurd (first.1 second.1)
+one_entry_flaw sinks merges entry NotOpen Extra first second =
     absurd (omega (arith, first.0, second))
-one_entry_fault sinks merges entry NotOpen BadLine named named' first second =
-    absurd (second.1 first.1)
-one_entry_fault sinks merges entry NotOpen NotOpen named named' first second = refl
+one_entry_flaw sinks merges entry NotOpen BadLine first second = absurd (second.1 first.1)
+one_entry_flaw sinks merges entry NotOpen NotOpen first second = refl
 
 -- ---- a line
 
--- a line with a fault isn't among lines without one
+-- a line with a flaw isn't among lines without one
 not_among : (sinks : ℕ) (earlier : List (List ℕ)) (line : List ℕ) (later : List (List ℕ))
-    (fault : LineFault) → fault ≢ NoMemory
-    → AreFaultless sinks (entries_in (earlier ++ line ∷ later)) → IsLineFault sinks earlier line fault → ⊥
-not_among sinks earlier line later fault named are faulty =
-    unfaulty sinks (merges_of (entries_in earlier)) (words_in line) fault named
-    (each_faultless sinks (entries_in earlier) (words_in line) (entries_in later)
-    (subst (AreFaultless sinks) (entries_round earlier line later faulty.written) are))
-    faulty.faulty
+    (flaw : Flaw) → AreFlawless sinks (entries_in (earlier ++ line ∷ later))
+    → HasFlaw sinks earlier line flaw → ⊥
+not_among sinks earlier line later flaw are has =
+    unflawed sinks (merges_of (entries_in earlier)) (words_in line) flaw
+    (each_flawless sinks (entries_in earlier) (words_in line) (entries_in later)
+    (subst (AreFlawless sinks) (entries_round earlier line later has.written) are)) has.flawed
 
 -- ---- a text
 
@@ -103,54 +94,42 @@ memory_or_not : (fault : TopologyFault) → (fault ≡ faults.NoMemory) ⊎ (fau
 memory_or_not faults.NoMemory = inl refl
 memory_or_not _ = inr (λ same. cc)
 
--- the refusal of a line with a fault
-abbrev fault_at : ℕ → LineFault → TopologyFault
+-- the refusal of a line with a flaw
+abbrev fault_at : ℕ → Flaw → TopologyFault
 fault_at number Extra = faults.Extra number
 fault_at number BadLine = faults.BadLine number
 fault_at number NotOpen = faults.NotOpen number
-fault_at number NoMemory = faults.NoMemory
 
 module _ (text : List ℕ) (sinks : ℕ) where
-  -- a first faulty line isn't in a text without one
-  not_in_text : (number : ℕ) (fault : LineFault) → fault ≢ NoMemory
-      → IsFirstFaulty text sinks number fault → AreFaultless sinks (entries_of text) → ⊥
-  not_in_text number fault named first are =
-      not_among sinks first.earlier first.line first.place.later fault named
-      (subst (λ lines. AreFaultless sinks (entries_in lines)) first.place.split are) first.faulty
+  -- a first flawed line isn't in a text without one
+  not_in_text : (number : ℕ) (flaw : Flaw) → IsFirstFlawed text sinks number flaw
+      → AreFlawless sinks (entries_of text) → ⊥
+  not_in_text number flaw first are =
+      not_among sinks first.earlier first.line first.place.later flaw
+      (subst (λ lines. AreFlawless sinks (entries_in lines)) first.place.split are) first.flawed
 
   -- nor after another
-  not_after : (number other : ℕ) (fault other_fault : LineFault) → fault ≢ NoMemory
-      → (first : IsFirstFaulty text sinks number fault)
-      → (second : IsFirstFaulty text sinks other other_fault)
+  not_after : (number other : ℕ) (flaw other_flaw : Flaw)
+      → (first : IsFirstFlawed text sinks number flaw)
+      → (second : IsFirstFlawed text sinks other other_flaw)
       → IsAfter first.earlier second.earlier first.line → ⊥
-  not_after number other fault other_fault named first second found =
-      not_among sinks first.earlier first.line found.between fault named
-      (subst (λ lines. AreFaultless sinks (entries_in lines)) found.split second.faultless)
-      first.faulty
+  not_after number other flaw other_flaw first second found =
+      not_among sinks first.earlier first.line found.between flaw
+      (subst (λ lines. AreFlawless sinks (entries_in lines)) found.split second.flawless)
+      first.flawed
 
-  -- a line with a fault is that of the text
+  -- the fault is a line's flaw
   record IsOfLine (fault : TopologyFault) : Type 0 where
     number : ℕ
-    line_fault : LineFault
-    named : line_fault ≢ NoMemory
-    first : IsFirstFaulty text sinks number line_fault
-    fault_is : fault_at number line_fault ≡ fault
-
-  of_line : (number : ℕ) (fault : LineFault) → fault ≢ NoMemory
-      → IsFirstFaulty text sinks number fault → IsOfLine (fault_at number fault)
-  of_line number fault named first = record {
-    number = number;
-    line_fault = fault;
-    named = named;
-    first = first;
-    fault_is = refl;
-  }
+    flaw : Flaw
+    first : IsFirstFlawed text sinks number flaw
+    fault_is : fault_at number flaw ≡ fault
 
   -- such a fault isn't that of a text without one
-  not_of_line : (fault : TopologyFault) → IsOfLine fault → AreFaultless sinks (entries_of text) → ⊥
-  not_of_line fault one are = not_in_text one.number one.line_fault one.named one.first are
+  not_of_line : (fault : TopologyFault) → IsOfLine fault → AreFlawless sinks (entries_of text) → ⊥
+  not_of_line fault one are = not_in_text one.number one.flaw one.first are
 
-  -- two first faulty lines have one number and one fault
+  -- two first flawed lines have one number and one flaw
   one_of_lines : (fault other : TopologyFault) → IsOfLine fault → IsOfLine other → fault ≡ other
   one_of_lines fault other one two =
       let first = one.first in
@@ -158,33 +137,32 @@ module _ (text : List ℕ) (sinks : ℕ) where
       let split = sym first.place.split ∙ second.place.split in
       let place : length first.earlier ≡ length second.earlier =
       same_place first.earlier first.line first.place.later second.earlier second.line
-      second.place.later split
-      (not_after one.number two.number one.line_fault two.line_fault one.named first second)
-      (not_after two.number one.number two.line_fault one.line_fault two.named second first) in
+      second.place.later split (not_after one.number two.number one.flaw two.flaw first second)
+      (not_after two.number one.number two.flaw one.flaw second first) in
       let parts = same_parts first.earlier first.line first.place.later second.earlier second.line
       second.place.later split place in
       let number : one.number ≡ two.number =
       omega (arith, place, first.place.number_is, second.place.number_is) in
-      let faulty : IsLineFault sinks second.earlier second.line one.line_fault =
-      subst (λ line. IsLineFault sinks second.earlier line one.line_fault) parts.same_item
-      (subst (λ earlier. IsLineFault sinks earlier first.line one.line_fault) parts.same_prefix
-      first.faulty) in
-      let line_fault : one.line_fault ≡ two.line_fault =
-      one_entry_fault sinks (merges_of (entries_in second.earlier)) (words_in second.line)
-      one.line_fault two.line_fault one.named two.named faulty.faulty second.faulty.faulty in
-      sym one.fault_is ∙ (λ i. fault_at (number i) (line_fault i)) ∙ two.fault_is
+      let has : HasFlaw sinks second.earlier second.line one.flaw =
+      subst (λ line. HasFlaw sinks second.earlier line one.flaw) parts.same_item
+      (subst (λ earlier. HasFlaw sinks earlier first.line one.flaw) parts.same_prefix
+      first.flawed) in
+      let flaw : one.flaw ≡ two.flaw =
+      one_entry_flaw sinks (merges_of (entries_in second.earlier)) (words_in second.line) one.flaw
+      two.flaw has.flawed second.flawed.flawed in
+      sym one.fault_is ∙ (λ i. fault_at (number i) (flaw i)) ∙ two.fault_is
 
-  -- a fault is one of a line, or no line has one
+  -- a fault is a line's flaw, or no line has one
   of_line_or_not : (fault : TopologyFault) → fault ≢ faults.NoMemory
       → RefusesTopology text sinks fault
       → IsOfLine fault
       ⊎ ((number : ℕ) × (fault ≡ faults.Missing number) × EndsEarly text sinks number)
   of_line_or_not (faults.BadLine number) named first =
-      inl (of_line number BadLine (λ same. cc) first)
+      inl (record { number = number; flaw = BadLine; first = first; fault_is = refl })
   of_line_or_not (faults.NotOpen number) named first =
-      inl (of_line number NotOpen (λ same. cc) first)
+      inl (record { number = number; flaw = NotOpen; first = first; fault_is = refl })
   of_line_or_not (faults.Extra number) named first =
-      inl (of_line number Extra (λ same. cc) first)
+      inl (record { number = number; flaw = Extra; first = first; fault_is = refl })
   of_line_or_not (faults.Missing number) named ends = inr (number, refl, ends)
   of_line_or_not faults.NoMemory named free = absurd (named refl)
 
@@ -194,17 +172,17 @@ module _ (text : List ℕ) (sinks : ℕ) where
   one_fault fault other named named' cause cause' = elim (of_line_or_not fault named cause) [
     | inl one ↦ elim (of_line_or_not other named' cause') [
       | inl two ↦ one_of_lines fault other one two
-      | inr ends ↦ absurd (not_of_line fault one ends.2.faultless)
+      | inr ends ↦ absurd (not_of_line fault one ends.2.flawless)
     ]
     | inr ends ↦ elim (of_line_or_not other named' cause') [
-      | inl two ↦ absurd (not_of_line other two ends.2.faultless)
+      | inl two ↦ absurd (not_of_line other two ends.2.flawless)
       | inr ends' ↦ ends.1 ∙ ap faults.Missing (ends.2.next ∙ sym ends'.2.next) ∙ sym ends'.1
     ]
   ]
 
-  -- no line of the text of a topology has a fault
-  faultless : IsTopologyText text sinks → AreFaultless sinks (entries_of text)
-  faultless is = record {
+  -- no line of the text of a topology has a flaw
+  flawless : IsTopologyText text sinks → AreFlawless sinks (entries_of text)
+  flawless is = record {
     made = is.entries;
     joined = is.joined.each;
     within = omega (arith, is.joined.all, length-map (entries_of text) merge_of);
@@ -216,7 +194,7 @@ module _ (text : List ℕ) (sinks : ℕ) where
   no_fault fault is cause = elim (memory_or_not fault) [
     | inl memory ↦ memory
     | inr named ↦ elim (of_line_or_not fault named cause) [
-      | inl one ↦ absurd (not_of_line fault one (faultless is))
+      | inl one ↦ absurd (not_of_line fault one (flawless is))
       | inr ends ↦ absurd (ends.2.unjoined
           (omega (arith, is.joined.all, length-map (entries_of text) merge_of)))
     ]

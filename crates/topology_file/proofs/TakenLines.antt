@@ -5,13 +5,11 @@ use Rattle.std.proofs.lemmas.List.{length-map, map_push}
 use Rattle.cts_model.specs.declared.tree.Merge.{Merge}
 use Rattle.cts_model.specs.Topologies.{IsMerge}
 use Rattle.topology_file.specs.declared.joining.Joining.{Joining}
-use Rattle.topology_file.specs.declared.line_fault.LineFault.{LineFault}
-use Rattle.topology_file.specs.declared.line_fault.LineFault.TheVariants.{Extra, BadLine, NotOpen, NoMemory}
 use Rattle.topology_file.specs.Entries.{IsEntry, entries_in, has_words, merge_of, merges_of, words_in}
 use Rattle.topology_file.specs.Kept.{IsKept}
-use Rattle.topology_file.specs.LineFaults.{AreFaultless, IsEntryFault, IsLineFault}
+use Rattle.topology_file.specs.Flaws.{AreFlawless, BadLine, Extra, Flaw, HasEntryFlaw, HasFlaw, NotOpen}
 use Rattle.topology_file.specs.Taken.{AreMarked, HasTaken, IsOfOpen, TakesMerge}
-use Rattle.topology_file.proofs.EntryLemmas.{AreFaultless-push, entries_blank, entries_round, written}
+use Rattle.topology_file.proofs.EntryLemmas.{AreFlawless-push, entries_blank, entries_round, written}
 use Rattle.topology_file.proofs.MarkLemmas.{Spares, marks_more}
 
 module _ (sinks : ℕ) (earlier : List (List ℕ)) (line : List ℕ) (joining : Joining)
@@ -36,7 +34,7 @@ module _ (sinks : ℕ) (earlier : List (List ℕ)) (line : List ℕ) (joining : 
       record {
         sinks_are = has.sinks_are;
         merges_are = has.merges_are ∙ ap merges_of same;
-        faultless = subst (AreFaultless sinks) same has.faultless;
+        flawless = subst (AreFlawless sinks) same has.flawless;
         marked = has.marked;
       }
 
@@ -49,21 +47,17 @@ module _ (sinks : ℕ) (earlier : List (List ℕ)) (line : List ℕ) (joining : 
     next : entries_in (earlier ++ line ∷ []) ≡ entries ++ (word ∷ words) ∷ []
     next = entries_round earlier line [] some ∙ ap (λ entry. entries ++ entry ∷ []) read
 
-    -- a fault of its entry is one of the line
-    line_fault : (fault : LineFault) → IsEntryFault sinks (merges_of entries) (word ∷ words) fault
-        → IsLineFault sinks earlier line fault
-    line_fault fault faulty = record {
+    -- a flaw of its entry is one of the line
+    line_flaw : (flaw : Flaw) → HasEntryFlaw sinks (merges_of entries) (word ∷ words) flaw
+        → HasFlaw sinks earlier line flaw
+    line_flaw flaw flawed = record {
       written = some;
-      faulty =
-          subst (λ entry. IsEntryFault sinks (merges_of entries) entry fault) (sym read) faulty;
+      flawed = subst (λ entry. HasEntryFlaw sinks (merges_of entries) entry flaw) (sym read) flawed;
     }
 
-    pub out_of_memory : IsLineFault sinks earlier line NoMemory
-    out_of_memory = line_fault NoMemory tt
-
     -- an entry too many
-    pub is_extra : joining.sinks ≤ length joining.merges + 1 → IsLineFault sinks earlier line Extra
-    is_extra done = line_fault Extra
+    pub is_extra : joining.sinks ≤ length joining.merges + 1 → HasFlaw sinks earlier line Extra
+    is_extra done = line_flaw Extra
         (omega (arith, done, has.sinks_are, count, length-map entries merge_of))
 
     module _ (due : ℕ) (some_due : (length joining.merges + 1 < joining.sinks)
@@ -76,8 +70,8 @@ module _ (sinks : ℕ) (earlier : List (List ℕ)) (line : List ℕ) (joining : 
 
       -- none of the form
       pub is_bad : (IsEntry due (word ∷ words) → ⊥)
-          → IsLineFault sinks earlier line BadLine
-      is_bad other = line_fault BadLine
+          → HasFlaw sinks earlier line BadLine
+      is_bad other = line_flaw BadLine
           (few, λ entry. other (subst (λ n. IsEntry n (word ∷ words)) (sym node) entry))
 
       module _ (made : IsEntry due (word ∷ words)) (kept : Merge)
@@ -119,8 +113,8 @@ module _ (sinks : ℕ) (earlier : List (List ℕ)) (line : List ℕ) (joining : 
             }
 
         -- one of others
-        pub is_not_open : (IsOfOpen joining kept → ⊥) → IsLineFault sinks earlier line NotOpen
-        is_not_open other = line_fault NotOpen (few, makes, λ joins. other (opens joins))
+        pub is_not_open : (IsOfOpen joining kept → ⊥) → HasFlaw sinks earlier line NotOpen
+        is_not_open other = line_flaw NotOpen (few, makes, λ joins. other (opens joins))
 
         module _ (open_nodes : IsOfOpen joining kept) where
           -- the nodes are kept as they are
@@ -165,8 +159,8 @@ module _ (sinks : ℕ) (earlier : List (List ℕ)) (line : List ℕ) (joining : 
             sinks_are = takes.sinks ∙ has.sinks_are;
             merges_are = takes.merges ∙ (λ i. has.merges_are i ++ same i ∷ [])
                 ∙ sym (map_push merge_of entries (word ∷ words)) ∙ ap merges_of (sym next);
-            faultless = subst (AreFaultless sinks) (sym next) (AreFaultless-push sinks entries
-                (word ∷ words) has.faultless (omega (arith, few, length-map entries merge_of))
+            flawless = subst (AreFlawless sinks) (sym next) (AreFlawless-push sinks entries
+                (word ∷ words) has.flawless (omega (arith, few, length-map entries merge_of))
                 (subst (λ n. IsEntry (sinks + n) (word ∷ words)) (length-map entries merge_of)
                 makes)
                 (subst (IsMerge sinks (merges_of entries)) same joins));

@@ -15,7 +15,8 @@ use Rattle.topology_file.specs.declared.fault.TopologyFault.TheVariants.{Missing
 use Rattle.topology_file.specs.declared.joining.Joining.{Joining}
 use Rattle.topology_file.specs.declared.line_fault.LineFault.{LineFault}
 use Rattle.topology_file.specs.Entries.{entries_in, entries_of, merge_of, merges_of}
-use Rattle.topology_file.specs.LineFaults.{AreFaultless, IsLineFault}
+use Rattle.topology_file.specs.Flaws.{AreFlawless}
+use Rattle.topology_file.specs.LineFaults.{IsLineFault}
 use Rattle.topology_file.specs.Refusals.{EndsEarly, RefusesTopology}
 use Rattle.topology_file.specs.Taken.{HasTaken}
 use Rattle.topology_file.specs.TopologyTexts.{AcceptsTopology}
@@ -94,10 +95,10 @@ module _ {sinks : ℕ} {text : List ℕ} {left more : List (ℕ × List ℕ)} {n
       → ((count : ℕ) (earlier : List (List ℕ)) → HasTaken count old earlier
       → IsLineFault count earlier line fault)
       → ((earlier : List (List ℕ)) → IsLine text number earlier line
-      → AreFaultless sinks (entries_in earlier) → IsLineFault sinks earlier line fault
+      → AreFlawless sinks (entries_in earlier) → IsLineFault sinks earlier line fault
       → RefusesTopology text sinks refusal)
       → RefusesTopology text sinks refusal
-  refuses_next fault refusal judged denotes = denotes before.passed place before.has.faultless
+  refuses_next fault refusal judged denotes = denotes before.passed place before.has.flawless
       (judged sinks before.passed before.has)
 
 module _ {sinks : ℕ} {text : List ℕ} {left : List (ℕ × List ℕ)} {joining : Joining} {next : ℕ}
@@ -106,8 +107,8 @@ module _ {sinks : ℕ} {text : List ℕ} {left : List (ℕ × List ℕ)} {joinin
   all = all_passed before.walk none
 
   -- at the end nothing is wrong with any line
-  all_faultless : AreFaultless sinks (entries_of text)
-  all_faultless = subst (λ lines. AreFaultless sinks (entries_in lines)) all before.has.faultless
+  all_flawless : AreFlawless sinks (entries_of text)
+  all_flawless = subst (λ lines. AreFlawless sinks (entries_in lines)) all before.has.flawless
 
   merges_all : joining.merges ≡ merges_of (entries_of text)
   merges_all = before.has.merges_are ∙ ap (λ lines. merges_of (entries_in lines)) all
@@ -120,10 +121,10 @@ module _ {sinks : ℕ} {text : List ℕ} {left : List (ℕ × List ℕ)} {joinin
       → joining.sinks ≡ length joining.merges + 1 → AcceptsTopology text sinks topology
   accepts_all topology same joined = record {
     accepted = record {
-      entries = all_faultless.made;
+      entries = all_flawless.made;
       joined = record {
         all = omega (arith, before.has.sinks_are, joined, ap length merges_all);
-        each = all_faultless.joined;
+        each = all_flawless.joined;
       };
     };
     merges = same ∙ merges_all;
@@ -132,7 +133,7 @@ module _ {sinks : ℕ} {text : List ℕ} {left : List (ℕ × List ℕ)} {joinin
   -- or the text ends early
   pub ends_early : joining.sinks ≢ length joining.merges + 1 → EndsEarly text sinks next
   ends_early unjoined = record {
-    faultless = all_faultless;
+    flawless = all_flawless;
     unjoined = λ same. unjoined (omega (arith, before.has.sinks_are, count, same));
     next = before.next_is ∙ ap (λ lines. length lines + 1) all;
   }

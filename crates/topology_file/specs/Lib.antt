@@ -1,4 +1,5 @@
 pub mod Entries
+pub mod Flaws
 pub mod Kept
 pub mod LineFaults
 pub mod Refusals

@@ -1,31 +1,14 @@
--- What is wrong with a line of a topology file, after lines in which nothing is.
-use Rattle.std.specs.Prelude.{◌≡◌, ◌<◌, ◌≤◌, ◌+◌, ◌-◌, ℕ, IsTrue, List, length, take, Some, slice_get}
-use Rattle.cts_model.specs.declared.tree.Merge.{Merge}
-use Rattle.cts_model.specs.Topologies.{IsMerge}
+-- What the walk over the lines refuses.
+use Rattle.std.specs.Prelude.{ℕ, List}
 use Rattle.topology_file.specs.declared.line_fault.LineFault.{LineFault}
 use Rattle.topology_file.specs.declared.line_fault.LineFault.TheVariants.{Extra, BadLine, NotOpen, NoMemory}
-use Rattle.topology_file.specs.Entries.{AreEntries, IsEntry, entries_in, has_words, merge_of, merges_of, words_in}
+use Rattle.topology_file.specs.Flaws.{HasFlaw}
+use Rattle.topology_file.specs.Flaws as flaws
 
--- each entry makes the node that is due of two open ones, and no entry is too many
-pub record AreFaultless (sinks : ℕ) (entries : List (List (List ℕ))) : Type 0 where
-  pub made : AreEntries sinks entries
-  pub joined : (place : ℕ) (merge : Merge) → slice_get (merges_of entries) place ≡ Some merge
-      → IsMerge sinks (take place (merges_of entries)) merge
-  pub within : length entries ≤ sinks - 1
-
--- the fault of an entry after these merges: that it is too many comes first, then its form and the
--- node that it makes, and then the nodes that it joins; memory may run out at any
-abbrev pub IsEntryFault : (sinks : ℕ) → List Merge → (entry : List (List ℕ)) → LineFault → Type 0
-IsEntryFault sinks merges entry Extra = sinks ≤ length merges + 1
-IsEntryFault sinks merges entry BadLine =
-    (length merges + 1 < sinks) × ¬ (IsEntry (sinks + length merges) entry)
-IsEntryFault sinks merges entry NotOpen =
-    (length merges + 1 < sinks) × IsEntry (sinks + length merges) entry
-    × ¬ (IsMerge sinks merges (merge_of entry))
-IsEntryFault sinks merges entry NoMemory = Unit {0}
-
--- the fault of a line, which isn't blank, after these lines
-pub record IsLineFault (sinks : ℕ) (earlier : List (List ℕ)) (line : List ℕ) (fault : LineFault)
-    : Type 0 where
-  pub written : IsTrue (has_words (words_in line))
-  pub faulty : IsEntryFault sinks (merges_of (entries_in earlier)) (words_in line) fault
+-- the line has this fault after the lines before it; memory may run out at any
+abbrev pub IsLineFault : (sinks : ℕ) → (earlier : List (List ℕ)) → (line : List ℕ) → LineFault
+    → Type 0
+IsLineFault sinks earlier line Extra = HasFlaw sinks earlier line flaws.Extra
+IsLineFault sinks earlier line BadLine = HasFlaw sinks earlier line flaws.BadLine
+IsLineFault sinks earlier line NotOpen = HasFlaw sinks earlier line flaws.NotOpen
+IsLineFault sinks earlier line NoMemory = Unit {0}

@@ -3,7 +3,7 @@ use Rattle.std.specs.Prelude.{◌≡◌, ◌≢◌, ◌<◌, ◌+◌, ◌↔◌,
 use Rattle.cts_model.specs.declared.tree.Merge.{Merge}
 use Rattle.topology_file.specs.declared.joining.Joining.{Joining}
 use Rattle.topology_file.specs.Entries.{entries_in, merges_of}
-use Rattle.topology_file.specs.LineFaults.{AreFaultless}
+use Rattle.topology_file.specs.Flaws.{AreFlawless}
 
 -- exactly the nodes that these merges join are marked
 abbrev pub AreMarked : List Merge → (marks : List Bool) → Type 0
@@ -15,7 +15,7 @@ AreMarked merges marks = (node : ℕ) → node < length marks
 pub record HasTaken (sinks : ℕ) (joining : Joining) (lines : List (List ℕ)) : Type 0 where
   pub sinks_are : joining.sinks ≡ sinks
   pub merges_are : joining.merges ≡ merges_of (entries_in lines)
-  pub faultless : AreFaultless sinks (entries_in lines)
+  pub flawless : AreFlawless sinks (entries_in lines)
   pub marked : AreMarked joining.merges joining.joined.items
 
 -- the merge joins two nodes that are made and aren't marked, the lower first

@@ -1,7 +1,8 @@
 ghost use Rattle.std.specs.Prelude.{◌≡◌, List, ℕ};
 ghost use Rattle.cts_base.specs.Lines.{IsLine};
 ghost use Rattle.topology_file.specs.Entries.{entries_in};
-ghost use Rattle.topology_file.specs.LineFaults.{AreFaultless, IsLineFault};
+ghost use Rattle.topology_file.specs.Flaws.{AreFlawless};
+ghost use Rattle.topology_file.specs.LineFaults.{IsLineFault};
 ghost use Rattle.topology_file.specs.Refusals.{RefusesTopology};
 ghost use Rattle.topology_file.specs.declared.line_fault.LineFault.TheVariants as fault;
 
@@ -21,7 +22,7 @@ impl LineFault {
     /// The refusal of the topology where the line of this number is the first that has a fault.
     pub(crate) fn at(self, number: u32) -> TopologyFault
         ensures { (sinks : ℕ) (text : List ℕ) (earlier : List (List ℕ)) (line : List ℕ)
-            → IsLine text number earlier line → AreFaultless sinks (entries_in earlier)
+            → IsLine text number earlier line → AreFlawless sinks (entries_in earlier)
             → IsLineFault sinks earlier line self → RefusesTopology text sinks result }
     {
         match self {

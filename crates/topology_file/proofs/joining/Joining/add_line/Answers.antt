@@ -1,6 +1,6 @@
 use Rattle.std.proofs.Common.{refl, sym, ◌∙◌, rules}
 use Rattle.std.proofs.lemmas.Result.{err_from_is_err_and}
-use Rattle.topology_file.proofs.TakenLines.{blank_taken, is_bad, is_extra, is_not_open, merge_taken, out_of_memory}
+use Rattle.topology_file.proofs.TakenLines.{blank_taken, is_bad, is_extra, is_not_open, merge_taken}
 use Rattle.topology_file.proofs.joining.Joining.add_line.Goals as goal
 
 pub returns-in_default : goal.returns-in_default
@@ -29,8 +29,7 @@ returns-then-not-has_open c sinks earlier has =
 pub returns-in_err-join : goal.returns-in_err-join
 returns-in_err-join c sinks earlier has =
     let p = err_from_is_err_and c.from_residual.result c.from_residual.ensures.1 in
-    rw (p.1, p.2) (out_of_memory sinks earlier c.args.line.now c.args.self.now has _ _
-    (sym c.words_in-words.ensures ∙ c.in-Some.ensures.steps))
+    rw (p.1, p.2) tt
 
 pub returns : goal.returns
 returns c sinks earlier has =
