@@ -32,7 +32,7 @@ use Rattle.cts_program.proofs.TextLines.{zero_lines_are, found_lines_are, schedu
 
 -- ---- what a text is
 
--- a command of this form has status 1 where no period is admitted
+-- a command of this form looks for a period, and has status 1 where none is admitted
 abbrev pub looks_for_period : Form → Bool
 looks_for_period forms.Zero = false
 looks_for_period forms.Check = false
@@ -44,7 +44,7 @@ SaysOfPeriods false circuit tech status = status ≡ 0
 SaysOfPeriods true circuit tech status = ((status ≡ 0) × (HasNoPeriod circuit tech → ⊥))
     ⊎ ((status ≡ 1) × HasNoPeriod circuit tech)
 
--- by which plan the lines of a text are counted
+-- the plan by which the lines of a text are counted
 abbrev pub plan_of : (status : ℕ) → Form → List ℕ
 plan_of zero forms.Zero = 0 ∷ 0 ∷ []
 plan_of zero forms.Period = 0 ∷ 0 ∷ 1 ∷ []
@@ -70,7 +70,7 @@ pub record IsTextOf (form : Form) (status : ℕ) (text : List ℕ) (circuit : Ci
   pub spelled : text ≡ text_of lines
 
 module _ (circuit : Circuit) (tech : Tech) where
-  -- lines that are a text's with a status are so with the same status
+  -- a text of such lines, whose status is theirs
   text_with : (form : Form) (status other : ℕ) (lines : List Words) (text : List ℕ)
       → AreLinesOf form circuit tech other lines → status ≡ other → text ≡ text_of lines
       → IsTextOf form status text circuit tech
@@ -130,7 +130,7 @@ module _ (circuit : Circuit) (tech : Tech) where
       → AreLinesOf forms.Period circuit tech (outcome_status outcome)
       (period_lines circuit outcome)
   period_are (periods.Found at_equal period shown) found = record {
-    each = found_lines_are circuit at_equal period shown;
+    each = found_lines_are circuit tech at_equal period shown;
     some = omega arith;
     counted = counted_line (counted_line
         (subst (AreCounted (1 ∷ [])) (append-nil (show_lines circuit shown))
@@ -150,7 +150,7 @@ module _ (circuit : Circuit) (tech : Tech) where
       → AreLinesOf forms.Schedule circuit tech (outcome_status (period_outcome outcome))
       (schedule_lines circuit outcome)
   schedule_are (schedules.Found at_equal period shown schedule slacks) found = record {
-    each = scheduled_lines_are circuit at_equal period shown schedule slacks;
+    each = scheduled_lines_are circuit tech at_equal period shown schedule slacks;
     some = omega arith;
     counted = counted_line (counted_line
         (counted_show circuit tech First period shown [] found.found.shown

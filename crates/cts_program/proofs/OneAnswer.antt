@@ -89,7 +89,8 @@ pub record Answers (form : Form) (given : List Given) (contents : List (List ℕ
 -- a text for the circuit and the delays that contents tell, of a command that checks no report
 answers_with : (form : Form) (given : List Given) (contents : List (List ℕ)) (status : ℕ)
     (text : List ℕ) (Holds : Circuit → Tech → Type 0) → form ≢ forms.Check
-    → ((circuit : Circuit) (tech : Tech) → Holds circuit tech → IsTextOf form status text circuit tech)
+    → ((circuit : Circuit) (tech : Tech) → Holds circuit tech
+    → IsTextOf form status text circuit tech)
     → TellWith (texts_for form given contents) Holds
     → Answers form given contents status text
 answers_with form given contents status text Holds other so tell = record {

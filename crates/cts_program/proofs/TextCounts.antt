@@ -1,5 +1,5 @@
 -- How the lines of each text are counted.
-use Rattle.std.proofs.Common.{◌≡◌, ◌<◌, ◌≤◌, ◌≢◌, ◌+◌, ◌*◌, ◌++◌, ℕ, suc, Bool, true, false, cond, List, [], ◌∷◌, length, map, All, AllPairs, refl, sym, ap, ◌∙◌, subst, append-nil, append_assoc, length-append, codes, arith}
+use Rattle.std.proofs.Common.{◌≡◌, ◌<◌, ◌≤◌, ◌≢◌, ◌+◌, ◌*◌, ◌++◌, ℕ, suc, List, [], ◌∷◌, length, map, All, AllPairs, refl, sym, ap, ◌∙◌, subst, append-nil, append_assoc, length-append, codes, arith}
 use Rattle.std.proofs.lemmas.Bool.Decides.{Decides-eqb}
 use Rattle.std.proofs.lemmas.Fmt.{decimal_is_IsNumeral}
 use Rattle.std.proofs.lemmas.List.{length-map}
@@ -20,7 +20,6 @@ use Rattle.cts_model.specs.declared.report.Version.TheVariants.{First, Second}
 use Rattle.cts_model.specs.declared.schedule.Schedule.{Schedule}
 use Rattle.cts_model.specs.declared.schedule.Slack.{Slack}
 use Rattle.cts_model.specs.declared.tech.Tech.{Tech}
-use Rattle.cts_model.specs.Circuits.{has_host}
 use Rattle.cts_model.specs.Constraints.{IsConstraintOf}
 use Rattle.cts_model.specs.Cycles.{IsCycle}
 use Rattle.cts_model.specs.LeastPeriods.{IsForbidding, IsPeriodShow}
@@ -46,12 +45,7 @@ tails_apart (constraint ∷ cycle) apart =
 
 -- there are few registers
 few_registers : (circuit : Circuit) → length circuit.registers ≤ 4097
-few_registers circuit = at (has_host circuit.signals) circuit.valid.few_registers
-  where
-    at : (host : Bool) → length circuit.registers ≤ 4096 + cond host 1 0
-        → length circuit.registers ≤ 4097
-    at true few = few
-    at false few = omega arith
+few_registers circuit = grind (arith, circuit.valid.few_registers)
 
 -- and a cycle of a circuit's constraints has at most as many constraints
 few_constraints : (circuit : Circuit) (tech : Tech) (cycle : List Constraint)

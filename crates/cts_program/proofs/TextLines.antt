@@ -22,17 +22,12 @@ use Rattle.report_text.proofs.ReportWords.{AreLines, report_lines_are}
 use Rattle.cts_program.specs.DemoTexts.{summary_lines}
 use Rattle.cts_program.specs.PeriodTexts.{found_lines, never_lines}
 use Rattle.cts_program.specs.ScheduleTexts.{register_lines}
-use Rattle.cts_program.specs.Texts.{zero_line, zero_lines}
+use Rattle.cts_program.specs.Texts.{zero_lines}
 
 -- lines before others are lines
 lines_before : (lines others : List Words) → AreLines (lines ++ others) → AreLines lines
 lines_before [] others are = tt
 lines_before (line ∷ lines) others are = (are.0, lines_before lines others are.1)
-
--- and so are lines after others
-lines_after : (lines others : List Words) → AreLines (lines ++ others) → AreLines others
-lines_after [] others are = are
-lines_after (line ∷ lines) others are = lines_after lines others are.1
 
 -- a report of these times, whose tree has no node, and this wire
 abbrev report_with : Fraction → PeriodShow → Schedule → List Slack → (grid total : ℤ) → Report
@@ -93,38 +88,32 @@ module _ (circuit : Circuit) where
   number_word number =
       (constraint_is (record { setup = true; tail = 0; head = 0; weight = number })).1.1.1.0
 
-  -- the line for the least period at equal arrivals
-  zero_line_is : (zero : ZeroSkew) → IsLine (zero_line zero)
-  zero_line_is (Fails pair) = search arith
-  zero_line_is (Floor value) = (search arith, (number_word value, tt))
-  zero_line_is (Setup value pair) = (search arith, (number_word value, tt))
-
-  -- those of a text for it
+  -- the lines of a text for the least period at equal arrivals
   pub zero_lines_are : (tech : Tech) (zero : ZeroSkew) → AreLines (zero_lines circuit tech zero)
   zero_lines_are tech (Fails pair) = (
-    zero_line_is (Fails pair),
+    search arith,
     (constraint_is (record { setup = false; tail = pair.to; head = pair.from; weight = _ }), tt),
   )
-  zero_lines_are tech (Floor value) = (zero_line_is (Floor value), search arith)
+  zero_lines_are tech (Floor value) = ((search arith, (number_word value, tt)), search arith)
   zero_lines_are tech (Setup value pair) = (
-    zero_line_is (Setup value pair),
+    (search arith, (number_word value, tt)),
     (constraint_is (record { setup = true; tail = pair.from; head = pair.to; weight = _ }), tt),
   )
 
   -- those of a period with its schedule
-  pub scheduled_lines_are : (zero : ZeroSkew) (period : Fraction) (shown : PeriodShow)
-      (schedule : Schedule) (slacks : List Slack)
+  pub scheduled_lines_are : (tech : Tech) (zero : ZeroSkew) (period : Fraction)
+      (shown : PeriodShow) (schedule : Schedule) (slacks : List Slack)
       → AreLines (found_lines circuit zero period shown ++ register_lines circuit schedule slacks)
-  scheduled_lines_are zero period shown schedule slacks =
+  scheduled_lines_are tech zero period shown schedule slacks =
       let timing = timing_lines_are period shown schedule slacks in
-      (timing.0, (zero_line_is zero, timing.1))
+      (timing.0, ((zero_lines_are tech zero).0, timing.1))
 
   -- those of a period alone
-  pub found_lines_are : (zero : ZeroSkew) (period : Fraction) (shown : PeriodShow)
+  pub found_lines_are : (tech : Tech) (zero : ZeroSkew) (period : Fraction) (shown : PeriodShow)
       → AreLines (found_lines circuit zero period shown)
-  found_lines_are zero period shown =
+  found_lines_are tech zero period shown =
       lines_before (found_lines circuit zero period shown) (register_lines circuit no_arrivals [])
-      (scheduled_lines_are zero period shown no_arrivals [])
+      (scheduled_lines_are tech zero period shown no_arrivals [])
 
   -- those of a cycle that forbids every period
   pub never_lines_are : (cycle : List Constraint) → AreLines (never_lines circuit cycle)
@@ -135,5 +124,7 @@ module _ (circuit : Circuit) where
       → AreLines (summary_lines registers report)
   summary_lines_are registers report =
       let wired = report_with report.period shows.Floor no_arrivals [] report.grid report.total in
-      let are = report_lines_are circuit wired in
-      ((search arith, (number_word (pos registers), tt)), (are.1.0, (are.1.1.1.1.1.1.1.0, search arith)))
+      let are = report_lines_are circuit wired in (
+        (search arith, (number_word (pos registers), tt)),
+        (are.1.0, (are.1.1.1.1.1.1.1.0, search arith)),
+      )

@@ -31,38 +31,34 @@ says_some false circuit tech is says none = cc is
 says_some true circuit tech is (inl found) none = found.1 none
 says_some true circuit tech is (inr never) none = absurd (omega (arith, never.0))
 
--- what it is that a command finds no period
-record FindsNone (command : Command) (contents : List (List ℕ)) : Type 0 where
-  looks : looks_for_period (form_of command) ≡ true
-  all : AreAll command contents
-  none : TellWith (texts_for (form_of command) (options_of command) contents) HasNoPeriod
+-- a command looks for a period, and what it goes by admits none
+abbrev FindsNone : Command → List (List ℕ) → Type 0
+FindsNone command contents = (looks_for_period (form_of command) ≡ true)
+    × AreAll command contents
+    × TellWith (texts_for (form_of command) (options_of command) contents) HasNoPeriod
 
 finds_by : (command : Command) (contents : List (List ℕ)) → FindsNone command contents
     → FindsNoPeriod command contents
-finds_by (Zero bench tech) contents finds = absurd (cc finds.looks)
-finds_by (Period bench tech) contents finds = (finds.all, finds.none)
-finds_by (Schedule bench tech) contents finds = (finds.all, finds.none)
-finds_by (Synth bench tech pl) contents finds = (finds.all, finds.none)
-finds_by (Check bench tech pl report) contents finds = absurd (cc finds.looks)
-finds_by (Demo registers seed) contents finds = (finds.all, finds.none)
+finds_by (Zero bench tech) contents (looks, all, none) = cc looks
+finds_by (Period bench tech) contents (looks, all, none) = (all, none)
+finds_by (Schedule bench tech) contents (looks, all, none) = (all, none)
+finds_by (Synth bench tech pl) contents (looks, all, none) = (all, none)
+finds_by (Check bench tech pl report) contents (looks, all, none) = cc looks
+finds_by (Demo registers seed) contents (looks, all, none) = (all, none)
 
 found_by : (command : Command) (contents : List (List ℕ)) → FindsNoPeriod command contents
     → FindsNone command contents
 found_by (Zero bench tech) contents finds = absurd finds
-found_by (Period bench tech) contents (all, none) =
-    record { looks = refl; all = all; none = none }
-found_by (Schedule bench tech) contents (all, none) =
-    record { looks = refl; all = all; none = none }
-found_by (Synth bench tech pl) contents (all, none) =
-    record { looks = refl; all = all; none = none }
+found_by (Period bench tech) contents (all, none) = (refl, all, none)
+found_by (Schedule bench tech) contents (all, none) = (refl, all, none)
+found_by (Synth bench tech pl) contents (all, none) = (refl, all, none)
 found_by (Check bench tech pl report) contents finds = absurd finds
-found_by (Demo registers seed) contents (all, none) =
-    record { looks = refl; all = all; none = none }
+found_by (Demo registers seed) contents (all, none) = (refl, all, none)
 
 -- where a command finds no period the contents of all its files are known
 pub finds_all : (command : Command) (contents : List (List ℕ)) → FindsNoPeriod command contents
     → AreAll command contents
-finds_all command contents finds = (found_by command contents finds).all
+finds_all command contents finds = (found_by command contents finds).1
 
 -- with a text of status 1 it finds none
 pub finds_no_period : (command : Command) (contents : List (List ℕ)) → AreAll command contents
@@ -71,29 +67,28 @@ pub finds_no_period : (command : Command) (contents : List (List ℕ)) → AreAl
 finds_no_period command contents all text answer =
     let says = says_none (looks_for_period (form_of command)) answer.circuit answer.tech
     answer.holds.are.says in
-    finds_by command contents (record {
-      looks = says.0;
-      all = all;
-      none = record {
+    finds_by command contents (
+      says.0,
+      all,
+      record {
         accepted = answer.accepted;
         circuit = answer.circuit;
         tech = answer.tech;
         tell = answer.tell;
         few = answer.few (λ check. let clash = sym (ap looks_for_period check) ∙ says.0 in cc clash);
         holds = says.1;
-      };
-    })
+      },
+    )
 
 -- and then it has no text with status 0
 pub finds_period : (command : Command) (contents : List (List ℕ)) (text : List ℕ)
     → Answers (form_of command) (options_of command) contents 0 text
     → FindsNoPeriod command contents → ⊥
 finds_period command contents text answer finds =
-    let found = found_by command contents finds in
-    let none = found.none in
+    let (looks, all, none) = found_by command contents finds in
     let same = one_denoted (texts_for (form_of command) (options_of command) contents)
     none.circuit answer.circuit none.tech answer.tech none.tell answer.tell in
-    says_some (looks_for_period (form_of command)) answer.circuit answer.tech found.looks
+    says_some (looks_for_period (form_of command)) answer.circuit answer.tech looks
     answer.holds.are.says
     (subst (λ t. HasNoPeriod answer.circuit t) same.1
     (subst (λ c. HasNoPeriod c none.tech) same.0 none.holds))
