@@ -1,27 +1,31 @@
 -- The parsers of the commands take plain words.
-use Rattle.std.proofs.Common.{◌≡◌, not, ◌||◌, ◌++◌, Bool, true, false, List, [], ◌∷◌, map, cond, Some, None, is_some, IsTrue, refl, sym, ap, ◌∙◌, subst, true≢false}
-use Rattle.std.specs.Prelude.{drop, find, option_and_then, slice_get}
+use Rattle.std.proofs.Common.{◌≡◌, not, ◌||◌, ◌&&◌, ◌++◌, Bool, true, false, List, [], ◌∷◌, map, cond, Option, Some, None, is_some, IsTrue, refl, sym, ap, ◌∙◌, subst, true≢false, codes}
+use Rattle.std.specs.Prelude.{find, option_and_then, slice_get}
 use Rattle.std.specs.Str.{bytes_eq}
-use Rattle.std.specs.List.{AllByRecursion, list_all}
+use Rattle.std.specs.List.{All, AllByRecursion, list_all}
 use Rattle.std.specs.Option.{option_map_or}
 use Rattle.std.specs.Cmp.Lexicographic.{nat_list_eq_equiv}
-use Rattle.std.proofs.lemmas.List.Folds.{list_any-append}
-use Rattle.std.proofs.lemmas.Slice.Eq.{bytes_eq-Decides}
+use Rattle.std.proofs.lemmas.List.Elements.{All-head, All-tail}
 use Rattle.clap.specs.Facts.{explicit_source}
+use Rattle.clap.specs.Lexer.{long_of}
 use Rattle.clap.specs.Matches.{first_value}
-use Rattle.clap.specs.Walk.{Row, Rule, rows_of, first_of, has_row, nothing_held, rows_after}
-use Rattle.clap.specs.Simple.{argument_words, built, is_simple, label_of, matches_of}
-use Rattle.clap.specs.Takes.{default_passes, is_given, is_valid, takes}
+use Rattle.clap.specs.Walk.{Row, Rule, arg_by_id, arg_by_long, rows_of, first_of, nothing_held, rows_after}
+use Rattle.clap.specs.Simple.{App, Shape, argument_words, built, is_simple, label_of, matches_of}
+use Rattle.clap.specs.Takes.{is_given, is_valid, takes}
 use Rattle.clap.specs.declared.parser.matches.Found.{Found}
 use Rattle.clap.proofs.TakesLemmas.{leaf_takes}
 use Rattle.clap.proofs.WalkLemmas.{first_value-rows}
 use Rattle.cts_program.specs.declared.command.table.Form.{Form}
 use Rattle.cts_program.specs.declared.command.table.Form.TheVariants.{Zero, Period, Schedule, Synth, Check, Demo}
-use Rattle.cts_program.specs.Commands.{Word, Given, is_value, option_words}
-use Rattle.cts_program.specs.PlainWords.{form_name, choices_of, is_known, has_option, are_options, has_required, has_values, IsPlain}
-use Rattle.cts_program.specs.Parsers.{parser_for}
-use Rattle.cts_program.proofs.GivenOptions.{both, value_of, has_option-given, given_of, head_passes}
-use Rattle.cts_program.proofs.ParserWalk.{IsReadBy, Fresh, Walks, row_for, walks, level-walks, rows_after-walks}
+use Rattle.cts_program.specs.declared.command.table.Choice.{Choice}
+use Rattle.cts_program.specs.CommandTable.{Word, word_of, kind_of, is_required, form_name, choices_of}
+use Rattle.cts_program.specs.Commands.{Given, IsTaken, is_value, is_taken, is_file_name, option_words}
+use Rattle.cts_program.specs.PlainWords.{has_option, are_options, has_required, row_values, IsPlain}
+use Rattle.cts_program.specs.Parsers.{long_name, parser_for}
+use Rattle.cts_program.proofs.GivenOptions.{both, is_word, value_of, has_option-value, values_in, SpellsOptions}
+use Rattle.cts_program.proofs.NumberWords.{value_first}
+use Rattle.cts_program.proofs.PlainCommands.{spelled}
+use Rattle.cts_program.proofs.ParserWalk.{HaveNoDefaults, IsReadBy, Lacks, Walks, row_for, rule_with, walks, level-walks, rows_after-walks}
 
 -- ---- the rows that options and their values leave
 
@@ -46,252 +50,144 @@ given-rows word (one ∷ more) = rw (nat_list_eq_equiv.symm one.0 word) (at (byt
     at true rest = refl
     at false rest = rest
 
--- ---- options that pass the reader's test come one by one
-
--- an option without a value differs from all
-apart : (option : Word) (given : List Given) → value_of option given ≡ None → AllByRecursion (λ other. bytes_eq option other.0 ≡ false) given
-apart option [] none = tt
-apart option (one ∷ more) none = at (bytes_eq option one.0) refl (apart option more)
-  where
-    at : (same : Bool) → bytes_eq option one.0 ≡ same → (value_of option more ≡ None → AllByRecursion (λ other. bytes_eq option other.0 ≡ false) more)
-        → AllByRecursion (λ other. bytes_eq option other.0 ≡ false) (one ∷ more)
-    at true same rest = absurd (true≢false (sym (ap (λ test. is_some (cond test (Some one.1) (value_of option more))) same) ∙ ap is_some none))
-    at false same rest = (same, rest (sym (ap (λ test. cond test (Some one.1) (value_of option more)) same) ∙ none))
-
--- the rows have none of these options
-abbrev Lacks : List Row → List Given → Type 0
-Lacks rows given = AllByRecursion (λ one. has_row one.0 rows ≡ false) given
-
--- the row of an option that differs changes nothing
-lacks_more : (one : Given) (more : List Given) (rows : List Row) → AllByRecursion (λ other. bytes_eq one.0 other.0 ≡ false) more → Lacks rows more → Lacks (rows ++ row_for one ∷ []) more
-lacks_more one [] rows differ lacks = tt
-lacks_more one (other ∷ more) rows differ lacks = (
-  rw (list_any-append (λ (row : Row). bytes_eq row.id other.0) rows (row_for one ∷ []), lacks.0, differ.0) refl,
-  lacks_more one more rows differ.1 lacks.1,
-)
-
--- no rows have none
+-- no rows lack all options
 lacks_all : (given : List Given) → Lacks [] given
 lacks_all [] = tt
 lacks_all (one ∷ more) = (refl, lacks_all more)
 
--- so each comes for the first time
-fresh : (choices : List (Word × Bool)) (given : List Given) (rows : List Row) → are_options choices (option_words given) ≡ true → Lacks rows given → Fresh rows given
-fresh choices [] rows pass lacks = tt
-fresh choices (one ∷ more) rows pass lacks =
-    let head = head_passes choices one more pass in
-    (lacks.0, fresh choices more (rows ++ row_for one ∷ []) head.others (lacks_more one more rows (apart one.0 more head.once) lacks.1))
-
 -- ---- the parsers of the commands
 
--- a parser without subcommands reads these options
-record Reads (form : Form) : Type 0 where
-  simple : is_simple (parser_for form) ≡ true
-  alone : (built (parser_for form)).subs ≡ []
-  after_name : (name : Word) (others : List Word) → argument_words (parser_for form) (name ∷ others) ≡ others
-  each : (word : Word) → is_known (choices_of form) word ≡ true → IsReadBy (built (parser_for form)).top.rules word
-  no_request : list_all default_passes (built (parser_for form)).top.rules ≡ true
-  no_defaults : AllByRecursion (λ rule. rule.defaults ≡ []) (built (parser_for form)).top.rules
+-- what a parser has for an option's word, and as what the word is read
+abbrev Reading : Type 0
+Reading = Option Rule × Option Rule × Option (Word × Option Word) × Bool
 
--- where each option of a row is read, so is a word that is one of them
-read_known : (rules : List Rule) (choices : List (Word × Bool)) → AllByRecursion (λ choice. IsReadBy rules choice.0) choices → (word : Word) → is_known choices word ≡ true → IsReadBy rules word
-read_known rules [] each word known = absurd (true≢false (sym known))
-read_known rules (choice ∷ more) each word known = at (bytes_eq choice.0 word) refl (read_known rules more each.1 word) known
+abbrev reading : List Rule → Word → Reading
+reading rules word =
+    (arg_by_id rules word, arg_by_long rules (long_name word), long_of word, bytes_eq word (codes "--"))
+
+-- that is due for an option
+abbrev due : Choice → Reading
+due choice =
+    let word = word_of choice in
+    let rule = Some (rule_with word (is_required choice)) in
+    (rule, rule, Some (long_name word, None), false)
+
+-- a parser without subcommands reads these options, and requires what their row requires
+record Reads (top : Shape) (choices : List Choice) : Type 0 where
+  each : map (λ choice. reading top.rules (word_of choice)) choices ≡ map due choices
+  no_defaults : HaveNoDefaults top.rules
+  valid : (rows : List Row) → is_valid top rows false
+      ≡ list_all (λ choice. not (is_required choice) || is_given (word_of choice) rows) choices
+
+-- the parser of each command does
+reads : (form : Form) → Reads (built (parser_for form)).top (choices_of form)
+reads Zero = record { each = refl; no_defaults = refl; valid = λ rows. refl }
+reads form = record { each = refl; no_defaults = refl; valid = λ rows. refl }
+
+-- and it has none
+alone : (form : Form) → (built (parser_for form)).subs ≡ []
+alone Zero = refl
+alone form = refl
+
+after_name : (form : Form) (name : Word) (others : List Word)
+    → argument_words (parser_for form) (name ∷ others) ≡ others
+after_name Zero name others = refl
+after_name form name others = refl
+
+-- it is one of those whose matches are known
+is_simple_parser : (form : Form) → is_simple (parser_for form) ≡ true
+is_simple_parser Zero = refl
+is_simple_parser form = refl
+
+-- an option that a row takes is read where each of the row is
+read_taken : (rules : List Rule) (choices : List Choice)
+    → map (λ choice. reading rules (word_of choice)) choices ≡ map due choices
+    → (one : Given) → IsTaken choices one → IsReadBy rules one.0 × (is_file_name one.1 ≡ true)
+read_taken rules [] each one taken = absurd (true≢false (sym taken))
+read_taken rules (choice ∷ more) each one taken =
+    at (bytes_eq (word_of choice) one.0) refl (is_value (kind_of choice) one.1) refl taken
+    (read_taken rules more (cc) one)
   where
-    at : (same : Bool) → bytes_eq choice.0 word ≡ same → (is_known more word ≡ true → IsReadBy rules word) → (same || is_known more word) ≡ true → IsReadBy rules word
-    at true same rest known = subst (IsReadBy rules) ((bytes_eq-Decides choice.0 word).0 same) each.0
-    at false same rest known = rest known
+    read : IsReadBy rules (word_of choice)
+    read =
+        let is : reading rules (word_of choice) ≡ due choice = cc in
+        record {
+          required = is_required choice;
+          by_id = ap (λ (r : Reading). r.0) is;
+          by_long = ap (λ (r : Reading). r.1) is;
+          long = ap (λ (r : Reading). r.2) is;
+          option = ap (λ (r : Reading). r.3) is;
+        }
 
--- the options of each command are read
-reads_row : (form : Form)
-    → AllByRecursion (λ choice. IsReadBy (built (parser_for form)).top.rules choice.0)
-    (choices_of form)
-reads_row Zero = (
-  record { required = true; by_id = refl; by_long = refl; long = refl; option = refl },
-  (record { required = false; by_id = refl; by_long = refl; long = refl; option = refl }, tt),
+    at : (same : Bool) → bytes_eq (word_of choice) one.0 ≡ same
+        → (valid : Bool) → is_value (kind_of choice) one.1 ≡ valid
+        → (same && valid || is_taken more one.0 one.1) ≡ true
+        → (IsTaken more one → IsReadBy rules one.0 × (is_file_name one.1 ≡ true))
+        → IsReadBy rules one.0 × (is_file_name one.1 ≡ true)
+    at true same true valid taken rest =
+        (subst (IsReadBy rules) (is_word (word_of choice) one.0 same) read, value_first (kind_of choice) one.1 valid)
+    at true same false valid taken rest = rest taken
+    at false same valid is taken rest = rest taken
+
+-- so are all options that it takes
+read_all : (rules : List Rule) (choices : List Choice)
+    → map (λ choice. reading rules (word_of choice)) choices ≡ map due choices
+    → (given : List Given) → All (IsTaken choices) given
+    → AllByRecursion (λ one. IsReadBy rules one.0 × (is_file_name one.1 ≡ true)) given
+read_all rules choices each [] taken = tt
+read_all rules choices each (one ∷ more) taken = (
+  read_taken rules choices each one (All-head (IsTaken choices) one more taken),
+  read_all rules choices each more (All-tail (IsTaken choices) one more taken),
 )
-reads_row Period = (
-  record { required = true; by_id = refl; by_long = refl; long = refl; option = refl },
-  (record { required = true; by_id = refl; by_long = refl; long = refl; option = refl }, tt),
-)
-reads_row Schedule = (
-  record { required = true; by_id = refl; by_long = refl; long = refl; option = refl },
-  (record { required = true; by_id = refl; by_long = refl; long = refl; option = refl }, tt),
-)
-reads_row Synth = (
-  record { required = true; by_id = refl; by_long = refl; long = refl; option = refl },
-  (
-    record { required = true; by_id = refl; by_long = refl; long = refl; option = refl },
-    (record { required = true; by_id = refl; by_long = refl; long = refl; option = refl }, tt),
-  ),
-)
-reads_row Check = (
-  record { required = true; by_id = refl; by_long = refl; long = refl; option = refl },
-  (
-    record { required = true; by_id = refl; by_long = refl; long = refl; option = refl },
-    (
-      record { required = true; by_id = refl; by_long = refl; long = refl; option = refl },
-      (record { required = true; by_id = refl; by_long = refl; long = refl; option = refl }, tt),
-    ),
-  ),
-)
-reads_row Demo = (
-  record { required = true; by_id = refl; by_long = refl; long = refl; option = refl },
-  (record { required = true; by_id = refl; by_long = refl; long = refl; option = refl }, tt),
-)
-
--- each option that a row requires is given, where it stands
-required_given : (given : List Given) (choices : List (Word × Bool))
-    → has_required choices (option_words given) ≡ true
-    → AllByRecursion (λ choice. choice.1 ≡ true → is_given choice.0 (map row_for given) ≡ true)
-    choices
-required_given given [] required = tt
-required_given given (choice ∷ more) required =
-    let words = option_words given in
-    let parts = both (not choice.1 || has_option choice.0 words) (has_required more words) required
-    in (
-      λ always. given-rows choice.0 given ∙ sym (has_option-given choice.0 given)
-          ∙ rw always at parts.0,
-      required_given given more parts.1,
-    )
-
--- and then the command has what it requires
-valid : (form : Form) (given : List Given)
-    → has_required (choices_of form) (option_words given) ≡ true
-    → is_valid (built (parser_for form)).top (map row_for given) false ≡ true
-valid Zero given required =
-    let (bench, _) = required_given given (choices_of Zero) required in
-    rw (bench refl) refl
-valid Period given required =
-    let (bench, (tech, _)) = required_given given (choices_of Period) required in
-    rw (bench refl, tech refl) refl
-valid Schedule given required =
-    let (bench, (tech, _)) = required_given given (choices_of Schedule) required in
-    rw (bench refl, tech refl) refl
-valid Synth given required =
-    let (bench, (tech, (pl, _))) = required_given given (choices_of Synth) required in
-    rw (bench refl, tech refl, pl refl) refl
-valid Check given required =
-    let (bench, (tech, (pl, (report, _)))) = required_given given (choices_of Check) required in
-    rw (bench refl, tech refl, pl refl, report refl) refl
-valid Demo given required =
-    let (registers, (seed, _)) = required_given given (choices_of Demo) required in
-    rw (registers refl, seed refl) refl
-
--- so it is with the parser of each command
-reads : (form : Form) → Reads form
-reads Zero = record {
-  simple = refl;
-  alone = refl;
-  after_name = λ name others. refl;
-  each = read_known (built (parser_for Zero)).top.rules (choices_of Zero) (reads_row Zero);
-  no_request = refl;
-  no_defaults = (refl, (refl, (refl, tt)));
-}
-reads Period = record {
-  simple = refl;
-  alone = refl;
-  after_name = λ name others. refl;
-  each = read_known (built (parser_for Period)).top.rules (choices_of Period) (reads_row Period);
-  no_request = refl;
-  no_defaults = (refl, (refl, (refl, tt)));
-}
-reads Schedule = record {
-  simple = refl;
-  alone = refl;
-  after_name = λ name others. refl;
-  each = read_known (built (parser_for Schedule)).top.rules (choices_of Schedule) (reads_row Schedule);
-  no_request = refl;
-  no_defaults = (refl, (refl, (refl, tt)));
-}
-reads Synth = record {
-  simple = refl;
-  alone = refl;
-  after_name = λ name others. refl;
-  each = read_known (built (parser_for Synth)).top.rules (choices_of Synth) (reads_row Synth);
-  no_request = refl;
-  no_defaults = (refl, (refl, (refl, (refl, tt))));
-}
-reads Check = record {
-  simple = refl;
-  alone = refl;
-  after_name = λ name others. refl;
-  each = read_known (built (parser_for Check)).top.rules (choices_of Check) (reads_row Check);
-  no_request = refl;
-  no_defaults = (refl, (refl, (refl, (refl, (refl, tt)))));
-}
-reads Demo = record {
-  simple = refl;
-  alone = refl;
-  after_name = λ name others. refl;
-  each = read_known (built (parser_for Demo)).top.rules (choices_of Demo) (reads_row Demo);
-  no_request = refl;
-  no_defaults = (refl, (refl, (refl, tt)));
-}
-
--- the parser reads options that pass the reader's test
-reads_all : (form : Form) (given : List Given) → are_options (choices_of form) (option_words given) ≡ true
-    → AllByRecursion (λ one. IsReadBy (built (parser_for form)).top.rules one.0 × IsTrue (is_value one.0 one.1)) given
-reads_all form [] pass = tt
-reads_all form (one ∷ more) pass =
-    let head = head_passes (choices_of form) one more pass in
-    (((reads form).each one.0 head.known, head.value), reads_all form more head.others)
-
--- and so it walks over them
-walks_plain : (form : Form) (given : List Given) → are_options (choices_of form) (option_words given) ≡ true → Walks (built (parser_for form)).top nothing_held given
-walks_plain form given pass =
-    walks (built (parser_for form)).top given nothing_held refl (reads_all form given pass) (fresh (choices_of form) given [] pass (lacks_all given))
-
--- the parser of a command takes its plain words
-takes_plain : (form : Form) (name : Word) (given : List Given) → are_options (choices_of form) (option_words given) ≡ true → has_required (choices_of form) (option_words given) ≡ true
-    → takes (parser_for form) (name ∷ option_words given) ≡ true
-takes_plain form name given pass required =
-    let r = reads form in
-    let top = (built (parser_for form)).top in
-    rw (r.simple, r.after_name name (option_words given))
-    (leaf_takes (built (parser_for form)) nothing_held (option_words given) r.alone
-    (level-walks top given (walks_plain form given pass) r.no_request r.no_defaults (valid form given required)))
-
--- and finds the value of each option
-first_of-plain : (form : Form) (name : Word) (given : List Given) → are_options (choices_of form) (option_words given) ≡ true
-    → (word : Word) → first_of word (matches_of (parser_for form) (name ∷ option_words given)) ≡ value_of word given
-first_of-plain form name given pass word =
-    let r = reads form in
-    let top = (built (parser_for form)).top in
-    ap (first_of word) ((λ i. rows_after top.rules (map label_of (r.alone i)) (r.after_name name (option_words given) i)) ∙ rows_after-walks top given (walks_plain form given pass) r.no_defaults)
-    ∙ first_of-rows word given
 
 -- ---- plain words, read
 
--- the parser of a command is one of those whose matches are known
-pub is_simple_parser : (form : Form) → is_simple (parser_for form) ≡ true
-is_simple_parser form = (reads form).simple
-
 module _ (words : List Word) (form : Form) (plain : IsPlain words form) where
-  -- options that spell what stands after the name pass the reader's test
-  passes : (given : List Given) → words ≡ form_name form ∷ option_words given → are_options (choices_of form) (option_words given) ≡ true
-  passes given is = subst (λ others. are_options (choices_of form) others ≡ true) (ap (λ (ws : List Word). drop 1 ws) (sym plain.words_are ∙ is)) plain.options
+  -- the options that they spell, and the parser for them
+  abbrev options : SpellsOptions (choices_of form) plain.others
+  options = spelled words form plain
 
-  -- the parser takes the words
-  pub takes_words : takes (parser_for form) words ≡ true
-  takes_words =
-      let pairs = given_of (choices_of form) plain.others plain.options in
-      let pass = subst (λ others. are_options (choices_of form) others ≡ true) pairs.1 plain.options in
-      let required = subst (λ others. has_required (choices_of form) others ≡ true) pairs.1 plain.required in
-      let is : words ≡ form_name form ∷ option_words pairs.0 = plain.words_are ∙ ap (λ others. form_name form ∷ others) pairs.1 in
-      ap (takes (parser_for form)) is ∙ takes_plain form (form_name form) pairs.0 pass required
+  abbrev top : Shape
+  top = (built (parser_for form)).top
 
-  -- what the parser found has the value of each option
-  pub finds_values : (found : Found) → rows_of found ≡ matches_of (parser_for form) words → (given : List Given) → words ≡ form_name form ∷ option_words given
-      → (word : Word) → first_value found word ≡ value_of word given
-  finds_values found rows given is word =
-      first_value-rows found word ∙ ap (first_of word) (rows ∙ ap (matches_of (parser_for form)) is) ∙ first_of-plain form (form_name form) given (passes given is) word
+  -- the parser walks over them
+  walks_plain : Walks top nothing_held options.given
+  walks_plain = walks top options.given nothing_held refl
+      (read_all top.rules (choices_of form) (reads form).each options.given options.taken)
+      options.once (lacks_all options.given)
 
-  -- and so each option that is required has one
-  pub finds_required : (found : Found) → rows_of found ≡ matches_of (parser_for form) words → has_values (first_value found) (choices_of form) ≡ true
-  finds_required found rows =
-      let pairs = given_of (choices_of form) plain.others plain.options in
-      let is : words ≡ form_name form ∷ option_words pairs.0 = plain.words_are ∙ ap (λ others. form_name form ∷ others) pairs.1 in
-      let there : (word : Word) → is_some (first_value found word) ≡ has_option word plain.others =
-      λ word. ap is_some (finds_values found rows pairs.0 is word) ∙ sym (has_option-given word pairs.0) ∙ ap (has_option word) (sym pairs.1) in
-      (λ i. list_all (λ choice. not choice.1 || there choice.0 i) (choices_of form)) ∙ plain.required
+  words_spelled : words ≡ form_name form ∷ option_words options.given
+  words_spelled = plain.words_are ∙ ap (λ others. form_name form ∷ others) options.words_are
+
+  -- it has what it requires
+  valid_plain : is_valid top (map row_for options.given) false ≡ true
+  valid_plain = (reads form).valid (map row_for options.given)
+      ∙ (λ i. list_all (λ choice. not (is_required choice) || stands (word_of choice) i) (choices_of form))
+      ∙ (both (are_options (choices_of form) plain.others) (has_required (choices_of form) plain.others) plain.options).1
+    where
+      stands : (word : Word) → is_given word (map row_for options.given) ≡ has_option word plain.others
+      stands word = given-rows word options.given ∙ sym (has_option-value word options.given)
+          ∙ ap (has_option word) (sym options.words_are)
+
+  module _ (app : App) (is : app ≡ parser_for form) where
+    -- so it takes them
+    pub takes_words : takes app words ≡ true
+    takes_words =
+        rw (is, words_spelled, is_simple_parser form, after_name form (form_name form) (option_words options.given))
+        (leaf_takes (built (parser_for form)) nothing_held (option_words options.given) (alone form)
+        (level-walks top options.given walks_plain (reads form).no_defaults valid_plain))
+
+    -- and what it finds are the values of their options
+    pub finds_values : {Z : Type 0} (found : Found)
+        → (is_simple app ≡ true → (rows_of found ≡ matches_of app words) × Z)
+        → row_values (first_value found) (choices_of form) ≡ values_in (choices_of form) options.given
+    finds_values found finds = λ i. map (λ choice. value (word_of choice) i) (choices_of form)
+      where
+        rows : rows_of found ≡ map row_for options.given
+        rows =
+            (finds (ap is_simple is ∙ is_simple_parser form)).0 ∙ (λ i. matches_of (is i) (words_spelled i))
+            ∙ (λ i. rows_after top.rules (map label_of (alone form i)) (after_name form (form_name form) (option_words options.given) i))
+            ∙ rows_after-walks top options.given walks_plain (reads form).no_defaults
+
+        value : (word : Word) → first_value found word ≡ value_of word options.given
+        value word = first_value-rows found word ∙ ap (first_of word) rows ∙ first_of-rows word options.given

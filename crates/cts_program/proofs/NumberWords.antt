@@ -1,14 +1,16 @@
 -- Words of at most four digits, read as numbers.
-use Rattle.std.proofs.Common.{◌≡◌, ◌<◌, ◌≤◌, ◌&&◌, ℕ, suc, zero, nat_le, Bool, true, false, not, true≢false, if◌then◌else◌, [], ◌∷◌, length, Result, Ok, Err, refl, sym, ap, ◌∙◌, arith, codes}
+use Rattle.std.proofs.Common.{◌≡◌, ◌<◌, ◌≤◌, ◌&&◌, ℕ, suc, zero, nat_le, true, false, not, true≢false, [], ◌∷◌, length, Result, Ok, Err, refl, sym, ap, ◌∙◌, arith}
 use Rattle.std.specs.Char.{is_ascii_digit}
 use Rattle.std.specs.Int.{IsInRange}
 use Rattle.std.specs.List.{list_all}
-use Rattle.std.specs.Str.{all_ascii_digits, bytes_eq}
+use Rattle.std.specs.Str.{all_ascii_digits}
 use Rattle.std.specs.Str.Parse.{ParsesUnsigned}
-use Rattle.std.proofs.Math.Bool.{and-false}
-use Rattle.std.proofs.lemmas.Bool.{le-leb, leb-true, lt-leb, ne_eqb}
+use Rattle.std.proofs.lemmas.Bool.{leb-true, lt-leb, ne_eqb}
 use Rattle.std.proofs.lemmas.Str.Parse.{IsNumeralModel, numerals_by_value, tells_all_ascii_digits, parse_digits, parse_gives, digits_value_short, not_in_digits}
-use Rattle.cts_program.specs.Commands.{Word, number_of, is_number_within, is_value, is_file_name}
+use Rattle.cts_program.specs.declared.command.table.ValueKind.{ValueKind}
+use Rattle.cts_program.specs.declared.command.table.ValueKind.TheVariants.{File, Registers, Seed}
+use Rattle.cts_program.specs.CommandTable.{Word}
+use Rattle.cts_program.specs.Commands.{number_of, is_number_within, is_value, is_file_name}
 use Rattle.cts_program.proofs.GivenOptions.{both}
 
 -- bytes that are all digits, tested one by one
@@ -21,28 +23,7 @@ pub numerals : IsNumeralModel (λ word. all_ascii_digits word ≡ true) number_o
 numerals = numerals_by_value (λ word. all_ascii_digits word ≡ true) tells_all_ascii_digits
 
 module _ (least greatest : ℕ) (word : Word) where
-  -- more than four bytes are no such number
-  pub too_long : 4 < length word → is_number_within least greatest word ≡ false
-  too_long long = rw (le-leb 1 (length word) (omega arith), lt-leb (length word) 4 long) refl
-
-  -- nor are others than digits
-  pub no_digits : list_all is_ascii_digit word ≡ false
-      → is_number_within least greatest word ≡ false
-  no_digits other =
-      let none : all_ascii_digits word ≡ false = sym (all_digits word) ∙ other in
-      rw (none, and-false (nat_le (length word) 4), and-false (nat_le 1 (length word))) refl
-
-  -- at most four digits are read as a number, which decides
-  pub read_as : {E : Type 0} (read : Result ℕ E) (number : ℕ)
-      → list_all is_ascii_digit word ≡ true → length word ≤ 4 → ParsesUnsigned 32 10 word read
-      → read ≡ Ok number
-      → is_number_within least greatest word ≡ (nat_le least number && nat_le number greatest)
-  read_as read number each short reads is =
-      let digits : all_ascii_digits word ≡ true = sym (all_digits word) ∙ each in
-      let parts = rw is at (parse_digits numerals 32 word read reads digits) in
-      rw (le-leb 1 (length word) parts.0.0, le-leb (length word) 4 short, digits, parts.1) refl
-
-  -- unless there are none
+  -- at most four digits are read as a number, unless there are none
   pub unread : {E : Type 0} (error : E)
       → list_all is_ascii_digit word ≡ true → length word ≤ 4
       → ParsesUnsigned 32 10 word (Err error) → is_number_within least greatest word ≡ false
@@ -92,15 +73,8 @@ number_first least greatest (byte ∷ bytes) passes =
     ap not (ne_eqb byte 45 (not_in_digits numerals word 45 digits no_hyphen 0 (omega arith)))
 
 -- nor does any value
-pub value_first : (option value : Word) → is_value option value ≡ true
+pub value_first : (kind : ValueKind) (value : Word) → is_value kind value ≡ true
     → is_file_name value ≡ true
-value_first option value =
-    at (bytes_eq option (codes "--registers")) (bytes_eq option (codes "--seed"))
-  where
-    at : (registers seed : Bool)
-        → (if registers then is_number_within 2 1000 value
-        else if seed then is_number_within 0 999 value else is_file_name value) ≡ true
-        → is_file_name value ≡ true
-    at true seed passes = number_first 2 1000 value passes
-    at false true passes = number_first 0 999 value passes
-    at false false passes = passes
+value_first File value passes = passes
+value_first Registers value passes = number_first 2 1000 value passes
+value_first Seed value passes = number_first 0 999 value passes

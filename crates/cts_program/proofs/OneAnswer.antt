@@ -29,7 +29,7 @@ use Rattle.cts_program.specs.DemoTexts.{demo_texts, IsDemoText}
 use Rattle.cts_program.specs.Failures.{status_of}
 use Rattle.cts_program.specs.Files.{IsShortFile, AreAll}
 use Rattle.cts_program.specs.Judged.{IsNetlistFile, IsTableFile, IsPlacementFile, AreAccepted, HasPlacementFault, IsNamedFault, IsFileRefusal, Tell}
-use Rattle.cts_program.specs.PlainWords.{form_of}
+use Rattle.cts_program.specs.CommandTable.{form_of}
 use Rattle.cts_program.specs.PeriodTexts.{IsPeriodText}
 use Rattle.cts_program.specs.ScheduleTexts.{IsScheduleText}
 use Rattle.cts_program.specs.SynthTexts.{IsSynthText}

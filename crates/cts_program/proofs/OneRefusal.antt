@@ -23,7 +23,7 @@ use Rattle.cts_program.specs.DemoTexts.{demo_texts}
 use Rattle.cts_program.specs.Failures.{status_of}
 use Rattle.cts_program.specs.Files.{files_of, AreAll}
 use Rattle.cts_program.specs.Judged.{AreAccepted, IsFileRefusal}
-use Rattle.cts_program.specs.PlainWords.{form_of}
+use Rattle.cts_program.specs.CommandTable.{form_of}
 use Rattle.cts_program.proofs.OneAnswer.{Agree, agree_same, agree_rotated, Answers, texts_for, one_denoted, file_status, accepted_not_refused}
 use Rattle.cts_engine.proofs.OneProblem.{one_problem}
 use Rattle.cts_program.proofs.ShownVerdicts.{no_reason}

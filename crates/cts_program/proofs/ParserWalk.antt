@@ -1,30 +1,42 @@
 -- How `clap` walks over options with their values.
 use Rattle.std.proofs.Common.{◌≡◌, ◌||◌, ◌++◌, Bool, true, false, cond, List, [], ◌∷◌, map, fold, Some, None, IsTrue, refl, sym, ap, ◌∙◌, subst, true≢false, codes, ◌==◌}
 use Rattle.std.specs.Str.{bytes_eq}
-use Rattle.std.specs.List.{AllByRecursion, list_all}
+use Rattle.std.specs.List.{AllByRecursion, IsDistinct, list_all}
+use Rattle.std.specs.Map.{keys_of}
 use Rattle.std.specs.Cmp.Lexicographic.{nat_list_eq_equiv}
 use Rattle.std.proofs.Math.Bool.{and-true}
 use Rattle.std.proofs.lemmas.List.{append-nil, append_assoc}
+use Rattle.std.proofs.lemmas.List.Folds.{list_any-append}
+use Rattle.std.proofs.lemmas.Map.Keys.{IsDistinct-head, IsDistinct-tail}
 use Rattle.clap.specs.Lexer.{long_of, short_of}
 use Rattle.clap.specs.Walk.{Held, Row, Rule, Text, Walk, option, arg_by_id, arg_by_long, at_row, default_rows, has_row, more_values, nothing_held, reading_by, rows_after, settled, walk, walk_from, walked, with_default}
-use Rattle.clap.specs.Simple.{Shape, filled}
+use Rattle.clap.specs.Simple.{Shape, filled, new_rule}
+use Rattle.clap.specs.declared.builder.action.ArgAction.TheVariants.{Set}
 use Rattle.clap.specs.Takes.{default_passes, is_valid, level_passes, settle_passes, turn_passes, walk_passes}
 use Rattle.clap.specs.declared.parser.matches.ValueSource.TheVariants.{CommandLine}
 use Rattle.clap.specs.declared.builder.value_parser.Reading.TheVariants.{AsWritten}
-use Rattle.cts_program.specs.Commands.{Word, Given, is_file_name, is_value, option_words}
+use Rattle.cts_program.specs.CommandTable.{Word}
+use Rattle.cts_program.specs.Commands.{Given, is_file_name, option_words}
+use Rattle.cts_program.specs.Parsers.{long_name}
 use Rattle.cts_program.proofs.GivenOptions.{is_false}
-use Rattle.cts_program.proofs.NumberWords.{value_first}
-use Rattle.cts_program.specs.Parsers.{long_name, rule_for}
 
 -- the row that an option and its value leave
 abbrev pub row_for : Given → Row
 row_for one = record { id = one.0; values = one.1 ∷ []; count = None; source = Some CommandLine; reading = AsWritten }
 
+-- the argument for an option
+abbrev pub rule_with : Word → Bool → Rule
+rule_with word required = filled (record (new_rule word) {
+  long = Some (long_name word);
+  required = required;
+  action = Some Set;
+})
+
 -- the arguments have one for the option, and its word is read as that option without a value
 pub record IsReadBy (rules : List Rule) (word : Word) : Type 0 where
   pub required : Bool
-  pub by_id : arg_by_id rules word ≡ Some (filled (rule_for (word, required)))
-  pub by_long : arg_by_long rules (long_name word) ≡ Some (filled (rule_for (word, required)))
+  pub by_id : arg_by_id rules word ≡ Some (rule_with word required)
+  pub by_long : arg_by_long rules (long_name word) ≡ Some (rule_with word required)
   pub long : long_of word ≡ Some (long_name word, None)
   pub option : bytes_eq word (codes "--") ≡ false
 
@@ -97,10 +109,19 @@ module _ (s : Shape) (word value : Word) (h : Held) where
 
 -- ---- all options and their values
 
--- each option comes for the first time
-abbrev pub Fresh : List Row → List Given → Type 0
-Fresh rows [] = Unit {0}
-Fresh rows (one ∷ more) = (has_row one.0 rows ≡ false) × Fresh (rows ++ row_for one ∷ []) more
+-- the rows have none of these options
+abbrev pub Lacks : List Row → List Given → Type 0
+Lacks rows given = AllByRecursion (λ one. has_row one.0 rows ≡ false) given
+
+-- the row of an option that differs changes nothing
+lacks_more : (one : Given) (more : List Given) (rows : List Row)
+    → AllByRecursion (λ word. bytes_eq one.0 word ≡ false) (keys_of more) → Lacks rows more
+    → Lacks (rows ++ row_for one ∷ []) more
+lacks_more one [] rows differ lacks = tt
+lacks_more one (other ∷ more) rows differ lacks = (
+  rw (list_any-append (λ (row : Row). bytes_eq row.id other.0) rows (row_for one ∷ []), lacks.0, differ.0) refl,
+  lacks_more one more rows differ.1 lacks.1,
+)
 
 -- the walk over options and their values passes, and leaves their rows
 pub record Walks (s : Shape) (h : Held) (given : List Given) : Type 0 where
@@ -110,16 +131,19 @@ pub record Walks (s : Shape) (h : Held) (given : List Given) : Type 0 where
   pub settles : settle_passes s.rules s.args_override_self held ≡ true
   pub rows : (settled s.rules held).rows ≡ (settled s.rules h).rows ++ map row_for given
 
--- where what was pending passes, so does the walk over options that are read and come for the first time
+-- where what was pending passes, so does the walk over options that are read, each for the first time
 pub walks : (s : Shape) (given : List Given) (h : Held) → settle_passes s.rules s.args_override_self h ≡ true
-    → AllByRecursion (λ one. IsReadBy s.rules one.0 × IsTrue (is_value one.0 one.1)) given → Fresh (settled s.rules h).rows given → Walks s h given
+    → AllByRecursion (λ one. IsReadBy s.rules one.0 × (is_file_name one.1 ≡ true)) given
+    → IsDistinct bytes_eq (keys_of given) → Lacks (settled s.rules h).rows given → Walks s h given
 unfolding walk_passes
-walks s [] h settles reads fresh = record { passes = refl; held = h; ends = refl; settles = settles; rows = sym (append-nil (settled s.rules h).rows) }
-walks s (one ∷ more) h settles reads fresh =
+walks s [] h settles reads once lacks = record { passes = refl; held = h; ends = refl; settles = settles; rows = sym (append-nil (settled s.rules h).rows) }
+walks s (one ∷ more) h settles reads once lacks =
     let read = reads.0.0 in
-    let plain = no_option one.1 (value_first one.0 one.1 reads.0.1) in
-    let added = rows-after s one.0 one.1 h read fresh.0 in
-    let rest = walks s more (after_value s one.0 one.1 h) (settles-after s one.0 one.1 h read fresh.0) reads.1 (subst (λ (rows : List Row). Fresh rows more) (sym added) fresh.1) in
+    let plain = no_option one.1 reads.0.1 in
+    let added = rows-after s one.0 one.1 h read lacks.0 in
+    let lacks' = lacks_more one more (settled s.rules h).rows (IsDistinct-head bytes_eq one.0 (keys_of more) once) lacks.1 in
+    let rest = walks s more (after_value s one.0 one.1 h) (settles-after s one.0 one.1 h read lacks.0) reads.1
+    (IsDistinct-tail bytes_eq one.0 (keys_of more) once) (subst (λ (rows : List Row). Lacks rows more) (sym added) lacks') in
     record {
       passes = rw (turn-word s one.0 one.1 h read, settles, walked-word s one.0 one.1 h read, turn-value s one.0 one.1 h plain, walked-value s one.0 one.1 h read plain) rest.passes;
       held = rest.held;
@@ -133,23 +157,34 @@ walks s (one ∷ more) h settles reads fresh =
 
 -- an argument without defaults adds no row
 with_default-none : (rows : List Row) (rule : Rule) → rule.defaults ≡ [] → with_default rows rule ≡ rows
-with_default-none rows rule none = at (has_row rule.id rows) none
+with_default-none rows rule none = at (has_row rule.id rows)
   where
-    at : (there : Bool) → rule.defaults ≡ [] → cond there rows (default_rows rule.id (reading_by rule) rule.defaults rows) ≡ rows
-    at true none = refl
-    at false none = rw none refl
+    at : (there : Bool) → cond there rows (default_rows rule.id (reading_by rule) rule.defaults rows) ≡ rows
+    at true = refl
+    at false = rw none refl
 
--- arguments without defaults add no rows
-finished-none : (rules : List Rule) (rows : List Row) → AllByRecursion (λ rule. rule.defaults ≡ []) rules → fold with_default rows rules ≡ rows
+-- none of the arguments has defaults
+abbrev pub HaveNoDefaults : List Rule → Type 0
+HaveNoDefaults rules = map (λ rule. rule.defaults) rules ≡ map (λ _. []) rules
+
+-- such arguments add no rows
+finished-none : (rules : List Rule) (rows : List Row) → HaveNoDefaults rules → fold with_default rows rules ≡ rows
 finished-none [] rows none = refl
-finished-none (rule ∷ rules) rows none = rw (with_default-none rows rule none.0) (finished-none rules rows none.1)
+finished-none (rule ∷ rules) rows none = rw (with_default-none rows rule (cc)) (finished-none rules rows (cc))
 
--- a level of the parse passes that has these options and their values
-pub level-walks : (s : Shape) (given : List Given) → Walks s nothing_held given → list_all default_passes s.rules ≡ true → AllByRecursion (λ rule. rule.defaults ≡ []) s.rules
-    → is_valid s (map row_for given) false ≡ true → level_passes s [] nothing_held (option_words given) false ≡ true
-level-walks s given w defaults none valid =
-    rw (w.passes, w.ends, w.settles, defaults, finished-none s.rules (settled s.rules w.held).rows none, w.rows) valid
+-- nor is a default of theirs refused
+defaults_pass : (rules : List Rule) → HaveNoDefaults rules → list_all default_passes rules ≡ true
+defaults_pass [] none = refl
+defaults_pass (rule ∷ rules) none =
+    let here : rule.defaults ≡ [] = cc in
+    rw here (defaults_pass rules (cc))
 
--- and it leaves their rows
-pub rows_after-walks : (s : Shape) (given : List Given) → Walks s nothing_held given → AllByRecursion (λ rule. rule.defaults ≡ []) s.rules → rows_after s.rules [] (option_words given) ≡ map row_for given
-rows_after-walks s given w none = rw (w.ends, finished-none s.rules (settled s.rules w.held).rows none) w.rows
+module _ (s : Shape) (given : List Given) (w : Walks s nothing_held given) (none : HaveNoDefaults s.rules) where
+  -- a level of the parse passes that has these options and their values
+  pub level-walks : is_valid s (map row_for given) false ≡ true → level_passes s [] nothing_held (option_words given) false ≡ true
+  level-walks valid =
+      rw (w.passes, w.ends, w.settles, defaults_pass s.rules none, finished-none s.rules (settled s.rules w.held).rows none, w.rows) valid
+
+  -- and it leaves their rows
+  pub rows_after-walks : rows_after s.rules [] (option_words given) ≡ map row_for given
+  rows_after-walks = rw (w.ends, finished-none s.rules (settled s.rules w.held).rows none) w.rows

@@ -15,7 +15,7 @@ use Rattle.cts_program.specs.Answers.{ending_status, IsAnswer, IsRefusal, IsAcce
 use Rattle.cts_program.specs.Commands.{options_of, IsCommand, IsSame}
 use Rattle.cts_program.specs.Failures.{words_failure_of, status_of}
 use Rattle.cts_program.specs.Files.{files_of, AreAll, AreContents, AreDenoted}
-use Rattle.cts_program.specs.PlainWords.{form_of}
+use Rattle.cts_program.specs.CommandTable.{form_of}
 use Rattle.cts_program.specs.Run.{IsNoCommand, DenotesText, RefusesCommand, CannotRead, EndsInPart, Fails, NoneRose}
 use Rattle.cts_program.proofs.AnswerTexts.{IsTextOf}
 use Rattle.cts_program.proofs.OneAnswer.{Agree, Answers, answer_of, one_status, no_answer_prefix, some_text, agree_same, agree_rotated}

@@ -11,7 +11,7 @@ use Rattle.cts_program.specs.declared.ending.Ending.TheVariants as endings
 use Rattle.cts_program.specs.Answers.{ending_status, TellWith, IsStatusOf, FindsNoPeriod}
 use Rattle.cts_program.specs.Commands.{options_of}
 use Rattle.cts_program.specs.Files.{AreAll}
-use Rattle.cts_program.specs.PlainWords.{form_of}
+use Rattle.cts_program.specs.CommandTable.{form_of}
 use Rattle.cts_program.proofs.AnswerTexts.{looks_for_period, SaysOfPeriods, IsTextOf}
 use Rattle.cts_program.proofs.OneAnswer.{Answers, texts_for, one_denoted}
 

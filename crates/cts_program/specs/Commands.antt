@@ -1,50 +1,46 @@
 -- The words of a command line, and the command that they mean.
-use Rattle.std.specs.Prelude.{◌≡◌, ◌==◌, ◌&&◌, ℕ, nat_le, Bool, false, not, IsTrue, List, [], ◌∷◌, ◌++◌, length, Option, option_map, option_to_list, if◌then◌else◌, codes}
-use Rattle.std.specs.Borrow.{Bor}
-use Rattle.std.specs.List.{All, flat_map}
+use Rattle.std.specs.Prelude.{◌≡◌, ◌==◌, ◌&&◌, ◌||◌, ℕ, nat_le, Bool, false, not, IsTrue, List, [], ◌∷◌, ◌++◌, length, Option, Some, None, option_map, option_to_list}
+use Rattle.std.specs.List.{All, flat_map, list_any}
 use Rattle.std.specs.List.Sorted.{IsPermutation}
 use Rattle.std.specs.Str.{all_ascii_digits, bytes_eq}
 use Rattle.std.specs.Str.Parse.{digits_value}
 use Rattle.cts_program.specs.declared.command.Command.{Command}
 use Rattle.cts_program.specs.declared.command.Command.TheVariants.{Zero, Period, Schedule, Synth, Check, Demo}
-
--- a word of a command line
-abbrev pub Word : Type 0
-Word = List ℕ
+use Rattle.cts_program.specs.declared.command.table.Choice.{Choice}
+use Rattle.cts_program.specs.declared.command.table.ValueKind.{ValueKind}
+use Rattle.cts_program.specs.declared.command.table.ValueKind.TheVariants.{File, Registers, Seed}
+use Rattle.cts_program.specs.CommandTable.{Word, word_of, kind_of, form_of, form_name, choices_of}
 
 -- an option and its value
 abbrev pub Given : Type 0
 Given = Word × Word
 
--- an option that has to stand
-abbrev pub always : Word → Bor Word → List Given
-always option value = (option, value.now) ∷ []
+-- the values of a command's options, in the order of its row
+abbrev pub values_of : Command → List (Option Word)
+values_of (Zero bench tech) = Some bench.now ∷ option_map (λ word. word.now) tech ∷ []
+values_of (Period bench tech) = Some bench.now ∷ Some tech.now ∷ []
+values_of (Schedule bench tech) = Some bench.now ∷ Some tech.now ∷ []
+values_of (Synth bench tech pl) = Some bench.now ∷ Some tech.now ∷ Some pl.now ∷ []
+values_of (Check bench tech pl report) =
+    Some bench.now ∷ Some tech.now ∷ Some pl.now ∷ Some report.now ∷ []
+values_of (Demo registers seed) = Some registers.now ∷ Some seed.now ∷ []
 
--- an option that may be left out
-abbrev pub if_wanted : Word → Option (Bor Word) → List Given
-if_wanted option value = option_to_list (option_map (λ word. (option, word.now)) value)
+-- an option with its value, if it has one
+abbrev pub listed_one : Choice → Option Word → List Given
+listed_one choice value = option_to_list (option_map (λ word. (word_of choice, word)) value)
+
+-- options with those values that they have
+abbrev pub listed : List Choice → List (Option Word) → List Given
+listed (choice ∷ choices) (value ∷ values) = listed_one choice value ++ listed choices values
+listed _ _ = []
 
 -- the name of a command
 abbrev pub name_of : Command → Word
-name_of (Zero bench tech) = codes "zero"
-name_of (Period bench tech) = codes "period"
-name_of (Schedule bench tech) = codes "schedule"
-name_of (Synth bench tech pl) = codes "synth"
-name_of (Check bench tech pl report) = codes "check"
-name_of (Demo registers seed) = codes "demo"
+name_of command = form_name (form_of command)
 
 -- the options of a command, with their values
 abbrev pub options_of : Command → List Given
-options_of (Zero bench tech) = always (codes "--bench") bench ++ if_wanted (codes "--tech") tech
-options_of (Period bench tech) = always (codes "--bench") bench ++ always (codes "--tech") tech
-options_of (Schedule bench tech) = always (codes "--bench") bench ++ always (codes "--tech") tech
-options_of (Synth bench tech pl) =
-    always (codes "--bench") bench ++ always (codes "--tech") tech ++ always (codes "--pl") pl
-options_of (Check bench tech pl report) =
-    always (codes "--bench") bench ++ always (codes "--tech") tech ++ always (codes "--pl") pl
-    ++ always (codes "--report") report
-options_of (Demo registers seed) =
-    always (codes "--registers") registers ++ always (codes "--seed") seed
+options_of command = listed (choices_of (form_of command)) (values_of command)
 
 -- a file's name is one or more bytes, of which the first is no `-`
 abbrev pub is_file_name : Word → Bool
@@ -61,12 +57,24 @@ is_number_within least greatest word =
     nat_le 1 (length word) && (nat_le (length word) 4 && (all_ascii_digits word
     && (nat_le least (number_of word) && nat_le (number_of word) greatest)))
 
--- what the value of an option may be: a number of registers, a seed, or else a file's name
-abbrev pub is_value : (option value : Word) → Bool
-is_value option value =
-    if bytes_eq option (codes "--registers") then is_number_within 2 1000 value
-    else if bytes_eq option (codes "--seed") then is_number_within 0 999 value
-    else is_file_name value
+-- what a value may be: a file's name, a number of registers or a seed
+abbrev pub is_value : ValueKind → Word → Bool
+is_value File value = is_file_name value
+is_value Registers value = is_number_within 2 1000 value
+is_value Seed value = is_number_within 0 999 value
+
+-- the word is one of these options, which takes this value
+abbrev pub is_taken : List Choice → (option value : Word) → Bool
+is_taken choices option value =
+    list_any (λ choice. bytes_eq (word_of choice) option && is_value (kind_of choice) value) choices
+
+-- the option is one of these, and takes its value
+abbrev pub IsTaken : List Choice → Given → Type 0
+IsTaken choices one = IsTrue (is_taken choices one.0 one.1)
+
+-- so it is with each option of a command
+abbrev pub HasValidValues : Command → Type 0
+HasValidValues command = All (IsTaken (choices_of (form_of command))) (options_of command)
 
 -- options as words: each is followed by its value
 abbrev pub option_words : List Given → List Word
@@ -77,7 +85,7 @@ pub record IsCommand (words : List Word) (command : Command) : Type 0 where
   pub given : List Given
   pub words_are : words ≡ name_of command ∷ option_words given
   pub options : IsPermutation (options_of command) given
-  pub values : All (λ one. IsTrue (is_value one.0 one.1)) given
+  pub values : HasValidValues command
 
 -- the commands have one name, and the same options with the same values
 pub record IsSame (command other : Command) : Type 0 where

@@ -26,6 +26,7 @@ use Rattle.report_text.specs.declared.fault.ReportFault.{ReportFault}
 use Rattle.report_text.specs.declared.fault.ReportFault.TheVariants as report
 use Rattle.cts_program.specs.declared.not_shown.NotShown.{NotShown}
 use Rattle.cts_program.specs.declared.not_shown.NotShown.TheVariants as why
+use Rattle.cts_program.specs.CommandTable.{usage}
 use Rattle.cts_program.specs.Files.{kind_word}
 
 -- the failure where the words aren't read
@@ -192,13 +193,6 @@ abbrev pub not_shown_line : NotShown → List ℕ
 not_shown_line why.TooLong = ended (codes "not shown report long")
 not_shown_line (why.Fault fault) = fault_line fault
 not_shown_line (why.Reason reason subject) = reason_line reason subject
-
--- what the words of each command are
-abbrev pub usage : List ℕ
-usage = codes "usage: cts zero --bench F [--tech F] | cts period --bench F --tech F"
-    ++ codes " | cts schedule --bench F --tech F | cts synth --bench F --tech F --pl F"
-    ++ codes " | cts check --bench F --tech F --pl F --report F"
-    ++ codes " | cts demo --registers N --seed S"
 
 -- the line that says why
 abbrev pub failure_line : Failure → List ℕ

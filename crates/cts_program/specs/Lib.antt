@@ -1,5 +1,6 @@
 pub mod Answers
 pub mod Checks
+pub mod CommandTable
 pub mod Commands
 pub mod DemoTexts
 pub mod Failures

@@ -1,10 +1,10 @@
-ghost use Rattle.std.specs.Prelude.{◌≡◌, ◌≢◌, ◌⊎◌, ◌↔◌, ◌<◌, ℕ, List, All, map, true, Some, string_bytes, IfOk, IfErr, IsErrOf, IsTrue};
+ghost use Rattle.std.specs.Prelude.{◌≡◌, ◌≢◌, ◌⊎◌, ◌↔◌, ◌<◌, ℕ, List, map, true, Some, string_bytes, IfOk, IfErr, IsErrOf};
 ghost use Rattle.cts_io.specs.Device.{Rose, appended};
 ghost use Rattle.cts_program.specs.declared.command.Command.{Command};
 ghost use Rattle.cts_program.specs.declared.failure.Failure.{Failure};
 ghost use Rattle.cts_program.specs.declared.file_kind.FileKind.{FileKind};
 ghost use Rattle.cts_program.specs.Answers.{is_ending, ending_status, IsAnswer, IsRefusal, IsAccepted, IsStatusOf, FindsNoPeriod};
-ghost use Rattle.cts_program.specs.Commands.{is_value, options_of, IsCommand};
+ghost use Rattle.cts_program.specs.Commands.{HasValidValues, IsCommand};
 ghost use Rattle.cts_program.specs.Failures.{status_of, failure_line, Reports};
 ghost use Rattle.cts_program.specs.Files.{files_of, AreDenoted, AreAll};
 ghost use Rattle.cts_program.specs.Run.{IsNoCommand, DenotesText, RefusesCommand, CannotRead, Stops, Ends, EndsInPart, Fails, NoneRose};
@@ -153,7 +153,7 @@ fn command_answer<I: Inputs>(
     inputs: &mut I,
     command: Command,
 ) -> Result<Answer, Failure>
-    requires { All (λ one. IsTrue (is_value one.0 one.1)) (options_of command) }
+    requires { HasValidValues command }
     ensures ok { IfOk result (λ answer. DenotesText (I.holds inputs.old) command.entry
         (ending_status answer.ending) answer.text.items) }
     ensures cause { IfErr result (Stops (I.holds inputs.old) (I.faults inputs.old)

@@ -1,9 +1,10 @@
 //! Plain words, read by a parser for the options of their command.
 
-ghost use Rattle.std.specs.Prelude.{◌≡◌, map, string_bytes, false, true, IfOk, IfErr};
+ghost use Rattle.std.specs.Prelude.{◌≡◌, map, option_map, option_and_then, slice_get, string_bytes, true, false, IfOk, IfErr};
 ghost use Rattle.clap.specs.Words.{app_of, rule_of, kind_of, found_of, first_value};
-ghost use Rattle.cts_program.specs.Commands.{options_of, IsCommand};
-ghost use Rattle.cts_program.specs.PlainWords.{form_of, choices_of, row_of, listed, has_values, IsPlain};
+ghost use Rattle.cts_program.specs.CommandTable.{choices_of, form_of, word_of};
+ghost use Rattle.cts_program.specs.Commands.{values_of, IsCommand};
+ghost use Rattle.cts_program.specs.PlainWords.{has_values, row_values, IsPlain};
 ghost use Rattle.cts_program.specs.Parsers.{long_name, rule_for, parser_for};
 
 use crate::command::Command;
@@ -22,68 +23,72 @@ pub fn parsed<'a>(alloc: Global, form: Form, words: &'a [String]) -> Result<Comm
     Ok(command_of(form, &matches))
 }
 
-// The command whose options have these values.
+// The command whose options have the values that were found, in the order of its row.
 fn command_of<'a>(form: Form, matches: &ArgMatches<'a>) -> Command<'a>
-    requires { has_values (first_value (found_of matches.now)) (choices_of form) ≡ true }
+    requires { has_values (choices_of form)
+        (row_values (first_value (found_of matches.now)) (choices_of form)) ≡ true }
     ensures form { form_of result ≡ form }
-    ensures options { options_of result
-        ≡ listed (first_value (found_of matches.now)) (choices_of form) }
+    ensures values { values_of result
+        ≡ row_values (first_value (found_of matches.now)) (choices_of form) }
 {
-    match form {
-        Form::Zero => Command::Zero {
-            bench: matches.get_str("--bench").unwrap(),
-            tech: matches.get_str("--tech"),
-        },
-        Form::Period => Command::Period {
-            bench: matches.get_str("--bench").unwrap(),
-            tech: matches.get_str("--tech").unwrap(),
-        },
-        Form::Schedule => Command::Schedule {
-            bench: matches.get_str("--bench").unwrap(),
-            tech: matches.get_str("--tech").unwrap(),
-        },
-        Form::Synth => Command::Synth {
-            bench: matches.get_str("--bench").unwrap(),
-            tech: matches.get_str("--tech").unwrap(),
-            pl: matches.get_str("--pl").unwrap(),
-        },
-        Form::Check => Command::Check {
-            bench: matches.get_str("--bench").unwrap(),
-            tech: matches.get_str("--tech").unwrap(),
-            pl: matches.get_str("--pl").unwrap(),
-            report: matches.get_str("--report").unwrap(),
-        },
-        Form::Demo => Command::Demo {
-            registers: matches.get_str("--registers").unwrap(),
-            seed: matches.get_str("--seed").unwrap(),
-        },
+    let choices = form.row().1;
+    let values = [
+        value_at(choices, 0, matches),
+        value_at(choices, 1, matches),
+        value_at(choices, 2, matches),
+        value_at(choices, 3, matches),
+    ];
+    match (form, values) {
+        (Form::Zero, [Some(bench), tech, ..]) => Command::Zero { bench, tech },
+        (Form::Period, [Some(bench), Some(tech), ..]) => Command::Period { bench, tech },
+        (Form::Schedule, [Some(bench), Some(tech), ..]) => Command::Schedule { bench, tech },
+        (Form::Synth, [Some(bench), Some(tech), Some(pl), _]) => Command::Synth { bench, tech, pl },
+        (Form::Check, [Some(bench), Some(tech), Some(pl), Some(report)]) => {
+            Command::Check {
+                bench,
+                tech,
+                pl,
+                report,
+            }
+        }
+        (Form::Demo, [Some(registers), Some(seed), ..]) => Command::Demo { registers, seed },
+        _ => unreachable!(),
     }
+}
+
+// The value of the option at this place of a row.
+fn value_at<'a>(choices: &[Choice], place: usize, matches: &ArgMatches<'a>) -> Option<&'a str>
+    ensures { option_map (λ word. word.now) result ≡ option_and_then
+        (λ choice. first_value (found_of matches.now) (word_of choice)) (slice_get choices.now place) }
+{
+    matches.get_str(choices.get(place)?.word())
 }
 
 // The parser for a command's options.
 fn parser<'a>(alloc: Global, form: Form) -> Result<Parser<'a>, AllocError>
     ensures { IfOk result (λ parser. app_of parser ≡ parser_for form) }
 {
-    let name: &'a str = form.name();
+    let (name, choices): (&'a str, &[Choice]) = form.row();
     let mut parser = Parser::new(alloc, name);
-    for choice in form.choices() {
+    for choice in choices {
         parser = parser.arg(argument(alloc, *choice))?;
     }
     Ok(parser)
 }
 
 fn argument<'a>(alloc: Global, choice: Choice) -> Arg<'a>
-    ensures rule { rule_of result ≡ rule_for (row_of choice) }
+    ensures rule { rule_of result ≡ rule_for choice }
     ensures local { result.global ≡ false }
 {
-    Arg::new(alloc, choice.option)
-        .long(long_name(choice.option))
-        .required(choice.is_required)
+    let word: &'a str = choice.word();
+    Arg::new(alloc, word)
+        .long(long_name(word))
+        .required(choice.is_required())
         .action(ArgAction::Set)
 }
 
 // The option's word without the two hyphens before.
-fn long_name(option: &'static str) -> &'static str
+fn long_name(option: &str) -> &str
     ensures { result.now ≡ long_name option.entry.now }
 {
     option.strip_prefix("--").unwrap_or(option)

@@ -2,13 +2,13 @@
 
 ghost use Rattle.std.specs.Prelude.{◌≡◌, ◌||◌, not, map, string_bytes, IfSome, IsNone};
 ghost use Rattle.std.specs.Char.{is_ascii_digit};
-ghost use Rattle.std.specs.Str.{bytes_eq};
-ghost use Rattle.std.specs.List.{list_all, list_any};
+ghost use Rattle.std.specs.List.{list_all};
 ghost use Rattle.cts_program.specs.declared.command.Command.{Command};
-ghost use Rattle.cts_program.specs.Commands.{is_file_name, is_number_within, is_value, IsCommand};
-ghost use Rattle.cts_program.specs.PlainWords.{IsPlain, row_of, is_option, has_option, are_options};
+ghost use Rattle.cts_program.specs.CommandTable.{is_required, word_of};
+ghost use Rattle.cts_program.specs.Commands.{is_file_name, is_number_within, is_value, is_taken, IsCommand};
+ghost use Rattle.cts_program.specs.PlainWords.{IsPlain, has_option, is_option, are_options, has_required, are_plain};
 
-use crate::command::table::{Choice, Form};
+use crate::command::table::{Choice, Form, ValueKind};
 
 /// The form of the command that plain words mean.
 pub fn plain_form(words: &[String]) -> Option<Form>
@@ -20,48 +20,44 @@ pub fn plain_form(words: &[String]) -> Option<Form>
         return None;
     };
     let form = Form::named(name.as_str())?;
-    let choices = form.choices();
-    if are_options(choices, others) && has_required(choices, others) {
+    if are_plain(form.row().1, others) {
         Some(form)
     } else {
         None
     }
 }
 
+fn are_plain(choices: &[Choice], words: &[String]) -> bool
+    ensures { result ≡ are_plain choices.now (map string_bytes words.now) }
+{
+    are_options(choices, words) && has_required(choices, words)
+}
+
 // The words are options with values, no option twice.
 fn are_options(choices: &[Choice], words: &[String]) -> bool
-    ensures { result ≡ are_options (map row_of choices.now) (map string_bytes words.now) }
+    ensures { result ≡ are_options choices.now (map string_bytes words.now) }
 {
     match words {
-        [] => true,
         [option, value, others @ ..] => {
             is_option(choices, option.as_str(), value.as_str(), others)
                 && are_options(choices, others)
         }
-        _ => false,
+        _ => words.is_empty(),
     }
 }
 
-// The word is an option that has this value and isn't among the others.
+// The word is an option that takes this value and isn't among the others.
 fn is_option(choices: &[Choice], word: &str, value: &str, others: &[String]) -> bool
-    ensures { result ≡ is_option (map row_of choices.now) word.now value.now
-        (map string_bytes others.now) }
+    ensures { result ≡ is_option choices.now word.now value.now (map string_bytes others.now) }
 {
-    is_known(choices, word) && is_value(word, value) && !has_option(others, word)
+    is_taken(choices, word, value) && !has_option(others, word)
 }
 
-// Each required option stands among the words.
-fn has_required(choices: &[Choice], words: &[String]) -> bool
-    ensures { result ≡ list_all (λ choice. not choice.is_required
-        || has_option choice.option.now (map string_bytes words.now)) choices.now }
+// The word is one of the options, which takes this value.
+fn is_taken(choices: &[Choice], option: &str, value: &str) -> bool
+    ensures { result ≡ is_taken choices.now option.now value.now }
 {
-    choices.iter().all(|choice| !choice.is_required || has_option(words, choice.option))
-}
-
-fn is_known(choices: &[Choice], word: &str) -> bool
-    ensures { result ≡ list_any (λ choice. bytes_eq choice.option.now word.now) choices.now }
-{
-    choices.iter().any(|choice| choice.option == word)
+    choices.iter().any(|choice| choice.word() == option && is_value(choice.kind(), value))
 }
 
 // The option stands among options with values.
@@ -74,16 +70,20 @@ fn has_option(words: &[String], option: &str) -> bool
     }
 }
 
-// What the value of an option may be.
-fn is_value(option: &str, value: &str) -> bool
-    ensures { result ≡ is_value option.now value.now }
+// Each required option stands among the words.
+fn has_required(choices: &[Choice], words: &[String]) -> bool
+    ensures { result ≡ has_required choices.now (map string_bytes words.now) }
 {
-    if option == "--registers" {
-        is_number_within(2, 1000, value)
-    } else if option == "--seed" {
-        is_number_within(0, 999, value)
-    } else {
-        is_file_name(value)
+    choices.iter().all(|choice| !choice.is_required() || has_option(words, choice.word()))
+}
+
+fn is_value(kind: ValueKind, value: &str) -> bool
+    ensures { result ≡ is_value kind value.now }
+{
+    match kind {
+        ValueKind::File => is_file_name(value),
+        ValueKind::Registers => is_number_within(2, 1000, value),
+        ValueKind::Seed => is_number_within(0, 999, value),
     }
 }
 

@@ -1,9 +1,9 @@
-//! The commands and their options, as they stand in the usage line.
+//! The table of commands: the name and the options of each, as they stand in the usage line.
 
-ghost use Rattle.std.specs.Prelude.{◌≡◌, find, map, IfSome, IsNone};
+ghost use Rattle.std.specs.Prelude.{◌≡◌, find, IfSome};
 ghost use Rattle.std.specs.Str.{bytes_eq};
 ghost use Rattle.cts_program.specs.declared.command.table.Form.{Form};
-ghost use Rattle.cts_program.specs.PlainWords.{choices_of, form_name, row_of};
+ghost use Rattle.cts_program.specs.CommandTable.{forms, form_name, form_named, choices_of, word_of, kind_of, is_required};
 
 /// A command without the values of its options.
 #[derive(Clone, Copy, Debug, Drop, PartialEq)]
@@ -16,11 +16,25 @@ pub enum Form {
     Demo,
 }
 
-/// An option that stands at most once after a command's name.
-#[derive(Clone, Copy, Debug, Drop)]
-pub struct Choice {
-    pub option: &'static str,
-    pub is_required: bool,
+/// An option of a command, which stands at most once after its name.
+#[derive(Clone, Copy, Debug, Drop, PartialEq)]
+pub enum Choice {
+    Bench,
+    Tech,
+    /// It may be left out.
+    TechIfWanted,
+    Placement,
+    Report,
+    Registers,
+    Seed,
+}
+
+/// What the value of an option is.
+#[derive(Clone, Copy, Debug, Drop, PartialEq)]
+pub enum ValueKind {
+    File,
+    Registers,
+    Seed,
 }
 
 const FORMS: [Form; 6] = [
@@ -32,108 +46,34 @@ const FORMS: [Form; 6] = [
     Form::Demo,
 ];
 
-// A netlist, and a delay table that may be left out.
-static TABLE_IF_WANTED: [Choice; 2] = [
-    Choice {
-        option: "--bench",
-        is_required: true,
-    },
-    Choice {
-        option: "--tech",
-        is_required: false,
-    },
-];
-
-// A netlist and a delay table.
-static TABLE: [Choice; 2] = [
-    Choice {
-        option: "--bench",
-        is_required: true,
-    },
-    Choice {
-        option: "--tech",
-        is_required: true,
-    },
-];
-
-// A netlist, a delay table and a placement.
-static PLACEMENT: [Choice; 3] = [
-    Choice {
-        option: "--bench",
-        is_required: true,
-    },
-    Choice {
-        option: "--tech",
-        is_required: true,
-    },
-    Choice {
-        option: "--pl",
-        is_required: true,
-    },
-];
-
-// A netlist, a delay table, a placement and a report.
-static REPORT: [Choice; 4] = [
-    Choice {
-        option: "--bench",
-        is_required: true,
-    },
-    Choice {
-        option: "--tech",
-        is_required: true,
-    },
-    Choice {
-        option: "--pl",
-        is_required: true,
-    },
-    Choice {
-        option: "--report",
-        is_required: true,
-    },
-];
-
-// How many registers, and a seed.
-static DEMONSTRATION: [Choice; 2] = [
-    Choice {
-        option: "--registers",
-        is_required: true,
-    },
-    Choice {
-        option: "--seed",
-        is_required: true,
-    },
-];
-
 impl Form {
-    pub fn name(self) -> &'static str
-        ensures { result.now ≡ form_name self }
+    /// The name of the command and its options, in the order of the usage line.
+    pub fn row(self) -> (&'static str, &'static [Choice])
+        ensures name { result.0.now ≡ form_name self }
+        ensures choices { result.1.now ≡ choices_of self }
     {
         match self {
-            Form::Zero => "zero",
-            Form::Period => "period",
-            Form::Schedule => "schedule",
-            Form::Synth => "synth",
-            Form::Check => "check",
-            Form::Demo => "demo",
-        }
-    }
-
-    pub fn choices(self) -> &'static [Choice]
-        ensures { map row_of result.now ≡ choices_of self }
-    {
-        match self {
-            Form::Zero => &TABLE_IF_WANTED,
-            Form::Period | Form::Schedule => &TABLE,
-            Form::Synth => &PLACEMENT,
-            Form::Check => &REPORT,
-            Form::Demo => &DEMONSTRATION,
+            Form::Zero => ("zero", &[Choice::Bench, Choice::TechIfWanted]),
+            Form::Period => ("period", &[Choice::Bench, Choice::Tech]),
+            Form::Schedule => ("schedule", &[Choice::Bench, Choice::Tech]),
+            Form::Synth => ("synth", &[Choice::Bench, Choice::Tech, Choice::Placement]),
+            Form::Check => (
+                "check",
+                &[
+                    Choice::Bench,
+                    Choice::Tech,
+                    Choice::Placement,
+                    Choice::Report,
+                ],
+            ),
+            Form::Demo => ("demo", &[Choice::Registers, Choice::Seed]),
         }
     }
 
     /// The command with this name.
     pub fn named(name: &str) -> Option<Form>
         ensures some { IfSome result (λ form. form_name form ≡ name.now) }
-        ensures none { IsNone result → (form : Form) → form_name form ≡ name.now → ⊥ }
+        ensures first { result ≡ form_named name.now }
     {
         first_named(&FORMS, name)
     }
@@ -144,5 +84,37 @@ fn first_named(forms: &[Form], name: &str) -> Option<Form>
     ensures some { IfSome result (λ form. form_name form ≡ name.now) }
     ensures first { result ≡ find (λ form. bytes_eq (form_name form) name.now) forms.now }
 {
-    forms.iter().copied().find(|form| form.name() == name)
+    forms.iter().copied().find(|form| form.row().0 == name)
+}
+
+impl Choice {
+    /// The word that stands before the value.
+    pub fn word(self) -> &'static str
+        ensures { result.now ≡ word_of self }
+    {
+        match self {
+            Choice::Bench => "--bench",
+            Choice::Tech | Choice::TechIfWanted => "--tech",
+            Choice::Placement => "--pl",
+            Choice::Report => "--report",
+            Choice::Registers => "--registers",
+            Choice::Seed => "--seed",
+        }
+    }
+
+    pub fn kind(self) -> ValueKind
+        ensures { result ≡ kind_of self }
+    {
+        match self {
+            Choice::Registers => ValueKind::Registers,
+            Choice::Seed => ValueKind::Seed,
+            _ => ValueKind::File,
+        }
+    }
+
+    pub fn is_required(self) -> bool
+        ensures { result ≡ is_required self }
+    {
+        self != Choice::TechIfWanted
+    }
 }

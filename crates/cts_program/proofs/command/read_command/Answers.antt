@@ -17,4 +17,4 @@ returns-clause-same c command means =
     ]
 
 pub returns-clause-memory : goal.returns-clause-memory
-returns-clause-memory c none = some_command (λ word. record { ref_ptr = c.args.words.ref_ptr; now = word }) (λ word. refl) (map string_bytes c.args.words.now) c.in-Some.form c.in-Some.ensures.some
+returns-clause-memory c none = some_command (map string_bytes c.args.words.now) c.in-Some.form c.in-Some.ensures.some c.args.words.ref_ptr

@@ -1,13 +1,10 @@
 use Rattle.std.proofs.Common.{map, string_bytes, ap, Err}
 use Rattle.std.proofs.lemmas.Result.{err_from_is_err_and}
-use Rattle.cts_program.proofs.PlainCommands.{values_due}
 use Rattle.cts_program.proofs.RunLemmas.{words_fail}
 use Rattle.cts_program.proofs.run.write_answer.Goals as goal
 
 pub command_answer-requires : goal.command_answer-requires
-command_answer-requires g c =
-    values_due (map string_bytes c.args.words.now) c.in_ok-command.command
-    c.in_ok-command.ensures.ok
+command_answer-requires g c = c.in_ok-command.ensures.ok.values
 
 pub returns-in_err-command-clause-cause : goal.returns-in_err-command-clause-cause
 returns-in_err-command-clause-cause g c =
