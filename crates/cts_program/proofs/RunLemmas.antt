@@ -1,5 +1,7 @@
 -- What the causes of failures leave of the exit status.
-use Rattle.std.proofs.Common.{ℕ, ◌≡◌, ◌≢◌, ◌<◌, ◌≤◌, ◌⊎◌, inl, inr, List, [], ◌++◌, ◌∷◌, length, take, Option, Some, refl, ap, sym, ◌∙◌, subst, arith, append-nil}
+use Rattle.std.proofs.Common.{ℕ, ◌≡◌, ◌≢◌, ◌<◌, ◌≤◌, ◌⊎◌, inl, inr, List, [], ◌++◌, ◌∷◌, length, take, Option, Some, refl, ap, sym, ◌∙◌, subst, arith, append-nil, true, false}
+use Rattle.std.proofs.Math.Dec.{eqb}
+use Rattle.std.proofs.lemmas.Bool.Decides.{eqb_tells}
 use Rattle.std.proofs.lemmas.List.{append_cancel_left}
 use Rattle.std.proofs.lemmas.List.Elements.{All-head, All-drop}
 use Rattle.cts_io.specs.Device.{Rose, appended, WritesPrefix}
@@ -368,29 +370,32 @@ pub not_two : (ending : Ending) → ending_status ending ≡ 2 → ⊥
 not_two Done two = omega arith
 not_two Never two = omega arith
 
--- a count that rises is determined by its status alone
-pub rose_status : (failure : Failure) (before now : ℕ)
-    → (((kind : FileKind) × (failure ≡ ReadFault kind) → ⊥) → now ≡ before) → before < now
-    → status_of failure ≡ 4
-rose_status (ReadFault kind) before now stays rose = refl
-rose_status Usage before now stays rose =
-    let same = stays (λ (kind, e). cc e) in absurd (omega arith)
-rose_status (TooLong kind) before now stays rose =
-    let same = stays (λ (kind, e). cc e) in absurd (omega arith)
-rose_status (Bench fault) before now stays rose =
-    let same = stays (λ (kind, e). cc e) in absurd (omega arith)
-rose_status (Tech fault) before now stays rose =
-    let same = stays (λ (kind, e). cc e) in absurd (omega arith)
-rose_status (Placement fault) before now stays rose =
-    let same = stays (λ (kind, e). cc e) in absurd (omega arith)
-rose_status Pairs before now stays rose =
-    let same = stays (λ (kind, e). cc e) in absurd (omega arith)
-rose_status (Unshown why) before now stays rose =
-    let same = stays (λ (kind, e). cc e) in absurd (omega arith)
-rose_status WriteFault before now stays rose =
-    let same = stays (λ (kind, e). cc e) in absurd (omega arith)
-rose_status NoMemory before now stays rose =
-    let same = stays (λ (kind, e). cc e) in absurd (omega arith)
+-- and one that fails with neither 0 nor 1
+pub no_ending : (failure : Failure) (status : ℕ) → status_of failure ≡ status → status < 2 → ⊥
+no_ending Usage status is few = omega (arith, is, few)
+no_ending (TooLong kind) status is few = omega (arith, is, few)
+no_ending (Bench fault) status is few = omega (arith, is, few)
+no_ending (Tech fault) status is few = omega (arith, is, few)
+no_ending (Placement fault) status is few = omega (arith, is, few)
+no_ending Pairs status is few = omega (arith, is, few)
+no_ending (Unshown why) status is few = omega (arith, is, few)
+no_ending (ReadFault kind) status is few = omega (arith, is, few)
+no_ending WriteFault status is few = omega (arith, is, few)
+no_ending NoMemory status is few = omega (arith, is, few)
+
+-- where a count is greater that no failure but a fault moves, the status is that of the fault
+pub fault_status : (failure : Failure) (status : ℕ) (IsFault : Type 0)
+    → (IsFault → status_of failure ≡ status) → (before now : ℕ)
+    → ((IsFault → ⊥) → now ≡ before) → before < now → status_of failure ≡ status
+fault_status failure status IsFault is_fault before now stays more =
+    at (eqb_tells (status_of failure) status)
+  where
+    at : ((eqb (status_of failure) status ≡ true) × (status_of failure ≡ status))
+        ⊎ ((eqb (status_of failure) status ≡ false) × (status_of failure ≢ status))
+        → status_of failure ≡ status
+    at (inl (test, is)) = is
+    at (inr (test, differs)) =
+        let same = stays (λ fault. differs (is_fault fault)) in absurd (omega (arith, same, more))
 
 -- a fault of the words is a failure of the command line
 pub words_fail : (words : List (List ℕ)) (holds : List ℕ → Option (List ℕ))

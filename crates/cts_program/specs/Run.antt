@@ -1,14 +1,15 @@
 -- What the program makes of the words after its name, the files that they name, and its output.
-use Rattle.std.specs.Prelude.{◌≡◌, ℕ, List, ◌∷◌, ◌++◌, length, All, Option}
+use Rattle.std.specs.Prelude.{◌≡◌, ◌≢◌, ◌<◌, ◌⊎◌, ℕ, true, List, ◌∷◌, ◌++◌, length, All, Option, Some}
 use Rattle.cts_io.specs.Device.{Rose, appended, WritesPrefix}
 use Rattle.cts_program.specs.declared.command.Command.{Command}
 use Rattle.cts_program.specs.declared.failure.Failure.{Failure}
 use Rattle.cts_program.specs.declared.failure.Failure.TheVariants.{Usage, ReadFault, WriteFault, NoMemory}
 use Rattle.cts_program.specs.declared.file_kind.FileKind.{FileKind}
 use Rattle.cts_program.specs.Commands.{IsCommand}
-use Rattle.cts_program.specs.Files.{files_of, AreContents}
+use Rattle.cts_program.specs.Failures.{status_of, failure_line, Reports}
+use Rattle.cts_program.specs.Files.{files_of, AreAll, AreContents}
 use Rattle.cts_program.specs.Judged.{AreAccepted}
-use Rattle.cts_program.specs.Answers.{IsAnswer, IsRefusal}
+use Rattle.cts_program.specs.Answers.{is_ending, IsAnswer, IsRefusal, IsAccepted, IsStatusOf, FindsNoPeriod}
 
 -- the words ask for nothing that the program does
 abbrev pub IsNoCommand : List (List ℕ) → Type 0
@@ -82,3 +83,45 @@ Fails words holds reads reads_now before now writes writes_now failure =
 -- no count of the files that a command reads rose
 abbrev pub NoneRose : (reads reads_now : List ℕ → ℕ) → List (FileKind × List ℕ) → Type 0
 NoneRose reads reads_now files = All (λ file. Rose (reads file.1) (reads_now file.1) → ⊥) files
+
+-- how a command ends where its files hold these contents
+pub record EndsFor (command : Command) (contents : List (List ℕ)) (reads reads_now : List ℕ → ℕ)
+    (before now : Option (List ℕ)) (writes writes_now status : ℕ) : Type 0 where
+  -- with the status of the answer whose text stands whole on the output
+  pub only : (other : ℕ) (text start : List ℕ) → IsAnswer command contents other text
+      → before ≡ Some start → now ≡ appended before text → status ≡ other
+  -- with 1 only where what is accepted admits no period at any scale, and never from `zero` or
+  -- `check`; such input gives no 0
+  pub never : AreAll command contents → status ≡ 1 → FindsNoPeriod command contents
+  pub found : FindsNoPeriod command contents → status ≢ 0
+  -- with the status of their refusal, unless a file can't be read or memory runs out
+  pub refused : (failure : Failure) → IsRefusal command contents failure
+      → (status ≡ status_of failure) ⊎ ((status ≡ 4) ⊎ (status ≡ 6))
+  -- where they are accepted and no device fails, with 0 or 1, from `zero` with 0 and from `check`
+  -- with 0 or 7, whatever its report holds, unless memory runs out
+  pub complete : IsAccepted command contents → NoneRose reads reads_now (files_of command)
+      → (Rose writes writes_now → ⊥) → IsStatusOf command status ⊎ (status ≡ 6)
+
+-- a count that is greater has a status of its own
+pub record ShowsFaults (reads reads_now : List ℕ → ℕ) (writes writes_now status : ℕ)
+    : Type 0 where
+  pub read : (file : List ℕ) → reads file < reads_now file → status ≡ 4
+  pub written : writes < writes_now → status ≡ 5
+
+-- files hold what they held, and none is touched for words that are no command; the output keeps
+-- what it had, but for a text that stands there, whole or in part
+pub record Keeps {Device : Type 0} (device device_now : Device)
+    (holds holds_now : List ℕ → Option (List ℕ)) (before now : Option (List ℕ)) (status : ℕ)
+    : Type 0 where
+  pub untouched : status ≡ 2 → device_now ≡ device
+  pub files : (file : List ℕ) → holds_now file ≡ holds file
+  pub output : is_ending status ≢ true → status ≢ 5 → now ≡ before
+
+-- the failure with this status has its cause, and its line stands on the error output
+pub record Reported (words : List (List ℕ)) (holds : List ℕ → Option (List ℕ))
+    (reads reads_now : List ℕ → ℕ) (before now : Option (List ℕ)) (writes writes_now : ℕ)
+    (errors errors_now : Option (List ℕ)) (faults faults_now status : ℕ) : Type 0 where
+  pub failure : Failure
+  pub status_is : status ≡ status_of failure
+  pub cause : Fails words holds reads reads_now before now writes writes_now failure
+  pub line : Reports (failure_line failure) errors faults errors_now faults_now

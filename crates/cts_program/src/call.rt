@@ -1,12 +1,15 @@
 //! A call of the program: the name that it is called by, and the words after that.
 
-ghost use Rattle.std.specs.Prelude.{◌≡◌, ◌≢◌, ◌<◌, ℕ, List, map, drop, true, string_bytes, IfOk, IfErr};
+ghost use Rattle.std.specs.Prelude.{◌≡◌, ◌≢◌, ℕ, List, map, drop, true, string_bytes, IfOk, IfErr};
 ghost use Rattle.std.specs.IoError.{error_kind};
 ghost use Rattle.std.specs.Process.{exit_status};
+ghost use Rattle.cts_program.specs.declared.command.Command.{Command};
 ghost use Rattle.cts_program.specs.declared.failure.Failure.{Failure};
 ghost use Rattle.cts_program.specs.Answers.{is_ending};
+ghost use Rattle.cts_program.specs.Commands.{IsCommand};
 ghost use Rattle.cts_program.specs.Failures.{status_of, failure_line, Reports};
-ghost use Rattle.cts_program.specs.Run.{Ends, Fails};
+ghost use Rattle.cts_program.specs.Files.{files_of, AreDenoted};
+ghost use Rattle.cts_program.specs.Run.{Ends, EndsFor, Keeps, Reported, ShowsFaults};
 
 use crate::failure::Failure;
 use crate::run::run;
@@ -30,13 +33,16 @@ pub fn answer_call<I: Inputs, O: Sink, E: Sink>(
     ensures done { IfOk words (λ words. is_ending (exit_status result) ≡ true
         → Ends (map string_bytes (drop 1 words.items)) (I.holds inputs.old) (exit_status result)
         (O.written out.old) (O.written out.new)) }
-    ensures denoted { IfOk words (λ words. is_ending (exit_status result) ≢ true
-        → (failure : Failure) × (exit_status result ≡ status_of failure)
-        × Fails (map string_bytes (drop 1 words.items)) (I.holds inputs.old) (I.faults inputs.old)
-        (I.faults inputs.new) (O.written out.old) (O.written out.new) (O.faults out.old)
-        (O.faults out.new) failure
-        × Reports (failure_line failure) (E.written err.old) (E.faults err.old) (E.written err.new)
-        (E.faults err.new)) }
+    ensures given { IfOk words (λ words. (command : Command) (contents : List (List ℕ))
+        → IsCommand (map string_bytes (drop 1 words.items)) command
+        → AreDenoted (I.holds inputs.old) (files_of command) contents
+        → EndsFor command contents (I.faults inputs.old) (I.faults inputs.new) (O.written out.old)
+        (O.written out.new) (O.faults out.old) (O.faults out.new) (exit_status result)) }
+    ensures reported { IfOk words (λ words. is_ending (exit_status result) ≢ true
+        → Reported (map string_bytes (drop 1 words.items)) (I.holds inputs.old)
+        (I.faults inputs.old) (I.faults inputs.new) (O.written out.old) (O.written out.new)
+        (O.faults out.old) (O.faults out.new) (E.written err.old) (E.written err.new)
+        (E.faults err.old) (E.faults err.new) (exit_status result)) }
 
     // Words that aren't had are reported so.
     ensures no_text { IfErr words (λ error. error_kind error ≢ ErrorKind.OutOfMemory
@@ -48,14 +54,11 @@ pub fn answer_call<I: Inputs, O: Sink, E: Sink>(
         × Reports (failure_line Failure.NoMemory) (E.written err.old) (E.faults err.old)
         (E.written err.new) (E.faults err.new)) }
 
-    // What `run` leaves untouched stays so.
-    ensures untouched { exit_status result ≡ 2 → inputs.new ≡ inputs.old }
-    ensures files { (file : List ℕ) → I.holds inputs.new file ≡ I.holds inputs.old file }
-    ensures rose { (file : List ℕ) → I.faults inputs.old file < I.faults inputs.new file
-        → exit_status result ≡ 4 }
-    ensures kept { is_ending (exit_status result) ≢ true → exit_status result ≢ 5
-        → O.written out.new ≡ O.written out.old }
-    ensures written { O.faults out.old < O.faults out.new → exit_status result ≡ 5 }
+    // No fault is hidden, and nothing is changed that `run` keeps.
+    ensures counts { ShowsFaults (I.faults inputs.old) (I.faults inputs.new) (O.faults out.old)
+        (O.faults out.new) (exit_status result) }
+    ensures keeps { Keeps inputs.old inputs.new (I.holds inputs.old) (I.holds inputs.new)
+        (O.written out.old) (O.written out.new) (exit_status result) }
     ensures quiet { is_ending (exit_status result) ≡ true → E.written err.new ≡ E.written err.old }
 {
     match words {
@@ -78,7 +81,7 @@ fn after_name(words: &[String]) -> &[String]
 // Reports why nothing is answered, and gives the exit code.
 fn refuse<E: Sink>(failure: Failure, err: &mut E) -> ExitCode
     ensures status { exit_status result ≡ status_of failure }
-    ensures denoted { Reports (failure_line failure) (E.written err.old) (E.faults err.old)
+    ensures reported { Reports (failure_line failure) (E.written err.old) (E.faults err.old)
         (E.written err.new) (E.faults err.new) }
 {
     failure.report(err);

@@ -3,11 +3,11 @@ ghost use Rattle.cts_io.specs.Device.{Rose, appended};
 ghost use Rattle.cts_program.specs.declared.command.Command.{Command};
 ghost use Rattle.cts_program.specs.declared.failure.Failure.{Failure};
 ghost use Rattle.cts_program.specs.declared.file_kind.FileKind.{FileKind};
-ghost use Rattle.cts_program.specs.Answers.{is_ending, ending_status, IsAnswer, IsRefusal, IsAccepted, IsStatusOf, FindsNoPeriod};
+ghost use Rattle.cts_program.specs.Answers.{is_ending, ending_status};
 ghost use Rattle.cts_program.specs.Commands.{HasValidValues, IsCommand};
-ghost use Rattle.cts_program.specs.Failures.{status_of, failure_line, Reports};
-ghost use Rattle.cts_program.specs.Files.{files_of, AreDenoted, AreAll};
-ghost use Rattle.cts_program.specs.Run.{IsNoCommand, DenotesText, RefusesCommand, CannotRead, Stops, Ends, EndsInPart, Fails, NoneRose};
+ghost use Rattle.cts_program.specs.Failures.{status_of};
+ghost use Rattle.cts_program.specs.Files.{files_of, AreDenoted};
+ghost use Rattle.cts_program.specs.Run.{IsNoCommand, DenotesText, RefusesCommand, CannotRead, Stops, Ends, EndsFor, EndsInPart, Fails, Keeps, Reported, ShowsFaults};
 ghost use Rattle.cts_program.specs.Steps.{IsAnyReadFault};
 
 use crate::check::check;
@@ -32,81 +32,52 @@ pub fn run<I: Inputs, O: Sink, E: Sink>(
     out: &mut O,
     err: &mut E,
 ) -> u8
-    // 0 and 1: exactly where the words mean a command that has an answer with this status for what
-    // its files hold, and the text stands whole on the output.
+    // 0 and 1: only where the words mean a command that has an answer with this status for what its
+    // files hold, and the text stands whole on the output.
     ensures done { is_ending result ≡ true → Ends (map string_bytes words.now)
         (I.holds inputs.old) result (O.written out.old) (O.written out.new) }
-    ensures only { (command : Command) (contents : List (List ℕ)) (status : ℕ)
-        (text before : List ℕ)
-        → IsCommand (map string_bytes words.now) command
-        → AreDenoted (I.holds inputs.old) (files_of command) contents
-        → IsAnswer command contents status text → O.written out.old ≡ Some before
-        → O.written out.new ≡ appended (O.written out.old) text → result ≡ status }
 
-    // 1: only where what is accepted admits no period at any scale, and never from `zero` or
-    // `check`. Such input gives no 0.
-    ensures never { (command : Command) (contents : List (List ℕ))
-        → IsCommand (map string_bytes words.now) command
-        → AreDenoted (I.holds inputs.old) (files_of command) contents → AreAll command contents
-        → result ≡ 1 → FindsNoPeriod command contents }
-    ensures found { (command : Command) (contents : List (List ℕ))
-        → IsCommand (map string_bytes words.now) command
-        → AreDenoted (I.holds inputs.old) (files_of command) contents
-        → FindsNoPeriod command contents → result ≢ 0 }
-
-    // 2: exactly where the words are no command. No file is touched then.
+    // 2: exactly where the words are no command.
     ensures usage { (result ≡ 2) ↔ IsNoCommand (map string_bytes words.now) }
-    ensures untouched { result ≡ 2 → inputs.new ≡ inputs.old }
 
-    // 3: exactly where what the files hold makes the command refuse them, and 7 exactly where the
-    // report isn't shown, unless a file can't be read or memory runs out.
+    // 3: only where what the files hold makes the command refuse them, and 7 only where the report
+    // isn't shown.
     ensures refused { (result ≡ 3) ⊎ (result ≡ 7) → (command : Command)
         × IsCommand (map string_bytes words.now) command
         × ((failure : Failure) × (status_of failure ≡ result)
         × RefusesCommand (I.holds inputs.old) command failure) }
-    ensures refuses { (command : Command) (contents : List (List ℕ)) (failure : Failure)
-        → IsCommand (map string_bytes words.now) command
-        → AreDenoted (I.holds inputs.old) (files_of command) contents
-        → IsRefusal command contents failure
-        → (result ≡ status_of failure) ⊎ ((result ≡ 4) ⊎ (result ≡ 6)) }
 
-    // 4: only where the count of a file rose that the command reads, after files that are accepted;
-    // and wherever the count of any file is greater.
+    // 4: only where the count of a file rose that the command reads, after files that are accepted.
     ensures read_fault { result ≡ 4 → (command : Command)
         × IsCommand (map string_bytes words.now) command
         × ((kind : FileKind) × CannotRead (I.holds inputs.old) (I.faults inputs.old)
         (I.faults inputs.new) command kind) }
-    ensures rose { (file : List ℕ) → I.faults inputs.old file < I.faults inputs.new file
-        → result ≡ 4 }
 
-    // 5: only where the count of the output rose, and wherever it is greater. A prefix of the text
-    // stands there.
-    ensures write_fault { result ≡ 5 → Rose (O.faults out.old) (O.faults out.new) }
-    ensures part { result ≡ 5 → EndsInPart (map string_bytes words.now)
-        (I.holds inputs.old) (O.written out.old) (O.written out.new) }
-    ensures written { O.faults out.old < O.faults out.new → result ≡ 5 }
+    // 5: only where the count of the output rose. A prefix of the text stands there.
+    ensures write_fault { result ≡ 5 → Rose (O.faults out.old) (O.faults out.new)
+        × EndsInPart (map string_bytes words.now) (I.holds inputs.old) (O.written out.old)
+        (O.written out.new) }
 
-    // With no fault of theirs what is accepted gives 0 or 1, of `zero` 0, and of `check` 0 or 7,
-    // whatever its report holds, unless memory runs out.
-    ensures complete { (command : Command) (contents : List (List ℕ))
+    // What the files are known to hold decides the status, but for faults and want of memory.
+    ensures given { (command : Command) (contents : List (List ℕ))
         → IsCommand (map string_bytes words.now) command
-        → AreDenoted (I.holds inputs.old) (files_of command) contents → IsAccepted command contents
-        → NoneRose (I.faults inputs.old) (I.faults inputs.new) (files_of command)
-        → (Rose (O.faults out.old) (O.faults out.new) → ⊥)
-        → IsStatusOf command result ⊎ (result ≡ 6) }
+        → AreDenoted (I.holds inputs.old) (files_of command) contents
+        → EndsFor command contents (I.faults inputs.old) (I.faults inputs.new) (O.written out.old)
+        (O.written out.new) (O.faults out.old) (O.faults out.new) result }
 
-    // Files hold what they held. The output keeps what it had.
-    ensures files { (file : List ℕ) → I.holds inputs.new file ≡ I.holds inputs.old file }
-    ensures kept { is_ending result ≢ true → result ≢ 5 → O.written out.new ≡ O.written out.old }
+    // No fault is hidden, and nothing is changed but the output.
+    ensures counts { ShowsFaults (I.faults inputs.old) (I.faults inputs.new) (O.faults out.old)
+        (O.faults out.new) result }
+    ensures keeps { Keeps inputs.old inputs.new (I.holds inputs.old) (I.holds inputs.new)
+        (O.written out.old) (O.written out.new) result }
 
-    // Every other status is that of a failure that has its cause, and whose line stands on `err`.
+    // Every other status than 0 and 1 is that of a failure that has its cause, and whose line
+    // stands on `err`.
     ensures quiet { is_ending result ≡ true → E.written err.new ≡ E.written err.old }
-    ensures denoted { is_ending result ≢ true → (failure : Failure) × (result ≡ status_of failure)
-        × Fails (map string_bytes words.now) (I.holds inputs.old) (I.faults inputs.old)
-        (I.faults inputs.new) (O.written out.old) (O.written out.new) (O.faults out.old)
-        (O.faults out.new) failure
-        × Reports (failure_line failure) (E.written err.old) (E.faults err.old) (E.written err.new)
-        (E.faults err.new) }
+    ensures reported { is_ending result ≢ true → Reported (map string_bytes words.now)
+        (I.holds inputs.old) (I.faults inputs.old) (I.faults inputs.new) (O.written out.old)
+        (O.written out.new) (O.faults out.old) (O.faults out.new) (E.written err.old)
+        (E.written err.new) (E.faults err.old) (E.faults err.new) result }
 {
     laws::one_report();
     laws::faults();
