@@ -123,10 +123,6 @@ answers_problem form given contents status text Holds other so tell = record {
 -- the text of one that does
 check_answers : (given : List Given) (contents : List (List ℕ)) (status : ℕ) (text : List ℕ)
     → status ≡ 0 → IsCheckAnswer contents text → Answers forms.Check given contents status text
-check_answers given [] status text done answer = absurd answer
-check_answers given (netlist ∷ []) status text done answer = absurd answer
-check_answers given (netlist ∷ table ∷ []) status text done answer = absurd answer
-check_answers given (netlist ∷ table ∷ places ∷ []) status text done answer = absurd answer
 check_answers given (netlist ∷ table ∷ places ∷ bytes ∷ []) status text done answer = record {
   accepted = answer.0.problem_is.accepted;
   circuit = answer.0.problem.circuit;
@@ -136,8 +132,7 @@ check_answers given (netlist ∷ table ∷ places ∷ bytes ∷ []) status text 
   holds = check_text answer.0.problem.circuit answer.0.problem.tech status text done answer.1;
   checked = λ same. answer;
 }
-check_answers given (netlist ∷ table ∷ places ∷ bytes ∷ more ∷ rest) status text done answer =
-    absurd answer
+check_answers given contents status text done answer = absurd answer
 
 -- an answer is a text for what the files of the command tell
 pub answer_of : (command : Command) (contents : List (List ℕ)) (status : ℕ) (text : List ℕ)
@@ -247,57 +242,27 @@ agree_rotated (one ∷ more) (other ∷ others) (same, agree) =
 refused_first : (netlist : List ℕ) (failure : Failure) → IsFileRefusal (netlist ∷ []) failure
     → (status_of failure ≡ 3)
     × ((IsShortFile netlist → ⊥) ⊎ ((fault : BenchFault) × HasFault netlist fault))
-refused_first netlist failures.Usage refused = absurd refused
 refused_first netlist (failures.TooLong kinds.Bench) refused = (refl, inl refused)
-refused_first netlist (failures.TooLong kinds.Tech) refused = absurd refused
-refused_first netlist (failures.TooLong kinds.Placement) refused = absurd refused
-refused_first netlist (failures.TooLong kinds.Report) refused = absurd refused
 refused_first netlist (failures.Bench fault) refused = (refl, inr (fault, refused.1))
-refused_first netlist (failures.Tech fault) refused = absurd refused
-refused_first netlist (failures.Placement fault) refused = absurd refused
-refused_first netlist failures.Pairs refused = absurd refused
-refused_first netlist (failures.Unshown why) refused = absurd refused
-refused_first netlist (failures.ReadFault kind) refused = absurd refused
-refused_first netlist failures.WriteFault refused = absurd refused
-refused_first netlist failures.NoMemory refused = absurd refused
+refused_first netlist failure refused = absurd refused
 
 refused_second : (netlist table : List ℕ) (failure : Failure)
     → IsFileRefusal (netlist ∷ table ∷ []) failure → (status_of failure ≡ 3)
     × ((IsShortFile table → ⊥) ⊎ ((fault : TechFault) × HasTableFault netlist table fault))
-refused_second netlist table failures.Usage refused = absurd refused
-refused_second netlist table (failures.TooLong kinds.Bench) refused = absurd refused
 refused_second netlist table (failures.TooLong kinds.Tech) refused = (refl, inl refused.1)
-refused_second netlist table (failures.TooLong kinds.Placement) refused = absurd refused
-refused_second netlist table (failures.TooLong kinds.Report) refused = absurd refused
-refused_second netlist table (failures.Bench fault) refused = absurd refused
 refused_second netlist table (failures.Tech fault) refused = (refl, inr (fault, refused.2))
-refused_second netlist table (failures.Placement fault) refused = absurd refused
-refused_second netlist table failures.Pairs refused = absurd refused
-refused_second netlist table (failures.Unshown why) refused = absurd refused
-refused_second netlist table (failures.ReadFault kind) refused = absurd refused
-refused_second netlist table failures.WriteFault refused = absurd refused
-refused_second netlist table failures.NoMemory refused = absurd refused
+refused_second netlist table failure refused = absurd refused
 
 refused_third : (netlist table places : List ℕ) (failure : Failure)
     → IsFileRefusal (netlist ∷ table ∷ places ∷ []) failure
     → (status_of failure ≡ 3)
     × ((IsShortFile places → ⊥)
     ⊎ ((fault : PlacementFault) × HasPlacementFault netlist table places fault))
-refused_third netlist table places failures.Usage refused = absurd refused
-refused_third netlist table places (failures.TooLong kinds.Bench) refused = absurd refused
-refused_third netlist table places (failures.TooLong kinds.Tech) refused = absurd refused
 refused_third netlist table places (failures.TooLong kinds.Placement) refused =
     (refl, inl refused.2)
-refused_third netlist table places (failures.TooLong kinds.Report) refused = absurd refused
-refused_third netlist table places (failures.Bench fault) refused = absurd refused
-refused_third netlist table places (failures.Tech fault) refused = absurd refused
 refused_third netlist table places (failures.Placement fault) refused =
     (refl, inr (fault, refused.3))
-refused_third netlist table places failures.Pairs refused = absurd refused
-refused_third netlist table places (failures.Unshown why) refused = absurd refused
-refused_third netlist table places (failures.ReadFault kind) refused = absurd refused
-refused_third netlist table places failures.WriteFault refused = absurd refused
-refused_third netlist table places failures.NoMemory refused = absurd refused
+refused_third netlist table places failure refused = absurd refused
 
 -- the status of a refusal of files, of which there are three at the most
 pub file_status : (files : List (List ℕ)) (failure : Failure) → IsFileRefusal files failure
@@ -325,11 +290,8 @@ second_fine netlist table file (inr (fault, has)) = table_fine netlist table fau
 -- want of memory is no fault of a placement
 not_memory : (circuit : Circuit) (fault : PlacementFault)
     → IsNamedFault circuit place.NoMemory fault → ⊥
-not_memory circuit (placements.BadLine line) named = cc named
-not_memory circuit (placements.BadNumber line number) named = cc named
-not_memory circuit (placements.PlaceTwice line) named = cc named
 not_memory circuit (placements.NoPlace name) (register, is, name_is) = cc is
-not_memory circuit placements.NoSource named = cc named
+not_memory circuit fault named = cc named
 
 third_fine : (netlist table places : List ℕ) → IsPlacementFile netlist table places
     → (IsShortFile places → ⊥)

@@ -5,7 +5,7 @@ use Rattle.cts_model.specs.declared.circuit.Circuit.{Circuit}
 use Rattle.cts_model.specs.declared.tech.Tech.{Tech}
 use Rattle.cts_model.specs.LeastPeriods.{HasNoPeriod}
 use Rattle.cts_program.specs.declared.command.Command.{Command}
-use Rattle.cts_program.specs.declared.command.Command.TheVariants.{Zero, Period, Schedule, Synth, Check, Demo}
+use Rattle.cts_program.specs.declared.command.Command.TheVariants.{Zero, Check}
 use Rattle.cts_program.specs.declared.ending.Ending.{Ending}
 use Rattle.cts_program.specs.declared.ending.Ending.TheVariants as endings
 use Rattle.cts_program.specs.Answers.{ending_status, TellWith, IsStatusOf, FindsNoPeriod}
@@ -40,20 +40,14 @@ FindsNone command contents = (looks_for_period (form_of command) ≡ true)
 finds_by : (command : Command) (contents : List (List ℕ)) → FindsNone command contents
     → FindsNoPeriod command contents
 finds_by (Zero bench tech) contents (looks, all, none) = cc looks
-finds_by (Period bench tech) contents (looks, all, none) = (all, none)
-finds_by (Schedule bench tech) contents (looks, all, none) = (all, none)
-finds_by (Synth bench tech pl) contents (looks, all, none) = (all, none)
 finds_by (Check bench tech pl report) contents (looks, all, none) = cc looks
-finds_by (Demo registers seed) contents (looks, all, none) = (all, none)
+finds_by command contents (looks, all, none) = (all, none)
 
 found_by : (command : Command) (contents : List (List ℕ)) → FindsNoPeriod command contents
     → FindsNone command contents
 found_by (Zero bench tech) contents finds = absurd finds
-found_by (Period bench tech) contents (all, none) = (refl, all, none)
-found_by (Schedule bench tech) contents (all, none) = (refl, all, none)
-found_by (Synth bench tech pl) contents (all, none) = (refl, all, none)
 found_by (Check bench tech pl report) contents finds = absurd finds
-found_by (Demo registers seed) contents (all, none) = (refl, all, none)
+found_by command contents finds = (refl, finds.0, finds.1)
 
 -- where a command finds no period the contents of all its files are known
 pub finds_all : (command : Command) (contents : List (List ℕ)) → FindsNoPeriod command contents
@@ -105,8 +99,5 @@ pub text_status : (command : Command) (ending : Ending) (text : List ℕ) (circu
     (tech : Tech) → IsTextOf (form_of command) (ending_status ending) text circuit tech
     → IsStatusOf command (ending_status ending)
 text_status (Zero bench tech) ending text circuit delays is = is.are.says
-text_status (Period bench tech) ending text circuit delays is = done_or_never ending
-text_status (Schedule bench tech) ending text circuit delays is = done_or_never ending
-text_status (Synth bench tech pl) ending text circuit delays is = done_or_never ending
 text_status (Check bench tech pl report) ending text circuit delays is = inl is.are.says
-text_status (Demo registers seed) ending text circuit delays is = done_or_never ending
+text_status command ending text circuit delays is = done_or_never ending
