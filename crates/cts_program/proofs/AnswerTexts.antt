@@ -87,6 +87,7 @@ module _ (circuit : Circuit) (tech : Tech) where
 
   -- ---- each text
 
+  -- the least period at equal arrivals
   pub zero_text : (status : ℕ) (text : List ℕ) → status ≡ 0 → IsZeroText circuit tech text
       → IsTextOf forms.Zero status text circuit tech
   zero_text status text done says =
@@ -98,6 +99,7 @@ module _ (circuit : Circuit) (tech : Tech) where
         says = refl;
       }) done says.spelled
 
+  -- a report that is shown
   pub check_text : (status : ℕ) (text : List ℕ) → status ≡ 0 → text ≡ text_of (shown_line ∷ [])
       → IsTextOf forms.Check status text circuit tech
   check_text status text done spelled =
@@ -120,12 +122,14 @@ module _ (circuit : Circuit) (tech : Tech) where
         (inr (refl, forbidding_at_all circuit tech cycle never));
   }
 
+  -- so is its text, whatever the command
   pub never_text : (form : Form) (text : List ℕ) → looks_for_period form ≡ true
       → IsNeverText circuit tech text → IsTextOf form 1 text circuit tech
   never_text form text looks says =
       text_with form 1 1 (never_lines circuit says.cycle) text
       (never_are form looks says.cycle says.forbids) refl says.spelled
 
+  -- the least period that any arrivals allow
   period_are : (outcome : PeriodOutcome) → IsPeriodOutcome circuit tech outcome
       → AreLinesOf forms.Period circuit tech (outcome_status outcome)
       (period_lines circuit outcome)
@@ -146,6 +150,7 @@ module _ (circuit : Circuit) (tech : Tech) where
       (period_lines circuit says.outcome) text (period_are says.outcome says.least)
       says.status_is says.spelled
 
+  -- the least schedule at that period
   schedule_are : (outcome : ScheduleOutcome) → IsScheduleOutcome circuit tech outcome
       → AreLinesOf forms.Schedule circuit tech (outcome_status (period_outcome outcome))
       (schedule_lines circuit outcome)
@@ -167,6 +172,7 @@ module _ (circuit : Circuit) (tech : Tech) where
       says.status_is says.spelled
 
 module _ (problem : Problem) where
+  -- the report of a clock tree
   pub synth_text : (status : ℕ) (text : List ℕ) → IsSynthText problem status text
       → IsTextOf forms.Synth status text problem.circuit problem.tech
   synth_text zero text says =
@@ -182,6 +188,7 @@ module _ (problem : Problem) where
       never_text problem.circuit problem.tech forms.Synth text refl says
   synth_text (suc (suc more)) text says = absurd says
 
+  -- the summary of one
   pub demo_text : (registers status : ℕ) (text : List ℕ)
       → IsDemoText registers problem status text
       → IsTextOf forms.Demo status text problem.circuit problem.tech

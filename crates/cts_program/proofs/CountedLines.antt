@@ -17,6 +17,7 @@ Follow (times ∷ plan) [] = ⊥
 Follow (times ∷ plan) (heading ∷ lines) = (times * number_in heading ≤ length lines)
     × Follow plan (drop (times * number_in heading) lines)
 
+-- the same as a record, by which a proof finds the plan and the lines
 pub record AreCounted (plan : List ℕ) (lines : List Words) : Type 0 where
   pub follow : Follow plan lines
 
@@ -57,6 +58,7 @@ none_after (times ∷ plan) (heading ∷ lines) more follow follow' =
     none_after plan (drop count lines) more follow.1
     (subst (Follow plan) (drop-append-le count lines more follow.0) follow'.1)
 
+-- so counted lines end where their headings say
 pub no_more : {plan : List ℕ} (lines more : List Words) → AreCounted plan lines
     → AreCounted plan (lines ++ more) → more ≡ []
 no_more {plan} lines more counted counted' =
