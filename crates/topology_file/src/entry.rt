@@ -1,4 +1,4 @@
-ghost use Rattle.std.specs.Prelude.{◌≡◌, ◌<◌, ◌-◌, ◌^◌, ◌∷◌, ◌↔◌, IfSome, IsNone, min};
+ghost use Rattle.std.specs.Prelude.{◌≡◌, ◌<◌, ◌-◌, ◌^◌, ◌∷◌, IfSome, IsNone};
 ghost use Rattle.std.specs.Str.Parse.{digits_value};
 ghost use Rattle.cts_base.specs.NumberTexts.{IsPlainNumeral};
 ghost use Rattle.topology_file.specs.Entries.{IsEntry, merge_of, words_in};
@@ -22,7 +22,6 @@ pub(crate) fn merge_of(due: u32, made: &[u8], mut words: Words) -> Option<Merge>
         × IsKept (merge_of (made.now ∷ words.entry)) merge) }
     ensures none { IsNone result → ¬ (IsEntry due (made.now ∷ words.entry)) }
 {
-    let mut words = words;
     let made = number_of(made)?;
     let one = number_of(words.next()?)?;
     let other = number_of(words.next()?)?;
