@@ -1,27 +1,26 @@
 -- What the command `check` is left with: a report that isn't read or isn't shown, after the files of
 -- a problem, or one that is.
-use Rattle.std.proofs.Common.{◌≡◌, ◌≢◌, ℕ, List, [], ◌∷◌, Option, Some, Bor, refl, sym, subst}
+use Rattle.std.proofs.Common.{◌≡◌, ◌≢◌, ℕ, List, [], ◌∷◌, Option, Some, Result, Ok, Err, IfOk, Bor, refl, sym, subst}
 use Rattle.cts_model.specs.declared.problem.Problem.{Problem}
 use Rattle.cts_model.specs.declared.report.Report.{Report}
 use Rattle.cts_model.specs.PrintedLines.{text_of}
 use Rattle.cts_model.specs.Shown.{IsShown, ShowsLeast}
-use Rattle.cert_check.specs.declared.verdict.Reason.{Reason}
-use Rattle.cert_check.specs.declared.verdict.Verdict.TheVariants.{Not}
-use Rattle.cert_check.specs.Verdicts.{IsVerdict}
 use Rattle.report_text.specs.declared.fault.ReportFault.{ReportFault}
 use Rattle.report_text.specs.declared.fault.ReportFault.TheVariants as fault
 use Rattle.report_text.specs.ReportFaults.{HasFault}
 use Rattle.cts_program.specs.declared.command.Command.TheVariants.{Check}
+use Rattle.cts_program.specs.declared.ending.Answer.{Answer}
 use Rattle.cts_program.specs.declared.failure.Failure.{Failure}
 use Rattle.cts_program.specs.declared.failure.Failure.TheVariants as failures
 use Rattle.cts_program.specs.declared.file_kind.FileKind.{FileKind}
 use Rattle.cts_program.specs.declared.file_kind.FileKind.TheVariants as kinds
 use Rattle.cts_program.specs.declared.not_shown.NotShown.TheVariants as why
-use Rattle.cts_program.specs.Checks.{shown_line, subject_of, AreOfProblem}
+use Rattle.cts_program.specs.Answers.{ending_status}
+use Rattle.cts_program.specs.Checks.{shown_line, AreOfProblem}
 use Rattle.cts_program.specs.Failures.{report_failure_of}
 use Rattle.cts_program.specs.Files.{IsShortFile, problem_files, files_of, AreContents}
 use Rattle.cts_program.specs.Run.{DenotesText, Stops}
-use Rattle.cts_program.specs.Steps.{IsReportedAs, DenotesProblem, ReadsReport, FailsReport, GivesReason, FailsToShow}
+use Rattle.cts_program.specs.Steps.{IsReportedAs, DenotesProblem, ReadsReport, FailsReport, FailsToShow}
 
 module _ (problem : Problem) (held : Option (List ℕ)) (before now : ℕ) where
   module _ (bytes : List ℕ) (denoted : IsReportedAs held bytes) (short : IsShortFile bytes) where
@@ -42,27 +41,6 @@ module _ (problem : Problem) (held : Option (List ℕ)) (before now : ℕ) where
         (bytes, denoted, (short, (λ e. cc e), has (λ e. cc e)))
     refused_report (fault.UnknownSignal line) has =
         (bytes, denoted, (short, (λ e. cc e), has (λ e. cc e)))
-
--- what gives a reason against a report says that it isn't shown
-pub reason_given : (problem : Problem) (report : Report) (reason : Reason)
-    → IsVerdict problem report (Not reason) → (failure : Failure)
-    → GivesReason problem.circuit reason failure → FailsToShow problem report failure
-reason_given problem report reason verdict failures.Usage denotes = absurd denotes
-reason_given problem report reason verdict (failures.TooLong kind) denotes = absurd denotes
-reason_given problem report reason verdict (failures.Bench other) denotes = absurd denotes
-reason_given problem report reason verdict (failures.Tech other) denotes = absurd denotes
-reason_given problem report reason verdict (failures.Placement other) denotes = absurd denotes
-reason_given problem report reason verdict failures.Pairs denotes = absurd denotes
-reason_given problem report reason verdict (failures.Unshown why.TooLong) denotes = absurd denotes
-reason_given problem report reason verdict (failures.Unshown (why.Fault other)) denotes =
-    absurd denotes
-reason_given problem report reason verdict (failures.Unshown (why.Reason denoted subject))
-    (same, subject_is) =
-    subst (λ r. IsVerdict problem report (Not r) × (subject ≡ subject_of problem.circuit r))
-    (sym same) (verdict, subject_is)
-reason_given problem report reason verdict (failures.ReadFault kind) denotes = absurd denotes
-reason_given problem report reason verdict failures.WriteFault denotes = absurd denotes
-reason_given problem report reason verdict failures.NoMemory denotes = tt
 
 -- ---- after the files of a problem
 
@@ -188,3 +166,15 @@ module _ {holds : List ℕ → Option (List ℕ)} (bench file pl report : Bor (L
         ),
       );
     }
+
+    -- so the command `check` has its answer
+    pub check_answer : (result : Result Answer Failure) → IfOk result (λ answer. IsShown problem says)
+        → IfOk result (λ answer. ShowsLeast problem says)
+        → IfOk result (λ answer. (ending_status answer.ending ≡ 0)
+        × (answer.text.items ≡ text_of (shown_line ∷ [])))
+        → IfOk result (λ answer. DenotesText holds (Check bench file pl report)
+        (ending_status answer.ending) answer.text.items)
+    check_answer (Ok answer) shown least text =
+        subst (λ status. DenotesText holds (Check bench file pl report) status answer.text.items)
+        (sym text.0) (shown_answer shown least answer.text.items text.1)
+    check_answer (Err failure) shown least text = tt

@@ -1,5 +1,5 @@
 -- What the files of a command tell, and how it stops or answers.
-use Rattle.std.proofs.Common.{ℕ, List, [], ◌∷◌, Option, Some, None, Result, IfOk, Bor, refl, sym, subst}
+use Rattle.std.proofs.Common.{◌≡◌, ℕ, List, [], ◌∷◌, Option, Some, None, Result, IfOk, Bor, refl, sym, subst}
 use Rattle.cts_model.specs.declared.circuit.Circuit.{Circuit}
 use Rattle.cts_model.specs.declared.tech.Tech.{Tech}
 use Rattle.cts_model.specs.Paths.{IsLoop}
@@ -7,23 +7,21 @@ use Rattle.cts_model.specs.PairLists.{JoinsMoreThan}
 use Rattle.cts_model.specs.PlainTable.{IsPlainTable}
 use Rattle.cts_model.specs.UsedKinds.{AreUsedKinds}
 use Rattle.cts_engine.specs.Accepted.{IsHostedBy}
-use Rattle.cts_engine.specs.Faults.{IsCaused}
-use Rattle.cts_engine.specs.declared.fault.SynthFault.{SynthFault}
-use Rattle.cts_engine.specs.declared.fault.SynthFault.TheVariants as synth
 use Rattle.cts_engine.proofs.HostedLoops.{acyclic, both_acyclic}
 use Rattle.cts_engine.proofs.OneProblem.{table_accepted}
 use Rattle.cts_program.specs.declared.command.Command.{Command}
+use Rattle.cts_program.specs.declared.command.Command.TheVariants.{Zero}
 use Rattle.cts_program.specs.declared.ending.Answer.{Answer}
 use Rattle.cts_program.specs.declared.failure.Failure.{Failure}
 use Rattle.cts_program.specs.declared.failure.Failure.TheVariants as failures
 use Rattle.cts_program.specs.declared.file_kind.FileKind.TheVariants as kinds
 use Rattle.cts_program.specs.Answers.{ending_status, JoinTooMany, TellWith, IsAnswer, IsRefusal}
-use Rattle.cts_program.specs.Failures.{synth_failure_of}
 use Rattle.cts_program.specs.declared.file_kind.FileKind.{FileKind}
 use Rattle.cts_program.specs.Files.{circuit_files, files_of, AreAll, AreContents}
 use Rattle.cts_program.specs.Judged.{IsNetlistFile, IsTableFile, IsFileRefusal, Tell}
 use Rattle.cts_program.specs.Run.{DenotesText, Stops}
 use Rattle.cts_program.specs.Steps.{IsReportedAs, ReadsNetlist, FailsNetlist, ReadsTable, FailsTable, ReadsCircuit, DenotesCircuit, FailsCircuit}
+use Rattle.cts_program.specs.Texts.{IsZeroText}
 use Rattle.cts_program.proofs.RefusalLemmas.{file_refusal}
 use Rattle.cts_program.proofs.ResultLemmas.{if_ok_from}
 
@@ -260,11 +258,27 @@ denoted_answer command denoted Says is_answer result few says =
       );
     })
 
--- why a circuit has no outcome is why a command fails on it
-pub synth_fails : (circuit : Circuit) (fault : SynthFault) → IsCaused circuit fault
-    → FailsCircuit circuit (synth_failure_of fault)
-synth_fails circuit synth.TooManyPairs many = many
-synth_fails circuit synth.NoMemory any = tt
+-- so it is with the command `zero`, all of whose answers have one status
+pub zero_answer : {holds : List ℕ → Option (List ℕ)} (bench : Bor (List ℕ))
+    (file : Option (Bor (List ℕ))) {circuit : Circuit} {tech : Tech}
+    → DenotesCircuit holds (circuit_files bench file) circuit tech
+    → (result : Result Answer Failure)
+    → IfOk result (λ answer. JoinsMoreThan circuit 1048576 → ⊥)
+    → IfOk result (λ answer. (ending_status answer.ending ≡ 0)
+    × IsZeroText circuit tech answer.text.items)
+    → IfOk result (λ answer. DenotesText holds (Zero bench file) (ending_status answer.ending)
+    answer.text.items)
+zero_answer bench file denoted result few says =
+    if_ok_from result _ _ _ few says (λ answer few_here said. record {
+      contents = denoted.contents;
+      are = denoted.are;
+      answer = (
+        denoted.all,
+        said.0,
+        tell_with denoted (λ circuit tech. IsZeroText circuit tech answer.text.items) few_here
+            said.1,
+      );
+    })
 
 -- a circuit that a command's files tell has no ring of gates
 pub denoted_acyclic : {holds : List ℕ → Option (List ℕ)} {files : List (FileKind × List ℕ)}

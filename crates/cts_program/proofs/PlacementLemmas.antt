@@ -7,12 +7,8 @@ use Rattle.cts_model.specs.declared.circuit.Circuit.{Circuit}
 use Rattle.cts_model.specs.declared.tech.Tech.{Tech}
 use Rattle.cts_model.specs.declared.problem.Problem.{Problem}
 use Rattle.cts_model.specs.PairLists.{JoinsMoreThan}
-use Rattle.cts_model.specs.PrintedLines.{text_of}
 use Rattle.cts_model.specs.Placements.{register_nodes}
 use Rattle.cts_engine.specs.Accepted.{TellBoth}
-use Rattle.cts_engine.specs.declared.synthesis.Outcome.{Outcome}
-use Rattle.cts_engine.specs.declared.synthesis.Outcome.TheVariants as outcomes
-use Rattle.cts_engine.specs.SynthesisOutcomes.{BeginsLowest, IsOutcome}
 use Rattle.place_reader.specs.declared.fault.PlaceFault.{PlaceFault}
 use Rattle.place_reader.specs.declared.fault.PlaceFault.TheVariants as place
 use Rattle.place_reader.specs.Refusals.{HasNoPlace, RefusesPlacement}
@@ -28,10 +24,9 @@ use Rattle.cts_program.specs.Files.{IsShortFile, circuit_files, problem_files, f
 use Rattle.cts_program.specs.Judged.{IsNetlistFile, IsTableFile, AreAccepted, IsFileRefusal, Tell, TellProblem}
 use Rattle.cts_program.specs.Run.{DenotesText, Stops}
 use Rattle.cts_program.specs.Steps.{IsReportedAs, ReadsPlaces, FailsPlaces, GivesFault, DenotesCircuit, ReadsProblem, DenotesProblem}
-use Rattle.cts_program.specs.SynthTexts.{IsSynthText, synth_lines, synth_status}
+use Rattle.cts_program.specs.SynthTexts.{IsSynthText}
 use Rattle.cts_program.proofs.RefusalLemmas.{file_refusal}
 use Rattle.cts_program.proofs.ResultLemmas.{if_ok_from}
-use Rattle.cts_program.proofs.TreeTexts.{tree_spelled}
 
 -- a register that has no place is one of the circuit
 pub unplaced_within : (circuit : Circuit) (source host text : List ℕ) (fault : PlaceFault)
@@ -253,13 +248,3 @@ synth_answer bench file pl problem denoted result few says =
         },
       );
     })
-
--- the text of an outcome is one for its problem
-pub synth_says : (problem : Problem) (outcome : Outcome) → IsOutcome problem outcome
-    → BeginsLowest outcome → (text : List ℕ)
-    → text ≡ text_of (synth_lines problem.circuit outcome)
-    → IsSynthText problem (synth_status outcome) text
-synth_says problem (outcomes.Done report) made lowest text spelled =
-    tree_spelled problem report made lowest text spelled
-synth_says problem (outcomes.Never cycle) forbids lowest text spelled =
-    record { cycle = cycle; forbids = forbids; lowest = lowest; spelled = spelled }

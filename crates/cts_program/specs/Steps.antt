@@ -155,13 +155,6 @@ IsRegisterReason (reason.SlackDiffers number) register = number ≡ register
 IsRegisterReason (reason.NotLeast number) register = number ≡ register
 IsRegisterReason reason register = ⊥
 
--- a failure that gives a reason; memory may run out at any reason
-abbrev pub GivesReason : Circuit → Reason → Failure → Type 0
-GivesReason circuit reason (failures.Unshown (why.Reason denoted subject)) =
-    (denoted ≡ reason) × (subject ≡ subject_of circuit reason)
-GivesReason circuit reason failures.NoMemory = Unit {0}
-GivesReason circuit reason _ = ⊥
-
 -- a reason stands against the report, or memory ran out
 abbrev pub FailsToShow : Problem → Report → Failure → Type 0
 FailsToShow problem report (failures.Unshown (why.Reason reason subject)) =

@@ -6,10 +6,8 @@ use Rattle.cts_model.specs.declared.constraint.Constraint.{Constraint}
 use Rattle.cts_model.specs.declared.problem.Problem.{Problem}
 use Rattle.cts_model.specs.declared.tech.Tech.{Tech}
 use Rattle.cts_model.specs.LeastPeriods.{IsForbidding}
-use Rattle.cts_model.specs.PrintedLines.{Words, text_of}
-use Rattle.cts_model.specs.ReportLines.{report_lines}
-use Rattle.cts_engine.specs.declared.synthesis.Outcome.{Outcome}
-use Rattle.cts_engine.specs.declared.synthesis.Outcome.TheVariants.{Done, Never}
+use Rattle.cts_model.specs.PrintedLines.{text_of}
+use Rattle.cts_engine.specs.declared.synthesis.Outcome.TheVariants.{Never}
 use Rattle.cts_engine.specs.SynthesisOutcomes.{BeginsLowest}
 use Rattle.cts_program.specs.Headline.{IsSynthesisText}
 use Rattle.cts_program.specs.PeriodTexts.{never_lines}
@@ -26,13 +24,3 @@ abbrev pub IsSynthText : Problem → (status : ℕ) → List ℕ → Type 0
 IsSynthText problem zero text = IsSynthesisText problem text
 IsSynthText problem (suc zero) text = IsNeverText problem.circuit problem.tech text
 IsSynthText problem (suc (suc more)) text = ⊥
-
--- the lines for an outcome
-abbrev pub synth_lines : Circuit → Outcome → List Words
-synth_lines circuit (Done report) = report_lines circuit report
-synth_lines circuit (Never cycle) = never_lines circuit cycle
-
--- the exit status for an outcome
-abbrev pub synth_status : Outcome → ℕ
-synth_status (Done report) = 0
-synth_status (Never cycle) = 1

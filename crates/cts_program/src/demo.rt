@@ -15,9 +15,8 @@ ghost use Rattle.cts_program.specs.Commands.{number_of, is_number_within};
 ghost use Rattle.cts_program.specs.DemoTexts.{demo_texts, texts_of, summary_lines, AreShort, IsDemoText};
 ghost use Rattle.cts_program.specs.Steps.{FailsCircuit, FailsTexts, FailsDemo};
 
-use crate::ending::{Answer, Ending};
+use crate::ending::Answer;
 use crate::failure::Failure;
-use crate::period_text::never_text;
 use crate::placement::placement_failure;
 use cert_check::Verdict;
 use cts_base::NoMemory;
@@ -122,18 +121,9 @@ fn problem_answer(alloc: Global, registers: u32, problem: &Problem) -> Result<An
                 unreachable!();
             }
             let text = summary(alloc, registers, &report)?;
-            Ok(Answer {
-                ending: Ending::Done,
-                text,
-            })
+            Ok(Answer::done(text))
         }
-        Outcome::Never(cycle) => {
-            let text = never_text(alloc, &problem.circuit, cycle.as_slice())?;
-            Ok(Answer {
-                ending: Ending::Never,
-                text,
-            })
-        }
+        Outcome::Never(cycle) => Ok(Answer::never(alloc, &problem.circuit, cycle.as_slice())?),
     }
 }
 

@@ -2,6 +2,7 @@
 
 ghost use Rattle.std.specs.Prelude.{◌≡◌, ◌≢◌, ◌↔◌, ℕ, IsTrue, List, [], Some, IfOk, IfErr};
 ghost use Rattle.cts_model.specs.Circuits.{has_host};
+ghost use Rattle.cts_model.specs.Paths.{IsLoop};
 ghost use Rattle.cts_model.specs.Problems.{GivesUsedKinds};
 ghost use Rattle.cts_program.specs.declared.command.Command.{Command};
 ghost use Rattle.cts_program.specs.Files.{circuit_files};
@@ -27,6 +28,8 @@ pub fn read_circuit<I: Inputs>(
     ensures kinds { IfOk result (λ denoted. GivesUsedKinds denoted.circuit denoted.tech) }
     ensures host { IfOk result (λ denoted.
         IsTrue (has_host denoted.circuit.signals) ↔ (denoted.tech.host ≢ [])) }
+    ensures acyclic { IfOk result (λ denoted.
+        (loop : List ℕ) → IsLoop denoted.circuit.signals loop → ⊥) }
     ensures cause { IfErr result (λ failure. (command : Command)
         → ReadsCircuit command bench.entry tech.entry
         → Stops (I.holds inputs.old) (I.faults inputs.old) (I.faults inputs.new) command failure) }

@@ -1,5 +1,16 @@
-ghost use Rattle.std.specs.Prelude.{◌≡◌};
+//! How a command that answers ends, and its whole text.
+
+ghost use Rattle.std.specs.Prelude.{◌≡◌, IfOk};
+ghost use Rattle.cts_model.specs.declared.tech.Tech.{Tech};
+ghost use Rattle.cts_model.specs.LeastPeriods.{IsForbidding};
+ghost use Rattle.cts_model.specs.PrintedLines.{text_of};
 ghost use Rattle.cts_program.specs.Answers.{ending_status};
+ghost use Rattle.cts_program.specs.PeriodTexts.{never_lines};
+
+use cts_base::NoMemory;
+use cts_model::{Circuit, Constraint};
+use report_text::{push_cycle, push_line};
+use std::alloc::Global;
 
 /// How a command that answers ends.
 #[derive(Clone, Copy, Debug, Drop, PartialEq, Eq)]
@@ -27,4 +38,33 @@ impl Ending {
 pub struct Answer {
     pub ending: Ending,
     pub text: Vec<u8>,
+}
+
+impl Answer {
+    /// The answer of a command that found what it was asked for.
+    pub fn done(text: Vec<u8>) -> Answer
+        ensures ending { ending_status result.ending ≡ 0 }
+        ensures text { result.text.items ≡ text.items }
+    {
+        Answer {
+            ending: Ending::Done,
+            text,
+        }
+    }
+
+    /// The answer for constraints that forbid every period.
+    pub fn never(alloc: Global, circuit: &Circuit, cycle: &[Constraint]) -> Result<Answer, NoMemory>
+        requires { (tech : Tech) × IsForbidding circuit.now tech cycle.now }
+        ensures ending { IfOk result (λ answer. ending_status answer.ending ≡ 1) }
+        ensures text { IfOk result (λ answer.
+            answer.text.items ≡ text_of (never_lines circuit.now cycle.now)) }
+    {
+        let mut text = Vec::new(alloc);
+        push_line(&mut text, b"never", &[])?;
+        push_cycle(&mut text, circuit, cycle)?;
+        Ok(Answer {
+            ending: Ending::Never,
+            text,
+        })
+    }
 }

@@ -12,17 +12,14 @@ mod file_kind;
 mod files;
 mod not_shown;
 mod period;
-mod period_text;
 mod placement;
 mod problem;
 mod run;
-mod schedule_text;
 mod scheduling;
 mod synth;
 #[cfg(test)]
 mod tests;
 mod zero;
-mod zero_text;
 
 use call::answer_call;
 use cts_io::{HostErr, HostInputs, HostOut};

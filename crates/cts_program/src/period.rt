@@ -1,64 +1,77 @@
 //! The command `period`: the least period that any arrivals allow.
 
-ghost use Rattle.std.specs.Prelude.{◌≡◌, ℕ, List, IfOk, IfErr};
+ghost use Rattle.std.specs.Prelude.{◌≡◌, ◌++◌, ℕ, List, OnOk, IfOk, IfErr};
+ghost use Rattle.cts_base.specs.declared.fraction.Fraction.{Fraction};
+ghost use Rattle.cts_model.specs.declared.tech.Tech.{Tech};
+ghost use Rattle.cts_model.specs.LeastPeriods.{IsPeriodShow};
 ghost use Rattle.cts_model.specs.PairLists.{JoinsMoreThan};
 ghost use Rattle.cts_model.specs.Paths.{IsLoop};
+ghost use Rattle.cts_model.specs.PrintedLines.{text_of};
+ghost use Rattle.cts_engine.specs.Outcomes.{IsPeriodOutcome};
 ghost use Rattle.cts_program.specs.Answers.{ending_status};
-ghost use Rattle.cts_program.specs.PeriodTexts.{outcome_status, IsPeriodText};
-ghost use Rattle.cts_program.specs.Run.{DenotesText, Stops};
-ghost use Rattle.cts_program.specs.Steps.{FailsCircuit, IsAnyReadFault};
+ghost use Rattle.cts_program.specs.PeriodTexts.{found_lines, period_lines, outcome_status, IsPeriodText};
+ghost use Rattle.cts_program.specs.Steps.{FailsCircuit};
 
-use crate::command::Command;
-use crate::denoted::read_circuit;
-use crate::ending::{Answer, Ending};
+use crate::ending::Answer;
 use crate::failure::Failure;
-use crate::period_text::period_text;
-use cts_engine::{PeriodOutcome, period_of};
-use cts_io::Inputs;
-use cts_model::{Circuit, Tech};
+use crate::zero::push_zero;
+use cts_base::{Fraction, NoMemory};
+use cts_engine::{Denoted, PeriodOutcome, period_of};
+use cts_model::{Circuit, PeriodShow, ZeroSkew};
+use report_text::{push_period, push_show};
 use std::alloc::Global;
 
-/// The text for the netlist in a file, with the delays in another.
-pub fn period<I: Inputs>(
+/// The least period of a circuit, whenever the clock reaches each register.
+pub fn period(alloc: Global, denoted: &Denoted) -> Result<Answer, Failure>
+    requires { (loop : List ℕ) → IsLoop denoted.now.circuit.signals loop → ⊥ }
+    ensures few { IfOk result (λ _. JoinsMoreThan denoted.now.circuit 1048576 → ⊥) }
+    ensures text { IfOk result (λ answer. IsPeriodText denoted.now.circuit denoted.now.tech
+        (ending_status answer.ending) answer.text.items) }
+    ensures cause { IfErr result (FailsCircuit denoted.now.circuit) }
+{
+    let outcome = period_of(alloc, &denoted.circuit, &denoted.tech)?;
+    Ok(period_answer(alloc, &denoted.circuit, &outcome)?)
+}
+
+// The answer for the least period that any arrivals allow, or for that there is none.
+fn period_answer(
     alloc: Global,
-    inputs: &mut I,
-    bench: &str,
-    tech: &str,
-) -> Result<Answer, Failure>
-    ensures ok { IfOk result (λ answer. DenotesText (I.holds inputs.old)
-        (Command.Period bench.entry tech.entry) (ending_status answer.ending) answer.text.items) }
-    ensures cause { IfErr result (Stops (I.holds inputs.old) (I.faults inputs.old)
-        (I.faults inputs.new) (Command.Period bench.entry tech.entry)) }
-    ensures files { (file : List ℕ) → I.holds inputs.new file ≡ I.holds inputs.old file }
-    ensures stays { ¬ IsAnyReadFault result
-        → (file : List ℕ) → I.faults inputs.new file ≡ I.faults inputs.old file }
-{
-    let denoted = read_circuit(alloc, inputs, bench, Some(tech))?;
-    circuit_answer(alloc, &denoted.circuit, &denoted.tech)
-}
-
-// The answer for a circuit and its delays.
-fn circuit_answer(alloc: Global, circuit: &Circuit, tech: &Tech) -> Result<Answer, Failure>
-    requires { (loop : List ℕ) → IsLoop circuit.now.signals loop → ⊥ }
-    ensures few { IfOk result (λ _. JoinsMoreThan circuit.now 1048576 → ⊥) }
+    circuit: &Circuit,
+    outcome: &PeriodOutcome,
+) -> Result<Answer, NoMemory>
+    requires { (tech : Tech) × IsPeriodOutcome circuit.now tech outcome.now }
+    ensures ending { IfOk result (λ answer.
+        ending_status answer.ending ≡ outcome_status outcome.now) }
     ensures text { IfOk result (λ answer.
-        IsPeriodText circuit.now tech.now (ending_status answer.ending) answer.text.items) }
-    ensures cause { IfErr result (FailsCircuit circuit.now) }
-{
-    let outcome = period_of(alloc, circuit, tech)?;
-    let text = period_text(alloc, circuit, &outcome)?;
-    Ok(Answer {
-        ending: ending_of(&outcome),
-        text,
-    })
-}
-
-// How a command ends with this outcome.
-fn ending_of(outcome: &PeriodOutcome) -> Ending
-    ensures { ending_status result ≡ outcome_status outcome.now }
+        answer.text.items ≡ text_of (period_lines circuit.now outcome.now)) }
 {
     match outcome {
-        PeriodOutcome::Never { .. } => Ending::Never,
-        PeriodOutcome::Found { .. } => Ending::Done,
+        PeriodOutcome::Found {
+            zero,
+            period,
+            shown,
+        } => {
+            let mut text = Vec::new(alloc);
+            push_found(&mut text, circuit, zero, *period, shown)?;
+            Ok(Answer::done(text))
+        }
+        PeriodOutcome::Never { cycle } => Answer::never(alloc, circuit, cycle.as_slice()),
     }
+}
+
+/// Appends the lines of a least period, with and without skew, and of what shows the one with it.
+pub fn push_found(
+    out: &mut Vec<u8>,
+    circuit: &Circuit,
+    zero: &ZeroSkew,
+    period: Fraction,
+    shown: &PeriodShow,
+) -> Result<(), NoMemory>
+    requires { (tech : Tech) × IsPeriodShow circuit.now tech period shown.now }
+    ensures { OnOk result (out.new.items
+        ≡ out.old.items ++ text_of (found_lines circuit.now zero.now period shown.now)) }
+{
+    push_period(out, period)?;
+    push_zero(out, zero)?;
+    push_show(out, circuit, shown)
 }

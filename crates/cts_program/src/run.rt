@@ -13,9 +13,12 @@ ghost use Rattle.cts_program.specs.Steps.{IsAnyReadFault};
 use crate::check::check;
 use crate::command::{Command, read_command};
 use crate::demo::demo;
+use crate::denoted::read_circuit;
 use crate::ending::{Answer, Ending};
 use crate::failure::Failure;
+use crate::files::read_report_file;
 use crate::period::period;
+use crate::problem::read_problem;
 use crate::scheduling::schedule;
 use crate::synth::synth;
 use crate::zero::zero;
@@ -134,16 +137,26 @@ fn command_answer<I: Inputs>(
         → (file : List ℕ) → I.faults inputs.new file ≡ I.faults inputs.old file }
 {
     match command {
-        Command::Zero { bench, tech } => zero(alloc, inputs, bench, tech),
-        Command::Period { bench, tech } => period(alloc, inputs, bench, tech),
-        Command::Schedule { bench, tech } => schedule(alloc, inputs, bench, tech),
-        Command::Synth { bench, tech, pl } => synth(alloc, inputs, bench, tech, pl),
+        Command::Zero { bench, tech } => { zero(alloc, &read_circuit(alloc, inputs, bench, tech)?) }
+        Command::Period { bench, tech } => {
+            period(alloc, &read_circuit(alloc, inputs, bench, Some(tech))?)
+        }
+        Command::Schedule { bench, tech } => {
+            schedule(alloc, &read_circuit(alloc, inputs, bench, Some(tech))?)
+        }
+        Command::Synth { bench, tech, pl } => {
+            synth(alloc, &read_problem(alloc, inputs, bench, tech, pl)?)
+        }
         Command::Check {
             bench,
             tech,
             pl,
             report,
-        } => check(alloc, inputs, bench, tech, pl, report),
+        } => {
+            let problem = read_problem(alloc, inputs, bench, tech, pl)?;
+            let report = read_report_file(alloc, inputs, report, &problem)?;
+            check(alloc, &problem, &report)
+        }
         Command::Demo { registers, seed } => demo(alloc, registers, seed),
     }
 }

@@ -1,67 +1,101 @@
 //! The command `schedule`: when the clock is to reach each register.
 
-ghost use Rattle.std.specs.Prelude.{◌≡◌, ℕ, List, IfOk, IfErr};
+ghost use Rattle.std.specs.Prelude.{◌≡◌, ◌<◌, ◌++◌, ℕ, List, length, OnOk, IfOk, IfErr};
+ghost use Rattle.cts_model.specs.declared.tech.Tech.{Tech};
 ghost use Rattle.cts_model.specs.PairLists.{JoinsMoreThan};
 ghost use Rattle.cts_model.specs.Paths.{IsLoop};
-ghost use Rattle.cts_engine.specs.ScheduleOutcomes.{period_outcome};
+ghost use Rattle.cts_model.specs.PrintedLines.{line_of, text_of};
+ghost use Rattle.cts_engine.specs.ScheduleOutcomes.{period_outcome, HasSmallTimes, IsScheduleOutcome};
 ghost use Rattle.cts_program.specs.Answers.{ending_status};
 ghost use Rattle.cts_program.specs.PeriodTexts.{outcome_status};
-ghost use Rattle.cts_program.specs.Run.{DenotesText, Stops};
-ghost use Rattle.cts_program.specs.ScheduleTexts.{IsScheduleText};
-ghost use Rattle.cts_program.specs.Steps.{FailsCircuit, IsAnyReadFault};
+ghost use Rattle.cts_program.specs.ScheduleTexts.{IsSmallSchedule, register_line_at, register_lines, schedule_lines, IsScheduleText};
+ghost use Rattle.cts_program.specs.Steps.{FailsCircuit};
 
-use crate::command::Command;
-use crate::denoted::read_circuit;
-use crate::ending::{Answer, Ending};
+use crate::ending::Answer;
 use crate::failure::Failure;
-use crate::schedule_text::schedule_text;
-use cts_engine::{ScheduleOutcome, schedule_of};
-use cts_io::Inputs;
-use cts_model::{Circuit, Tech};
+use crate::period::push_found;
+use cts_base::NoMemory;
+use cts_engine::{Denoted, ScheduleOutcome, schedule_of};
+use cts_model::{Circuit, Schedule, Slack};
+use report_text::{push_count, push_register};
 use std::alloc::Global;
 
-/// The text for the netlist in a file, with the delays in another.
-pub fn schedule<I: Inputs>(
+/// The least schedule of a circuit at its least period.
+pub fn schedule(alloc: Global, denoted: &Denoted) -> Result<Answer, Failure>
+    requires { (loop : List ℕ) → IsLoop denoted.now.circuit.signals loop → ⊥ }
+    ensures few { IfOk result (λ _. JoinsMoreThan denoted.now.circuit 1048576 → ⊥) }
+    ensures text { IfOk result (λ answer. IsScheduleText denoted.now.circuit denoted.now.tech
+        (ending_status answer.ending) answer.text.items) }
+    ensures cause { IfErr result (FailsCircuit denoted.now.circuit) }
+{
+    let outcome = schedule_of(alloc, &denoted.circuit, &denoted.tech)?;
+    Ok(schedule_answer(alloc, &denoted.circuit, &outcome)?)
+}
+
+// The answer for the least schedule of a circuit, or for that no period will do.
+fn schedule_answer(
     alloc: Global,
-    inputs: &mut I,
-    bench: &str,
-    tech: &str,
-) -> Result<Answer, Failure>
-    ensures ok { IfOk result (λ answer. DenotesText (I.holds inputs.old)
-        (Command.Schedule bench.entry tech.entry) (ending_status answer.ending)
-        answer.text.items) }
-    ensures cause { IfErr result (Stops (I.holds inputs.old) (I.faults inputs.old)
-        (I.faults inputs.new) (Command.Schedule bench.entry tech.entry)) }
-    ensures files { (file : List ℕ) → I.holds inputs.new file ≡ I.holds inputs.old file }
-    ensures stays { ¬ IsAnyReadFault result
-        → (file : List ℕ) → I.faults inputs.new file ≡ I.faults inputs.old file }
-{
-    let denoted = read_circuit(alloc, inputs, bench, Some(tech))?;
-    circuit_answer(alloc, &denoted.circuit, &denoted.tech)
-}
-
-// The answer for a circuit and its delays.
-fn circuit_answer(alloc: Global, circuit: &Circuit, tech: &Tech) -> Result<Answer, Failure>
-    requires { (loop : List ℕ) → IsLoop circuit.now.signals loop → ⊥ }
-    ensures few { IfOk result (λ _. JoinsMoreThan circuit.now 1048576 → ⊥) }
+    circuit: &Circuit,
+    outcome: &ScheduleOutcome,
+) -> Result<Answer, NoMemory>
+    requires outcome { (tech : Tech) × IsScheduleOutcome circuit.now tech outcome.now }
+    requires small { HasSmallTimes outcome.now }
+    ensures ending { IfOk result (λ answer.
+        ending_status answer.ending ≡ outcome_status (period_outcome outcome.now)) }
     ensures text { IfOk result (λ answer.
-        IsScheduleText circuit.now tech.now (ending_status answer.ending) answer.text.items) }
-    ensures cause { IfErr result (FailsCircuit circuit.now) }
-{
-    let outcome = schedule_of(alloc, circuit, tech)?;
-    let text = schedule_text(alloc, circuit, &outcome)?;
-    Ok(Answer {
-        ending: ending_of(&outcome),
-        text,
-    })
-}
-
-// How a command ends with this outcome.
-fn ending_of(outcome: &ScheduleOutcome) -> Ending
-    ensures { ending_status result ≡ outcome_status (period_outcome outcome.now) }
+        answer.text.items ≡ text_of (schedule_lines circuit.now outcome.now)) }
 {
     match outcome {
-        ScheduleOutcome::Never { .. } => Ending::Never,
-        ScheduleOutcome::Found { .. } => Ending::Done,
+        ScheduleOutcome::Found {
+            zero,
+            period,
+            shown,
+            schedule,
+            slacks,
+        } => {
+            let mut text = Vec::new(alloc);
+            push_found(&mut text, circuit, zero, *period, shown)?;
+            push_registers(&mut text, circuit, schedule, slacks.as_slice())?;
+            Ok(Answer::done(text))
+        }
+        ScheduleOutcome::Never { cycle } => Answer::never(alloc, circuit, cycle.as_slice()),
     }
+}
+
+// Appends the lines of the registers: how many there are, and each of them in order.
+fn push_registers(
+    out: &mut Vec<u8>,
+    circuit: &Circuit,
+    schedule: &Schedule,
+    slacks: &[Slack],
+) -> Result<(), NoMemory>
+    requires small { IsSmallSchedule schedule.now }
+    requires registers { length schedule.now.at ≡ length circuit.now.registers }
+    requires slacks { length slacks.now ≡ length circuit.now.registers }
+    ensures { OnOk result (out.new.items
+        ≡ out.old.items ++ text_of (register_lines circuit.now schedule.now slacks.now)) }
+{
+    push_count(out, b"registers", schedule.at.len())?;
+    for register in 0..schedule.at.len() {
+        push_register_at(out, circuit, schedule, slacks, register)?;
+    }
+    Ok(())
+}
+
+// Appends the line of the register with that number.
+fn push_register_at(
+    out: &mut Vec<u8>,
+    circuit: &Circuit,
+    schedule: &Schedule,
+    slacks: &[Slack],
+    register: usize,
+) -> Result<(), NoMemory>
+    requires small { IsSmallSchedule schedule.now }
+    requires within { register < length circuit.now.registers }
+    requires registers { length schedule.now.at ≡ length circuit.now.registers }
+    requires slacks { length slacks.now ≡ length circuit.now.registers }
+    ensures { OnOk result (out.new.items ≡ out.old.items
+        ++ line_of (register_line_at circuit.now schedule.now slacks.now register)) }
+{
+    push_register(out, circuit, schedule, slacks[register], register)
 }

@@ -1,53 +1,85 @@
 //! The command `zero`: the least period at equal arrivals.
 
-ghost use Rattle.std.specs.Prelude.{◌≡◌, ℕ, List, IfOk, IfErr};
-ghost use Rattle.cts_model.specs.PairLists.{JoinsMoreThan};
+ghost use Rattle.std.specs.Prelude.{◌≡◌, ◌++◌, ℕ, List, OnOk, IfOk, IfErr};
+ghost use Rattle.cts_model.specs.EqualArrivals.{IsZeroSkew};
+ghost use Rattle.cts_model.specs.PairLists.{HasSmallDelays, JoinsMoreThan};
 ghost use Rattle.cts_model.specs.Paths.{IsLoop};
+ghost use Rattle.cts_model.specs.PrintedLines.{line_of, text_of};
 ghost use Rattle.cts_program.specs.Answers.{ending_status};
-ghost use Rattle.cts_program.specs.Run.{DenotesText, Stops};
-ghost use Rattle.cts_program.specs.Steps.{FailsCircuit, IsAnyReadFault};
-ghost use Rattle.cts_program.specs.Texts.{IsZeroText};
+ghost use Rattle.cts_program.specs.Steps.{FailsCircuit};
+ghost use Rattle.cts_program.specs.Texts.{zero_line, reason_line, zero_lines, IsZeroText};
 
-use crate::command::Command;
-use crate::denoted::read_circuit;
-use crate::ending::{Answer, Ending};
+use crate::ending::Answer;
 use crate::failure::Failure;
-use crate::zero_text::zero_text;
-use cts_engine::zero_of;
-use cts_io::Inputs;
-use cts_model::{Circuit, Tech};
+use cts_base::NoMemory;
+use cts_engine::{Denoted, zero_of};
+use cts_model::{Circuit, Tech, ZeroSkew};
+use report_text::{push_constraint, push_line, push_value};
 use std::alloc::Global;
 
-/// The text for the netlist in a file, with the delays in another or the built-in ones.
-pub fn zero<I: Inputs>(
-    alloc: Global,
-    inputs: &mut I,
-    bench: &str,
-    tech: Option<&str>,
-) -> Result<Answer, Failure>
-    ensures ok { IfOk result (λ answer. DenotesText (I.holds inputs.old)
-        (Command.Zero bench.entry tech.entry) (ending_status answer.ending) answer.text.items) }
-    ensures cause { IfErr result (Stops (I.holds inputs.old) (I.faults inputs.old)
-        (I.faults inputs.new) (Command.Zero bench.entry tech.entry)) }
-    ensures files { (file : List ℕ) → I.holds inputs.new file ≡ I.holds inputs.old file }
-    ensures stays { ¬ IsAnyReadFault result
-        → (file : List ℕ) → I.faults inputs.new file ≡ I.faults inputs.old file }
+/// The least period of a circuit at equal arrivals.
+pub fn zero(alloc: Global, denoted: &Denoted) -> Result<Answer, Failure>
+    requires { (loop : List ℕ) → IsLoop denoted.now.circuit.signals loop → ⊥ }
+    ensures few { IfOk result (λ _. JoinsMoreThan denoted.now.circuit 1048576 → ⊥) }
+    ensures text { IfOk result (λ answer. (ending_status answer.ending ≡ 0)
+        × IsZeroText denoted.now.circuit denoted.now.tech answer.text.items) }
+    ensures cause { IfErr result (FailsCircuit denoted.now.circuit) }
 {
-    let denoted = read_circuit(alloc, inputs, bench, tech)?;
-    let text = circuit_text(alloc, &denoted.circuit, &denoted.tech)?;
-    Ok(Answer {
-        ending: Ending::Done,
-        text,
-    })
+    let outcome = zero_of(alloc, &denoted.circuit, &denoted.tech)?;
+    let text = zero_text(alloc, &denoted.circuit, &denoted.tech, &outcome)?;
+    Ok(Answer::done(text))
 }
 
-// The text for a circuit and its delays.
-fn circuit_text(alloc: Global, circuit: &Circuit, tech: &Tech) -> Result<Vec<u8>, Failure>
-    requires { (loop : List ℕ) → IsLoop circuit.now.signals loop → ⊥ }
-    ensures few { IfOk result (λ _. JoinsMoreThan circuit.now 1048576 → ⊥) }
-    ensures text { IfOk result (λ text. IsZeroText circuit.now tech.now text.items) }
-    ensures cause { IfErr result (FailsCircuit circuit.now) }
+// The text for the least period at equal arrivals.
+fn zero_text(
+    alloc: Global,
+    circuit: &Circuit,
+    tech: &Tech,
+    outcome: &ZeroSkew,
+) -> Result<Vec<u8>, NoMemory>
+    requires least { IsZeroSkew circuit.now tech.now outcome.now }
+    requires small { HasSmallDelays outcome.now }
+    ensures { IfOk result (λ text. text.items ≡ text_of
+        (zero_lines circuit.now tech.now outcome.now)) }
 {
-    let outcome = zero_of(alloc, circuit, tech)?;
-    Ok(zero_text(alloc, circuit, tech, &outcome)?)
+    let mut out = Vec::new(alloc);
+    push_zero(&mut out, outcome)?;
+    push_reason(&mut out, circuit, tech, outcome)?;
+    Ok(out)
+}
+
+/// Appends the line for the least period at equal arrivals, in ticks.
+pub fn push_zero(out: &mut Vec<u8>, outcome: &ZeroSkew) -> Result<(), NoMemory>
+    ensures { OnOk result (out.new.items ≡ out.old.items ++ line_of (zero_line outcome.now)) }
+{
+    match outcome {
+        ZeroSkew::Fails { .. } => push_line(out, b"zero", &[b"none"]),
+        ZeroSkew::Floor { value } => push_value(out, b"zero", *value),
+        ZeroSkew::Setup { value, .. } => push_value(out, b"zero", *value),
+    }
+}
+
+// Appends the line of what shows that no period is less.
+fn push_reason(
+    out: &mut Vec<u8>,
+    circuit: &Circuit,
+    tech: &Tech,
+    outcome: &ZeroSkew,
+) -> Result<(), NoMemory>
+    requires least { IsZeroSkew circuit.now tech.now outcome.now }
+    requires small { HasSmallDelays outcome.now }
+    ensures { OnOk result (out.new.items ≡ out.old.items
+        ++ line_of (reason_line circuit.now tech.now outcome.now)) }
+{
+    match outcome {
+        ZeroSkew::Fails { pair } => {
+            let weight = tech.hold - pair.least;
+            push_constraint(out, b"hold", circuit, pair.from, pair.to, weight)
+        }
+        ZeroSkew::Floor { .. } => push_line(out, b"floor", &[]),
+        ZeroSkew::Setup { pair, .. } => {
+            let weight = pair.greatest + tech.setup;
+            push_constraint(out, b"setup", circuit, pair.from, pair.to, weight)
+        }
+    }
 }

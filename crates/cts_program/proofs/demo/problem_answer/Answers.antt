@@ -1,4 +1,3 @@
-use Rattle.std.proofs.lemmas.Result.{err_from_is_err_and}
 use Rattle.cts_program.proofs.TreeTexts.{summary_says}
 use Rattle.cts_program.proofs.demo.problem_answer.Goals as goal
 
@@ -6,20 +5,16 @@ pub summary-requires : goal.summary-requires
 summary-requires c =
     (c.args.problem.now.tech, (rw c.in-Done.is at c.in_ok-report.ensures.ok).bounds)
 
-pub never_text-requires : goal.never_text-requires
-never_text-requires c =
-    rw c.as_slice.ensures (c.args.problem.now.tech, rw c.in-Never.is at c.in_ok-report.ensures.ok)
+pub never-requires : goal.never-requires
+never-requires c =
+    rw c.as_slice.ensures
+    (c.args.problem.now.tech, rw c.in-Never.is at c.in_ok-report.ensures.ok)
 
 pub returns-in_ok-text-in-Done-clause-text : goal.returns-in_ok-text-in-Done-clause-text
 returns-in_ok-text-in-Done-clause-text c =
     let made = rw c.in-Done.is at c.in_ok-report.ensures.ok in
     let lowest = rw c.in-Done.is at c.in_ok-report.ensures.lowest in
     let checked = c.in_ok-is_shown-in-Done.ensures.checked c.if-not-branch.false in
-    summary_says c.args.problem.now c.in-Done.report made lowest c.args.registers checked
-    c.in_ok-text-in-Done.text.items c.in_ok-text-in-Done.ensures
-
-pub returns-in_err-text-in-Done-clause-cause : goal.returns-in_err-text-in-Done-clause-cause
-returns-in_err-text-in-Done-clause-cause c =
-    let p = err_from_is_err_and c.from_residual-in_err-text-in-Done.result
-    c.from_residual-in_err-text-in-Done.ensures.1 in
-    rw (p.1, p.2) tt
+    rw (c.done.ensures.ending, c.done.ensures.text) (summary_says c.args.problem.now
+    c.in-Done.report made lowest c.args.registers checked c.in_ok-text-in-Done.text.items
+    c.in_ok-text-in-Done.ensures)

@@ -2,7 +2,7 @@ use Rattle.std.proofs.Common.{◌∙◌}
 use Rattle.std.proofs.lemmas.Result.{err_from_is_err_and}
 use Rattle.cts_engine.proofs.ProblemLemmas.{gives_hosted, has_host-hosted}
 use Rattle.cts_program.proofs.PlainDelays.{gives_plain, has_host-plain}
-use Rattle.cts_program.proofs.DenotedLemmas.{netlist_stops, table_stops, netlist_denotes, both_tell}
+use Rattle.cts_program.proofs.DenotedLemmas.{netlist_stops, table_stops, netlist_denotes, both_tell, denoted_acyclic}
 use Rattle.cts_program.proofs.denoted.read_circuit.Goals as goal
 
 pub returns-in_err-bare-clause-cause : goal.returns-in_err-bare-clause-cause
@@ -75,3 +75,16 @@ pub returns-in_ok-circuit-in-Some-clause-stays : goal.returns-in_ok-circuit-in-S
 returns-in_ok-circuit-in-Some-clause-stays g c none file =
     c.in_ok-tech-in-Some.ensures.stays (λ e. cc e) file
     ∙ c.in_ok-bare.ensures.stays (λ e. cc e) file
+
+pub returns-in-None-clause-acyclic : goal.returns-in-None-clause-acyclic
+returns-in-None-clause-acyclic g c =
+    denoted_acyclic (netlist_denotes (g.I.Inputs.holds c.args.inputs.now) c.args.bench
+    c.in_ok-bare.ensures.ok c.plain.result c.plain.ensures)
+
+pub returns-in_ok-circuit-in-Some-clause-acyclic : goal.returns-in_ok-circuit-in-Some-clause-acyclic
+returns-in_ok-circuit-in-Some-clause-acyclic g c =
+    let table = rw (c.in_ok-bare.ensures.files c.in-Some.file.now) at
+    c.in_ok-tech-in-Some.ensures.ok in
+    denoted_acyclic (both_tell (g.I.Inputs.holds c.args.inputs.now) c.args.bench c.in-Some.file
+    c.in_ok-bare.ensures.ok table c.in_ok-circuit-in-Some.circuit
+    c.in_ok-circuit-in-Some.ensures)

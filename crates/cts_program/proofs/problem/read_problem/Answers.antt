@@ -4,7 +4,6 @@ use Rattle.cts_program.specs.declared.failure.Failure.{Failure}
 use Rattle.cts_program.specs.declared.file_kind.FileKind.TheVariants as kinds
 use Rattle.cts_program.proofs.PlacementLemmas.{placement_stops, placed_denotes}
 use Rattle.cts_engine.proofs.ProblemLemmas.{problem_of}
-use Rattle.cts_program.proofs.DenotedLemmas.{denoted_acyclic}
 use Rattle.cts_program.proofs.problem.read_problem.Goals as goal
 
 pub returns-in_err-circuit-clause-cause : goal.returns-in_err-circuit-clause-cause
@@ -36,8 +35,7 @@ returns-in_err-places-clause-stays g c none file =
 pub invariant_of-result : goal.invariant_of-result
 invariant_of-result g c = record {
   valid = problem_of _ _ c.in_ok-places.places c.in_ok-places.ensures.ok.bytes
-      (denoted_acyclic c.in_ok-circuit.ensures.ok) c.in_ok-circuit.ensures.kinds
-      c.in_ok-circuit.ensures.host c.in_ok-places.ensures.ok.accepts;
+      c.in_ok-circuit.ensures.acyclic c.in_ok-circuit.ensures.kinds c.in_ok-circuit.ensures.host c.in_ok-places.ensures.ok.accepts;
 }
 
 pub returns-clause-ok : goal.returns-clause-ok

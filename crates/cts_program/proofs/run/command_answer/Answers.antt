@@ -1,4 +1,16 @@
+use Rattle.std.proofs.Common.{[], ◌∷◌, Err, refl, ap, sym, ◌∙◌, append-nil}
+use Rattle.std.proofs.lemmas.Result.{err_from_is_err_and}
+use Rattle.cts_program.specs.declared.command.Command.TheVariants.{Zero, Period, Schedule, Synth, Check}
+use Rattle.cts_program.specs.declared.failure.Failure.{Failure}
+use Rattle.cts_program.specs.declared.file_kind.FileKind.TheVariants as kinds
+use Rattle.cts_program.specs.Files.{circuit_files}
+use Rattle.cts_program.specs.PeriodTexts.{IsPeriodText}
+use Rattle.cts_program.specs.ScheduleTexts.{IsScheduleText}
+use Rattle.cts_program.proofs.CheckLemmas.{report_stops, unshown_stops, check_answer}
 use Rattle.cts_program.proofs.DemoValues.{demo_values}
+use Rattle.cts_program.proofs.DenotedLemmas.{circuit_stops, denoted_answer, zero_answer}
+use Rattle.cts_program.proofs.PlacementLemmas.{circuit_denoted, synth_answer}
+use Rattle.cts_program.proofs.ResultLemmas.{if_err_from}
 use Rattle.cts_program.proofs.run.command_answer.Goals as goal
 
 pub demo-requires-clause-registers : goal.demo-requires-clause-registers
@@ -8,3 +20,131 @@ demo-requires-clause-registers g c =
 pub demo-requires-clause-seed : goal.demo-requires-clause-seed
 demo-requires-clause-seed g c =
     (demo_values c.in-Demo.registers c.in-Demo.seed (rw c.in-Demo.is at c.requires)).1
+
+pub returns-in_err-read_circuit-in-Zero-clause-cause :
+    goal.returns-in_err-read_circuit-in-Zero-clause-cause
+returns-in_err-read_circuit-in-Zero-clause-cause g c =
+    let p = err_from_is_err_and c.from_residual.result
+    c.from_residual.ensures.1 in
+    rw (p.1, p.2, c.in-Zero.is) (c.in_err-read_circuit-in-Zero.ensures.cause
+    (Zero c.in-Zero.bench c.in-Zero.tech) ([], sym (append-nil (circuit_files c.in-Zero.bench c.in-Zero.tech))))
+
+pub returns-in_err-read_circuit-in-Period-clause-cause :
+    goal.returns-in_err-read_circuit-in-Period-clause-cause
+returns-in_err-read_circuit-in-Period-clause-cause g c =
+    let p = err_from_is_err_and c.from_residual-in_err-read_circuit-in-Period.result
+    c.from_residual-in_err-read_circuit-in-Period.ensures.1 in
+    rw (p.1, p.2, c.in-Period.is) (c.in_err-read_circuit-in-Period.ensures.cause
+    (Period c.in-Period.bench c.in-Period.tech) ([], refl))
+
+pub returns-in_err-read_circuit-in-Schedule-clause-cause :
+    goal.returns-in_err-read_circuit-in-Schedule-clause-cause
+returns-in_err-read_circuit-in-Schedule-clause-cause g c =
+    let p = err_from_is_err_and c.from_residual-in_err-read_circuit-in-Schedule.result
+    c.from_residual-in_err-read_circuit-in-Schedule.ensures.1 in
+    rw (p.1, p.2, c.in-Schedule.is) (c.in_err-read_circuit-in-Schedule.ensures.cause
+    (Schedule c.in-Schedule.bench c.in-Schedule.tech) ([], refl))
+
+pub returns-in_err-read_problem-in-Synth-clause-cause :
+    goal.returns-in_err-read_problem-in-Synth-clause-cause
+returns-in_err-read_problem-in-Synth-clause-cause g c =
+    let p = err_from_is_err_and c.from_residual-in_err-read_problem-in-Synth.result
+    c.from_residual-in_err-read_problem-in-Synth.ensures.1 in
+    rw (p.1, p.2, c.in-Synth.is) (c.in_err-read_problem-in-Synth.ensures.cause
+    (Synth c.in-Synth.bench c.in-Synth.tech c.in-Synth.pl) ([], refl))
+
+pub returns-in_err-problem-in-Check-clause-cause :
+    goal.returns-in_err-problem-in-Check-clause-cause
+returns-in_err-problem-in-Check-clause-cause g c =
+    let p = err_from_is_err_and c.from_residual-in_err-problem-in-Check.result
+    c.from_residual-in_err-problem-in-Check.ensures.1 in
+    rw (p.1, p.2, c.in-Check.is) (c.in_err-problem-in-Check.ensures.cause
+    (Check c.in-Check.bench c.in-Check.tech c.in-Check.pl c.in-Check.report) ((kinds.Report, c.in-Check.report.now) ∷ [], refl))
+
+pub returns-in_err-report-in-Check-clause-cause : goal.returns-in_err-report-in-Check-clause-cause
+returns-in_err-report-in-Check-clause-cause g c =
+    let p = err_from_is_err_and c.from_residual-in_err-report-in-Check.result
+    c.from_residual-in_err-report-in-Check.ensures.1 in
+    let held = c.in_ok-problem-in-Check.ensures.files c.in-Check.report.now in
+    let stood = c.in_ok-problem-in-Check.ensures.stays (λ (kind, e). cc e) c.in-Check.report.now in
+    rw (p.1, p.2, c.in-Check.is) (report_stops c.in-Check.bench c.in-Check.tech c.in-Check.pl
+    c.in-Check.report c.in_ok-problem-in-Check.problem c.in_ok-problem-in-Check.ensures.ok _ _ _
+    (rw (held, stood) at c.in_err-report-in-Check.ensures.cause))
+
+pub returns-in_err-report-in-Check-clause-stays : goal.returns-in_err-report-in-Check-clause-stays
+returns-in_err-report-in-Check-clause-stays g c none file =
+    let p = err_from_is_err_and c.from_residual-in_err-report-in-Check.result
+    c.from_residual-in_err-report-in-Check.ensures.1 in
+    c.in_err-report-in-Check.ensures.stays (λ e. none (
+      kinds.Report,
+      rw (p.1, p.2) (ap (λ (failure : Failure). Err failure) (cc e)),
+    )) file
+    ∙ c.in_ok-problem-in-Check.ensures.stays (λ (kind, e). cc e) file
+
+pub returns-in_ok-read_circuit-in-Zero-clause-ok : goal.returns-in_ok-read_circuit-in-Zero-clause-ok
+returns-in_ok-read_circuit-in-Zero-clause-ok g c =
+    rw c.in-Zero.is (zero_answer c.in-Zero.bench c.in-Zero.tech
+    c.in_ok-read_circuit-in-Zero.ensures.ok c.zero.result c.zero.ensures.few c.zero.ensures.text)
+
+pub returns-in_ok-read_circuit-in-Period-clause-ok : goal.returns-in_ok-read_circuit-in-Period-clause-ok
+returns-in_ok-read_circuit-in-Period-clause-ok g c =
+    rw c.in-Period.is (denoted_answer (Period c.in-Period.bench c.in-Period.tech)
+    c.in_ok-read_circuit-in-Period.ensures.ok IsPeriodText (λ status text answer. answer) c.period.result
+    c.period.ensures.few c.period.ensures.text)
+
+pub returns-in_ok-read_circuit-in-Schedule-clause-ok : goal.returns-in_ok-read_circuit-in-Schedule-clause-ok
+returns-in_ok-read_circuit-in-Schedule-clause-ok g c =
+    rw c.in-Schedule.is (denoted_answer (Schedule c.in-Schedule.bench c.in-Schedule.tech)
+    c.in_ok-read_circuit-in-Schedule.ensures.ok IsScheduleText (λ status text answer. answer) c.schedule.result
+    c.schedule.ensures.few c.schedule.ensures.text)
+
+pub returns-in_ok-read_circuit-in-Zero-clause-cause :
+    goal.returns-in_ok-read_circuit-in-Zero-clause-cause
+returns-in_ok-read_circuit-in-Zero-clause-cause g c =
+    rw c.in-Zero.is (if_err_from c.zero.result _ _ c.zero.ensures.cause
+    (λ failure fails. circuit_stops _ _ (Zero c.in-Zero.bench c.in-Zero.tech)
+    c.in_ok-read_circuit-in-Zero.ensures.ok (λ pairs. pairs) failure fails))
+
+pub returns-in_ok-read_circuit-in-Period-clause-cause :
+    goal.returns-in_ok-read_circuit-in-Period-clause-cause
+returns-in_ok-read_circuit-in-Period-clause-cause g c =
+    rw c.in-Period.is (if_err_from c.period.result _ _ c.period.ensures.cause
+    (λ failure fails. circuit_stops _ _ (Period c.in-Period.bench c.in-Period.tech)
+    c.in_ok-read_circuit-in-Period.ensures.ok (λ pairs. pairs) failure fails))
+
+pub returns-in_ok-read_circuit-in-Schedule-clause-cause :
+    goal.returns-in_ok-read_circuit-in-Schedule-clause-cause
+returns-in_ok-read_circuit-in-Schedule-clause-cause g c =
+    rw c.in-Schedule.is (if_err_from c.schedule.result _ _ c.schedule.ensures.cause
+    (λ failure fails. circuit_stops _ _ (Schedule c.in-Schedule.bench c.in-Schedule.tech)
+    c.in_ok-read_circuit-in-Schedule.ensures.ok (λ pairs. pairs) failure fails))
+
+pub returns-in_ok-read_problem-in-Synth-clause-ok : goal.returns-in_ok-read_problem-in-Synth-clause-ok
+returns-in_ok-read_problem-in-Synth-clause-ok g c =
+    rw c.in-Synth.is (synth_answer c.in-Synth.bench c.in-Synth.tech c.in-Synth.pl
+    c.in_ok-read_problem-in-Synth.field-0 c.in_ok-read_problem-in-Synth.ensures.ok c.synth.result
+    c.synth.ensures.few c.synth.ensures.text)
+
+pub returns-in_ok-read_problem-in-Synth-clause-cause :
+    goal.returns-in_ok-read_problem-in-Synth-clause-cause
+returns-in_ok-read_problem-in-Synth-clause-cause g c =
+    rw c.in-Synth.is (if_err_from c.synth.result _ _ c.synth.ensures.cause
+    (λ failure fails. circuit_stops _ _ (Synth c.in-Synth.bench c.in-Synth.tech c.in-Synth.pl)
+    (circuit_denoted c.in_ok-read_problem-in-Synth.field-0 c.in_ok-read_problem-in-Synth.ensures.ok)
+    (λ pairs. pairs) failure fails))
+
+pub returns-in_ok-report-in-Check-clause-ok : goal.returns-in_ok-report-in-Check-clause-ok
+returns-in_ok-report-in-Check-clause-ok g c =
+    let held = c.in_ok-problem-in-Check.ensures.files c.in-Check.report.now in
+    rw c.in-Check.is (check_answer c.in-Check.bench c.in-Check.tech c.in-Check.pl c.in-Check.report
+    c.in_ok-problem-in-Check.problem c.in_ok-problem-in-Check.ensures.ok
+    c.in_ok-report-in-Check.report (rw held at c.in_ok-report-in-Check.ensures.ok) c.check.result
+    c.check.ensures.shown c.check.ensures.least c.check.ensures.text)
+
+pub returns-in_ok-report-in-Check-clause-cause : goal.returns-in_ok-report-in-Check-clause-cause
+returns-in_ok-report-in-Check-clause-cause g c =
+    let held = c.in_ok-problem-in-Check.ensures.files c.in-Check.report.now in
+    rw c.in-Check.is (if_err_from c.check.result _ _ c.check.ensures.cause
+    (unshown_stops c.in-Check.bench c.in-Check.tech c.in-Check.pl c.in-Check.report
+    c.in_ok-problem-in-Check.problem c.in_ok-problem-in-Check.ensures.ok
+    c.in_ok-report-in-Check.report (rw held at c.in_ok-report-in-Check.ensures.ok) _ _))

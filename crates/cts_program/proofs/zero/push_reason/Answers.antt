@@ -2,7 +2,7 @@ use Rattle.std.proofs.Common.{◌+ℤ◌, ◌-ℤ◌, codes, arith}
 use Rattle.std.proofs.lemmas.Int.{ints}
 use Rattle.cts_program.proofs.LineLemmas.{weight_line}
 use Rattle.cts_model.proofs.PathRegisters.{pair_from, pair_to}
-use Rattle.cts_program.proofs.zero_text.push_reason.Goals as goal
+use Rattle.cts_program.proofs.zero.push_reason.Goals as goal
 
 pub push_constraint-requires-clause-launch : goal.push_constraint-requires-clause-launch
 push_constraint-requires-clause-launch c =

@@ -1,6 +1,6 @@
 use Rattle.cts_program.specs.ScheduleTexts.{register_line_at}
 use Rattle.cts_program.proofs.LineLemmas.{next_line}
-use Rattle.cts_program.proofs.schedule_text.push_registers.Goals as goal
+use Rattle.cts_program.proofs.scheduling.push_registers.Goals as goal
 
 pub loop-register-preserved : goal.loop-register-preserved
 loop-register-preserved c =

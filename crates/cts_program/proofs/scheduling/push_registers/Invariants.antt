@@ -2,7 +2,7 @@ use Rattle.std.proofs.Common.{◌≡◌, ◌++◌, codes, length}
 use Rattle.cts_model.specs.PrintedLines.{line_of, text_of, count_line}
 use Rattle.cts_model.specs.ReportLines.{lines_below}
 use Rattle.cts_program.specs.ScheduleTexts.{register_line_at}
-use Rattle.cts_program.proofs.schedule_text.push_registers.Given as goal
+use Rattle.cts_program.proofs.scheduling.push_registers.Given as goal
 
 -- the count, and the registers so far
 abbrev pub invariant-loop-register : goal.invariant-loop-register

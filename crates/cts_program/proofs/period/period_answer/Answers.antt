@@ -1,8 +1,8 @@
-use Rattle.cts_program.proofs.period_text.period_text.Goals as goal
+use Rattle.cts_program.proofs.period.period_answer.Goals as goal
 
 pub push_found-requires : goal.push_found-requires
 push_found-requires c = (c.requires.0, (rw c.in-Found.is at c.requires.1).shown)
 
-pub never_text-requires : goal.never_text-requires
-never_text-requires c =
+pub never-requires : goal.never-requires
+never-requires c =
     rw c.as_slice.ensures (c.requires.0, rw c.in-Never.is at c.requires.1)

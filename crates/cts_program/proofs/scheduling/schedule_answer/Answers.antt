@@ -1,10 +1,10 @@
-use Rattle.cts_program.proofs.schedule_text.schedule_text.Goals as goal
+use Rattle.cts_program.proofs.scheduling.schedule_answer.Goals as goal
 
 pub push_found-requires : goal.push_found-requires
 push_found-requires c =
     (c.requires.outcome.0, (rw c.in-Found.is at c.requires.outcome.1).found.shown)
 
-pub never_text-requires : goal.never_text-requires
-never_text-requires c =
+pub never-requires : goal.never-requires
+never-requires c =
     rw c.as_slice-in-Never.ensures
     (c.requires.outcome.0, rw c.in-Never.is at c.requires.outcome.1)
