@@ -1,5 +1,5 @@
 -- The parsers of the commands take plain words.
-use Rattle.std.proofs.Common.{◌≡◌, not, ◌||◌, ◌&&◌, ◌++◌, Bool, true, false, List, [], ◌∷◌, map, cond, Option, Some, None, is_some, IsTrue, refl, sym, ap, ◌∙◌, subst, true≢false, codes}
+use Rattle.std.proofs.Common.{◌≡◌, not, ◌||◌, ◌&&◌, Bool, true, false, List, [], ◌∷◌, map, cond, Option, Some, None, is_some, refl, sym, ap, ◌∙◌, subst, true≢false, codes}
 use Rattle.std.specs.Prelude.{find, option_and_then, slice_get}
 use Rattle.std.specs.Str.{bytes_eq}
 use Rattle.std.specs.List.{All, AllByRecursion, list_all}
@@ -16,7 +16,7 @@ use Rattle.clap.specs.declared.parser.matches.Found.{Found}
 use Rattle.clap.proofs.TakesLemmas.{leaf_takes}
 use Rattle.clap.proofs.WalkLemmas.{first_value-rows}
 use Rattle.cts_program.specs.declared.command.table.Form.{Form}
-use Rattle.cts_program.specs.declared.command.table.Form.TheVariants.{Zero, Period, Schedule, Synth, Check, Demo}
+use Rattle.cts_program.specs.declared.command.table.Form.TheVariants.{Zero}
 use Rattle.cts_program.specs.declared.command.table.Choice.{Choice}
 use Rattle.cts_program.specs.CommandTable.{Word, word_of, kind_of, is_required, form_name, choices_of}
 use Rattle.cts_program.specs.Commands.{Given, IsTaken, is_value, is_taken, is_file_name, option_words}
@@ -30,22 +30,30 @@ use Rattle.cts_program.proofs.ParserWalk.{HaveNoDefaults, IsReadBy, Lacks, Walks
 -- ---- the rows that options and their values leave
 
 -- the rows read as the options do
-first_of-rows : (word : Word) (given : List Given) → first_of word (map row_for given) ≡ value_of word given
+first_of-rows : (word : Word) (given : List Given)
+    → first_of word (map row_for given) ≡ value_of word given
 first_of-rows word [] = refl
-first_of-rows word (one ∷ more) = rw (nat_list_eq_equiv.symm one.0 word) (at (bytes_eq word one.0) (first_of-rows word more))
+first_of-rows word (one ∷ more) = rw (nat_list_eq_equiv.symm one.0 word)
+    (at (bytes_eq word one.0) (first_of-rows word more))
   where
     at : (same : Bool) → first_of word (map row_for more) ≡ value_of word more
-        → option_and_then (λ (row : Row). slice_get row.values 0) (cond same (Some (row_for one)) (find (λ row. bytes_eq row.id word) (map row_for more))) ≡ cond same (Some one.1) (value_of word more)
+        → option_and_then (λ (row : Row). slice_get row.values 0)
+        (cond same (Some (row_for one)) (find (λ row. bytes_eq row.id word) (map row_for more)))
+        ≡ cond same (Some one.1) (value_of word more)
     at true rest = refl
     at false rest = rest
 
 -- an option is given by the rows where it has a value
-given-rows : (word : Word) (given : List Given) → is_given word (map row_for given) ≡ is_some (value_of word given)
+given-rows : (word : Word) (given : List Given)
+    → is_given word (map row_for given) ≡ is_some (value_of word given)
 given-rows word [] = refl
-given-rows word (one ∷ more) = rw (nat_list_eq_equiv.symm one.0 word) (at (bytes_eq word one.0) (given-rows word more))
+given-rows word (one ∷ more) = rw (nat_list_eq_equiv.symm one.0 word)
+    (at (bytes_eq word one.0) (given-rows word more))
   where
     at : (same : Bool) → is_given word (map row_for more) ≡ is_some (value_of word more)
-        → option_map_or (λ (row : Row). explicit_source row.source) (cond same (Some (row_for one)) (find (λ row. bytes_eq row.id word) (map row_for more))) false
+        → option_map_or (λ (row : Row). explicit_source row.source)
+        (cond same (Some (row_for one)) (find (λ row. bytes_eq row.id word) (map row_for more)))
+        false
         ≡ is_some (cond same (Some one.1) (value_of word more))
     at true rest = refl
     at false rest = rest
@@ -62,8 +70,13 @@ abbrev Reading : Type 0
 Reading = Option Rule × Option Rule × Option (Word × Option Word) × Bool
 
 abbrev reading : List Rule → Word → Reading
-reading rules word =
-    (arg_by_id rules word, arg_by_long rules (long_name word), long_of word, bytes_eq word (codes "--"))
+reading rules word = (
+  arg_by_id rules word,
+  arg_by_long rules (long_name word),
+  long_of word,
+  bytes_eq word
+      (codes "--"),
+)
 
 -- that is due for an option
 abbrev due : Choice → Reading
@@ -124,8 +137,11 @@ read_taken rules (choice ∷ more) each one taken =
         → (same && valid || is_taken more one.0 one.1) ≡ true
         → (IsTaken more one → IsReadBy rules one.0 × (is_file_name one.1 ≡ true))
         → IsReadBy rules one.0 × (is_file_name one.1 ≡ true)
-    at true same true valid taken rest =
-        (subst (IsReadBy rules) (is_word (word_of choice) one.0 same) read, value_first (kind_of choice) one.1 valid)
+    at true same true valid taken rest = (
+      subst (IsReadBy rules) (is_word (word_of choice) one.0 same) read,
+      value_first
+          (kind_of choice) one.1 valid,
+    )
     at true same false valid taken rest = rest taken
     at false same valid is taken rest = rest taken
 
@@ -162,10 +178,13 @@ module _ (words : List Word) (form : Form) (plain : IsPlain words form) where
   -- it has what it requires
   valid_plain : is_valid top (map row_for options.given) false ≡ true
   valid_plain = (reads form).valid (map row_for options.given)
-      ∙ (λ i. list_all (λ choice. not (is_required choice) || stands (word_of choice) i) (choices_of form))
-      ∙ (both (are_options (choices_of form) plain.others) (has_required (choices_of form) plain.others) plain.options).1
+      ∙ (λ i. list_all (λ choice. not (is_required choice) || stands (word_of choice) i)
+      (choices_of form))
+      ∙ (both (are_options (choices_of form) plain.others)
+      (has_required (choices_of form) plain.others) plain.options).1
     where
-      stands : (word : Word) → is_given word (map row_for options.given) ≡ has_option word plain.others
+      stands : (word : Word) → is_given word (map row_for options.given)
+          ≡ has_option word plain.others
       stands word = given-rows word options.given ∙ sym (has_option-value word options.given)
           ∙ ap (has_option word) (sym options.words_are)
 
@@ -173,21 +192,31 @@ module _ (words : List Word) (form : Form) (plain : IsPlain words form) where
     -- so it takes them
     pub takes_words : takes app words ≡ true
     takes_words =
-        rw (is, words_spelled, is_simple_parser form, after_name form (form_name form) (option_words options.given))
+        rw (
+          is,
+          words_spelled,
+          is_simple_parser form,
+          after_name form (form_name form)
+              (option_words options.given),
+        )
         (leaf_takes (built (parser_for form)) nothing_held (option_words options.given) (alone form)
         (level-walks top options.given walks_plain (reads form).no_defaults valid_plain))
 
     -- and what it finds are the values of their options
     pub finds_values : {Z : Type 0} (found : Found)
         → (is_simple app ≡ true → (rows_of found ≡ matches_of app words) × Z)
-        → row_values (first_value found) (choices_of form) ≡ values_in (choices_of form) options.given
+        → row_values (first_value found) (choices_of form)
+        ≡ values_in (choices_of form) options.given
     finds_values found finds = λ i. map (λ choice. value (word_of choice) i) (choices_of form)
       where
         rows : rows_of found ≡ map row_for options.given
         rows =
-            (finds (ap is_simple is ∙ is_simple_parser form)).0 ∙ (λ i. matches_of (is i) (words_spelled i))
-            ∙ (λ i. rows_after top.rules (map label_of (alone form i)) (after_name form (form_name form) (option_words options.given) i))
+            (finds (ap is_simple is ∙ is_simple_parser form)).0
+            ∙ (λ i. matches_of (is i) (words_spelled i))
+            ∙ (λ i. rows_after top.rules (map label_of (alone form i))
+            (after_name form (form_name form) (option_words options.given) i))
             ∙ rows_after-walks top options.given walks_plain (reads form).no_defaults
 
         value : (word : Word) → first_value found word ≡ value_of word options.given
-        value word = first_value-rows found word ∙ ap (first_of word) rows ∙ first_of-rows word options.given
+        value word = first_value-rows found word ∙ ap (first_of word) rows
+            ∙ first_of-rows word options.given

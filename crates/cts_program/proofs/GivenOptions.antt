@@ -92,11 +92,13 @@ spells_options choices (word ∷ value ∷ others) pass =
     let parts = both (taken && once) (are_options choices others) pass in
     let head = both taken once parts.0 in
     let rest = spells_options choices others parts.1 in
-    let absent = ap (has_option word) (sym rest.words_are) ∙ is_false (has_option word others) head.1 in
+    let absent = ap (has_option word) (sym rest.words_are)
+    ∙ is_false (has_option word others) head.1 in
     record {
       given = (word, value) ∷ rest.given;
       words_are = ap (λ words. word ∷ value ∷ words) rest.words_are;
-      once = IsDistinct-cons bytes_eq word (keys_of rest.given) (apart word rest.given absent) rest.once;
+      once = IsDistinct-cons bytes_eq word (keys_of rest.given)
+          (apart word rest.given absent) rest.once;
       taken = All-cons (IsTaken choices) (word, value) rest.given head.0 rest.taken;
     }
 
@@ -138,15 +140,18 @@ value_of-permutes option given other once moved = at (value_of option given) ref
     keys_moved : IsPermutation (keys_of given) (keys_of other)
     keys_moved = IsPermutation-map (λ one. one.0) given other moved
 
-    at : (o : Option Word) → value_of option given ≡ o → value_of option other ≡ value_of option given
+    at : (o : Option Word) → value_of option given ≡ o
+        → value_of option other ≡ value_of option given
     at None is =
         no_value (value_of option other) (is_some-lookup (bytes_eq option) other
         ∙ sym (list_any-IsPermutation (bytes_eq option) (keys_of given) (keys_of other) keys_moved)
         ∙ sym (is_some-lookup (bytes_eq option) given) ∙ ap is_some is) ∙ sym is
     at (Some value) is =
         lookup-from_Contains nat_list_eq_equiv option value other
-        (IsDistinct-IsPermutation bytes_eq nat_list_eq_equiv.symm (keys_of given) (keys_of other) keys_moved once)
-        (Contains-permutation given other (option, value) moved (Contains-from_lookup is_word option value given is))
+        (IsDistinct-IsPermutation bytes_eq nat_list_eq_equiv.symm (keys_of given)
+        (keys_of other) keys_moved once)
+        (Contains-permutation given other (option, value) moved
+        (Contains-from_lookup is_word option value given is))
         ∙ sym is
 
 -- an option that isn't of a row changes nothing in its order
@@ -167,29 +172,39 @@ in_order-more : (choices : List Choice) (one : Given) (more : List Given)
 in_order-more [] one more row taken absent = absurd (true≢false (sym taken))
 in_order-more (choice ∷ others) one more row taken absent =
     at (bytes_eq (word_of choice) one.0) refl
-    (λ taken. in_order-more others one more (IsDistinct-tail bytes_eq (word_of choice) (map word_of others) row) taken absent)
+    (λ taken. in_order-more others one more (IsDistinct-tail bytes_eq (word_of choice)
+    (map word_of others) row) taken absent)
   where
     at : (same : Bool) → bytes_eq (word_of choice) one.0 ≡ same
-        → (is_taken others one.0 one.1 ≡ true → IsPermutation (one ∷ in_order others more) (in_order others (one ∷ more)))
-        → IsPermutation (one ∷ in_order (choice ∷ others) more) (in_order (choice ∷ others) (one ∷ more))
+        → (is_taken others one.0 one.1 ≡ true
+        → IsPermutation (one ∷ in_order others more) (in_order others (one ∷ more)))
+        → IsPermutation (one ∷ in_order (choice ∷ others) more)
+        (in_order (choice ∷ others) (one ∷ more))
     at true same rest =
         let is : word_of choice ≡ one.0 = is_word (word_of choice) one.0 same in
         let apart : AllByRecursion (λ word. bytes_eq one.0 word ≡ false) (map word_of others) =
-        subst (λ word. AllByRecursion (λ other. bytes_eq word other ≡ false) (map word_of others)) is
+        subst (λ word. AllByRecursion (λ other. bytes_eq word other ≡ false) (map word_of others))
+        is
         (IsDistinct-head bytes_eq (word_of choice) (map word_of others) row) in
         let left : in_order (choice ∷ others) more ≡ in_order others more =
-        ap (λ value. listed_one choice value ++ in_order others more) (ap (λ word. value_of word more) is ∙ absent) in
+        ap (λ value. listed_one choice value ++ in_order others more)
+        (ap (λ word. value_of word more) is ∙ absent) in
         let right : in_order (choice ∷ others) (one ∷ more) ≡ one ∷ in_order others more =
-        (λ i. option_to_list (option_map (λ word. (is i, word)) (cond (same i) (Some one.1) (value_of (word_of choice) more)))
+        (λ i. option_to_list (option_map (λ word. (is i, word))
+        (cond (same i) (Some one.1) (value_of (word_of choice) more)))
         ++ in_order-other others one more apart i) in
         rw (left, right) (IsPermutation-refl (one ∷ in_order others more))
     at false same rest =
         let prefix = listed_one choice (value_of (word_of choice) more) in
         let taken' : is_taken others one.0 one.1 ≡ true =
-        subst (λ test. (test && is_value (kind_of choice) one.1 || is_taken others one.0 one.1) ≡ true) same taken in
-        let right : in_order (choice ∷ others) (one ∷ more) ≡ prefix ++ in_order others (one ∷ more) =
-        ap (λ test. listed_one choice (cond test (Some one.1) (value_of (word_of choice) more)) ++ in_order others (one ∷ more)) same in
-        rw right (IsPermutation-trans (one ∷ (prefix ++ in_order others more)) (prefix ++ one ∷ in_order others more) (prefix ++ in_order others (one ∷ more))
+        subst (λ test. (test && is_value (kind_of choice) one.1 || is_taken others one.0 one.1)
+        ≡ true) same taken in
+        let right : in_order (choice ∷ others) (one ∷ more) ≡ prefix
+        ++ in_order others (one ∷ more) =
+        ap (λ test. listed_one choice (cond test (Some one.1) (value_of (word_of choice) more))
+        ++ in_order others (one ∷ more)) same in
+        rw right (IsPermutation-trans (one ∷ (prefix ++ in_order others more))
+        (prefix ++ one ∷ in_order others more) (prefix ++ in_order others (one ∷ more))
         (IsPermutation-sym _ _ (IsPermutation-middle prefix one (in_order others more)))
         (IsPermutation-append_right prefix _ _ (rest taken')))
 
@@ -207,5 +222,6 @@ in_order-permutes choices (one ∷ more) row once taken =
     ∙ apart_none one.0 more (IsDistinct-head bytes_eq one.0 (keys_of more) once)) in
     IsPermutation-trans (one ∷ more) (one ∷ in_order choices more) (in_order choices (one ∷ more))
     (IsPermutation-cons one more (in_order choices more) (in_order-permutes choices more row
-    (IsDistinct-tail bytes_eq one.0 (keys_of more) once) (All-tail (IsTaken choices) one more taken)))
+    (IsDistinct-tail bytes_eq one.0 (keys_of more) once)
+    (All-tail (IsTaken choices) one more taken)))
     (in_order-more choices one more row (All-head (IsTaken choices) one more taken) absent)

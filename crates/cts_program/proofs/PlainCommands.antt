@@ -1,12 +1,11 @@
 -- Words that mean a command pass the reader's test, and no others do.
-use Rattle.std.proofs.Common.{ℕ, ◌≡◌, ◌≤◌, ◌-◌, ◌∷◌, ◌||◌, ◌&&◌, not, true, false, List, [], is_some, option_map, length, take, drop, map, Option, Some, None, refl, sym, ap, ap₂, ◌∙◌, subst, arith, get_or}
+use Rattle.std.proofs.Common.{ℕ, ◌≡◌, ◌∷◌, ◌||◌, ◌&&◌, not, true, List, [], drop, map, Option, Some, None, refl, sym, ap, ap₂, ◌∙◌, get_or}
 use Rattle.std.specs.Borrow.{Bor}
 use Rattle.std.specs.Str.{bytes_eq}
-use Rattle.std.specs.List.{All, IsDistinct, list_all}
+use Rattle.std.specs.List.{IsDistinct, list_all}
 use Rattle.std.specs.List.Sorted.{IsPermutation}
 use Rattle.std.specs.Map.{keys_of}
 use Rattle.std.specs.Cmp.Lexicographic.{nat_list_eq_equiv}
-use Rattle.std.proofs.lemmas.List.{take_all}
 use Rattle.std.proofs.lemmas.List.Sorted.{IsPermutation-sym, IsPermutation-map, All-permutation, list_any-IsPermutation}
 use Rattle.std.proofs.lemmas.Map.Keys.{IsDistinct-IsPermutation}
 use Rattle.cts_program.specs.declared.command.Command.{Command}
@@ -17,7 +16,7 @@ use Rattle.cts_program.specs.declared.command.table.Choice.{Choice}
 use Rattle.cts_program.specs.CommandTable.{Word, word_of, is_required, form_of, form_name, form_named, choices_of}
 use Rattle.cts_program.specs.Commands.{Given, IsTaken, name_of, values_of, options_of, listed, option_words, IsCommand, IsSame}
 use Rattle.cts_program.specs.PlainWords.{has_option, are_options, has_required, are_plain, has_values, IsPlain}
-use Rattle.cts_program.proofs.GivenOptions.{both, value_of, has_option-given, has_option-value, SpellsOptions, spells_options, are_options-given, values_in, in_order, value_of-permutes, in_order-permutes}
+use Rattle.cts_program.proofs.GivenOptions.{both, has_option-given, has_option-value, SpellsOptions, spells_options, are_options-given, values_in, in_order, value_of-permutes, in_order-permutes}
 
 -- ---- the table
 
@@ -74,18 +73,25 @@ pub command_passes : (words : List Word) (form : Form) (others : List Word)
 command_passes words form others is command means =
     let options = options_of command in
     let same = sym means.words_are ∙ is in
-    let name : form_of command ≡ form = one_form (form_of command) form (ap (λ (ws : List Word). get_or ws 0 []) same) in
+    let name : form_of command ≡ form = one_form (form_of command) form
+    (ap (λ (ws : List Word). get_or ws 0 []) same) in
     let rest : option_words means.given ≡ others = ap (λ (ws : List Word). drop 1 ws) same in
     let keys = IsPermutation-map (λ one. one.0) options means.given means.options in
-    let once = IsDistinct-IsPermutation bytes_eq nat_list_eq_equiv.symm (keys_of options) (keys_of means.given) keys (fits_row command).once in
-    let taken = All-permutation (IsTaken (choices_of (form_of command))) options means.given means.options means.values in
-    let stands : (word : Word) → has_option word (option_words means.given) ≡ has_option word (option_words options) =
-    λ word. has_option-given word means.given ∙ sym (list_any-IsPermutation (bytes_eq word) (keys_of options) (keys_of means.given) keys)
+    let once = IsDistinct-IsPermutation bytes_eq nat_list_eq_equiv.symm (keys_of options)
+    (keys_of means.given) keys (fits_row command).once in
+    let taken = All-permutation (IsTaken (choices_of (form_of command))) options means.given
+    means.options means.values in
+    let stands : (word : Word) → has_option word (option_words means.given)
+    ≡ has_option word (option_words options) =
+    λ word. has_option-given word means.given
+    ∙ sym (list_any-IsPermutation (bytes_eq word) (keys_of options) (keys_of means.given) keys)
     ∙ sym (has_option-given word options) in
     let required : has_required (choices_of (form_of command)) (option_words means.given) ≡ true =
-    (λ i. list_all (λ choice. not (is_required choice) || stands (word_of choice) i) (choices_of (form_of command)))
+    (λ i. list_all (λ choice. not (is_required choice) || stands (word_of choice) i)
+    (choices_of (form_of command)))
     ∙ (fits_row command).required in
-    rw (← name, ← rest, are_options-given (choices_of (form_of command)) means.given once taken) required
+    rw (← name, ← rest, are_options-given (choices_of (form_of command)) means.given once taken)
+    required
 
 -- ---- words mean one command
 
@@ -95,14 +101,17 @@ one_given [] [] same = refl
 one_given [] (two ∷ more) same = cc
 one_given (one ∷ more) [] same = cc
 one_given (one ∷ more) (two ∷ others) same =
-    λ i. (get_or (same i) 0 [], get_or (same i) 1 []) ∷ one_given more others (ap (λ (words : List Word). drop 2 words) same) i
+    λ i. (get_or (same i) 0 [], get_or (same i) 1 []) ∷ one_given more others
+    (ap (λ (words : List Word). drop 2 words) same) i
 
 -- the options of a command are those that stand, in the order of its row
-options_ordered : (command : Command) (given : List Given) → IsPermutation (options_of command) given
+options_ordered : (command : Command) (given : List Given)
+    → IsPermutation (options_of command) given
     → options_of command ≡ in_order (choices_of (form_of command)) given
 options_ordered command given moved =
     (fits_row command).ordered ∙ (λ i. listed (choices_of (form_of command))
-    (map (λ choice. sym (value_of-permutes (word_of choice) (options_of command) given (fits_row command).once moved) i) (choices_of (form_of command))))
+    (map (λ choice. sym (value_of-permutes (word_of choice) (options_of command) given
+    (fits_row command).once moved) i) (choices_of (form_of command))))
 
 -- words mean one command at most
 pub one_command : (words : List Word) (command other : Command) → IsCommand words command
@@ -110,7 +119,8 @@ pub one_command : (words : List Word) (command other : Command) → IsCommand wo
 one_command words command other means means' =
     let same = sym means.words_are ∙ means'.words_are in
     let name : name_of command ≡ name_of other = ap (λ (ws : List Word). get_or ws 0 []) same in
-    let given : means.given ≡ means'.given = one_given means.given means'.given (ap (λ (ws : List Word). drop 1 ws) same) in
+    let given : means.given ≡ means'.given = one_given means.given means'.given
+    (ap (λ (ws : List Word). drop 1 ws) same) in
     record {
       name = name;
       options = options_ordered command means.given means.options
@@ -180,13 +190,16 @@ module _ (words : List Word) (form : Form) (plain : IsPlain words form) where
   -- the options that plain words spell
   pub spelled : SpellsOptions (choices_of form) plain.others
   spelled = spells_options (choices_of form) plain.others
-      (both (are_options (choices_of form) plain.others) (has_required (choices_of form) plain.others) plain.options).0
+      (both (are_options (choices_of form) plain.others)
+      (has_required (choices_of form) plain.others) plain.options).0
 
   -- those that are required have values
-  pub has_values-plain : has_values (choices_of form) (values_in (choices_of form) spelled.given) ≡ true
+  pub has_values-plain : has_values (choices_of form) (values_in (choices_of form) spelled.given)
+      ≡ true
   has_values-plain = has_values-given (choices_of form) spelled.given
       ∙ ap (has_required (choices_of form)) (sym spelled.words_are)
-      ∙ (both (are_options (choices_of form) plain.others) (has_required (choices_of form) plain.others) plain.options).1
+      ∙ (both (are_options (choices_of form) plain.others)
+      (has_required (choices_of form) plain.others) plain.options).1
 
   -- so plain words mean the command that has these values
   pub means_command : (command : Command) → form_of command ≡ form
@@ -194,12 +207,14 @@ module _ (words : List Word) (form : Form) (plain : IsPlain words form) where
   means_command command has values =
       let options : options_of command ≡ in_order (choices_of form) spelled.given =
       λ i. listed (choices_of (has i)) (values i) in
-      let moved = in_order-permutes (choices_of form) spelled.given (options_differ form) spelled.once spelled.taken in
+      let moved = in_order-permutes (choices_of form) spelled.given
+      (options_differ form) spelled.once spelled.taken in
       record {
         given = spelled.given;
         words_are = plain.words_are ∙ (λ i. form_name (sym has i) ∷ spelled.words_are i);
         options = rw options (IsPermutation-sym spelled.given _ moved);
-        values = rw (options, has) (All-permutation (IsTaken (choices_of form)) spelled.given _ moved spelled.taken);
+        values = rw (options, has) (All-permutation
+            (IsTaken (choices_of form)) spelled.given _ moved spelled.taken);
       }
 
   -- and there is one

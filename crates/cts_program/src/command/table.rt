@@ -5,6 +5,9 @@ ghost use Rattle.std.specs.Str.{bytes_eq};
 ghost use Rattle.cts_program.specs.declared.command.table.Form.{Form};
 ghost use Rattle.cts_program.specs.CommandTable.{forms, form_name, form_named, choices_of, word_of, kind_of, is_required};
 
+use Choice::{Bench, Placement, Registers, Report, Seed, Tech, TechIfWanted};
+use Form::{Check, Demo, Period, Schedule, Synth, Zero};
+
 /// A command without the values of its options.
 #[derive(Clone, Copy, Debug, Drop, PartialEq)]
 pub enum Form {
@@ -37,14 +40,7 @@ pub enum ValueKind {
     Seed,
 }
 
-const FORMS: [Form; 6] = [
-    Form::Zero,
-    Form::Period,
-    Form::Schedule,
-    Form::Synth,
-    Form::Check,
-    Form::Demo,
-];
+const FORMS: [Form; 6] = [Zero, Period, Schedule, Synth, Check, Demo];
 
 impl Form {
     /// The name of the command and its options, in the order of the usage line.
@@ -53,20 +49,12 @@ impl Form {
         ensures choices { result.1.now ≡ choices_of self }
     {
         match self {
-            Form::Zero => ("zero", &[Choice::Bench, Choice::TechIfWanted]),
-            Form::Period => ("period", &[Choice::Bench, Choice::Tech]),
-            Form::Schedule => ("schedule", &[Choice::Bench, Choice::Tech]),
-            Form::Synth => ("synth", &[Choice::Bench, Choice::Tech, Choice::Placement]),
-            Form::Check => (
-                "check",
-                &[
-                    Choice::Bench,
-                    Choice::Tech,
-                    Choice::Placement,
-                    Choice::Report,
-                ],
-            ),
-            Form::Demo => ("demo", &[Choice::Registers, Choice::Seed]),
+            Zero => ("zero", &[Bench, TechIfWanted]),
+            Period => ("period", &[Bench, Tech]),
+            Schedule => ("schedule", &[Bench, Tech]),
+            Synth => ("synth", &[Bench, Tech, Placement]),
+            Check => ("check", &[Bench, Tech, Placement, Report]),
+            Demo => ("demo", &[Registers, Seed]),
         }
     }
 
@@ -93,12 +81,12 @@ impl Choice {
         ensures { result.now ≡ word_of self }
     {
         match self {
-            Choice::Bench => "--bench",
-            Choice::Tech | Choice::TechIfWanted => "--tech",
-            Choice::Placement => "--pl",
-            Choice::Report => "--report",
-            Choice::Registers => "--registers",
-            Choice::Seed => "--seed",
+            Bench => "--bench",
+            Tech | TechIfWanted => "--tech",
+            Placement => "--pl",
+            Report => "--report",
+            Registers => "--registers",
+            Seed => "--seed",
         }
     }
 
@@ -106,8 +94,8 @@ impl Choice {
         ensures { result ≡ kind_of self }
     {
         match self {
-            Choice::Registers => ValueKind::Registers,
-            Choice::Seed => ValueKind::Seed,
+            Registers => ValueKind::Registers,
+            Seed => ValueKind::Seed,
             _ => ValueKind::File,
         }
     }
@@ -115,6 +103,6 @@ impl Choice {
     pub fn is_required(self) -> bool
         ensures { result ≡ is_required self }
     {
-        self != Choice::TechIfWanted
+        self != TechIfWanted
     }
 }
