@@ -1,59 +1,75 @@
+use crate::same::expect_same;
 use cts_base::{Line, Listed, before_comment, lines, words};
-use std::test::Fail;
+use std::process::Abort;
+
+fn expect_lines(rt: &impl Abort, text: &str, wanted: &[(u32, &str)]) {
+    assert!(rt; text.len() <= 16_777_216);
+    let mut walk = lines(text.as_bytes());
+    for (number, line) in wanted {
+        let wanted = Line {
+            number: *number,
+            text: line.as_bytes(),
+        };
+        expect_same(rt, walk.next(), Some(wanted), &text);
+    }
+    expect_same(rt, walk.next(), None, &text);
+}
+
+// A text, and its lines with their numbers.
+const LINES: [(&str, &[(u32, &str)]); 10] = [
+    ("", &[]),
+    ("a\n", &[(1, "a")]),
+    ("a\r\n", &[(1, "a")]),
+    ("a\nb", &[(1, "a"), (2, "b")]),
+    ("a\nb\r", &[(1, "a"), (2, "b")]),
+    ("\r", &[(1, "")]),
+    ("\n\r", &[(1, ""), (2, "")]),
+    ("\n\n\r\nd\n", &[(1, ""), (2, ""), (3, ""), (4, "d")]),
+    ("a\r\r\n", &[(1, "a\r")]),
+    ("a\rb\n\rc", &[(1, "a\rb"), (2, "\rc")]),
+];
 
 #[test]
 fn walks_the_lines_of_a_text(rt: HostRuntime) {
-    for (text, wanted) in [
-        ("", [].as_slice()),
-        ("a\n", [(1, "a")].as_slice()),
-        ("a\r\n", [(1, "a")].as_slice()),
-        ("a\nb", [(1, "a"), (2, "b")].as_slice()),
-        ("a\nb\r", [(1, "a"), (2, "b")].as_slice()),
-        ("\r", [(1, "")].as_slice()),
-        ("\n\r", [(1, ""), (2, "")].as_slice()),
-        (
-            "\n\n\r\nd\n",
-            [(1, ""), (2, ""), (3, ""), (4, "d")].as_slice(),
-        ),
-        ("a\r\r\n", [(1, "a\r")].as_slice()),
-        ("a\rb\n\rc", [(1, "a\rb"), (2, "\rc")].as_slice()),
-    ] {
-        assert!(rt; text.len() <= 16_777_216);
-        let mut walk = lines(text.as_bytes());
-        for (number, line) in wanted {
-            let wanted = Line {
-                number: *number,
-                text: line.as_bytes(),
-            };
-            assert_eq!(rt; walk.next(), Some(wanted), "in {text:?}");
-        }
-        assert_eq!(rt; walk.next(), None, "behind {text:?}");
+    for (text, wanted) in &LINES {
+        expect_lines(&rt, text, wanted);
     }
 }
 
 // In place of a word that the line doesn't have stands an empty one.
+fn expect_words(rt: &impl Abort, line: &str, wanted: [&str; 3]) {
+    let mut walk = words(line.as_bytes());
+    for word in &wanted {
+        expect_same(rt, walk.next().unwrap_or(b""), word.as_bytes(), &line);
+    }
+    assert!(rt; walk.next().is_none(), "behind {line:?}");
+}
+
 #[test]
 fn walks_the_words_of_a_line(rt: HostRuntime) {
-    for (line, one, two, three) in [
-        ("", "", "", ""),
-        (" \t ", "", "", ""),
-        ("one", "one", "", ""),
-        ("  one", "one", "", ""),
-        ("one \t", "one", "", ""),
-        ("one two   three", "one", "two", "three"),
-        ("\tone\ttwo \t three", "one", "two", "three"),
-        ("a\r b#c", "a\r", "b#c", ""),
-    ] {
-        let mut walk = words(line.as_bytes());
-        for wanted in [one, two, three] {
-            assert_eq!(rt;
-                walk.next().unwrap_or(b""),
-                wanted.as_bytes(),
-                "in {line:?}"
-            );
-        }
-        assert!(rt; walk.next().is_none(), "behind {line:?}");
+    for (line, wanted) in [
+        ("", ["", "", ""]),
+        (" \t ", ["", "", ""]),
+        ("one", ["one", "", ""]),
+        ("  one", ["one", "", ""]),
+        ("one \t", ["one", "", ""]),
+        ("one two   three", ["one", "two", "three"]),
+        ("\tone\ttwo \t three", ["one", "two", "three"]),
+        ("a\r b#c", ["a\r", "b#c", ""]),
+    ]
+    .as_slice()
+    {
+        expect_words(&rt, line, *wanted);
     }
+}
+
+fn expect_before_comment(rt: &impl Abort, line: &str, wanted: &str) {
+    expect_same(
+        rt,
+        before_comment(line.as_bytes()),
+        wanted.as_bytes(),
+        &line,
+    );
 }
 
 #[test]
@@ -64,34 +80,37 @@ fn leaves_out_comments(rt: HostRuntime) {
         ("# all", ""),
         ("a = b # c", "a = b "),
         ("a#b#c", "a"),
-    ] {
-        assert_eq!(rt;
-            before_comment(line.as_bytes()),
-            wanted.as_bytes(),
-            "at {line:?}"
-        );
+    ]
+    .as_slice()
+    {
+        expect_before_comment(&rt, line, wanted);
     }
 }
 
+fn expect_items(rt: &impl Abort, list: &Listed<u32>, wanted: &[u32]) {
+    expect_same(rt, list.as_slice(), wanted, &"list");
+}
+
+fn expect_item(rt: &impl Abort, list: &Listed<u32>, at: usize, wanted: Option<u32>) {
+    expect_same(rt, list.get(at).copied(), wanted, &at);
+}
+
 #[test]
-fn keeps_a_list(rt: HostRuntime) -> Result<(), Fail> {
-    let alloc = rt.alloc();
-    let mut list = Listed::new(alloc);
+fn keeps_a_list(rt: HostRuntime) {
+    let mut list = Listed::new(rt.alloc());
     assert!(rt; list.is_empty());
-    assert_eq!(rt; list.get(0), None);
-    for item in [5, 6, 7] {
-        assert_eq!(rt; list.push(item), Ok(()));
-    }
+    expect_item(&rt, &list, 0, None);
+    expect_same(&rt, list.push(5), Ok(()), &"list.push");
+    expect_same(&rt, list.push(6), Ok(()), &"list.push");
+    expect_same(&rt, list.push(7), Ok(()), &"list.push");
     assert_eq!(rt; list.len(), 3);
     assert!(rt; !list.is_empty());
     list.set(1, 9);
-    assert_eq!(rt; list.as_slice(), [5, 9, 7].as_slice());
-    for (at, wanted) in [(0, Some(5)), (2, Some(7)), (3, None)] {
-        assert_eq!(rt; list.get(at).copied(), wanted, "at {at}");
-    }
+    expect_items(&rt, &list, &[5, 9, 7]);
+    expect_item(&rt, &list, 0, Some(5));
+    expect_item(&rt, &list, 2, Some(7));
+    expect_item(&rt, &list, 3, None);
     let items = list.into_vec();
-    assert_eq!(rt; items.as_slice(), [5, 9, 7].as_slice());
-    let again = Listed::from_vec(items);
-    assert_eq!(rt; again.as_slice(), [5, 9, 7].as_slice());
-    Ok(())
+    expect_same(&rt, items.as_slice(), [5, 9, 7].as_slice(), &"items");
+    expect_items(&rt, &Listed::from_vec(items), &[5, 9, 7]);
 }

@@ -1,12 +1,20 @@
+use crate::same::expect_same;
 use bench_reader::{BenchFault, Which, read_bench};
 use cts_model::{Circuit, Kind};
-use std::alloc::Global;
+use std::alloc::{AllocError, Global};
 use std::process::Abort;
-use std::test::Fail;
 
 fn read(rt: &impl Abort, alloc: Global, text: &[u8]) -> Result<Circuit, BenchFault> {
     assert!(rt; text.len() <= 16_777_216);
     read_bench(alloc, text)
+}
+
+fn circuit_of(rt: &impl Abort, alloc: Global, text: &str) -> Circuit {
+    read(rt, alloc, text.as_bytes()).expect(rt, "a circuit")
+}
+
+fn fault_of(rt: &impl Abort, alloc: Global, text: &[u8]) -> BenchFault {
+    read(rt, alloc, text).err().expect(rt, "a fault")
 }
 
 // The number of a fault, and its line if it has one.
@@ -24,64 +32,91 @@ fn denoted(fault: &BenchFault) -> (u8, u32) {
     }
 }
 
+fn expect_signal(
+    rt: &impl Abort,
+    circuit: &Circuit,
+    number: usize,
+    name: &str,
+    kind: Kind,
+    fan_in: &[u32],
+) {
+    let signal = circuit.signals.get(number).expect(rt, "a signal");
+    expect_same(rt, signal.name.as_slice(), name.as_bytes(), &"signal.name");
+    expect_same(rt, signal.kind, kind, &"signal.kind");
+    expect_same(rt, signal.fan_in.as_slice(), fan_in, &"signal.fan_in");
+}
+
 #[test]
-fn reads_gates_and_registers(rt: HostRuntime) -> Result<(), Fail> {
+fn reads_gates_and_registers(rt: HostRuntime) {
     let text =
         "INPUT(x)\nc = DFF(g)\ng = NaNd(c, x, c) # twice\nOUTPUT(g)\nh=Buf(g)\nk = XOR ( h )";
-    let circuit = read(&rt, rt.alloc(), text.as_bytes())?;
-    for (number, name, kind, fan_in) in [
-        (0, b"x", Kind::Input, [].as_slice()),
-        (1, b"c", Kind::Dff, [2].as_slice()),
-        (2, b"g", Kind::Nand, [1, 0, 1].as_slice()),
-        (3, b"h", Kind::Buff, [2].as_slice()),
-        (4, b"k", Kind::Xor, [3].as_slice()),
-    ] {
-        let signal = circuit.signals.get(number).ok_or("a signal")?;
-        assert_eq!(rt; signal.name.as_slice(), name.as_slice());
-        assert_eq!(rt; signal.kind, kind);
-        assert_eq!(rt; signal.fan_in.as_slice(), fan_in);
+    let circuit = circuit_of(&rt, rt.alloc(), text);
+    expect_signal(&rt, &circuit, 0, "x", Kind::Input, &[]);
+    expect_signal(&rt, &circuit, 1, "c", Kind::Dff, &[2]);
+    expect_signal(&rt, &circuit, 2, "g", Kind::Nand, &[1, 0, 1]);
+    expect_signal(&rt, &circuit, 3, "h", Kind::Buff, &[2]);
+    expect_signal(&rt, &circuit, 4, "k", Kind::Xor, &[3]);
+    expect_same(&rt, circuit.signals.len(), 5, &"circuit.signals.len");
+    expect_same(
+        &rt,
+        circuit.registers.as_slice(),
+        [1].as_slice(),
+        &"circuit.registers",
+    );
+    expect_same(
+        &rt,
+        circuit.outputs.as_slice(),
+        [2].as_slice(),
+        &"circuit.outputs",
+    );
+}
+
+fn expect_numbers(rt: &impl Abort, alloc: Global, text: &str, registers: &[u32], outputs: &[u32]) {
+    let circuit = circuit_of(rt, alloc, text);
+    expect_same(rt, circuit.registers.as_slice(), registers, &text);
+    expect_same(rt, circuit.outputs.as_slice(), outputs, &text);
+}
+
+// A netlist, its registers and its outputs.
+const NUMBERED: [(&str, &[u32], &[u32]); 5] = [
+    ("a = DFF(a)", &[0], &[]),
+    (
+        "OUTPUT(a)\r\n# all\r\n\r\nINPUT(x)\r\na = DFF(x) # x\r\n",
+        &[1],
+        &[1],
+    ),
+    (
+        "OUTPUT(b)\nOUTPUT(x)\nOUTPUT(b)\na = DFF(x)\nINPUT(x)\nb = DFF(a)\nOUTPUT(a)",
+        &[0, 2],
+        &[2, 1, 0],
+    ),
+    (
+        "OUTPUT = DFF(INPUT)\nINPUT(INPUT)\nOUTPUT(OUTPUT)",
+        &[0],
+        &[0],
+    ),
+    // Names with brackets, slashes and dots, and in UTF-8.
+    (
+        "INPUT(\u{e9})\nn[3]/q.0 = DFF(\u{e9})\nOUTPUT(n[3]/q.0)#)",
+        &[1],
+        &[1],
+    ),
+];
+
+#[test]
+fn numbers_registers_and_outputs(rt: HostRuntime) {
+    for (text, registers, outputs) in &NUMBERED {
+        expect_numbers(&rt, rt.alloc(), text, registers, outputs);
     }
-    assert_eq!(rt; circuit.signals.len(), 5);
-    assert_eq!(rt; circuit.registers.as_slice(), [1].as_slice());
-    assert_eq!(rt; circuit.outputs.as_slice(), [2].as_slice());
-    Ok(())
+}
+
+fn expect_fault(rt: &impl Abort, alloc: Global, text: &str, number: u8, line: u32) {
+    let fault = fault_of(rt, alloc, text.as_bytes());
+    expect_same(rt, denoted(&fault), (number, line), &text);
 }
 
 #[test]
-fn numbers_registers_and_outputs(rt: HostRuntime) -> Result<(), Fail> {
-    for (text, registers, outputs) in [
-        ("a = DFF(a)", [0].as_slice(), [].as_slice()),
-        (
-            "OUTPUT(a)\r\n# all\r\n\r\nINPUT(x)\r\na = DFF(x) # x\r\n",
-            [1].as_slice(),
-            [1].as_slice(),
-        ),
-        (
-            "OUTPUT(b)\nOUTPUT(x)\nOUTPUT(b)\na = DFF(x)\nINPUT(x)\nb = DFF(a)\nOUTPUT(a)",
-            [0, 2].as_slice(),
-            [2, 1, 0].as_slice(),
-        ),
-        (
-            "OUTPUT = DFF(INPUT)\nINPUT(INPUT)\nOUTPUT(OUTPUT)",
-            [0].as_slice(),
-            [0].as_slice(),
-        ),
-        // Names with brackets, slashes and dots, and in UTF-8.
-        (
-            "INPUT(\u{e9})\nn[3]/q.0 = DFF(\u{e9})\nOUTPUT(n[3]/q.0)#)",
-            [1].as_slice(),
-            [1].as_slice(),
-        ),
-    ] {
-        let circuit = read(&rt, rt.alloc(), text.as_bytes())?;
-        assert_eq!(rt; circuit.registers.as_slice(), registers, "at {text:?}");
-        assert_eq!(rt; circuit.outputs.as_slice(), outputs, "at {text:?}");
-    }
-    Ok(())
-}
-
-#[test]
-fn names_the_first_fault(rt: HostRuntime) -> Result<(), Fail> {
+fn names_the_first_fault(rt: HostRuntime) {
     for (text, number, line) in [
         // Nothing of the format, or more than a form.
         ("INPUT", 1, 1),
@@ -120,72 +155,77 @@ fn names_the_first_fault(rt: HostRuntime) -> Result<(), Fail> {
         ("INPUT(x)\nOUTPUT(x)", 8, 0),
         ("INPUT(x)\nh = NOT(h)", 8, 0),
         ("a = DFF(a)\nh = NOT(h)", 7, 0),
-    ] {
-        let fault = read(&rt, rt.alloc(), text.as_bytes())
-            .err()
-            .ok_or("a fault")?;
-        assert_eq!(rt; denoted(&fault), (number, line), "at {text:?}");
+    ]
+    .as_slice()
+    {
+        expect_fault(&rt, rt.alloc(), text, *number, *line);
     }
-    Ok(())
 }
 
 // Each ring from its lowest gate on: the next one reads the one before.
+fn expect_ring(rt: &impl Abort, alloc: Global, text: &str, wanted: [&str; 3]) {
+    let BenchFault::CombLoop(names) = fault_of(rt, alloc, text.as_bytes()) else {
+        assert!(rt; false, "no ring at {text:?}");
+        return;
+    };
+    for (place, wanted) in wanted.iter().enumerate() {
+        let name = names
+            .get(place)
+            .map_or(b"".as_slice(), |name| name.as_slice());
+        expect_same(rt, name, wanted.as_bytes(), &text);
+    }
+}
+
 #[test]
-fn names_a_ring_of_gates(rt: HostRuntime) -> Result<(), Fail> {
-    for (text, first, second, third) in [
-        ("a = DFF(a)\nh = NOT(h)", "h", "", ""),
+fn names_a_ring_of_gates(rt: HostRuntime) {
+    for (text, wanted) in [
+        ("a = DFF(a)\nh = NOT(h)", ["h", "", ""]),
         (
             "INPUT(x)\na = DFF(x)\ng = AND(x, h)\nh = NOT(g)",
-            "g",
-            "h",
-            "",
+            ["g", "h", ""],
         ),
         // The ring is read by a gate that isn't on it, and reads another.
         (
             "a = DFF(f)\nf = NOT(p)\np = AND(q, e)\nq = OR(a, r)\nr = BUFF(p)\ne = NOT(a)",
-            "p",
-            "r",
-            "q",
+            ["p", "r", "q"],
         ),
-    ] {
-        let fault = read(&rt, rt.alloc(), text.as_bytes())
-            .err()
-            .ok_or("a fault")?;
-        let BenchFault::CombLoop(names) = fault else {
-            assert!(rt; false, "no ring at {text:?}");
-            return Ok(());
-        };
-        for (place, wanted) in [(0, first), (1, second), (2, third)] {
-            let name = names
-                .get(place)
-                .map_or(b"".as_slice(), |name| name.as_slice());
-            assert_eq!(rt; name, wanted.as_bytes(), "at {text:?}");
-        }
+    ]
+    .as_slice()
+    {
+        expect_ring(&rt, rt.alloc(), text, *wanted);
     }
-    Ok(())
 }
 
 // A first line that names so many bytes, and what stands after it.
-fn long_name(alloc: Global, length: usize, suffix: &str) -> Result<Vec<u8>, Fail> {
+fn long_name(alloc: Global, length: usize, suffix: &str) -> Result<Vec<u8>, AllocError> {
     let mut text = Vec::from_slice(alloc, b"INPUT(")?;
     text.extend_from_slice(&vec![in alloc; b'x'; length]?)?;
     text.extend_from_slice(suffix.as_bytes())?;
     Ok(text)
 }
 
-#[test]
-fn counts_the_bytes_of_names(rt: HostRuntime) -> Result<(), Fail> {
-    let alloc = rt.alloc();
-    let most = read(&rt, alloc, &long_name(alloc, 255, ")\na = DFF(a)")?)?;
-    assert_eq!(rt; most.signals.get(0).ok_or("a signal")?.name.len(), 255);
-    let more = read(&rt, alloc, &long_name(alloc, 256, ")\na = DFF(a)")?);
-    let fault = more.err().ok_or("a fault")?;
-    assert!(rt; matches!(fault, BenchFault::TooLarge(1, Which::Name)));
-    // A word for a kind may be as long as it likes: it is no kind.
+fn with_long_name(rt: &impl Abort, alloc: Global, length: usize) -> Result<Circuit, BenchFault> {
+    let text = long_name(alloc, length, ")\na = DFF(a)").expect(rt, "memory");
+    read(rt, alloc, &text)
+}
+
+// A gate whose kind is a word of so many bytes.
+fn long_kind(alloc: Global, length: usize) -> Result<Vec<u8>, AllocError> {
     let mut text = Vec::from_slice(alloc, b"a = ")?;
-    text.extend_from_slice(&vec![in alloc; b'K'; 256]?)?;
+    text.extend_from_slice(&vec![in alloc; b'K'; length]?)?;
     text.extend_from_slice(b"(a)")?;
-    let fault = read(&rt, alloc, &text).err().ok_or("a fault")?;
+    Ok(text)
+}
+
+#[test]
+fn counts_the_bytes_of_names(rt: HostRuntime) {
+    let most = with_long_name(&rt, rt.alloc(), 255).expect(&rt, "a circuit");
+    let name = &most.signals.get(0).expect(&rt, "a signal").name;
+    expect_same(&rt, name.len(), 255, &"name.len");
+    let more = with_long_name(&rt, rt.alloc(), 256).err();
+    assert!(rt; matches!(more, Some(BenchFault::TooLarge(1, Which::Name))));
+    // A word for a kind may be as long as it likes: it is no kind.
+    let text = long_kind(rt.alloc(), 256).expect(&rt, "memory");
+    let fault = fault_of(&rt, rt.alloc(), &text);
     assert!(rt; matches!(fault, BenchFault::UnknownKind(1)));
-    Ok(())
 }

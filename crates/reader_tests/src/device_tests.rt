@@ -1,14 +1,15 @@
 ghost use Rattle.std.specs.Prelude.{◌≤◌, IsOk, IsErrOf};
 
-use cts_base::{Listed, Name, NoMemory};
+use crate::held_files::held_files;
+use crate::same::expect_same;
 use cts_io::{
-    Failed, FileOpener, HeldFile, HostInputs, HostSink, Inputs, NeverFails, ReadWhole, StartFault,
-    open_file, read_next, read_whole, write_prefix, write_whole,
+    Failed, FileOpener, HostInputs, HostSink, Inputs, NeverFails, ReadWhole, StartFault, open_file,
+    read_next, read_whole, write_prefix, write_whole,
 };
 use std::alloc::Global;
 use std::io;
 use std::io::{ErrorKind, Read, Write};
-use std::test::Fail;
+use std::process::Abort;
 
 // What a call on a stream answers: so many bytes at most, or an error.
 #[derive(Clone, Copy, Debug)]
@@ -20,6 +21,8 @@ enum Turn {
 const INTERRUPTED: Turn = Turn::Errs(ErrorKind::Interrupted);
 
 const BROKEN: Turn = Turn::Errs(ErrorKind::BrokenPipe);
+
+const MEMORY: Turn = Turn::Errs(ErrorKind::OutOfMemory);
 
 // The turn of a stream that gives all its bytes at once, and what it has.
 const WHOLE: &[Turn] = &[Turn::Gives(9)];
@@ -110,135 +113,169 @@ fn writer_over<'a>(alloc: Global, turns: &'a [Turn]) -> Writer<'a> {
     }
 }
 
-// Reads of "abcdef" into a buffer of 4 bytes: what three of them tell.
-#[test]
-fn reads_what_a_stream_gives(rt: HostRuntime) -> Result<(), Fail> {
-    let rows: [(&[Turn], [Result<usize, Failed>; 3]); 5] = [
-        (&[Turn::Gives(9), Turn::Gives(9)], [Ok(4), Ok(2), Ok(0)]),
-        (
-            &[Turn::Gives(1), INTERRUPTED, INTERRUPTED, Turn::Gives(2)],
-            [Ok(1), Ok(2), Ok(0)],
-        ),
-        // An error is no end, and what comes after it is still read.
-        (
-            &[Turn::Gives(3), BROKEN, Turn::Gives(2)],
-            [Ok(3), Err(Failed), Ok(2)],
-        ),
-        (
-            &[INTERRUPTED, BROKEN, BROKEN, INTERRUPTED, Turn::Gives(1)],
-            [Err(Failed), Err(Failed), Ok(1)],
-        ),
-        (&[], [Ok(0), Ok(0), Ok(0)]),
-    ];
-    for (turns, denoted) in rows {
-        let mut stream = Reader {
-            turns: Turns { turns, over: 0 },
-            bytes: b"abcdef",
-        };
-        let mut seen = Vec::new(rt.alloc());
-        for want in denoted {
-            let mut buffer = [0u8; 4];
-            let read = read_next(&mut stream, &mut buffer);
-            assert_eq!(rt; read, want, "over {turns:?}");
-            if let Ok(count) = read {
-                seen.extend_from_slice(&buffer[..count])?;
-            }
+// What the reads into a buffer of 4 bytes tell of "abcdef".
+fn expect_reads(
+    rt: &impl Abort,
+    alloc: Global,
+    turns: &[Turn],
+    denoted: [Result<usize, Failed>; 3],
+) {
+    let mut stream = Reader {
+        turns: Turns { turns, over: 0 },
+        bytes: b"abcdef",
+    };
+    let mut seen = Vec::new(alloc);
+    for want in &denoted {
+        let mut buffer = [0u8; 4];
+        let read = read_next(&mut stream, &mut buffer);
+        expect_same(rt, read, *want, &turns);
+        if let Ok(count) = read {
+            seen.extend_from_slice(&buffer[..count])
+                .expect(rt, "memory");
         }
-        assert!(rt; b"abcdef".starts_with(seen.as_slice()), "over {turns:?}");
     }
-    Ok(())
+    assert!(rt; b"abcdef".starts_with(seen.as_slice()), "over {turns:?}");
 }
 
-// A start over an opener: what it gives, how many calls it made, and what a take gives after it.
+// The turns of a stream, and what three reads tell.
+const READS: [(&[Turn], [Result<usize, Failed>; 3]); 5] = [
+    (&[Turn::Gives(9), Turn::Gives(9)], [Ok(4), Ok(2), Ok(0)]),
+    (
+        &[Turn::Gives(1), INTERRUPTED, INTERRUPTED, Turn::Gives(2)],
+        [Ok(1), Ok(2), Ok(0)],
+    ),
+    // An error is no end, and what comes after it is still read.
+    (
+        &[Turn::Gives(3), BROKEN, Turn::Gives(2)],
+        [Ok(3), Err(Failed), Ok(2)],
+    ),
+    (
+        &[INTERRUPTED, BROKEN, BROKEN, INTERRUPTED, Turn::Gives(1)],
+        [Err(Failed), Err(Failed), Ok(1)],
+    ),
+    (&[], [Ok(0), Ok(0), Ok(0)]),
+];
+
 #[test]
-fn starts_what_an_opener_gives(rt: HostRuntime) -> Result<(), Fail> {
-    let memory = Turn::Errs(ErrorKind::OutOfMemory);
-    let rows: [(&[Turn], Result<(), StartFault>, usize, usize); 6] = [
-        (&[Turn::Gives(6), Turn::Gives(2)], Ok(()), 1, 6),
-        (&[INTERRUPTED, INTERRUPTED, Turn::Gives(4)], Ok(()), 3, 4),
-        (
-            &[INTERRUPTED, BROKEN, Turn::Gives(6)],
-            Err(StartFault::Failed),
-            2,
-            0,
-        ),
-        (&[BROKEN, Turn::Gives(6)], Err(StartFault::Failed), 1, 0),
-        (&[memory, Turn::Gives(6)], Err(StartFault::NoMemory), 1, 0),
-        (&[INTERRUPTED, memory], Err(StartFault::NoMemory), 2, 0),
-    ];
-    for (turns, denoted, calls, given) in rows {
-        let mut opener = Opener {
-            turns: Turns { turns, over: 0 },
-        };
-        let opened = open_file(&mut opener, "a");
-        assert_eq!(rt; opened.err(), denoted.err(), "over {turns:?}");
-        assert_eq!(rt; opener.turns.over, calls, "over {turns:?}");
-        let mut inputs = HostInputs::new(Opener {
-            turns: Turns { turns, over: 0 },
-        });
-        let mut buffer = [0u8; 8];
-        assert_eq!(rt; inputs.start("a"), denoted, "over {turns:?}");
-        assert_eq!(rt; inputs.take("a", &mut buffer), Ok(given), "over {turns:?}");
+fn reads_what_a_stream_gives(rt: HostRuntime) {
+    for (turns, denoted) in &READS {
+        expect_reads(&rt, rt.alloc(), turns, *denoted);
     }
-    Ok(())
+}
+
+// A start over an opener: what it gives, and how many calls it made.
+fn expect_opened(rt: &impl Abort, turns: &[Turn], denoted: Result<(), StartFault>, calls: usize) {
+    let mut opener = Opener {
+        turns: Turns { turns, over: 0 },
+    };
+    let opened = open_file(&mut opener, "a");
+    expect_same(rt, opened.err(), denoted.err(), &turns);
+    expect_same(rt, opener.turns.over, calls, &turns);
+}
+
+// A start of inputs over an opener, and what a take gives after it.
+fn expect_started(rt: &impl Abort, turns: &[Turn], denoted: Result<(), StartFault>, given: usize) {
+    let mut inputs = HostInputs::new(Opener {
+        turns: Turns { turns, over: 0 },
+    });
+    let mut buffer = [0u8; 8];
+    expect_same(rt, inputs.start("a"), denoted, &turns);
+    expect_same(rt, inputs.take("a", &mut buffer), Ok(given), &turns);
+}
+
+// The turns of an opener, what a start gives, how many calls it made, and what a take gives.
+const STARTS: [(&[Turn], Result<(), StartFault>, usize, usize); 6] = [
+    (&[Turn::Gives(6), Turn::Gives(2)], Ok(()), 1, 6),
+    (&[INTERRUPTED, INTERRUPTED, Turn::Gives(4)], Ok(()), 3, 4),
+    (
+        &[INTERRUPTED, BROKEN, Turn::Gives(6)],
+        Err(StartFault::Failed),
+        2,
+        0,
+    ),
+    (&[BROKEN, Turn::Gives(6)], Err(StartFault::Failed), 1, 0),
+    (&[MEMORY, Turn::Gives(6)], Err(StartFault::NoMemory), 1, 0),
+    (&[INTERRUPTED, MEMORY], Err(StartFault::NoMemory), 2, 0),
+];
+
+#[test]
+fn starts_what_an_opener_gives(rt: HostRuntime) {
+    for (turns, denoted, calls, given) in &STARTS {
+        expect_opened(&rt, turns, *denoted, *calls);
+        expect_started(&rt, turns, *denoted, *given);
+    }
+}
+
+fn expect_prefix(
+    rt: &impl Abort,
+    alloc: Global,
+    piece: &str,
+    turns: &[Turn],
+    denoted: Result<usize, Failed>,
+    written: &str,
+    calls: usize,
+) {
+    let mut stream = writer_over(alloc, turns);
+    let write = write_prefix(&mut stream, piece.as_bytes());
+    expect_same(rt, write, denoted, &turns);
+    expect_same(rt, stream.written.as_slice(), written.as_bytes(), &turns);
+    expect_same(rt, stream.turns.over, calls, &turns);
 }
 
 // A write of a piece: what it gives, what is written, and how many calls it made.
+const WRITES: [(&str, &[Turn], Result<usize, Failed>, &str, usize); 8] = [
+    ("abcdef", &[Turn::Gives(9)], Ok(6), "abcdef", 1),
+    ("abcdef", &[Turn::Gives(2), Turn::Gives(2)], Ok(2), "ab", 1),
+    (
+        "abcdef",
+        &[Turn::Gives(0), Turn::Gives(2)],
+        Err(Failed),
+        "",
+        1,
+    ),
+    ("abcdef", &[BROKEN, Turn::Gives(2)], Err(Failed), "", 1),
+    ("abcdef", &[INTERRUPTED, Turn::Gives(3)], Ok(3), "abc", 2),
+    ("abcdef", &[INTERRUPTED, BROKEN], Err(Failed), "", 2),
+    ("abcdef", &[INTERRUPTED, Turn::Gives(0)], Err(Failed), "", 2),
+    ("", &[BROKEN], Ok(0), "", 0),
+];
+
 #[test]
-fn writes_what_a_stream_takes(rt: HostRuntime) -> Result<(), Fail> {
-    let rows: [(&str, &[Turn], Result<usize, Failed>, &str, usize); 8] = [
-        ("abcdef", &[Turn::Gives(9)], Ok(6), "abcdef", 1),
-        ("abcdef", &[Turn::Gives(2), Turn::Gives(2)], Ok(2), "ab", 1),
-        (
-            "abcdef",
-            &[Turn::Gives(0), Turn::Gives(2)],
-            Err(Failed),
-            "",
-            1,
-        ),
-        ("abcdef", &[BROKEN, Turn::Gives(2)], Err(Failed), "", 1),
-        ("abcdef", &[INTERRUPTED, Turn::Gives(3)], Ok(3), "abc", 2),
-        ("abcdef", &[INTERRUPTED, BROKEN], Err(Failed), "", 2),
-        ("abcdef", &[INTERRUPTED, Turn::Gives(0)], Err(Failed), "", 2),
-        ("", &[BROKEN], Ok(0), "", 0),
-    ];
-    for (piece, turns, denoted, written, calls) in rows {
-        let mut stream = writer_over(rt.alloc(), turns);
-        let write = write_prefix(&mut stream, piece.as_bytes());
-        assert_eq!(rt; write, denoted, "over {turns:?}");
-        assert_eq!(rt;
-            stream.written.as_slice(),
-            written.as_bytes(),
-            "over {turns:?}"
-        );
-        assert_eq!(rt; stream.turns.over, calls, "over {turns:?}");
+fn writes_what_a_stream_takes(rt: HostRuntime) {
+    for (piece, turns, denoted, written, calls) in &WRITES {
+        expect_prefix(&rt, rt.alloc(), piece, turns, *denoted, written, *calls);
     }
-    Ok(())
 }
 
 // The sink of the host over a stream: all of "abcdef", or what was taken before the fault.
+fn expect_sunk(
+    rt: &impl Abort,
+    alloc: Global,
+    turns: &[Turn],
+    denoted: Result<(), Failed>,
+    written: &str,
+) {
+    let mut stream = writer_over(alloc, turns);
+    let all = write_whole(&mut HostSink::new(&mut stream), b"abcdef");
+    expect_same(rt, all, denoted, &turns);
+    expect_same(rt, stream.written.as_slice(), written.as_bytes(), &turns);
+}
+
+const SUNK: [(&[Turn], Result<(), Failed>, &str); 3] = [
+    (
+        &[Turn::Gives(2), INTERRUPTED, Turn::Gives(3), Turn::Gives(9)],
+        Ok(()),
+        "abcdef",
+    ),
+    (&[Turn::Gives(2), BROKEN, Turn::Gives(9)], Err(Failed), "ab"),
+    (&[Turn::Gives(5), Turn::Gives(0)], Err(Failed), "abcde"),
+];
+
 #[test]
-fn sinks_write_on_after_short_pieces(rt: HostRuntime) -> Result<(), Fail> {
-    let rows: [(&[Turn], Result<(), Failed>, &str); 3] = [
-        (
-            &[Turn::Gives(2), INTERRUPTED, Turn::Gives(3), Turn::Gives(9)],
-            Ok(()),
-            "abcdef",
-        ),
-        (&[Turn::Gives(2), BROKEN, Turn::Gives(9)], Err(Failed), "ab"),
-        (&[Turn::Gives(5), Turn::Gives(0)], Err(Failed), "abcde"),
-    ];
-    for (turns, denoted, written) in rows {
-        let mut stream = writer_over(rt.alloc(), turns);
-        let all = write_whole(&mut HostSink::new(&mut stream), b"abcdef");
-        assert_eq!(rt; all, denoted, "over {turns:?}");
-        assert_eq!(rt;
-            stream.written.as_slice(),
-            written.as_bytes(),
-            "over {turns:?}"
-        );
+fn sinks_write_on_after_short_pieces(rt: HostRuntime) {
+    for (turns, denoted, written) in &SUNK {
+        expect_sunk(&rt, rt.alloc(), turns, *denoted, written);
     }
-    Ok(())
 }
 
 // Over inputs that never fail no read is a fault, by their contract alone.
@@ -261,32 +298,26 @@ fn write_held(sink: &mut NeverFails, bytes: &[u8]) -> Result<(), Failed>
     write_whole(sink, bytes)
 }
 
-fn bytes_of(alloc: Global, text: &str) -> Result<Name, NoMemory> {
-    Ok(Listed::from_vec(Vec::from_slice(alloc, text.as_bytes())?))
+// A file is read and written without a fault.
+fn expect_held(rt: &impl Abort, alloc: Global, held: &mut NeverFails, name: &str, text: &str) {
+    let bytes = read_held(alloc, held, name, 11).expect(rt, "a file");
+    expect_same(rt, bytes.as_slice(), text.as_bytes(), &name);
+    expect_same(
+        rt,
+        write_held(held, bytes.as_slice()),
+        Ok(()),
+        &"write_held",
+    );
 }
 
 #[test]
-fn reads_and_writes_without_a_fault(rt: HostRuntime) -> Result<(), Fail> {
-    let alloc = rt.alloc();
-    let mut files = Listed::new(alloc);
-    for (name, text) in [("a", "hello\nworld"), ("a", "last"), ("none", "")] {
-        files.push(HeldFile {
-            name: bytes_of(alloc, name)?,
-            bytes: bytes_of(alloc, text)?,
-        })?;
-    }
-    let mut held = NeverFails::new(files);
-    for (name, text) in [
-        ("a", "hello\nworld"),
-        ("missing", ""),
-        ("none", ""),
-        ("a", "hello\nworld"),
-    ] {
-        let bytes = read_held(alloc, &mut held, name, 11)?;
-        assert_eq!(rt; bytes.as_slice(), text.as_bytes(), "of {name}");
-        assert_eq!(rt; write_held(&mut held, bytes.as_slice()), Ok(()));
-    }
-    let longer = read_held(alloc, &mut held, "a", 10);
-    assert_eq!(rt; longer.err(), Some(ReadWhole::TooLong));
-    Ok(())
+fn reads_and_writes_without_a_fault(rt: HostRuntime) {
+    let files = [("a", "hello\nworld"), ("a", "last"), ("none", "")];
+    let mut held = NeverFails::new(held_files(&rt, rt.alloc(), &files));
+    expect_held(&rt, rt.alloc(), &mut held, "a", "hello\nworld");
+    expect_held(&rt, rt.alloc(), &mut held, "missing", "");
+    expect_held(&rt, rt.alloc(), &mut held, "none", "");
+    expect_held(&rt, rt.alloc(), &mut held, "a", "hello\nworld");
+    let longer = read_held(rt.alloc(), &mut held, "a", 10);
+    expect_same(&rt, longer.err(), Some(ReadWhole::TooLong), &"longer");
 }

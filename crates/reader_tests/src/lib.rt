@@ -13,6 +13,8 @@ mod device_tests;
 #[cfg(test)]
 mod fraction_tests;
 #[cfg(test)]
+mod held_files;
+#[cfg(test)]
 mod io_tests;
 #[cfg(test)]
 mod model_tests;
@@ -20,6 +22,8 @@ mod model_tests;
 mod number_tests;
 #[cfg(test)]
 mod place_tests;
+#[cfg(test)]
+mod same;
 #[cfg(test)]
 mod spelling_tests;
 #[cfg(test)]

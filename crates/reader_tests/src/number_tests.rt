@@ -1,8 +1,9 @@
+use crate::same::expect_same;
 use cts_base::{NumberFault, read_micro};
 use std::process::Abort;
 
 fn reads(rt: &impl Abort, text: &str, micros: Result<i64, NumberFault>) {
-    assert_eq!(rt; read_micro(text.as_bytes()), micros, "{text}");
+    expect_same(rt, read_micro(text.as_bytes()), micros, &text);
 }
 
 #[test]
@@ -22,8 +23,8 @@ fn decimals_are_read_exactly(rt: HostRuntime) {
         ("1000000e-12", 1),
         ("0.000000000001e+6", 1),
     ];
-    for (text, micros) in rows {
-        reads(&rt, text, Ok(micros));
+    for (text, micros) in rows.as_slice() {
+        reads(&rt, text, Ok(*micros));
     }
 }
 
@@ -41,8 +42,8 @@ fn sizes_are_refused(rt: HostRuntime) {
         ("100000e-12", NumberFault::TooFine),
         ("1e-99999999999999999999", NumberFault::TooFine),
     ];
-    for (text, fault) in rows {
-        reads(&rt, text, Err(fault));
+    for (text, fault) in rows.as_slice() {
+        reads(&rt, text, Err(*fault));
     }
 }
 
@@ -51,7 +52,7 @@ fn other_texts_are_no_numbers(rt: HostRuntime) {
     let rows = [
         "", "-", ".", "1.2.3", "+-1", "1e", "1e+", "1e2e3", "e5", "0x10", " 1", "x.y",
     ];
-    for text in rows {
+    for text in rows.as_slice() {
         reads(&rt, text, Err(NumberFault::NotNumber));
     }
 }

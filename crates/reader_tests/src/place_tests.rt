@@ -1,3 +1,4 @@
+use crate::same::expect_same;
 use bench_reader::read_bench;
 use cts_base::NumberFault;
 use cts_model::{Circuit, Places, Point, with_host};
@@ -46,26 +47,34 @@ fn read_hosted(
     Ok(read_places(alloc, text.as_bytes(), &circuit, b"CLK", host.as_bytes()))
 }
 
-#[test]
-fn reads_a_placement_of_s27(rt: HostRuntime) -> Result<(), Fail> {
-    for text in [
-        "UCLA pl 1.0\nG5 0 0 : N\nG6 4 2 : N\nG7 10 0 : N\nCLK 5 10 : N /FIXED\n",
-        "UCLA pl 1.0\n# from a placer\nG5 0.000000 0 : N\nG6 4 2 : FS /FIXED\n\
-p1 77.1234567 3 : N\nG7 1e+01 0.0\nCLK 5 10 :N /FIXED_NI\n",
-    ] {
-        let places = read(&rt, rt.alloc(), S27, text, "CLK")??;
-        assert_eq!(rt; places.source, at(5_000_000, 10_000_000), "at {text:?}");
-        let wanted = [at(0, 0), at(4_000_000, 2_000_000), at(10_000_000, 0)];
-        assert_eq!(rt;
-            places.registers.as_slice(),
-            wanted.as_slice(),
-            "at {text:?}"
-        );
-    }
+fn expect_places(rt: &impl Abort, places: &Places, source: Point, registers: &[Point], row: &str) {
+    expect_same(rt, places.source, source, &row);
+    expect_same(rt, places.registers.as_slice(), registers, &row);
+}
+
+fn expect_placement(rt: &impl Abort, alloc: Global, text: &str) -> Result<(), Fail> {
+    let places = read(rt, alloc, S27, text, "CLK")??;
+    let registers = [at(0, 0), at(4_000_000, 2_000_000), at(10_000_000, 0)];
+    expect_places(rt, &places, at(5_000_000, 10_000_000), &registers, text);
     Ok(())
 }
 
+#[test]
+fn reads_a_placement_of_s27(rt: HostRuntime) -> Result<(), Fail> {
+    let plain = "UCLA pl 1.0\nG5 0 0 : N\nG6 4 2 : N\nG7 10 0 : N\nCLK 5 10 : N /FIXED\n";
+    expect_placement(&rt, rt.alloc(), plain)?;
+    let loose = "UCLA pl 1.0\n# from a placer\nG5 0.000000 0 : N\nG6 4 2 : FS /FIXED\n\
+p1 77.1234567 3 : N\nG7 1e+01 0.0\nCLK 5 10 :N /FIXED_NI\n";
+    expect_placement(&rt, rt.alloc(), loose)
+}
+
 // G5 at (1, 2), G6 at (3, 4), G7 at (5, 6) and the source at (7, 8), in millionths.
+fn expect_millionths(rt: &impl Abort, alloc: Global, text: &str) -> Result<(), Fail> {
+    let places = read(rt, alloc, REGISTERS, text, "CLK")??;
+    expect_places(rt, &places, at(7, 8), &[at(1, 2), at(3, 4), at(5, 6)], text);
+    Ok(())
+}
+
 #[test]
 fn takes_lenient_spellings(rt: HostRuntime) -> Result<(), Fail> {
     for text in [
@@ -81,16 +90,23 @@ fn takes_lenient_spellings(rt: HostRuntime) -> Result<(), Fail> {
         "UCLA pl: 1\nG5 1e-6 2e-6\nG6 3e-6 4e-6\nG7 5e-6 6e-6\nCLK 7e-6 8e-6",
         // Any other node is passed over, whatever its numbers are and how often it stands there.
         "p x.y 1\np 1e-9 x.y\nG5 1e-6 2e-6\np ::: 1\nG6 3e-6 4e-6\nG7 5e-6 6e-6\nCLK 7e-6 8e-6",
-    ] {
-        let places = read(&rt, rt.alloc(), REGISTERS, text, "CLK")??;
-        assert_eq!(rt; places.source, at(7, 8), "at {text:?}");
-        let wanted = [at(1, 2), at(3, 4), at(5, 6)];
-        assert_eq!(rt;
-            places.registers.as_slice(),
-            wanted.as_slice(),
-            "at {text:?}"
-        );
+    ]
+    .as_slice()
+    {
+        expect_millionths(&rt, rt.alloc(), text)?;
     }
+    Ok(())
+}
+
+fn expect_refused(
+    rt: &impl Abort,
+    alloc: Global,
+    text: &str,
+    source: &str,
+    fault: PlaceFault,
+) -> Result<(), Fail> {
+    let refused = read(rt, alloc, REGISTERS, text, source)?.err();
+    expect_same(rt, refused, Some(fault), &text);
     Ok(())
 }
 
@@ -134,9 +150,10 @@ fn refuses_lines(rt: HostRuntime) -> Result<(), Fail> {
             "G5 0 0\nG5 x 0",
             PlaceFault::BadNumber(2, NumberFault::NotNumber),
         ),
-    ] {
-        let refused = read(&rt, rt.alloc(), REGISTERS, text, "CLK")?.err();
-        assert_eq!(rt; refused, Some(fault), "at {text:?}");
+    ]
+    .as_slice()
+    {
+        expect_refused(&rt, rt.alloc(), text, "CLK", *fault)?;
     }
     Ok(())
 }
@@ -150,9 +167,10 @@ fn misses_places(rt: HostRuntime) -> Result<(), Fail> {
         ("G5 0 0\nG6 0 0\ng7 0 0", "CLK", PlaceFault::NoPlace(2)),
         ("G5 0 0\nG6 0 0\nG7 0 0", "CLK", PlaceFault::NoSource),
         ("G5 0 0\nG6 0 0\nG7 0 0\nC 0 0", "C K", PlaceFault::NoSource),
-    ] {
-        let refused = read(&rt, rt.alloc(), REGISTERS, text, source)?.err();
-        assert_eq!(rt; refused, Some(fault), "at {text:?}");
+    ]
+    .as_slice()
+    {
+        expect_refused(&rt, rt.alloc(), text, source, *fault)?;
     }
     Ok(())
 }
@@ -161,26 +179,31 @@ fn misses_places(rt: HostRuntime) -> Result<(), Fail> {
 fn places_one_node_for_two(rt: HostRuntime) -> Result<(), Fail> {
     let text = "G7 5e-6 6e-6\nG6 3e-6 4e-6\nG5 1e-6 2e-6";
     let places = read(&rt, rt.alloc(), REGISTERS, text, "G5")??;
-    assert_eq!(rt; places.source, at(1, 2));
-    let wanted = [at(1, 2), at(3, 4), at(5, 6)];
-    assert_eq!(rt; places.registers.as_slice(), wanted.as_slice());
+    expect_places(
+        &rt,
+        &places,
+        at(1, 2),
+        &[at(1, 2), at(3, 4), at(5, 6)],
+        text,
+    );
+    Ok(())
+}
+
+const HOSTED: &str = "(host) x y\nG5 0 1e-6\nG6 0 2e-6\nG7 0 3e-6\nCLK 0 4e-6\nPAD 0 5e-6";
+
+fn expect_host(rt: &impl Abort, alloc: Global, host: &str, place: i128) -> Result<(), Fail> {
+    let places = read_hosted(rt, alloc, HOSTED, host)??;
+    let registers = [at(0, 1), at(0, 2), at(0, 3), at(0, place)];
+    expect_places(rt, &places, at(0, 4), &registers, host);
     Ok(())
 }
 
 #[test]
 fn places_the_host(rt: HostRuntime) -> Result<(), Fail> {
-    let text = "(host) x y\nG5 0 1e-6\nG6 0 2e-6\nG7 0 3e-6\nCLK 0 4e-6\nPAD 0 5e-6";
-    for (host, place) in [("PAD", 5), ("CLK", 4), ("G6", 2)] {
-        let places = read_hosted(&rt, rt.alloc(), text, host)??;
-        assert_eq!(rt; places.source, at(0, 4), "at {host:?}");
-        let wanted = [at(0, 1), at(0, 2), at(0, 3), at(0, place)];
-        assert_eq!(rt;
-            places.registers.as_slice(),
-            wanted.as_slice(),
-            "at {host:?}"
-        );
-    }
-    let refused = read_hosted(&rt, rt.alloc(), text, "pad")?.err();
-    assert_eq!(rt; refused, Some(PlaceFault::NoPlace(3)));
+    expect_host(&rt, rt.alloc(), "PAD", 5)?;
+    expect_host(&rt, rt.alloc(), "CLK", 4)?;
+    expect_host(&rt, rt.alloc(), "G6", 2)?;
+    let refused = read_hosted(&rt, rt.alloc(), HOSTED, "pad")?.err();
+    expect_same(&rt, refused, Some(PlaceFault::NoPlace(3)), &"refused");
     Ok(())
 }

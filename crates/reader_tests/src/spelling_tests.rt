@@ -1,3 +1,4 @@
+use crate::same::expect_same;
 use cts_base::{NumberFault, Quotient, read_fraction, read_quotient, read_whole};
 use std::process::Abort;
 
@@ -6,10 +7,11 @@ const BOUND: i128 = 10_000_000_000_000_000_000_000_000_000_000_000_000;
 
 fn spells(rt: &impl Abort, text: &str, parts: Result<(i128, i128), NumberFault>) {
     let read = read_fraction(text.as_bytes());
-    assert_eq!(rt;
+    expect_same(
+        rt,
         read.map(|fraction| (fraction.num(), fraction.den())),
         parts,
-        "{text}"
+        &text,
     );
 }
 
@@ -49,21 +51,33 @@ fn fractions_have_one_spelling(rt: HostRuntime) {
             Err(NumberFault::NotNumber),
         ),
     ];
-    for (text, parts) in rows {
-        spells(&rt, text, parts);
+    for (text, parts) in rows.as_slice() {
+        spells(&rt, text, *parts);
     }
 }
 
 #[test]
 fn large_numbers_are_kept_at_a_bound(rt: HostRuntime) {
     let large = "123456789012345678901234567890123456789012345678";
-    assert_eq!(rt; read_whole(large.as_bytes()), Some(BOUND));
-    assert_eq!(rt;
-        read_whole(b"-10000000000000000000000000000000000001"),
-        Some(-BOUND)
+    expect_same(
+        &rt,
+        read_whole(large.as_bytes()),
+        Some(BOUND),
+        &"read_whole",
     );
-    assert_eq!(rt; read_whole(b"-12"), Some(-12));
-    assert_eq!(rt; read_whole(b"3/2"), None);
-    assert_eq!(rt; read_quotient(b"6/4"), Some(Quotient { num: 6, den: 4 }));
-    assert_eq!(rt; read_quotient(b"6/1"), None);
+    expect_same(
+        &rt,
+        read_whole(b"-10000000000000000000000000000000000001"),
+        Some(-BOUND),
+        &"read_whole",
+    );
+    expect_same(&rt, read_whole(b"-12"), Some(-12), &"read_whole");
+    expect_same(&rt, read_whole(b"3/2"), None, &"read_whole");
+    expect_same(
+        &rt,
+        read_quotient(b"6/4"),
+        Some(Quotient { num: 6, den: 4 }),
+        &"read_quotient",
+    );
+    expect_same(&rt, read_quotient(b"6/1"), None, &"read_quotient");
 }
