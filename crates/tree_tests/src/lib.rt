@@ -8,6 +8,8 @@ mod place_down_tests;
 #[cfg(test)]
 mod rect_tests;
 #[cfg(test)]
+mod same;
+#[cfg(test)]
 mod topology_tests;
 #[cfg(test)]
 mod trees;

@@ -1,5 +1,6 @@
 ghost use Rattle.std.specs.Prelude.{◌≡◌, ◌≤◌, length, slice_get, slice_set, IfOk, IsSomeAnd};
 
+use crate::same::expect_same;
 use crate::trees::{sink, sinks_of, topology_of};
 use cts_model::{Merge, Sink};
 use merge_up::{Work, merge};
@@ -40,52 +41,70 @@ fn reaches_of(
     Ok(reaches)
 }
 
-// Sinks on the line y = 0, where both rotated coordinates are x.
+fn expect_reaches(
+    rt: &impl Abort,
+    alloc: Global,
+    places: &[(i128, i128, i128)],
+    merges: &[(u32, u32)],
+    wanted: &[i128],
+) -> Result<(), Fail> {
+    let reaches = reaches_of(rt, alloc, places, merges)?;
+    expect_same(rt, reaches.as_slice(), wanted, &places);
+    Ok(())
+}
+
+// Sinks on the line y = 0, where both rotated coordinates are x; their merges, and the reaches.
+const REACHES: [(&[(i128, i128, i128)], &[(u32, u32)], &[i128]); 6] = [
+    (&[(0, 0, 0)], &[], &[]),
+    // All at one place.
+    (
+        &[(0, 0, 0), (0, 0, 0), (0, 0, 0), (0, 0, 0)],
+        &[(0, 1), (2, 3), (4, 5)],
+        &[0, 0, 0],
+    ),
+    // The sink with the greater offset is as far as the other.
+    (&[(0, 0, 0), (0, 0, -16)], &[(0, 1)], &[0]),
+    // One sink's offset decides alone.
+    (&[(0, 0, -96), (16, 16, 0)], &[(0, 1)], &[0]),
+    (
+        &[(0, 0, 0), (80, 80, 0), (88, 88, 0)],
+        &[(1, 2), (0, 3)],
+        &[4, 44],
+    ),
+    (
+        &[(0, 0, 0), (16, 16, 0), (32, 32, 0)],
+        &[(0, 1), (2, 3)],
+        &[8, 16],
+    ),
+];
+
 #[test]
 fn finds_reaches(rt: HostRuntime) -> Result<(), Fail> {
-    let alloc = rt.alloc();
-    for (places, merges, wanted) in [
-        ([(0, 0, 0)].as_slice(), [].as_slice(), [].as_slice()),
-        // All at one place.
-        (
-            [(0, 0, 0), (0, 0, 0), (0, 0, 0), (0, 0, 0)].as_slice(),
-            [(0, 1), (2, 3), (4, 5)].as_slice(),
-            [0, 0, 0].as_slice(),
-        ),
-        // The sink with the greater offset is as far as the other.
-        (
-            [(0, 0, 0), (0, 0, -16)].as_slice(),
-            [(0, 1)].as_slice(),
-            [0].as_slice(),
-        ),
-        // One sink's offset decides alone.
-        (
-            [(0, 0, -96), (16, 16, 0)].as_slice(),
-            [(0, 1)].as_slice(),
-            [0].as_slice(),
-        ),
-        (
-            [(0, 0, 0), (80, 80, 0), (88, 88, 0)].as_slice(),
-            [(1, 2), (0, 3)].as_slice(),
-            [4, 44].as_slice(),
-        ),
-        (
-            [(0, 0, 0), (16, 16, 0), (32, 32, 0)].as_slice(),
-            [(0, 1), (2, 3)].as_slice(),
-            [8, 16].as_slice(),
-        ),
-    ] {
-        let reaches = reaches_of(&rt, alloc, places, merges)?;
-        assert_eq!(rt; reaches.as_slice(), wanted, "merging {places:?}");
+    for (places, merges, wanted) in &REACHES {
+        expect_reaches(&rt, rt.alloc(), places, merges, wanted)?;
     }
     Ok(())
 }
 
-// Two sinks: the region of both.
+// The region of two sinks.
+fn expect_region(
+    rt: &impl Abort,
+    alloc: Global,
+    places: &[(i128, i128, i128)],
+    (ulo, uhi, vlo, vhi): (i128, i128, i128, i128),
+) -> Result<(), Fail> {
+    assert!(rt; places.len() == 2);
+    let work = merged(rt, alloc, places, &[(0, 1)])?;
+    let region = work.region(2);
+    expect_same(rt, (region.ulo, region.uhi), (ulo, uhi), &places);
+    expect_same(rt, (region.vlo, region.vhi), (vlo, vhi), &places);
+    Ok(())
+}
+
+// Two sinks, and the region of both.
 #[test]
 fn finds_regions(rt: HostRuntime) -> Result<(), Fail> {
-    let alloc = rt.alloc();
-    for (places, (ulo, uhi, vlo, vhi)) in [
+    for (places, sides) in [
         // The one sink itself.
         ([(0, 0, -96), (16, 16, 0)], (16, 16, 16, 16)),
         // As far in u as in v, and further in u alone.
@@ -95,11 +114,10 @@ fn finds_regions(rt: HostRuntime) -> Result<(), Fail> {
         // The sink with the greater offset is closer.
         ([(0, 0, 8), (16, 0, 0)], (4, 4, -4, 4)),
         ([(0, 8, 0), (0, -8, -8)], (-4, 4, 4, 4)),
-    ] {
-        let work = merged(&rt, alloc, &places, &[(0, 1)])?;
-        let region = work.region(2);
-        assert_eq!(rt; (region.ulo, region.uhi), (ulo, uhi), "in u at {places:?}");
-        assert_eq!(rt; (region.vlo, region.vhi), (vlo, vhi), "in v at {places:?}");
+    ]
+    .as_slice()
+    {
+        expect_region(&rt, rt.alloc(), places, *sides)?;
     }
     Ok(())
 }
@@ -118,12 +136,9 @@ fn merges_a_chain(rt: HostRuntime) -> Result<(), Fail> {
         merges.push((k + 1, 39 + k))?;
     }
     let reaches = reaches_of(&rt, alloc, &places, &merges)?;
-    for (place, reach) in [(0, 4), (1, 12), (9, 4_092), (38, 2_199_023_255_548)] {
-        assert_eq!(rt;
-            reaches.as_slice().get(place).copied(),
-            Some(reach),
-            "at {place}"
-        );
+    for (place, reach) in [(0, 4), (1, 12), (9, 4_092), (38, 2_199_023_255_548)].as_slice() {
+        let found = reaches.as_slice().get(*place).copied();
+        expect_same(&rt, found, Some(*reach), place);
     }
     Ok(())
 }
@@ -145,9 +160,9 @@ fn keeps_room(rt: HostRuntime) -> Result<(), Fail> {
     let of_five = topology_of(&rt, alloc, 5, &[(0, 1), (2, 3), (5, 6), (4, 7)])?;
     let mut work = Work::with_room(alloc, 5)?;
     merge(&mut work, &three, &of_three);
-    assert_eq!(rt; (work.reach(3), work.reach(4)), (8, 16));
+    expect_same(&rt, (work.reach(3), work.reach(4)), (8, 16), &"work");
     merge(&mut work, &five, &of_five);
-    assert_eq!(rt; (work.reach(7), work.reach(8)), (24, 32));
+    expect_same(&rt, (work.reach(7), work.reach(8)), (24, 32), &"work");
     Ok(())
 }
 
@@ -160,16 +175,16 @@ fn renews_what_is_above_a_moved_sink(rt: HostRuntime) -> Result<(), Fail> {
     let after = sinks_of(&rt, alloc, &[moved, moved, (24, 24, 0)])?;
     let topology = topology_of(&rt, alloc, 3, &[(0, 1), (2, 3)])?;
     let mut work = Work::with_room(alloc, 3)?;
-    assert_eq!(rt; work.renewals(), 0);
+    expect_same(&rt, work.renewals(), 0, &"work.renewals");
     merge(&mut work, &before, &topology);
-    assert_eq!(rt; work.renewals(), 2);
-    assert_eq!(rt; (work.reach(3), work.reach(4)), (4, 12));
+    expect_same(&rt, work.renewals(), 2, &"work.renewals");
+    expect_same(&rt, (work.reach(3), work.reach(4)), (4, 12), &"work");
     work.set_sink(0, sink(&rt, moved));
-    assert_eq!(rt; work.renewals(), 2);
+    expect_same(&rt, work.renewals(), 2, &"work.renewals");
     work.renew(&after, &topology, 3);
     work.renew(&after, &topology, 4);
-    assert_eq!(rt; work.renewals(), 4);
-    assert_eq!(rt; (work.reach(3), work.reach(4)), (0, 8));
+    expect_same(&rt, work.renewals(), 4, &"work.renewals");
+    expect_same(&rt, (work.reach(3), work.reach(4)), (0, 8), &"work");
     Ok(())
 }
 
@@ -203,12 +218,12 @@ fn counts_what_is_renewed(rt: HostRuntime) -> Result<(), Fail> {
     expect_second(&rt, topology.merges.as_slice());
     let mut work = Work::with_room(alloc, 4)?;
     merge(&mut work, &sinks, &topology);
-    assert_eq!(rt; work.renewals(), 3);
+    expect_same(&rt, work.renewals(), 3, &"work.renewals");
     move_first(&mut sinks, moved);
     work.set_sink(0, moved);
     work.renew(&sinks, &topology, 4);
     work.renew(&sinks, &topology, 6);
     assert!(rt; work.renewals() <= 5);
-    assert_eq!(rt; (work.reach(4), work.reach(6)), (0, 8));
+    expect_same(&rt, (work.reach(4), work.reach(6)), (0, 8), &"work");
     Ok(())
 }

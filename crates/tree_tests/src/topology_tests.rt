@@ -1,5 +1,6 @@
 ghost use Rattle.cts_model.specs.Sinks.{IsTreeSink};
 
+use crate::same::expect_same;
 use cts_model::{Merge, Sink, Uv};
 use std::alloc::Global;
 use std::process::Abort;
@@ -38,24 +39,27 @@ fn assert_merged(
     assert!(rt; !sinks.is_empty());
     assert!(rt; sinks.len() <= 4097);
     let topology = greedy(alloc, &sinks)?;
-    assert_eq!(rt; topology.merges.len(), wanted.len(), "at {places:?}");
+    expect_same(rt, topology.merges.len(), wanted.len(), &places);
     for (found, row) in topology.merges.as_slice().iter().zip(wanted) {
-        assert_eq!(rt; *found, merge(*row), "at {places:?}");
+        expect_same(rt, *found, merge(*row), &places);
     }
     Ok(())
 }
 
+// Sinks, and how they are merged.
+const MERGED: [(&[u64], &[(u32, u32)]); 4] = [
+    // Joining in the order of the sinks would begin with (0, 1).
+    (&[0, 10, 11], &[(1, 2), (0, 3)]),
+    // Of equally cheap pairs the lower numbers come first.
+    (&[0, 1, 2, 3], &[(0, 1), (2, 3), (4, 5)]),
+    (&[0], &[]),
+    // All at one place.
+    (&[5, 5, 5, 5], &[(0, 1), (2, 3), (4, 5)]),
+];
+
 #[test]
 fn merges_the_cheapest_first(rt: HostRuntime) -> Result<(), Fail> {
-    for (places, wanted) in [
-        // Joining in the order of the sinks would begin with (0, 1).
-        ([0, 10, 11].as_slice(), [(1, 2), (0, 3)].as_slice()),
-        // Of equally cheap pairs the lower numbers come first.
-        ([0, 1, 2, 3].as_slice(), [(0, 1), (2, 3), (4, 5)].as_slice()),
-        ([0].as_slice(), [].as_slice()),
-        // All at one place.
-        ([5, 5, 5, 5].as_slice(), [(0, 1), (2, 3), (4, 5)].as_slice()),
-    ] {
+    for (places, wanted) in &MERGED {
         assert_merged(&rt, rt.alloc(), places, wanted)?;
     }
     Ok(())
