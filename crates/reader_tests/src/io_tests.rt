@@ -58,7 +58,7 @@ fn expect_read(rt: &impl Abort, alloc: Global, limit: usize, call: u64, want: Op
 // In pieces of 4 the file is started by call 1, calls 2 to 4 take its bytes, and call 5 finds its
 // end. Where 10 bytes are the limit, call 4 takes the byte after them. No call comes after these.
 #[test]
-fn denotes_each_read_that_fails(rt: HostRuntime) {
+fn reports_each_read_that_fails(rt: HostRuntime) {
     for (limit, call, want) in [
         (100, 1, Some(ReadWhole::Failed)),
         (100, 2, Some(ReadWhole::Failed)),
@@ -211,7 +211,7 @@ fn opens_exactly_the_named_file(rt: HostRuntime) -> Result<(), Fail> {
 }
 
 #[test]
-fn denotes_that_the_host_writes_no_more(rt: HostRuntime) -> Result<(), Fail> {
+fn reports_that_the_host_writes_no_more(rt: HostRuntime) -> Result<(), Fail> {
     let alloc = rt.alloc();
     let name = "cts_io_test_written.txt";
     let mut sink = HostSink::new(fs::create(&rt, name)?);

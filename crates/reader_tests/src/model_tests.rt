@@ -100,7 +100,7 @@ fn expect_used(rt: &impl Abort, alloc: Global, text: &str, used: [bool; 8]) {
 }
 
 #[test]
-fn denotes_which_kinds_are_used(rt: HostRuntime) {
+fn reports_which_kinds_are_used(rt: HostRuntime) {
     for (text, used) in [
         ("a = DFF(a)", [false; 8]),
         (

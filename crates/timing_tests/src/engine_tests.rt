@@ -137,7 +137,7 @@ fn keeps_the_floor_of_a_table(rt: HostRuntime) -> Result<(), Fail> {
 
 // Hold constraints that no arrivals satisfy: of a register with itself, and of two registers.
 #[test]
-fn denotes_that_no_period_will_do(rt: HostRuntime) -> Result<(), Fail> {
+fn reports_that_no_period_will_do(rt: HostRuntime) -> Result<(), Fail> {
     let alloc = rt.alloc();
     for (text, rest, rows) in [
         ("A = DFF(A)", "", [(false, 0, 0, 1)].as_slice()),
@@ -156,7 +156,7 @@ fn denotes_that_no_period_will_do(rt: HostRuntime) -> Result<(), Fail> {
 }
 
 #[test]
-fn denotes_the_least_period_without_skew(rt: HostRuntime) -> Result<(), Fail> {
+fn reports_the_least_period_without_skew(rt: HostRuntime) -> Result<(), Fail> {
     let alloc = rt.alloc();
     let circuit = circuit_of(&rt, alloc, S27, false)?;
     let tech = table_of(alloc, &circuit, (1, 1, 1, 2), S27_GATES)?;

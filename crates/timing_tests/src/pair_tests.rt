@@ -316,7 +316,7 @@ fn finds_one_path_after_the_other(rt: HostRuntime) -> Result<(), Fail> {
 }
 
 #[test]
-fn denotes_the_least_period_at_equal_arrivals(rt: HostRuntime) -> Result<(), Fail> {
+fn reports_the_least_period_at_equal_arrivals(rt: HostRuntime) -> Result<(), Fail> {
     let alloc = rt.alloc();
     let tech = Tech::plain(alloc);
     for (text, host, wanted) in [
@@ -360,7 +360,7 @@ fn denotes_the_least_period_at_equal_arrivals(rt: HostRuntime) -> Result<(), Fai
 }
 
 #[test]
-fn denotes_the_least_period_of_tables(rt: HostRuntime) -> Result<(), Fail> {
+fn reports_the_least_period_of_tables(rt: HostRuntime) -> Result<(), Fail> {
     let alloc = rt.alloc();
     for (text, host, registers, rest, wanted) in [
         (

@@ -109,7 +109,7 @@ fn finds_the_least_schedule(rt: HostRuntime) -> Result<(), Fail> {
 
 // At equal arrivals the hold of the path without a gate fails.
 #[test]
-fn denotes_what_shows_the_period(rt: HostRuntime) -> Result<(), Fail> {
+fn reports_what_shows_the_period(rt: HostRuntime) -> Result<(), Fail> {
     let alloc = rt.alloc();
     let rest = "[gate.BUFF]\nleast = 2\ngreatest = 5";
     let ScheduleOutcome::Found { zero, shown, .. } = outcome_of(
@@ -134,7 +134,7 @@ fn denotes_what_shows_the_period(rt: HostRuntime) -> Result<(), Fail> {
 }
 
 #[test]
-fn denotes_that_no_schedule_will_do(rt: HostRuntime) -> Result<(), Fail> {
+fn reports_that_no_schedule_will_do(rt: HostRuntime) -> Result<(), Fail> {
     let alloc = rt.alloc();
     let rest = "[gate.BUFF]\nleast = 1\ngreatest = 5";
     let ScheduleOutcome::Never { cycle } = outcome_of(&rt, alloc, RING, (0, 2, 1, 1), rest)? else {

@@ -107,7 +107,7 @@ fn shows_another_tree_than_synth_prints(rt: HostRuntime) -> Result<(), Fail> {
 }
 
 #[test]
-fn denotes_why_a_small_tree_is_not_shown(rt: HostRuntime) -> Result<(), Fail> {
+fn reports_why_a_small_tree_is_not_shown(rt: HostRuntime) -> Result<(), Fail> {
     let alloc = rt.alloc();
     let tech = table(alloc, [0, 0, 0, 0], FLOOR_5)?;
     let report = first_version(alloc, LONE_TREE)?;
@@ -126,7 +126,7 @@ fn denotes_why_a_small_tree_is_not_shown(rt: HostRuntime) -> Result<(), Fail> {
 }
 
 #[test]
-fn denotes_why_a_lopsided_tree_is_not_shown(rt: HostRuntime) -> Result<(), Fail> {
+fn reports_why_a_lopsided_tree_is_not_shown(rt: HostRuntime) -> Result<(), Fail> {
     let alloc = rt.alloc();
     let tech = table(alloc, [0, 0, 0, 0], SLOW)?;
     let report = first_version(alloc, LOPSIDED_TREE)?;
@@ -151,7 +151,7 @@ fn denotes_why_a_lopsided_tree_is_not_shown(rt: HostRuntime) -> Result<(), Fail>
 }
 
 #[test]
-fn denotes_why_a_schedule_is_not_shown(rt: HostRuntime) -> Result<(), Fail> {
+fn reports_why_a_schedule_is_not_shown(rt: HostRuntime) -> Result<(), Fail> {
     let alloc = rt.alloc();
     let report = first_version(alloc, S27_TREE)?;
     for change in [
@@ -167,7 +167,7 @@ fn denotes_why_a_schedule_is_not_shown(rt: HostRuntime) -> Result<(), Fail> {
 }
 
 #[test]
-fn denotes_why_a_tree_is_not_shown(rt: HostRuntime) -> Result<(), Fail> {
+fn reports_why_a_tree_is_not_shown(rt: HostRuntime) -> Result<(), Fail> {
     let alloc = rt.alloc();
     let report = first_version(alloc, S27_TREE)?;
     for change in [
@@ -197,7 +197,7 @@ fn denotes_why_a_tree_is_not_shown(rt: HostRuntime) -> Result<(), Fail> {
 }
 
 #[test]
-fn denotes_where_a_text_is_no_report(rt: HostRuntime) -> Result<(), Fail> {
+fn reports_where_a_text_is_no_report(rt: HostRuntime) -> Result<(), Fail> {
     let alloc = rt.alloc();
     let report = first_version(alloc, S27_TREE)?;
     for change in [
@@ -216,7 +216,7 @@ fn denotes_where_a_text_is_no_report(rt: HostRuntime) -> Result<(), Fail> {
 }
 
 #[test]
-fn denotes_that_other_texts_are_no_report(rt: HostRuntime) -> Result<(), Fail> {
+fn reports_that_other_texts_are_no_report(rt: HostRuntime) -> Result<(), Fail> {
     let alloc = rt.alloc();
     expect_report(&rt, alloc, S27_PROBLEM, b"", "report 3 line 1")?;
     let long = vec![in alloc; b'#'; 16_777_217]?;
@@ -287,7 +287,7 @@ const CHANGES: [[&str; 3]; 14] = [
 ];
 
 #[test]
-fn denotes_the_first_of_many_reasons(rt: HostRuntime) -> Result<(), Fail> {
+fn reports_the_first_of_many_reasons(rt: HostRuntime) -> Result<(), Fail> {
     let alloc = rt.alloc();
     let tech = format!(in alloc; "{S27_TABLE}[period]\nfloor = 13\n")?;
     let mut report = String::from_str(alloc, S27_TREE)?;

@@ -45,7 +45,7 @@ fn finds_the_least_period_of_s27(rt: HostRuntime) -> Result<(), Fail> {
 }
 
 #[test]
-fn denotes_that_there_is_no_period(rt: HostRuntime) -> Result<(), Fail> {
+fn reports_that_there_is_no_period(rt: HostRuntime) -> Result<(), Fail> {
     let buff = "[gate.BUFF]\nleast = 1\ngreatest = 5\n";
     for (bench, more, text) in [
         ("A = DFF(A)\n", "", "never\ncycle 1\nhold A A 1\n"),
