@@ -26,6 +26,6 @@ mod TextStatuses
 mod ShownVerdicts
 mod OneRefusal
 mod SameFiles
-mod AcceptedTexts
+mod DemoLemmas
 mod RunLemmas
 mod DemoValues

@@ -7,12 +7,11 @@ use Rattle.cts_model.specs.PrintedLines.{Words, text_of, count_line, period_line
 use Rattle.cts_model.specs.ReportLines.{length_text}
 use Rattle.cert_check.specs.declared.verdict.Verdict.TheVariants.{Shown}
 use Rattle.cert_check.specs.Verdicts.{IsVerdict}
-use Rattle.demo_input.specs.declared.texts.Demo.{Demo}
+use Rattle.cts_io.specs.declared.memory_inputs.HeldFile.{HeldFile}
 use Rattle.demo_input.specs.NetlistLines.{netlist_text}
 use Rattle.demo_input.specs.PlacementLines.{placement_text}
 use Rattle.demo_input.specs.TableLines.{table_text}
 use Rattle.cts_program.specs.Checks.{shown_line}
-use Rattle.cts_program.specs.Files.{IsShortFile}
 use Rattle.cts_program.specs.Headline.{IsSynthesisText}
 use Rattle.cts_program.specs.SynthTexts.{IsNeverText}
 
@@ -21,13 +20,12 @@ abbrev pub demo_texts : (registers seed : ℕ) → List (List ℕ)
 demo_texts registers seed =
     netlist_text registers seed ∷ table_text ∷ placement_text registers seed ∷ []
 
--- the three texts that were made
-abbrev pub texts_of : Demo → List (List ℕ)
-texts_of demo = demo.bench ∷ demo.tech ∷ demo.pl ∷ []
-
--- none is too long for a file
-abbrev pub AreShort : Demo → Type 0
-AreShort demo = IsShortFile demo.bench × IsShortFile demo.tech × IsShortFile demo.pl
+-- they stand in memory, in place of files, under these names
+abbrev pub demo_files : (registers seed : ℕ) → List HeldFile
+demo_files registers seed =
+    record { name = codes "bench"; bytes = netlist_text registers seed }
+    ∷ record { name = codes "tech"; bytes = table_text }
+    ∷ record { name = codes "pl"; bytes = placement_text registers seed } ∷ []
 
 -- how many registers there are, the period in ticks, the wire in length units, and that the report
 -- is shown

@@ -29,9 +29,8 @@ use Rattle.cert_check.specs.declared.verdict.Reason.TheVariants as reason
 use Rattle.cert_check.specs.declared.verdict.Verdict.TheVariants.{Not}
 use Rattle.cert_check.specs.Verdicts.{IsVerdict}
 use Rattle.cts_program.specs.declared.not_shown.NotShown.TheVariants as why
-use Rattle.cts_program.specs.Answers.{IsFirstRefusal}
+use Rattle.cts_program.specs.Answers.{IsDemoRefusal}
 use Rattle.cts_program.specs.Checks.{AreOfProblem, IsReportRefusal, subject_of}
-use Rattle.cts_program.specs.DemoTexts.{demo_texts}
 use Rattle.cts_program.specs.Files.{IsShortFile, circuit_files, problem_files, files_of, AreContents}
 use Rattle.cts_program.specs.Judged.{HasPlaceFault, IsNamedFault, AreAccepted, Tell}
 
@@ -162,14 +161,10 @@ FailsToShow problem report (failures.Unshown (why.Reason reason subject)) =
 FailsToShow problem report failures.NoMemory = Unit {0}
 FailsToShow problem report _ = ⊥
 
--- one of a problem's texts is refused, or memory ran out
-abbrev pub FailsTexts : List (List ℕ) → Failure → Type 0
-FailsTexts contents failures.NoMemory = Unit {0}
-FailsTexts contents failure = IsFirstRefusal contents failure
-
--- so it is with the texts of a demonstration
+-- the texts of a demonstration are refused, or memory ran out
 abbrev pub FailsDemo : (registers seed : ℕ) → Failure → Type 0
-FailsDemo registers seed failure = FailsTexts (demo_texts registers seed) failure
+FailsDemo registers seed failures.NoMemory = Unit {0}
+FailsDemo registers seed failure = IsDemoRefusal registers seed failure
 
 -- more pairs are joined than a circuit may have, or memory ran out
 abbrev pub FailsCircuit : Circuit → Failure → Type 0

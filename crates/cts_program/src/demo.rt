@@ -8,22 +8,22 @@ ghost use Rattle.cts_model.specs.declared.tech.Tech.{Tech};
 ghost use Rattle.cts_model.specs.ReportBounds.{IsOfSize, IsWithinBounds};
 ghost use Rattle.cts_model.specs.Shown.{IsShown};
 ghost use Rattle.cert_check.specs.Verdicts.{IsVerdict};
-ghost use Rattle.cts_engine.specs.Accepted.{IsRefusal};
 ghost use Rattle.cts_program.specs.Answers.{ending_status, IsDemoAnswer};
 ghost use Rattle.cts_program.specs.Checks.{AreOfProblem};
 ghost use Rattle.cts_program.specs.Commands.{number_of, is_number_within};
-ghost use Rattle.cts_program.specs.DemoTexts.{demo_texts, texts_of, summary_lines, AreShort, IsDemoText};
-ghost use Rattle.cts_program.specs.Steps.{FailsCircuit, FailsTexts, FailsDemo};
+ghost use Rattle.cts_program.specs.DemoTexts.{demo_texts, demo_files, summary_lines, IsDemoText};
+ghost use Rattle.cts_program.specs.Steps.{FailsCircuit, FailsDemo};
 
 use crate::ending::Answer;
 use crate::failure::Failure;
-use crate::placement::placement_failure;
+use crate::placement::copied;
+use crate::problem::read_problem;
 use cert_check::Verdict;
-use cts_base::NoMemory;
-use cts_engine::{Outcome, Refusal, accept, accept_circuit, synthesize};
+use cts_base::{Listed, NoMemory};
+use cts_engine::{Outcome, synthesize};
+use cts_io::{HeldFile, NeverFails};
 use cts_model::{Problem, Report};
 use demo_input::Demo;
-use place_reader::PlaceFault;
 use report_text::{push_count, push_line, push_period, push_total};
 use std::alloc::Global;
 
@@ -51,7 +51,7 @@ fn number(digits: &str) -> u32
     }
 }
 
-// The problem of a demonstration.
+// The problem of a demonstration: what files that held its texts would tell.
 fn demo_problem(alloc: Global, registers: u32, seed: u32) -> Result<Problem, Failure>
     requires some { 2 ≤ registers }
     requires few { registers ≤ 1000 }
@@ -59,53 +59,31 @@ fn demo_problem(alloc: Global, registers: u32, seed: u32) -> Result<Problem, Fai
     ensures ok { IfOk result (AreOfProblem (demo_texts registers seed)) }
     ensures cause { IfErr result (FailsDemo registers seed) }
 {
-    let texts = demo_input::demo(alloc, registers, seed)?;
-    accepted(alloc, &texts)
+    let mut inputs = demo_inputs(alloc, registers, seed)?;
+    read_problem(alloc, &mut inputs, "bench", "tech", "pl")
 }
 
-// The problem that the texts tell.
-fn accepted(alloc: Global, texts: &Demo) -> Result<Problem, Failure>
-    requires { AreShort texts.now }
-    ensures ok { IfOk result (AreOfProblem (texts_of texts.now)) }
-    ensures cause { IfErr result (FailsTexts (texts_of texts.now)) }
+// The texts of a demonstration, in place of files.
+fn demo_inputs(alloc: Global, registers: u32, seed: u32) -> Result<NeverFails, NoMemory>
+    requires some { 2 ≤ registers }
+    requires few { registers ≤ 1000 }
+    requires seed { seed < 1000 }
+    ensures { IfOk result (λ inputs. inputs.files ≡ demo_files registers seed) }
 {
-    match accept(
-        alloc,
-        texts.bench.as_slice(),
-        texts.tech.as_slice(),
-        texts.pl.as_slice(),
-    ) {
-        Ok(problem) => Ok(problem),
-        Err(refusal) => Err(refusal_failure(alloc, texts, refusal)),
-    }
+    let Demo { bench, tech, pl } = demo_input::demo(alloc, registers, seed)?;
+    let mut files = Listed::new(alloc);
+    files.push(held_file(alloc, b"bench", bench)?)?;
+    files.push(held_file(alloc, b"tech", tech)?)?;
+    files.push(held_file(alloc, b"pl", pl)?)?;
+    Ok(NeverFails::new(files))
 }
 
-// The failure that gives a refusal of the texts.
-fn refusal_failure(alloc: Global, texts: &Demo, refusal: Refusal) -> Failure
-    requires short { AreShort texts.now }
-    requires refusal { IsRefusal texts.now.bench texts.now.tech texts.now.pl refusal }
-    ensures { FailsTexts (texts_of texts.now) result }
+// A file of this name, in memory.
+fn held_file(alloc: Global, name: &[u8], bytes: Listed<u8>) -> Result<HeldFile, NoMemory>
+    ensures { IfOk result (λ file. file ≡ record { name = name.now; bytes = bytes }) }
 {
-    match refusal {
-        Refusal::Bench(fault) => Failure::Bench(fault),
-        Refusal::Tech(fault) => Failure::Tech(fault),
-        Refusal::Places(fault) => places_failure(alloc, texts, fault),
-        Refusal::NoMemory => Failure::NoMemory,
-    }
-}
-
-// The failure that gives a fault of the placement, with the register that it is about.
-fn places_failure(alloc: Global, texts: &Demo, fault: PlaceFault) -> Failure
-    requires short { AreShort texts.now }
-    requires refusal { IsRefusal texts.now.bench texts.now.tech texts.now.pl
-        (Refusal.Places fault) }
-    ensures { FailsTexts (texts_of texts.now) result }
-{
-    match accept_circuit(alloc, texts.bench.as_slice(), texts.tech.as_slice()) {
-        Ok(denoted) => placement_failure(alloc, &denoted.circuit, fault),
-        // Texts that were accepted are refused for want of memory alone.
-        Err(_) => Failure::NoMemory,
-    }
+    let name = copied(alloc, name)?;
+    Ok(HeldFile { name, bytes })
 }
 
 // The answer for a problem with so many registers.

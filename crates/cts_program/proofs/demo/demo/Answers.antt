@@ -1,4 +1,4 @@
-use Rattle.cts_program.proofs.AcceptedTexts.{circuit_refused}
+use Rattle.cts_program.proofs.DemoLemmas.{circuit_refused}
 use Rattle.cts_program.proofs.ResultLemmas.{if_ok_from, if_err_from}
 use Rattle.cts_program.proofs.demo.demo.Goals as goal
 
@@ -19,4 +19,4 @@ pub returns-clause-cause : goal.returns-clause-cause
 returns-clause-cause c =
     rw (← c.number-registers.ensures, ← c.number.ensures)
     (if_err_from c.problem_answer.result _ _ c.problem_answer.ensures.cause
-    (circuit_refused _ _ _ c.in_ok-problem.problem c.in_ok-problem.ensures.ok))
+    (circuit_refused _ _ c.in_ok-problem.problem c.in_ok-problem.ensures.ok))

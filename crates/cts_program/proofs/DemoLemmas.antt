@@ -1,0 +1,133 @@
+-- What is read of the texts of a demonstration, which stand in place of files: they denote its
+-- problem, or are refused as files would be.
+use Rattle.std.proofs.Common.{◌≡◌, ◌≤◌, ℕ, List, [], ◌∷◌, length, take, Option, Some, Bor, refl, ap, ap₂, sym, ◌∙◌, subst, arith, codes}
+use Rattle.demo_input.specs.NetlistLines.{netlist_text}
+use Rattle.demo_input.specs.PlacementLines.{placement_text}
+use Rattle.demo_input.specs.TableLines.{table_text}
+use Rattle.cts_model.specs.declared.problem.Problem.{Problem}
+use Rattle.cts_program.specs.declared.command.Command.TheVariants.{Synth}
+use Rattle.cts_program.specs.declared.failure.Failure.{Failure}
+use Rattle.cts_program.specs.declared.failure.Failure.TheVariants as failures
+use Rattle.cts_program.specs.Answers.{IsTextRefusal, IsFirstRefusal}
+use Rattle.cts_program.specs.Checks.{AreOfProblem}
+use Rattle.cts_io.specs.NeverFails.{bytes_named}
+use Rattle.cts_io.specs.declared.memory_inputs.HeldFile.{HeldFile}
+use Rattle.cts_program.specs.DemoTexts.{demo_texts, demo_files}
+use Rattle.cts_program.specs.Files.{problem_files, AreContents}
+use Rattle.cts_program.specs.Run.{Stops}
+use Rattle.cts_program.specs.Steps.{DenotesProblem, FailsCircuit, FailsDemo}
+
+-- the files of a problem hold the texts of a demonstration
+pub record HoldDemo (holds : List ℕ → Option (List ℕ)) (bench file pl : Bor (List ℕ))
+    (registers seed : ℕ) : Type 0 where
+  pub first : holds bench.now ≡ Some (netlist_text registers seed)
+  pub second : holds file.now ≡ Some table_text
+  pub third : holds pl.now ≡ Some (placement_text registers seed)
+
+-- the names that they have in memory
+abbrev pub named : List ℕ → Bor (List ℕ)
+named name = record { ref_ptr = (0, 0); now = name }
+
+abbrev pub bench : Bor (List ℕ)
+bench = named (codes "bench")
+
+abbrev pub tech : Bor (List ℕ)
+tech = named (codes "tech")
+
+abbrev pub pl : Bor (List ℕ)
+pl = named (codes "pl")
+
+-- so do the files of a demonstration
+pub files_hold : (files : List HeldFile) (registers seed : ℕ) → files ≡ demo_files registers seed
+    → HoldDemo (λ name. Some (bytes_named files name)) bench tech pl registers seed
+files_hold files registers seed is = record {
+  first = ap (λ files. Some (bytes_named files (codes "bench"))) is;
+  second = ap (λ files. Some (bytes_named files (codes "tech"))) is;
+  third = ap (λ files. Some (bytes_named files (codes "pl"))) is;
+}
+
+module _ {holds : List ℕ → Option (List ℕ)} {bench file pl : Bor (List ℕ)} {registers seed : ℕ}
+    (hold : HoldDemo holds bench file pl registers seed) where
+  -- what is known of the first of them are the first texts
+  first_texts : (contents : List (List ℕ))
+      → AreContents holds (problem_files bench file pl) contents
+      → take (length contents) (demo_texts registers seed) ≡ contents
+  first_texts [] are = refl
+  first_texts (one ∷ []) are = ap (λ a. a ∷ []) (rw hold.first at are.0)
+  first_texts (one ∷ two ∷ []) are =
+      ap₂ (λ a b. a ∷ b ∷ []) (rw hold.first at are.0) (rw hold.second at are.1.0)
+  first_texts (one ∷ two ∷ three ∷ []) are =
+      let a : netlist_text registers seed ≡ one = rw hold.first at are.0 in
+      let b : table_text ≡ two = rw hold.second at are.1.0 in
+      let d : placement_text registers seed ≡ three = rw hold.third at are.1.1.0 in
+      λ i. a i ∷ b i ∷ d i ∷ []
+  first_texts (one ∷ two ∷ three ∷ more ∷ rest) are = absurd are.1.1.1
+
+  -- texts that denote a problem are those of the demonstration
+  pub texts_denote : (problem : Problem)
+      → DenotesProblem holds (problem_files bench file pl) problem → AreOfProblem (demo_texts registers seed) problem
+  texts_denote problem denoted =
+      let three : length denoted.contents ≡ 3 = denoted.all in
+      let same : take (length denoted.contents) (demo_texts registers seed) ≡ denoted.contents =
+      first_texts denoted.contents denoted.are in
+      subst (λ (contents : List (List ℕ)). AreOfProblem contents problem)
+      (sym same ∙ ap (λ count. take count (demo_texts registers seed)) three) denoted.are_of
+
+  -- and a refusal of the first of them is one of the demonstration
+  texts_refused : (contents : List (List ℕ))
+      → AreContents holds (problem_files bench file pl) contents → (failure : Failure)
+      → IsTextRefusal (3 ≤ length contents) contents failure → IsFirstRefusal (demo_texts registers seed) failure
+  texts_refused contents are failure refusal = record {
+    texts = length contents;
+    refusal = subst (λ given. IsTextRefusal (3 ≤ length contents) given failure)
+        (sym (first_texts contents are)) refusal;
+  }
+
+  -- so where reading them stops, the demonstration is refused: no count of theirs can rise
+  pub texts_stop : (failure : Failure)
+      → Stops holds (λ file. 0) (λ file. 0) (Synth bench file pl) failure
+      → FailsDemo registers seed failure
+  texts_stop failures.Usage stops = absurd stops
+  texts_stop (failures.TooLong kind) stops =
+      texts_refused stops.contents stops.are (failures.TooLong kind) stops.refusal
+  texts_stop (failures.Bench fault) stops =
+      texts_refused stops.contents stops.are (failures.Bench fault) stops.refusal
+  texts_stop (failures.Tech fault) stops =
+      texts_refused stops.contents stops.are (failures.Tech fault) stops.refusal
+  texts_stop (failures.Placement fault) stops =
+      texts_refused stops.contents stops.are (failures.Placement fault) stops.refusal
+  texts_stop failures.Pairs stops =
+      let all : length stops.contents ≡ 3 = stops.refusal.0 in
+      texts_refused stops.contents stops.are failures.Pairs (omega arith, stops.refusal.1)
+  texts_stop (failures.Unshown why) stops =
+      texts_refused stops.contents stops.are (failures.Unshown why) stops.refusal
+  texts_stop (failures.ReadFault kind) stops = absurd (omega (arith, stops.rose))
+  texts_stop failures.WriteFault stops = absurd stops
+  texts_stop failures.NoMemory stops = tt
+
+-- too many pairs of its circuit refuse it too
+pub circuit_refused : (registers seed : ℕ) (problem : Problem)
+    → AreOfProblem (demo_texts registers seed) problem → (failure : Failure)
+    → FailsCircuit problem.circuit failure → FailsDemo registers seed failure
+circuit_refused registers seed problem are failures.Usage fails = absurd fails
+circuit_refused registers seed problem are (failures.TooLong kind) fails = absurd fails
+circuit_refused registers seed problem are (failures.Bench fault) fails = absurd fails
+circuit_refused registers seed problem are (failures.Tech fault) fails = absurd fails
+circuit_refused registers seed problem are (failures.Placement fault) fails = absurd fails
+circuit_refused registers seed problem are failures.Pairs many = record {
+  texts = 3;
+  refusal = (
+    omega arith,
+    record {
+      accepted = are.accepted;
+      circuit = problem.circuit;
+      tech = problem.tech;
+      tell = are.tell.tell;
+      many = many;
+    },
+  );
+}
+circuit_refused registers seed problem are (failures.Unshown why) fails = absurd fails
+circuit_refused registers seed problem are (failures.ReadFault kind) fails = absurd fails
+circuit_refused registers seed problem are failures.WriteFault fails = absurd fails
+circuit_refused registers seed problem are failures.NoMemory fails = tt
