@@ -1,5 +1,5 @@
 -- The words of a command line, and the command that they mean.
-use Rattle.std.specs.Prelude.{◌≡◌, ◌==◌, ◌&&◌, ◌||◌, ℕ, nat_le, Bool, false, not, IsTrue, List, [], ◌∷◌, ◌++◌, length, Option, Some, None, option_map, option_to_list}
+use Rattle.std.specs.Prelude.{◌≡◌, ◌==◌, ◌&&◌, ℕ, nat_le, Bool, false, not, IsTrue, List, [], ◌∷◌, ◌++◌, length, Option, Some, option_map, option_to_list}
 use Rattle.std.specs.List.{All, flat_map, list_any}
 use Rattle.std.specs.List.Sorted.{IsPermutation}
 use Rattle.std.specs.Str.{all_ascii_digits, bytes_eq}

@@ -1,4 +1,4 @@
-use Rattle.std.proofs.Common.{◌≡◌, ◌<◌, ℕ, map, string_bytes, inl, sym, ◌∙◌, subst, arith, ap}
+use Rattle.std.proofs.Common.{◌≡◌, map, string_bytes, inl, sym, ◌∙◌, subst, arith, ap}
 use Rattle.cts_program.specs.declared.failure.Failure.TheVariants.{ReadFault, WriteFault}
 use Rattle.cts_program.specs.declared.file_kind.FileKind.{FileKind}
 use Rattle.cts_program.specs.Answers.{IsStatusOf}
