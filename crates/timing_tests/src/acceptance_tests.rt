@@ -1,9 +1,9 @@
 use crate::circuits::TO_OUTPUT;
+use crate::same::expect_same;
 use cts_engine::{Refusal, accept, accept_circuit};
 use cts_model::{Point, Problem};
 use std::alloc::Global;
 use std::process::Abort;
-use std::test::Fail;
 
 // A table for a netlist whose gates are NOTs, without the host.
 const TABLE: &str = "[wire]\ndelay = \"1/1\"\n[source]\nplace = \"CLK\"\n[register]\nsetup = 1
@@ -32,9 +32,23 @@ fn denoted(
     accept(alloc, bench.as_bytes(), tech.as_bytes(), places.as_bytes())
 }
 
+fn expect_refusal(
+    rt: &impl Abort,
+    alloc: Global,
+    bench: &str,
+    tech: &str,
+    places: &str,
+    wanted: &str,
+) {
+    let refusal = denoted(rt, alloc, bench, tech, places)
+        .err()
+        .expect(rt, "a refusal");
+    let found = format!(in alloc; "{refusal:?}").expect(rt, "memory");
+    expect_same(rt, found.as_str(), wanted, &bench);
+}
+
 #[test]
-fn refuses_the_first_faulty_text(rt: HostRuntime) -> Result<(), Fail> {
-    let alloc = rt.alloc();
+fn refuses_the_first_faulty_text(rt: HostRuntime) {
     for (bench, tech, places, wanted) in [
         // Each text has a fault, and then each but the first, and then the last alone.
         ("A = DFF(", "wire", "A", "Bench(BadLine(1))"),
@@ -46,20 +60,15 @@ fn refuses_the_first_faulty_text(rt: HostRuntime) -> Result<(), Fail> {
         (TO_OUTPUT, TABLE, "CLK 3 4 : N", "Places(NoPlace(0))"),
         (TO_OUTPUT, TABLE, "A 1 2 : N", "Places(NoSource)"),
         (TO_OUTPUT, HOSTED, PLACES, "Places(NoPlace(1))"),
-    ] {
-        match denoted(&rt, alloc, bench, tech, places) {
-            Ok(_) => return Err("a refusal".into()),
-            Err(refusal) => {
-                let found = format!(in alloc; "{refusal:?}")?;
-                assert_eq!(rt; found.as_str(), wanted, "at {bench:?}");
-            }
-        }
+    ]
+    .as_slice()
+    {
+        expect_refusal(&rt, rt.alloc(), bench, tech, places, wanted);
     }
-    Ok(())
 }
 
 #[test]
-fn accepts_three_texts(rt: HostRuntime) -> Result<(), Fail> {
+fn accepts_three_texts(rt: HostRuntime) {
     let alloc = rt.alloc();
     let register = Point {
         x: 1_000_000,
@@ -69,25 +78,39 @@ fn accepts_three_texts(rt: HostRuntime) -> Result<(), Fail> {
         x: 3_000_000,
         y: 4_000_000,
     };
-    let Ok(problem) = denoted(&rt, alloc, TO_OUTPUT, TABLE, PLACES) else {
-        return Err("a problem".into());
-    };
-    assert_eq!(rt; problem.circuit.registers.as_slice(), [1u32].as_slice());
-    assert_eq!(rt; (problem.tech.setup, problem.tech.greatest), (1, 2));
-    assert_eq!(rt; problem.places.registers.as_slice(), [register].as_slice());
-    assert_eq!(rt; problem.places.source, source);
-    Ok(())
+    let problem = denoted(&rt, alloc, TO_OUTPUT, TABLE, PLACES).expect(&rt, "a problem");
+    expect_same(
+        &rt,
+        problem.circuit.registers.as_slice(),
+        [1u32].as_slice(),
+        &"problem.circuit.registers",
+    );
+    expect_same(
+        &rt,
+        (problem.tech.setup, problem.tech.greatest),
+        (1, 2),
+        &"problem",
+    );
+    expect_same(
+        &rt,
+        problem.places.registers.as_slice(),
+        [register].as_slice(),
+        &"problem.places.registers",
+    );
+    expect_same(&rt, problem.places.source, source, &"problem.places.source");
+}
+
+fn expect_registers(rt: &impl Abort, alloc: Global, tech: &str, registers: usize) {
+    let denoted = accept_circuit(alloc, TO_OUTPUT.as_bytes(), tech.as_bytes()).expect(
+        rt,
+        "a circuit",
+    );
+    expect_same(rt, denoted.circuit.registers.len(), registers, &tech);
 }
 
 // The host comes last, where the table gives it a place.
 #[test]
-fn accepts_a_circuit_without_places(rt: HostRuntime) -> Result<(), Fail> {
-    let alloc = rt.alloc();
-    for (tech, registers) in [(TABLE, 1), (HOSTED, 2)] {
-        let Ok(denoted) = accept_circuit(alloc, TO_OUTPUT.as_bytes(), tech.as_bytes()) else {
-            return Err("a circuit".into());
-        };
-        assert_eq!(rt; denoted.circuit.registers.len(), registers, "at {tech:?}");
-    }
-    Ok(())
+fn accepts_a_circuit_without_places(rt: HostRuntime) {
+    expect_registers(&rt, rt.alloc(), TABLE, 1);
+    expect_registers(&rt, rt.alloc(), HOSTED, 2);
 }

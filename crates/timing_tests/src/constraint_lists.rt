@@ -4,6 +4,8 @@ ghost use Rattle.cts_model.specs.Constraints.{AreSmallConstraints, IsSatisfied, 
 ghost use Rattle.cts_model.specs.Schedules.{IsSmallPeriod, arrival_of};
 ghost use Rattle.schedule.specs.Schedules.{IsAdmittedBy};
 
+use crate::constraint_tests::constraint;
+use crate::engine_tests::Row;
 use cts_base::{Fraction, Listed};
 use cts_model::Constraint;
 use std::alloc::Global;
@@ -28,6 +30,15 @@ pub(crate) fn hold(tail: u32, head: u32, weight: i128) -> Constraint {
         head,
         weight,
     }
+}
+
+// Constraints: whether each is a setup constraint, its tail, its head and its weight.
+pub(crate) fn constraints_of(rt: &impl Abort, alloc: Global, rows: &[Row]) -> Vec<Constraint> {
+    let mut constraints = Vec::new(alloc);
+    for row in rows {
+        constraints.push(constraint(*row)).expect(rt, "memory");
+    }
+    constraints
 }
 
 // The constraints of s27.bench with one delay of each kind of gate, setup and hold time 1.

@@ -1,10 +1,12 @@
 ghost use Rattle.std.specs.Prelude.{All, IfOk};
 ghost use Rattle.cts_model.specs.PairLists.{IsSmallPair};
 
+use crate::same::expect_same;
 use constraints::constraints_of;
 use cts_base::{Listed, NoMemory};
 use cts_model::{Constraint, PairDelay, Tech};
 use std::alloc::Global;
+use std::process::Abort;
 use std::test::Fail;
 
 // Two registers, and the least and the greatest delay between them.
@@ -40,37 +42,45 @@ pub(crate) fn constraint(row: (bool, u32, u32, i128)) -> Constraint {
     }
 }
 
-// Registers with setup 3 and hold 2.
-#[test]
-fn lists_the_constraints_of_pairs(rt: HostRuntime) -> Result<(), Fail> {
-    let alloc = rt.alloc();
+// Of registers with setup 3 and hold 2.
+fn expect_constraints(
+    rt: &impl Abort,
+    alloc: Global,
+    rows: &[Row],
+    wanted: &[(bool, u32, u32, i128)],
+) -> Result<(), Fail> {
     let mut tech = Tech::plain(alloc);
     tech.setup = 3;
     tech.hold = 2;
-    for (rows, wanted) in [
-        (
-            [(0, 1, 1, 5), (1, 0, 2, 2)].as_slice(),
-            [
-                (true, 0, 1, 8),
-                (false, 1, 0, 1),
-                (true, 1, 0, 5),
-                (false, 0, 1, 0),
-            ]
-            .as_slice(),
-        ),
-        // A register that launches to itself, later than the hold time.
-        (
-            [(2, 2, 7, 9)].as_slice(),
-            [(true, 2, 2, 12), (false, 2, 2, -5)].as_slice(),
-        ),
-        ([].as_slice(), [].as_slice()),
-    ] {
-        let pairs = listed(alloc, rows)?;
-        let constraints = constraints_of(alloc, &pairs, &tech)?;
-        assert_eq!(rt; constraints.len(), wanted.len(), "at {rows:?}");
-        for (found, row) in constraints.as_slice().iter().zip(wanted) {
-            assert_eq!(rt; *found, constraint(*row), "at {rows:?}");
-        }
+    let pairs = listed(alloc, rows)?;
+    let constraints = constraints_of(alloc, &pairs, &tech)?;
+    expect_same(rt, constraints.len(), wanted.len(), &rows);
+    for (found, row) in constraints.as_slice().iter().zip(wanted) {
+        expect_same(rt, *found, constraint(*row), &rows);
+    }
+    Ok(())
+}
+
+// Pairs, and the constraints that they give.
+const CONSTRAINTS: [(&[Row], &[(bool, u32, u32, i128)]); 3] = [
+    (
+        &[(0, 1, 1, 5), (1, 0, 2, 2)],
+        &[
+            (true, 0, 1, 8),
+            (false, 1, 0, 1),
+            (true, 1, 0, 5),
+            (false, 0, 1, 0),
+        ],
+    ),
+    // A register that launches to itself, later than the hold time.
+    (&[(2, 2, 7, 9)], &[(true, 2, 2, 12), (false, 2, 2, -5)]),
+    (&[], &[]),
+];
+
+#[test]
+fn lists_the_constraints_of_pairs(rt: HostRuntime) -> Result<(), Fail> {
+    for (rows, wanted) in &CONSTRAINTS {
+        expect_constraints(&rt, rt.alloc(), rows, wanted)?;
     }
     Ok(())
 }

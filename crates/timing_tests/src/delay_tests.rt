@@ -1,3 +1,4 @@
+use crate::same::expect_same;
 use bench_reader::read_bench;
 use cts_model::Circuit;
 use path_delays::levels;
@@ -11,22 +12,28 @@ fn circuit_of(rt: &impl Abort, alloc: Global, text: &[u8]) -> Result<Circuit, Fa
     Ok(read_bench(alloc, text)?)
 }
 
+fn expect_order(rt: &impl Abort, alloc: Global, text: &str, gates: &[u32]) -> Result<(), Fail> {
+    let circuit = circuit_of(rt, alloc, text.as_bytes())?;
+    let order = levels(alloc, &circuit)?;
+    expect_same(rt, order.gates(), gates, &text);
+    Ok(())
+}
+
+const ORDERS: [(&str, &[u32]); 3] = [
+    ("a = DFF(a)", &[]),
+    // A gate whose inputs are a register and a primary input comes first, wherever it stands.
+    (
+        "a = DFF(g)\ng = AND(h, i)\nh = NOT(i)\ni = NOR(a, x)\nINPUT(x)",
+        &[3, 2, 1],
+    ),
+    // Two inputs that are one signal.
+    ("g = XOR(h, h)\nh = BUFF(a)\na = DFF(g)", &[1, 0]),
+];
+
 #[test]
 fn orders_gates_after_those_that_they_read(rt: HostRuntime) -> Result<(), Fail> {
-    let alloc = rt.alloc();
-    for (text, gates) in [
-        ("a = DFF(a)", [].as_slice()),
-        // A gate whose inputs are a register and a primary input comes first, wherever it stands.
-        (
-            "a = DFF(g)\ng = AND(h, i)\nh = NOT(i)\ni = NOR(a, x)\nINPUT(x)",
-            [3, 2, 1].as_slice(),
-        ),
-        // Two inputs that are one signal.
-        ("g = XOR(h, h)\nh = BUFF(a)\na = DFF(g)", [1, 0].as_slice()),
-    ] {
-        let circuit = circuit_of(&rt, alloc, text.as_bytes())?;
-        let order = levels(alloc, &circuit)?;
-        assert_eq!(rt; order.gates(), gates, "at {text:?}");
+    for (text, gates) in &ORDERS {
+        expect_order(&rt, rt.alloc(), text, gates)?;
     }
     Ok(())
 }
@@ -48,8 +55,8 @@ fn orders_a_chain_of_60000_inverters(rt: HostRuntime) -> Result<(), Fail> {
     let circuit = circuit_of(&rt, alloc, &chain(alloc, 60_000)?)?;
     let order = levels(alloc, &circuit)?;
     let gates = order.gates();
-    assert_eq!(rt; gates.len(), 60_001);
-    assert_eq!(rt; gates.first().copied(), Some(60_001));
-    assert_eq!(rt; gates.last().copied(), Some(1));
+    expect_same(&rt, gates.len(), 60_001, &"gates.len");
+    expect_same(&rt, gates.first().copied(), Some(60_001), &"gates.first");
+    expect_same(&rt, gates.last().copied(), Some(1), &"gates.last");
     Ok(())
 }

@@ -1,4 +1,5 @@
 use crate::constraint_lists::{expect_admitted, list_of, s27, setup, small_period};
+use crate::same::expect_same;
 use cts_model::{Constraint, Lead};
 use schedule::{leads, least_schedule};
 use std::alloc::Global;
@@ -19,7 +20,7 @@ fn expect_leads(
     expect_admitted(rt, &list, arrivals, period);
     let schedule = least_schedule(alloc, arrivals.len(), &list, period)?;
     let leads = leads(alloc, arrivals.len(), &list, period, &schedule)?;
-    assert_eq!(rt; leads.as_slice(), expected);
+    expect_same(rt, leads.as_slice(), expected, &"leads");
     Ok(())
 }
 

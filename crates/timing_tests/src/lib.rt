@@ -20,6 +20,8 @@ mod pair_tests;
 #[cfg(test)]
 mod period_tests;
 #[cfg(test)]
+mod same;
+#[cfg(test)]
 mod schedule_tests;
 #[cfg(test)]
 mod scheduling_tests;

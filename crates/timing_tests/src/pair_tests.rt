@@ -1,14 +1,20 @@
 use crate::circuits::{
-    RING, S27, S27_GATES, TO_OUTPUT, TWO_WAYS, TWO_WAYS_GATES, circuit_of, table_of, wide,
+    RING, Registers, S27, S27_GATES, TO_OUTPUT, TWO_WAYS, TWO_WAYS_GATES, circuit_of, table_of,
+    wide,
 };
+use crate::same::expect_same;
 use cts_base::Listed;
 use cts_model::{Circuit, PairDelay, Tech, ZeroSkew};
 use path_delays::{PairFault, Paths, delays_between, levels, pair_delay, pair_delays, path_of};
 use std::alloc::{AllocError, Global};
+use std::process::Abort;
 use std::test::Fail;
 use timing_report::zero_skew;
 
-fn pair(row: (u32, u32, i128, i128)) -> PairDelay {
+// Two registers, and the least and the greatest delay between them.
+type Row = (u32, u32, i128, i128);
+
+fn pair(row: Row) -> PairDelay {
     PairDelay {
         from: row.0,
         to: row.1,
@@ -18,7 +24,7 @@ fn pair(row: (u32, u32, i128, i128)) -> PairDelay {
 }
 
 // The one of the rows that is about a pair.
-fn row_of(rows: &[(u32, u32, i128, i128)], from: u32, to: u32) -> Option<PairDelay> {
+fn row_of(rows: &[Row], from: u32, to: u32) -> Option<PairDelay> {
     for row in rows {
         if row.0 == from && row.1 == to {
             return Some(pair(*row));
@@ -29,165 +35,174 @@ fn row_of(rows: &[(u32, u32, i128, i128)], from: u32, to: u32) -> Option<PairDel
 
 // Registers of 3 ticks and gates of one; the host is register 3. A path of so many ticks has two
 // signals less.
+const S27_PAIRS: [Row; 7] = [
+    (0, 0, 5, 5),
+    (0, 1, 4, 4),
+    (1, 0, 8, 8),
+    (1, 1, 7, 7),
+    (2, 0, 8, 8),
+    (2, 1, 7, 7),
+    (2, 2, 5, 5),
+];
+
+const S27_HOST_PAIRS: [Row; 14] = [
+    (0, 0, 5, 5),
+    (0, 1, 4, 4),
+    (0, 3, 5, 5),
+    (1, 0, 8, 8),
+    (1, 1, 7, 7),
+    (1, 3, 8, 8),
+    (2, 0, 8, 8),
+    (2, 1, 7, 7),
+    (2, 2, 5, 5),
+    (2, 3, 8, 8),
+    (3, 0, 5, 9),
+    (3, 1, 6, 8),
+    (3, 2, 4, 5),
+    (3, 3, 7, 9),
+];
+
+fn expect_s27(rt: &impl Abort, alloc: Global, host: bool, rows: &[Row]) -> Result<(), Fail> {
+    let tech = Tech::plain(alloc);
+    let circuit = circuit_of(rt, alloc, S27, host)?;
+    let order = levels(alloc, &circuit)?;
+    let pairs = pair_delays(alloc, &circuit, &order, &tech)?;
+    expect_same(rt, pairs.len(), rows.len(), &"pairs.len");
+    let count = circuit.registers.len();
+    for (pair, (from, to, least, greatest)) in pairs.as_slice().iter().zip(rows) {
+        let wanted = PairDelay {
+            from: *from,
+            to: *to,
+            least: *least,
+            greatest: *greatest,
+        };
+        expect_same(rt, *pair, wanted, &(from, to));
+        assert!(rt; (pair.from as usize) < count);
+        assert!(rt; (pair.to as usize) < count);
+        for (longest, delay) in [(true, *greatest), (false, *least)].as_slice() {
+            let path = path_of(alloc, &circuit, &order, &tech, pair.from, pair.to, *longest)?;
+            let length = path.ok_or("a path")?.len();
+            assert!(rt; length < 100);
+            expect_same(rt, length as i128 + 2, *delay, &(from, to));
+        }
+    }
+    Ok(())
+}
+
 #[test]
 fn finds_the_delays_of_s27(rt: HostRuntime) -> Result<(), Fail> {
-    let alloc = rt.alloc();
-    let tech = Tech::plain(alloc);
-    for (host, rows) in [
-        (
-            false,
-            [
-                (0, 0, 5, 5),
-                (0, 1, 4, 4),
-                (1, 0, 8, 8),
-                (1, 1, 7, 7),
-                (2, 0, 8, 8),
-                (2, 1, 7, 7),
-                (2, 2, 5, 5),
-            ]
-            .as_slice(),
-        ),
-        (
-            true,
-            [
-                (0, 0, 5, 5),
-                (0, 1, 4, 4),
-                (0, 3, 5, 5),
-                (1, 0, 8, 8),
-                (1, 1, 7, 7),
-                (1, 3, 8, 8),
-                (2, 0, 8, 8),
-                (2, 1, 7, 7),
-                (2, 2, 5, 5),
-                (2, 3, 8, 8),
-                (3, 0, 5, 9),
-                (3, 1, 6, 8),
-                (3, 2, 4, 5),
-                (3, 3, 7, 9),
-            ]
-            .as_slice(),
-        ),
-    ] {
-        let circuit = circuit_of(&rt, alloc, S27, host)?;
-        let order = levels(alloc, &circuit)?;
-        let pairs = pair_delays(alloc, &circuit, &order, &tech)?;
-        assert_eq!(rt; pairs.len(), rows.len());
-        let count = circuit.registers.len();
-        for (pair, (from, to, least, greatest)) in pairs.as_slice().iter().zip(rows) {
-            let wanted = PairDelay {
-                from: *from,
-                to: *to,
-                least: *least,
-                greatest: *greatest,
-            };
-            assert_eq!(rt; *pair, wanted, "at {from} {to}");
-            assert!(rt; (pair.from as usize) < count);
-            assert!(rt; (pair.to as usize) < count);
-            for (longest, delay) in [(true, greatest), (false, least)] {
-                let path = path_of(alloc, &circuit, &order, &tech, pair.from, pair.to, longest)?;
-                let length = path.ok_or("a path")?.len();
-                assert!(rt; length < 100);
-                assert_eq!(rt; length as i128 + 2, *delay, "at {from} {to}");
+    expect_s27(&rt, rt.alloc(), false, &S27_PAIRS)?;
+    expect_s27(&rt, rt.alloc(), true, &S27_HOST_PAIRS)
+}
+
+// The pairs of a netlist with a table, and of each two registers whether they are a pair.
+fn expect_pairs(
+    rt: &impl Abort,
+    alloc: Global,
+    text: &str,
+    host: bool,
+    registers: Registers,
+    rest: &str,
+    rows: &[Row],
+) -> Result<(), Fail> {
+    let circuit = circuit_of(rt, alloc, text, host)?;
+    let tech = table_of(alloc, &circuit, registers, rest)?;
+    let order = levels(alloc, &circuit)?;
+    let pairs = pair_delays(alloc, &circuit, &order, &tech)?;
+    expect_same(rt, pairs.len(), rows.len(), &text);
+    for (found, row) in pairs.as_slice().iter().zip(rows) {
+        expect_same(rt, *found, pair(*row), &text);
+    }
+    let count = circuit.registers.len();
+    for from in 0..4u32 {
+        for to in 0..4u32 {
+            if (from as usize) < count && (to as usize) < count {
+                let alone = pair_delay(alloc, &circuit, &order, &tech, from, to)?;
+                expect_same(rt, alone, row_of(rows, from, to), &(from, to, text));
             }
         }
     }
     Ok(())
 }
 
-// The pairs of netlists with tables, and of each two registers whether they are a pair.
+// A netlist, whether it has the host, its registers and gates, and the pairs.
+const PAIRS: [(&str, bool, Registers, &str, &[Row]); 8] = [
+    (
+        S27,
+        false,
+        (1, 1, 1, 2),
+        S27_GATES,
+        &[
+            (0, 0, 3, 6),
+            (0, 1, 2, 4),
+            (1, 0, 8, 14),
+            (1, 1, 7, 12),
+            (2, 0, 7, 13),
+            (2, 1, 6, 11),
+            (2, 2, 3, 6),
+        ],
+    ),
+    // The greatest path is A, p, z, and the least is A, z.
+    (
+        TWO_WAYS,
+        false,
+        (1, 2, 1, 1),
+        TWO_WAYS_GATES,
+        &[(0, 1, 2, 7)],
+    ),
+    (
+        RING,
+        false,
+        (0, 2, 1, 1),
+        "[gate.BUFF]\nleast = 2\ngreatest = 5",
+        &[(0, 1, 1, 1), (1, 0, 3, 6)],
+    ),
+    (
+        "INPUT(x)\nOUTPUT(r0)\nr0 = DFF(b1)\nr1 = DFF(b0)\na0 = NAND(r0, r0)
+a1 = NAND(r1, r1)\nb0 = XOR(a0, x)\nb1 = BUFF(a1)",
+        false,
+        (1, 1, 1, 2),
+        "[gate.NAND]\nleast = 2\ngreatest = 4\n[gate.XOR]\nleast = 3\ngreatest = 9
+[gate.BUFF]\nleast = 1\ngreatest = 2",
+        &[(0, 1, 6, 15), (1, 0, 4, 8)],
+    ),
+    // Three inputs that are one signal: two of them are further ones.
+    (
+        "A = DFF(g)\ng = AND(A, A, A)",
+        false,
+        (0, 0, 0, 0),
+        "[gate.AND]\nleast = 2\ngreatest = 5\nleast_per_input = 1\ngreatest_per_input = 10",
+        &[(0, 0, 4, 25)],
+    ),
+    // The host launches the input, which A captures, and captures the output.
+    (
+        TO_OUTPUT,
+        true,
+        (1, 1, 1, 2),
+        "[gate.NOT]\nleast = 1\ngreatest = 3",
+        &[(0, 1, 2, 5), (1, 0, 1, 2)],
+    ),
+    (
+        TO_OUTPUT,
+        false,
+        (1, 1, 1, 2),
+        "[gate.NOT]\nleast = 1\ngreatest = 3",
+        &[],
+    ),
+    // An input that is an output.
+    (
+        "INPUT(x)\nOUTPUT(x)\nA = DFF(A)",
+        true,
+        (2, 0, 1, 1),
+        "",
+        &[(0, 0, 1, 1), (1, 1, 1, 1)],
+    ),
+];
+
 #[test]
 fn finds_the_delays_of_tables(rt: HostRuntime) -> Result<(), Fail> {
-    let alloc = rt.alloc();
-    for (text, host, registers, rest, rows) in [
-        (
-            S27,
-            false,
-            (1, 1, 1, 2),
-            S27_GATES,
-            [
-                (0, 0, 3, 6),
-                (0, 1, 2, 4),
-                (1, 0, 8, 14),
-                (1, 1, 7, 12),
-                (2, 0, 7, 13),
-                (2, 1, 6, 11),
-                (2, 2, 3, 6),
-            ]
-            .as_slice(),
-        ),
-        // The greatest path is A, p, z, and the least is A, z.
-        (
-            TWO_WAYS,
-            false,
-            (1, 2, 1, 1),
-            TWO_WAYS_GATES,
-            [(0, 1, 2, 7)].as_slice(),
-        ),
-        (
-            RING,
-            false,
-            (0, 2, 1, 1),
-            "[gate.BUFF]\nleast = 2\ngreatest = 5",
-            [(0, 1, 1, 1), (1, 0, 3, 6)].as_slice(),
-        ),
-        (
-            "INPUT(x)\nOUTPUT(r0)\nr0 = DFF(b1)\nr1 = DFF(b0)\na0 = NAND(r0, r0)
-a1 = NAND(r1, r1)\nb0 = XOR(a0, x)\nb1 = BUFF(a1)",
-            false,
-            (1, 1, 1, 2),
-            "[gate.NAND]\nleast = 2\ngreatest = 4\n[gate.XOR]\nleast = 3\ngreatest = 9
-[gate.BUFF]\nleast = 1\ngreatest = 2",
-            [(0, 1, 6, 15), (1, 0, 4, 8)].as_slice(),
-        ),
-        // Three inputs that are one signal: two of them are further ones.
-        (
-            "A = DFF(g)\ng = AND(A, A, A)",
-            false,
-            (0, 0, 0, 0),
-            "[gate.AND]\nleast = 2\ngreatest = 5\nleast_per_input = 1\ngreatest_per_input = 10",
-            [(0, 0, 4, 25)].as_slice(),
-        ),
-        // The host launches the input, which A captures, and captures the output.
-        (
-            TO_OUTPUT,
-            true,
-            (1, 1, 1, 2),
-            "[gate.NOT]\nleast = 1\ngreatest = 3",
-            [(0, 1, 2, 5), (1, 0, 1, 2)].as_slice(),
-        ),
-        (
-            TO_OUTPUT,
-            false,
-            (1, 1, 1, 2),
-            "[gate.NOT]\nleast = 1\ngreatest = 3",
-            [].as_slice(),
-        ),
-        // An input that is an output.
-        (
-            "INPUT(x)\nOUTPUT(x)\nA = DFF(A)",
-            true,
-            (2, 0, 1, 1),
-            "",
-            [(0, 0, 1, 1), (1, 1, 1, 1)].as_slice(),
-        ),
-    ] {
-        let circuit = circuit_of(&rt, alloc, text, host)?;
-        let tech = table_of(alloc, &circuit, registers, rest)?;
-        let order = levels(alloc, &circuit)?;
-        let pairs = pair_delays(alloc, &circuit, &order, &tech)?;
-        assert_eq!(rt; pairs.len(), rows.len(), "at {text:?}");
-        for (found, row) in pairs.as_slice().iter().zip(rows) {
-            assert_eq!(rt; *found, pair(*row), "at {text:?}");
-        }
-        let count = circuit.registers.len();
-        for from in 0..4u32 {
-            for to in 0..4u32 {
-                if (from as usize) < count && (to as usize) < count {
-                    let alone = pair_delay(alloc, &circuit, &order, &tech, from, to)?;
-                    assert_eq!(rt; alone, row_of(rows, from, to), "{from} {to} at {text:?}");
-                }
-            }
-        }
+    for (text, host, registers, rest, rows) in &PAIRS {
+        expect_pairs(&rt, rt.alloc(), text, *host, *registers, rest, rows)?;
     }
     Ok(())
 }
@@ -203,7 +218,7 @@ fn finds_the_delays_of_given_pairs(rt: HostRuntime) -> Result<(), Fail> {
     let asked = [(2, 0), (0, 2), (1, 1)];
     let found = delays_between(alloc, &circuit, &order, &tech, &asked)?;
     let wanted = [Some(pair((2, 0, 7, 13))), None, Some(pair((1, 1, 7, 12)))];
-    assert_eq!(rt; found.as_slice(), wanted.as_slice());
+    expect_same(&rt, found.as_slice(), wanted.as_slice(), &"found");
     Ok(())
 }
 
@@ -225,67 +240,72 @@ fn names_of(
     Ok(names)
 }
 
-// Of two paths with the same delay either may be given.
+// A path between two registers: whether it is the greatest, and its names. Of two paths with the
+// same delay either may be given.
+type Path = (u32, u32, bool, &'static str, &'static str);
+
+fn expect_path(
+    rt: &impl Abort,
+    alloc: Global,
+    text: &str,
+    registers: Registers,
+    rest: &str,
+    (from, to, greatest, one, other): Path,
+) -> Result<(), Fail> {
+    let circuit = circuit_of(rt, alloc, text, false)?;
+    let tech = table_of(alloc, &circuit, registers, rest)?;
+    let order = levels(alloc, &circuit)?;
+    let count = circuit.registers.len();
+    assert!(rt; (from as usize) < count);
+    assert!(rt; (to as usize) < count);
+    let path = path_of(alloc, &circuit, &order, &tech, from, to, greatest)?;
+    let names = names_of(alloc, &circuit, &path)?;
+    assert!(rt;
+        names.as_slice() == one.as_bytes() || names.as_slice() == other.as_bytes(),
+        "{from} {to} at {text:?}"
+    );
+    Ok(())
+}
+
+const PATHS: [(&str, Registers, &str, Path); 7] = [
+    (
+        S27,
+        (1, 1, 1, 2),
+        S27_GATES,
+        (1, 0, true, "G6 G8 G15 G9 G11 G10 ", "G6 G8 G16 G9 G11 G10 "),
+    ),
+    (
+        S27,
+        (1, 1, 1, 2),
+        S27_GATES,
+        (2, 1, false, "G7 G12 G15 G9 G11 ", "G7 G12 G15 G9 G11 "),
+    ),
+    (S27, (1, 1, 1, 2), S27_GATES, (0, 2, true, "", "")),
+    (
+        TWO_WAYS,
+        (1, 2, 1, 1),
+        TWO_WAYS_GATES,
+        (0, 1, true, "A p z ", "A p z "),
+    ),
+    (
+        TWO_WAYS,
+        (1, 2, 1, 1),
+        TWO_WAYS_GATES,
+        (0, 1, false, "A z ", "A z "),
+    ),
+    (TWO_WAYS, (1, 2, 1, 1), TWO_WAYS_GATES, (1, 0, true, "", "")),
+    (
+        TWO_WAYS,
+        (1, 2, 1, 1),
+        TWO_WAYS_GATES,
+        (0, 0, false, "", ""),
+    ),
+];
+
 #[test]
 fn finds_the_paths_of_tables(rt: HostRuntime) -> Result<(), Fail> {
-    let alloc = rt.alloc();
-    for (text, registers, rest, from, to, greatest, one, other) in [
-        (
-            S27,
-            (1, 1, 1, 2),
-            S27_GATES,
-            1,
-            0,
-            true,
-            "G6 G8 G15 G9 G11 G10 ",
-            "G6 G8 G16 G9 G11 G10 ",
-        ),
-        (
-            S27,
-            (1, 1, 1, 2),
-            S27_GATES,
-            2,
-            1,
-            false,
-            "G7 G12 G15 G9 G11 ",
-            "G7 G12 G15 G9 G11 ",
-        ),
-        (S27, (1, 1, 1, 2), S27_GATES, 0, 2, true, "", ""),
-        (
-            TWO_WAYS,
-            (1, 2, 1, 1),
-            TWO_WAYS_GATES,
-            0,
-            1,
-            true,
-            "A p z ",
-            "A p z ",
-        ),
-        (
-            TWO_WAYS,
-            (1, 2, 1, 1),
-            TWO_WAYS_GATES,
-            0,
-            1,
-            false,
-            "A z ",
-            "A z ",
-        ),
-        (TWO_WAYS, (1, 2, 1, 1), TWO_WAYS_GATES, 1, 0, true, "", ""),
-        (TWO_WAYS, (1, 2, 1, 1), TWO_WAYS_GATES, 0, 0, false, "", ""),
-    ] {
-        let circuit = circuit_of(&rt, alloc, text, false)?;
-        let tech = table_of(alloc, &circuit, registers, rest)?;
-        let order = levels(alloc, &circuit)?;
-        let count = circuit.registers.len();
-        assert!(rt; (from as usize) < count);
-        assert!(rt; (to as usize) < count);
-        let path = path_of(alloc, &circuit, &order, &tech, from, to, greatest)?;
-        let names = names_of(alloc, &circuit, &path)?;
-        assert!(rt;
-            names.as_slice() == one.as_bytes() || names.as_slice() == other.as_bytes(),
-            "{from} {to} at {text:?}"
-        );
+    for (text, registers, rest, path) in &PATHS {
+        expect_path(&rt, rt.alloc(), text, *registers, rest, *path)?;
     }
     Ok(())
 }
@@ -307,172 +327,256 @@ fn finds_one_path_after_the_other(rt: HostRuntime) -> Result<(), Fail> {
         (greatest, "G5 G11 "),
         (none, ""),
     ] {
-        assert_eq!(rt;
+        expect_same(
+            &rt,
             names_of(alloc, &circuit, &path)?.as_slice(),
-            names.as_bytes()
+            names.as_bytes(),
+            &"names_of(alloc, &circuit, &path)?",
         );
     }
     Ok(())
 }
 
+fn expect_plain_zero(
+    rt: &impl Abort,
+    alloc: Global,
+    text: &str,
+    host: bool,
+    wanted: ZeroSkew,
+) -> Result<(), Fail> {
+    let tech = Tech::plain(alloc);
+    let circuit = circuit_of(rt, alloc, text, host)?;
+    let order = levels(alloc, &circuit)?;
+    let pairs = pair_delays(alloc, &circuit, &order, &tech)?;
+    expect_same(rt, zero_skew(&pairs, &tech), wanted, &text);
+    Ok(())
+}
+
+const PLAIN_ZEROS: [(&str, bool, ZeroSkew); 4] = [
+    (
+        S27,
+        false,
+        ZeroSkew::Setup {
+            value: 10,
+            pair: PairDelay {
+                from: 1,
+                to: 0,
+                least: 8,
+                greatest: 8,
+            },
+        },
+    ),
+    (
+        S27,
+        true,
+        ZeroSkew::Setup {
+            value: 11,
+            pair: PairDelay {
+                from: 3,
+                to: 0,
+                least: 5,
+                greatest: 9,
+            },
+        },
+    ),
+    (
+        "input( x )\r\nOUTPUT(b)\noutput(b)\na=dff(x)\nb = Dff ( a )",
+        false,
+        ZeroSkew::Setup {
+            value: 5,
+            pair: PairDelay {
+                from: 0,
+                to: 1,
+                least: 3,
+                greatest: 3,
+            },
+        },
+    ),
+    // No path ends at a register that a register launches to.
+    (
+        "INPUT(x)\na = DFF(g)\ng = NOT(x)",
+        false,
+        ZeroSkew::Floor { value: 0 },
+    ),
+];
+
 #[test]
 fn reports_the_least_period_at_equal_arrivals(rt: HostRuntime) -> Result<(), Fail> {
-    let alloc = rt.alloc();
-    let tech = Tech::plain(alloc);
-    for (text, host, wanted) in [
-        (
-            S27,
-            false,
-            ZeroSkew::Setup {
-                value: 10,
-                pair: pair((1, 0, 8, 8)),
-            },
-        ),
-        (
-            S27,
-            true,
-            ZeroSkew::Setup {
-                value: 11,
-                pair: pair((3, 0, 5, 9)),
-            },
-        ),
-        (
-            "input( x )\r\nOUTPUT(b)\noutput(b)\na=dff(x)\nb = Dff ( a )",
-            false,
-            ZeroSkew::Setup {
-                value: 5,
-                pair: pair((0, 1, 3, 3)),
-            },
-        ),
-        // No path ends at a register that a register launches to.
-        (
-            "INPUT(x)\na = DFF(g)\ng = NOT(x)",
-            false,
-            ZeroSkew::Floor { value: 0 },
-        ),
-    ] {
-        let circuit = circuit_of(&rt, alloc, text, host)?;
-        let order = levels(alloc, &circuit)?;
-        let pairs = pair_delays(alloc, &circuit, &order, &tech)?;
-        assert_eq!(rt; zero_skew(&pairs, &tech), wanted, "at {text:?}");
+    for (text, host, wanted) in &PLAIN_ZEROS {
+        expect_plain_zero(&rt, rt.alloc(), text, *host, *wanted)?;
     }
     Ok(())
 }
 
+fn expect_zero(
+    rt: &impl Abort,
+    alloc: Global,
+    text: &str,
+    host: bool,
+    registers: Registers,
+    rest: &str,
+    wanted: ZeroSkew,
+) -> Result<(), Fail> {
+    let circuit = circuit_of(rt, alloc, text, host)?;
+    let tech = table_of(alloc, &circuit, registers, rest)?;
+    let order = levels(alloc, &circuit)?;
+    let pairs = pair_delays(alloc, &circuit, &order, &tech)?;
+    expect_same(rt, zero_skew(&pairs, &tech), wanted, &text);
+    Ok(())
+}
+
+// A netlist, whether it has the host, its registers and gates, and the period.
+const ZEROS: [(&str, bool, Registers, &str, ZeroSkew); 11] = [
+    (
+        S27,
+        false,
+        (1, 1, 1, 2),
+        S27_GATES,
+        ZeroSkew::Setup {
+            value: 15,
+            pair: PairDelay {
+                from: 1,
+                to: 0,
+                least: 8,
+                greatest: 14,
+            },
+        },
+    ),
+    (
+        TWO_WAYS,
+        false,
+        (1, 2, 1, 1),
+        TWO_WAYS_GATES,
+        ZeroSkew::Setup {
+            value: 8,
+            pair: PairDelay {
+                from: 0,
+                to: 1,
+                least: 2,
+                greatest: 7,
+            },
+        },
+    ),
+    // A hold fails, whatever the setups need.
+    (
+        RING,
+        false,
+        (0, 2, 1, 1),
+        "[gate.BUFF]\nleast = 2\ngreatest = 5",
+        ZeroSkew::Fails {
+            pair: PairDelay {
+                from: 0,
+                to: 1,
+                least: 1,
+                greatest: 1,
+            },
+        },
+    ),
+    (
+        "A = DFF(A)",
+        false,
+        (0, 2, 1, 1),
+        "",
+        ZeroSkew::Fails {
+            pair: PairDelay {
+                from: 0,
+                to: 0,
+                least: 1,
+                greatest: 1,
+            },
+        },
+    ),
+    (
+        "INPUT(x)\nA = DFF(x)",
+        false,
+        (0, 0, 0, 0),
+        "[period]\nfloor = 5",
+        ZeroSkew::Floor { value: 5 },
+    ),
+    // What the setup needs is the floor, and then one tick more than it.
+    (
+        TWO_WAYS,
+        false,
+        (1, 2, 1, 1),
+        "[period]\nfloor = 8\n[gate.NOT]\nleast = 3\ngreatest = 4
+[gate.OR]\nleast = 1\ngreatest = 2",
+        ZeroSkew::Floor { value: 8 },
+    ),
+    (
+        TWO_WAYS,
+        false,
+        (1, 2, 1, 1),
+        "[period]\nfloor = 7\n[gate.NOT]\nleast = 3\ngreatest = 4
+[gate.OR]\nleast = 1\ngreatest = 2",
+        ZeroSkew::Setup {
+            value: 8,
+            pair: PairDelay {
+                from: 0,
+                to: 1,
+                least: 2,
+                greatest: 7,
+            },
+        },
+    ),
+    (
+        "A = DFF(g)\ng = AND(A, A, A)",
+        false,
+        (0, 0, 0, 0),
+        "[gate.AND]\nleast = 2\ngreatest = 5\nleast_per_input = 1\ngreatest_per_input = 10",
+        ZeroSkew::Setup {
+            value: 25,
+            pair: PairDelay {
+                from: 0,
+                to: 0,
+                least: 4,
+                greatest: 25,
+            },
+        },
+    ),
+    (
+        TO_OUTPUT,
+        true,
+        (1, 1, 1, 2),
+        "[gate.NOT]\nleast = 1\ngreatest = 3",
+        ZeroSkew::Setup {
+            value: 6,
+            pair: PairDelay {
+                from: 0,
+                to: 1,
+                least: 2,
+                greatest: 5,
+            },
+        },
+    ),
+    (
+        TO_OUTPUT,
+        false,
+        (1, 1, 1, 2),
+        "[gate.NOT]\nleast = 1\ngreatest = 3",
+        ZeroSkew::Floor { value: 0 },
+    ),
+    // The pair of the host with itself needs as much, and comes later.
+    (
+        "INPUT(x)\nOUTPUT(x)\nA = DFF(A)",
+        true,
+        (2, 0, 1, 1),
+        "",
+        ZeroSkew::Setup {
+            value: 3,
+            pair: PairDelay {
+                from: 0,
+                to: 0,
+                least: 1,
+                greatest: 1,
+            },
+        },
+    ),
+];
+
 #[test]
 fn reports_the_least_period_of_tables(rt: HostRuntime) -> Result<(), Fail> {
-    let alloc = rt.alloc();
-    for (text, host, registers, rest, wanted) in [
-        (
-            S27,
-            false,
-            (1, 1, 1, 2),
-            S27_GATES,
-            ZeroSkew::Setup {
-                value: 15,
-                pair: pair((1, 0, 8, 14)),
-            },
-        ),
-        (
-            TWO_WAYS,
-            false,
-            (1, 2, 1, 1),
-            TWO_WAYS_GATES,
-            ZeroSkew::Setup {
-                value: 8,
-                pair: pair((0, 1, 2, 7)),
-            },
-        ),
-        // A hold fails, whatever the setups need.
-        (
-            RING,
-            false,
-            (0, 2, 1, 1),
-            "[gate.BUFF]\nleast = 2\ngreatest = 5",
-            ZeroSkew::Fails {
-                pair: pair((0, 1, 1, 1)),
-            },
-        ),
-        (
-            "A = DFF(A)",
-            false,
-            (0, 2, 1, 1),
-            "",
-            ZeroSkew::Fails {
-                pair: pair((0, 0, 1, 1)),
-            },
-        ),
-        (
-            "INPUT(x)\nA = DFF(x)",
-            false,
-            (0, 0, 0, 0),
-            "[period]\nfloor = 5",
-            ZeroSkew::Floor { value: 5 },
-        ),
-        // What the setup needs is the floor, and then one tick more than it.
-        (
-            TWO_WAYS,
-            false,
-            (1, 2, 1, 1),
-            "[period]\nfloor = 8\n[gate.NOT]\nleast = 3\ngreatest = 4
-[gate.OR]\nleast = 1\ngreatest = 2",
-            ZeroSkew::Floor { value: 8 },
-        ),
-        (
-            TWO_WAYS,
-            false,
-            (1, 2, 1, 1),
-            "[period]\nfloor = 7\n[gate.NOT]\nleast = 3\ngreatest = 4
-[gate.OR]\nleast = 1\ngreatest = 2",
-            ZeroSkew::Setup {
-                value: 8,
-                pair: pair((0, 1, 2, 7)),
-            },
-        ),
-        (
-            "A = DFF(g)\ng = AND(A, A, A)",
-            false,
-            (0, 0, 0, 0),
-            "[gate.AND]\nleast = 2\ngreatest = 5\nleast_per_input = 1\ngreatest_per_input = 10",
-            ZeroSkew::Setup {
-                value: 25,
-                pair: pair((0, 0, 4, 25)),
-            },
-        ),
-        (
-            TO_OUTPUT,
-            true,
-            (1, 1, 1, 2),
-            "[gate.NOT]\nleast = 1\ngreatest = 3",
-            ZeroSkew::Setup {
-                value: 6,
-                pair: pair((0, 1, 2, 5)),
-            },
-        ),
-        (
-            TO_OUTPUT,
-            false,
-            (1, 1, 1, 2),
-            "[gate.NOT]\nleast = 1\ngreatest = 3",
-            ZeroSkew::Floor { value: 0 },
-        ),
-        // The pair of the host with itself needs as much, and comes later.
-        (
-            "INPUT(x)\nOUTPUT(x)\nA = DFF(A)",
-            true,
-            (2, 0, 1, 1),
-            "",
-            ZeroSkew::Setup {
-                value: 3,
-                pair: pair((0, 0, 1, 1)),
-            },
-        ),
-    ] {
-        let circuit = circuit_of(&rt, alloc, text, host)?;
-        let tech = table_of(alloc, &circuit, registers, rest)?;
-        let order = levels(alloc, &circuit)?;
-        let pairs = pair_delays(alloc, &circuit, &order, &tech)?;
-        assert_eq!(rt; zero_skew(&pairs, &tech), wanted, "at {text:?}");
+    for (text, host, registers, rest, wanted) in &ZEROS {
+        expect_zero(&rt, rt.alloc(), text, *host, *registers, rest, *wanted)?;
     }
     Ok(())
 }
@@ -484,21 +588,33 @@ fn lists_1048576_pairs_and_no_more(rt: HostRuntime) -> Result<(), Fail> {
     let most = circuit_of(&rt, alloc, wide(alloc, 1024)?.as_str(), false)?;
     let order = levels(alloc, &most)?;
     let pairs = pair_delays(alloc, &most, &order, &tech)?;
-    assert_eq!(rt; pairs.len(), 1_048_576);
-    assert_eq!(rt; pairs.get(0).copied(), Some(pair((0, 0, 4, 4))));
-    assert_eq!(rt;
+    expect_same(&rt, pairs.len(), 1_048_576, &"pairs.len");
+    expect_same(
+        &rt,
+        pairs.get(0).copied(),
+        Some(pair((0, 0, 4, 4))),
+        &"pairs.get",
+    );
+    expect_same(
+        &rt,
         pairs.get(1_048_575).copied(),
-        Some(pair((1023, 1023, 4, 4)))
+        Some(pair((1023, 1023, 4, 4))),
+        &"pairs.get",
     );
     let wanted = ZeroSkew::Setup {
         value: 6,
         pair: pair((0, 0, 4, 4)),
     };
-    assert_eq!(rt; zero_skew(&pairs, &tech), wanted);
+    expect_same(&rt, zero_skew(&pairs, &tech), wanted, &"zero_skew");
     let more = circuit_of(&rt, alloc, wide(alloc, 1025)?.as_str(), false)?;
     let order = levels(alloc, &more)?;
     let refused = pair_delays(alloc, &more, &order, &tech);
-    assert_eq!(rt; refused.err(), Some(PairFault::TooManyPairs));
+    expect_same(
+        &rt,
+        refused.err(),
+        Some(PairFault::TooManyPairs),
+        &"refused",
+    );
     Ok(())
 }
 
@@ -520,15 +636,20 @@ fn adds_up_a_chain_of_60000_inverters(rt: HostRuntime) -> Result<(), Fail> {
     let circuit = circuit_of(&rt, alloc, chain(alloc, 60_000)?.as_str(), false)?;
     let order = levels(alloc, &circuit)?;
     let pairs = pair_delays(alloc, &circuit, &order, &tech)?;
-    assert_eq!(rt; pairs.as_slice(), [pair((0, 1, 60_003, 60_003))].as_slice());
+    expect_same(
+        &rt,
+        pairs.as_slice(),
+        [pair((0, 1, 60_003, 60_003))].as_slice(),
+        &"pairs",
+    );
     let wanted = ZeroSkew::Setup {
         value: 60_005,
         pair: pair((0, 1, 60_003, 60_003)),
     };
-    assert_eq!(rt; zero_skew(&pairs, &tech), wanted);
+    expect_same(&rt, zero_skew(&pairs, &tech), wanted, &"zero_skew");
     assert!(rt; 1 < circuit.registers.len());
     let path = path_of(alloc, &circuit, &order, &tech, 0, 1, false)?;
-    assert_eq!(rt; path.ok_or("a path")?.len(), 60_001);
+    expect_same(&rt, path.ok_or("a path")?.len(), 60_001, &"path.ok_or");
     Ok(())
 }
 
@@ -549,6 +670,11 @@ fn adds_up_nothing_after_262144_inputs(rt: HostRuntime) -> Result<(), Fail> {
     let order = levels(alloc, &circuit)?;
     let pairs = pair_delays(alloc, &circuit, &order, &tech)?;
     assert!(rt; pairs.is_empty());
-    assert_eq!(rt; zero_skew(&pairs, &tech), ZeroSkew::Floor { value: 0 });
+    expect_same(
+        &rt,
+        zero_skew(&pairs, &tech),
+        ZeroSkew::Floor { value: 0 },
+        &"zero_skew",
+    );
     Ok(())
 }

@@ -1,7 +1,10 @@
-use crate::constraint_lists::{hold, list_of, setup};
+use crate::constraint_lists::{constraints_of, hold, list_of, setup};
+use crate::engine_tests::Row;
+use crate::same::expect_same;
 use critical_cycle::{Period, least_period, least_period_in};
 use cts_base::Listed;
 use std::alloc::Global;
+use std::process::Abort;
 use std::test::Fail;
 
 // What the answer says: `floor`, or a value and the places of its cycle, or `never` and the places.
@@ -29,93 +32,99 @@ fn text_of(alloc: Global, period: &Period) -> Result<String, Fail> {
     Ok(text)
 }
 
+fn expect_period(
+    rt: &impl Abort,
+    alloc: Global,
+    registers: usize,
+    floor: i128,
+    rows: &[Row],
+    wanted: &str,
+) -> Result<(), Fail> {
+    let list = list_of(rt, alloc, registers, &constraints_of(rt, alloc, rows))?;
+    assert!(rt; floor >= 0);
+    assert!(rt; floor <= 1_000_000_000);
+    let period = least_period(alloc, registers, &list, floor)?;
+    let text = text_of(alloc, &period)?;
+    expect_same(rt, text.as_str(), wanted, &(registers, floor, rows));
+    Ok(())
+}
+
+// So many registers, a floor, the constraints, and what the answer says.
+const PERIODS: [(usize, i128, &[Row], &str); 12] = [
+    (1, 7, &[], "floor"),
+    (1, 3, &[(true, 0, 0, 5)], "5/1 0"),
+    (1, 3, &[(false, 0, 0, 1)], "never 0"),
+    // A hold cycle with sum 0 admits every period.
+    (1, 0, &[(false, 0, 0, 0), (true, 0, 0, 4)], "4/1 1"),
+    // Two cycles with one value: the first one is given.
+    (
+        4,
+        0,
+        &[
+            (true, 0, 1, 6),
+            (true, 1, 0, 4),
+            (true, 2, 3, 5),
+            (true, 3, 2, 5),
+        ],
+        "5/1 0 1",
+    ),
+    // A floor equal to the greatest value, and one above it.
+    (2, 5, &[(true, 0, 1, 6), (true, 1, 0, 4)], "floor"),
+    (2, 6, &[(true, 0, 1, 6), (true, 1, 0, 4)], "floor"),
+    (2, 4, &[(true, 0, 1, 6), (true, 1, 0, 4)], "5/1 0 1"),
+    // The cycle is given from its lowest tail on, wherever its constraints stand.
+    (
+        3,
+        0,
+        &[(true, 2, 0, 3), (true, 1, 2, 4), (true, 0, 1, 6)],
+        "13/3 2 1 0",
+    ),
+    (
+        2,
+        0,
+        &[
+            (false, 0, 1, -3),
+            (false, 1, 0, 3),
+            (true, 0, 1, 8),
+            (true, 1, 0, 1),
+        ],
+        "11/1 2 1",
+    ),
+    (2, 0, &[(false, 0, 1, -3), (false, 1, 0, 4)], "never 0 1"),
+    (
+        3,
+        9,
+        &[(false, 1, 2, 1), (false, 2, 0, 1), (false, 0, 1, -1)],
+        "never 2 0 1",
+    ),
+];
+
 #[test]
 fn finds_the_least_period(rt: HostRuntime) -> Result<(), Fail> {
-    let alloc = rt.alloc();
-    for (registers, floor, constraints, wanted) in [
-        (1, 7, [].as_slice(), "floor"),
-        (1, 3, [setup(0, 0, 5)].as_slice(), "5/1 0"),
-        (1, 3, [hold(0, 0, 1)].as_slice(), "never 0"),
-        // A hold cycle with sum 0 admits every period.
-        (1, 0, [hold(0, 0, 0), setup(0, 0, 4)].as_slice(), "4/1 1"),
-        // Two cycles with one value: the first one is given.
-        (
-            4,
-            0,
-            [
-                setup(0, 1, 6),
-                setup(1, 0, 4),
-                setup(2, 3, 5),
-                setup(3, 2, 5),
-            ]
-            .as_slice(),
-            "5/1 0 1",
-        ),
-        // A floor equal to the greatest value, and one above it.
-        (2, 5, [setup(0, 1, 6), setup(1, 0, 4)].as_slice(), "floor"),
-        (2, 6, [setup(0, 1, 6), setup(1, 0, 4)].as_slice(), "floor"),
-        (2, 4, [setup(0, 1, 6), setup(1, 0, 4)].as_slice(), "5/1 0 1"),
-        // The cycle is given from its lowest tail on, wherever its constraints stand.
-        (
-            3,
-            0,
-            [setup(2, 0, 3), setup(1, 2, 4), setup(0, 1, 6)].as_slice(),
-            "13/3 2 1 0",
-        ),
-        (
-            2,
-            0,
-            [
-                hold(0, 1, -3),
-                hold(1, 0, 3),
-                setup(0, 1, 8),
-                setup(1, 0, 1),
-            ]
-            .as_slice(),
-            "11/1 2 1",
-        ),
-        (
-            2,
-            0,
-            [hold(0, 1, -3), hold(1, 0, 4)].as_slice(),
-            "never 0 1",
-        ),
-        (
-            3,
-            9,
-            [hold(1, 2, 1), hold(2, 0, 1), hold(0, 1, -1)].as_slice(),
-            "never 2 0 1",
-        ),
-    ] {
-        let list = list_of(&rt, alloc, registers, constraints)?;
-        assert!(rt; floor >= 0);
-        assert!(rt; floor <= 1_000_000_000);
-        let period = least_period(alloc, registers, &list, floor)?;
-        let text = text_of(alloc, &period)?;
-        assert_eq!(rt;
-            text.as_str(),
-            wanted,
-            "at {registers} {floor} {constraints:?}"
-        );
+    for (registers, floor, rows, wanted) in &PERIODS {
+        expect_period(&rt, rt.alloc(), *registers, *floor, rows, wanted)?;
     }
+    Ok(())
+}
+
+fn expect_over(rt: &impl Abort, alloc: Global, value: i128, place: u32) -> Result<(), Fail> {
+    let constraints = [setup(0, 1, 6), setup(1, 2, 4), setup(2, 0, 3)];
+    let list = list_of(rt, alloc, 3, &constraints)?;
+    let values = Listed::from_vec(vec![in alloc; value; 3]?);
+    let parents = Listed::from_vec(vec![in alloc; place; 3]?);
+    let cycle = Listed::from_vec(vec![in alloc; place; 3]?);
+    let period = least_period_in(values, parents, cycle, &list, 1);
+    let text = text_of(alloc, &period)?;
+    expect_same(rt, text.as_str(), "13/3 0 1 2", &(value, place));
     Ok(())
 }
 
 // Whatever the lists hold, the answer is the same.
 #[test]
 fn overwrites_what_the_lists_hold(rt: HostRuntime) -> Result<(), Fail> {
-    let alloc = rt.alloc();
-    let constraints = [setup(0, 1, 6), setup(1, 2, 4), setup(2, 0, 3)];
-    for (value, place) in [(i128::MAX, u32::MAX), (i128::MIN, 0), (0, 2)] {
-        let list = list_of(&rt, alloc, 3, &constraints)?;
-        let values = Listed::from_vec(vec![in alloc; value; 3]?);
-        let parents = Listed::from_vec(vec![in alloc; place; 3]?);
-        let cycle = Listed::from_vec(vec![in alloc; place; 3]?);
-        let period = least_period_in(values, parents, cycle, &list, 1);
-        let text = text_of(alloc, &period)?;
-        assert_eq!(rt; text.as_str(), "13/3 0 1 2", "at {value} {place}");
-    }
-    Ok(())
+    expect_over(&rt, rt.alloc(), i128::MAX, u32::MAX)?;
+    expect_over(&rt, rt.alloc(), i128::MIN, 0)?;
+    expect_over(&rt, rt.alloc(), 0, 2)
 }
 
 // Setup constraints of the greatest weight round 4,097 registers, and hold constraints of the least
@@ -134,9 +143,9 @@ fn goes_round_every_register(rt: HostRuntime) -> Result<(), Fail> {
     let Period::Cycle { value, cycle } = period else {
         return Err("a cycle".into());
     };
-    assert_eq!(rt; value.num(), 99_999_999_999);
-    assert_eq!(rt; value.den(), 1);
-    assert_eq!(rt; cycle.len(), 4097);
-    assert_eq!(rt; cycle.get(4096).copied(), Some(8192));
+    expect_same(&rt, value.num(), 99_999_999_999, &"value.num");
+    expect_same(&rt, value.den(), 1, &"value.den");
+    expect_same(&rt, cycle.len(), 4097, &"cycle.len");
+    expect_same(&rt, cycle.get(4096).copied(), Some(8192), &"cycle.get");
     Ok(())
 }

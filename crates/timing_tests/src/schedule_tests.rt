@@ -1,76 +1,89 @@
-use crate::constraint_lists::{expect_admitted, hold, list_of, s27, setup, small_period};
+use crate::constraint_lists::{
+    constraints_of, expect_admitted, hold, list_of, s27, setup, small_period,
+};
+use crate::engine_tests::Row;
+use crate::same::expect_same;
 use cts_base::Listed;
-use cts_model::Schedule;
+use cts_model::{Constraint, Schedule};
 use schedule::{least_schedule, least_schedule_in};
+use std::alloc::Global;
 use std::process::Abort;
 use std::test::Fail;
 
 // The schedule is at these arrivals over the denominator.
 fn expect_at(rt: &impl Abort, schedule: &Schedule, den: i128, arrivals: &[i128]) {
-    assert_eq!(rt; schedule.den, den);
-    assert_eq!(rt; schedule.at.as_slice(), arrivals);
+    expect_same(rt, schedule.den, den, &"schedule.den");
+    expect_same(rt, schedule.at.as_slice(), arrivals, &"schedule.at");
 }
+
+fn expect_schedule(
+    rt: &impl Abort,
+    alloc: Global,
+    (num, den): (i128, i128),
+    constraints: &[Constraint],
+    arrivals: &[i128],
+) -> Result<(), Fail> {
+    let period = small_period(rt, num, den);
+    let list = list_of(rt, alloc, arrivals.len(), constraints)?;
+    expect_admitted(rt, &list, arrivals, period);
+    let schedule = least_schedule(alloc, arrivals.len(), &list, period)?;
+    expect_at(rt, &schedule, den, arrivals);
+    Ok(())
+}
+
+// A period, the constraints, and the arrivals over the period's denominator.
+const SCHEDULES: [((i128, i128), &[Row], &[i128]); 6] = [
+    (
+        (11, 2),
+        &[
+            (true, 0, 1, 7),
+            (false, 1, 0, -7),
+            (true, 1, 0, 4),
+            (false, 0, 1, -4),
+        ],
+        &[0, 3],
+    ),
+    ((7, 1), &[], &[0, 0, 0]),
+    // A hold constraint asks for its weight whatever the period is.
+    ((0, 1), &[(false, 0, 1, 3)], &[0, 3]),
+    ((10, 3), &[(false, 0, 1, 3)], &[0, 9]),
+    // A chain that runs against the list.
+    ((5, 1), &[(true, 1, 2, 7), (true, 0, 1, 7)], &[0, 2, 4]),
+    // A cycle without slack.
+    ((5, 1), &[(true, 0, 1, 6), (true, 1, 0, 4)], &[0, 1]),
+];
 
 #[test]
 fn finds_the_least_schedule(rt: HostRuntime) -> Result<(), Fail> {
-    let alloc = rt.alloc();
-    for (num, den, constraints, arrivals) in [
-        (
-            11,
-            2,
-            [
-                setup(0, 1, 7),
-                hold(1, 0, -7),
-                setup(1, 0, 4),
-                hold(0, 1, -4),
-            ]
-            .as_slice(),
-            [0, 3].as_slice(),
-        ),
-        (7, 1, [].as_slice(), [0, 0, 0].as_slice()),
-        // A hold constraint asks for its weight whatever the period is.
-        (0, 1, [hold(0, 1, 3)].as_slice(), [0, 3].as_slice()),
-        (10, 3, [hold(0, 1, 3)].as_slice(), [0, 9].as_slice()),
-        // A chain that runs against the list.
-        (
-            5,
-            1,
-            [setup(1, 2, 7), setup(0, 1, 7)].as_slice(),
-            [0, 2, 4].as_slice(),
-        ),
-        // A cycle without slack.
-        (
-            5,
-            1,
-            [setup(0, 1, 6), setup(1, 0, 4)].as_slice(),
-            [0, 1].as_slice(),
-        ),
-        (13, 1, s27().as_slice(), [2, 0, 0].as_slice()),
-    ] {
-        let period = small_period(&rt, num, den);
-        let list = list_of(&rt, alloc, arrivals.len(), constraints)?;
-        expect_admitted(&rt, &list, arrivals, period);
-        let schedule = least_schedule(alloc, arrivals.len(), &list, period)?;
-        expect_at(&rt, &schedule, den, arrivals);
+    for (period, rows, arrivals) in &SCHEDULES {
+        expect_schedule(
+            &rt,
+            rt.alloc(),
+            *period,
+            &constraints_of(&rt, rt.alloc(), rows),
+            arrivals,
+        )?;
     }
+    expect_schedule(&rt, rt.alloc(), (13, 1), &s27(), &[2, 0, 0])
+}
+
+fn expect_over(rt: &impl Abort, alloc: Global, entry: i128) -> Result<(), Fail> {
+    let arrivals = [0, 3];
+    let period = small_period(rt, 11, 2);
+    let list = list_of(rt, alloc, 2, &[setup(0, 1, 7), setup(1, 0, 4)])?;
+    expect_admitted(rt, &list, &arrivals, period);
+    let at = Listed::from_vec(vec![in alloc; entry; 2]?);
+    let schedule = least_schedule_in(at, &list, period);
+    expect_at(rt, &schedule, 2, &arrivals);
     Ok(())
 }
 
 // Whatever the list holds, the answer is the same.
 #[test]
 fn overwrites_what_the_list_holds(rt: HostRuntime) -> Result<(), Fail> {
-    let alloc = rt.alloc();
-    let constraints = [setup(0, 1, 7), setup(1, 0, 4)];
-    let arrivals = [0, 3];
-    for entry in [-5, 1_000_000_000_000_000_000, i128::MAX] {
-        let period = small_period(&rt, 11, 2);
-        let list = list_of(&rt, alloc, 2, &constraints)?;
-        expect_admitted(&rt, &list, &arrivals, period);
-        let at = Listed::from_vec(vec![in alloc; entry; 2]?);
-        let schedule = least_schedule_in(at, &list, period);
-        expect_at(&rt, &schedule, 2, &arrivals);
-    }
-    Ok(())
+    expect_over(&rt, rt.alloc(), -5)?;
+    expect_over(&rt, rt.alloc(), 1_000_000_000_000_000_000)?;
+    expect_over(&rt, rt.alloc(), i128::MAX)
 }
 
 // A ring of 4,096 registers whose constraints are listed against it: each asks for 2 ticks more

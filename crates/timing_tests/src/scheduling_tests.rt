@@ -1,5 +1,6 @@
 use crate::circuits::{RING, Registers, S27, S27_GATES, circuit_of, table_of};
 use crate::engine_tests::{is_cycle, is_shown};
+use crate::same::expect_same;
 use cts_base::{Fraction, Listed};
 use cts_engine::{ScheduleOutcome, schedule_of};
 use cts_model::{PairDelay, Schedule, Slack, ZeroSkew};
@@ -44,65 +45,82 @@ fn is_schedule(schedule: &Schedule, den: i128, arrivals: &[i128]) -> bool {
     schedule.den == den && schedule.at.as_slice() == arrivals
 }
 
+// What is found: a period, the arrivals over its denominator, and the slacks.
+type Found = ((i128, i128), &'static [i128], &'static [(Part, Part)]);
+
+fn expect_schedule(
+    rt: &impl Abort,
+    alloc: Global,
+    text: &str,
+    registers: Registers,
+    rest: &str,
+    (period, arrivals, rows): Found,
+) -> Result<(), Fail> {
+    let ScheduleOutcome::Found {
+        period: least,
+        schedule,
+        slacks,
+        ..
+    } = outcome_of(rt, alloc, text, registers, rest)?
+    else {
+        return Err("a schedule".into());
+    };
+    expect_same(rt, (least.num(), least.den()), period, &text);
+    assert!(rt; is_schedule(&schedule, period.1, arrivals), "at {text:?}");
+    assert!(rt; are_slacks(&slacks, rows), "at {text:?}");
+    Ok(())
+}
+
+const ZERO: Part = Some((0, 1));
+
+// A netlist, its registers and gates, and what is found.
+const SCHEDULES: [(&str, Registers, &str, Found); 4] = [
+    (
+        RING,
+        (0, 2, 1, 1),
+        "[gate.BUFF]\nleast = 2\ngreatest = 5",
+        ((5, 1), &[1, 0], &[(ZERO, ZERO), (Some((3, 1)), ZERO)]),
+    ),
+    (
+        S27,
+        (1, 1, 1, 2),
+        S27_GATES,
+        (
+            (13, 1),
+            &[2, 0, 0],
+            &[
+                (ZERO, Some((2, 1))),
+                (ZERO, Some((3, 1))),
+                (Some((6, 1)), Some((2, 1))),
+            ],
+        ),
+    ),
+    // Two paths in a ring, of 7 and of 4 ticks.
+    (
+        "A = DFF(m)\nB = DFF(n)\nn = NOT(A)\nm = BUFF(B)",
+        (0, 0, 0, 0),
+        "[gate.NOT]\nleast = 7\ngreatest = 7\n[gate.BUFF]\nleast = 4\ngreatest = 4",
+        (
+            (11, 2),
+            &[0, 3],
+            &[(ZERO, Some((11, 2))), (ZERO, Some((11, 2)))],
+        ),
+    ),
+    // No path ends at a register.
+    (
+        "INPUT(x)\nA = DFF(x)\nB = DFF(x)",
+        (0, 0, 0, 0),
+        "",
+        ((0, 1), &[0, 0], &[(None, None), (None, None)]),
+    ),
+];
+
 // Each setup slack is the arrival and the period less the other arrival, the delay and the setup
 // time, and each hold slack the other arrival and the delay less the arrival and the hold time.
 #[test]
 fn finds_the_least_schedule(rt: HostRuntime) -> Result<(), Fail> {
-    let alloc = rt.alloc();
-    let none = Some((0, 1));
-    for (text, registers, rest, period, arrivals, slacks) in [
-        (
-            RING,
-            (0, 2, 1, 1),
-            "[gate.BUFF]\nleast = 2\ngreatest = 5",
-            (5, 1),
-            [1, 0].as_slice(),
-            [(none, none), (Some((3, 1)), none)].as_slice(),
-        ),
-        (
-            S27,
-            (1, 1, 1, 2),
-            S27_GATES,
-            (13, 1),
-            [2, 0, 0].as_slice(),
-            [
-                (none, Some((2, 1))),
-                (none, Some((3, 1))),
-                (Some((6, 1)), Some((2, 1))),
-            ]
-            .as_slice(),
-        ),
-        // Two paths in a ring, of 7 and of 4 ticks.
-        (
-            "A = DFF(m)\nB = DFF(n)\nn = NOT(A)\nm = BUFF(B)",
-            (0, 0, 0, 0),
-            "[gate.NOT]\nleast = 7\ngreatest = 7\n[gate.BUFF]\nleast = 4\ngreatest = 4",
-            (11, 2),
-            [0, 3].as_slice(),
-            [(none, Some((11, 2))), (none, Some((11, 2)))].as_slice(),
-        ),
-        // No path ends at a register.
-        (
-            "INPUT(x)\nA = DFF(x)\nB = DFF(x)",
-            (0, 0, 0, 0),
-            "",
-            (0, 1),
-            [0, 0].as_slice(),
-            [(None, None), (None, None)].as_slice(),
-        ),
-    ] {
-        let ScheduleOutcome::Found {
-            period: least,
-            schedule,
-            slacks: spared,
-            ..
-        } = outcome_of(&rt, alloc, text, registers, rest)?
-        else {
-            return Err("a schedule".into());
-        };
-        assert_eq!(rt; (least.num(), least.den()), period, "at {text:?}");
-        assert!(rt; is_schedule(&schedule, period.1, arrivals), "at {text:?}");
-        assert!(rt; are_slacks(&spared, slacks), "at {text:?}");
+    for (text, registers, rest, found) in &SCHEDULES {
+        expect_schedule(&rt, rt.alloc(), text, *registers, rest, *found)?;
     }
     Ok(())
 }
@@ -128,7 +146,7 @@ fn reports_what_shows_the_period(rt: HostRuntime) -> Result<(), Fail> {
         least: 1,
         greatest: 1,
     };
-    assert_eq!(rt; zero, ZeroSkew::Fails { pair });
+    expect_same(&rt, zero, ZeroSkew::Fails { pair }, &"zero");
     assert!(rt; is_shown(&shown, &[(false, 0, 1, -1), (true, 1, 0, 6)]));
     Ok(())
 }

@@ -3,6 +3,7 @@ ghost use Rattle.cts_model.specs.Points.{IsBelow};
 ghost use Rattle.cts_model.specs.Schedules.{IsSmallPeriod};
 
 use crate::circuits::{RING, Registers, S27, S27_GATES, TO_OUTPUT, circuit_of, table_of};
+use crate::same::expect_same;
 use cts_base::{Fraction, Listed};
 use cts_model::{Schedule, Slack};
 use path_delays::{arrivals, levels};
@@ -88,81 +89,89 @@ fn text_of(rt: &impl Abort, alloc: Global, case: &Case) -> Result<String, Fail> 
     Ok(text)
 }
 
+fn expect_slacks(rt: &impl Abort, alloc: Global, case: &Case, expected: &str) -> Result<(), Fail> {
+    let text = text_of(rt, alloc, case)?;
+    expect_same(rt, text.as_str(), expected, &case.text);
+    Ok(())
+}
+
+const SLACKS: [(Case, &str); 3] = [
+    (
+        Case {
+            text: RING,
+            host: false,
+            registers: (0, 2, 1, 1),
+            gates: "[gate.BUFF]\nleast = 2\ngreatest = 5\n",
+            period: (5, 1),
+            arrivals: &[1, 0],
+        },
+        "0/1 0/1 3/1 0/1 ",
+    ),
+    (
+        Case {
+            text: S27,
+            host: false,
+            registers: (1, 1, 1, 2),
+            gates: S27_GATES,
+            period: (13, 1),
+            arrivals: &[2, 0, 0],
+        },
+        "0/1 2/1 0/1 3/1 6/1 2/1 ",
+    ),
+    // The arrivals are 0 and 3/2.
+    (
+        Case {
+            text: TWO_GATES,
+            host: false,
+            registers: (0, 0, 0, 0),
+            gates: "[gate.NOT]\nleast = 7\ngreatest = 7
+[gate.BUFF]\nleast = 4\ngreatest = 4\n",
+            period: (11, 2),
+            arrivals: &[0, 3],
+        },
+        "0/1 11/2 0/1 11/2 ",
+    ),
+];
+
 #[test]
 fn finds_the_slacks_of_registers(rt: HostRuntime) -> Result<(), Fail> {
-    let alloc = rt.alloc();
-    for (case, expected) in [
-        (
-            Case {
-                text: RING,
-                host: false,
-                registers: (0, 2, 1, 1),
-                gates: "[gate.BUFF]\nleast = 2\ngreatest = 5\n",
-                period: (5, 1),
-                arrivals: &[1, 0],
-            },
-            "0/1 0/1 3/1 0/1 ",
-        ),
-        (
-            Case {
-                text: S27,
-                host: false,
-                registers: (1, 1, 1, 2),
-                gates: S27_GATES,
-                period: (13, 1),
-                arrivals: &[2, 0, 0],
-            },
-            "0/1 2/1 0/1 3/1 6/1 2/1 ",
-        ),
-        // The arrivals are 0 and 3/2.
-        (
-            Case {
-                text: TWO_GATES,
-                host: false,
-                registers: (0, 0, 0, 0),
-                gates: "[gate.NOT]\nleast = 7\ngreatest = 7
-[gate.BUFF]\nleast = 4\ngreatest = 4\n",
-                period: (11, 2),
-                arrivals: &[0, 3],
-            },
-            "0/1 11/2 0/1 11/2 ",
-        ),
-    ] {
-        assert_eq!(rt; text_of(&rt, alloc, &case)?.as_str(), expected);
+    for (case, expected) in &SLACKS {
+        expect_slacks(&rt, rt.alloc(), case, expected)?;
     }
     Ok(())
 }
+
+const HOST_SLACKS: [(Case, &str); 2] = [
+    (
+        Case {
+            text: "INPUT(x)\nA = DFF(x)",
+            host: false,
+            registers: (1, 1, 1, 2),
+            gates: "",
+            period: (5, 1),
+            arrivals: &[0],
+        },
+        "none none ",
+    ),
+    (
+        Case {
+            text: TO_OUTPUT,
+            host: true,
+            registers: (1, 1, 1, 2),
+            gates: "[gate.NOT]\nleast = 1\ngreatest = 3\n",
+            period: (5, 1),
+            arrivals: &[0, 1],
+        },
+        "1/1 1/1 0/1 0/1 ",
+    ),
+];
 
 // Without the host no path ends at the register; with it, paths come from the input and go to the
 // output.
 #[test]
 fn finds_the_slacks_at_the_host(rt: HostRuntime) -> Result<(), Fail> {
-    let alloc = rt.alloc();
-    for (case, expected) in [
-        (
-            Case {
-                text: "INPUT(x)\nA = DFF(x)",
-                host: false,
-                registers: (1, 1, 1, 2),
-                gates: "",
-                period: (5, 1),
-                arrivals: &[0],
-            },
-            "none none ",
-        ),
-        (
-            Case {
-                text: TO_OUTPUT,
-                host: true,
-                registers: (1, 1, 1, 2),
-                gates: "[gate.NOT]\nleast = 1\ngreatest = 3\n",
-                period: (5, 1),
-                arrivals: &[0, 1],
-            },
-            "1/1 1/1 0/1 0/1 ",
-        ),
-    ] {
-        assert_eq!(rt; text_of(&rt, alloc, &case)?.as_str(), expected);
+    for (case, expected) in &HOST_SLACKS {
+        expect_slacks(&rt, rt.alloc(), case, expected)?;
     }
     Ok(())
 }
@@ -184,6 +193,6 @@ fn finds_when_launches_arrive(rt: HostRuntime) -> Result<(), Fail> {
         };
         text.push_str(times.as_str())?;
     }
-    assert_eq!(rt; text.as_str(), "5 14 4 12 3 6 ");
+    expect_same(&rt, text.as_str(), "5 14 4 12 3 6 ", &"text.as_str");
     Ok(())
 }
