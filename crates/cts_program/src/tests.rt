@@ -11,11 +11,11 @@ mod synth;
 mod zero;
 
 use crate::run::run;
-use cts_base::{Listed, NoMemory};
+use cts_base::{Listed, Name};
 use cts_io::{HeldFile, Inputs, MemoryInputs, MemorySink};
-use std::alloc::{AllocError, Global};
+use std::alloc::Global;
+use std::fmt::Debug;
 use std::process::Abort;
-use std::test::Fail;
 
 const USAGE: &str = "usage: cts zero --bench F [--tech F] | cts period --bench F --tech F \
     | cts schedule --bench F --tech F | cts synth --bench F --tech F --pl F \
@@ -82,6 +82,16 @@ least = 2
 greatest = 3
 ";
 
+// What a test found is what it wants, in this row.
+pub(crate) fn expect_same<T: Debug + Drop + PartialEq>(
+    rt: &impl Abort,
+    found: T,
+    wanted: T,
+    row: &impl Debug,
+) {
+    assert_eq!(rt; found, wanted, "for {row:?}");
+}
+
 /// What a run leaves.
 #[derive(Drop)]
 struct Seen {
@@ -93,117 +103,105 @@ struct Seen {
 
 impl Seen {
     fn expect(&self, rt: &impl Abort, status: u8, out: &str, err: &str, row: &str) {
-        assert_eq!(rt; self.status, status, "for {row}");
-        assert_eq!(rt; self.out.bytes(), out.as_bytes(), "for {row}");
-        assert_eq!(rt; self.err.bytes(), err.as_bytes(), "for {row}");
+        expect_same(rt, self.status, status, &row);
+        expect_same(rt, self.out.bytes(), out.as_bytes(), &row);
+        expect_same(rt, self.err.bytes(), err.as_bytes(), &row);
     }
 }
 
 // The words of a command line.
-fn words(alloc: Global, words: &[&str]) -> Result<Vec<String>, AllocError> {
+pub(crate) fn words(rt: &impl Abort, alloc: Global, words: &[&str]) -> Vec<String> {
     let mut all = Vec::new(alloc);
     for word in words {
-        all.push(String::from_str(alloc, word)?)?;
+        let word = String::from_str(alloc, word).expect(rt, "memory");
+        all.push(word).expect(rt, "memory");
     }
-    Ok(all)
+    all
 }
 
-fn held(alloc: Global, name: &str, text: &[u8]) -> Result<HeldFile, NoMemory> {
-    Ok(HeldFile {
-        name: Listed::from_vec(Vec::from_slice(alloc, name.as_bytes())?),
-        bytes: Listed::from_vec(Vec::from_slice(alloc, text)?),
-    })
+fn bytes_of(rt: &impl Abort, alloc: Global, text: &[u8]) -> Name {
+    Listed::from_vec(Vec::from_slice(alloc, text).expect(rt, "memory"))
+}
+
+fn held(rt: &impl Abort, alloc: Global, name: &str, text: &[u8]) -> HeldFile {
+    HeldFile {
+        name: bytes_of(rt, alloc, name.as_bytes()),
+        bytes: bytes_of(rt, alloc, text),
+    }
 }
 
 // Files with the names `F`, `T`, `P` and `R`, as many as there are texts.
-fn listed(alloc: Global, texts: &[&[u8]]) -> Result<Listed<HeldFile>, NoMemory> {
+fn listed(rt: &impl Abort, alloc: Global, texts: &[&[u8]]) -> Listed<HeldFile> {
     let mut files = Listed::new(alloc);
     for (name, text) in ["F", "T", "P", "R"].iter().zip(texts) {
-        files.push(held(alloc, name, text)?)?;
+        files.push(held(rt, alloc, name, text)).expect(rt, "memory");
     }
-    Ok(files)
+    files
 }
 
 // These files, of which the calls of these numbers fail, and a take gives at most `piece` bytes.
 fn held_files(
+    rt: &impl Abort,
     alloc: Global,
     texts: &[&[u8]],
     fails: &[u64],
     piece: usize,
-) -> Result<MemoryInputs, NoMemory> {
-    let files = listed(alloc, texts)?;
-    let fails = Vec::from_slice(alloc, fails)?;
-    Ok(MemoryInputs::new(files, fails, piece.max(1)))
+) -> MemoryInputs {
+    let files = listed(rt, alloc, texts);
+    let fails = Vec::from_slice(alloc, fails).expect(rt, "memory");
+    MemoryInputs::new(files, fails, piece.max(1))
 }
 
-// The netlist `F`, and the table `T` if there is one.
-fn files(
-    alloc: Global,
-    bench: &[u8],
-    tech: Option<&[u8]>,
-    fails: &[u64],
-    piece: usize,
-) -> Result<MemoryInputs, NoMemory> {
-    match tech {
-        Some(tech) => held_files(alloc, &[bench, tech], fails, piece),
-        None => held_files(alloc, &[bench], fails, piece),
-    }
+// These files, where no call fails, and each is taken at once.
+fn whole_files(rt: &impl Abort, alloc: Global, texts: &[&[u8]]) -> MemoryInputs {
+    held_files(rt, alloc, texts, &[], 100_000)
 }
 
 // A sink with room for so many bytes, whose writes of these numbers fail, in pieces of 4 bytes.
-fn sink(alloc: Global, room: usize, fails: &[u64]) -> Result<MemorySink, NoMemory> {
-    let fails = Vec::from_slice(alloc, fails)?;
-    MemorySink::new(alloc, room, fails, 4)
+fn sink(rt: &impl Abort, alloc: Global, room: usize, fails: &[u64]) -> MemorySink {
+    let fails = Vec::from_slice(alloc, fails).expect(rt, "memory");
+    MemorySink::new(alloc, room, fails, 4).expect(rt, "memory")
 }
 
 // What the words leave over these devices.
 fn run_over(
+    rt: &impl Abort,
     alloc: Global,
     command: &[&str],
     inputs: MemoryInputs,
     out: MemorySink,
     err: MemorySink,
-) -> Result<Seen, NoMemory> {
-    let command = words(alloc, command)?;
+) -> Seen {
+    let command = words(rt, alloc, command);
     let mut inputs = inputs;
     let mut out = out;
     let mut err = err;
     let status = run(alloc, &command, &mut inputs, &mut out, &mut err);
-    Ok(Seen {
+    Seen {
         status,
         inputs,
         out,
         err,
-    })
+    }
 }
 
 // What the words leave over these files, where out and err don't fail.
-fn run_on(alloc: Global, command: &[&str], inputs: MemoryInputs) -> Result<Seen, NoMemory> {
-    run_over(
-        alloc,
-        command,
-        inputs,
-        sink(alloc, 100_000, &[])?,
-        sink(alloc, 100_000, &[])?,
-    )
+fn run_on(rt: &impl Abort, alloc: Global, command: &[&str], inputs: MemoryInputs) -> Seen {
+    let out = sink(rt, alloc, 100_000, &[]);
+    let err = sink(rt, alloc, 100_000, &[]);
+    run_over(rt, alloc, command, inputs, out, err)
 }
 
 // What `zero --bench F` leaves where F holds this netlist, and no device fails.
-fn zero_of(alloc: Global, bench: &[u8]) -> Result<Seen, NoMemory> {
-    run_on(
-        alloc,
-        &["zero", "--bench", "F"],
-        files(alloc, bench, None, &[], 100_000)?,
-    )
+fn zero_of(rt: &impl Abort, alloc: Global, bench: &[u8]) -> Seen {
+    let inputs = whole_files(rt, alloc, &[bench]);
+    run_on(rt, alloc, &["zero", "--bench", "F"], inputs)
 }
 
 // What `zero --bench F --tech T` leaves over this netlist and this table.
-fn zero_with(alloc: Global, bench: &[u8], tech: &[u8]) -> Result<Seen, NoMemory> {
-    run_on(
-        alloc,
-        &["zero", "--bench", "F", "--tech", "T"],
-        files(alloc, bench, Some(tech), &[], 100_000)?,
-    )
+fn zero_with(rt: &impl Abort, alloc: Global, bench: &[u8], tech: &[u8]) -> Seen {
+    let inputs = whole_files(rt, alloc, &[bench, tech]);
+    run_on(rt, alloc, &["zero", "--bench", "F", "--tech", "T"], inputs)
 }
 
 // What a command with `--bench F --tech T` must leave over this netlist and this table.
@@ -215,26 +213,22 @@ fn expect_answer(
     tech: &str,
     status: u8,
     text: &str,
-) -> Result<(), NoMemory> {
-    let seen = run_on(
-        alloc,
-        &[command, "--bench", "F", "--tech", "T"],
-        files(alloc, bench.as_bytes(), Some(tech.as_bytes()), &[], 100_000)?,
-    )?;
-    seen.expect(rt, status, text, "", bench);
-    Ok(())
+) {
+    let inputs = whole_files(rt, alloc, &[bench.as_bytes(), tech.as_bytes()]);
+    let command = [command, "--bench", "F", "--tech", "T"];
+    run_on(rt, alloc, &command, inputs).expect(rt, status, text, "", bench);
 }
 
 // A table with a wire, a source, the setup, hold, least and greatest delay of registers, and more.
-fn table(alloc: Global, registers: [u32; 4], more: &str) -> Result<String, AllocError> {
+fn table(rt: &impl Abort, alloc: Global, registers: [u32; 4], more: &str) -> String {
     let [setup, hold, least, greatest] = registers;
     format!(in alloc;
         "{WIRE}setup = {setup}\nhold = {hold}\nleast = {least}\ngreatest = {greatest}\n{more}"
-    )
+    ).expect(rt, "memory")
 }
 
 // A text with another in the place of the first such part.
-fn changed(alloc: Global, text: &str, old: &str, new: &str) -> Result<String, Fail> {
-    let (prefix, suffix) = text.split_once(old).ok_or("not in the text")?;
-    Ok(format!(in alloc; "{prefix}{new}{suffix}")?)
+fn changed(rt: &impl Abort, alloc: Global, text: &str, old: &str, new: &str) -> String {
+    let (prefix, suffix) = text.split_once(old).expect(rt, "in the text");
+    format!(in alloc; "{prefix}{new}{suffix}").expect(rt, "memory")
 }

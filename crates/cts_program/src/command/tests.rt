@@ -1,90 +1,101 @@
 use crate::command::{Command, WordsFault, read_command};
-use std::alloc::{AllocError, Global};
-use std::test::Fail;
+use crate::tests::{expect_same, words};
+use std::alloc::Global;
+use std::process::Abort;
 
-// The words of a command line.
-fn words(alloc: Global, words: &[&str]) -> Result<Vec<String>, AllocError> {
-    let mut all = Vec::new(alloc);
-    for word in words {
-        all.push(String::from_str(alloc, word)?)?;
+fn expect_command(
+    rt: &impl Abort,
+    alloc: Global,
+    row: &[&str],
+    wanted: Result<Command<'_>, WordsFault>,
+) {
+    let words = words(rt, alloc, row);
+    let command = read_command(alloc, words.as_slice());
+    expect_same(rt, command, wanted, &row);
+}
+
+// A command line, the netlist and the table.
+const ZEROS: [(&[&str], &str, Option<&str>); 5] = [
+    (&["zero", "--bench", "F"], "F", None),
+    (&["zero", "--bench", "F", "--tech", "G"], "F", Some("G")),
+    (&["zero", "--tech", "G", "--bench", "F"], "F", Some("G")),
+    // Both options may name one file.
+    (&["zero", "--bench", "F", "--tech", "F"], "F", Some("F")),
+    // A command's name is a value where a value stands.
+    (&["zero", "--bench", "zero"], "zero", None),
+];
+
+#[test]
+fn reads_options_in_any_order(rt: HostRuntime) {
+    for (row, bench, tech) in &ZEROS {
+        let wanted = Ok(Command::Zero {
+            bench: *bench,
+            tech: *tech,
+        });
+        expect_command(&rt, rt.alloc(), row, wanted);
     }
-    Ok(all)
 }
 
 #[test]
-fn reads_options_in_any_order(rt: HostRuntime) -> Result<(), Fail> {
-    let rows: [(&[&str], &str, Option<&str>); 5] = [
-        (&["zero", "--bench", "F"], "F", None),
-        (&["zero", "--bench", "F", "--tech", "G"], "F", Some("G")),
-        (&["zero", "--tech", "G", "--bench", "F"], "F", Some("G")),
-        // Both options may name one file.
-        (&["zero", "--bench", "F", "--tech", "F"], "F", Some("F")),
-        // A command's name is a value where a value stands.
-        (&["zero", "--bench", "zero"], "zero", None),
-    ];
-    for (row, bench, tech) in rows {
-        let words = words(rt.alloc(), row)?;
-        let command = read_command(rt.alloc(), words.as_slice());
-        assert_eq!(rt; command, Ok(Command::Zero { bench, tech }), "for {row:?}");
-    }
-    Ok(())
-}
-
-#[test]
-fn reads_period_with_both_options(rt: HostRuntime) -> Result<(), Fail> {
+fn reads_period_with_both_options(rt: HostRuntime) {
     let rows: [&[&str]; 2] = [
         &["period", "--bench", "F", "--tech", "G"],
         &["period", "--tech", "G", "--bench", "F"],
     ];
-    let (bench, tech) = ("F", "G");
-    for row in rows {
-        let words = words(rt.alloc(), row)?;
-        let command = read_command(rt.alloc(), words.as_slice());
-        assert_eq!(rt; command, Ok(Command::Period { bench, tech }), "for {row:?}");
+    for row in rows.as_slice() {
+        expect_command(
+            &rt,
+            rt.alloc(),
+            row,
+            Ok(Command::Period {
+                bench: "F",
+                tech: "G",
+            }),
+        );
     }
-    Ok(())
 }
 
 #[test]
-fn reads_schedule_with_both_options(rt: HostRuntime) -> Result<(), Fail> {
+fn reads_schedule_with_both_options(rt: HostRuntime) {
     let rows: [&[&str]; 2] = [
         &["schedule", "--bench", "F", "--tech", "G"],
         &["schedule", "--tech", "G", "--bench", "F"],
     ];
-    let (bench, tech) = ("F", "G");
-    for row in rows {
-        let words = words(rt.alloc(), row)?;
-        let command = read_command(rt.alloc(), words.as_slice());
-        assert_eq!(rt;
-            command,
-            Ok(Command::Schedule { bench, tech }),
-            "for {row:?}"
+    for row in rows.as_slice() {
+        expect_command(
+            &rt,
+            rt.alloc(),
+            row,
+            Ok(Command::Schedule {
+                bench: "F",
+                tech: "G",
+            }),
         );
     }
-    Ok(())
 }
 
 #[test]
-fn reads_synth_with_all_options(rt: HostRuntime) -> Result<(), Fail> {
+fn reads_synth_with_all_options(rt: HostRuntime) {
     let rows: [&[&str]; 2] = [
         &["synth", "--bench", "F", "--tech", "G", "--pl", "H"],
         &["synth", "--pl", "H", "--tech", "G", "--bench", "F"],
     ];
-    let (bench, tech, pl) = ("F", "G", "H");
-    for row in rows {
-        let words = words(rt.alloc(), row)?;
-        let command = read_command(rt.alloc(), words.as_slice());
-        assert_eq!(rt;
-            command,
-            Ok(Command::Synth { bench, tech, pl }),
-            "for {row:?}"
+    for row in rows.as_slice() {
+        expect_command(
+            &rt,
+            rt.alloc(),
+            row,
+            Ok(Command::Synth {
+                bench: "F",
+                tech: "G",
+                pl: "H",
+            }),
         );
     }
-    Ok(())
 }
 
 #[test]
-fn reads_check_with_all_options(rt: HostRuntime) -> Result<(), Fail> {
+fn reads_check_with_all_options(rt: HostRuntime) {
     let rows: [&[&str]; 2] = [
         &[
             "check", "--bench", "F", "--tech", "G", "--pl", "H", "--report", "I",
@@ -93,103 +104,97 @@ fn reads_check_with_all_options(rt: HostRuntime) -> Result<(), Fail> {
             "check", "--report", "I", "--tech", "G", "--bench", "F", "--pl", "H",
         ],
     ];
-    let (bench, tech, pl, report) = ("F", "G", "H", "I");
-    for row in rows {
-        let words = words(rt.alloc(), row)?;
-        let command = read_command(rt.alloc(), words.as_slice());
-        assert_eq!(rt;
-            command,
+    for row in rows.as_slice() {
+        expect_command(
+            &rt,
+            rt.alloc(),
+            row,
             Ok(Command::Check {
-                bench,
-                tech,
-                pl,
-                report,
+                bench: "F",
+                tech: "G",
+                pl: "H",
+                report: "I",
             }),
-            "for {row:?}"
         );
     }
-    Ok(())
 }
 
-#[test]
-fn reads_demo_with_both_numbers(rt: HostRuntime) -> Result<(), Fail> {
-    let rows: [(&[&str], &str, &str); 3] = [
-        (&["demo", "--registers", "2", "--seed", "0"], "2", "0"),
-        (
-            &["demo", "--registers", "1000", "--seed", "999"],
-            "1000",
-            "999",
-        ),
-        // Leading zeros are allowed.
-        (
-            &["demo", "--seed", "000", "--registers", "0002"],
-            "0002",
-            "000",
-        ),
-    ];
-    for (row, registers, seed) in rows {
-        let words = words(rt.alloc(), row)?;
-        let command = read_command(rt.alloc(), words.as_slice());
-        assert_eq!(rt;
-            command,
-            Ok(Command::Demo { registers, seed }),
-            "for {row:?}"
-        );
-    }
-    Ok(())
-}
+// A command line and its numbers.
+const DEMOS: [(&[&str], &str, &str); 3] = [
+    (&["demo", "--registers", "2", "--seed", "0"], "2", "0"),
+    (
+        &["demo", "--registers", "1000", "--seed", "999"],
+        "1000",
+        "999",
+    ),
+    // Leading zeros are allowed.
+    (
+        &["demo", "--seed", "000", "--registers", "0002"],
+        "0002",
+        "000",
+    ),
+];
 
 #[test]
-fn refuses_words_that_mean_no_command(rt: HostRuntime) -> Result<(), Fail> {
-    let rows: [&[&str]; 22] = [
-        &[],
-        &["zero"],
-        &["zero", "--bench"],
-        &["--tech", "F", "--bench", "F", "zero"],
-        &["zero", "--bench", "F", "--tech", "F", "--tech", "F"],
-        &["zero", "--bench", "a", "--bench", "b"],
-        &["zero", "--tech", "F"],
-        &["zero", "--bench=F"],
-        &["zero", "--bench", "F", "--"],
-        &["zero", "--bench", "F", "extra"],
-        &["zero", "--bench", "F", "--tech"],
-        &["zero", "--", "--bench", "F"],
-        &["zero", "bench", "F"],
-        &["Zero", "--bench", "F"],
-        &["zero", "--bench", ""],
-        &["zero", "--bench", "-F"],
-        &["--help"],
-        &["zero", "--help"],
-        &["period", "--bench", "F"],
-        &["schedule", "--bench", "F"],
-        &["synth", "--tech", "F", "--pl", "F"],
-        &["check", "--bench", "F", "--tech", "F", "--pl", "F"],
-    ];
-    for row in rows {
-        let words = words(rt.alloc(), row)?;
-        let command = read_command(rt.alloc(), words.as_slice());
-        assert_eq!(rt; command, Err(WordsFault::Usage), "for {row:?}");
+fn reads_demo_with_both_numbers(rt: HostRuntime) {
+    for (row, registers, seed) in &DEMOS {
+        let wanted = Ok(Command::Demo {
+            registers: *registers,
+            seed: *seed,
+        });
+        expect_command(&rt, rt.alloc(), row, wanted);
     }
-    Ok(())
 }
 
+// Words that mean no command.
+const REFUSED: [&[&str]; 22] = [
+    &[],
+    &["zero"],
+    &["zero", "--bench"],
+    &["--tech", "F", "--bench", "F", "zero"],
+    &["zero", "--bench", "F", "--tech", "F", "--tech", "F"],
+    &["zero", "--bench", "a", "--bench", "b"],
+    &["zero", "--tech", "F"],
+    &["zero", "--bench=F"],
+    &["zero", "--bench", "F", "--"],
+    &["zero", "--bench", "F", "extra"],
+    &["zero", "--bench", "F", "--tech"],
+    &["zero", "--", "--bench", "F"],
+    &["zero", "bench", "F"],
+    &["Zero", "--bench", "F"],
+    &["zero", "--bench", ""],
+    &["zero", "--bench", "-F"],
+    &["--help"],
+    &["zero", "--help"],
+    &["period", "--bench", "F"],
+    &["schedule", "--bench", "F"],
+    &["synth", "--tech", "F", "--pl", "F"],
+    &["check", "--bench", "F", "--tech", "F", "--pl", "F"],
+];
+
 #[test]
-fn refuses_other_numbers_than_a_demonstration_has(rt: HostRuntime) -> Result<(), Fail> {
-    let rows: [&[&str]; 9] = [
-        &["demo", "--registers", "1", "--seed", "0"],
-        &["demo", "--registers", "1001", "--seed", "0"],
-        &["demo", "--registers", "2", "--seed", "1000"],
-        &["demo", "--registers", "00002", "--seed", "0"],
-        &["demo", "--registers", "+5", "--seed", "0"],
-        &["demo", "--registers", "F", "--seed", "0"],
-        &["demo", "--registers", "", "--seed", "0"],
-        &["demo", "--registers", "--seed", "0"],
-        &["demo", "--seed", "0", "--registers"],
-    ];
-    for row in rows {
-        let words = words(rt.alloc(), row)?;
-        let command = read_command(rt.alloc(), words.as_slice());
-        assert_eq!(rt; command, Err(WordsFault::Usage), "for {row:?}");
+fn refuses_words_that_mean_no_command(rt: HostRuntime) {
+    for row in &REFUSED {
+        expect_command(&rt, rt.alloc(), row, Err(WordsFault::Usage));
     }
-    Ok(())
+}
+
+// Other numbers than a demonstration has.
+const REFUSED_NUMBERS: [&[&str]; 9] = [
+    &["demo", "--registers", "1", "--seed", "0"],
+    &["demo", "--registers", "1001", "--seed", "0"],
+    &["demo", "--registers", "2", "--seed", "1000"],
+    &["demo", "--registers", "00002", "--seed", "0"],
+    &["demo", "--registers", "+5", "--seed", "0"],
+    &["demo", "--registers", "F", "--seed", "0"],
+    &["demo", "--registers", "", "--seed", "0"],
+    &["demo", "--registers", "--seed", "0"],
+    &["demo", "--seed", "0", "--registers"],
+];
+
+#[test]
+fn refuses_other_numbers_than_a_demonstration_has(rt: HostRuntime) {
+    for row in &REFUSED_NUMBERS {
+        expect_command(&rt, rt.alloc(), row, Err(WordsFault::Usage));
+    }
 }

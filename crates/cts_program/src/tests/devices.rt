@@ -1,11 +1,12 @@
 use crate::run::run;
 use crate::tests::problems::{CHECK, S27_PROBLEM, S27_TREE, SYNTH, texts_of, texts_with};
-use crate::tests::{Seen, held_files, listed, run_on, run_over, sink, words};
-use cts_base::{Listed, NoMemory};
+use crate::tests::{
+    Seen, expect_same, held_files, listed, run_on, run_over, sink, whole_files, words,
+};
+use cts_base::Listed;
 use cts_io::{MemorySink, NeverFails};
 use std::alloc::Global;
 use std::process::Abort;
-use std::test::Fail;
 
 // The line for a call that fails. In one piece a file takes three calls: a start, a take, and one
 // that finds its end.
@@ -27,55 +28,50 @@ fn expect_read_faults(
     texts: &[&[u8]],
     past: u64,
     text: &str,
-) -> Result<(), NoMemory> {
+) {
     for call in 1..past {
-        let seen = run_on(alloc, command, held_files(alloc, texts, &[call], 100_000)?)?;
+        let files = held_files(rt, alloc, texts, &[call], 100_000);
+        let seen = run_on(rt, alloc, command, files);
         seen.expect(rt, 4, "", read_fault(call), "a failing call");
     }
-    let seen = run_on(alloc, command, held_files(alloc, texts, &[past], 100_000)?)?;
-    seen.expect(rt, 0, text, "", "no call that fails");
-    let seen = run_on(alloc, command, held_files(alloc, texts, &[], 1)?)?;
-    seen.expect(rt, 0, text, "", "takes of one byte");
-    Ok(())
+    let files = held_files(rt, alloc, texts, &[past], 100_000);
+    run_on(rt, alloc, command, files).expect(rt, 0, text, "", "no call that fails");
+    let files = held_files(rt, alloc, texts, &[], 1);
+    run_on(rt, alloc, command, files).expect(rt, 0, text, "", "takes of one byte");
 }
 
 #[test]
-fn blames_each_file_that_fails(rt: HostRuntime) -> Result<(), Fail> {
+fn blames_each_file_that_fails(rt: HostRuntime) {
     let alloc = rt.alloc();
     let texts = texts_of(S27_PROBLEM);
-    expect_read_faults(&rt, alloc, &SYNTH, &texts, 10, S27_TREE)?;
+    expect_read_faults(&rt, alloc, &SYNTH, &texts, 10, S27_TREE);
     let texts = texts_with(S27_PROBLEM, S27_TREE.as_bytes());
-    expect_read_faults(&rt, alloc, &CHECK, &texts, 13, "shown\n")?;
-    Ok(())
+    expect_read_faults(&rt, alloc, &CHECK, &texts, 13, "shown\n");
 }
 
 #[test]
-fn blames_a_missing_file(rt: HostRuntime) -> Result<(), Fail> {
+fn blames_a_missing_file(rt: HostRuntime) {
     let alloc = rt.alloc();
     let texts = texts_of(S27_PROBLEM);
     let synth = ["synth", "--bench", "F", "--tech", "T", "--pl", "Q"];
-    let seen = run_on(alloc, &synth, held_files(alloc, &texts, &[], 100_000)?)?;
+    let seen = run_on(&rt, alloc, &synth, whole_files(&rt, alloc, &texts));
     seen.expect(&rt, 4, "", "read fault pl\n", "a missing placement");
-    let seen = run_on(alloc, &CHECK, held_files(alloc, &texts, &[], 100_000)?)?;
+    let seen = run_on(&rt, alloc, &CHECK, whole_files(&rt, alloc, &texts));
     seen.expect(&rt, 4, "", "read fault report\n", "a missing report");
-    Ok(())
 }
 
 // What a command leaves over these files where this write of its text, in pieces of 16 bytes, fails.
 fn write_failing(
+    rt: &impl Abort,
     alloc: Global,
     command: &[&str],
     texts: &[&[u8]],
     write: u64,
-) -> Result<Seen, NoMemory> {
-    let fails = Vec::from_slice(alloc, &[write])?;
-    run_over(
-        alloc,
-        command,
-        held_files(alloc, texts, &[], 100_000)?,
-        MemorySink::new(alloc, 1000, fails, 16)?,
-        sink(alloc, 1000, &[])?,
-    )
+) -> Seen {
+    let fails = Vec::from_slice(alloc, &[write]).expect(rt, "memory");
+    let out = MemorySink::new(alloc, 1000, fails, 16).expect(rt, "memory");
+    let err = sink(rt, alloc, 1000, &[]);
+    run_over(rt, alloc, command, whole_files(rt, alloc, texts), out, err)
 }
 
 // Each of so many writes fails in turn, and then the one after them, which never comes.
@@ -86,60 +82,50 @@ fn expect_write_faults(
     texts: &[&[u8]],
     writes: u8,
     text: &str,
-) -> Result<(), Fail> {
+) {
     for before in 0..writes {
-        let prefix = text.get(..usize::from(before) * 16).ok_or("no such piece")?;
-        let seen = write_failing(alloc, command, texts, u64::from(before) + 1)?;
+        let prefix = text.get(..usize::from(before) * 16).expect(rt, "a piece");
+        let seen = write_failing(rt, alloc, command, texts, u64::from(before) + 1);
         seen.expect(rt, 5, prefix, "write fault\n", "a failing write");
     }
-    let seen = write_failing(alloc, command, texts, u64::from(writes) + 1)?;
+    let seen = write_failing(rt, alloc, command, texts, u64::from(writes) + 1);
     seen.expect(rt, 0, text, "", "no write that fails");
-    Ok(())
 }
 
 // The tree of s27 has 318 bytes, and its last write has 14.
 #[test]
-fn writes_a_prefix_of_each_text(rt: HostRuntime) -> Result<(), Fail> {
+fn writes_a_prefix_of_each_text(rt: HostRuntime) {
     let alloc = rt.alloc();
     let texts = texts_with(S27_PROBLEM, S27_TREE.as_bytes());
-    expect_write_faults(&rt, alloc, &SYNTH, &texts, 20, S27_TREE)?;
-    expect_write_faults(&rt, alloc, &CHECK, &texts, 1, "shown\n")
+    expect_write_faults(&rt, alloc, &SYNTH, &texts, 20, S27_TREE);
+    expect_write_faults(&rt, alloc, &CHECK, &texts, 1, "shown\n");
 }
 
 // No write fails, but no more than 16 bytes fit.
 #[test]
-fn writes_what_fits(rt: HostRuntime) -> Result<(), Fail> {
+fn writes_what_fits(rt: HostRuntime) {
     let alloc = rt.alloc();
-    let seen = run_over(
-        alloc,
-        &SYNTH,
-        held_files(alloc, &texts_of(S27_PROBLEM), &[], 100_000)?,
-        sink(alloc, 16, &[])?,
-        sink(alloc, 1000, &[])?,
-    )?;
-    seen.expect(
-        &rt,
-        5,
-        "cts 2\nperiod 13\n",
-        "write fault\n",
-        "a small room",
-    );
-    Ok(())
+    let inputs = whole_files(&rt, alloc, &texts_of(S27_PROBLEM));
+    let out = sink(&rt, alloc, 16, &[]);
+    let err = sink(&rt, alloc, 1000, &[]);
+    let seen = run_over(&rt, alloc, &SYNTH, inputs, out, err);
+    let text = "cts 2\nperiod 13\n";
+    seen.expect(&rt, 5, text, "write fault\n", "a small room");
+}
+
+fn expect_no_fault(rt: &impl Abort, alloc: Global, row: &[&str]) {
+    let command = words(rt, alloc, row);
+    let texts = texts_with(S27_PROBLEM, S27_TREE.as_bytes());
+    let mut inputs = NeverFails::new(listed(rt, alloc, &texts));
+    let mut out = NeverFails::new(Listed::new(alloc));
+    let mut err = sink(rt, alloc, 1000, &[]);
+    let status = run(alloc, &command, &mut inputs, &mut out, &mut err);
+    expect_same(rt, status, 0, &row);
+    assert!(rt; err.bytes().is_empty(), "for {row:?}");
 }
 
 #[test]
-fn answers_over_devices_that_never_fail(rt: HostRuntime) -> Result<(), Fail> {
-    let alloc = rt.alloc();
-    let rows: [&[&str]; 2] = [&SYNTH, &CHECK];
-    for row in rows {
-        let command = words(alloc, row)?;
-        let texts = texts_with(S27_PROBLEM, S27_TREE.as_bytes());
-        let mut inputs = NeverFails::new(listed(alloc, &texts)?);
-        let mut out = NeverFails::new(Listed::new(alloc));
-        let mut err = sink(alloc, 1000, &[])?;
-        let status = run(alloc, &command, &mut inputs, &mut out, &mut err);
-        assert_eq!(rt; status, 0, "for {row:?}");
-        assert!(rt; err.bytes().is_empty(), "for {row:?}");
-    }
-    Ok(())
+fn answers_over_devices_that_never_fail(rt: HostRuntime) {
+    expect_no_fault(&rt, rt.alloc(), &SYNTH);
+    expect_no_fault(&rt, rt.alloc(), &CHECK);
 }

@@ -1,6 +1,6 @@
 use crate::tests::{FLOOR, NO_PATH, zero_of, zero_with};
 use std::alloc::{AllocError, Global};
-use std::test::Fail;
+use std::process::Abort;
 
 // A netlist of primary inputs that the numbers below `inputs` name, and of registers that capture
 // the first.
@@ -51,72 +51,108 @@ fn filled_gates(alloc: Global, last: &str) -> Result<Vec<u8>, AllocError> {
     Ok(netlist)
 }
 
-#[test]
-fn counts_signals(rt: HostRuntime) -> Result<(), Fail> {
-    let alloc = rt.alloc();
-    let mut netlist = wide_netlist(alloc, 65_535, 1)?;
-    zero_of(alloc, &netlist)?.expect(&rt, 0, FLOOR, "", "65,536 signals");
+// What a netlist that is made must give.
+fn expect_zero(
+    rt: &impl Abort,
+    alloc: Global,
+    made: Result<Vec<u8>, AllocError>,
+    text: &str,
+    row: &str,
+) {
+    let netlist = made.expect(rt, "memory");
+    zero_of(rt, alloc, &netlist).expect(rt, 0, text, "", row);
+}
+
+fn expect_refused(
+    rt: &impl Abort,
+    alloc: Global,
+    made: Result<Vec<u8>, AllocError>,
+    line: &str,
+    row: &str,
+) {
+    let netlist = made.expect(rt, "memory");
+    zero_of(rt, alloc, &netlist).expect(rt, 3, "", line, row);
+}
+
+// A netlist with one primary input more.
+fn with_input(alloc: Global, inputs: u32) -> Result<Vec<u8>, AllocError> {
+    let mut netlist = wide_netlist(alloc, inputs, 1)?;
     netlist.extend_from_slice(b"INPUT(y)\n")?;
+    Ok(netlist)
+}
+
+#[test]
+fn counts_signals(rt: HostRuntime) {
+    let alloc = rt.alloc();
+    let most = wide_netlist(alloc, 65_535, 1);
+    expect_zero(&rt, alloc, most, FLOOR, "65,536 signals");
+    let more = with_input(alloc, 65_535);
     let line = "refused bench 5 line 65537 signals\n";
-    zero_of(alloc, &netlist)?.expect(&rt, 3, "", line, "65,537 signals");
-    Ok(())
+    expect_refused(&rt, alloc, more, line, "65,537 signals");
 }
 
 #[test]
-fn counts_registers(rt: HostRuntime) -> Result<(), Fail> {
+fn counts_registers(rt: HostRuntime) {
     let alloc = rt.alloc();
-    let most = wide_netlist(alloc, 1, 4096)?;
-    zero_of(alloc, &most)?.expect(&rt, 0, FLOOR, "", "4,096 registers");
-    let more = wide_netlist(alloc, 1, 4097)?;
+    let most = wide_netlist(alloc, 1, 4096);
+    expect_zero(&rt, alloc, most, FLOOR, "4,096 registers");
+    let more = wide_netlist(alloc, 1, 4097);
     let line = "refused bench 5 line 4098 registers\n";
-    zero_of(alloc, &more)?.expect(&rt, 3, "", line, "4,097 registers");
-    Ok(())
+    expect_refused(&rt, alloc, more, line, "4,097 registers");
 }
 
 #[test]
-fn counts_the_bytes_of_a_name(rt: HostRuntime) -> Result<(), Fail> {
+fn counts_the_bytes_of_a_name(rt: HostRuntime) {
     let alloc = rt.alloc();
-    let most = long_name(alloc, 255)?;
-    zero_of(alloc, &most)?.expect(&rt, 0, "zero 5\nsetup a a 5\n", "", "a name of 255 bytes");
-    let more = long_name(alloc, 256)?;
+    let most = long_name(alloc, 255);
+    expect_zero(
+        &rt,
+        alloc,
+        most,
+        "zero 5\nsetup a a 5\n",
+        "a name of 255 bytes",
+    );
+    let more = long_name(alloc, 256);
     let line = "refused bench 5 line 1 name\n";
-    zero_of(alloc, &more)?.expect(&rt, 3, "", line, "a name of 256 bytes");
-    Ok(())
+    expect_refused(&rt, alloc, more, line, "a name of 256 bytes");
+}
+
+// A netlist with a gate of so many inputs.
+fn wide_gate(alloc: Global, inputs: u32) -> Result<Vec<u8>, AllocError> {
+    let mut netlist = Vec::from_slice(alloc, NO_PATH.as_bytes())?;
+    push_gate(&mut netlist, "g", inputs)?;
+    Ok(netlist)
 }
 
 #[test]
-fn counts_the_inputs_of_gates(rt: HostRuntime) -> Result<(), Fail> {
+fn counts_the_inputs_of_gates(rt: HostRuntime) {
     let alloc = rt.alloc();
-    let mut wide = Vec::from_slice(alloc, NO_PATH.as_bytes())?;
-    push_gate(&mut wide, "g", 1025)?;
-    let line = "refused bench 3 line 3\n";
-    zero_of(alloc, &wide)?.expect(&rt, 3, "", line, "1,025 inputs");
+    let wide = wide_gate(alloc, 1025);
+    expect_refused(&rt, alloc, wide, "refused bench 3 line 3\n", "1,025 inputs");
+    let most = filled_gates(alloc, "# 262,144 inputs");
+    expect_zero(&rt, alloc, most, FLOOR, "# 262,144 inputs");
     // A register's input isn't among the 262,144.
-    for last in ["# 262,144 inputs", "b = DFF(x)"] {
-        zero_of(alloc, &filled_gates(alloc, last)?)?.expect(&rt, 0, FLOOR, "", last);
-    }
-    let more = filled_gates(alloc, "h = NOT(x)")?;
+    let register = filled_gates(alloc, "b = DFF(x)");
+    expect_zero(&rt, alloc, register, FLOOR, "b = DFF(x)");
+    let more = filled_gates(alloc, "h = NOT(x)");
     let line = "refused bench 5 line 259 inputs\n";
-    zero_of(alloc, &more)?.expect(&rt, 3, "", line, "262,145 inputs");
-    Ok(())
+    expect_refused(&rt, alloc, more, line, "262,145 inputs");
 }
 
 #[test]
-fn counts_the_bytes_of_a_file(rt: HostRuntime) -> Result<(), Fail> {
+fn counts_the_bytes_of_a_file(rt: HostRuntime) {
     let alloc = rt.alloc();
-    let most = filled_netlist(alloc, 16_777_216)?;
-    zero_of(alloc, &most)?.expect(&rt, 0, FLOOR, "", "16 MiB");
-    let more = filled_netlist(alloc, 16_777_217)?;
-    zero_of(alloc, &more)?.expect(&rt, 3, "", "refused bench long\n", "a byte more");
-    Ok(())
+    let most = filled_netlist(alloc, 16_777_216);
+    expect_zero(&rt, alloc, most, FLOOR, "16 MiB");
+    let more = filled_netlist(alloc, 16_777_217);
+    expect_refused(&rt, alloc, more, "refused bench long\n", "a byte more");
 }
 
 #[test]
-fn counts_the_bytes_of_a_table(rt: HostRuntime) -> Result<(), Fail> {
-    let long = vec![in rt.alloc(); b'#'; 16_777_217]?;
-    let seen = zero_with(rt.alloc(), NO_PATH.as_bytes(), &long)?;
+fn counts_the_bytes_of_a_table(rt: HostRuntime) {
+    let long = vec![in rt.alloc(); b'#'; 16_777_217].expect(&rt, "memory");
+    let seen = zero_with(&rt, rt.alloc(), NO_PATH.as_bytes(), &long);
     seen.expect(&rt, 3, "", "refused tech long\n", "a byte more");
-    Ok(())
 }
 
 // A gate with so many inputs, each a register that captures it.
@@ -133,12 +169,16 @@ fn joined_registers(alloc: Global, inputs: u32, registers: u32) -> Result<Vec<u8
 }
 
 #[test]
-fn counts_joined_pairs(rt: HostRuntime) -> Result<(), Fail> {
+fn counts_joined_pairs(rt: HostRuntime) {
     let alloc = rt.alloc();
-    let most = joined_registers(alloc, 1024, 1024)?;
-    let text = "zero 6\nsetup r0 r0 6\n";
-    zero_of(alloc, &most)?.expect(&rt, 0, text, "", "1,048,576 pairs");
-    let more = joined_registers(alloc, 1024, 1025)?;
-    zero_of(alloc, &more)?.expect(&rt, 3, "", "refused pairs\n", "1,024 pairs more");
-    Ok(())
+    let most = joined_registers(alloc, 1024, 1024);
+    expect_zero(
+        &rt,
+        alloc,
+        most,
+        "zero 6\nsetup r0 r0 6\n",
+        "1,048,576 pairs",
+    );
+    let more = joined_registers(alloc, 1024, 1025);
+    expect_refused(&rt, alloc, more, "refused pairs\n", "1,024 pairs more");
 }

@@ -3,11 +3,10 @@ use crate::tests::problems::{
     S27_PLACES, S27_TREE, SYNTH, texts_of,
 };
 use crate::tests::{
-    LOPSIDED, NO_PATH, S27, S27_TABLE, SLOW, Seen, changed, held_files, run_on, table,
+    LOPSIDED, NO_PATH, S27, S27_TABLE, SLOW, Seen, changed, run_on, table, whole_files,
 };
-use cts_base::NoMemory;
 use std::alloc::Global;
-use std::test::Fail;
+use std::process::Abort;
 
 // The places of s27 in other spellings, and a node that isn't wanted.
 const LOOSE: &str = "UCLA pl 1.0
@@ -20,37 +19,41 @@ CLK 5 10 :N /FIXED_NI
 ";
 
 // What `synth` leaves over these files.
-fn synth_of(alloc: Global, bench: &str, tech: &str, pl: &str) -> Result<Seen, NoMemory> {
-    let texts = texts_of([bench, tech, pl]);
-    run_on(alloc, &SYNTH, held_files(alloc, &texts, &[], 100_000)?)
+fn synth_of(rt: &impl Abort, alloc: Global, bench: &str, tech: &str, pl: &str) -> Seen {
+    let inputs = whole_files(rt, alloc, &texts_of([bench, tech, pl]));
+    run_on(rt, alloc, &SYNTH, inputs)
 }
 
 #[test]
-fn makes_the_tree_of_s27(rt: HostRuntime) -> Result<(), Fail> {
-    for pl in [S27_PLACES, LOOSE] {
-        synth_of(rt.alloc(), S27, S27_TABLE, pl)?.expect(&rt, 0, S27_TREE, "", pl);
+fn makes_the_tree_of_s27(rt: HostRuntime) {
+    for pl in [S27_PLACES, LOOSE].as_slice() {
+        synth_of(&rt, rt.alloc(), S27, S27_TABLE, pl).expect(&rt, 0, S27_TREE, "", pl);
     }
-    Ok(())
 }
 
 #[test]
-fn makes_trees_with_detours(rt: HostRuntime) -> Result<(), Fail> {
+fn makes_trees_with_detours(rt: HostRuntime) {
     let alloc = rt.alloc();
-    let tech = table(alloc, [0, 0, 0, 0], SLOW)?;
-    let seen = synth_of(alloc, LOPSIDED, &tech, LOPSIDED_PLACES)?;
+    let tech = table(&rt, alloc, [0, 0, 0, 0], SLOW);
+    let seen = synth_of(&rt, alloc, LOPSIDED, &tech, LOPSIDED_PLACES);
     seen.expect(&rt, 0, LOPSIDED_TREE, "", "a detour");
     // Both registers stand at one place.
     let node = "1 1 0 3/2 4 0 0 0 1/4 1 1/4 1 0\n";
     let loop_node = "1 0 0 3/2 5 0 0 3/8 0 3/8 3/8 0 3/8 0 0\n";
-    let tree = changed(alloc, LOPSIDED_TREE, node, loop_node)?;
-    let seen = synth_of(alloc, LOPSIDED, &tech, "A 0 0\nB 0 0\nCLK 0 0\n")?;
+    let tree = changed(&rt, alloc, LOPSIDED_TREE, node, loop_node);
+    let seen = synth_of(&rt, alloc, LOPSIDED, &tech, "A 0 0\nB 0 0\nCLK 0 0\n");
     seen.expect(&rt, 0, &tree, "", "one place");
-    Ok(())
+}
+
+// The tree of registers whose delays and times are 0.
+fn expect_tree(rt: &impl Abort, alloc: Global, bench: &str, more: &str, pl: &str, text: &str) {
+    let tech = table(rt, alloc, [0, 0, 0, 0], more);
+    synth_of(rt, alloc, bench, &tech, pl).expect(rt, 0, text, "", bench);
 }
 
 // No path joins registers, so the floor shows the period.
 #[test]
-fn makes_trees_without_skew(rt: HostRuntime) -> Result<(), Fail> {
+fn makes_trees_without_skew(rt: HostRuntime) {
     for (bench, more, pl, text) in [
         (PAIR, "", PAIR_PLACES, PAIR_TREE),
         (LONE, "[period]\nfloor = 5\n", LONE_PLACES, LONE_TREE),
@@ -75,18 +78,27 @@ fn makes_trees_without_skew(rt: HostRuntime) -> Result<(), Fail> {
              source 2 root\nnodes 5\n0 0 0 1 2 1 0 0 0\n1 2 0 1 2 1 0 2 0\n2 4 0 2 2 2 0 4 0\n\
              3 1 0 1 2 2 0 1 0\n4 2 0 0 1 2 0\nwire 5\n",
         ),
-    ] {
-        let tech = table(rt.alloc(), [0, 0, 0, 0], more)?;
-        synth_of(rt.alloc(), bench, &tech, pl)?.expect(&rt, 0, text, "", bench);
+    ]
+    .as_slice()
+    {
+        expect_tree(&rt, rt.alloc(), bench, more, pl, text);
     }
-    Ok(())
+}
+
+// The host stands at this node of the table.
+fn expect_host(rt: &impl Abort, alloc: Global, place: &str, status: u8, text: &str, line: &str) {
+    let more = format!(in alloc;
+        "[gate.NOT]\nleast = 1\ngreatest = 3\n[host]\nplace = \"{place}\"\n"
+    ).expect(rt, "memory");
+    let tech = table(rt, alloc, [1, 1, 1, 2], &more);
+    let bench = "INPUT(x)\nOUTPUT(g)\nA = DFF(x)\ng = NOT(A)\n";
+    let seen = synth_of(rt, alloc, bench, &tech, "A 0 0\nCLK 4 0\n");
+    seen.expect(rt, status, text, line, place);
 }
 
 // The host is a sink where the table gives it a place.
 #[test]
-fn makes_a_tree_with_the_host(rt: HostRuntime) -> Result<(), Fail> {
-    let bench = "INPUT(x)\nOUTPUT(g)\nA = DFF(x)\ng = NOT(A)\n";
-    let pl = "A 0 0\nCLK 4 0\n";
+fn makes_a_tree_with_the_host(rt: HostRuntime) {
     for (place, status, text, line) in [
         (
             "CLK",
@@ -99,27 +111,27 @@ fn makes_a_tree_with_the_host(rt: HostRuntime) -> Result<(), Fail> {
             "",
         ),
         ("PAD", 3, "", "refused pl 4 (host)\n"),
-    ] {
-        let more = format!(in rt.alloc();
-            "[gate.NOT]\nleast = 1\ngreatest = 3\n[host]\nplace = \"{place}\"\n"
-        )?;
-        let tech = table(rt.alloc(), [1, 1, 1, 2], &more)?;
-        synth_of(rt.alloc(), bench, &tech, pl)?.expect(&rt, status, text, line, place);
+    ]
+    .as_slice()
+    {
+        expect_host(&rt, rt.alloc(), place, *status, text, line);
     }
-    Ok(())
 }
 
 #[test]
-fn makes_no_tree_without_a_period(rt: HostRuntime) -> Result<(), Fail> {
-    let tech = table(rt.alloc(), [0, 2, 1, 1], "")?;
-    let seen = synth_of(rt.alloc(), "A = DFF(A)\n", &tech, "A 0 0\nCLK 0 0\n")?;
+fn makes_no_tree_without_a_period(rt: HostRuntime) {
+    let tech = table(&rt, rt.alloc(), [0, 2, 1, 1], "");
+    let seen = synth_of(&rt, rt.alloc(), "A = DFF(A)\n", &tech, "A 0 0\nCLK 0 0\n");
     seen.expect(&rt, 1, "never\ncycle 1\nhold A A 1\n", "", "no period");
-    Ok(())
+}
+
+fn expect_refused_places(rt: &impl Abort, alloc: Global, pl: &str, line: &str) {
+    let tech = table(rt, alloc, [0, 0, 0, 0], "");
+    synth_of(rt, alloc, NO_PATH, &tech, pl).expect(rt, 3, "", line, pl);
 }
 
 #[test]
-fn refuses_placements(rt: HostRuntime) -> Result<(), Fail> {
-    let tech = table(rt.alloc(), [0, 0, 0, 0], "")?;
+fn refuses_placements(rt: HostRuntime) {
     for (pl, line) in [
         ("a 0\n", "refused pl 1 line 1\n"),
         ("UCLA pl 1.0\na 0 y\n", "refused pl 2 line 2 1\n"),
@@ -127,32 +139,25 @@ fn refuses_placements(rt: HostRuntime) -> Result<(), Fail> {
         ("a 0 0\na 0 0\n", "refused pl 3 line 2\n"),
         ("CLK 0 0\n", "refused pl 4 a\n"),
         ("a 0 0\n", "refused pl 5\n"),
-    ] {
-        synth_of(rt.alloc(), NO_PATH, &tech, pl)?.expect(&rt, 3, "", line, pl);
+    ]
+    .as_slice()
+    {
+        expect_refused_places(&rt, rt.alloc(), pl, line);
     }
-    Ok(())
+}
+
+fn expect_refused_number(rt: &impl Abort, alloc: Global, pl: &str, change: [&str; 2], line: &str) {
+    let [old, new] = change;
+    let pl = changed(rt, alloc, pl, old, new);
+    synth_of(rt, alloc, S27, S27_TABLE, &pl).expect(rt, 3, "", line, new);
 }
 
 // Too fine, and too large by a millionth.
 #[test]
-fn refuses_numbers_among_good_places(rt: HostRuntime) -> Result<(), Fail> {
+fn refuses_numbers_among_good_places(rt: HostRuntime) {
     let alloc = rt.alloc();
-    for (pl, old, new, line) in [
-        (
-            LOOSE,
-            "G5 0.000000 0",
-            "G5 0.0000001 0",
-            "refused pl 2 line 3 2\n",
-        ),
-        (
-            S27_PLACES,
-            "G5 0 0",
-            "G5 1000000000.000001 0",
-            "refused pl 2 line 2 3\n",
-        ),
-    ] {
-        let pl = changed(alloc, pl, old, new)?;
-        synth_of(alloc, S27, S27_TABLE, &pl)?.expect(&rt, 3, "", line, new);
-    }
-    Ok(())
+    let fine = ["G5 0.000000 0", "G5 0.0000001 0"];
+    expect_refused_number(&rt, alloc, LOOSE, fine, "refused pl 2 line 3 2\n");
+    let large = ["G5 0 0", "G5 1000000000.000001 0"];
+    expect_refused_number(&rt, alloc, S27_PLACES, large, "refused pl 2 line 2 3\n");
 }
