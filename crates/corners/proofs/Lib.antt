@@ -1,0 +1,3 @@
+mod GreatestLemmas
+mod CombinedLemmas
+mod SatisfiedLemmas

@@ -1,0 +1,2 @@
+pub mod CornerLists
+pub mod GreatestWeights
