@@ -9,12 +9,12 @@ pub loop-corner-preserved : goal.loop-corner-preserved
 loop-corner-preserved c = elim c.if-weight-constraint_of.branch [
   | then-weight-constraint_of w ↦
       rw w.greatest-is
-      (greater_next c.loop-corner.invariant c.loop-corner-test.true
+      (greater_next c.loop-corner.invariant (omega (arith, c.loop-corner-test.true))
       (rw (← c.constraint_of.ensures, ← c.constraint_of-weight.ensures)
       (grind (arith, ints, w.if-weight-constraint_of.true))))
   | else-weight-constraint_of w ↦
       rw w.greatest-is
-      (lesser_next c.loop-corner.invariant c.loop-corner-test.true
+      (lesser_next c.loop-corner.invariant (omega (arith, c.loop-corner-test.true))
       (rw (← c.constraint_of.ensures, ← c.constraint_of-weight.ensures)
       (grind (arith, ints, w.if-weight-constraint_of.false))))
 ]
