@@ -1,3 +1,4 @@
 mod GreatestLemmas
 mod CombinedLemmas
 mod SatisfiedLemmas
+mod SmallLemmas

@@ -1,5 +1,5 @@
 ghost use Rattle.std.specs.Prelude.{◌≡◌, ◌<◌, ◌↔◌, ℕ, ℤ, All, IfOk, length};
-ghost use Rattle.cts_model.specs.Constraints.{Satisfies};
+ghost use Rattle.cts_model.specs.Constraints.{Satisfies, AreSmallConstraints};
 ghost use Rattle.corners.specs.CornerLists.{AreCorners};
 ghost use Rattle.corners.specs.GreatestWeights.{IsCombinedAt};
 
@@ -31,6 +31,9 @@ pub fn combine(alloc: Global, lists: &Listed<Listed<Constraint>>) -> Result<Comb
     ensures satisfies { IfOk result (λ combined. (scale : ℕ) (period : ℤ) (arrival : ℕ → ℤ)
         → Satisfies combined.constraints scale period arrival
         ↔ All (λ list. Satisfies list scale period arrival) lists.now) }
+    ensures small { IfOk result (λ combined. (registers : ℕ)
+        → All (AreSmallConstraints registers) lists.now
+        → AreSmallConstraints registers combined.constraints) }
 {
     let lists = lists.as_slice();
     let mut constraints = Listed::new(alloc);
