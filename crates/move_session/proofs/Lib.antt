@@ -1,0 +1,6 @@
+mod NumberFaults
+mod NameNumbers
+mod EntryLemmas
+mod TakenLines
+mod MovesWalk
+mod OneFault
