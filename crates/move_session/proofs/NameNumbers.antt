@@ -50,7 +50,8 @@ module _ {K : Type 0} (bytes : K → List ℕ) where
   -- a key that is put in gets its number, and every other keeps its own
   pub lookup-insert_entry : (entries : List (K × ℕ)) (key : K) (number : ℕ) (other : List ℕ)
       → lookup (bytes_eq other) (map named (insert_entry same_key entries key number))
-      ≡ cond (bytes_eq other (bytes key)) (Some number) (lookup (bytes_eq other) (map named entries))
+      ≡ cond (bytes_eq other (bytes key)) (Some number)
+      (lookup (bytes_eq other) (map named entries))
   lookup-insert_entry [] key number other = refl
   lookup-insert_entry (entry ∷ entries) key number other =
       at (same_key key entry.0) refl (lookup-insert_entry entries key number other)

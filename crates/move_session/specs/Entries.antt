@@ -1,7 +1,7 @@
 -- The entries of a text of moves: each line that isn't blank has three words, a register's name and
--- the two coordinates of the place where it goes. What a line denotes is determined by its words, its
--- comment cut off. The form is this project's choice; comments and words are those of the ISCAS'89
--- and Bookshelf formats.
+-- the two coordinates of the place where it goes. What a line denotes is determined by its words,
+-- its comment cut off. The form is this project's choice; comments and words are those of the
+-- ISCAS'89 and Bookshelf formats.
 use Rattle.std.specs.Prelude.{ℕ, Bool, not, ◌==◌, List, [], ◌∷◌, map, length, filter, Option, Some, None}
 use Rattle.cts_base.specs.Lines.{lines_of}
 use Rattle.cts_base.specs.Words.{words_of, before_hash}
