@@ -1,6 +1,5 @@
 ghost use Rattle.std.specs.Prelude.{◌≡◌, ◌∷◌, MatchResult};
 ghost use Rattle.std.specs.Option.{option_map};
-ghost use Rattle.cts_model.specs.declared.place.Point.{Point};
 ghost use Rattle.cts_base.specs.Decimals.{IsRead};
 ghost use Rattle.move_session.specs.Entries.{fields_of, words_in};
 ghost use Rattle.move_session.specs.Flaws.{RefusesPlace};

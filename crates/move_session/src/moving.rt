@@ -1,4 +1,4 @@
-ghost use Rattle.std.specs.Prelude.{◌≡◌, ◌∷◌, ◌++◌, [], List, ℕ, length, IfOk, MatchResult};
+ghost use Rattle.std.specs.Prelude.{◌∷◌, ◌++◌, [], List, ℕ, length, IfOk, MatchResult};
 ghost use Rattle.cts_model.specs.declared.circuit.Circuit.{Circuit};
 ghost use Rattle.move_session.specs.LineFaults.{IsFieldsFault, IsLineFault};
 ghost use Rattle.move_session.specs.Moves.{IsMove};
