@@ -12,8 +12,8 @@ use Rattle.cts_program.specs.declared.command.Command.TheVariants.{Check}
 use Rattle.cts_program.specs.declared.ending.Answer.{Answer}
 use Rattle.cts_program.specs.declared.failure.Failure.{Failure}
 use Rattle.cts_program.specs.declared.failure.Failure.TheVariants as failures
-use Rattle.cts_program.specs.declared.file_kind.FileKind.{FileKind}
-use Rattle.cts_program.specs.declared.file_kind.FileKind.TheVariants as kinds
+use Rattle.cts_program.specs.declared.reading.file_kind.FileKind.{FileKind}
+use Rattle.cts_program.specs.declared.reading.file_kind.FileKind.TheVariants as kinds
 use Rattle.cts_program.specs.declared.not_shown.NotShown.TheVariants as why
 use Rattle.cts_program.specs.Answers.{ending_status}
 use Rattle.cts_program.specs.Checks.{shown_line, AreOfProblem}

@@ -19,9 +19,9 @@ use Rattle.cts_program.specs.declared.command.table.Form.{Form}
 use Rattle.cts_program.specs.declared.command.table.Form.TheVariants as forms
 use Rattle.cts_program.specs.declared.failure.Failure.{Failure}
 use Rattle.cts_program.specs.declared.failure.Failure.TheVariants as failures
-use Rattle.cts_program.specs.declared.file_kind.FileKind.TheVariants as kinds
-use Rattle.cts_program.specs.declared.placement.PlacementFault.{PlacementFault}
-use Rattle.cts_program.specs.declared.placement.PlacementFault.TheVariants as placements
+use Rattle.cts_program.specs.declared.reading.file_kind.FileKind.TheVariants as kinds
+use Rattle.cts_program.specs.declared.reading.placement.PlacementFault.{PlacementFault}
+use Rattle.cts_program.specs.declared.reading.placement.PlacementFault.TheVariants as placements
 use Rattle.cts_program.specs.Answers.{TellWith, TellProblemWith, IsAnswer}
 use Rattle.cts_program.specs.Checks.{IsCheckAnswer}
 use Rattle.cts_program.specs.Commands.{Given, number_of, options_of}

@@ -17,9 +17,9 @@ use Rattle.cts_program.specs.declared.command.Command.TheVariants.{Synth}
 use Rattle.cts_program.specs.declared.ending.Answer.{Answer}
 use Rattle.cts_program.specs.declared.failure.Failure.{Failure}
 use Rattle.cts_program.specs.declared.failure.Failure.TheVariants as failures
-use Rattle.cts_program.specs.declared.file_kind.FileKind.TheVariants as kinds
+use Rattle.cts_program.specs.declared.reading.file_kind.FileKind.TheVariants as kinds
 use Rattle.cts_program.specs.Answers.{ending_status}
-use Rattle.cts_program.specs.declared.file_kind.FileKind.{FileKind}
+use Rattle.cts_program.specs.declared.reading.file_kind.FileKind.{FileKind}
 use Rattle.cts_program.specs.Files.{IsShortFile, circuit_files, problem_files, files_of, AreContents}
 use Rattle.cts_program.specs.Judged.{IsNetlistFile, IsTableFile, AreAccepted, IsFileRefusal, Tell, TellProblem}
 use Rattle.cts_program.specs.Run.{DenotesText, Stops}

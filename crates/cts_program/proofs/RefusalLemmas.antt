@@ -3,7 +3,7 @@ use Rattle.std.proofs.Common.{◌≡◌, ℕ, List, ◌∷◌, Bor}
 use Rattle.cts_program.specs.declared.command.Command.{Command}
 use Rattle.cts_program.specs.declared.command.Command.TheVariants.{Zero, Period, Schedule, Synth, Check, Demo}
 use Rattle.cts_program.specs.declared.failure.Failure.{Failure}
-use Rattle.cts_program.specs.declared.file_kind.FileKind.{FileKind}
+use Rattle.cts_program.specs.declared.reading.file_kind.FileKind.{FileKind}
 use Rattle.cts_program.specs.Answers.{IsTextRefusal, IsRefusal}
 use Rattle.cts_program.specs.Files.{files_of, AreAll}
 

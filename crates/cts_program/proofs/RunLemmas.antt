@@ -12,7 +12,7 @@ use Rattle.cts_program.specs.declared.ending.Ending.{Ending}
 use Rattle.cts_program.specs.declared.ending.Ending.TheVariants.{Done, Never}
 use Rattle.cts_program.specs.declared.failure.Failure.{Failure}
 use Rattle.cts_program.specs.declared.failure.Failure.TheVariants.{Usage, TooLong, Bench, Tech, Placement, Pairs, Unshown, ReadFault, WriteFault, NoMemory}
-use Rattle.cts_program.specs.declared.file_kind.FileKind.{FileKind}
+use Rattle.cts_program.specs.declared.reading.file_kind.FileKind.{FileKind}
 use Rattle.cts_program.specs.Answers.{ending_status, IsAnswer, IsRefusal, IsAccepted, IsStatusOf, FindsNoPeriod}
 use Rattle.cts_program.specs.Commands.{options_of, IsCommand, IsSame}
 use Rattle.cts_program.specs.Failures.{words_failure_of, status_of}

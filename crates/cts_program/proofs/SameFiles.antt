@@ -4,8 +4,8 @@ use Rattle.std.specs.List.{flat_map}
 use Rattle.std.specs.Str.{bytes_eq}
 use Rattle.cts_program.specs.declared.command.Command.{Command}
 use Rattle.cts_program.specs.declared.command.Command.TheVariants.{Zero, Period, Schedule, Synth, Check, Demo}
-use Rattle.cts_program.specs.declared.file_kind.FileKind.{FileKind}
-use Rattle.cts_program.specs.declared.file_kind.FileKind.TheVariants.{Bench, Tech, Placement, Report}
+use Rattle.cts_program.specs.declared.reading.file_kind.FileKind.{FileKind}
+use Rattle.cts_program.specs.declared.reading.file_kind.FileKind.TheVariants.{Bench, Tech, Placement, Report}
 use Rattle.cts_program.specs.Commands.{Given, options_of, IsSame, IsCommand}
 use Rattle.cts_program.specs.Files.{files_of, AreContents, AreDenoted}
 use Rattle.cts_program.proofs.OneAnswer.{Agree}

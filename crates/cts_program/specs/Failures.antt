@@ -18,8 +18,8 @@ use Rattle.cts_program.specs.declared.command.WordsFault.{WordsFault}
 use Rattle.cts_program.specs.declared.command.WordsFault.TheVariants as words
 use Rattle.cts_base.specs.declared.number.NumberFault.{NumberFault}
 use Rattle.cts_base.specs.declared.number.NumberFault.TheVariants.{NotNumber, TooFine, TooLarge}
-use Rattle.cts_program.specs.declared.placement.PlacementFault.{PlacementFault}
-use Rattle.cts_program.specs.declared.placement.PlacementFault.TheVariants as places
+use Rattle.cts_program.specs.declared.reading.placement.PlacementFault.{PlacementFault}
+use Rattle.cts_program.specs.declared.reading.placement.PlacementFault.TheVariants as places
 use Rattle.cert_check.specs.declared.verdict.Reason.{Reason}
 use Rattle.cert_check.specs.declared.verdict.Reason.TheVariants as reason
 use Rattle.report_text.specs.declared.fault.ReportFault.{ReportFault}

@@ -1,8 +1,8 @@
 -- The files that a command reads, and what is known of their contents.
 use Rattle.std.specs.Prelude.{◌≡◌, ◌≤◌, ℕ, List, [], ◌∷◌, ◌++◌, map, length, Option, Some, IfSome, option_to_list, codes}
 use Rattle.std.specs.Borrow.{Bor}
-use Rattle.cts_program.specs.declared.file_kind.FileKind.{FileKind}
-use Rattle.cts_program.specs.declared.file_kind.FileKind.TheVariants.{Bench, Tech, Placement, Report}
+use Rattle.cts_program.specs.declared.reading.file_kind.FileKind.{FileKind}
+use Rattle.cts_program.specs.declared.reading.file_kind.FileKind.TheVariants.{Bench, Tech, Placement, Report}
 use Rattle.cts_program.specs.declared.command.Command.{Command}
 use Rattle.cts_program.specs.declared.command.Command.TheVariants.{Zero, Period, Schedule, Synth, Check, Demo}
 

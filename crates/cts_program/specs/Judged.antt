@@ -14,9 +14,9 @@ use Rattle.place_reader.specs.Refusals as placement
 use Rattle.cts_engine.specs.Accepted.{TellBoth, TellAll, IsTableOf, IsPlacementOf, HasFault, HasTableFault}
 use Rattle.cts_program.specs.declared.failure.Failure.{Failure}
 use Rattle.cts_program.specs.declared.failure.Failure.TheVariants as failures
-use Rattle.cts_program.specs.declared.file_kind.FileKind.TheVariants as kinds
-use Rattle.cts_program.specs.declared.placement.PlacementFault.{PlacementFault}
-use Rattle.cts_program.specs.declared.placement.PlacementFault.TheVariants.{BadLine, BadNumber, PlaceTwice, NoPlace, NoSource}
+use Rattle.cts_program.specs.declared.reading.file_kind.FileKind.TheVariants as kinds
+use Rattle.cts_program.specs.declared.reading.placement.PlacementFault.{PlacementFault}
+use Rattle.cts_program.specs.declared.reading.placement.PlacementFault.TheVariants.{BadLine, BadNumber, PlaceTwice, NoPlace, NoSource}
 use Rattle.cts_program.specs.Files.{IsShortFile}
 
 -- the file holds a netlist

@@ -4,7 +4,7 @@ use Rattle.cts_io.specs.Device.{Rose, appended, WritesPrefix}
 use Rattle.cts_program.specs.declared.command.Command.{Command}
 use Rattle.cts_program.specs.declared.failure.Failure.{Failure}
 use Rattle.cts_program.specs.declared.failure.Failure.TheVariants.{Usage, ReadFault, WriteFault, NoMemory}
-use Rattle.cts_program.specs.declared.file_kind.FileKind.{FileKind}
+use Rattle.cts_program.specs.declared.reading.file_kind.FileKind.{FileKind}
 use Rattle.cts_program.specs.Commands.{IsCommand}
 use Rattle.cts_program.specs.Failures.{status_of, failure_line, Reports}
 use Rattle.cts_program.specs.Files.{files_of, AreAll, AreContents}

@@ -20,8 +20,8 @@ use Rattle.place_reader.specs.declared.fault.PlaceFault.{PlaceFault}
 use Rattle.cts_engine.specs.Accepted.{HasFault}
 use Rattle.cts_program.specs.declared.failure.Failure.{Failure}
 use Rattle.cts_program.specs.declared.failure.Failure.TheVariants as failures
-use Rattle.cts_program.specs.declared.file_kind.FileKind.{FileKind}
-use Rattle.cts_program.specs.declared.file_kind.FileKind.TheVariants as kinds
+use Rattle.cts_program.specs.declared.reading.file_kind.FileKind.{FileKind}
+use Rattle.cts_program.specs.declared.reading.file_kind.FileKind.TheVariants as kinds
 use Rattle.std.specs.Borrow.{Bor}
 use Rattle.cts_program.specs.declared.command.Command.{Command}
 use Rattle.cert_check.specs.declared.verdict.Reason.{Reason}

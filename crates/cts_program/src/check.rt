@@ -11,7 +11,7 @@ ghost use Rattle.cts_program.specs.Steps.{IsRegisterReason, FailsToShow};
 use crate::ending::Answer;
 use crate::failure::Failure;
 use crate::not_shown::NotShown;
-use crate::placement::copied;
+use crate::reading::copied;
 use cert_check::{Reason, Verdict};
 use cts_model::{Circuit, Problem, Report};
 use report_text::push_line;

@@ -16,8 +16,7 @@ ghost use Rattle.cts_program.specs.Steps.{FailsCircuit, FailsDemo};
 
 use crate::ending::Answer;
 use crate::failure::Failure;
-use crate::placement::copied;
-use crate::problem::read_problem;
+use crate::reading::{copied, read_problem};
 use cert_check::Verdict;
 use cts_base::{Listed, NoMemory};
 use cts_engine::{Outcome, synthesize};

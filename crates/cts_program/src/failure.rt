@@ -6,9 +6,8 @@ ghost use Rattle.cts_program.specs.declared.failure.Failure.TheVariants.{NoMemor
 ghost use Rattle.cts_program.specs.Failures.{words_failure_of, bench_failure_of, tech_failure_of, synth_failure_of, report_failure_of, status_of, limit_word, gate_word, number_word, shown_byte, shown, spaced, loop_line, ended, bench_line, tech_line, placement_line, fault_line, reason_line, not_shown_line, failure_line, Reports, Writes};
 
 use crate::command::WordsFault;
-use crate::file_kind::FileKind;
 use crate::not_shown::NotShown;
-use crate::placement::PlacementFault;
+use crate::reading::{FileKind, PlacementFault};
 use bench_reader::{BenchFault, Which};
 use cert_check::Reason;
 use cts_base::{Name, NumberFault};

@@ -1,6 +1,6 @@
 use Rattle.std.proofs.Common.{◌≡◌, map, string_bytes, inl, sym, ◌∙◌, subst, arith, ap}
 use Rattle.cts_program.specs.declared.failure.Failure.TheVariants.{ReadFault, WriteFault}
-use Rattle.cts_program.specs.declared.file_kind.FileKind.{FileKind}
+use Rattle.cts_program.specs.declared.reading.file_kind.FileKind.{FileKind}
 use Rattle.cts_program.specs.Answers.{IsStatusOf}
 use Rattle.cts_program.specs.Failures.{status_of}
 use Rattle.cts_program.specs.Run.{DenotesText}

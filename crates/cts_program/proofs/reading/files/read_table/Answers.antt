@@ -1,7 +1,7 @@
 use Rattle.std.proofs.lemmas.Result.{err_from_is_err_and}
 use Rattle.cts_engine.proofs.ProblemLemmas.{gives_used}
 use Rattle.cts_program.proofs.FileLemmas.{refused_table}
-use Rattle.cts_program.proofs.files.read_table.Goals as goal
+use Rattle.cts_program.proofs.reading.files.read_table.Goals as goal
 
 pub returns-in_err-read_tech-clause-cause : goal.returns-in_err-read_tech-clause-cause
 returns-in_err-read_tech-clause-cause g c =

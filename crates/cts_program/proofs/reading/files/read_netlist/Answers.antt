@@ -1,6 +1,6 @@
 use Rattle.std.proofs.lemmas.Result.{err_from_is_err_and}
 use Rattle.cts_program.proofs.FileLemmas.{refused_netlist}
-use Rattle.cts_program.proofs.files.read_netlist.Goals as goal
+use Rattle.cts_program.proofs.reading.files.read_netlist.Goals as goal
 
 pub returns-in_err-read_bench-clause-cause : goal.returns-in_err-read_bench-clause-cause
 returns-in_err-read_bench-clause-cause g c =

@@ -2,7 +2,7 @@
 
 ghost use Rattle.std.specs.Prelude.{◌≡◌, ◌<◌, ◌⊎◌, ℕ, length, IfOk};
 ghost use Rattle.cts_program.specs.declared.failure.Failure.TheVariants as failures;
-ghost use Rattle.cts_program.specs.declared.placement.PlacementFault.TheVariants as faults;
+ghost use Rattle.cts_program.specs.declared.reading.placement.PlacementFault.TheVariants as faults;
 ghost use Rattle.cts_program.specs.Steps.{GivesFault};
 
 use crate::failure::Failure;

@@ -3,7 +3,7 @@ use Rattle.std.proofs.lemmas.Result.{err_from_is_err_and}
 use Rattle.report_text.specs.declared.fault.ReportFault.TheVariants.{NoMemory}
 use Rattle.report_text.specs.ReportFaults.{HasFault}
 use Rattle.cts_program.proofs.CheckLemmas.{refused_report}
-use Rattle.cts_program.proofs.files.read_report_file.Goals as goal
+use Rattle.cts_program.proofs.reading.files.read_report_file.Goals as goal
 
 pub returns-in_err-read_report-clause-cause : goal.returns-in_err-read_report-clause-cause
 returns-in_err-read_report-clause-cause g c =

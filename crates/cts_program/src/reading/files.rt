@@ -8,9 +8,9 @@ ghost use Rattle.cts_program.specs.Files.{IsShortFile};
 ghost use Rattle.cts_program.specs.Steps.{IsReportedAs, FailsToReadFile, ReadsNetlist, FailsNetlist, ReadsTable, FailsTable, ReadsPlaces, FailsPlaces, ReadsReport, FailsReport, IsReadFault};
 
 use crate::failure::Failure;
-use crate::file_kind::FileKind;
 use crate::not_shown::NotShown;
-use crate::placement::placement_failure;
+use crate::reading::file_kind::FileKind;
+use crate::reading::placement::placement_failure;
 use bench_reader::read_bench;
 use cts_io::{Inputs, ReadWhole, read_whole};
 use cts_model::{Circuit, Places, Problem, Report, Tech, used_kinds};

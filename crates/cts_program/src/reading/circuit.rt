@@ -10,7 +10,7 @@ ghost use Rattle.cts_program.specs.Run.{Stops};
 ghost use Rattle.cts_program.specs.Steps.{ReadsCircuit, DenotesCircuit, IsAnyReadFault};
 
 use crate::failure::Failure;
-use crate::files::{read_netlist, read_table};
+use crate::reading::files::{read_netlist, read_table};
 use cts_engine::{Denoted, hosted};
 use cts_io::Inputs;
 use cts_model::Tech;

@@ -6,9 +6,9 @@ ghost use Rattle.cts_program.specs.Files.{problem_files};
 ghost use Rattle.cts_program.specs.Run.{Stops};
 ghost use Rattle.cts_program.specs.Steps.{ReadsProblem, DenotesProblem, IsAnyReadFault};
 
-use crate::denoted::read_circuit;
 use crate::failure::Failure;
-use crate::files::read_placement;
+use crate::reading::circuit::read_circuit;
+use crate::reading::files::read_placement;
 use cts_engine::Denoted;
 use cts_io::Inputs;
 use cts_model::Problem;

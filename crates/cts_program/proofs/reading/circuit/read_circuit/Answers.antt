@@ -3,7 +3,7 @@ use Rattle.std.proofs.lemmas.Result.{err_from_is_err_and}
 use Rattle.cts_engine.proofs.ProblemLemmas.{gives_hosted, has_host-hosted}
 use Rattle.cts_program.proofs.PlainDelays.{gives_plain, has_host-plain}
 use Rattle.cts_program.proofs.DenotedLemmas.{netlist_stops, table_stops, netlist_denotes, both_tell, denoted_acyclic}
-use Rattle.cts_program.proofs.denoted.read_circuit.Goals as goal
+use Rattle.cts_program.proofs.reading.circuit.read_circuit.Goals as goal
 
 pub returns-in_err-bare-clause-cause : goal.returns-in_err-bare-clause-cause
 returns-in_err-bare-clause-cause g c =

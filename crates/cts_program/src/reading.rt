@@ -1,0 +1,14 @@
+//! What a command reads: its files in their order, each judged as soon as it is read, and what they
+//! denote.
+
+mod circuit;
+mod file_kind;
+mod files;
+mod placement;
+mod problem;
+
+pub use circuit::read_circuit;
+pub use file_kind::FileKind;
+pub use files::read_report_file;
+pub use placement::{PlacementFault, copied};
+pub use problem::read_problem;
