@@ -19,8 +19,9 @@ use Rattle.cts_program.specs.Answers.{ending_status}
 use Rattle.cts_program.specs.Checks.{shown_line, AreOfProblem}
 use Rattle.cts_program.specs.Failures.{report_failure_of}
 use Rattle.cts_program.specs.Files.{IsShortFile, problem_files, files_of, AreContents}
-use Rattle.cts_program.specs.Run.{DenotesText, Stops}
+use Rattle.cts_program.specs.Run.{CannotRead, DenotesText, Stops}
 use Rattle.cts_program.specs.Steps.{IsReportedAs, DenotesProblem, ReadsReport, FailsReport, FailsToShow}
+use Rattle.cts_program.proofs.FileStops.{unread}
 
 module _ (problem : Problem) (held : Option (List ℕ)) (before now : ℕ) where
   module _ (bytes : List ℕ) (denoted : IsReportedAs held bytes) (short : IsShortFile bytes) where
@@ -29,18 +30,7 @@ module _ (problem : Problem) (held : Option (List ℕ)) (before now : ℕ) where
         → HasFault problem.circuit problem.tech bytes (Some found))
         → FailsReport problem held before now (report_failure_of found)
     refused_report fault.NoMemory has = tt
-    refused_report (fault.BadLine line) has =
-        (bytes, denoted, (short, (λ e. cc e), has (λ e. cc e)))
-    refused_report (fault.UnknownRegister line) has =
-        (bytes, denoted, (short, (λ e. cc e), has (λ e. cc e)))
-    refused_report (fault.Missing line) has =
-        (bytes, denoted, (short, (λ e. cc e), has (λ e. cc e)))
-    refused_report (fault.Extra line) has =
-        (bytes, denoted, (short, (λ e. cc e), has (λ e. cc e)))
-    refused_report (fault.TooLarge line) has =
-        (bytes, denoted, (short, (λ e. cc e), has (λ e. cc e)))
-    refused_report (fault.UnknownSignal line) has =
-        (bytes, denoted, (short, (λ e. cc e), has (λ e. cc e)))
+    refused_report found has = (bytes, denoted, (short, (λ e. cc e), has (λ e. cc e)))
 
 -- ---- after the files of a problem
 
@@ -84,47 +74,25 @@ module _ {holds : List ℕ → Option (List ℕ)} (bench file pl report : Bor (L
     pub report_stops : (failure : Failure)
         → FailsReport problem (holds report.now) (reads report.now) (reads_now report.now) failure
         → Stops holds reads reads_now (Check bench file pl report) failure
-    report_stops failures.Usage fails = fails
-    report_stops (failures.TooLong kind) fails = absurd fails
-    report_stops (failures.Bench other) fails = absurd fails
-    report_stops (failures.Tech other) fails = absurd fails
-    report_stops (failures.Placement other) fails = absurd fails
-    report_stops failures.Pairs fails = absurd fails
     report_stops (failures.Unshown other) (bytes, denoted', refusal) = record {
       contents = contents bytes;
       are = four_denoted bytes denoted';
       refusal = record { problem = problem; problem_is = three_denoted.are_of; refusal = refusal };
     }
-    report_stops (failures.ReadFault kinds.Bench) (same, rose) = cc same
-    report_stops (failures.ReadFault kinds.Tech) (same, rose) = cc same
-    report_stops (failures.ReadFault kinds.Placement) (same, rose) = cc same
-    report_stops (failures.ReadFault kinds.Report) (same, rose) = record {
-      prefix = problem_files bench file pl;
-      file = report.now;
-      suffix = [];
-      files = refl;
-      rose = rose;
-      contents = three_denoted.netlist ∷ three_denoted.table ∷ three_denoted.places ∷ [];
-      before = refl;
-      are = three_denoted.are;
-      accepted = three_denoted.are_of.accepted;
-    }
-    report_stops failures.WriteFault fails = fails
+    report_stops (failures.ReadFault kind) (same, rose) =
+        subst (λ kind. CannotRead holds reads reads_now (Check bench file pl report) kind) same
+        (unread holds reads reads_now (Check bench file pl report) kinds.Report report.now
+        (problem_files bench file pl) [] refl
+        (three_denoted.netlist ∷ three_denoted.table ∷ three_denoted.places ∷ []) refl
+        three_denoted.are three_denoted.are_of.accepted rose)
     report_stops failures.NoMemory fails = tt
+    report_stops failure fails = absurd fails
 
   module _ (says : Report) (read : ReadsReport problem (holds report.now) says) where
     -- so does one that isn't shown
     pub unshown_stops : (reads reads_now : List ℕ → ℕ) (failure : Failure)
         → FailsToShow problem says failure
         → Stops holds reads reads_now (Check bench file pl report) failure
-    unshown_stops reads reads_now failures.Usage fails = fails
-    unshown_stops reads reads_now (failures.TooLong kind) fails = absurd fails
-    unshown_stops reads reads_now (failures.Bench other) fails = absurd fails
-    unshown_stops reads reads_now (failures.Tech other) fails = absurd fails
-    unshown_stops reads reads_now (failures.Placement other) fails = absurd fails
-    unshown_stops reads reads_now failures.Pairs fails = absurd fails
-    unshown_stops reads reads_now (failures.Unshown why.TooLong) fails = absurd fails
-    unshown_stops reads reads_now (failures.Unshown (why.Fault other)) fails = absurd fails
     unshown_stops reads reads_now (failures.Unshown (why.Reason reason subject))
         (verdict, subject_is) = report_stops reads reads_now
         (failures.Unshown (why.Reason reason subject)) (
@@ -136,9 +104,8 @@ module _ {holds : List ℕ → Option (List ℕ)} (bench file pl report : Bor (L
             subject_is,
           ),
         )
-    unshown_stops reads reads_now (failures.ReadFault kind) fails = absurd fails
-    unshown_stops reads reads_now failures.WriteFault fails = fails
     unshown_stops reads reads_now failures.NoMemory fails = tt
+    unshown_stops reads reads_now failure fails = absurd fails
 
     -- one that is shown is the answer
     pub shown_answer : IsShown problem says → ShowsLeast problem says → (text : List ℕ)

@@ -87,33 +87,19 @@ module _ {holds : List ℕ → Option (List ℕ)} {bench file pl : Bor (List ℕ
   pub texts_stop : (failure : Failure)
       → Stops holds (λ file. 0) (λ file. 0) (Synth bench file pl) failure
       → FailsDemo registers seed failure
-  texts_stop failures.Usage stops = absurd stops
-  texts_stop (failures.TooLong kind) stops =
-      texts_refused stops.contents stops.are (failures.TooLong kind) stops.refusal
-  texts_stop (failures.Bench fault) stops =
-      texts_refused stops.contents stops.are (failures.Bench fault) stops.refusal
-  texts_stop (failures.Tech fault) stops =
-      texts_refused stops.contents stops.are (failures.Tech fault) stops.refusal
-  texts_stop (failures.Placement fault) stops =
-      texts_refused stops.contents stops.are (failures.Placement fault) stops.refusal
   texts_stop failures.Pairs stops =
       let all : length stops.contents ≡ 3 = stops.refusal.0 in
       texts_refused stops.contents stops.are failures.Pairs (omega arith, stops.refusal.1)
-  texts_stop (failures.Unshown why) stops =
-      texts_refused stops.contents stops.are (failures.Unshown why) stops.refusal
+  texts_stop failures.Usage stops = absurd stops
   texts_stop (failures.ReadFault kind) stops = absurd (omega (arith, stops.rose))
   texts_stop failures.WriteFault stops = absurd stops
   texts_stop failures.NoMemory stops = tt
+  texts_stop failure stops = texts_refused stops.contents stops.are failure stops.refusal
 
 -- too many pairs of its circuit refuse it too
 pub circuit_refused : (registers seed : ℕ) (problem : Problem)
     → AreOfProblem (demo_texts registers seed) problem → (failure : Failure)
     → FailsCircuit problem.circuit failure → FailsDemo registers seed failure
-circuit_refused registers seed problem are failures.Usage fails = absurd fails
-circuit_refused registers seed problem are (failures.TooLong kind) fails = absurd fails
-circuit_refused registers seed problem are (failures.Bench fault) fails = absurd fails
-circuit_refused registers seed problem are (failures.Tech fault) fails = absurd fails
-circuit_refused registers seed problem are (failures.Placement fault) fails = absurd fails
 circuit_refused registers seed problem are failures.Pairs many = record {
   texts = 3;
   refusal = (
@@ -127,7 +113,5 @@ circuit_refused registers seed problem are failures.Pairs many = record {
     },
   );
 }
-circuit_refused registers seed problem are (failures.Unshown why) fails = absurd fails
-circuit_refused registers seed problem are (failures.ReadFault kind) fails = absurd fails
-circuit_refused registers seed problem are failures.WriteFault fails = absurd fails
 circuit_refused registers seed problem are failures.NoMemory fails = tt
+circuit_refused registers seed problem are failure fails = absurd fails

@@ -22,6 +22,7 @@ use Rattle.cts_program.specs.Judged.{IsNetlistFile, IsTableFile, IsFileRefusal, 
 use Rattle.cts_program.specs.Run.{DenotesText, Stops}
 use Rattle.cts_program.specs.Steps.{IsReportedAs, ReadsNetlist, FailsNetlist, ReadsTable, FailsTable, ReadsCircuit, DenotesCircuit, FailsCircuit}
 use Rattle.cts_program.specs.Texts.{IsZeroText}
+use Rattle.cts_program.proofs.FileStops.{file_stops}
 use Rattle.cts_program.proofs.RefusalLemmas.{file_refusal}
 use Rattle.cts_program.proofs.ResultLemmas.{if_ok_from}
 
@@ -81,17 +82,6 @@ module _ (holds : List ℕ → Option (List ℕ)) (reads reads_now : List ℕ �
       → (failure : Failure)
       → FailsNetlist (holds bench.now) (reads bench.now) (reads_now bench.now) failure
       → Stops holds reads reads_now command failure
-  netlist_stops tech named failures.Usage fails = fails
-  netlist_stops tech named (failures.TooLong kinds.Bench) (same, (bytes, denoted, long)) =
-      record {
-        contents = bytes ∷ [];
-        are = subst (λ files. AreContents holds files (bytes ∷ [])) (sym named.1) (denoted, tt);
-        refusal = file_refusal command named.1 (bytes ∷ []) (failures.TooLong kinds.Bench) long
-            (λ _ _ _ _. long);
-      }
-  netlist_stops tech named (failures.TooLong kinds.Tech) (same, (bytes, denoted, long)) = cc same
-  netlist_stops tech named (failures.TooLong kinds.Placement) (same, (bytes, denoted, long)) = cc same
-  netlist_stops tech named (failures.TooLong kinds.Report) (same, (bytes, denoted, long)) = cc same
   netlist_stops tech named (failures.Bench fault) (bytes, denoted, short, has) =
       record {
         contents = bytes ∷ [];
@@ -99,27 +89,10 @@ module _ (holds : List ℕ → Option (List ℕ)) (reads reads_now : List ℕ �
         refusal = file_refusal command named.1 (bytes ∷ []) (failures.Bench fault) (short, has)
             (λ _ _ _ _. (short, has));
       }
-  netlist_stops tech named (failures.Tech fault) fails = absurd fails
-  netlist_stops tech named (failures.Placement fault) fails = absurd fails
-  netlist_stops tech named failures.Pairs fails = absurd fails
-  netlist_stops tech named (failures.Unshown why) fails = absurd fails
-  netlist_stops tech named (failures.ReadFault kinds.Bench) (same, rose) =
-      record {
-        prefix = [];
-        file = bench.now;
-        suffix = _;
-        files = named.1;
-        rose = rose;
-        contents = [];
-        before = refl;
-        are = tt;
-        accepted = tt;
-      }
-  netlist_stops tech named (failures.ReadFault kinds.Tech) (same, rose) = cc same
-  netlist_stops tech named (failures.ReadFault kinds.Placement) (same, rose) = cc same
-  netlist_stops tech named (failures.ReadFault kinds.Report) (same, rose) = cc same
-  netlist_stops tech named failures.WriteFault fails = fails
-  netlist_stops tech named failures.NoMemory fails = tt
+  netlist_stops tech named failure fails =
+      file_stops holds reads reads_now command kinds.Bench bench.now [] _ named.1 [] refl tt tt named.1 (λ bytes long. long)
+      (λ bytes denoted. subst (λ files. AreContents holds files (bytes ∷ [])) (sym named.1)
+      (denoted, tt)) failure fails
 
   module _ (file : Bor (List ℕ)) (named : ReadsCircuit command bench (Some file)) where
     -- what is said of both files
@@ -136,19 +109,6 @@ module _ (holds : List ℕ → Option (List ℕ)) (reads reads_now : List ℕ �
         → FailsTable circuit.signals (holds file.now) (reads file.now)
         (reads_now file.now) failure
         → Stops holds reads reads_now command failure
-    table_stops netlist failures.Usage fails = fails
-    table_stops netlist (failures.TooLong kinds.Bench) (same, (bytes, denoted, long)) = cc same
-    table_stops netlist (failures.TooLong kinds.Placement) (same, (bytes, denoted, long)) = cc same
-    table_stops netlist (failures.TooLong kinds.Report) (same, (bytes, denoted, long)) = cc same
-    table_stops netlist (failures.TooLong kinds.Tech) (same, (bytes, denoted, long)) =
-        record {
-          contents = netlist.bytes ∷ bytes ∷ [];
-          are = both_denoted netlist.bytes bytes netlist.denoted denoted;
-          refusal = file_refusal command named.1 (netlist.bytes ∷ bytes ∷ [])
-              (failures.TooLong kinds.Tech) (accepted_netlist netlist, long)
-              (λ _ _ _ _. (accepted_netlist netlist, long));
-        }
-    table_stops netlist (failures.Bench fault) fails = absurd fails
     table_stops netlist (failures.Tech fault) (bytes, denoted, short, has) =
         let refused : IsFileRefusal (netlist.bytes ∷ bytes ∷ []) (failures.Tech fault) = (
           accepted_netlist netlist,
@@ -167,25 +127,12 @@ module _ (holds : List ℕ → Option (List ℕ)) (reads reads_now : List ℕ �
           refusal = file_refusal command named.1 (netlist.bytes ∷ bytes ∷ [])
               (failures.Tech fault) refused (λ _ _ _ _. refused);
         }
-    table_stops netlist (failures.Placement fault) fails = absurd fails
-    table_stops netlist failures.Pairs fails = absurd fails
-    table_stops netlist (failures.Unshown why) fails = absurd fails
-    table_stops netlist (failures.ReadFault kinds.Bench) (same, rose) = cc same
-    table_stops netlist (failures.ReadFault kinds.Placement) (same, rose) = cc same
-    table_stops netlist (failures.ReadFault kinds.Report) (same, rose) = cc same
-    table_stops netlist (failures.ReadFault kinds.Tech) (same, rose) = record {
-      prefix = (kinds.Bench, bench.now) ∷ [];
-      file = file.now;
-      suffix = named.0;
-      files = named.1;
-      rose = rose;
-      contents = netlist.bytes ∷ [];
-      before = refl;
-      are = (netlist.denoted, tt);
-      accepted = accepted_netlist netlist;
-    }
-    table_stops netlist failures.WriteFault fails = fails
-    table_stops netlist failures.NoMemory fails = tt
+    table_stops netlist failure fails =
+        file_stops holds reads reads_now command kinds.Tech file.now
+        ((kinds.Bench, bench.now) ∷ []) named.0 named.1 (netlist.bytes ∷ []) refl
+        (netlist.denoted, tt) (accepted_netlist netlist) named.1
+        (λ bytes long. (accepted_netlist netlist, long))
+        (λ bytes denoted. both_denoted netlist.bytes bytes netlist.denoted denoted) failure fails
 
 module _ {holds : List ℕ → Option (List ℕ)}
     (reads reads_now : List ℕ → ℕ) (command : Command) {circuit : Circuit} {tech : Tech}
@@ -195,11 +142,6 @@ module _ {holds : List ℕ → Option (List ℕ)}
       → IsRefusal command denoted.contents failures.Pairs) where
     pub circuit_stops : (failure : Failure) → FailsCircuit circuit failure
         → Stops holds reads reads_now command failure
-    circuit_stops failures.Usage fails = fails
-    circuit_stops (failures.TooLong kind) fails = absurd fails
-    circuit_stops (failures.Bench fault) fails = absurd fails
-    circuit_stops (failures.Tech fault) fails = absurd fails
-    circuit_stops (failures.Placement fault) fails = absurd fails
     circuit_stops failures.Pairs many = record {
       contents = denoted.contents;
       are = denoted.are;
@@ -214,10 +156,8 @@ module _ {holds : List ℕ → Option (List ℕ)}
         },
       );
     }
-    circuit_stops (failures.Unshown why) fails = absurd fails
-    circuit_stops (failures.ReadFault kind) fails = absurd fails
-    circuit_stops failures.WriteFault fails = fails
     circuit_stops failures.NoMemory fails = tt
+    circuit_stops failure fails = absurd fails
 
 module _ {holds : List ℕ → Option (List ℕ)} {files : List (FileKind × List ℕ)}
     {circuit : Circuit} {tech : Tech} (denoted : DenotesCircuit holds files circuit tech) where

@@ -18,30 +18,31 @@ many_bytes : (count : ℕ) → (bytes : List ℕ) × (length bytes ≡ count)
 many_bytes count = (replicate count 0, length-replicate count 0)
 
 -- a file that is too long holds too many bytes, whether they are given or not
-pub long_file : (held : Option (List ℕ)) → ((denoted : List ℕ) → held ≡ Some denoted → 16777216 < length denoted) → (bytes : List ℕ) × IsReportedAs held bytes × (IsShortFile bytes → ⊥)
-long_file (Some denoted) long = (denoted, refl, λ short. let more = long denoted refl in omega arith)
-long_file None long = let many = many_bytes 16777217 in (many.0, tt, λ short. omega (arith, many.1))
+pub long_file : (held : Option (List ℕ))
+    → ((denoted : List ℕ) → held ≡ Some denoted → 16777216 < length denoted)
+    → (bytes : List ℕ) × IsReportedAs held bytes × (IsShortFile bytes → ⊥)
+long_file (Some denoted) long =
+    (denoted, refl, λ short. let more = long denoted refl in omega arith)
+long_file None long =
+    let many = many_bytes 16777217 in (many.0, tt, λ short. omega (arith, many.1))
 
-module _ (held : Option (List ℕ)) (before now : ℕ) (bytes : List ℕ) (denoted : IsReportedAs held bytes) (short : IsShortFile bytes) where
+module _ (held : Option (List ℕ)) (before now : ℕ) (bytes : List ℕ)
+    (denoted : IsReportedAs held bytes) (short : IsShortFile bytes) where
   -- a refused netlist is the failure that it is reported as
-  pub refused_netlist : (fault : BenchFault) → netlist.RefusesNetlist bytes fault → FailsNetlist held before now (bench_failure_of fault)
+  pub refused_netlist : (fault : BenchFault) → netlist.RefusesNetlist bytes fault
+      → FailsNetlist held before now (bench_failure_of fault)
   refused_netlist bench.NoMemory cause = tt
-  refused_netlist (bench.BadLine line) cause = (bytes, denoted, short, record { named = λ e. cc e; cause = cause })
-  refused_netlist (bench.UnknownKind line) cause = (bytes, denoted, short, record { named = λ e. cc e; cause = cause })
-  refused_netlist (bench.WrongInputs line) cause = (bytes, denoted, short, record { named = λ e. cc e; cause = cause })
-  refused_netlist (bench.SignalTwice line) cause = (bytes, denoted, short, record { named = λ e. cc e; cause = cause })
-  refused_netlist (bench.TooLarge line which) cause = (bytes, denoted, short, record { named = λ e. cc e; cause = cause })
-  refused_netlist (bench.Undefined line) cause = (bytes, denoted, short, record { named = λ e. cc e; cause = cause })
-  refused_netlist (bench.CombLoop names) cause = (bytes, denoted, short, record { named = λ e. cc e; cause = cause })
-  refused_netlist bench.NoRegisters cause = (bytes, denoted, short, record { named = λ e. cc e; cause = cause })
+  refused_netlist fault cause =
+      (bytes, denoted, short, record { named = λ e. cc e; cause = cause })
 
   -- and so is a refused table
-  pub refused_table : (signals : List Signal) (used : List Bool) → AreUsedKinds signals used → (fault : TechFault) → table.RefusesTable used bytes fault → FailsTable signals held before now (tech_failure_of fault)
+  pub refused_table : (signals : List Signal) (used : List Bool) → AreUsedKinds signals used
+      → (fault : TechFault) → table.RefusesTable used bytes fault
+      → FailsTable signals held before now (tech_failure_of fault)
   refused_table signals used kinds tech.NoMemory cause = tt
-  refused_table signals used kinds tech.NotToml cause = (bytes, denoted, short, record { named = λ e. cc e; used = used; kinds = kinds; cause = cause })
-  refused_table signals used kinds (tech.Missing name) cause = (bytes, denoted, short, record { named = λ e. cc e; used = used; kinds = kinds; cause = cause })
-  refused_table signals used kinds (tech.WrongType name) cause = (bytes, denoted, short, record { named = λ e. cc e; used = used; kinds = kinds; cause = cause })
-  refused_table signals used kinds (tech.OutOfRange name) cause = (bytes, denoted, short, record { named = λ e. cc e; used = used; kinds = kinds; cause = cause })
-  refused_table signals used kinds (tech.LeastAboveGreatest name) cause = (bytes, denoted, short, record { named = λ e. cc e; used = used; kinds = kinds; cause = cause })
-  refused_table signals used kinds (tech.MissingKind kind) cause = (bytes, denoted, short, record { named = λ e. cc e; used = used; kinds = kinds; cause = cause })
-  refused_table signals used kinds (tech.UnknownKey name) cause = (bytes, denoted, short, record { named = λ e. cc e; used = used; kinds = kinds; cause = cause })
+  refused_table signals used kinds fault cause = (
+    bytes,
+    denoted,
+    short,
+    record { named = λ e. cc e; used = used; kinds = kinds; cause = cause },
+  )

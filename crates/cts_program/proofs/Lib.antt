@@ -10,9 +10,10 @@ mod FileLemmas
 mod PlainDelays
 mod RefusalLemmas
 mod TreeTexts
-mod PlacementLemmas
 mod ResultLemmas
+mod FileStops
 mod DenotedLemmas
+mod PlacementLemmas
 mod CheckLemmas
 mod ReasonLemmas
 mod PlainWordTests

@@ -25,6 +25,7 @@ use Rattle.cts_program.specs.Judged.{IsNetlistFile, IsTableFile, AreAccepted, Is
 use Rattle.cts_program.specs.Run.{DenotesText, Stops}
 use Rattle.cts_program.specs.Steps.{IsReportedAs, ReadsPlaces, FailsPlaces, GivesFault, DenotesCircuit, ReadsProblem, DenotesProblem}
 use Rattle.cts_program.specs.SynthTexts.{IsSynthText}
+use Rattle.cts_program.proofs.FileStops.{file_stops}
 use Rattle.cts_program.proofs.RefusalLemmas.{file_refusal}
 use Rattle.cts_program.proofs.ResultLemmas.{if_ok_from}
 
@@ -47,27 +48,13 @@ pub refused_placement : (circuit : Circuit) (tech : Tech) (held : Option (List �
     → RefusesPlacement bytes circuit tech.source tech.host fault
     → (failure : Failure) → GivesFault circuit fault failure
     → FailsPlaces circuit tech held before now failure
-refused_placement circuit tech held before now bytes denoted short fault cause failures.Usage denotes =
-    absurd denotes
-refused_placement circuit tech held before now bytes denoted short fault cause
-    (failures.TooLong kind) denotes = absurd denotes
-refused_placement circuit tech held before now bytes denoted short fault cause
-    (failures.Bench other) denotes = absurd denotes
-refused_placement circuit tech held before now bytes denoted short fault cause
-    (failures.Tech other) denotes = absurd denotes
 refused_placement circuit tech held before now bytes denoted short fault cause
     (failures.Placement named) denotes =
     (bytes, denoted, short, record { found = fault; named = denotes; cause = cause })
-refused_placement circuit tech held before now bytes denoted short fault cause failures.Pairs denotes =
+refused_placement circuit tech held before now bytes denoted short fault cause failures.NoMemory
+    denotes = tt
+refused_placement circuit tech held before now bytes denoted short fault cause failure denotes =
     absurd denotes
-refused_placement circuit tech held before now bytes denoted short fault cause
-    (failures.Unshown why) denotes = absurd denotes
-refused_placement circuit tech held before now bytes denoted short fault cause
-    (failures.ReadFault kind) denotes = absurd denotes
-refused_placement circuit tech held before now bytes denoted short fault cause
-    failures.WriteFault denotes = absurd denotes
-refused_placement circuit tech held before now bytes denoted short fault cause
-    failures.NoMemory denotes = tt
 
 -- ---- after a netlist and a delay table
 
@@ -118,24 +105,6 @@ module _ {holds : List ℕ → Option (List ℕ)} (bench file : Bor (List ℕ)) 
       pub placement_stops : (reads reads_now : List ℕ → ℕ) (failure : Failure)
           → FailsPlaces circuit tech (holds pl.now) (reads pl.now) (reads_now pl.now) failure
           → Stops holds reads reads_now command failure
-      placement_stops reads reads_now failures.Usage fails = fails
-      placement_stops reads reads_now (failures.TooLong kinds.Bench) (same, long) = cc same
-      placement_stops reads reads_now (failures.TooLong kinds.Tech) (same, long) = cc same
-      placement_stops reads reads_now (failures.TooLong kinds.Report) (same, long) = cc same
-      placement_stops reads reads_now (failures.TooLong kinds.Placement)
-          (same, (bytes, denoted', long)) =
-          let two = two_denoted in
-          let refused : IsFileRefusal (two.netlist ∷ two.table ∷ bytes ∷ [])
-          (failures.TooLong kinds.Placement) =
-          (two.netlist_accepted, two.table_accepted, long) in
-          record {
-            contents = two.netlist ∷ two.table ∷ bytes ∷ [];
-            are = three_denoted bytes denoted';
-            refusal = file_refusal command named.1 (two.netlist ∷ two.table ∷ bytes ∷ [])
-                (failures.TooLong kinds.Placement) refused (λ _ _ _ _. refused);
-          }
-      placement_stops reads reads_now (failures.Bench fault) fails = absurd fails
-      placement_stops reads reads_now (failures.Tech fault) fails = absurd fails
       placement_stops reads reads_now (failures.Placement fault) (bytes, denoted', short, has) =
           let two = two_denoted in
           let refused : IsFileRefusal (two.netlist ∷ two.table ∷ bytes ∷ [])
@@ -151,26 +120,14 @@ module _ {holds : List ℕ → Option (List ℕ)} (bench file : Bor (List ℕ)) 
             refusal = file_refusal command named.1 (two.netlist ∷ two.table ∷ bytes ∷ [])
                 (failures.Placement fault) refused (λ _ _ _ _. refused);
           }
-      placement_stops reads reads_now failures.Pairs fails = absurd fails
-      placement_stops reads reads_now (failures.Unshown why) fails = absurd fails
-      placement_stops reads reads_now (failures.ReadFault kinds.Bench) (same, rose) = cc same
-      placement_stops reads reads_now (failures.ReadFault kinds.Tech) (same, rose) = cc same
-      placement_stops reads reads_now (failures.ReadFault kinds.Report) (same, rose) = cc same
-      placement_stops reads reads_now (failures.ReadFault kinds.Placement) (same, rose) =
+      placement_stops reads reads_now failure fails =
           let two = two_denoted in
-          record {
-            prefix = (kinds.Bench, bench.now) ∷ (kinds.Tech, file.now) ∷ [];
-            file = pl.now;
-            suffix = named.0;
-            files = named.1;
-            rose = rose;
-            contents = two.netlist ∷ two.table ∷ [];
-            before = refl;
-            are = (two.netlist_denoted, (two.table_denoted, tt));
-            accepted = (two.netlist_accepted, two.table_accepted);
-          }
-      placement_stops reads reads_now failures.WriteFault fails = fails
-      placement_stops reads reads_now failures.NoMemory fails = tt
+          file_stops holds reads reads_now command kinds.Placement pl.now
+          ((kinds.Bench, bench.now) ∷ (kinds.Tech, file.now) ∷ []) named.0 named.1
+          (two.netlist ∷ two.table ∷ []) refl (two.netlist_denoted, (two.table_denoted, tt))
+          (two.netlist_accepted, two.table_accepted) named.1
+          (λ bytes long. (two.netlist_accepted, two.table_accepted, long)) three_denoted failure
+          fails
 
 -- an accepted placement after them denotes the problem
 pub placed_denotes : {holds : List ℕ → Option (List ℕ)} (bench file pl : Bor (List ℕ))

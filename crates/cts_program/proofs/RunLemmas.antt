@@ -11,7 +11,7 @@ use Rattle.cts_program.specs.declared.command.WordsFault.TheVariants as word_fau
 use Rattle.cts_program.specs.declared.ending.Ending.{Ending}
 use Rattle.cts_program.specs.declared.ending.Ending.TheVariants.{Done, Never}
 use Rattle.cts_program.specs.declared.failure.Failure.{Failure}
-use Rattle.cts_program.specs.declared.failure.Failure.TheVariants.{Usage, TooLong, Bench, Tech, Placement, Pairs, Unshown, ReadFault, WriteFault, NoMemory}
+use Rattle.cts_program.specs.declared.failure.Failure.TheVariants.{Usage, Unshown, ReadFault, WriteFault, NoMemory}
 use Rattle.cts_program.specs.declared.reading.file_kind.FileKind.{FileKind}
 use Rattle.cts_program.specs.Answers.{ending_status, IsAnswer, IsRefusal, IsAccepted, IsStatusOf, FindsNoPeriod}
 use Rattle.cts_program.specs.Commands.{options_of, IsCommand, IsSame}
@@ -201,15 +201,11 @@ module _ (words : List (List ℕ)) (holds : List ℕ → Option (List ℕ)) (rea
   cause_of : (failure : Failure)
       → Fails words holds reads reads_now before now writes writes_now failure → Cause failure
   cause_of Usage none = usage refl none
-  cause_of (TooLong kind) (command, means, refuses) = refused (inl refl) command means refuses
-  cause_of (Bench fault) (command, means, refuses) = refused (inl refl) command means refuses
-  cause_of (Tech fault) (command, means, refuses) = refused (inl refl) command means refuses
-  cause_of (Placement fault) (command, means, refuses) = refused (inl refl) command means refuses
-  cause_of Pairs (command, means, refuses) = refused (inl refl) command means refuses
   cause_of (Unshown why) (command, means, refuses) = refused (inr refl) command means refuses
   cause_of (ReadFault kind) (command, means, cannot) = unread kind refl command means cannot
   cause_of WriteFault (part, rose) = unwritten refl part rose
   cause_of NoMemory (command, means, any) = memory refl command means
+  cause_of failure cause = refused (inl refl) cause.0 cause.1 cause.2
 
   module _ (failure : Failure)
       (fails : Fails words holds reads reads_now before now writes writes_now failure) where
@@ -373,15 +369,7 @@ not_two Never two = omega arith
 -- and one that fails with neither 0 nor 1
 pub no_ending : (failure : Failure) (status : ℕ) → status_of failure ≡ status → status < 2 → ⊥
 no_ending Usage status is few = omega (arith, is, few)
-no_ending (TooLong kind) status is few = omega (arith, is, few)
-no_ending (Bench fault) status is few = omega (arith, is, few)
-no_ending (Tech fault) status is few = omega (arith, is, few)
-no_ending (Placement fault) status is few = omega (arith, is, few)
-no_ending Pairs status is few = omega (arith, is, few)
-no_ending (Unshown why) status is few = omega (arith, is, few)
-no_ending (ReadFault kind) status is few = omega (arith, is, few)
-no_ending WriteFault status is few = omega (arith, is, few)
-no_ending NoMemory status is few = omega (arith, is, few)
+no_ending failure status is few = omega (arith, is, few)
 
 -- where a count is greater that no failure but a fault moves, the status is that of the fault
 pub fault_status : (failure : Failure) (status : ℕ) (IsFault : Type 0)

@@ -1,0 +1,53 @@
+-- How a command stops at a file that can't be read or is too long.
+use Rattle.std.proofs.Common.{◌≡◌, ℕ, List, [], ◌∷◌, ◌++◌, length, Option, subst}
+use Rattle.cts_io.specs.Device.{Rose}
+use Rattle.cts_program.specs.declared.command.Command.{Command}
+use Rattle.cts_program.specs.declared.failure.Failure.{Failure}
+use Rattle.cts_program.specs.declared.failure.Failure.TheVariants as failures
+use Rattle.cts_program.specs.declared.reading.file_kind.FileKind.{FileKind}
+use Rattle.cts_program.specs.Files.{IsShortFile, files_of, AreContents}
+use Rattle.cts_program.specs.Judged.{AreAccepted, IsFileRefusal}
+use Rattle.cts_program.specs.Run.{CannotRead, Stops}
+use Rattle.cts_program.specs.Steps.{IsReportedAs, FailsToReadFile}
+use Rattle.cts_program.proofs.RefusalLemmas.{file_refusal}
+
+module _ (holds : List ℕ → Option (List ℕ)) (reads reads_now : List ℕ → ℕ) (command : Command)
+    (kind : FileKind) (file : List ℕ) (before suffix : List (FileKind × List ℕ))
+    (named : files_of command ≡ before ++ (kind, file) ∷ suffix) (contents : List (List ℕ))
+    (all : length contents ≡ length before) (are : AreContents holds before contents)
+    (accepted : AreAccepted contents) where
+  -- a file whose count rose, after accepted ones
+  pub unread : Rose (reads file) (reads_now file) → CannotRead holds reads reads_now command kind
+  unread rose = record {
+    prefix = before;
+    file = file;
+    suffix = suffix;
+    files = named;
+    rose = rose;
+    contents = contents;
+    before = all;
+    are = are;
+    accepted = accepted;
+  }
+
+  -- so one stops the command that isn't read: that is too long is a refusal of those up to it
+  pub file_stops : {first : FileKind × List ℕ} {files : List (FileKind × List ℕ)}
+      → files_of command ≡ first ∷ files
+      → ((bytes : List ℕ) → (IsShortFile bytes → ⊥)
+      → IsFileRefusal (contents ++ bytes ∷ []) (failures.TooLong kind))
+      → ((bytes : List ℕ) → IsReportedAs (holds file) bytes
+      → AreContents holds (files_of command) (contents ++ bytes ∷ []))
+      → (failure : Failure)
+      → FailsToReadFile kind (holds file) (reads file) (reads_now file) failure
+      → Stops holds reads reads_now command failure
+  file_stops some long known (failures.TooLong other) (same, (bytes, denoted, more)) =
+      subst (λ kind. Stops holds reads reads_now command (failures.TooLong kind)) same (record {
+        contents = contents ++ bytes ∷ [];
+        are = known bytes denoted;
+        refusal = file_refusal command some (contents ++ bytes ∷ []) (failures.TooLong kind)
+            (long bytes more) (λ _ _ _ _. long bytes more);
+      })
+  file_stops some long known (failures.ReadFault other) (same, rose) =
+      subst (λ kind. CannotRead holds reads reads_now command kind) same (unread rose)
+  file_stops some long known failures.NoMemory fails = tt
+  file_stops some long known failure fails = absurd fails
