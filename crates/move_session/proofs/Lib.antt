@@ -4,3 +4,7 @@ mod EntryLemmas
 mod TakenLines
 mod MovesWalk
 mod OneFault
+mod AgreeingSinks
+mod StepsUp
+mod MovedSinks
+mod PlacedShows

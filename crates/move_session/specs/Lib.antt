@@ -6,3 +6,6 @@ pub mod Numbers
 pub mod Refusals
 pub mod Taken
 pub mod View
+pub mod Sessions
+pub mod SessionViews
+pub mod MergesAbove

@@ -1,4 +1,4 @@
-//! Reads moves: which registers of a circuit go to which new places.
+//! Moves of registers, read from a text, and clock trees that are kept up to date with them.
 #![tactic(auto)]
 
 mod entry;
@@ -8,7 +8,11 @@ mod moves;
 mod moving;
 mod read;
 mod register_numbers;
+mod session;
+mod total;
+mod way_up;
 
 pub use fault::MovesFault;
 pub use moves::Move;
 pub use read::read_moves;
+pub use session::Session;

@@ -1,0 +1,328 @@
+-- The walk over the merges from a sink up to the root.
+use Rattle.std.proofs.Common.{◌≡◌, ◌≢◌, ◌⊎◌, inl, inr, ℕ, zero, suc, ◌+◌, ◌-◌, ◌^◌, ◌<◌, ◌≤◌, min, Bool, true, false, List, [], ◌∷◌, ◌++◌, length, take, get_or, Some, slice_get, refl, sym, ap, subst, ◌∙◌, arith}
+use Rattle.std.specs.Prelude.{IsSomeAnd}
+use Rattle.std.specs.Cmp.{nat_eq_equiv}
+use Rattle.std.specs.List.{Contains, count_by, range_with_len}
+use Rattle.std.proofs.lemmas.Bool.{cases_eq, cases_lt}
+use Rattle.std.proofs.lemmas.List.{get_or-take, length-take-le, take_all}
+use Rattle.std.proofs.lemmas.List.Elements.{Contains-append_cases, Contains-append_left, Contains-append_right}
+use Rattle.std.proofs.lemmas.List.FromFn.{get_or-range_with_len, length-range_with_len}
+use Rattle.std.proofs.lemmas.List.Sums.{count_by_more_no, count_by_more_yes}
+use Rattle.std.proofs.lemmas.Map.Views.{list_any-from_Contains}
+use Rattle.std.proofs.lemmas.Option.{get_or_from_slice_get, slice_get-get_or, slice_get_within}
+use Rattle.cts_model.specs.declared.place.Sink.{Sink}
+use Rattle.cts_model.specs.declared.tree.Merge.{Merge}
+use Rattle.cts_model.specs.Topologies.{IsLive, IsMerge, IsTopology, Joins, numbers_below}
+use Rattle.cts_model.proofs.TopologyLemmas.{numbers_below-merge, numbers_below-sink, some_and}
+use Rattle.merge_up.specs.Merging.{HoldsMerge, HoldsSinks, IsMerged, IsRenewed}
+use Rattle.merge_up.specs.Works.{WorkState}
+use Rattle.merge_up.proofs.WorkLemmas.{merge_along, no_merge, set_kept, sink_along}
+use Rattle.move_session.specs.MergesAbove.{IsMergedBeside, IsStep, JoinsAt, is_above, merges_above}
+
+-- a merge that is read joins the node
+pub joins_here : (merges : List Merge) (place node : ℕ) (merge : Merge)
+    → slice_get merges place ≡ Some merge → Joins merge node → JoinsAt merges place node
+joins_here merges place node merge here joins =
+    subst (λ found. IsSomeAnd found (λ merge. Joins merge node)) (sym here) joins
+
+-- what a list of one item contains is that item
+only_one : (item other : ℕ) → Contains (item ∷ []) other → other ≡ item
+only_one item other (zero, within, same) = sym same
+only_one item other (suc place, within, same) = absurd (omega arith)
+
+-- one item more is counted once at most
+count_more : (passes : ℕ → Bool) (items : List ℕ) (place : ℕ) → place < length items
+    → count_by passes (take place items) ≤ count_by passes (take (place + 1) items)
+count_more passes items place within = at (passes (get_or items place 0)) refl
+  where
+    at : (b : Bool) → passes (get_or items place 0) ≡ b
+        → count_by passes (take place items) ≤ count_by passes (take (place + 1) items)
+    at true passed = omega (arith, count_by_more_yes passes items place 0 within passed)
+    at false failed = omega (arith, count_by_more_no passes items place 0 within failed)
+
+module _ (sinks : List Sink) (merges : List Merge) (register : ℕ) where
+  -- the sink is below the node
+  abbrev Below : ℕ → Type 0
+  Below node = Contains (numbers_below (length sinks) merges node) register
+
+  -- how many of the merges before a place have the sink below them
+  abbrev above_before : ℕ → ℕ
+  above_before place = count_by (is_above (length sinks) merges register)
+      (take place (range_with_len 0 (length merges)))
+
+  -- the merges before the place are held, as are those that don't have the sink below them, and
+  -- the node is the live one that has it
+  pub record IsOnWay (place node : ℕ) (old work : WorkState) : Type 0 where
+    pub count : work.sinks ≡ length sinks
+    pub room : work.room ≡ old.room
+    pub of_sinks : HoldsSinks sinks work
+    pub of_merges : (lower : ℕ) → lower < length merges
+        → (lower < place) ⊎ (Below (length sinks + lower) → ⊥)
+        → HoldsMerge sinks merges work lower
+    pub below : Below node
+    pub one : (other : ℕ) → IsLive (length sinks) (take place merges) other → Below other
+        → other ≡ node
+    pub renewals : work.renewals ≤ old.renewals + above_before place
+
+  -- it begins at the sink
+  pub on_way_first : (work : WorkState) → register < length sinks
+      → IsMergedBeside sinks merges register work → IsOnWay 0 register work work
+  on_way_first work within beside = record {
+    count = beside.count;
+    room = refl;
+    of_sinks = beside.of_sinks;
+    of_merges = λ lower made how. elim how [
+      | inl before ↦ absurd (omega (arith, before))
+      | inr apart ↦ beside.of_merges lower made apart
+    ];
+    below = subst (λ numbers. Contains numbers register)
+        (sym (numbers_below-sink (length sinks) merges register within)) (zero, omega arith, refl);
+    one = λ other live below.
+        let made : other < length sinks = omega (arith, live.made) in
+        sym (only_one other register (subst (λ numbers. Contains numbers register)
+        (numbers_below-sink (length sinks) merges other made) below));
+    renewals = omega arith;
+  }
+
+  -- past the last merge all is held
+  pub way_merged : {node : ℕ} {old work : WorkState} → IsOnWay (length merges) node old work
+      → IsMerged sinks merges work
+  way_merged way = record {
+    count = way.count;
+    of_sinks = way.of_sinks;
+    of_merges = λ place made. way.of_merges place made (inl made);
+  }
+
+  pub way_counted : {node : ℕ} {old work : WorkState} → IsOnWay (length merges) node old work
+      → work.renewals ≤ old.renewals + merges_above (length sinks) merges register
+  way_counted {node} {old} {work} way =
+      let range = range_with_len 0 (length merges) in
+      subst (λ list. work.renewals
+      ≤ old.renewals + count_by (is_above (length sinks) merges register) list)
+      (take_all (length merges) range (omega (arith, length-range_with_len 0 (length merges))))
+      way.renewals
+
+  module _ (topology : IsTopology (length sinks) merges) where
+    module _ (place : ℕ) (within : place < length merges) where
+      -- the merge at the place
+      abbrev here_merge : Merge
+      here_merge = get_or merges place no_merge
+
+      here : slice_get merges place ≡ Some here_merge
+      here = slice_get-get_or merges place no_merge within
+
+      joins : IsMerge (length sinks) (take place merges) here_merge
+      joins = topology.each place here_merge here
+
+      -- the sinks below it
+      numbers_here : numbers_below (length sinks) merges (length sinks + place)
+          ≡ numbers_below (length sinks) merges here_merge.first
+          ++ numbers_below (length sinks) merges here_merge.second
+      numbers_here = numbers_below-merge (length sinks) merges place here_merge here joins
+
+      joined_first : Below here_merge.first → Below (length sinks + place)
+      joined_first below = subst (λ numbers. Contains numbers register) (sym numbers_here)
+          (Contains-append_left (numbers_below (length sinks) merges here_merge.first)
+          (numbers_below (length sinks) merges here_merge.second) register below)
+
+      joined_second : Below here_merge.second → Below (length sinks + place)
+      joined_second below = subst (λ numbers. Contains numbers register) (sym numbers_here)
+          (Contains-append_right (numbers_below (length sinks) merges here_merge.first)
+          (numbers_below (length sinks) merges here_merge.second) register below)
+
+      -- where it joins a node, that is one of the two
+      joined_here : (node : ℕ) → JoinsAt merges place node → Joins here_merge node
+      joined_here node found =
+          let (merge, read, joined) = some_and (slice_get merges place)
+          (λ merge. Joins merge node) found in
+          subst (λ one. Joins one node)
+          (sym (get_or_from_slice_get merges place merge no_merge read)) joined
+
+      -- it is above a sink where it joins the live node that has the sink below it
+      above_joined : (node : ℕ) → Below node → JoinsAt merges place node
+          → Below (length sinks + place)
+      above_joined node below found = elim (joined_here node found) [
+        | inl same ↦ joined_first (subst Below (sym same) below)
+        | inr same ↦ joined_second (subst Below (sym same) below)
+      ]
+
+      -- and nowhere else
+      joined_above : (node : ℕ) → ((other : ℕ) → IsLive (length sinks) (take place merges) other
+          → Below other → other ≡ node) → Below (length sinks + place) → JoinsAt merges place node
+      joined_above node one below = elim (Contains-append_cases
+          (numbers_below (length sinks) merges here_merge.first)
+          (numbers_below (length sinks) merges here_merge.second) register
+          (subst (λ numbers. Contains numbers register) numbers_here below)) [
+            | inl first ↦ joins_here merges place node here_merge here
+                (inl (one here_merge.first joins.first first))
+            | inr second ↦ joins_here merges place node here_merge here
+                (inr (one here_merge.second joins.second second))
+          ]
+
+      -- a node that lives after the merge is what it makes, or lived before it
+      live_before : (other : ℕ) → IsLive (length sinks) (take (place + 1) merges) other
+          → other < length sinks + place → IsLive (length sinks) (take place merges) other
+      live_before other live low = record {
+        made = omega (arith, low, length-take-le place merges (omega (arith, within)));
+        unjoined = λ k default before.
+            let first : k < place = omega (
+              arith,
+              before,
+              length-take-le place merges (omega (arith, within)),
+            ) in
+            let also : k < length (take (place + 1) merges) = omega (
+              arith,
+              first,
+              length-take-le (place + 1) merges (omega (arith, within)),
+            ) in
+            subst (λ (merge : Merge). (merge.first ≢ other) × (merge.second ≢ other))
+            (get_or-take (place + 1) merges k default (omega (arith, first))
+            ∙ sym (get_or-take place merges k default first)) (live.unjoined k default also);
+      }
+
+      -- and isn't joined by it
+      live_apart : (other : ℕ) → IsLive (length sinks) (take (place + 1) merges) other
+          → Joins here_merge other → ⊥
+      live_apart other live joined =
+          let also : place < length (take (place + 1) merges) = omega (
+            arith,
+            length-take-le (place + 1) merges (omega (arith, within)),
+          ) in
+          let apart = subst (λ (merge : Merge). (merge.first ≢ other) × (merge.second ≢ other))
+          (get_or-take (place + 1) merges place no_merge (omega arith))
+          (live.unjoined place no_merge also) in
+          elim joined [
+            | inl same ↦ apart.0 same
+            | inr same ↦ apart.1 same
+          ]
+
+      made_last : (other : ℕ) → IsLive (length sinks) (take (place + 1) merges) other
+          → length sinks + place ≤ other → other ≡ length sinks + place
+      made_last other live high = omega (
+        arith,
+        high,
+        live.made,
+        length-take-le (place + 1) merges (omega (arith, within)),
+      )
+
+      range_within : place < length (range_with_len 0 (length merges))
+      range_within = omega (arith, within, length-range_with_len 0 (length merges))
+
+      module _ {node : ℕ} {old work : WorkState} (way : IsOnWay place node old work) where
+        -- a merge that joins others is passed
+        passed : (JoinsAt merges place node → ⊥) → IsOnWay (place + 1) node old work
+        passed apart = record {
+          count = way.count;
+          room = way.room;
+          of_sinks = way.of_sinks;
+          of_merges = λ lower made how. elim how [
+            | inl before ↦ elim (cases_lt lower place) [
+              | inl earlier ↦ way.of_merges lower made (inl earlier)
+              | inr later ↦
+                  let same : place ≡ lower = omega (arith, before, later) in
+                  way.of_merges lower made (inr (λ below. not_above
+                  (subst (λ n. Below (length sinks + n)) (sym same) below)))
+            ]
+            | inr beside ↦ way.of_merges lower made (inr beside)
+          ];
+          below = way.below;
+          one = λ other live below. elim (cases_lt other (length sinks + place)) [
+            | inl low ↦ way.one other (live_before other live low) below
+            | inr high ↦ absurd (not_above (subst Below (made_last other live high) below))
+          ];
+          renewals = omega (
+            arith,
+            way.renewals,
+            count_more (is_above (length sinks) merges register)
+                (range_with_len 0 (length merges)) place range_within,
+          );
+        }
+          where
+            not_above : Below (length sinks + place) → ⊥
+            not_above below = apart (joined_above node way.one below)
+
+        -- one that joins the node is renewed, and goes on
+        renewed : (new : WorkState) → JoinsAt merges place node
+            → IsRenewed sinks merges place work new
+            → IsOnWay (place + 1) (length sinks + place) old new
+        renewed new joined is = record {
+          count = ap (λ work. work.sinks) is.rest ∙ way.count;
+          room = ap (λ work. work.room) is.rest ∙ way.room;
+          of_sinks = λ other sink read.
+              let apart : other ≢ length sinks + place = λ same. absurd
+              (omega (arith, same, slice_get_within sinks other sink read)) in
+              sink_along work new other sink (reaches other apart) (regions other apart)
+              (way.of_sinks other sink read);
+          of_merges = of_merges;
+          below = above_joined node way.below joined;
+          one = λ other live below. elim (cases_lt other (length sinks + place)) [
+            | inl low ↦ absurd (live_apart other live (subst (Joins here_merge)
+                (sym (way.one other (live_before other live low) below))
+                (joined_here node joined)))
+            | inr high ↦ made_last other live high
+          ];
+          renewals = once work.renewals new.renewals (2 ^ 64 - 1)
+              (ap (λ work. work.renewals) is.rest) way.renewals counted_here;
+        }
+          where
+            reaches : (other : ℕ) → other ≢ length sinks + place
+                → slice_get new.tree.reach other ≡ slice_get work.tree.reach other
+            reaches other apart = ap (λ work. slice_get work.tree.reach other) is.rest
+                ∙ set_kept work.tree.reach (length sinks + place) other is.held.reach apart
+
+            regions : (other : ℕ) → other ≢ length sinks + place
+                → slice_get new.regions other ≡ slice_get work.regions other
+            regions other apart = ap (λ work. slice_get work.regions other) is.rest
+                ∙ set_kept work.regions (length sinks + place) other is.held.region apart
+
+            earlier_or_beside : (lower : ℕ) → lower ≢ place
+                → (lower < place + 1) ⊎ (Below (length sinks + lower) → ⊥)
+                → (lower < place) ⊎ (Below (length sinks + lower) → ⊥)
+            earlier_or_beside lower apart (inl before) = inl (elim (cases_lt lower place) [
+              | inl earlier ↦ earlier
+              | inr later ↦ absurd (apart (omega (arith, before, later)))
+            ])
+            earlier_or_beside lower apart (inr beside) = inr beside
+
+            of_merges : (lower : ℕ) → lower < length merges
+                → (lower < place + 1) ⊎ (Below (length sinks + lower) → ⊥)
+                → HoldsMerge sinks merges new lower
+            of_merges lower made how = elim (cases_eq lower place) [
+              | inl same ↦ subst (HoldsMerge sinks merges new) (sym same) is.held
+              | inr apart ↦
+                  let apart_node : length sinks + lower ≢ length sinks + place = λ same.
+                  apart (omega (arith, same)) in
+                  merge_along sinks merges work new lower
+                  (reaches (length sinks + lower) apart_node)
+                  (regions (length sinks + lower) apart_node)
+                  (ap (λ work. slice_get work.shows lower) is.rest
+                  ∙ set_kept work.shows place lower is.held.show apart)
+                  (way.of_merges lower made (earlier_or_beside lower apart how))
+            ]
+
+            is_one : is_above (length sinks) merges register
+                (get_or (range_with_len 0 (length merges)) place 0) ≡ true
+            is_one =
+                ap (is_above (length sinks) merges register)
+                (get_or-range_with_len 0 (length merges) place 0 within ∙ omega arith)
+                ∙ list_any-from_Contains nat_eq_equiv register
+                (numbers_below (length sinks) merges (length sinks + place))
+                (above_joined node way.below joined)
+
+            counted_here : above_before (place + 1) ≡ above_before place + 1
+            counted_here = count_by_more_yes (is_above (length sinks) merges register)
+                (range_with_len 0 (length merges)) place 0 range_within is_one
+
+            once : (before after most : ℕ) → after ≡ min (before + 1) most
+                → before ≤ old.renewals + above_before place
+                → above_before (place + 1) ≡ above_before place + 1
+                → after ≤ old.renewals + above_before (place + 1)
+            once before after most is low more = omega (arith, is, low, more)
+
+        -- either way the walk goes on
+        pub on_way_next : (new : WorkState) (next : ℕ)
+            → IsStep sinks merges place node work new next → IsOnWay (place + 1) next old new
+        on_way_next new next (inl up) = subst (λ n. IsOnWay (place + 1) n old new) (sym up.up)
+            (renewed new up.joins up.renewed)
+        on_way_next new next (inr past) = subst (λ n. IsOnWay (place + 1) n old new) (sym past.same)
+            (subst (IsOnWay (place + 1) node old) (sym past.stays) (passed past.apart))

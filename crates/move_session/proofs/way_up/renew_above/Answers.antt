@@ -1,0 +1,26 @@
+use Rattle.std.proofs.Common.{◌+◌, ◌<◌, arith, inl, length, refl}
+use Rattle.merge_up.proofs.WorkLemmas.{joined_held}
+use Rattle.move_session.proofs.StepsUp.{on_way_first, on_way_next}
+use Rattle.move_session.proofs.way_up.renew_above.Goals as goal
+
+pub loop-place-init : goal.loop-place-init
+loop-place-init c = on_way_first c.args.sinks.now c.args.topology.now.merges c.args.register
+    c.args.work.now c.requires.register c.requires.beside
+
+pub renew_joining-node-requires-clause-joined : goal.renew_joining-node-requires-clause-joined
+renew_joining-node-requires-clause-joined c =
+    let sinks = c.args.sinks.now in
+    let merges = c.args.topology.now.merges in
+    let place = c.loop-place.place in
+    let within = c.loop-place-test.true in
+    joined_held sinks merges place c.loop-place.work c.requires.topology
+    (λ lower before. c.loop-place.invariant.of_merges lower (omega (arith, before, within))
+    (inl before)) (length sinks + place) refl
+
+pub loop-place-preserved : goal.loop-place-preserved
+loop-place-preserved c =
+    let within : c.loop-place.place < length c.args.topology.now.merges =
+    omega (arith, c.loop-place-test.true, c.len-place-end.ensures) in
+    on_way_next c.args.sinks.now c.args.topology.now.merges c.args.register c.requires.topology
+    c.loop-place.place within c.loop-place.invariant c.renew_joining-node.new.work
+    c.renew_joining-node.result c.renew_joining-node.ensures
