@@ -1,3 +1,4 @@
+mod IntLemmas
 mod GainLemmas
 mod RelaxLemmas
 mod ParentLemmas
@@ -11,7 +12,9 @@ mod PlaceLemmas
 mod Turns
 mod RoundWalk
 mod SumLemmas
+mod MeasureLemmas
 mod RaiseLemmas
 mod Steps
 mod SearchLemmas
+mod RatioLemmas
 mod PeriodLemmas

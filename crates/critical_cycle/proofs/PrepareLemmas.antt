@@ -1,4 +1,4 @@
--- Values that are brought to another denominator, one after the other, and parents that are none.
+-- Values that are brought to another scale, one after the other, and parents that are none.
 use Rattle.std.proofs.Common.{◌≡◌, ◌<◌, ◌≤◌, ◌+◌, ◌^◌, ◌∙◌, ℕ, ℤ, List, length, get_or, set, replicate, None, ◌⊎◌, inl, inr, sym, subst, ap, arith}
 use Rattle.std.specs.List.{slice_get}
 use Rattle.std.specs.Option.{option_and_then}

@@ -22,20 +22,20 @@ nowhere = record { setup = false; tail = 0; head = 0; weight = pos 0 }
 -- goes to
 pub record IsRead (trial : Trial) (constraint : Constraint) (values : List ℤ)
     (from gain to : ℤ) : Type 0 where
-  pub small : All (IsBelow (2 ^ 92)) values
+  pub small : All (IsBelow (2 ^ 99)) values
   pub tail : constraint.tail < length values
   pub head : constraint.head < length values
   pub from_is : from ≡ get_or values constraint.tail from
   pub gain_is : gain ≡ gain_of trial constraint
-  pub gain_small : IsBelow (2 ^ 50) gain
+  pub gain_small : IsBelow (2 ^ 64) gain
   pub to_is : to ≡ get_or values constraint.head to
 
 -- it is read where the constraint is small
 pub IsRead-at : (constraints : List Constraint) (trial : Trial) (place : ℕ) (values : List ℤ)
     (from gain to : ℤ) → AreSmallConstraints (length values) constraints
-    → place < length constraints → All (IsBelow (2 ^ 92)) values
+    → place < length constraints → All (IsBelow (2 ^ 99)) values
     → from ≡ get_or values (get_or constraints place nowhere).tail from
-    → gain ≡ gain_of trial (get_or constraints place nowhere) → IsBelow (2 ^ 50) gain
+    → gain ≡ gain_of trial (get_or constraints place nowhere) → IsBelow (2 ^ 64) gain
     → to ≡ get_or values (get_or constraints place nowhere).head to
     → IsRead trial (get_or constraints place nowhere) values from gain to
 IsRead-at constraints trial place values from gain to are_small within small from_is gain_is
@@ -50,22 +50,22 @@ IsRead-at constraints trial place values from gain to are_small within small fro
     }
 
 -- the code's sum
-sum_read : (from gain : ℤ) → IsBelow (2 ^ 92) from → IsBelow (2 ^ 50) gain
+sum_read : (from gain : ℤ) → IsBelow (2 ^ 99) from → IsBelow (2 ^ 64) gain
     → kept (kept from +ℤ kept gain) ≡ from +ℤ gain
 sum_read from gain small gain_small = omega (arith, ints)
 
 -- it fits
-pub sum_fits : (from gain : ℤ) → IsBelow (2 ^ 92) from → IsBelow (2 ^ 50) gain
+pub sum_fits : (from gain : ℤ) → IsBelow (2 ^ 99) from → IsBelow (2 ^ 64) gain
     → FitsSigned w128 (kept from +ℤ kept gain)
 sum_fits from gain small gain_small = omega (arith, ints)
 
 -- what the code's test says where it passes
-test_true : (offer to : ℤ) → IsBelow (2 ^ 93) offer → IsBelow (2 ^ 92) to
+test_true : (offer to : ℤ) → IsBelow (2 ^ 100) offer → IsBelow (2 ^ 99) to
     → le_z offer (kept to) ≡ true → offer ≤ℤ to
 test_true offer to offer_small small passes = grind (arith, ints)
 
 -- and where it fails
-test_false : (offer to : ℤ) → IsBelow (2 ^ 93) offer → IsBelow (2 ^ 92) to
+test_false : (offer to : ℤ) → IsBelow (2 ^ 100) offer → IsBelow (2 ^ 99) to
     → le_z offer (kept to) ≡ false → to <ℤ offer
 test_false offer to offer_small small fails = grind (arith, ints)
 
@@ -80,13 +80,13 @@ module _ {trial : Trial} {constraint : Constraint} {values : List ℤ} {from gai
   to_value = get_or_read values constraint.head to read.head read.to_is (pos 0)
 
   -- the first is small
-  from_small : IsBelow (2 ^ 92) from
+  from_small : IsBelow (2 ^ 99) from
   from_small =
-      subst (IsBelow (2 ^ 92)) (sym from_value) (read.small constraint.tail (pos 0) read.tail)
+      subst (IsBelow (2 ^ 99)) (sym from_value) (read.small constraint.tail (pos 0) read.tail)
 
   -- and so is the second
-  to_small : IsBelow (2 ^ 92) to
-  to_small = subst (IsBelow (2 ^ 92)) (sym to_value) (read.small constraint.head (pos 0) read.head)
+  to_small : IsBelow (2 ^ 99) to
+  to_small = subst (IsBelow (2 ^ 99)) (sym to_value) (read.small constraint.head (pos 0) read.head)
 
   -- the code's offer is what the constraint gives
   pub offer_read : kept (kept from +ℤ kept gain) ≡ offer_of trial values constraint
@@ -95,12 +95,12 @@ module _ {trial : Trial} {constraint : Constraint} {values : List ℤ} {from gai
       read.gain_is)
 
   -- and so is the offer
-  offer_small : IsBelow (2 ^ 93) (kept (kept from +ℤ kept gain))
+  offer_small : IsBelow (2 ^ 100) (kept (kept from +ℤ kept gain))
   offer_small = below from_small read.gain_small
     where
       -- a sum of small numbers
-      below : IsBelow (2 ^ 92) from → IsBelow (2 ^ 50) gain
-          → IsBelow (2 ^ 93) (kept (kept from +ℤ kept gain))
+      below : IsBelow (2 ^ 99) from → IsBelow (2 ^ 64) gain
+          → IsBelow (2 ^ 100) (kept (kept from +ℤ kept gain))
       below first second = record { above = omega (arith, ints); below = omega (arith, ints) }
 
   -- where the test passes, the constraint gives no more

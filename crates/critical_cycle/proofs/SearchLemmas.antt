@@ -1,43 +1,49 @@
 -- What a trial and a raise leave shown.
-use Rattle.std.proofs.Common.{ℕ, ◌≡◌, ◌<◌, ◌≤◌, ◌+◌, ◌*◌, ◌^◌, ℤ, pos, ◌*ℤ◌, ◌≤ℤ◌, ◌<ℤ◌, List, Option, Some, None, refl, sym, ◌∙◌, subst, arith, false}
+use Rattle.std.proofs.Common.{ℕ, ◌≡◌, ◌<◌, ◌≤◌, ◌+◌, ◌*◌, ℤ, pos, neg_ℤ, ◌*ℤ◌, ◌≤ℤ◌, ◌<ℤ◌, List, Option, Some, None, refl, sym, subst, arith, false}
 use Rattle.std.specs.Prelude.{MatchOption, nat_abs}
 use Rattle.std.proofs.Math.Nat.{mul-le-mul_left}
 use Rattle.std.proofs.lemmas.Int.{ints, by_lt_z}
+use Rattle.cts_base.specs.declared.fraction.Fraction.{Fraction}
 use Rattle.cts_model.specs.declared.constraint.Constraint.{Constraint}
-use Rattle.cts_model.specs.Constraints.{AreSmallConstraints, Satisfies}
-use Rattle.critical_cycle.specs.Searches.{ClosesWithNext}
+use Rattle.cts_model.specs.Constraints.{AreSmallConstraints}
 use Rattle.cts_model.specs.Cycles.{IsCycle}
+use Rattle.critical_cycle.specs.declared.measure.Measure.{Measure}
 use Rattle.critical_cycle.specs.declared.raise.Raise.{Raise}
 use Rattle.critical_cycle.specs.declared.raise.Raise.TheVariants as raise
 use Rattle.critical_cycle.specs.declared.relaxation.Relaxation.{Relaxation}
 use Rattle.critical_cycle.specs.declared.shown.Shown.{Shown}
-use Rattle.critical_cycle.specs.declared.shown.Shown.TheVariants.{Floor, Value, Never}
+use Rattle.critical_cycle.specs.declared.shown.Shown.TheVariants.{First, Value, Never}
 use Rattle.critical_cycle.specs.declared.trial.Trial.{Trial}
 use Rattle.critical_cycle.specs.CyclePlaces.{AreWithin, constraints_at}
+use Rattle.critical_cycle.specs.Measures.{CanTry, IsTrialAt, SatisfiesRatio}
+use Rattle.critical_cycle.specs.RatioSizes.{most_weight}
 use Rattle.critical_cycle.specs.Raises.{IsRaise}
 use Rattle.critical_cycle.specs.Relaxing.{SatisfiesTrial}
-use Rattle.critical_cycle.specs.ShownPeriods.{CanTry, IsRaisedBy, IsSettled, IsShown, IsTrialOf, raises_left, steps_below}
+use Rattle.critical_cycle.specs.Searches.{ClosesWithNext}
+use Rattle.critical_cycle.specs.ShownRatios.{IsGreatestShown, IsRaisedBy, IsSettled, IsShown, raises_left, steps_below}
 use Rattle.critical_cycle.specs.Trials.{total_gain, value_of}
+use Rattle.critical_cycle.proofs.MeasureLemmas.{satisfies_ratio, total_gain-sums}
 use Rattle.critical_cycle.proofs.RaiseLemmas.{size_is}
 use Rattle.critical_cycle.proofs.Steps.{steps_below-less}
 use borrow.Author.Differences.{up, down}
 
--- a trial that settles, settles the greatest period shown
-pub settled_at : (constraints : List Constraint) (floor : ℤ) (shown : Shown) (trial : Trial)
-    → (relaxation : Relaxation) → CanTry shown → IsTrialOf floor shown trial
-    → SatisfiesTrial constraints trial relaxation → IsSettled constraints floor shown
-settled_at constraints floor Floor trial relaxation can_try at satisfies = (
+-- a trial that settles, settles the greatest ratio shown
+pub settled_at : (measure : Measure) (constraints : List Constraint) (first : Fraction)
+    (shown : Shown) (ratio : Fraction) (trial : Trial) (relaxation : Relaxation)
+    → IsGreatestShown first shown ratio → IsTrialAt measure ratio trial
+    → SatisfiesTrial constraints trial relaxation → IsSettled measure constraints first shown
+settled_at measure constraints first First ratio trial relaxation greatest at satisfies = (
   value_of relaxation.values.items,
-  subst (λ n. Satisfies constraints 1 n (value_of relaxation.values.items)) at.numerator_is
-      (satisfies 1 (sym at.denominator_is)),
+  subst (λ r. SatisfiesRatio measure constraints r (value_of relaxation.values.items)) greatest
+      (satisfies_ratio at constraints relaxation satisfies),
 )
-settled_at constraints floor (Value value) trial relaxation can_try at satisfies = (
+settled_at measure constraints first (Value value) ratio trial relaxation greatest at satisfies = (
   value_of relaxation.values.items,
-  subst (λ n. Satisfies constraints (nat_abs value.den) n (value_of relaxation.values.items))
-      at.numerator_is
-      (satisfies (nat_abs value.den) (size_is value.den can_try.proper ∙ sym at.denominator_is)),
+  subst (λ r. SatisfiesRatio measure constraints r (value_of relaxation.values.items)) greatest
+      (satisfies_ratio at constraints relaxation satisfies),
 )
-settled_at constraints floor Never trial relaxation can_try at satisfies = absurd at
+settled_at measure constraints first Never ratio trial relaxation greatest at satisfies =
+    absurd greatest
 
 -- both outcomes of a trial
 pub outcome : (P Q : Type 0) (R S : ℕ → Type 0) (result : Option ℕ) → (P → Q)
@@ -45,93 +51,117 @@ pub outcome : (P Q : Type 0) (R S : ℕ → Type 0) (result : Option ℕ) → (P
 outcome P Q R S None left right here = left here
 outcome P Q R S (Some register) left right here = right register here
 
--- the floor is no longer than the trial's period
-floor_below : (constraints : List Constraint) (floor : ℤ) (cycle : List ℕ) (shown : Shown)
-    (trial : Trial)
-    → IsShown constraints floor cycle shown → IsTrialOf floor shown trial
-    → (floor *ℤ trial.denominator) ≤ℤ trial.numerator
-floor_below constraints floor cycle Floor trial is at =
-    rw (at.numerator_is, at.denominator_is) (omega (arith, ints))
-floor_below constraints floor cycle (Value value) trial is at =
-    rw (at.numerator_is, at.denominator_is) (omega (arith, ints, is.above))
-floor_below constraints floor cycle Never trial is at = absurd at
+-- the first ratio is no greater than the greatest shown
+first_below : (measure : Measure) (constraints : List Constraint) (first : Fraction)
+    (cycle : List ℕ) (shown : Shown) (ratio : Fraction)
+    → IsShown measure constraints first cycle shown → IsGreatestShown first shown ratio
+    → (first.num *ℤ ratio.den) ≤ℤ (ratio.num *ℤ first.den)
+first_below measure constraints first cycle First ratio is greatest =
+    rw greatest (no_less (first.num *ℤ first.den))
+  where
+    no_less : (a : ℤ) → a ≤ℤ a
+    no_less a = omega (arith, ints)
+first_below measure constraints first cycle (Value value) ratio is greatest =
+    rw greatest (no_more is.above)
+  where
+    no_more : {a b : ℤ} → a <ℤ b → a ≤ℤ b
+    no_more less = omega (arith, ints)
+first_below measure constraints first cycle Never ratio is greatest = absurd greatest
 
--- and so shorter than a longer one
-above_floor : (floor num value : ℤ) (den size : ℕ) → (floor *ℤ pos den) ≤ℤ num
-    → (num *ℤ pos size) <ℤ (value *ℤ pos den) → (floor *ℤ pos size) <ℤ value
-above_floor floor num value den size low above =
-    by_lt_z (floor *ℤ pos size) value (λ more. more)
+-- and so less than a greater one
+above_first : (first num value : ℤ) (whole den size : ℕ) → 1 ≤ whole
+    → (first *ℤ pos den) ≤ℤ (num *ℤ pos whole) → (num *ℤ pos size) <ℤ (value *ℤ pos den)
+    → (first *ℤ pos size) <ℤ (value *ℤ pos whole)
+above_first first num value whole den size some low above =
+    by_lt_z (first *ℤ pos size) (value *ℤ pos whole) (λ more. more)
     (λ less.
-    let under : up value + down floor * size ≤ down value + up floor * size = omega (arith, ints) in
-    let least : up floor * den + down num ≤ down floor * den + up num = omega (arith, ints) in
-    let first = mul-le-mul_left den under in
-    let second = mul-le-mul_left size least in
+    let under : up value * whole + down first * size ≤ down value * whole + up first * size =
+    omega (arith, ints) in
+    let least : up first * den + down num * whole ≤ down first * den + up num * whole =
+    omega (arith, ints) in
+    let over : up num * size + down value * den + 1 ≤ down num * size + up value * den =
+    omega (arith, ints) in
+    let first_times = mul-le-mul_left den under in
+    let second_times = mul-le-mul_left size least in
+    let third_times = mul-le-mul_left whole over in
     absurd (omega (arith, ints)))
 
--- the raises that are left from the trial on
-left_at : (floor : ℤ) (shown : Shown) (trial : Trial) → IsTrialOf floor shown trial
-    → raises_left floor shown ≡ 1 + steps_below (pos (4097 * 10 ^ 11)) trial.numerator
-    trial.denominator
-left_at floor Floor trial at = rw (at.numerator_is, at.denominator_is)
-left_at floor (Value value) trial at = rw (at.numerator_is, at.denominator_is)
-left_at floor Never trial at = absurd at
+-- the raises that are left from the greatest ratio shown on
+left_at : (measure : Measure) (first : Fraction) (shown : Shown) (ratio : Fraction)
+    → IsGreatestShown first shown ratio → raises_left measure first shown
+    ≡ 1 + steps_below (most_weight measure.scale measure.period) ratio.num ratio.den
+left_at measure first First ratio greatest = rw greatest refl
+left_at measure first (Value value) ratio greatest = rw greatest refl
+left_at measure first Never ratio greatest = absurd greatest
 
--- the trial's period isn't long enough for a cycle with a total above 0
-pub not_kept : (trial : Trial) (steps : List Constraint) (says : Raise) → pos 0 <ℤ total_gain trial
-    steps
-    → IsRaise trial steps says → says ≡ raise.Keep → ⊥
-not_kept trial steps raise.Keep gains keep is = omega (arith, ints)
-not_kept trial steps (raise.To value) gains to is = cc
-not_kept trial steps raise.Never gains never is = cc
+-- a ratio isn't enough for a cycle with a total above 0 at its trial
+pub not_kept : (measure : Measure) (ratio : Fraction) (trial : Trial) (steps : List Constraint)
+    (says : Raise) → IsTrialAt measure ratio trial → pos 0 <ℤ total_gain trial steps
+    → IsRaise measure ratio steps says → says ≡ raise.Keep → ⊥
+not_kept measure ratio trial steps raise.Keep at gains keep is =
+    let total = total_gain-sums at steps in
+    omega (arith, ints)
+not_kept measure ratio trial steps (raise.To value) at gains to is = cc
+not_kept measure ratio trial steps raise.Never at gains never is = cc
 
--- a cycle that the trial's period isn't long enough for shows more, and leaves fewer raises
-pub raise_shows : (constraints : List Constraint) (floor : ℤ) (before cycle : List ℕ)
-    (old new : Shown)
-    → (trial : Trial) (says : Raise) → IsShown constraints floor before old
-    → IsTrialOf floor old trial
-    → AreWithin constraints cycle → IsCycle (constraints_at constraints cycle)
-    → (says ≡ raise.Keep → ⊥)
-    → IsRaise trial (constraints_at constraints cycle) says → IsRaisedBy says old new
-    → IsShown constraints floor cycle new × (raises_left floor new < raises_left floor old)
-raise_shows constraints floor before cycle old new trial raise.Keep is at within is_cycle goes_on
-    keep by =
+-- a ratio that is shown can be tried
+pub can_try : (measure : Measure) (constraints : List Constraint) (first : Fraction)
+    (cycle : List ℕ) (shown : Shown) (ratio : Fraction) → CanTry measure first
+    → IsShown measure constraints first cycle shown → IsGreatestShown first shown ratio
+    → CanTry measure ratio
+can_try measure constraints first cycle First ratio small is greatest =
+    subst (CanTry measure) (sym greatest) small
+can_try measure constraints first cycle (Value value) ratio small is greatest =
+    subst (CanTry measure) (sym greatest) is.valid
+can_try measure constraints first cycle Never ratio small is greatest = absurd greatest
+
+-- a cycle that the ratio isn't enough for shows more, and leaves fewer raises
+pub raise_shows : (measure : Measure) (constraints : List Constraint) (first : Fraction)
+    (before cycle : List ℕ) (old new : Shown) (ratio : Fraction) (says : Raise)
+    → CanTry measure first → IsShown measure constraints first before old
+    → IsGreatestShown first old ratio → AreWithin constraints cycle
+    → IsCycle (constraints_at constraints cycle) → (says ≡ raise.Keep → ⊥)
+    → IsRaise measure ratio (constraints_at constraints cycle) says → IsRaisedBy says old new
+    → IsShown measure constraints first cycle new
+    × (raises_left measure first new < raises_left measure first old)
+raise_shows measure constraints first before cycle old new ratio raise.Keep small is greatest
+    within is_cycle goes_on keep by =
     absurd (goes_on refl)
-raise_shows constraints floor before cycle old new trial (raise.To value) is at within is_cycle
-    goes_on to by =
-    let low = floor_below constraints floor before old trial is at in
+raise_shows measure constraints first before cycle old new ratio (raise.To value) small is greatest
+    within is_cycle goes_on to by =
+    let low = first_below measure constraints first before old ratio is greatest in
+    let valid = can_try measure constraints first before old ratio small is greatest in
     let size = size_is value.den to.valid.proper in
-    let trial_size = size_is trial.denominator trial.valid.proper in
-    let over = above_floor floor trial.numerator value.num (nat_abs trial.denominator)
-    (nat_abs value.den)
-    (rw trial_size low) (rw (size, trial_size) to.above) in
-    let less = steps_below-less (4097 * 10 ^ 11) trial.numerator trial.denominator value.num
-    value.den
-    trial.valid to.valid trial.valid.small to.valid.small to.above in
+    let ratio_size = size_is ratio.den valid.proper in
+    let first_size = size_is first.den small.proper in
+    let over = above_first first.num ratio.num value.num (nat_abs first.den) (nat_abs ratio.den)
+    (nat_abs value.den) (omega (arith, ints, first_size, small.proper))
+    (rw (ratio_size, first_size) low) (rw (size, ratio_size) to.above) in
+    let less = steps_below-less (most_weight measure.scale measure.period) ratio.num ratio.den
+    value.num value.den (some_weight _ _ small.above small.below) valid.proper valid.low
+    to.valid.proper to.valid.low valid.below to.valid.below to.above in
     rw by (
       record {
         within = within;
         shows = record { is_cycle = is_cycle; counts = to.counts; value = to.value_is };
-        above = rw size at over;
+        above = rw (size, first_size) at over;
         valid = to.valid;
       },
-      omega (arith, left_at floor old trial at),
+      omega (arith, left_at measure first old ratio greatest, less),
     )
-raise_shows constraints floor before cycle old new trial raise.Never is at within is_cycle goes_on
-    never by =
+  where
+    -- what a number lies within isn't below 0
+    some_weight : (num most : ℤ) → neg_ℤ most ≤ℤ num → num ≤ℤ most → pos 0 ≤ℤ most
+    some_weight num most above below = omega (arith, ints)
+raise_shows measure constraints first before cycle old new ratio raise.Never small is greatest
+    within is_cycle goes_on never by =
     rw by (
       record {
         within = within;
-        forbids = record { is_cycle = is_cycle; counts = never.counts; asks = never.asks };
+        forbids = record { is_cycle = is_cycle; counts = never.counts; weighs = never.weighs };
       },
-      omega (arith, left_at floor old trial at),
+      omega (arith, left_at measure first old ratio greatest),
     )
-
--- a value that is shown can be tried
-pub can_try : (constraints : List Constraint) (floor : ℤ) (cycle : List ℕ) (shown : Shown)
-    → IsShown constraints floor cycle shown → CanTry shown
-can_try constraints floor cycle Floor is = tt
-can_try constraints floor cycle (Value value) is = is.valid
-can_try constraints floor cycle Never is = tt
 
 -- two constraints that close a cycle join two registers
 pub two_registers : (registers : ℕ) (constraints : List Constraint) (place : ℕ)

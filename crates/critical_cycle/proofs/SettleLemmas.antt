@@ -21,29 +21,29 @@ pub record IsSettling (constraints : List Constraint) (trial : Trial) (sweeps : 
   pub parents : length now.parents.items ≡ length begun.parents.items
   pub few : sweeps < length begun.values.items
   pub ready : IsReady constraints trial (sweeps + 1) now
-  pub between : AreBetween (neg_ℤ (pos (2 ^ 90))) (pos (2 ^ 90) +ℤ pos (sweeps * 2 ^ 71))
+  pub between : AreBetween (neg_ℤ (pos (2 ^ 90))) (pos (2 ^ 90) +ℤ pos (sweeps * 2 ^ 85))
       now.values.items
 
 -- before any sweep
-no_sweep : pos (2 ^ 90) ≤ℤ (pos (2 ^ 90) +ℤ pos (0 * 2 ^ 71))
+no_sweep : pos (2 ^ 90) ≤ℤ (pos (2 ^ 90) +ℤ pos (0 * 2 ^ 85))
 no_sweep = omega (arith, ints)
 
 -- after one sweep more
 one_sweep : (sweeps : ℕ)
-    → ((pos (2 ^ 90) +ℤ pos (sweeps * 2 ^ 71)) +ℤ pos (2 ^ 71))
-    ≤ℤ (pos (2 ^ 90) +ℤ pos ((sweeps + 1) * 2 ^ 71))
+    → ((pos (2 ^ 90) +ℤ pos (sweeps * 2 ^ 85)) +ℤ pos (2 ^ 85))
+    ≤ℤ (pos (2 ^ 90) +ℤ pos ((sweeps + 1) * 2 ^ 85))
 one_sweep sweeps = omega (arith, ints)
 
 -- after all sweeps it is small
-all_sweeps : (sweeps : ℕ) → sweeps ≤ 4097 → (pos (2 ^ 90) +ℤ pos (sweeps * 2 ^ 71)) <ℤ pos (2 ^ 91)
+all_sweeps : (sweeps : ℕ) → sweeps ≤ 4097 → (pos (2 ^ 90) +ℤ pos (sweeps * 2 ^ 85)) <ℤ pos (2 ^ 98)
 all_sweeps sweeps few = omega (arith, ints)
 
 -- and so are the values
 small_between : (sweeps : ℕ) (values : List ℤ) → sweeps ≤ 4097
-    → AreBetween (neg_ℤ (pos (2 ^ 90))) (pos (2 ^ 90) +ℤ pos (sweeps * 2 ^ 71)) values
-    → All (IsBelow (2 ^ 91)) values
+    → AreBetween (neg_ℤ (pos (2 ^ 90))) (pos (2 ^ 90) +ℤ pos (sweeps * 2 ^ 85)) values
+    → All (IsBelow (2 ^ 98)) values
 small_between sweeps values few between =
-    All-between (2 ^ 91) (neg_ℤ (pos (2 ^ 90))) (pos (2 ^ 90) +ℤ pos (sweeps * 2 ^ 71)) values
+    All-between (2 ^ 98) (neg_ℤ (pos (2 ^ 90))) (pos (2 ^ 90) +ℤ pos (sweeps * 2 ^ 85)) values
     (omega (arith, ints)) (all_sweeps sweeps few) between
 
 -- before the first sweep
@@ -57,7 +57,7 @@ IsSettling-none constraints trial relaxation room small none = record {
   few = omega (arith, room.small.some);
   ready = IsReady-first constraints trial relaxation none;
   between = AreBetween-wider (neg_ℤ (pos (2 ^ 90))) (pos (2 ^ 90))
-      (pos (2 ^ 90) +ℤ pos (0 * 2 ^ 71)) relaxation.values.items no_sweep
+      (pos (2 ^ 90) +ℤ pos (0 * 2 ^ 85)) relaxation.values.items no_sweep
       (AreBetween-below (2 ^ 90) relaxation.values.items small);
 }
 
@@ -65,7 +65,7 @@ module _ {constraints : List Constraint} {trial : Trial} {sweeps : ℕ} {begun n
     (room : HasTrialRoom constraints begun)
     (settling : IsSettling constraints trial sweeps begun now) where
   -- the values are small
-  pub small_settling : All (IsBelow (2 ^ 91)) now.values.items
+  pub small_settling : All (IsBelow (2 ^ 98)) now.values.items
   small_settling =
       small_between sweeps now.values.items (omega (arith, settling.few, room.small.not_many))
       settling.between
@@ -73,17 +73,17 @@ module _ {constraints : List Constraint} {trial : Trial} {sweeps : ℕ} {begun n
   module _ (later : Relaxation) (answer : Option ℕ)
       (swept : IsSweep constraints trial now answer later) where
     -- after one more sweep the values are between still
-    between_later : AreBetween (neg_ℤ (pos (2 ^ 90))) (pos (2 ^ 90) +ℤ pos ((sweeps + 1) * 2 ^ 71))
+    between_later : AreBetween (neg_ℤ (pos (2 ^ 90))) (pos (2 ^ 90) +ℤ pos ((sweeps + 1) * 2 ^ 85))
         later.values.items
     between_later =
         AreBetween-wider (neg_ℤ (pos (2 ^ 90)))
-        ((pos (2 ^ 90) +ℤ pos (sweeps * 2 ^ 71)) +ℤ pos (2 ^ 71))
-        (pos (2 ^ 90) +ℤ pos ((sweeps + 1) * 2 ^ 71)) later.values.items (one_sweep sweeps)
-        (swept.between (neg_ℤ (pos (2 ^ 90))) (pos (2 ^ 90) +ℤ pos (sweeps * 2 ^ 71))
+        ((pos (2 ^ 90) +ℤ pos (sweeps * 2 ^ 85)) +ℤ pos (2 ^ 85))
+        (pos (2 ^ 90) +ℤ pos ((sweeps + 1) * 2 ^ 85)) later.values.items (one_sweep sweeps)
+        (swept.between (neg_ℤ (pos (2 ^ 90))) (pos (2 ^ 90) +ℤ pos (sweeps * 2 ^ 85))
         settling.between)
 
     -- and small
-    pub small_later : All (IsBelow (2 ^ 91)) later.values.items
+    pub small_later : All (IsBelow (2 ^ 98)) later.values.items
     small_later =
         small_between (sweeps + 1) later.values.items
         (omega (arith, settling.few, room.small.not_many)) between_later

@@ -48,8 +48,8 @@ AreBetween-wider least greatest wider values more between = record {
 }
 
 -- an offer is no more than a gain above the greatest
-offer_high : (from gain greatest : ℤ) → from ≤ℤ greatest → IsBelow (2 ^ 50) gain
-    → (from +ℤ gain) ≤ℤ (greatest +ℤ pos (2 ^ 50))
+offer_high : (from gain greatest : ℤ) → from ≤ℤ greatest → IsBelow (2 ^ 64) gain
+    → (from +ℤ gain) ≤ℤ (greatest +ℤ pos (2 ^ 64))
 offer_high from gain greatest high small = omega (arith, ints, small.below)
 
 -- and no less than the least
@@ -57,14 +57,14 @@ offer_low : (least has offer : ℤ) → least ≤ℤ has → has <ℤ offer → 
 offer_low least has offer low more = omega (arith, ints)
 
 -- the greatest with a gain more is no less
-raised_little : (greatest : ℤ) → greatest ≤ℤ (greatest +ℤ pos (2 ^ 50))
+raised_little : (greatest : ℤ) → greatest ≤ℤ (greatest +ℤ pos (2 ^ 64))
 raised_little greatest = omega (arith, ints)
 
 -- values with one that is set stay between
 AreBetween-set : (least greatest offer : ℤ) (values : List ℤ) (register : ℕ)
-    → register < length values → least ≤ℤ offer → offer ≤ℤ (greatest +ℤ pos (2 ^ 50))
+    → register < length values → least ≤ℤ offer → offer ≤ℤ (greatest +ℤ pos (2 ^ 64))
     → AreBetween least greatest values
-    → AreBetween least (greatest +ℤ pos (2 ^ 50)) (set values register offer)
+    → AreBetween least (greatest +ℤ pos (2 ^ 64)) (set values register offer)
 AreBetween-set least greatest offer values register inside above below between =
     record { low = low; high = high }
   where
@@ -89,12 +89,12 @@ AreBetween-set least greatest offer values register inside above below between =
 
     -- none is too great
     high : (other : ℕ) → other < length (set values register offer)
-        → value_of (set values register offer) other ≤ℤ (greatest +ℤ pos (2 ^ 50))
+        → value_of (set values register offer) other ≤ℤ (greatest +ℤ pos (2 ^ 64))
     high other within = elim (cases_eq other register) [
-      | inl same ↦ subst (λ r. value_of (set values register offer) r ≤ℤ (greatest +ℤ pos (2 ^ 50)))
-          (sym same) (subst (λ z. z ≤ℤ (greatest +ℤ pos (2 ^ 50))) (sym put) below)
-      | inr apart ↦ subst (λ z. z ≤ℤ (greatest +ℤ pos (2 ^ 50))) (sym (other_stays other apart))
-          ((AreBetween-wider least greatest (greatest +ℤ pos (2 ^ 50)) values
+      | inl same ↦ subst (λ r. value_of (set values register offer) r ≤ℤ (greatest +ℤ pos (2 ^ 64)))
+          (sym same) (subst (λ z. z ≤ℤ (greatest +ℤ pos (2 ^ 64))) (sym put) below)
+      | inr apart ↦ subst (λ z. z ≤ℤ (greatest +ℤ pos (2 ^ 64))) (sym (other_stays other apart))
+          ((AreBetween-wider least greatest (greatest +ℤ pos (2 ^ 64)) values
           (raised_little greatest) between).high other
           (omega (arith, length-set values register offer)))
     ]
@@ -141,10 +141,10 @@ module _ {constraints : List Constraint} (trial : Trial) (place : ℕ) {constrai
   -- the greatest value rises by no more than a gain
   pub between_look : (answer : Option ℕ) → IsLook trial place constraint old answer new
       → (least greatest : ℤ) → AreBetween least greatest old.values.items
-      → AreBetween least (greatest +ℤ pos (2 ^ 50)) new.values.items
+      → AreBetween least (greatest +ℤ pos (2 ^ 64)) new.values.items
   between_look None left least greatest between =
-      subst (λ (values : List ℤ). AreBetween least (greatest +ℤ pos (2 ^ 50)) values)
-      (sym left.values) (AreBetween-wider least greatest (greatest +ℤ pos (2 ^ 50)) old.values.items
+      subst (λ (values : List ℤ). AreBetween least (greatest +ℤ pos (2 ^ 64)) values)
+      (sym left.values) (AreBetween-wider least greatest (greatest +ℤ pos (2 ^ 64)) old.values.items
       (raised_little greatest) between)
   between_look (Some register) raised least greatest between =
       let values = old.values.items in
@@ -152,7 +152,7 @@ module _ {constraints : List Constraint} (trial : Trial) (place : ℕ) {constrai
       (offer_of trial values constraint) (between.low constraint.head small.head) raised.more in
       let below = offer_high (value_of values constraint.tail) (gain_of trial constraint) greatest
       (between.high constraint.tail small.tail) (gain_small trial constraint small.weight) in
-      subst (λ (later : List ℤ). AreBetween least (greatest +ℤ pos (2 ^ 50)) later)
+      subst (λ (later : List ℤ). AreBetween least (greatest +ℤ pos (2 ^ 64)) later)
       (sym raised.values)
       (AreBetween-set least greatest (offer_of trial values constraint) values constraint.head
       small.head above below between)
@@ -184,20 +184,20 @@ pub record IsUnderWay (constraints : List Constraint) (trial : Trial) (Seen : �
   pub swept : (sweep : ℕ) → IsReady constraints trial sweep begun
       → IsSweeping constraints trial sweep Seen changed now.values.items now.parents.items
   pub between : (least greatest : ℤ) → AreBetween least greatest begun.values.items
-      → AreBetween least (greatest +ℤ pos (count * 2 ^ 50)) now.values.items
+      → AreBetween least (greatest +ℤ pos (count * 2 ^ 64)) now.values.items
 
 -- after one gain more
 one_gain : (z : ℤ) (count : ℕ)
-    → ((z +ℤ pos (count * 2 ^ 50)) +ℤ pos (2 ^ 50)) ≤ℤ (z +ℤ pos ((count + 1) * 2 ^ 50))
+    → ((z +ℤ pos (count * 2 ^ 64)) +ℤ pos (2 ^ 64)) ≤ℤ (z +ℤ pos ((count + 1) * 2 ^ 64))
 one_gain z count = omega (arith, ints)
 
 -- after the gains of all constraints
 all_gains : (z : ℤ) (count : ℕ) → count ≤ 2097152
-    → (z +ℤ pos (count * 2 ^ 50)) ≤ℤ (z +ℤ pos (2 ^ 71))
+    → (z +ℤ pos (count * 2 ^ 64)) ≤ℤ (z +ℤ pos (2 ^ 85))
 all_gains z count few = omega (arith, ints)
 
 -- small values are small still after them
-small_gains : (count : ℕ) → count ≤ 2097152 → (pos (2 ^ 91) +ℤ pos (count * 2 ^ 50)) <ℤ pos (2 ^ 92)
+small_gains : (count : ℕ) → count ≤ 2097152 → (pos (2 ^ 98) +ℤ pos (count * 2 ^ 64)) <ℤ pos (2 ^ 99)
 small_gains count few = omega (arith, ints)
 
 module _ {constraints : List Constraint} {trial : Trial} {Seen : ℕ → Type 0} {count : ℕ}
@@ -212,13 +212,13 @@ module _ {constraints : List Constraint} {trial : Trial} {Seen : ℕ → Type 0}
   }
 
   -- the values are small still
-  pub small_now : count ≤ 2097152 → All (IsBelow (2 ^ 91)) begun.values.items
-      → All (IsBelow (2 ^ 92)) now.values.items
+  pub small_now : count ≤ 2097152 → All (IsBelow (2 ^ 98)) begun.values.items
+      → All (IsBelow (2 ^ 99)) now.values.items
   small_now few small =
-      All-between (2 ^ 92) (neg_ℤ (pos (2 ^ 91))) (pos (2 ^ 91) +ℤ pos (count * 2 ^ 50))
+      All-between (2 ^ 99) (neg_ℤ (pos (2 ^ 98))) (pos (2 ^ 98) +ℤ pos (count * 2 ^ 64))
       now.values.items (omega (arith, ints)) (small_gains count few)
-      (way.between (neg_ℤ (pos (2 ^ 91))) (pos (2 ^ 91))
-      (AreBetween-below (2 ^ 91) begun.values.items small))
+      (way.between (neg_ℤ (pos (2 ^ 98))) (pos (2 ^ 98))
+      (AreBetween-below (2 ^ 98) begun.values.items small))
 
   -- one more constraint is looked at
   pub IsUnderWay-more : (place : ℕ) (answer : Option ℕ) (later : Relaxation) (Later : ℕ → Type 0)
@@ -231,10 +231,10 @@ module _ {constraints : List Constraint} {trial : Trial} {Seen : ℕ → Type 0}
     swept = λ sweep ready. sweeping_look trial place later room_now here small answer look sweep
         Seen Later changed seen (way.swept sweep ready);
     between = λ least greatest between. AreBetween-wider least
-        ((greatest +ℤ pos (count * 2 ^ 50)) +ℤ pos (2 ^ 50))
-        (greatest +ℤ pos ((count + 1) * 2 ^ 50)) later.values.items (one_gain greatest count)
+        ((greatest +ℤ pos (count * 2 ^ 64)) +ℤ pos (2 ^ 64))
+        (greatest +ℤ pos ((count + 1) * 2 ^ 64)) later.values.items (one_gain greatest count)
         (between_look trial place later room_now here small answer look least
-        (greatest +ℤ pos (count * 2 ^ 50)) (way.between least greatest between));
+        (greatest +ℤ pos (count * 2 ^ 64)) (way.between least greatest between));
   }
     where
       -- the constraint at the place
@@ -259,7 +259,7 @@ module _ {constraints : List Constraint} {trial : Trial} {Seen : ℕ → Type 0}
     swept = λ sweep ready. IsSweeping-fewer (way.swept sweep ready) (λ place. ⊤)
         (λ place constraint seen here. all place
         (slice_get_within constraints place constraint here));
-    between = λ least greatest between. AreBetween-wider least (greatest +ℤ pos (count * 2 ^ 50))
-        (greatest +ℤ pos (2 ^ 71)) now.values.items (all_gains greatest count few)
+    between = λ least greatest between. AreBetween-wider least (greatest +ℤ pos (count * 2 ^ 64))
+        (greatest +ℤ pos (2 ^ 85)) now.values.items (all_gains greatest count few)
         (way.between least greatest between);
   }

@@ -1,11 +1,10 @@
 -- Sweeps: which constraints may give more, by the sweeps in which registers changed last.
-use Rattle.std.proofs.Common.{◌≡◌, ◌≢◌, ◌<◌, ◌≤◌, ◌+◌, ◌==◌, ◌∙◌, ℕ, suc, zero, ℤ, pos, ◌+ℤ◌, ◌-ℤ◌, ◌*ℤ◌, ◌≤ℤ◌, ◌<ℤ◌, get_or, cond, List, [], ◌∷◌, length, Option, Some, None, ◌⊎◌, inl, inr, sym, subst, ap, refl, arith}
+use Rattle.std.proofs.Common.{◌≡◌, ◌≢◌, ◌<◌, ◌≤◌, ◌+◌, ◌==◌, ◌∙◌, ℕ, suc, zero, ℤ, ◌+ℤ◌, ◌≤ℤ◌, ◌<ℤ◌, get_or, cond, List, [], ◌∷◌, length, Option, Some, None, ◌⊎◌, inl, inr, sym, subst, ap, refl, arith}
 use Rattle.std.specs.List.{slice_get}
 use Rattle.std.proofs.lemmas.Bool.{cases_eq, eq-eqb, ne_eqb}
 use Rattle.std.proofs.lemmas.Option.{same_Some, slice_get-get_or}
 use Rattle.std.proofs.lemmas.Int.{ints, by_lt_z}
 use Rattle.cts_model.specs.declared.constraint.Constraint.{Constraint}
-use Rattle.cts_model.specs.Constraints.{count_of}
 use Rattle.critical_cycle.specs.declared.trial.Trial.{Trial}
 use Rattle.critical_cycle.specs.declared.relaxation.Relaxation.{Relaxation}
 use Rattle.critical_cycle.specs.Trials.{parent_of, Climbs, value_of}
@@ -232,25 +231,13 @@ met_all constraints trial sweep relaxation swept place constraint here =
     )))
     (λ met. met)
 
--- what a constraint asks in two forms
-satisfied_from : (from asked due to : ℤ) → (from +ℤ (asked -ℤ due)) ≤ℤ to
-    → (from +ℤ asked) ≤ℤ (to +ℤ due)
-satisfied_from from asked due to met = omega (arith, ints)
-
 -- so the values satisfy all of them
 pub SatisfiesTrial-swept : (constraints : List Constraint) (trial : Trial) (sweep : ℕ)
     (relaxation : Relaxation) → IsSwept constraints trial sweep None relaxation
     → SatisfiesTrial constraints trial relaxation
-SatisfiesTrial-swept constraints trial sweep relaxation swept scale same place default within =
-    let it : Constraint = get_or constraints place default in
-    let values = relaxation.values.items in
-    let met = met_all constraints trial sweep relaxation swept place it
-    (slice_get-get_or constraints place default within) in
-    let due : ℤ = trial.numerator *ℤ pos (count_of it) in
-    subst (λ (d : ℤ). (value_of values it.tail +ℤ (d *ℤ it.weight))
-    ≤ℤ (value_of values it.head +ℤ due)) (sym same)
-    (satisfied_from (value_of values it.tail) (trial.denominator *ℤ it.weight) due
-    (value_of values it.head) met)
+SatisfiesTrial-swept constraints trial sweep relaxation swept place default within =
+    met_all constraints trial sweep relaxation swept place (get_or constraints place default)
+    (slice_get-get_or constraints place default within)
 
 -- above a register that changed in a sweep are as many parents as there were sweeps
 pub parents_above : (constraints : List Constraint) (trial : Trial) (sweep : ℕ) (Seen : ℕ → Type 0)

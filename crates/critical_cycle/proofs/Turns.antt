@@ -164,6 +164,16 @@ module _ (constraints : List Constraint) (cycle rotated : List ℕ) (turn : ℕ)
       let cycle_is = ap total_count parted ∙ sum_by-append count_of prefix back in
       omega arith
 
+  -- are as many
+  pub rotated_length : length (constraints_at constraints rotated)
+      ≡ length (constraints_at constraints cycle)
+  rotated_length =
+      let prefix = constraints_at constraints (take turn cycle) in
+      let back = constraints_at constraints (drop turn cycle) in
+      let rotated_is = ap length swapped ∙ length-append back prefix in
+      let cycle_is = ap length parted ∙ length-append prefix back in
+      omega arith
+
   -- and are at places of the list
   pub rotated_within : AreWithin constraints cycle → AreWithin constraints rotated
   rotated_within within =

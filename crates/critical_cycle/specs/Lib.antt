@@ -1,10 +1,12 @@
-pub mod TrialSizes
+pub mod RatioSizes
 pub mod Trials
+pub mod Measures
 pub mod Relaxing
 pub mod Sweeps
 pub mod Floors
 pub mod CyclePlaces
 pub mod Raises
-pub mod ShownPeriods
+pub mod ShownRatios
 pub mod Searches
+pub mod Ratios
 pub mod Periods

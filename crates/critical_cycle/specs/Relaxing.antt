@@ -1,8 +1,8 @@
 -- How values of registers are raised in place until constraints hold, each with the constraint that
 -- raised it. Cherkassky and Goldberg, "Negative-cycle detection algorithms", 1999.
-use Rattle.std.specs.Prelude.{◌≡◌, ◌<◌, ℕ, ℤ, pos, ◌+ℤ◌, ◌≤ℤ◌, ◌<ℤ◌, List, length, slice_get, slice_set, Option, IfSome, MatchOption}
+use Rattle.std.specs.Prelude.{◌≡◌, ◌<◌, ℕ, ℤ, ◌+ℤ◌, ◌≤ℤ◌, ◌<ℤ◌, List, All, length, slice_get, slice_set, Option, IfSome, MatchOption}
 use Rattle.cts_model.specs.declared.constraint.Constraint.{Constraint}
-use Rattle.cts_model.specs.Constraints.{AreSmallConstraints, Satisfies}
+use Rattle.cts_model.specs.Constraints.{AreSmallConstraints}
 use Rattle.critical_cycle.specs.declared.trial.Trial.{Trial}
 use Rattle.critical_cycle.specs.declared.relaxation.Relaxation.{Relaxation}
 use Rattle.critical_cycle.specs.Trials.{gain_of, value_of, AreParents, Climbs}
@@ -57,10 +57,11 @@ ReachesUp constraints relaxation from to = (above : List Constraint)
     × (length above ≡ length relaxation.parents.items)
     × Climbs constraints relaxation.parents.items from above to
 
--- the values satisfy the constraints at the trial's period
+-- no constraint gives more
 abbrev pub SatisfiesTrial : List Constraint → Trial → Relaxation → Type 0
-SatisfiesTrial constraints trial relaxation = (scale : ℕ) → pos scale ≡ trial.denominator
-    → Satisfies constraints scale trial.numerator (value_of relaxation.values.items)
+SatisfiesTrial constraints trial relaxation =
+    All (λ constraint. offer_of trial relaxation.values.items constraint
+    ≤ℤ value_of relaxation.values.items constraint.head) constraints
 
 -- the parents are those of the trial, and so many of them lead up to the register
 pub record IsFarUp (constraints : List Constraint) (trial : Trial) (relaxation : Relaxation)

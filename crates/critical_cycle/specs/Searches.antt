@@ -1,9 +1,9 @@
--- The search for the least period: what it keeps from trial to trial.
+-- The search for the greatest ratio: what it keeps from trial to trial.
 use Rattle.std.specs.Prelude.{◌≡◌, ◌≢◌, ◌<◌, ◌≤◌, ◌+◌, ℕ, List, drop, length, slice_index_or}
 use Rattle.cts_model.specs.declared.constraint.Constraint.{Constraint}
 use Rattle.critical_cycle.specs.Relaxing.{HasTrialRoom, IsFarUp}
-use Rattle.critical_cycle.specs.Floors.{IsSmallFloor}
-use Rattle.critical_cycle.specs.ShownPeriods.{IsShown, IsTrialOf}
+use Rattle.critical_cycle.specs.Measures.{CanTry, IsTrialAt}
+use Rattle.critical_cycle.specs.ShownRatios.{IsGreatestShown, IsShown}
 use Rattle.critical_cycle.specs.declared.search.Search.{Search}
 
 -- the places of the cycle that was gone round last
@@ -15,13 +15,19 @@ pub record IsSearch (constraints : List Constraint) (search : Search) : Type 0 w
   pub room : HasTrialRoom constraints search.relaxation
   pub places : length search.places.items ≡ length search.relaxation.parents.items
   pub start : search.start ≤ length search.places.items
-  pub floor : IsSmallFloor search.floor
-  pub shown : IsShown constraints search.floor (last_cycle search) search.shown
+  pub first : CanTry search.measure search.first
+  pub shown : IsShown search.measure constraints search.first (last_cycle search) search.shown
 
--- a register far up the parents of the trial at the greatest period shown
+-- a register far up the parents of the trial at the greatest ratio shown
 pub record IsAtRing (constraints : List Constraint) (search : Search) (register : ℕ) : Type 0 where
   pub far_up : IsFarUp constraints search.trial search.relaxation register
-  pub at : IsTrialOf search.floor search.shown search.trial
+  pub at : IsTrialAt search.measure search.ratio search.trial
+  pub greatest : IsGreatestShown search.first search.shown search.ratio
+
+-- the search is for the same as before
+pub record IsSameSearch (old new : Search) : Type 0 where
+  pub measure : new.measure ≡ old.measure
+  pub first : new.first ≡ old.first
 
 -- the two lead to one another's tail, and those are two registers
 pub record CloseACycle (first second : Constraint) : Type 0 where

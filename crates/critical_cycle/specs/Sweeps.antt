@@ -39,7 +39,7 @@ IsSwept constraints trial sweep changed relaxation =
     IsSweeping constraints trial sweep (λ place. ⊤) changed
     relaxation.values.items relaxation.parents.items
 
--- what a sweep leaves: it raises the greatest value by at most 2^71, and the least falls no lower
+-- what a sweep leaves: it raises the greatest value by at most 2^85, and the least falls no lower
 pub record IsSweep (constraints : List Constraint) (trial : Trial) (old : Relaxation)
     (changed : Option ℕ) (new : Relaxation) : Type 0 where
   pub values : length new.values.items ≡ length old.values.items
@@ -47,4 +47,4 @@ pub record IsSweep (constraints : List Constraint) (trial : Trial) (old : Relaxa
   pub swept : (sweep : ℕ) → IsReady constraints trial sweep old
       → IsSwept constraints trial sweep changed new
   pub between : (least greatest : ℤ) → AreBetween least greatest old.values.items
-      → AreBetween least (greatest +ℤ pos (2 ^ 71)) new.values.items
+      → AreBetween least (greatest +ℤ pos (2 ^ 85)) new.values.items

@@ -1,14 +1,13 @@
--- What a trial period makes of constraints, and what the parents of registers say.
-use Rattle.std.specs.Prelude.{◌≡◌, ◌<◌, ℕ, ℤ, pos, ◌+ℤ◌, ◌-ℤ◌, ◌*ℤ◌, ◌≤ℤ◌, ◌<ℤ◌, List, [], ◌∷◌, length, slice_get, slice_index_or, Option, Some}
+-- What a trial makes of constraints, and what the parents of registers say.
+use Rattle.std.specs.Prelude.{◌≡◌, ◌<◌, ℕ, ℤ, pos, ◌+ℤ◌, ◌-ℤ◌, ◌*ℤ◌, ◌≤ℤ◌, ◌<ℤ◌, if◌then◌else◌, List, [], ◌∷◌, length, slice_get, slice_index_or, Option, Some}
 use Rattle.std.specs.Option.{option_and_then}
 use Rattle.cts_model.specs.declared.constraint.Constraint.{Constraint}
-use Rattle.cts_model.specs.Constraints.{count_of}
 use Rattle.critical_cycle.specs.declared.trial.Trial.{Trial}
 
--- what a constraint asks of the head beyond the tail at this period
+-- what a constraint asks of the head beyond the tail
 abbrev pub gain_of : Trial → Constraint → ℤ
-gain_of trial constraint =
-    (trial.denominator *ℤ constraint.weight) -ℤ (trial.numerator *ℤ pos (count_of constraint))
+gain_of trial constraint = (trial.scale *ℤ constraint.weight)
+    -ℤ (if constraint.setup then trial.setup else trial.hold)
 
 -- the sum of the gains
 abbrev pub total_gain : Trial → List Constraint → ℤ

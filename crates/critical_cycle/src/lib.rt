@@ -1,8 +1,11 @@
-//! The least clock period that constraints between registers admit, and the cycle that shows it.
+//! The greatest ratio of the cycles of constraints between registers, and the cycle that shows it:
+//! the least clock period that the constraints admit is one.
 #![tactic(auto)]
 
+mod measure;
 mod period;
 mod raise;
+mod ratio;
 mod relaxation;
 mod ring;
 mod search;
@@ -10,4 +13,6 @@ mod shown;
 mod sums;
 mod trial;
 
+pub use measure::Measure;
 pub use period::{Period, least_period, least_period_in};
+pub use ratio::{Ratio, greatest_ratio_in};

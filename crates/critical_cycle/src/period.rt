@@ -1,15 +1,11 @@
-ghost use Rattle.std.specs.Prelude.{◌≡◌, ◌<◌, ◌≤◌, ◌++◌, ◌↔◌, ℕ, IfOk, drop, length, take};
+ghost use Rattle.std.specs.Prelude.{◌≡◌, ◌↔◌, IfOk, length};
 ghost use Rattle.cts_model.specs.Constraints.{AreSmallConstraints};
 ghost use Rattle.cts_model.specs.Cycles.{IsLeastPeriodOf};
-ghost use Rattle.critical_cycle.specs.CyclePlaces.{AreWithin, IsFromLowest, constraints_at};
 ghost use Rattle.critical_cycle.specs.Periods.{HasForbidding, HasSmallValue, IsFloor, IsNeverPeriod, IsPeriodOf};
-ghost use Rattle.critical_cycle.specs.Searches.{IsSearch};
 ghost use Rattle.critical_cycle.specs.Floors.{IsSmallFloor};
-ghost use Rattle.critical_cycle.specs.ShownPeriods.{IsSettled};
 
-use crate::ring::turn_to_lowest;
-use crate::search::Search;
-use crate::shown::Shown;
+use crate::measure::Measure;
+use crate::ratio::{Ratio, greatest_ratio_in};
 use cts_base::{Fraction, Listed, NoMemory};
 use cts_model::Constraint;
 use std::alloc::Global;
@@ -53,18 +49,12 @@ pub fn least_period_in(
     ensures floor { IsFloor result ↔ IsLeastPeriodOf constraints.now floor floor 1 }
     ensures small { HasSmallValue result }
 {
-    let list = constraints.as_slice();
-    let mut search = Search::at_floor(
-        values.into_vec(),
-        parents.into_vec(),
-        cycle.into_vec(),
-        floor,
-    );
-    search.look_at_short_cycles(list);
-    while let Some(register) = search.settle(list) {
-        search.raise(list, register);
+    let first = Fraction::of(floor, 1);
+    match greatest_ratio_in(values, parents, cycle, constraints, PERIOD, first) {
+        Ratio::Cycle { value, cycle } => Period::Cycle { value, cycle },
+        Ratio::First => Period::Floor,
+        Ratio::Never { cycle } => Period::Never { cycle },
     }
-    period_of(search, list)
 }
 
 /// The same in memory of its own: a number, a parent and a place of the cycle for each register.
@@ -88,37 +78,9 @@ pub fn least_period(
     Ok(least_period_in(values, parents, cycle, constraints, floor))
 }
 
-// What a search that has settled shows.
-fn period_of(search: Search, constraints: &[Constraint]) -> Period
-    requires search { IsSearch constraints.now search }
-    requires settled { IsSettled constraints.now search.floor search.shown }
-    ensures period { IsPeriodOf constraints.now search.floor result }
-    ensures small { HasSmallValue result }
-{
-    match search.shown {
-        Shown::Floor => Period::Floor,
-        Shown::Value(value) => Period::Cycle {
-            value,
-            cycle: cycle_of(search.places, search.start, constraints),
-        },
-        Shown::Never => Period::Never {
-            cycle: cycle_of(search.places, search.start, constraints),
-        },
-    }
-}
-
-// The cycle whose places come last in the list, from the lowest tail on.
-fn cycle_of(places: Vec<u32>, start: usize, constraints: &[Constraint]) -> Listed<u32>
-    requires start { start < length places.items }
-    requires within { AreWithin constraints.now (drop start places.items) }
-    ensures rotated { (turn : ℕ) × (result
-        ≡ drop turn (drop start places.items) ++ take turn (drop start places.items)) }
-    ensures lowest { IsFromLowest (constraints_at constraints.now result) }
-{
-    let mut cycle = places;
-    let len = cycle.len() - start;
-    cycle.rotate_left(start);
-    cycle.truncate(len);
-    turn_to_lowest(&mut cycle, constraints);
-    Listed::from_vec(cycle)
-}
+// A cycle asks for its weights in ticks over the number of its setup constraints.
+const PERIOD: Measure = Measure {
+    scale: 1,
+    period: 0,
+    every: false,
+};

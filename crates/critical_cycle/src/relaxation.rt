@@ -11,7 +11,7 @@ const NO_PARENT: u32 = u32::MAX;
 /// Values of registers that a trial raises until constraints hold.
 #[derive(Drop)]
 pub(crate) struct Relaxation {
-    /// A value for each register, in ticks over the trial's denominator.
+    /// A value for each register, in ticks over the trial's scale.
     pub(crate) values: Vec<i128>,
     /// For each register the place of the constraint that raised it last, or `NO_PARENT`.
     pub(crate) parents: Vec<u32>,
@@ -22,8 +22,8 @@ impl Relaxation {
     ghost use Rattle.critical_cycle.specs.Relaxing.{HasTrialRoom, IsFarUp, IsRelaxed, ReachesUp, SatisfiesTrial};
     ghost use Rattle.critical_cycle.specs.Sweeps.{IsSweep};
 
-    /// Forgets the parents, and brings the values from the last trial's denominator to that of the
-    /// next, rounded towards 0 and cut in size. Any values will do. Before a first trial, give it
+    /// Forgets the parents, and brings the values from the last trial's scale to that of the next,
+    /// rounded towards 0 and cut in size. Any values will do. Before a first trial, give it
     /// as both: the values are then cut and else stay. It takes no memory.
     pub(crate) fn prepare(&mut self, last: Trial, next: Trial)
         ensures values { length self.new.values.items ≡ length self.old.values.items }
@@ -53,7 +53,7 @@ impl Relaxation {
             (IsFarUp constraints.now trial self.new) }
         ensures values { length self.new.values.items ≡ length self.old.values.items }
         ensures parents { length self.new.parents.items ≡ length self.old.parents.items }
-        ensures small { All (IsBelow (2 ^ 91)) self.new.values.items }
+        ensures small { All (IsBelow (2 ^ 98)) self.new.values.items }
     {
         let mut sweeps = 0;
         while let Some(changed) = self.sweep(constraints, trial, sweeps) {
@@ -87,7 +87,7 @@ impl Relaxation {
     // last is answered.
     fn sweep(&mut self, constraints: &[Constraint], trial: Trial, before: usize) -> Option<u32>
         requires room { HasTrialRoom constraints.now self.old }
-        requires small { All (IsBelow (2 ^ 91)) self.old.values.items }
+        requires small { All (IsBelow (2 ^ 98)) self.old.values.items }
         ensures { IsSweep constraints.now trial self.old result self.new }
     {
         if before % 2 == 0 {
@@ -100,7 +100,7 @@ impl Relaxation {
     // From the first constraint to the last.
     fn sweep_forwards(&mut self, constraints: &[Constraint], trial: Trial) -> Option<u32>
         requires room { HasTrialRoom constraints.now self.old }
-        requires small { All (IsBelow (2 ^ 91)) self.old.values.items }
+        requires small { All (IsBelow (2 ^ 98)) self.old.values.items }
         ensures { IsSweep constraints.now trial self.old result self.new }
     {
         let mut changed = None;
@@ -113,7 +113,7 @@ impl Relaxation {
     // From the last constraint to the first.
     fn sweep_backwards(&mut self, constraints: &[Constraint], trial: Trial) -> Option<u32>
         requires room { HasTrialRoom constraints.now self.old }
-        requires small { All (IsBelow (2 ^ 91)) self.old.values.items }
+        requires small { All (IsBelow (2 ^ 98)) self.old.values.items }
         ensures { IsSweep constraints.now trial self.old result self.new }
     {
         let mut changed = None;
@@ -130,7 +130,7 @@ impl Relaxation {
     fn relax(&mut self, constraints: &[Constraint], place: usize, trial: Trial) -> Option<u32>
         requires room { HasTrialRoom constraints.now self.old }
         requires place { place < length constraints.now }
-        requires small { All (IsBelow (2 ^ 92)) self.old.values.items }
+        requires small { All (IsBelow (2 ^ 99)) self.old.values.items }
         ensures { IsRelaxed constraints.now trial place self.old result self.new }
     {
         let constraint = &constraints[place];
@@ -145,11 +145,11 @@ impl Relaxation {
     }
 }
 
-// A value at another denominator, rounded and cut to a size below 2^90.
+// A value at another scale, rounded and cut to a size below 2^90.
 fn rescaled(value: i128, last: Trial, next: Trial) -> i128
     ensures { IsBelow (2 ^ 90) result }
 {
-    cut(cut(value) * next.denominator / last.denominator)
+    cut(cut(value) * next.scale / last.scale)
 }
 
 // The nearest value whose size is below 2^90.

@@ -1,43 +1,33 @@
 ghost use Rattle.std.specs.Prelude.{MatchOption};
-ghost use Rattle.critical_cycle.specs.Floors.{IsSmallFloor};
-ghost use Rattle.critical_cycle.specs.ShownPeriods.{CanTry, IsNeverAtAll, IsRaisedBy, IsTrialOf};
+ghost use Rattle.critical_cycle.specs.ShownRatios.{IsGreatestShown, IsNeverAtAll, IsRaisedBy};
 
 use crate::raise::Raise;
-use crate::trial::Trial;
 use cts_base::Fraction;
 
-/// What a search for the least period has shown so far.
+/// What a search for the greatest ratio has shown so far.
 #[derive(Clone, Copy, Debug)]
 pub(crate) enum Shown {
-    /// No cycle asks for a longer period than the floor.
-    Floor,
-    /// A cycle asks for this period.
+    /// No cycle has a greater ratio than the first.
+    First,
+    /// A cycle has this ratio.
     Value(Fraction),
-    /// No period is long enough for a cycle.
+    /// No ratio is enough for a cycle.
     Never,
 }
 
 impl Shown {
-    /// The trial at the greatest period shown, if some period may be long enough.
-    pub(crate) fn trial(self, floor: i128) -> Option<Trial>
-        requires floor { IsSmallFloor floor }
-        requires can_try { CanTry self }
-        ensures { MatchOption result (IsNeverAtAll self) (IsTrialOf floor self) }
+    /// The greatest ratio shown, if some ratio may be enough.
+    pub(crate) fn ratio(self, first: Fraction) -> Option<Fraction>
+        ensures { MatchOption result (IsNeverAtAll self) (IsGreatestShown first self) }
     {
         match self {
-            Shown::Floor => Some(Trial {
-                numerator: floor,
-                denominator: 1,
-            }),
-            Shown::Value(value) => Some(Trial {
-                numerator: value.num(),
-                denominator: value.den(),
-            }),
+            Shown::First => Some(first),
+            Shown::Value(value) => Some(value),
             Shown::Never => None,
         }
     }
 
-    /// What is shown where a cycle says this of the trial.
+    /// What is shown where a cycle says this of the greatest ratio shown.
     pub(crate) fn raised(self, raise: Raise) -> Shown
         ensures { IsRaisedBy raise self result }
     {

@@ -1,23 +1,25 @@
-ghost use Rattle.std.specs.Prelude.{◌≡◌, ◌≤◌, ◌^◌, ◌↔◌, IsTrue, pos, ◌+ℤ◌, ◌*ℤ◌, ◌<ℤ◌, All, length};
+ghost use Rattle.std.specs.Prelude.{◌≡◌, ◌≤◌, ◌^◌, ◌↔◌, IsTrue, pos, ◌+ℤ◌, ◌-ℤ◌, ◌*ℤ◌, ◌<ℤ◌, if◌then◌else◌, All, length};
 ghost use Rattle.cts_model.specs.Constraints.{count_of};
 ghost use Rattle.cts_model.specs.Cycles.{total_count, total_weight};
 ghost use Rattle.cts_model.specs.Points.{IsBelow};
 ghost use Rattle.critical_cycle.specs.CyclePlaces.{AreWithin, constraints_at};
 
-use crate::trial::Trial;
+use crate::measure::Measure;
+use cts_base::Fraction;
 use cts_model::Constraint;
 
 /// What the constraints of a cycle sum to.
 #[derive(Clone, Copy, Debug)]
 pub(crate) struct Sums {
-    /// In ticks.
+    /// What they weigh.
     pub(crate) weight: i128,
-    /// How often they count the period.
+    /// How often they count.
     pub(crate) count: i128,
 }
 
 impl Sums {
-    /// The sums of the constraints at these places of the list.
+    /// The weights in ticks of the constraints at these places of the list, and how many of these
+    /// are setup constraints.
     pub(crate) fn of(constraints: &[Constraint], cycle: &[u32]) -> Sums
         requires within { AreWithin constraints.now cycle.now }
         requires few { length cycle.now ≤ 4097 }
@@ -36,14 +38,34 @@ impl Sums {
         sums
     }
 
-    /// Whether the constraints ask for more time than they count at the trial period.
-    pub(crate) fn exceed(self, trial: Trial) -> bool
-        requires weight { IsBelow (10 ^ 18) self.weight }
-        requires count { IsBelow (10 ^ 18) self.count }
-        ensures { IsTrue result
-            ↔ ((self.count *ℤ trial.numerator) <ℤ (self.weight *ℤ trial.denominator)) }
+    /// What so many constraints weigh and count in a measure, where these are their weights in
+    /// ticks and their setup constraints.
+    pub(crate) fn measured(self, measure: Measure, constraints: usize) -> Sums
+        requires weight { IsBelow (10 ^ 15) self.weight }
+        requires count { IsBelow (10 ^ 15) self.count }
+        ensures weight { result.weight
+            ≡ ((measure.scale *ℤ self.weight) -ℤ (measure.period *ℤ self.count)) }
+        ensures count { result.count ≡ (if measure.every then pos constraints else self.count) }
     {
-        product(self.count, trial.numerator) < product(self.weight, trial.denominator)
+        Sums {
+            weight: product(measure.scale, self.weight) - product(measure.period, self.count),
+            count: if measure.every {
+                constraints as i128
+            } else {
+                self.count
+            },
+        }
+    }
+
+    /// Whether the constraints weigh more than they count at the ratio.
+    pub(crate) fn exceed(self, ratio: Fraction) -> bool
+        requires weight { IsBelow (2 ^ 63) self.weight }
+        requires count { IsBelow (2 ^ 63) self.count }
+        requires num { IsBelow (2 ^ 63) ratio.num }
+        requires den { IsBelow (2 ^ 63) ratio.den }
+        ensures { IsTrue result ↔ ((self.count *ℤ ratio.num) <ℤ (self.weight *ℤ ratio.den)) }
+    {
+        product(self.count, ratio.num()) < product(self.weight, ratio.den())
     }
 
     // The sums with one more constraint.
@@ -68,11 +90,12 @@ fn count_of(constraint: &Constraint) -> i128
     if constraint.setup { 1 } else { 0 }
 }
 
-// The product of two numbers.
-fn product(a: i128, b: i128) -> i128
-    requires a { IsBelow (10 ^ 18) a }
-    requires b { IsBelow (10 ^ 18) b }
-    ensures { result ≡ a *ℤ b }
+/// The product of two numbers.
+pub(crate) fn product(a: i128, b: i128) -> i128
+    requires a { IsBelow (2 ^ 63) a }
+    requires b { IsBelow (2 ^ 63) b }
+    ensures value { result ≡ a *ℤ b }
+    ensures small { IsBelow (2 ^ 126) result }
 {
     a * b
 }

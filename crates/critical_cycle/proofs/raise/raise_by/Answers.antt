@@ -1,75 +1,153 @@
--- The cycle's gain by its sums, and the value that they make.
-use Rattle.std.proofs.Common.{◌≡◌, arith, to_z, of_z, refl, sym, true≢false}
+-- What the cycle weighs and counts by its sums, and the value that they make.
+use Rattle.std.proofs.Common.{◌≡◌, ℕ, ℤ, pos, List, arith, to_z, of_z, refl, sym, true≢false, if◌then◌else◌, ◌-ℤ◌, ◌*ℤ◌, ◌≤◌, ◌^◌, length, All}
 use Rattle.std.proofs.lemmas.Int.{ints}
 use mir.Syntax.{w128}
-use Rattle.cts_model.specs.Cycles.{total_count}
-use Rattle.critical_cycle.specs.CyclePlaces.{constraints_at}
+use Rattle.cts_model.specs.declared.constraint.Constraint.{Constraint}
+use Rattle.cts_model.specs.Cycles.{total_count, total_weight}
+use Rattle.cts_model.specs.Points.{IsBelow}
+use Rattle.critical_cycle.specs.declared.measure.Measure.{Measure}
+use Rattle.critical_cycle.specs.CyclePlaces.{AreWithin, constraints_at}
+use Rattle.critical_cycle.specs.Measures.{cycle_count, cycle_weight}
+use Rattle.critical_cycle.proofs.PlaceLemmas.{length-constraints_at}
 use Rattle.critical_cycle.proofs.SumLemmas.{small_sums}
+use Rattle.critical_cycle.proofs.MeasureLemmas.{AreSmallIn, counted, most_small, small_in, weighed}
 use Rattle.critical_cycle.proofs.RaiseLemmas.{no_gain, never_counts, raised, counts_some}
 use Rattle.critical_cycle.proofs.raise.raise_by.Goals as goal
 
-pub exceed-requires-clause-weight : goal.exceed-requires-clause-weight
-exceed-requires-clause-weight c =
+pub measured-sums-requires-clause-weight : goal.measured-sums-requires-clause-weight
+measured-sums-requires-clause-weight c =
     let small = small_sums c.args.constraints.now c.args.cycle.now c.requires.within c.requires.few
     c.requires.small in
-    let weight = c.of-sums.ensures.weight in
+    let weight = c.of.ensures.weight in
     record {
       above = omega (arith, ints, small.above, small.below);
-      below =
-          omega (arith, ints, small.above, small.below);
+      below = omega (arith, ints, small.above, small.below);
     }
+
+pub measured-sums-requires-clause-count : goal.measured-sums-requires-clause-count
+measured-sums-requires-clause-count c =
+    let small = small_sums c.args.constraints.now c.args.cycle.now c.requires.within c.requires.few
+    c.requires.small in
+    let count = c.of.ensures.count in
+    record { above = omega (arith, ints, small.count); below = omega (arith, ints, small.count) }
+
+-- the code's sums, and how small they are
+record AreSums (measure : Measure) (steps : List Constraint) (weight count : ℤ) : Type 0 where
+  weighs : weight ≡ cycle_weight measure steps
+  counts : count ≡ pos (cycle_count measure steps)
+  small : AreSmallIn measure steps
+  weight_small : IsBelow (2 ^ 63) weight
+  count_small : IsBelow (2 ^ 63) count
+  weight_same : to_z w128 (of_z w128 weight) ≡ weight
+  count_same : to_z w128 (of_z w128 count) ≡ count
+
+-- they are the sums in the measure
+sums_are : (measure : Measure) (constraints : List Constraint) (cycle : List ℕ)
+    (weight count whole many : ℤ) → AreWithin constraints cycle → length cycle ≤ 4097
+    → All (λ constraint. IsBelow (10 ^ 11) constraint.weight) constraints
+    → weight ≡ total_weight (constraints_at constraints cycle)
+    → count ≡ pos (total_count (constraints_at constraints cycle))
+    → whole ≡ (measure.scale *ℤ weight) -ℤ (measure.period *ℤ count)
+    → many ≡ (if measure.every then pos (length cycle) else count)
+    → AreSums measure (constraints_at constraints cycle) whole many
+sums_are measure constraints cycle weight count whole many within few each weighs counts whole_is
+    many_is =
+    let steps = constraints_at constraints cycle in
+    let long = length-constraints_at constraints cycle within in
+    let small = small_in measure steps (small_sums constraints cycle within few each)
+    (omega arith) in
+    let weighed_is = weighed measure steps weight count weighs counts whole whole_is in
+    let counted_is = counted measure steps weight count weighs counts (length cycle) many long
+    many_is in
+    let weight_small = most_small measure (cycle_weight measure steps) small.above small.below in
+    record {
+      weighs = weighed_is;
+      counts = counted_is;
+      small = small;
+      weight_small = rw weighed_is weight_small;
+      count_small = rw counted_is (record {
+        above = omega (arith, ints, small.count);
+        below = omega (arith, ints, small.count);
+      });
+      weight_same = rw weighed_is (same (cycle_weight measure steps) weight_small);
+      count_same = rw counted_is (omega (arith, ints, small.count));
+    }
+  where
+    same : (z : ℤ) → IsBelow (2 ^ 63) z → to_z w128 (of_z w128 z) ≡ z
+    same z small = omega (arith, ints, small.above, small.below)
+
+pub exceed-requires-clause-weight : goal.exceed-requires-clause-weight
+exceed-requires-clause-weight c =
+    (sums_are c.args.measure c.args.constraints.now c.args.cycle.now _ _ _ _ c.requires.within
+    c.requires.few c.requires.small c.of.ensures.weight c.of.ensures.count
+    c.measured-sums.ensures.weight c.measured-sums.ensures.count).weight_small
 
 pub exceed-requires-clause-count : goal.exceed-requires-clause-count
 exceed-requires-clause-count c =
-    let small = small_sums c.args.constraints.now c.args.cycle.now c.requires.within c.requires.few
-    c.requires.small in
-    let count = c.of-sums.ensures.count in
-    record { above = omega (arith, ints, small.count); below = omega (arith, ints, small.count) }
+    (sums_are c.args.measure c.args.constraints.now c.args.cycle.now _ _ _ _ c.requires.within
+    c.requires.few c.requires.small c.of.ensures.weight c.of.ensures.count
+    c.measured-sums.ensures.weight c.measured-sums.ensures.count).count_small
+
+pub exceed-requires-clause-num : goal.exceed-requires-clause-num
+exceed-requires-clause-num c =
+    most_small c.args.measure c.args.ratio.num c.requires.ratio.above c.requires.ratio.below
 
 pub returns-then-not-exceed : goal.returns-then-not-exceed
 returns-then-not-exceed c =
-    no_gain c.args.trial (constraints_at c.args.constraints.now c.args.cycle.now) _ _
-    c.of-sums.ensures.weight c.of-sums.ensures.count
+    let sums = sums_are c.args.measure c.args.constraints.now c.args.cycle.now _ _ _ _
+    c.requires.within c.requires.few c.requires.small c.of.ensures.weight c.of.ensures.count
+    c.measured-sums.ensures.weight c.measured-sums.ensures.count in
+    no_gain c.args.measure c.args.ratio
+    (constraints_at c.args.constraints.now c.args.cycle.now) _ _ sums.weighs sums.counts
     (λ more. true≢false (sym (c.if-not-exceed.ensures.1 more)))
 
 pub returns-then-sums-eq0 : goal.returns-then-sums-eq0
 returns-then-sums-eq0 c =
-    never_counts c.args.trial (constraints_at c.args.constraints.now c.args.cycle.now) _ _
-    c.of-sums.ensures.weight c.of-sums.ensures.count
-    (omega (arith, ints, c.of-sums.ensures.count, c.if-sums-eq0.true))
+    let sums = sums_are c.args.measure c.args.constraints.now c.args.cycle.now _ _ _ _
+    c.requires.within c.requires.few c.requires.small c.of.ensures.weight c.of.ensures.count
+    c.measured-sums.ensures.weight c.measured-sums.ensures.count in
+    never_counts c.args.measure c.args.ratio
+    (constraints_at c.args.constraints.now c.args.cycle.now) _ _ sums.weighs sums.counts
+    (omega (arith, ints, sums.counts, sums.count_small.below, c.if-sums-eq0.true))
     (c.if-not-exceed.ensures.0 refl)
 
-pub of-requires-clause-small_num : goal.of-requires-clause-small_num
-of-requires-clause-small_num c =
-    let small = small_sums c.args.constraints.now c.args.cycle.now c.requires.within c.requires.few
-    c.requires.small in
-    let weight = c.of-sums.ensures.weight in
-    record {
-      above = omega (arith, ints, small.above, small.below);
-      below =
-          omega (arith, ints, small.above, small.below);
-    }
+pub of-requires-2-clause-some_den : goal.of-requires-2-clause-some_den
+of-requires-2-clause-some_den c =
+    let sums = sums_are c.args.measure c.args.constraints.now c.args.cycle.now _ _ _ _
+    c.requires.within c.requires.few c.requires.small c.of.ensures.weight c.of.ensures.count
+    c.measured-sums.ensures.weight c.measured-sums.ensures.count in
+    let some = counts_some c.measured-sums.result.count _ sums.counts c.if-sums-eq0.false in
+    omega (arith, ints, sums.counts, sums.count_same, some)
 
-pub of-requires-clause-small_den : goal.of-requires-clause-small_den
-of-requires-clause-small_den c =
-    let small = small_sums c.args.constraints.now c.args.cycle.now c.requires.within c.requires.few
-    c.requires.small in
-    let count = c.of-sums.ensures.count in
-    record { above = omega (arith, ints, small.count); below = omega (arith, ints, small.count) }
+pub of-requires-2-clause-small_num : goal.of-requires-2-clause-small_num
+of-requires-2-clause-small_num c =
+    let sums = sums_are c.args.measure c.args.constraints.now c.args.cycle.now _ _ _ _
+    c.requires.within c.requires.few c.requires.small c.of.ensures.weight c.of.ensures.count
+    c.measured-sums.ensures.weight c.measured-sums.ensures.count in
+    rw sums.weight_same (record {
+      above = omega (arith, ints, sums.weight_small.above);
+      below = omega (arith, ints, sums.weight_small.below);
+    })
+
+pub of-requires-2-clause-small_den : goal.of-requires-2-clause-small_den
+of-requires-2-clause-small_den c =
+    let sums = sums_are c.args.measure c.args.constraints.now c.args.cycle.now _ _ _ _
+    c.requires.within c.requires.few c.requires.small c.of.ensures.weight c.of.ensures.count
+    c.measured-sums.ensures.weight c.measured-sums.ensures.count in
+    rw sums.count_same (record {
+      above = omega (arith, ints, sums.count_small.above);
+      below = omega (arith, ints, sums.count_small.below);
+    })
 
 pub returns : goal.returns
 returns c =
     let steps = constraints_at c.args.constraints.now c.args.cycle.now in
-    let small = small_sums c.args.constraints.now c.args.cycle.now c.requires.within c.requires.few
-    c.requires.small in
-    let weight = c.of-sums.ensures.weight in
-    let count = c.of-sums.ensures.count in
-    let plain_weight : to_z w128 (of_z w128 c.of-sums.result.weight) ≡ c.of-sums.result.weight =
-    omega (arith, ints, small.above, small.below) in
-    let plain_count : to_z w128 (of_z w128 c.of-sums.result.count) ≡ c.of-sums.result.count =
-    omega (arith, ints, small.count) in
-    let some = counts_some c.of-sums.result.count (total_count steps) count c.if-sums-eq0.false in
-    raised c.args.trial steps c.of.result c.of-sums.result.weight c.of-sums.result.count weight
-    count small some (c.if-not-exceed.ensures.0 refl)
-    (rw (plain_count, plain_weight) at c.of.ensures.value) (rw plain_weight at c.of.ensures.num)
-    (rw plain_count at c.of.ensures.den)
+    let sums = sums_are c.args.measure c.args.constraints.now c.args.cycle.now _ _ _ _
+    c.requires.within c.requires.few c.requires.small c.of.ensures.weight c.of.ensures.count
+    c.measured-sums.ensures.weight c.measured-sums.ensures.count in
+    let some = counts_some c.measured-sums.result.count _ sums.counts c.if-sums-eq0.false in
+    raised c.args.measure c.args.ratio steps c.measured-sums.result.weight
+    c.measured-sums.result.count sums.weighs sums.counts c.of-2.result sums.small some
+    (c.if-not-exceed.ensures.0 refl)
+    (rw (sums.count_same, sums.weight_same) at c.of-2.ensures.value)
+    (rw sums.weight_same at c.of-2.ensures.num) (rw sums.count_same at c.of-2.ensures.den)

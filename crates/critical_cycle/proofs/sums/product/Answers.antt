@@ -1,12 +1,20 @@
-use Rattle.std.proofs.Common.{◌^◌, ◌*ℤ◌, FitsSigned, refl, arith}
+use Rattle.std.proofs.Common.{◌*ℤ◌, refl}
 use mir.Syntax.{w128}
-use Rattle.std.proofs.lemmas.Int.{ints, fits_signed_mul, to_z-of_z}
+use Rattle.std.proofs.lemmas.Int.{to_z-of_z}
+use Rattle.critical_cycle.proofs.GainLemmas.{product_fits, product_small}
 use Rattle.critical_cycle.proofs.sums.product.Goals as goal
 
-pub returns : goal.returns
-returns c =
+pub returns-clause-value : goal.returns-clause-value
+returns-clause-value c =
     let a = c.args.a in
     let b = c.args.b in
-    let fits : FitsSigned w128 (a *ℤ b) = fits_signed_mul w128 a b (10 ^ 18) (10 ^ 18)
-    (omega (arith, ints)) (omega (arith, ints)) (omega arith) in
+    let fits = product_fits a b c.requires.a c.requires.b in
     rw (to_z-of_z w128 a c.ranges.a, to_z-of_z w128 b c.ranges.b, to_z-of_z w128 (a *ℤ b) fits) refl
+
+pub returns-clause-small : goal.returns-clause-small
+returns-clause-small c =
+    let a = c.args.a in
+    let b = c.args.b in
+    let fits = product_fits a b c.requires.a c.requires.b in
+    rw (to_z-of_z w128 a c.ranges.a, to_z-of_z w128 b c.ranges.b, to_z-of_z w128 (a *ℤ b) fits)
+    (product_small a b c.requires.a c.requires.b)

@@ -13,7 +13,7 @@ overflow_add-offer c =
     let tail = (get_or c.args.constraints.now c.args.place nowhere).tail in
     let small = c.requires.small tail c.index.result.now within in
     sum_fits c.index.result.now c.gain.result
-    (subst (IsBelow (2 ^ 92)) (sym c.index.ensures) small) c.gain.ensures.small
+    (subst (IsBelow (2 ^ 99)) (sym c.index.ensures) small) c.gain.ensures.small
 
 pub returns-then-offer-index : goal.returns-then-offer-index
 returns-then-offer-index c =

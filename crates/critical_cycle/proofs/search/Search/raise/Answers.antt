@@ -1,49 +1,56 @@
--- The ring is a cycle with a total above 0, which shows more than the trial.
+-- The ring is a cycle with a total above 0, which shows more than the ratio.
 use Rattle.std.proofs.Common.{◌≡◌, ◌∙◌, ap, subst, sym, refl, arith, drop, length}
 use Rattle.std.specs.Vec.{with_items}
 use Rattle.std.proofs.lemmas.List.{with_items_is}
 use Rattle.critical_cycle.specs.CyclePlaces.{constraints_at}
 use Rattle.critical_cycle.specs.Raises.{IsRaise}
-use Rattle.critical_cycle.specs.ShownPeriods.{IsShown}
+use Rattle.critical_cycle.specs.ShownRatios.{IsShown}
 use Rattle.critical_cycle.specs.Trials.{AreParents}
-use Rattle.critical_cycle.proofs.SearchLemmas.{not_kept, raise_shows}
+use Rattle.critical_cycle.proofs.SearchLemmas.{can_try, not_kept, raise_shows}
 use Rattle.critical_cycle.proofs.search.Search.raise.Goals as goal
+
+pub raise_by-raise-requires-clause-ratio : goal.raise_by-raise-requires-clause-ratio
+raise_by-raise-requires-clause-ratio c =
+    let search = c.requires.search in
+    let before = c.args.self.now in
+    can_try before.measure c.args.constraints.now before.first _ before.shown before.ratio
+    search.first search.shown c.requires.ring.greatest
 
 pub returns : goal.returns
 returns c =
     let search = c.requires.search in
     let ring = c.requires.ring in
+    let before = c.args.self.now in
+    let constraints = c.args.constraints.now in
     let places = c.go_round-self.new.places in
-    let whole : (with_items c.args.self.now.places places).items ≡ places =
-    with_items_is c.args.self.now.places places
+    let whole : (with_items before.places places).items ≡ places =
+    with_items_is before.places places
     (omega (arith, c.go_round-self.ensures.len, c.deref_mut.ensures.len)) in
     let cycle : c.split_at.result.1.now ≡ drop c.go_round-self.result places =
     c.split_at.ensures.back ∙ ap (λ ps. drop c.go_round-self.result ps)
     (c.deref.ensures.value ∙ whole) in
-    let parents = subst (λ ps. AreParents c.args.constraints.now c.args.self.now.trial
-    c.args.self.now.relaxation.values.items ps) (sym c.as_slice-parents.ensures.value)
-    ring.far_up.are_parents in
-    let gains = c.go_round-self.ensures.gains c.args.self.now.trial
-    c.args.self.now.relaxation.values.items parents in
-    let judged = subst (λ ps. IsRaise c.args.self.now.trial
-    (constraints_at c.args.constraints.now ps) c.raise_by.result) cycle c.raise_by.ensures in
-    let shows = raise_shows c.args.constraints.now c.args.self.now.floor _
-    (drop c.go_round-self.result places) c.args.self.now.shown c.raised-self.result
-    c.args.self.now.trial c.raise_by.result
-    search.shown ring.at c.go_round-self.ensures.within c.go_round-self.ensures.cycle
-    (not_kept c.args.self.now.trial
-    (constraints_at c.args.constraints.now (drop c.go_round-self.result places))
-    c.raise_by.result gains judged) judged c.raised-self.ensures in
+    let parents = subst (λ ps. AreParents constraints before.trial before.relaxation.values.items
+    ps) (sym c.as_slice-parents.ensures.value) ring.far_up.are_parents in
+    let gains = c.go_round-self.ensures.gains before.trial before.relaxation.values.items parents in
+    let judged = subst (λ ps. IsRaise before.measure before.ratio (constraints_at constraints ps)
+    c.raise_by-raise.result) cycle c.raise_by-raise.ensures in
+    let steps = constraints_at constraints (drop c.go_round-self.result places) in
+    let shows = raise_shows before.measure constraints before.first _
+    (drop c.go_round-self.result places) before.shown c.raised-self.result before.ratio
+    c.raise_by-raise.result search.first search.shown ring.greatest c.go_round-self.ensures.within
+    c.go_round-self.ensures.cycle
+    (not_kept before.measure before.ratio before.trial steps c.raise_by-raise.result ring.at gains
+    judged) judged c.raised-self.ensures in
     record {
       search = record {
         room = search.room;
         places = ap length whole ∙ c.go_round-self.ensures.len
             ∙ ap length c.deref_mut.ensures.value ∙ search.places;
         start = omega (arith, ap length whole, c.go_round-self.ensures.some);
-        floor = search.floor;
-        shown = subst (λ ps. IsShown c.args.constraints.now c.args.self.now.floor
+        first = search.first;
+        shown = subst (λ ps. IsShown before.measure constraints before.first
             (drop c.go_round-self.result ps) c.raised-self.result) (sym whole) shows.0;
       };
-      floor = refl;
+      same = record { measure = refl; first = refl };
       less = shows.1;
     }

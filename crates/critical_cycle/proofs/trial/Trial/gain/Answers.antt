@@ -5,14 +5,17 @@ use Rattle.critical_cycle.proofs.GainLemmas.{asked_fits, less_fits, setup_gain, 
 use Rattle.critical_cycle.proofs.trial.Trial.gain.Goals as goal
 
 pub overflow_mul-asked : goal.overflow_mul-asked
-overflow_mul-asked c =
-    let trial = c.args.self in
-    asked_fits trial.denominator trial.numerator c.args.constraint.now.weight trial.valid c.requires
+overflow_mul-asked c = asked_fits c.args.self c.args.constraint.now.weight c.requires
 
 pub overflow_sub-result : goal.overflow_sub-result
 overflow_sub-result c =
-    let trial = c.args.self in
-    less_fits trial.denominator trial.numerator c.args.constraint.now.weight trial.valid c.requires
+    less_fits c.args.self c.args.constraint.now.weight c.requires c.args.self.setup
+    c.args.self.valid.setup
+
+pub overflow_sub-result-else-constraint : goal.overflow_sub-result-else-constraint
+overflow_sub-result-else-constraint c =
+    less_fits c.args.self c.args.constraint.now.weight c.requires c.args.self.hold
+    c.args.self.valid.hold
 
 pub returns-then-constraint-clause-gain : goal.returns-then-constraint-clause-gain
 returns-then-constraint-clause-gain c =
@@ -20,7 +23,7 @@ returns-then-constraint-clause-gain c =
 
 pub returns-then-constraint-clause-small : goal.returns-then-constraint-clause-small
 returns-then-constraint-clause-small c =
-    subst (IsBelow (2 ^ 50))
+    subst (IsBelow (2 ^ 64))
     (sym (setup_gain c.args.self c.args.constraint.now c.if-constraint.true c.requires))
     (gain_small c.args.self c.args.constraint.now c.requires)
 
@@ -30,6 +33,6 @@ returns-else-constraint-clause-gain c =
 
 pub returns-else-constraint-clause-small : goal.returns-else-constraint-clause-small
 returns-else-constraint-clause-small c =
-    subst (IsBelow (2 ^ 50))
+    subst (IsBelow (2 ^ 64))
     (sym (hold_gain c.args.self c.args.constraint.now c.if-constraint.false c.requires))
     (gain_small c.args.self c.args.constraint.now c.requires)
