@@ -1,20 +1,22 @@
 -- The least arrivals are low, since some low ones satisfy the constraints.
-use Rattle.std.proofs.Common.{ℕ, zero, suc, ◌≡◌, ◌<◌, ◌≤◌, ◌+◌, ◌-◌, ◌*◌, ◌^◌, ℤ, pos, negsuc, ◌+ℤ◌, ◌-ℤ◌, ◌*ℤ◌, ◌≤ℤ◌, List, All, length, get_or, inl, inr, sym, subst, refl, arith}
+use Rattle.std.proofs.Common.{ℕ, zero, suc, ◌≡◌, ◌<◌, ◌≤◌, ◌+◌, ◌-◌, ◌*◌, ◌^◌, ℤ, pos, negsuc, ◌+ℤ◌, ◌-ℤ◌, ◌*ℤ◌, ◌≤ℤ◌, Bool, true, false, cond, List, All, length, get_or, inl, inr, sym, subst, refl, arith}
 use Rattle.std.specs.Prelude.{nat_abs}
 use Rattle.std.proofs.lemmas.Bool.{cases_eq}
 use Rattle.std.proofs.lemmas.Int.{ints}
 use Rattle.std.proofs.lemmas.List.{get_or_default}
 use Rattle.std.proofs.lemmas.Nat.{mul-le}
 use Rattle.std.proofs.Math.Nat.{mul-add, mul-le-mul_left}
-use Rattle.std.proofs.Math.IntN.{pos-*ℤ-pos}
 use borrow.Author.Differences.{up, down}
 use Rattle.cts_base.specs.declared.fraction.Fraction.{Fraction}
 use Rattle.cts_model.specs.declared.constraint.Constraint.{Constraint}
 use Rattle.cts_model.specs.Points.{IsBelow}
-use Rattle.cts_model.specs.Constraints.{AreSmallConstraints, IsSmallConstraint, Satisfies, count_of}
+use Rattle.cts_model.specs.Constraints.{AreSmallConstraints, IsSmallConstraint}
 use Rattle.cts_model.specs.Schedules.{arrival_of, AreFromZero, IsSmallPeriod}
-use Rattle.schedule.specs.Schedules.{AreLeast, AreWithinWeights, CanSchedule}
+use Rattle.schedule.specs.declared.gain.Gains.{Gains}
+use Rattle.schedule.specs.Gains.{AreGainsOf, AreLeastBy, SatisfiesGains, gain_of}
+use Rattle.schedule.specs.Schedules.{AreWithinWeights, CanSchedule}
 use Rattle.schedule.specs.Rises.{IsRising}
+use Rattle.schedule.proofs.GainLemmas.{gain_small}
 use Rattle.schedule.proofs.Levels.{lowered, lowered_low, lowered_keeps}
 
 -- the size of a number is at least the number
@@ -42,21 +44,14 @@ within_lift arrival (suc registers) register within = elim (cases_eq register re
   | inr apart ↦ omega (arith, within_lift arrival registers register (omega arith))
 ]
 
--- what is asked of two arrivals, as a gain
-gain_from : (from to asked due shift : ℤ) → (from +ℤ asked) ≤ℤ (to +ℤ due)
-    → ((from +ℤ shift) +ℤ (asked -ℤ due)) ≤ℤ (to +ℤ shift)
-gain_from from to asked due shift met = omega (arith, ints)
+-- what is met is met where both arrivals are shifted
+gain_from : (from to gain shift : ℤ) → (from +ℤ (pos 1 *ℤ gain)) ≤ℤ to
+    → ((from +ℤ shift) +ℤ gain) ≤ℤ (to +ℤ shift)
+gain_from from to gain shift met = omega (arith, ints)
 
--- and back
-pub gain_to : (from to asked due : ℤ) → (from +ℤ (asked -ℤ due)) ≤ℤ to
-    → (from +ℤ asked) ≤ℤ (to +ℤ due)
-gain_to from to asked due met = omega (arith, ints)
-
--- a product of numbers from 0 on
-from_zero_product : (a : ℤ) (n : ℕ) → pos 0 ≤ℤ a → pos 0 ≤ℤ (a *ℤ pos n)
-from_zero_product (pos m) n from = subst (λ z. pos 0 ≤ℤ z) (sym (pos-*ℤ-pos m n))
-    (omega (arith, ints))
-from_zero_product (negsuc m) n from = absurd (omega (arith, ints))
+-- and taken once
+gain_once : (from to gain : ℤ) → (from +ℤ gain) ≤ℤ to → (from +ℤ (pos 1 *ℤ gain)) ≤ℤ to
+gain_once from to gain met = omega (arith, ints)
 
 -- what is no greater stays so when it is scaled
 scaled_most : (scale weight : ℕ) (w : ℤ) → w ≤ℤ pos weight
@@ -80,11 +75,10 @@ no_later a b c first second = omega (arith, ints, is_once)
     is_once : pos 1 *ℤ a ≡ a
     is_once = omega (arith, ints)
 
-module _ (constraints : List Constraint) (numerator : ℤ) (scale weight : ℕ) (at : List ℤ)
+module _ (constraints : List Constraint) (gains : Gains) (most : ℕ) (at : List ℤ)
     (arrival : ℕ → ℤ) (small : AreSmallConstraints (length at) constraints)
-    (from_zero : pos 0 ≤ℤ numerator)
-    (low : All (λ (constraint : Constraint). constraint.weight ≤ℤ pos weight) constraints)
-    (satisfied : Satisfies constraints scale numerator arrival) where
+    (low : All (λ (constraint : Constraint). gain_of gains constraint ≤ℤ pos most) constraints)
+    (satisfied : SatisfiesGains constraints gains 1 arrival) where
   -- the arrivals shifted up
   abbrev shifted : ℕ → ℤ
   shifted register = arrival register +ℤ pos (lift arrival (length at))
@@ -95,7 +89,7 @@ module _ (constraints : List Constraint) (numerator : ℤ) (scale weight : ℕ) 
 
   -- and moved together
   abbrev low_arrival : ℕ → ℤ
-  low_arrival register = pos (lowered level (scale * weight) (length at) (level register))
+  low_arrival register = pos (lowered level most (length at) (level register))
 
   -- a level is the arrival that is shifted
   level_is : (register : ℕ) → register < length at → pos (level register) ≡ shifted register
@@ -104,33 +98,21 @@ module _ (constraints : List Constraint) (numerator : ℤ) (scale weight : ℕ) 
       (within_lift arrival (length at) register within))
 
   -- they satisfy the constraints still
-  low_satisfied : Satisfies constraints scale numerator low_arrival
+  low_satisfied : SatisfiesGains constraints gains 1 low_arrival
   low_satisfied place default within =
       let it : Constraint = get_or constraints place default in
       let is_small : IsSmallConstraint (length at) it = small.each place default within in
-      let due : ℤ = numerator *ℤ pos (count_of it) in
-      let asked : ℤ = pos scale *ℤ it.weight in
-      let met = gain_from (arrival it.tail) (arrival it.head) asked due
+      let gain : ℤ = gain_of gains it in
+      let met = gain_from (arrival it.tail) (arrival it.head) gain
       (pos (lift arrival (length at))) (satisfied place default within) in
-      let on_levels : (pos (level it.tail) +ℤ (asked -ℤ due)) ≤ℤ pos (level it.head) =
-      subst (λ z. (z +ℤ (asked -ℤ due)) ≤ℤ pos (level it.head))
+      let on_levels : (pos (level it.tail) +ℤ gain) ≤ℤ pos (level it.head) =
+      subst (λ z. (z +ℤ gain) ≤ℤ pos (level it.head))
       (sym (level_is it.tail is_small.tail))
-      (subst (λ z. (shifted it.tail +ℤ (asked -ℤ due)) ≤ℤ z)
+      (subst (λ z. (shifted it.tail +ℤ gain) ≤ℤ z)
       (sym (level_is it.head is_small.head)) met) in
-      let most : (asked -ℤ due) ≤ℤ pos (scale * weight) =
-      gain_most asked due (pos (scale * weight))
-      (scaled_most scale weight it.weight (low place default within))
-      (from_zero_product numerator (count_of it) from_zero) in
-      gain_to (low_arrival it.tail) (low_arrival it.head) asked due
-      (lowered_keeps level (scale * weight) (length at) it.tail it.head (asked -ℤ due)
-      is_small.tail most on_levels)
-
-  -- at the same scale, taken once
-  low_satisfied_once : Satisfies constraints (scale * 1) (numerator *ℤ pos 1) low_arrival
-  low_satisfied_once =
-      subst (λ n. Satisfies constraints n (numerator *ℤ pos 1) low_arrival) (omega arith)
-      (subst (λ (z : ℤ). Satisfies constraints scale z low_arrival) (once_is numerator)
-      low_satisfied)
+      gain_once (low_arrival it.tail) (low_arrival it.head) gain
+      (lowered_keeps level most (length at) it.tail it.head gain
+      is_small.tail (low place default within) on_levels)
 
   -- they are from 0 on
   low_from_zero : AreFromZero (length at) low_arrival
@@ -138,35 +120,61 @@ module _ (constraints : List Constraint) (numerator : ℤ) (scale weight : ℕ) 
 
   -- and low
   low_bound : (register : ℕ) → register < length at
-      → low_arrival register ≤ℤ pos ((length at - 1) * (scale * weight))
+      → low_arrival register ≤ℤ pos ((length at - 1) * most)
   low_bound register within =
       let others : suc (length at - 1) ≡ length at = omega arith in
-      let bound : lowered level (scale * weight) (suc (length at - 1)) (level register)
-      ≤ (length at - 1) * (scale * weight) =
-      lowered_low level (scale * weight) (length at - 1) register (omega arith) in
+      let bound : lowered level most (suc (length at - 1)) (level register)
+      ≤ (length at - 1) * most =
+      lowered_low level most (length at - 1) register (omega arith) in
       as_numbers _ _
-      (subst (λ n. lowered level (scale * weight) n (level register)
-      ≤ (length at - 1) * (scale * weight)) others bound)
+      (subst (λ n. lowered level most n (level register)
+      ≤ (length at - 1) * most) others bound)
     where
       as_numbers : (a b : ℕ) → a ≤ b → pos a ≤ℤ pos b
       as_numbers a b below = omega (arith, ints)
 
   -- so those that are the least are low
-  pub least_low : AreLeast constraints numerator scale at → (register : ℕ) → register < length at
-      → arrival_of at register ≤ℤ pos ((length at - 1) * (scale * weight))
+  pub least_low : AreLeastBy constraints gains at → (register : ℕ) → register < length at
+      → arrival_of at register ≤ℤ pos ((length at - 1) * most)
   least_low least register within = no_later (arrival_of at register) (low_arrival register)
-      (pos ((length at - 1) * (scale * weight)))
-      (least 1 low_arrival (omega arith) low_from_zero low_satisfied_once register within)
+      (pos ((length at - 1) * most))
+      (least 1 low_arrival (omega arith) low_from_zero low_satisfied register within)
       (low_bound register within)
 
--- arrivals that are the least are within the weights
-pub AreWithinWeights-least : (constraints : List Constraint) (period : Fraction) (at : List ℤ)
-    → CanSchedule constraints period (length at)
-    → AreLeast constraints period.num (nat_abs period.den) at
+-- where no weight is above this one, no gain at a period is above the scale times it
+gains_within : (constraints : List Constraint) (period : Fraction) (gains : Gains) (weight : ℕ)
+    → AreGainsOf period gains → IsSmallPeriod period
+    → All (λ (constraint : Constraint). constraint.weight ≤ℤ pos weight) constraints
+    → All (λ (constraint : Constraint). gain_of gains constraint
+    ≤ℤ pos (nat_abs period.den * weight)) constraints
+gains_within constraints period gains weight are range low place default within =
+    let it : Constraint = get_or constraints place default in
+    let scale = size_same period.den (omega (arith, ints, period.lowest.some_den)) in
+    let most : (period.den *ℤ it.weight) ≤ℤ pos (nat_abs period.den * weight) =
+    subst (λ z. (z *ℤ it.weight) ≤ℤ pos (nat_abs period.den * weight)) scale
+    (scaled_most (nat_abs period.den) weight it.weight (low place default within)) in
+    rw (are.scale_is, are.setup_is, are.hold_is)
+    (gain_most (period.den *ℤ it.weight) (cond it.setup period.num (pos 0)) _ most
+    (at it.setup))
+  where
+    at : (setup : Bool) → pos 0 ≤ℤ cond setup period.num (pos 0)
+    at true = range.from_zero
+    at false = omega (arith, ints)
+
+-- arrivals that are the least at a period are within the weights
+pub AreWithinWeights-least : (constraints : List Constraint) (period : Fraction) (gains : Gains)
+    (at : List ℤ) → AreGainsOf period gains → IsSmallPeriod period
+    → CanSchedule constraints gains (length at) → AreLeastBy constraints gains at
     → AreWithinWeights constraints (nat_abs period.den) at
-AreWithinWeights-least constraints period at can least weight low register within =
-    least_low constraints period.num (nat_abs period.den) weight at can.admitted.0 can.small
-    can.range.from_zero low can.admitted.1 least register within
+AreWithinWeights-least constraints period gains at are range can least weight low register within =
+    least_low constraints gains (nat_abs period.den * weight) at can.admitted.0 can.small
+    (gains_within constraints period gains weight are range low) can.admitted.1 least register
+    within
+
+-- what is from 0 on and no greater than a number below the limit is small
+below_limit : (limit : ℕ) (a : ℤ) (n : ℕ) → pos 0 ≤ℤ a → a ≤ℤ pos n → n < limit → IsBelow limit a
+below_limit limit a n from high few =
+    record { above = omega (arith, ints); below = omega (arith, ints) }
 
 -- arrivals from 0 on that are within the weights of small constraints are small
 pub small_within : (constraints : List Constraint) (period : Fraction) (at : List ℤ) (limit : ℕ)
@@ -176,7 +184,7 @@ pub small_within : (constraints : List Constraint) (period : Fraction) (at : Lis
     → AreWithinWeights constraints (nat_abs period.den) at → All (IsBelow limit) at
 small_within constraints period at limit enough small range from_zero bound place default within =
     subst (IsBelow limit) (get_or_default at place (pos 0) default within)
-    (below (arrival_of at place) _ (from_zero place within)
+    (below_limit limit (arrival_of at place) _ (from_zero place within)
     (bound 100000000000 low place within) (omega (arith, size, enough)))
   where
     -- no weight is above 10^11
@@ -197,15 +205,27 @@ small_within constraints period at limit enough small range from_zero bound plac
         (mul-le (nat_abs period.den) 100000000000 4097 100000000000
         (scale_low period.den range.low period.lowest.some_den) (omega arith))
 
-    -- what is no greater is small
-    below : (a : ℤ) (n : ℕ) → pos 0 ≤ℤ a → a ≤ℤ pos n → n < limit → IsBelow limit a
-    below a n from high few =
-        record { above = omega (arith, ints); below = omega (arith, ints) }
+-- arrivals that are rising are small, as gains are
+pub small_rising : (constraints : List Constraint) (gains : Gains) (at : List ℤ)
+    → CanSchedule constraints gains (length at) → IsRising constraints gains at
+    → All (IsBelow (2 ^ 93)) at
+small_rising constraints gains at can rising place default within =
+    subst (IsBelow (2 ^ 93)) (get_or_default at place (pos 0) default within)
+    (below_limit (2 ^ 93) (arrival_of at place) _ (rising.from_zero place within)
+    (least_low constraints gains (2 ^ 80) at can.admitted.0 can.small low can.admitted.1
+    rising.least place within) (omega (arith, size)))
+  where
+    -- no gain is above 2^80
+    low : All (λ (constraint : Constraint). gain_of gains constraint ≤ℤ pos (2 ^ 80)) constraints
+    low constraint_place nothing inside =
+        under (gain_of gains (get_or constraints constraint_place nothing)) (gain_small gains
+        (get_or constraints constraint_place nothing)
+        (can.small.each constraint_place nothing inside).weight)
+      where
+        under : (gain : ℤ) → IsBelow (2 ^ 80) gain → gain ≤ℤ pos (2 ^ 80)
+        under gain it = omega (arith, ints, it.below)
 
--- so arrivals that are rising are small
-pub small_rising : (constraints : List Constraint) (period : Fraction) (at : List ℤ)
-    → CanSchedule constraints period (length at) → IsRising constraints period at
-    → All (IsBelow (2 ^ 62)) at
-small_rising constraints period at can rising =
-    small_within constraints period at (2 ^ 62) (omega arith) can.small can.range rising.from_zero
-    (AreWithinWeights-least constraints period at can rising.least)
+    -- how large the bound is
+    size : (length at - 1) * 2 ^ 80 ≤ 4096 * 2 ^ 80
+    size = mul-le (length at - 1) (2 ^ 80) 4096 (2 ^ 80) (omega (arith, can.small.not_many))
+        (omega arith)

@@ -1,10 +1,13 @@
 -- How large gains are, and that the code's numbers are the same.
-use Rattle.std.proofs.Common.{◌≡◌, ◌≤◌, ◌+◌, ◌^◌, ◌∙◌, ℕ, ℤ, pos, negsuc, ◌*ℤ◌, neg_ℤ, ◌≤ℤ◌, FitsSigned, sym, subst, ap, arith}
-use Rattle.std.proofs.lemmas.Int.{ints, to_z-of_z, unsigned_abs-mul, fits_signed_mul}
+use Rattle.std.proofs.Common.{◌≡◌, ◌≤◌, ◌+◌, ◌^◌, ◌∙◌, Bool, true, false, if◌then◌else◌, ℕ, ℤ, pos, negsuc, ◌-ℤ◌, ◌*ℤ◌, neg_ℤ, ◌≤ℤ◌, FitsSigned, sym, subst, ap, refl, arith}
+use Rattle.std.proofs.lemmas.Int.{ints, to_z-of_z, unsigned_abs-mul}
 use Rattle.std.proofs.lemmas.Nat.{mul-le}
 use Rattle.std.specs.Int.{w128}
 use Rattle.std.specs.Prelude.{unsigned_abs}
+use Rattle.cts_model.specs.declared.constraint.Constraint.{Constraint}
 use Rattle.cts_model.specs.Points.{IsBelow}
+use Rattle.schedule.specs.declared.gain.Gains.{Gains}
+use Rattle.schedule.specs.Gains.{gain_of}
 use mir.Val.{to_z, of_z}
 
 -- a number as the code keeps it
@@ -25,44 +28,101 @@ below_size size bound (pos n) small low =
 below_size size bound (negsuc n) small low =
     record { above = omega (arith, ints); below = omega (arith, ints) }
 
-module _ (den weight : ℤ) (proper : pos 1 ≤ℤ den) (low : den ≤ℤ pos 4097)
-    (small : IsBelow (10 ^ 11) weight) where
-  -- the denominator's size
-  den_size : unsigned_abs den ≤ 4097
-  den_size = size_within 4097 den (omega (arith, ints)) low
+module _ (gains : Gains) (weight : ℤ) (small : IsBelow (10 ^ 11) weight) where
+  -- the scale's size
+  scale_size : unsigned_abs gains.scale ≤ 409700000000
+  scale_size = size_within 409700000000 gains.scale (omega (arith, ints, gains.valid.some))
+      gains.valid.fine
 
   -- the weight's
   weight_size : unsigned_abs weight ≤ 100000000000
   weight_size = size_within 100000000000 weight (omega (arith, ints, small.above))
       (omega (arith, ints, small.below))
 
-  -- the product of the two fits
-  product_fits : FitsSigned w128 (den *ℤ weight)
-  product_fits = fits_signed_mul w128 den weight 4097 100000000000 den_size weight_size
+  -- the product of the two is small
+  asked_small : IsBelow (2 ^ 76) (gains.scale *ℤ weight)
+  asked_small = below_size 40970000000000000000000 (2 ^ 76) (gains.scale *ℤ weight)
+      (omega (
+        arith,
+        unsigned_abs-mul gains.scale weight,
+        mul-le (unsigned_abs gains.scale) (unsigned_abs weight) 409700000000 100000000000 scale_size
+            weight_size,
+      ))
       (omega arith)
 
   -- the code's product
-  product_read : kept den *ℤ kept weight ≡ den *ℤ weight
+  product_read : kept gains.scale *ℤ kept weight ≡ gains.scale *ℤ weight
   product_read =
-      ap (λ z. z *ℤ kept weight) (to_z-of_z w128 den (omega (arith, ints)))
-      ∙ ap (λ z. den *ℤ z)
+      ap (λ z. z *ℤ kept weight)
+      (to_z-of_z w128 gains.scale (omega (arith, ints, gains.valid.some, gains.valid.fine)))
+      ∙ ap (λ z. gains.scale *ℤ z)
       (to_z-of_z w128 weight (omega (arith, ints, small.above, small.below)))
 
   -- it fits
-  pub asked_fits : FitsSigned w128 (kept den *ℤ kept weight)
-  asked_fits = subst (FitsSigned w128) (sym product_read) product_fits
+  pub asked_fits : FitsSigned w128 (kept gains.scale *ℤ kept weight)
+  asked_fits = subst (FitsSigned w128) (sym product_read) (fits (gains.scale *ℤ weight) asked_small)
+    where
+      fits : (z : ℤ) → IsBelow (2 ^ 76) z → FitsSigned w128 z
+      fits z low = omega (arith, ints, low.above, low.below)
 
   -- it is what is asked
-  pub asked_read : kept (kept den *ℤ kept weight) ≡ den *ℤ weight
-  asked_read = to_z-of_z w128 (kept den *ℤ kept weight) asked_fits ∙ product_read
+  asked_read : kept (kept gains.scale *ℤ kept weight) ≡ gains.scale *ℤ weight
+  asked_read = to_z-of_z w128 (kept gains.scale *ℤ kept weight) asked_fits ∙ product_read
 
-  -- it is small
-  pub asked_small : IsBelow (2 ^ 60) (kept (kept den *ℤ kept weight))
-  asked_small = subst (IsBelow (2 ^ 60)) (sym asked_read)
-      (below_size 409700000000000 (2 ^ 60) (den *ℤ weight)
-      (omega (
-        arith,
-        unsigned_abs-mul den weight,
-        mul-le (unsigned_abs den) (unsigned_abs weight) 4097 100000000000 den_size weight_size,
-      ))
-      (omega arith))
+  module _ (less : ℤ) (less_small : IsBelow (2 ^ 79) less) where
+    -- the code's difference
+    difference_read : kept (kept gains.scale *ℤ kept weight) -ℤ kept less
+        ≡ (gains.scale *ℤ weight) -ℤ less
+    difference_read = ap (λ z. z -ℤ kept less) asked_read
+        ∙ ap (λ z. (gains.scale *ℤ weight) -ℤ z)
+        (to_z-of_z w128 less (omega (arith, ints, less_small.above, less_small.below)))
+
+    -- it is small
+    pub less_is_small : IsBelow (2 ^ 80) ((gains.scale *ℤ weight) -ℤ less)
+    less_is_small = at (gains.scale *ℤ weight) asked_small
+      where
+        at : (asked : ℤ) → IsBelow (2 ^ 76) asked → IsBelow (2 ^ 80) (asked -ℤ less)
+        at asked low = record {
+          above = omega (arith, ints, low.above, less_small.below);
+          below = omega (arith, ints, low.below, less_small.above);
+        }
+
+    -- it fits
+    pub less_fits : FitsSigned w128 (kept (kept gains.scale *ℤ kept weight) -ℤ kept less)
+    less_fits = subst (FitsSigned w128) (sym difference_read)
+        (fits ((gains.scale *ℤ weight) -ℤ less) less_is_small)
+      where
+        fits : (z : ℤ) → IsBelow (2 ^ 80) z → FitsSigned w128 z
+        fits z low = omega (arith, ints, low.above, low.below)
+
+    -- and is the difference
+    pub less_read : kept (kept (kept gains.scale *ℤ kept weight) -ℤ kept less)
+        ≡ (gains.scale *ℤ weight) -ℤ less
+    less_read = to_z-of_z w128 (kept (kept gains.scale *ℤ kept weight) -ℤ kept less) less_fits
+        ∙ difference_read
+
+-- what the code answers for a setup constraint is its gain
+pub setup_gain : (gains : Gains) (constraint : Constraint) → constraint.setup ≡ true
+    → IsBelow (10 ^ 11) constraint.weight
+    → kept (kept (kept gains.scale *ℤ kept constraint.weight) -ℤ kept gains.setup)
+    ≡ gain_of gains constraint
+setup_gain gains constraint setup small =
+    less_read gains constraint.weight small gains.setup gains.valid.setup ∙ rw setup refl
+
+-- and so it is for a hold constraint
+pub hold_gain : (gains : Gains) (constraint : Constraint) → constraint.setup ≡ false
+    → IsBelow (10 ^ 11) constraint.weight
+    → kept (kept (kept gains.scale *ℤ kept constraint.weight) -ℤ kept gains.hold)
+    ≡ gain_of gains constraint
+hold_gain gains constraint hold small =
+    less_read gains constraint.weight small gains.hold gains.valid.hold ∙ rw hold refl
+
+-- a gain is small
+pub gain_small : (gains : Gains) (constraint : Constraint) → IsBelow (10 ^ 11) constraint.weight
+    → IsBelow (2 ^ 80) (gain_of gains constraint)
+gain_small gains constraint small = at constraint.setup
+  where
+    at : (setup : Bool) → IsBelow (2 ^ 80) ((gains.scale *ℤ constraint.weight)
+        -ℤ (if setup then gains.setup else gains.hold))
+    at true = less_is_small gains constraint.weight small gains.setup gains.valid.setup
+    at false = less_is_small gains constraint.weight small gains.hold gains.valid.hold

@@ -1,51 +1,48 @@
 -- What looking at one constraint makes of the arrivals.
-use Rattle.std.proofs.Common.{◌≡◌, ◌≢◌, ◌<◌, ◌+◌, ◌-◌, ◌*◌, ◌^◌, ◌∙◌, ℕ, zero, suc, ℤ, pos, negsuc, ◌+ℤ◌, ◌-ℤ◌, ◌*ℤ◌, ◌≤ℤ◌, ◌<ℤ◌, Bool, true, false, cond, List, [], ◌∷◌, length, get_or, set, All, Contains, inl, inr, sym, subst, ap, FitsSigned, arith}
+use Rattle.std.proofs.Common.{◌≡◌, ◌≢◌, ◌<◌, ◌+◌, ◌-◌, ◌^◌, ◌∙◌, ℕ, zero, suc, ℤ, pos, negsuc, ◌+ℤ◌, ◌*ℤ◌, ◌≤ℤ◌, ◌<ℤ◌, true, false, List, [], ◌∷◌, length, get_or, set, All, Contains, inl, inr, sym, subst, ap, FitsSigned, arith}
 use Rattle.std.specs.Prelude.{nat_abs}
 use Rattle.std.specs.Int.{w128}
 use Rattle.std.proofs.lemmas.Bool.{cases_eq}
 use Rattle.std.proofs.lemmas.List.{get_or_read, get_or-set_same, get_or-set_other, length-set}
 use Rattle.std.proofs.lemmas.List.Elements.{All-contains}
 use Rattle.std.proofs.lemmas.Int.{ints}
-use Rattle.std.proofs.Math.Nat.{mul-add}
-use Rattle.std.proofs.Math.IntN.{*ℤ_comm}
-use borrow.Author.Differences.{up, down}
-use Rattle.cts_base.specs.declared.fraction.Fraction.{Fraction}
+use Rattle.cts_model.proofs.ScaleLemmas.{scale-add}
 use Rattle.cts_model.specs.declared.constraint.Constraint.{Constraint}
-use Rattle.cts_model.specs.Constraints.{IsSmallConstraint, IsSatisfied}
+use Rattle.cts_model.specs.Constraints.{IsSmallConstraint}
 use Rattle.cts_model.specs.Points.{IsBelow}
 use Rattle.cts_model.specs.Schedules.{arrival_of, AreFromZero}
-use Rattle.schedule.specs.Schedules.{AreLeast}
+use Rattle.schedule.specs.declared.gain.Gains.{Gains}
+use Rattle.schedule.specs.Gains.{AreLeastBy, gain_of}
 use Rattle.schedule.specs.Rises.{offer_of, IsRaised, IsRising, room_of}
 use Rattle.schedule.proofs.GainLemmas.{kept}
-use Rattle.schedule.proofs.BoundLemmas.{size_same}
 use lib.Signed.{le_z}
 
 -- what the code reads: the arrival at the tail, the gain and the arrival at the head
 pub record IsRead (at : List ℤ) (tail head : ℕ) (wanted from gain to : ℤ) : Type 0 where
-  pub small : All (IsBelow (2 ^ 62)) at
+  pub small : All (IsBelow (2 ^ 93)) at
   pub tail_within : tail < length at
   pub head_within : head < length at
   pub from_is : from ≡ get_or at tail from
   pub gain_is : gain ≡ wanted
-  pub gain_small : IsBelow (2 ^ 61) gain
+  pub gain_small : IsBelow (2 ^ 80) gain
   pub to_is : to ≡ get_or at head to
 
 -- the code's sum
-pub sum_read : (from gain : ℤ) → IsBelow (2 ^ 62) from → IsBelow (2 ^ 61) gain
+pub sum_read : (from gain : ℤ) → IsBelow (2 ^ 93) from → IsBelow (2 ^ 80) gain
     → kept (kept from +ℤ kept gain) ≡ from +ℤ gain
 sum_read from gain small gain_small = omega (arith, ints)
 
 -- it fits
-pub sum_fits : (from gain : ℤ) → IsBelow (2 ^ 62) from → IsBelow (2 ^ 61) gain
+pub sum_fits : (from gain : ℤ) → IsBelow (2 ^ 93) from → IsBelow (2 ^ 80) gain
     → FitsSigned w128 (kept from +ℤ kept gain)
 sum_fits from gain small gain_small = omega (arith, ints)
 
 -- what the code's test says where it passes
-pub test_true : (offer to : ℤ) → IsBelow (2 ^ 62) to → le_z offer (kept to) ≡ true → offer ≤ℤ to
+pub test_true : (offer to : ℤ) → IsBelow (2 ^ 93) to → le_z offer (kept to) ≡ true → offer ≤ℤ to
 test_true offer to small passes = grind (arith, ints)
 
 -- and where it fails
-test_false : (offer to : ℤ) → IsBelow (2 ^ 62) to → le_z offer (kept to) ≡ false → to <ℤ offer
+test_false : (offer to : ℤ) → IsBelow (2 ^ 93) to → le_z offer (kept to) ≡ false → to <ℤ offer
 test_false offer to small fails = grind (arith, ints)
 
 module _ {at : List ℤ} {tail head : ℕ} {wanted from gain to : ℤ}
@@ -59,12 +56,12 @@ module _ {at : List ℤ} {tail head : ℕ} {wanted from gain to : ℤ}
   to_value = get_or_read at head to read.head_within read.to_is (pos 0)
 
   -- the first is small
-  from_small : IsBelow (2 ^ 62) from
-  from_small = subst (IsBelow (2 ^ 62)) (sym from_value) (read.small tail (pos 0) read.tail_within)
+  from_small : IsBelow (2 ^ 93) from
+  from_small = subst (IsBelow (2 ^ 93)) (sym from_value) (read.small tail (pos 0) read.tail_within)
 
   -- and so is the second
-  to_small : IsBelow (2 ^ 62) to
-  to_small = subst (IsBelow (2 ^ 62)) (sym to_value) (read.small head (pos 0) read.head_within)
+  to_small : IsBelow (2 ^ 93) to
+  to_small = subst (IsBelow (2 ^ 93)) (sym to_value) (read.small head (pos 0) read.head_within)
 
   -- the code's offer is what the constraint gives
   pub offer_read : kept (kept from +ℤ kept gain) ≡ arrival_of at tail +ℤ wanted
@@ -85,89 +82,36 @@ module _ {at : List ℤ} {tail head : ℕ} {wanted from gain to : ℤ}
       (subst (λ z. z <ℤ kept (kept from +ℤ kept gain)) to_value
       (test_false _ to to_small fails))
 
--- an offer that many times
-times_offer : (times : ℕ) (from asked due : ℤ) → pos times *ℤ (from +ℤ (asked -ℤ due))
-    ≡ (pos times *ℤ from) +ℤ ((pos times *ℤ asked) -ℤ (pos times *ℤ due))
-times_offer times from asked due =
-    let offer = from +ℤ (asked -ℤ due) in
-    let plain : up offer + down from + down asked + up due
-    ≡ down offer + up from + up asked + down due = omega (arith, ints) in
-    let over = simp mul-add at (ap (λ n. times * n) plain) in
-    omega (arith, ints, over)
-
--- a product of three
-rotated : (scale times n : ℕ) → scale * times * n ≡ times * (scale * n)
-rotated scale times n = grind arith
-
--- what is asked at a scale that many times as fine
-asked_times : (scale times : ℕ) (weight : ℤ)
-    → pos (scale * times) *ℤ weight ≡ pos times *ℤ (pos scale *ℤ weight)
-asked_times scale times weight =
-    let asked = pos scale *ℤ weight in
-    let plain : up asked + scale * down weight ≡ down asked + scale * up weight =
-    omega (arith, ints) in
-    let over = simp mul-add at (ap (λ n. times * n) plain) in
-    omega (
-      arith,
-      ints,
-      over,
-      rotated scale times (up weight),
-      rotated scale times (down weight),
-    )
-
--- what is due for a constraint
-due_times : (setup : Bool) (num times : ℤ)
-    → (num *ℤ times) *ℤ pos (cond setup 1 0) ≡ times *ℤ cond setup num (pos 0)
-due_times true num times = omega (arith, ints, *ℤ_comm num times)
-due_times false num times = omega (arith, ints)
-
--- an offer that others have is no more than they have
-no_more : (from asked due other_tail other_head : ℤ) → from ≤ℤ other_tail
-    → (other_tail +ℤ asked) ≤ℤ (other_head +ℤ due) → (from +ℤ (asked -ℤ due)) ≤ℤ other_head
-no_more from asked due other_tail other_head low met = omega (arith, ints)
-
 -- what any others have that satisfy a constraint is at least what the constraint gives
-offered_least : (setup : Bool) (times scale : ℕ) (den num weight from tail head : ℤ)
-    → pos scale ≡ den → (pos times *ℤ from) ≤ℤ tail
-    → (tail +ℤ (pos (scale * times) *ℤ weight))
-    ≤ℤ (head +ℤ ((num *ℤ pos times) *ℤ pos (cond setup 1 0)))
-    → (pos times *ℤ (from +ℤ ((den *ℤ weight) -ℤ cond setup num (pos 0)))) ≤ℤ head
-offered_least setup times scale den num weight from tail head scale_is low met =
-    let asked_is : pos (scale * times) *ℤ weight ≡ pos times *ℤ (den *ℤ weight) =
-    asked_times scale times weight ∙ ap (λ z. pos times *ℤ (z *ℤ weight)) scale_is in
-    let scaled : (tail +ℤ (pos times *ℤ (den *ℤ weight)))
-    ≤ℤ (head +ℤ (pos times *ℤ cond setup num (pos 0))) =
-    subst (λ z. (tail +ℤ z) ≤ℤ (head +ℤ (pos times *ℤ cond setup num (pos 0)))) asked_is
-    (subst (λ z. (tail +ℤ (pos (scale * times) *ℤ weight)) ≤ℤ (head +ℤ z))
-    (due_times setup num (pos times)) met) in
-    subst (λ z. z ≤ℤ head)
-    (sym (times_offer times from (den *ℤ weight) (cond setup num (pos 0))))
-    (no_more _ _ _ _ _ low scaled)
+offered_least : (times : ℕ) (gain from tail head : ℤ) → (pos times *ℤ from) ≤ℤ tail
+    → (tail +ℤ (pos times *ℤ gain)) ≤ℤ head → (pos times *ℤ (from +ℤ gain)) ≤ℤ head
+offered_least times gain from tail head low met =
+    omega (arith, ints, scale-add times from gain)
 
 -- a raise from 0 on stays so
 above_zero : (has offer : ℤ) → pos 0 ≤ℤ has → has <ℤ offer → pos 0 ≤ℤ offer
 above_zero has offer from more = omega (arith, ints)
 
-module _ {it : Constraint} {period : Fraction} {old new : List ℤ}
-    (small : IsSmallConstraint (length old) it) (raised : IsRaised it period old new) where
+module _ {it : Constraint} {gains : Gains} {old new : List ℤ}
+    (small : IsSmallConstraint (length old) it) (raised : IsRaised it gains old new) where
   -- as many arrivals as before
   pub length-raised : length new ≡ length old
-  length-raised = ap length raised.raised ∙ length-set old it.head (offer_of period old it)
+  length-raised = ap length raised.raised ∙ length-set old it.head (offer_of gains old it)
 
   -- the head's arrival
-  pub at_head : arrival_of new it.head ≡ offer_of period old it
+  pub at_head : arrival_of new it.head ≡ offer_of gains old it
   at_head = ap (λ (l : List ℤ). arrival_of l it.head) raised.raised
-      ∙ get_or-set_same old it.head (offer_of period old it) (pos 0) small.head
+      ∙ get_or-set_same old it.head (offer_of gains old it) (pos 0) small.head
 
   -- any other
   elsewhere : (register : ℕ) → register ≢ it.head
       → arrival_of new register ≡ arrival_of old register
   elsewhere register apart = ap (λ (l : List ℤ). arrival_of l register) raised.raised
-      ∙ get_or-set_other old it.head register (offer_of period old it) (pos 0) apart
+      ∙ get_or-set_other old it.head register (offer_of gains old it) (pos 0) apart
 
   -- raised arrivals are rising
   pub IsRising-raised : (constraints : List Constraint) → Contains constraints it
-      → IsRising constraints period old → IsRising constraints period new
+      → IsRising constraints gains old → IsRising constraints gains new
   IsRising-raised constraints among rising =
       record { from_zero = from_zero; least = least }
     where
@@ -182,18 +126,18 @@ module _ {it : Constraint} {period : Fraction} {old new : List ℤ}
       ]
 
       -- none is later than any others have it
-      least : AreLeast constraints period.num (nat_abs period.den) new
+      least : AreLeastBy constraints gains new
       least times other some others satisfied register inside =
           let before : AreFromZero (length old) other =
           subst (λ n. AreFromZero n other) length-raised others in
-          let IsMet : Constraint → Type 0 =
-          IsSatisfied (nat_abs period.den * times) (period.num *ℤ pos times) other in
+          let IsMet : Constraint → Type 0 = λ constraint.
+          (other constraint.tail +ℤ (pos times *ℤ gain_of gains constraint))
+          ≤ℤ other constraint.head in
           elim (cases_eq register it.head) [
             | inl same ↦ subst (λ r. (pos times *ℤ arrival_of new r) ≤ℤ other r) (sym same)
                 (subst (λ z. (pos times *ℤ z) ≤ℤ other it.head) (sym at_head)
-                (offered_least it.setup times (nat_abs period.den) period.den period.num it.weight
-                (arrival_of old it.tail) (other it.tail) (other it.head)
-                (size_same period.den (omega (arith, ints, period.lowest.some_den)))
+                (offered_least times (gain_of gains it) (arrival_of old it.tail) (other it.tail)
+                (other it.head)
                 (rising.least times other some before satisfied it.tail small.tail)
                 (All-contains IsMet constraints it satisfied among)))
             | inr apart ↦ subst (λ z. (pos times *ℤ z) ≤ℤ other register)
@@ -213,10 +157,10 @@ less_room most (pos has) (negsuc offer) room from more low = absurd (omega (arit
 
 -- a raise leaves less room
 pub room_less : (at : List ℤ) (register : ℕ) (offer : ℤ) → register < length at
-    → pos 0 ≤ℤ arrival_of at register → arrival_of at register <ℤ offer → offer <ℤ pos (2 ^ 62)
+    → pos 0 ≤ℤ arrival_of at register → arrival_of at register <ℤ offer → offer <ℤ pos (2 ^ 93)
     → room_of (set at register offer) < room_of at
 room_less [] register offer within from more low = absurd (omega arith)
 room_less (arrival ∷ at) zero offer within from more low =
-    less_room (2 ^ 62) arrival offer (room_of at) from more low
+    less_room (2 ^ 93) arrival offer (room_of at) from more low
 room_less (arrival ∷ at) (suc register) offer within from more low =
     let rest = room_less at register offer (omega arith) from more low in omega arith

@@ -1,16 +1,17 @@
 -- How far a sweep has come: what one constraint after the other makes of all arrivals.
-use Rattle.std.proofs.Common.{◌≡◌, ◌<◌, ◌≤◌, ◌^◌, ◌∙◌, ℕ, ℤ, pos, ◌+ℤ◌, ◌*ℤ◌, ◌≤ℤ◌, Bool, true, false, cond, ◌||◌, List, length, get_or, set, All, ◌⊎◌, inl, inr, Contains, sym, subst, ap, arith}
-use Rattle.std.specs.Prelude.{nat_abs, MatchBool}
+use Rattle.std.proofs.Common.{◌≡◌, ◌<◌, ◌≤◌, ◌^◌, ◌∙◌, ℕ, ℤ, pos, ◌+ℤ◌, ◌*ℤ◌, ◌≤ℤ◌, Bool, true, false, ◌||◌, List, length, get_or, set, All, ◌⊎◌, inl, inr, Contains, sym, subst, ap, arith}
+use Rattle.std.specs.Prelude.{MatchBool}
 use Rattle.std.proofs.lemmas.List.{get_or_default}
 use Rattle.std.proofs.lemmas.Int.{ints}
-use Rattle.cts_base.specs.declared.fraction.Fraction.{Fraction}
 use Rattle.cts_model.specs.declared.constraint.Constraint.{Constraint}
-use Rattle.cts_model.specs.Constraints.{IsSatisfied, IsSmallConstraint, Satisfies, count_of}
+use Rattle.cts_model.specs.Constraints.{IsSmallConstraint}
 use Rattle.cts_model.specs.Points.{IsBelow}
 use Rattle.cts_model.specs.Schedules.{arrival_of}
+use Rattle.schedule.specs.declared.gain.Gains.{Gains}
+use Rattle.schedule.specs.Gains.{SatisfiesGains, gain_of}
 use Rattle.schedule.specs.Schedules.{CanSchedule}
-use Rattle.schedule.specs.Rises.{gain_of, offer_of, IsRaised, IsRelaxed, IsRising, IsSweep, room_of}
-use Rattle.schedule.proofs.BoundLemmas.{gain_to, size_same, small_rising}
+use Rattle.schedule.specs.Rises.{offer_of, IsRaised, IsRelaxed, IsRising, IsSweep, room_of}
+use Rattle.schedule.proofs.BoundLemmas.{small_rising}
 use Rattle.schedule.proofs.RiseLemmas.{length-raised, at_head, IsRising-raised, room_less}
 
 -- what stands past the end
@@ -18,56 +19,42 @@ abbrev pub nowhere : Constraint
 nowhere = record { setup = false; tail = 0; head = 0; weight = pos 0 }
 
 -- the constraints at these places give no more
-abbrev pub AreMet : List Constraint → Fraction → (Seen : ℕ → Type 0) → List ℤ → Type 0
-AreMet constraints period Seen at = (place : ℕ) (default : Constraint) → Seen place
+abbrev pub AreMet : List Constraint → Gains → (Seen : ℕ → Type 0) → List ℤ → Type 0
+AreMet constraints gains Seen at = (place : ℕ) (default : Constraint) → Seen place
     → place < length constraints
-    → offer_of period at (get_or constraints place default)
+    → offer_of gains at (get_or constraints place default)
     ≤ℤ arrival_of at (get_or constraints place default).head
 
 -- how far a sweep has come that has seen these places
-pub record IsUnderWay (constraints : List Constraint) (period : Fraction) (Seen : ℕ → Type 0)
+pub record IsUnderWay (constraints : List Constraint) (gains : Gains) (Seen : ℕ → Type 0)
     (begun : List ℤ) (changed : Bool) (now : List ℤ) : Type 0 where
   pub registers : length now ≡ length begun
-  pub rising : IsRising constraints period now
+  pub rising : IsRising constraints gains now
   pub outcome : MatchBool changed (room_of now < room_of begun)
-      ((now ≡ begun) × AreMet constraints period Seen now)
+      ((now ≡ begun) × AreMet constraints gains Seen now)
 
--- what is due counts the period once for a setup constraint, and else never
-due_of : (setup : Bool) (num : ℤ) → cond setup num (pos 0) ≡ num *ℤ pos (cond setup 1 0)
-due_of true num = omega (arith, ints)
-due_of false num = omega (arith, ints)
+-- what is met is satisfied, the gain taken once
+met_once : (from gain to : ℤ) → (from +ℤ gain) ≤ℤ to → (from +ℤ (pos 1 *ℤ gain)) ≤ℤ to
+met_once from gain to met = omega (arith, ints)
 
--- what is met is satisfied
-pub IsSatisfied-met : (period : Fraction) (arrival : ℕ → ℤ) (it : Constraint)
-    → (arrival it.tail +ℤ gain_of period it) ≤ℤ arrival it.head
-    → IsSatisfied (nat_abs period.den) period.num arrival it
-IsSatisfied-met period arrival it met =
-    subst (λ z. (arrival it.tail +ℤ (z *ℤ it.weight))
-    ≤ℤ (arrival it.head +ℤ (period.num *ℤ pos (count_of it))))
-    (sym (size_same period.den (omega (arith, ints, period.lowest.some_den))))
-    (subst (λ z. (arrival it.tail +ℤ (period.den *ℤ it.weight)) ≤ℤ (arrival it.head +ℤ z))
-    (due_of it.setup period.num)
-    (gain_to (arrival it.tail) (arrival it.head) (period.den *ℤ it.weight)
-    (cond it.setup period.num (pos 0)) met))
-
-module _ {constraints : List Constraint} {period : Fraction} {Seen : ℕ → Type 0}
+module _ {constraints : List Constraint} {gains : Gains} {Seen : ℕ → Type 0}
     {begun : List ℤ} {changed : Bool} {now : List ℤ}
-    (can : CanSchedule constraints period (length begun))
-    (way : IsUnderWay constraints period Seen begun changed now) where
+    (can : CanSchedule constraints gains (length begun))
+    (way : IsUnderWay constraints gains Seen begun changed now) where
   -- the arrivals can be scheduled still
-  pub can_now : CanSchedule constraints period (length now)
-  can_now = subst (CanSchedule constraints period) (sym way.registers) can
+  pub can_now : CanSchedule constraints gains (length now)
+  can_now = subst (CanSchedule constraints gains) (sym way.registers) can
 
   -- they are small
-  pub small_now : All (IsBelow (2 ^ 62)) now
-  small_now = small_rising constraints period now can_now way.rising
+  pub small_now : All (IsBelow (2 ^ 93)) now
+  small_now = small_rising constraints gains now can_now way.rising
 
   -- there is no more room than at the start
   no_more_room : room_of now ≤ room_of begun
   no_more_room = at changed way.outcome
     where
       at : (b : Bool) → MatchBool b (room_of now < room_of begun)
-          ((now ≡ begun) × AreMet constraints period Seen now) → room_of now ≤ room_of begun
+          ((now ≡ begun) × AreMet constraints gains Seen now) → room_of now ≤ room_of begun
       at true less = omega arith
       at false (same, met) =
           let rooms : room_of now ≡ room_of begun = ap room_of same in omega arith
@@ -79,22 +66,22 @@ module _ {constraints : List Constraint} {period : Fraction} {Seen : ℕ → Typ
     it = get_or constraints place nowhere
 
     -- a constraint that gives more leaves less room
-    IsUnderWay-raised : IsRaised it period now later
-        → IsUnderWay constraints period Later begun true later
+    IsUnderWay-raised : IsRaised it gains now later
+        → IsUnderWay constraints gains Later begun true later
     IsUnderWay-raised raised =
         let small : IsSmallConstraint (length now) it = can_now.small.each place nowhere within in
         let more : Contains constraints it =
         (place, within, get_or_default constraints place it nowhere within) in
         let rising = IsRising-raised small raised constraints more way.rising in
-        let can_later = subst (CanSchedule constraints period)
+        let can_later = subst (CanSchedule constraints gains)
         (sym (length-raised small raised)) can_now in
         let inside : it.head < length later =
         omega (arith, small.head, length-raised small raised) in
-        let low : IsBelow (2 ^ 62) (offer_of period now it) =
-        subst (IsBelow (2 ^ 62)) (at_head small raised)
-        (small_rising constraints period later can_later rising it.head (pos 0) inside) in
-        let less : room_of (set now it.head (offer_of period now it)) < room_of now =
-        room_less now it.head (offer_of period now it) small.head
+        let low : IsBelow (2 ^ 93) (offer_of gains now it) =
+        subst (IsBelow (2 ^ 93)) (at_head small raised)
+        (small_rising constraints gains later can_later rising it.head (pos 0) inside) in
+        let less : room_of (set now it.head (offer_of gains now it)) < room_of now =
+        room_less now it.head (offer_of gains now it) small.head
         (way.rising.from_zero it.head small.head) raised.more low.below in
         record {
           registers = length-raised small raised ∙ way.registers;
@@ -103,24 +90,24 @@ module _ {constraints : List Constraint} {period : Fraction} {Seen : ℕ → Typ
         }
 
     -- a constraint that gives no more is met
-    met_more : AreMet constraints period Seen now
-        → offer_of period now it ≤ℤ arrival_of now it.head
-        → AreMet constraints period Later now
+    met_more : AreMet constraints gains Seen now
+        → offer_of gains now it ≤ℤ arrival_of now it.head
+        → AreMet constraints gains Later now
     met_more met here other default is_seen inside = elim (seen other is_seen) [
       | inl was ↦ met other default was inside
       | inr same ↦
           let is : it ≡ get_or constraints other default =
           get_or_default constraints place nowhere default within
           ∙ ap (λ p. get_or constraints p default) (sym same) in
-          subst (λ (c : Constraint). offer_of period now c ≤ℤ arrival_of now c.head) is here
+          subst (λ (c : Constraint). offer_of gains now c ≤ℤ arrival_of now c.head) is here
     ]
 
     -- one more constraint is looked at
-    pub IsUnderWay-more : (answer : Bool) → IsRelaxed it period now answer later
-        → IsUnderWay constraints period Later begun (answer || changed) later
+    pub IsUnderWay-more : (answer : Bool) → IsRelaxed it gains now answer later
+        → IsUnderWay constraints gains Later begun (answer || changed) later
     IsUnderWay-more true raised = IsUnderWay-raised raised
     IsUnderWay-more false left =
-        subst (λ (l : List ℤ). IsUnderWay constraints period Later begun changed l) (sym left.same)
+        subst (λ (l : List ℤ). IsUnderWay constraints gains Later begun changed l) (sym left.same)
         (record {
           registers = way.registers;
           rising = way.rising;
@@ -128,15 +115,15 @@ module _ {constraints : List Constraint} {period : Fraction} {Seen : ℕ → Typ
         })
       where
         at : (b : Bool) → MatchBool b (room_of now < room_of begun)
-            ((now ≡ begun) × AreMet constraints period Seen now)
+            ((now ≡ begun) × AreMet constraints gains Seen now)
             → MatchBool b (room_of now < room_of begun)
-            ((now ≡ begun) × AreMet constraints period Later now)
+            ((now ≡ begun) × AreMet constraints gains Later now)
         at true less = less
         at false (same, met) = (same, met_more met left.met)
 
   -- after the last
   pub IsSweep-all : ((place : ℕ) → place < length constraints → Seen place)
-      → IsSweep constraints period begun changed now
+      → IsSweep constraints gains begun changed now
   IsSweep-all all = record {
     registers = way.registers;
     rising = way.rising;
@@ -144,9 +131,11 @@ module _ {constraints : List Constraint} {period : Fraction} {Seen : ℕ → Typ
   }
     where
       at : (b : Bool) → MatchBool b (room_of now < room_of begun)
-          ((now ≡ begun) × AreMet constraints period Seen now)
+          ((now ≡ begun) × AreMet constraints gains Seen now)
           → MatchBool b (room_of now < room_of begun)
-          (Satisfies constraints (nat_abs period.den) period.num (arrival_of now))
+          (SatisfiesGains constraints gains 1 (arrival_of now))
       at true less = less
-      at false (same, met) = λ place default within. IsSatisfied-met period (arrival_of now)
-          (get_or constraints place default) (met place default (all place within) within)
+      at false (same, met) = λ place default within.
+          let it : Constraint = get_or constraints place default in
+          met_once (arrival_of now it.tail) (gain_of gains it) (arrival_of now it.head)
+          (met place default (all place within) within)

@@ -12,14 +12,14 @@ tests to from gain = nat_eq (of_z w128 (kept to -ℤ kept from)) (of_z w128 gain
 
 -- a test that passes makes them equal
 passes_is : (to from gain : ℤ) → pos 0 ≤ℤ to → pos 0 ≤ℤ from → FitsSigned w128 to
-    → FitsSigned w128 from → IsBelow (2 ^ 61) gain → tests to from gain ≡ true
+    → FitsSigned w128 from → IsBelow (2 ^ 80) gain → tests to from gain ≡ true
     → to -ℤ from ≡ gain
 passes_is to from gain to_from_zero from_from_zero to_fits from_fits small passes =
     grind (arith, ints)
 
 -- what is equal passes
 is_passes : (to from gain : ℤ) → pos 0 ≤ℤ to → pos 0 ≤ℤ from → FitsSigned w128 to
-    → FitsSigned w128 from → IsBelow (2 ^ 61) gain → to -ℤ from ≡ gain
+    → FitsSigned w128 from → IsBelow (2 ^ 80) gain → to -ℤ from ≡ gain
     → tests to from gain ≡ true
 is_passes to from gain to_from_zero from_from_zero to_fits from_fits small same =
     grind (arith, ints)
@@ -32,7 +32,7 @@ gain_due false asked num = omega (arith, ints)
 
 -- so the code's test is the definition
 pub tight_read : (to from gain asked num : ℤ) (setup : Bool) → pos 0 ≤ℤ to → pos 0 ≤ℤ from
-    → FitsSigned w128 to → FitsSigned w128 from → IsBelow (2 ^ 61) gain
+    → FitsSigned w128 to → FitsSigned w128 from → IsBelow (2 ^ 80) gain
     → gain ≡ asked -ℤ cond setup num (pos 0)
     → IsTrue (tests to from gain)
     ↔ (to -ℤ from ≡ asked -ℤ (num *ℤ pos (cond setup 1 0)))

@@ -1,3 +1,5 @@
+pub mod GainSizes
+pub mod Gains
 pub mod Schedules
 pub mod Rises
 pub mod Tails

@@ -4,7 +4,9 @@ use Rattle.std.specs.Prelude.{◌<◌, ◌≤◌, ◌*◌, ◌-◌, ℕ, ℤ, po
 use Rattle.cts_base.specs.declared.fraction.Fraction.{Fraction}
 use Rattle.cts_model.specs.declared.constraint.Constraint.{Constraint}
 use Rattle.cts_model.specs.Constraints.{AreSmallConstraints, Satisfies}
-use Rattle.cts_model.specs.Schedules.{arrival_of, AreFromZero, IsSmallPeriod}
+use Rattle.cts_model.specs.Schedules.{arrival_of, AreFromZero}
+use Rattle.schedule.specs.Gains.{AdmitsGains}
+use Rattle.schedule.specs.declared.gain.Gains.{Gains}
 
 -- any others from 0 on that satisfy the constraints, at a scale that many times as fine, are at
 -- least as late
@@ -34,9 +36,8 @@ abbrev pub IsAdmittedBy : List Constraint → Fraction → Type 0
 IsAdmittedBy constraints period = (arrival : ℕ → ℤ)
     × Satisfies constraints (nat_abs period.den) period.num arrival
 
--- small constraints between so many registers that admit the period
-pub record CanSchedule (constraints : List Constraint) (period : Fraction)
+-- small constraints between so many registers that admit the gains
+pub record CanSchedule (constraints : List Constraint) (gains : Gains)
     (registers : ℕ) : Type 0 where
   pub small : AreSmallConstraints registers constraints
-  pub range : IsSmallPeriod period
-  pub admitted : IsAdmittedBy constraints period
+  pub admitted : AdmitsGains constraints gains

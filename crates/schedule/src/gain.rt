@@ -1,32 +1,51 @@
-ghost use Rattle.std.specs.Prelude.{◌≡◌, ◌^◌, ◌*ℤ◌};
-ghost use Rattle.cts_model.specs.Points.{IsBelow};
-ghost use Rattle.cts_model.specs.Schedules.{IsSmallPeriod};
-ghost use Rattle.schedule.specs.Rises.{gain_of};
+ghost use Rattle.schedule.specs.GainSizes.{AreSmallGains};
 
 use cts_base::Fraction;
 use cts_model::Constraint;
 
-/// What the constraint asks of the head beyond the tail, in ticks over the period's denominator.
-pub(crate) fn gain(constraint: &Constraint, period: Fraction) -> i128
-    requires period { IsSmallPeriod period }
-    requires small { IsBelow (10 ^ 11) constraint.now.weight }
-    ensures gain { result ≡ gain_of period constraint.now }
-    ensures small { IsBelow (2 ^ 61) result }
-{
-    let asked = asked(constraint, period);
-    if constraint.setup {
-        asked - period.num()
-    } else {
-        asked
-    }
+/// What constraints ask of their heads beyond their tails: each its weight in ticks times a scale,
+/// less what a setup or a hold constraint allows.
+#[derive(Clone, Copy, Debug, PartialEq, Eq)]
+pub struct Gains {
+    /// How many times a weight is taken.
+    pub scale: i128,
+    /// What is taken away where it is that of a setup constraint: the period over the scale, less
+    /// what is to be spared.
+    pub setup: i128,
+    /// What is taken away where it is that of a hold constraint.
+    pub hold: i128,
+    pub ghost valid: { AreSmallGains scale setup hold },
 }
 
-// The weight over the period's denominator.
-fn asked(constraint: &Constraint, period: Fraction) -> i128
-    requires period { IsSmallPeriod period }
-    requires small { IsBelow (10 ^ 11) constraint.now.weight }
-    ensures asked { result ≡ (period.den *ℤ constraint.now.weight) }
-    ensures small { IsBelow (2 ^ 60) result }
-{
-    period.den() * constraint.weight
+impl Gains {
+    ghost use Rattle.std.specs.Prelude.{◌≡◌, ◌^◌};
+    ghost use Rattle.cts_model.specs.Points.{IsBelow};
+    ghost use Rattle.cts_model.specs.Schedules.{IsSmallPeriod};
+    ghost use Rattle.schedule.specs.Gains.{AreGainsOf, gain_of};
+
+    /// Those at a period, over its denominator.
+    pub(crate) fn of(period: Fraction) -> Gains
+        requires { IsSmallPeriod period }
+        ensures { AreGainsOf period result }
+    {
+        Gains {
+            scale: period.den(),
+            setup: period.num(),
+            hold: 0,
+        }
+    }
+
+    /// What the constraint asks of the head beyond the tail.
+    pub(crate) fn gain(self, constraint: &Constraint) -> i128
+        requires { IsBelow (10 ^ 11) constraint.now.weight }
+        ensures gain { result ≡ gain_of self constraint.now }
+        ensures small { IsBelow (2 ^ 80) result }
+    {
+        let asked = self.scale * constraint.weight;
+        if constraint.setup {
+            asked - self.setup
+        } else {
+            asked - self.hold
+        }
+    }
 }

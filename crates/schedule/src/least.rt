@@ -1,13 +1,34 @@
 ghost use Rattle.std.specs.Prelude.{◌≡◌, ◌^◌, All, IfOk, length, nat_abs};
 ghost use Rattle.cts_model.specs.Constraints.{AreSmallConstraints};
 ghost use Rattle.cts_model.specs.Points.{IsBelow};
+ghost use Rattle.schedule.specs.Gains.{AdmitsGains, AreLeastArrivalsBy};
 ghost use Rattle.schedule.specs.Schedules.{AreWithinWeights, IsAdmittedBy, IsLeastScheduleOf};
 ghost use Rattle.cts_model.specs.Schedules.{IsSmallPeriod};
 
+use crate::gain::Gains;
 use crate::sweep::settle;
 use cts_base::{Fraction, Listed, NoMemory};
 use cts_model::{Constraint, Schedule};
 use std::alloc::Global;
+
+/// The least arrivals from 0 on that satisfy the constraints by their gains. The list has an entry
+/// for each register, whatever the entries are; it becomes the arrivals, and no other memory is
+/// taken. It sweeps over the constraints until a sweep changes nothing.
+pub fn least_arrivals_in(
+    at: Listed<i128>,
+    constraints: &Listed<Constraint>,
+    gains: Gains,
+) -> Listed<i128>
+    requires small { AreSmallConstraints (length at) constraints.now }
+    requires admitted { AdmitsGains constraints.now gains }
+    ensures registers { length result ≡ length at }
+    ensures least { AreLeastArrivalsBy constraints.now gains result }
+{
+    let mut arrivals = at.into_vec();
+    arrivals.fill(0);
+    settle(&mut arrivals, constraints.as_slice(), gains);
+    Listed::from_vec(arrivals)
+}
 
 /// The least arrivals that satisfy the constraints at a period in ticks. The list has an entry for
 /// each register, whatever the entries are; it becomes the schedule's, and no other memory is
@@ -26,12 +47,9 @@ pub fn least_schedule_in(
     ensures bound { AreWithinWeights constraints.now (nat_abs period.den) result.at }
     ensures small { All (IsBelow (10 ^ 19)) result.at }
 {
-    let mut arrivals = at.into_vec();
-    arrivals.fill(0);
-    settle(&mut arrivals, constraints.as_slice(), period);
     Schedule {
         den: period.den(),
-        at: Listed::from_vec(arrivals),
+        at: least_arrivals_in(at, constraints, Gains::of(period)),
     }
 }
 

@@ -8,5 +8,6 @@ mod sweep;
 mod tails;
 mod tight;
 
-pub use least::{least_schedule, least_schedule_in};
+pub use gain::Gains;
+pub use least::{least_arrivals_in, least_schedule, least_schedule_in};
 pub use tight::leads;

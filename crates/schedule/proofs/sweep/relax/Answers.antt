@@ -2,7 +2,7 @@
 use Rattle.std.proofs.Common.{◌^◌, subst, sym, refl, ap}
 use Rattle.std.proofs.Math.ListN.{set}
 use Rattle.cts_model.specs.Points.{IsBelow}
-use Rattle.schedule.specs.Rises.{gain_of}
+use Rattle.schedule.specs.Gains.{gain_of}
 use Rattle.schedule.proofs.RiseLemmas.{IsRead, sum_fits, offer_read, left_read, more_read}
 use Rattle.schedule.proofs.sweep.relax.Goals as goal
 
@@ -11,12 +11,12 @@ overflow_add-offer c =
     let small = c.requires.small c.args.constraint.now.tail c.index.result.now
     c.requires.constraint.tail in
     sum_fits c.index.result.now c.gain.result
-    (subst (IsBelow (2 ^ 62)) (sym c.index.ensures) small) c.gain.ensures.small
+    (subst (IsBelow (2 ^ 93)) (sym c.index.ensures) small) c.gain.ensures.small
 
 pub returns-then-offer-index : goal.returns-then-offer-index
 returns-then-offer-index c =
     let read : IsRead c.args.at.now.items c.args.constraint.now.tail c.args.constraint.now.head
-    (gain_of c.args.period c.args.constraint.now) c.index.result.now c.gain.result
+    (gain_of c.args.gains c.args.constraint.now) c.index.result.now c.gain.result
     c.index-2.result.now = record {
       small = c.requires.small;
       tail_within = c.requires.constraint.tail;
@@ -31,7 +31,7 @@ returns-then-offer-index c =
 pub returns : goal.returns
 returns c =
     let read : IsRead c.args.at.now.items c.args.constraint.now.tail c.args.constraint.now.head
-    (gain_of c.args.period c.args.constraint.now) c.index.result.now c.gain.result
+    (gain_of c.args.gains c.args.constraint.now) c.index.result.now c.gain.result
     c.index-2.result.now = record {
       small = c.requires.small;
       tail_within = c.requires.constraint.tail;

@@ -3,5 +3,5 @@ use Rattle.schedule.proofs.SweepLemmas.{IsUnderWay}
 use Rattle.schedule.proofs.sweep.sweep_forwards.Given as goal
 
 abbrev pub invariant-loop-place : goal.invariant-loop-place
-invariant-loop-place l = IsUnderWay l.constraints l.period (λ place. place < l.place)
+invariant-loop-place l = IsUnderWay l.constraints l.gains (λ place. place < l.place)
     l.initial.at.items l.changed l.at.items

@@ -1,4 +1,4 @@
-use Rattle.std.proofs.Common.{rules, FitsSigned, ◌*ℤ◌}
+use Rattle.std.proofs.Common.{rules, FitsSigned, ◌*ℤ◌, ◌∙◌, refl}
 use Rattle.std.specs.Int.{w128}
 use Rattle.cts_model.specs.Schedules.{arrival_of}
 use Rattle.schedule.proofs.TightLemmas.{tight_read}
@@ -10,8 +10,13 @@ returns c =
     let it = c.args.constraint.now in
     let to_fits : FitsSigned w128 (arrival_of at it.head) = search rules in
     let from_fits : FitsSigned w128 (arrival_of at it.tail) = search rules in
-    tight_read (arrival_of at it.head) (arrival_of at it.tail) c.gain.result
+    tight_read (arrival_of at it.head) (arrival_of at it.tail) c.gain-gain.result
     (c.args.period.den *ℤ it.weight) c.args.period.num it.setup
     (c.requires.from_zero it.head c.requires.small.head)
     (c.requires.from_zero it.tail c.requires.small.tail) to_fits from_fits
-    c.gain.ensures.small c.gain.ensures.gain
+    c.gain-gain.ensures.small
+    (c.gain-gain.ensures.gain ∙ rw (
+      c.of.ensures.scale_is,
+      c.of.ensures.setup_is,
+      c.of.ensures.hold_is,
+    ) refl)
