@@ -1,4 +1,10 @@
-mod GreatestLemmas
-mod CombinedLemmas
+mod InclusionLemmas
 mod SatisfiedLemmas
 mod SmallLemmas
+mod SamePairs
+mod ParallelLemmas
+mod OneWeight
+mod CornerPlaces
+mod CommonLemmas
+mod OutcomeLemmas
+mod FloorLemmas

@@ -3,23 +3,14 @@ ghost use Rattle.cts_model.specs.Constraints.{Satisfies, AreSmallConstraints};
 ghost use Rattle.corners.specs.CornerLists.{AreCorners};
 ghost use Rattle.corners.specs.GreatestWeights.{IsCombinedAt};
 
-use crate::greatest::{constraint_of, greatest_at};
+use crate::Combined;
 use cts_base::{Listed, NoMemory};
 use cts_model::Constraint;
 use std::alloc::Global;
 
-/// What several lists of constraints ask together.
-#[derive(Debug, Drop)]
-pub struct Combined {
-    /// At each place the constraint with the greatest weight of the lists.
-    pub constraints: Listed<Constraint>,
-    /// For each of them the first list, from 0, that has it.
-    pub corner: Listed<u32>,
-}
-
 /// One list of constraints that arrivals satisfy exactly where they satisfy each of several: at
-/// each place the one with the greatest weight. It goes once over the places, and at each over the
-/// lists, and takes memory for one list of constraints and one of numbers.
+/// each place the one with the greatest weight. It goes once over each list, and takes memory for
+/// one list of constraints and one of numbers.
 pub fn combine(alloc: Global, lists: &Listed<Listed<Constraint>>) -> Result<Combined, NoMemory>
     requires { AreCorners lists.now }
     ensures lengths { IfOk result (λ combined.
@@ -36,15 +27,10 @@ pub fn combine(alloc: Global, lists: &Listed<Listed<Constraint>>) -> Result<Comb
         → AreSmallConstraints registers combined.constraints) }
 {
     let lists = lists.as_slice();
-    let mut constraints = Listed::new(alloc);
-    let mut corner = Listed::new(alloc);
-    for place in 0..lists[0].len() {
-        let greatest = greatest_at(lists, place);
-        constraints.push(constraint_of(lists, greatest, place))?;
-        corner.push(greatest as u32)?;
+    let first = lists[0].as_slice().to_vec(alloc)?;
+    let mut combined = Combined::first(alloc, Listed::from_vec(first))?;
+    for corner in 1..lists.len() {
+        combined.include(corner as u32, lists[corner].as_slice());
     }
-    Ok(Combined {
-        constraints,
-        corner,
-    })
+    Ok(combined)
 }

@@ -1,28 +1,66 @@
--- A turn combines one place more, and in the end all are combined.
-use Rattle.std.proofs.Common.{rules}
-use Rattle.corners.proofs.CombinedLemmas.{combined_next}
+-- A turn includes the list of one corner more, and in the end all are combined.
+use Rattle.std.proofs.Common.{◌≡◌, ◌<◌, ◌∙◌, length, take, get_or, sym, ap, arith}
+use Rattle.std.proofs.lemmas.List.{get_or-take, length-take-le, take_all, take_more}
+use Rattle.corners.specs.CornerConstraints.{IsCombined}
 use Rattle.corners.proofs.SatisfiedLemmas.{satisfied_where_each}
 use Rattle.corners.proofs.SmallLemmas.{small_of_each}
 use Rattle.corners.proofs.lists.combine.Goals as goal
 
-pub loop-place-preserved : goal.loop-place-preserved
-loop-place-preserved c =
-    combined_next c.loop-place.invariant c.constraint_of.result c.greatest_at-greatest.result _ _
-    c.greatest_at-greatest.ensures c.constraint_of.ensures
-    c.in_ok-push.ensures.ok c.in_ok-push-2.ensures.ok
+pub loop-corner-init : goal.loop-corner-init
+loop-corner-init c =
+    let lists = c.as_slice-lists.result.now in
+    let some : 0 < length lists = rw c.as_slice-lists.ensures (omega (arith, c.requires.some)) in
+    let first : c.from_vec.result ≡ get_or lists 0 c.index-lists-0.result =
+    c.from_vec.ensures ∙ c.in_ok-first.ensures.items_if_clones_equal (λ x y same. same)
+    ∙ c.as_slice.ensures ∙ c.index-lists-0.is in
+    rw (take_more lists 0 c.index-lists-0.result some, ← first) c.in_ok-combined.ensures
 
-pub returns-clause-lengths : goal.returns-clause-lengths
-returns-clause-lengths c = search rules
+pub include-requires-clause-constraints : goal.include-requires-clause-constraints
+include-requires-clause-constraints c =
+    let lists = c.as_slice-lists.result.now in
+    let corner = c.loop-corner.corner in
+    let within = c.loop-corner-test.true in
+    let some = c.loop-corner.auto.corner in
+    let taken = length-take-le corner lists (omega (arith, within)) in
+    let place = c.index-lists-corner.result in
+    let all = rw (← c.as_slice-lists.ensures) at c.requires.parallel in
+    let parallel = all 0 place (omega (arith, some, within)) corner place within in
+    sym (c.loop-corner.invariant.lengths 0 place (omega (arith, some, taken)))
+    ∙ ap length (get_or-take corner lists 0 place (omega (arith, some)))
+    ∙ parallel.lengths
+    ∙ ap length (sym (c.as_slice-in-loop-corner.ensures ∙ c.index-lists-corner.is))
 
-pub returns-clause-greatest : goal.returns-clause-greatest
-returns-clause-greatest c = search rules
+pub include-requires-clause-corners : goal.include-requires-clause-corners
+include-requires-clause-corners c =
+    c.loop-corner.invariant.named ∙ include-requires-clause-constraints c
 
-pub returns-clause-satisfies : goal.returns-clause-satisfies
-returns-clause-satisfies c = λ scale period arrival.
-    satisfied_where_each scale period arrival c.args.lists.now c.loop-place.constraints
-    c.loop-place.corner c.requires (returns-clause-lengths c) (returns-clause-greatest c)
+pub loop-corner-preserved : goal.loop-corner-preserved
+loop-corner-preserved c =
+    let lists = c.as_slice-lists.result.now in
+    let corner = c.loop-corner.corner in
+    let place = c.index-lists-corner.result in
+    let next : c.as_slice-in-loop-corner.result.now ≡ get_or lists corner place =
+    c.as_slice-in-loop-corner.ensures ∙ c.index-lists-corner.is in
+    rw (take_more lists corner c.index-lists-corner.result c.loop-corner-test.true, ← next)
+    (c.include.ensures (take corner lists)
+    (length-take-le corner lists (omega (arith, c.loop-corner-test.true)))
+    c.loop-corner.invariant)
 
-pub returns-clause-small : goal.returns-clause-small
-returns-clause-small c = λ registers small.
-    small_of_each registers c.args.lists.now c.loop-place.constraints c.loop-place.corner
-    c.requires.some (returns-clause-lengths c) (returns-clause-greatest c) small
+pub returns : goal.returns
+returns c =
+    let lists = c.args.lists.now in
+    let combined = c.loop-corner.combined in
+    let all : IsCombined lists combined =
+    rw (
+      take_all c.loop-corner.corner c.as_slice-lists.result.now c.loop-corner-test.false,
+      c.as_slice-lists.ensures,
+    ) at c.loop-corner.invariant in
+    record {
+      lengths = all.lengths;
+      corners = all.named;
+      greatest = all.each;
+      satisfies = λ scale period arrival. satisfied_where_each scale period arrival lists
+          combined.constraints combined.corner c.requires all.lengths all.each;
+      small = λ registers small. small_of_each registers lists combined.constraints
+          combined.corner c.requires.some all.lengths all.each small;
+    }

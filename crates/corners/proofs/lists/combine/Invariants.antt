@@ -1,6 +1,7 @@
--- The places so far are combined.
-use Rattle.corners.proofs.CombinedLemmas.{IsCombinedBefore}
+-- The lists so far are combined.
+use Rattle.std.proofs.Common.{take}
+use Rattle.corners.specs.CornerConstraints.{IsCombined}
 use Rattle.corners.proofs.lists.combine.Given as goal
 
-abbrev pub invariant-loop-place : goal.invariant-loop-place
-invariant-loop-place l = IsCombinedBefore l.lists l.constraints l.corner l.place
+abbrev pub invariant-loop-corner : goal.invariant-loop-corner
+invariant-loop-corner l = IsCombined (take l.corner l.lists) l.combined

@@ -1,0 +1,8 @@
+-- What stands at the places so far.
+use Rattle.std.proofs.Common.{take}
+use Rattle.corners.specs.NamedPlaces.{AreNamedAt}
+use Rattle.corners.proofs.fold.Combined.at.Given as goal
+
+abbrev pub invariant-loop-place : goal.invariant-loop-place
+invariant-loop-place l = AreNamedAt l.self (take l.place-index l.places)
+    (record { constraints = l.constraints; corner = l.corner })
