@@ -10,6 +10,10 @@ mod constraint_lists;
 #[cfg(test)]
 mod constraint_tests;
 #[cfg(test)]
+mod corner_lists;
+#[cfg(test)]
+mod corner_tests;
+#[cfg(test)]
 mod delay_tests;
 #[cfg(test)]
 mod engine_tests;

@@ -1,0 +1,6 @@
+use Rattle.std.proofs.Common.{All, take}
+use Rattle.corners.specs.CornerLists.{AreParallel}
+use Rattle.timing_tests.proofs.corner_lists.expect_corners.Given as goal
+
+abbrev pub invariant-loop-corner : goal.invariant-loop-corner
+invariant-loop-corner g l = All (λ one. All (AreParallel one) l.lists) (take l.corner l.lists)
