@@ -19,6 +19,7 @@ use Rattle.cts_model.specs.declared.schedule.Lead.TheVariants.{Zero, Tight}
 use Rattle.cts_model.specs.declared.tech.Tech.{Tech}
 use Rattle.cts_model.specs.declared.tree.Merge.{Merge}
 use Rattle.cts_model.specs.declared.tree.Show.{Show}
+use Rattle.cts_model.specs.declared.tree.Topology.{Topology}
 use Rattle.cts_model.specs.declared.tree.Tree.{Tree}
 use Rattle.cts_model.specs.ConstraintPaths.{ArePathsOf, ArePathsWithin, GivesWeight}
 use Rattle.cts_model.specs.Constraints.{IsConstraintOf}
@@ -35,8 +36,7 @@ use Rattle.cts_model.proofs.ScaleLemmas.{size_same}
 use Rattle.cts_model.proofs.ShownTrees.{scaled-once}
 use Rattle.cts_model.proofs.TreeLemmas.{wires_are_left}
 use Rattle.place_down.specs.Trees.{IsPlacedTree, reach_in}
-use Rattle.cts_engine.specs.Syntheses.{IsReportOf, IsTimed, IsTree}
-use Rattle.cts_engine.proofs.TreeBounds.{greedy_topology}
+use Rattle.cts_engine.specs.Syntheses.{IsReportWith, IsTimed, IsTree}
 
 -- what holds of the value that is there, if any
 if_some : {X : Type 0} (found : Option X) {Holds : X → Type 0}
@@ -191,23 +191,21 @@ module _ {sinks : List Sink} {merges : List Merge} {source : Uv} {tree : Tree} {
 module _ {sinks : List Sink} {source : Uv} (report : Report) (made : IsTree sinks source
     report.topology.merges report.tree report.shows report.wires report.total) where
   is_shown_tree : IsShownTree sinks source report
-  is_shown_tree =
-      let topology = greedy_topology sinks report.topology.merges made.greedy in
-      record {
-        shape = λ node within. has_shape topology made.placed node;
-        long_enough = λ edge within parent is. made.placed.embedded.long_enough edge parent is;
-        drawn = λ edge within parent wire is here. made.drawn.drawn edge parent wire is here;
-        skewed = is_skewed topology made.placed;
-        reaches = λ node within. is_reach_shown topology made.placed node;
-        total = made.total_is;
-      }
+  is_shown_tree = record {
+    shape = λ node within. has_shape made.topology made.placed node;
+    long_enough = λ edge within parent is. made.placed.embedded.long_enough edge parent is;
+    drawn = λ edge within parent wire is here. made.drawn.drawn edge parent wire is here;
+    skewed = is_skewed made.topology made.placed;
+    reaches = λ node within. is_reach_shown made.topology made.placed node;
+    total = made.total_is;
+  }
 
 -- ---- reports
 
--- the report of a problem shows what it says
-pub report_is_shown : (problem : Problem) (report : Report) → IsReportOf problem report
-    → IsShown problem report
-report_is_shown problem report is = record {
+-- the report of a problem with a topology shows what it says
+pub report_is_shown : (problem : Problem) (topology : Topology) (report : Report)
+    → IsReportWith problem topology report → IsShown problem report
+report_is_shown problem topology report is = record {
   timing = is_shown_timing problem.circuit problem.tech report is.timed;
   tree = is_shown_tree report is.tree;
   least = λ second. is_shown_least problem.circuit problem.tech report is.timed;

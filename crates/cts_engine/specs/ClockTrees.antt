@@ -24,9 +24,10 @@ pub record IsMadeTree (sinks : List Sink) (merges : List Merge) (source : Uv) (t
   pub numbers : HasTreeNumbers tree
   pub lists : AreTreeLists (length sinks) tree
 
--- a report's tree over the sinks
-pub record IsClockTree (sinks : List Sink) (source : Uv) (made : ClockTree) : Type 0 where
-  pub tree : IsTree sinks source made.topology.merges made.tree made.shows made.wires made.total
+-- a topology's tree over the sinks, as a report has it
+pub record IsClockTree (sinks : List Sink) (merges : List Merge) (source : Uv)
+    (made : ClockTree) : Type 0 where
+  pub tree : IsTree sinks source merges made.tree made.shows made.wires made.total
   pub numbers : HasTreeNumbers made.tree
   pub lists : AreTreeLists (length sinks) made.tree
   pub wires : length made.wires + 1 ≡ 2 * length sinks

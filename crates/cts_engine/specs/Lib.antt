@@ -8,3 +8,4 @@ pub mod CyclePaths
 pub mod TreeParts
 pub mod ClockTrees
 pub mod RegisterTimes
+pub mod SinkOutcomes

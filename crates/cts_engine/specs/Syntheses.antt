@@ -11,6 +11,7 @@ use Rattle.cts_model.specs.declared.report.Version.TheVariants.{Second}
 use Rattle.cts_model.specs.declared.tech.Tech.{Tech}
 use Rattle.cts_model.specs.declared.tree.Merge.{Merge}
 use Rattle.cts_model.specs.declared.tree.Show.{Show}
+use Rattle.cts_model.specs.declared.tree.Topology.{Topology}
 use Rattle.cts_model.specs.declared.tree.Tree.{Tree}
 use Rattle.cts_model.specs.declared.tree.Wire.{Wire}
 use Rattle.cts_model.specs.ConstraintPaths.{ArePathsOf}
@@ -26,7 +27,7 @@ use Rattle.cts_model.specs.Schedules.{IsLeastSchedule}
 use Rattle.cts_model.specs.Shown.{sinks_in, source_in}
 use Rattle.cts_model.specs.SkewLaws.{IsLeastForSchedule}
 use Rattle.cts_model.specs.Slacks.{AreSlacks}
-use Rattle.cts_model.specs.Topologies.{IsParent}
+use Rattle.cts_model.specs.Topologies.{IsParent, IsTopology}
 use Rattle.cts_model.specs.WireDelays.{MeetsByWire}
 pub use Rattle.place_down.specs.Trees.{IsPlacedTree}
 use Rattle.wire_detours.specs.WirePoints.{ArePoints}
@@ -53,23 +54,24 @@ pub record AreDrawn (sinks : ℕ) (merges : List Merge) (tree : Embedding)
       → ArePoints (tree.place parent) (tree.place node) (tree.length node)
       (take wire.used wire.corners)
 
--- the greedy topology, embedded with the least wire
+-- the topology, embedded with the least wire
 pub record IsTree (sinks : List Sink) (source : Uv) (merges : List Merge) (tree : Tree)
     (shows : List Show) (wires : List Wire) (total : ℤ) : Type 0 where
-  pub greedy : IsGreedy sinks merges
+  pub topology : IsTopology (length sinks) merges
   pub placed : IsPlacedTree sinks merges source tree shows
   pub drawn : AreDrawn (length sinks) merges (embedding_of tree) wires
   pub total_is : total ≡ total_wire (length sinks) (embedding_of tree)
   pub least : IsLeastWire sinks merges source total
 
--- the report of a problem: the wire delays from the source differ by exactly the scheduled skews,
--- so that every path meets setup and hold, and no embedding of the topology with these skews has
--- less wire
-pub record IsReportOf (problem : Problem) (report : Report) : Type 0 where
+-- the report of a problem with a topology: the wire delays from the source differ by exactly the
+-- scheduled skews, so that every path meets setup and hold, and no embedding of the topology with
+-- these skews has less wire
+pub record IsReportWith (problem : Problem) (topology : Topology) (report : Report) : Type 0 where
   pub version : report.version ≡ Second
   pub size : IsOfSize problem.circuit report
   pub bounds : IsWithinBounds problem.tech report
   pub timed : IsTimed problem.circuit problem.tech report
+  pub given : report.topology ≡ topology
   pub tree : IsTree (sinks_in problem report) (source_in problem report) report.topology.merges
       report.tree report.shows report.wires report.total
   pub realises : RealisesSchedule 1 report.period problem.tech report.topology.merges
@@ -77,3 +79,8 @@ pub record IsReportOf (problem : Problem) (report : Report) : Type 0 where
   pub meets : MeetsByWire problem.circuit problem.tech report.period realises.wire
   pub least : IsLeastForSchedule report.period problem.tech problem.places.registers
       report.schedule report.topology.merges (source_in problem report) report.total
+
+-- the report of a problem with the greedy topology
+pub record IsReportOf (problem : Problem) (report : Report) : Type 0 where
+  pub made : IsReportWith problem report.topology report
+  pub greedy : IsGreedy (sinks_in problem report) report.topology.merges

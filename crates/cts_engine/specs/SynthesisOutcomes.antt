@@ -3,14 +3,20 @@
 use Rattle.cts_model.specs.declared.period.PeriodShow.{PeriodShow}
 use Rattle.cts_model.specs.declared.period.PeriodShow.TheVariants.{Cycle, Floor}
 use Rattle.cts_model.specs.declared.problem.Problem.{Problem}
+use Rattle.cts_model.specs.declared.tree.Topology.{Topology}
 use Rattle.cts_model.specs.LeastPeriods.{IsForbidding}
 use Rattle.cts_model.specs.Shown.{IsShown}
 use Rattle.critical_cycle.specs.CyclePlaces.{IsFromLowest}
 use Rattle.cts_engine.specs.declared.synthesis.Outcome.{Outcome}
 use Rattle.cts_engine.specs.declared.synthesis.Outcome.TheVariants.{Done, Never}
-use Rattle.cts_engine.specs.Syntheses.{IsReportOf}
+use Rattle.cts_engine.specs.Syntheses.{IsReportOf, IsReportWith}
 
--- the report of the problem, or a cycle of its circuit that forbids every period
+-- the report of the problem with a topology, or a cycle of its circuit that forbids every period
+abbrev pub IsOutcomeWith : Problem → Topology → Outcome → Type 0
+IsOutcomeWith problem topology (Done report) = IsReportWith problem topology report
+IsOutcomeWith problem topology (Never cycle) = IsForbidding problem.circuit problem.tech cycle
+
+-- the same with the greedy topology
 abbrev pub IsOutcome : Problem → Outcome → Type 0
 IsOutcome problem (Done report) = IsReportOf problem report
 IsOutcome problem (Never cycle) = IsForbidding problem.circuit problem.tech cycle

@@ -1,22 +1,21 @@
-ghost use Rattle.std.specs.Prelude.{◌≡◌, ◌↔◌, IfOk, IfErr};
+ghost use Rattle.std.specs.Prelude.{◌≡◌, ◌↔◌, IfOk, IfErr, length};
 ghost use Rattle.cts_model.specs.LeastPeriods.{HasNoPeriod};
 ghost use Rattle.cts_model.specs.PairLists.{JoinsMoreThan};
-ghost use Rattle.path_delays.specs.LevelParts.{IsLevelsOf};
+ghost use Rattle.cts_model.specs.Shown.{sinks_in};
+ghost use Rattle.cts_model.specs.Topologies.{IsTopology};
 ghost use Rattle.cts_engine.specs.Faults.{IsCaused};
-ghost use Rattle.cts_engine.specs.RegisterTimes.{HasLeastPeriod};
-ghost use Rattle.cts_engine.specs.Syntheses.{IsReportOf};
-ghost use Rattle.cts_engine.specs.SynthesisOutcomes.{BeginsLowest, IsNeverOutcome, IsOutcome, IsShownOutcome};
+ghost use Rattle.cts_engine.specs.SinkOutcomes.{AreTimedSinks};
+ghost use Rattle.cts_engine.specs.Syntheses.{IsReportWith};
+ghost use Rattle.cts_engine.specs.SynthesisOutcomes.{BeginsLowest, IsNeverOutcome, IsOutcome, IsOutcomeWith, IsShownOutcome};
 
 use crate::SynthFault;
-use crate::clock_tree::tree_for;
-use crate::pairs::levels_of;
-use crate::period::{PeriodOutcome, Timing, timing_of};
-use crate::sinks::grid_of;
-use crate::times::times_of;
-use cts_base::{Fraction, Listed, NoMemory};
-use cts_model::{Constraint, PeriodShow, Problem, Report, Version};
-use path_delays::Levels;
+use crate::clock_tree::tree_with;
+use crate::sink_times::{SinkOutcome, TimedSinks, timed_sinks};
+use crate::sinks::{grid_of, rotated_on_grid};
+use cts_base::{Listed, NoMemory};
+use cts_model::{Constraint, Problem, Report, Topology, Version};
 use std::alloc::Global;
+use topology::greedy;
 
 /// The clock tree of a problem.
 #[derive(Debug, Drop)]
@@ -39,39 +38,76 @@ pub fn synthesize(alloc: Global, problem: &Problem) -> Result<Outcome, SynthFaul
     ensures few { IfOk result (λ _. JoinsMoreThan problem.now.circuit 1048576 → ⊥) }
     ensures many { IfErr result (IsCaused problem.now.circuit) }
 {
-    let levels = levels_of(alloc, &problem.circuit)?;
-    let Timing {
-        constraints,
-        outcome,
-    } = timing_of(alloc, &problem.circuit, &levels, &problem.tech)?;
-    match outcome {
-        PeriodOutcome::Never { cycle } => Ok(Outcome::Never(cycle)),
-        PeriodOutcome::Found { period, shown, .. } => {
-            let report = report_at(alloc, problem, &levels, &constraints, period, shown)?;
+    match timed_sinks(alloc, problem)? {
+        SinkOutcome::Never(cycle) => Ok(Outcome::Never(cycle)),
+        SinkOutcome::Found(timed) => {
+            let topology = greedy(alloc, timed.sinks.as_slice())?;
+            let report = report_with(alloc, problem, timed, topology)?;
             Ok(Outcome::Done(report))
         }
     }
 }
 
-// The report of a problem at the least period of its circuit, which these constraints have.
-fn report_at(
+/// The clock tree of a problem with a given topology, whether or not another has less wire, with
+/// what shows that its period and its schedule are the least, and its wire the least for this
+/// topology.
+pub fn synthesize_with(
     alloc: Global,
     problem: &Problem,
-    levels: &Levels,
-    constraints: &Listed<Constraint>,
-    period: Fraction,
-    shown: PeriodShow,
-) -> Result<Report, NoMemory>
-    requires levels { IsLevelsOf problem.now.circuit levels.now }
-    requires period { HasLeastPeriod problem.now.circuit problem.now.tech constraints.now period
-        shown }
-    ensures ok { IfOk result (IsReportOf problem.now) }
-    ensures shown { IfOk result (λ report. report.shown ≡ shown) }
+    topology: &Topology,
+) -> Result<Outcome, SynthFault>
+    requires { IsTopology (length problem.now.circuit.registers) topology.now.merges }
+    ensures ok { IfOk result (IsOutcomeWith problem.now topology.now) }
+    ensures shown { IfOk result (IsShownOutcome problem.now) }
+    ensures lowest { IfOk result BeginsLowest }
+    ensures never { IfOk result (λ outcome.
+        IsNeverOutcome outcome ↔ HasNoPeriod problem.now.circuit problem.now.tech) }
+    ensures few { IfOk result (λ _. JoinsMoreThan problem.now.circuit 1048576 → ⊥) }
+    ensures many { IfErr result (IsCaused problem.now.circuit) }
 {
-    let circuit = &problem.circuit;
+    match timed_sinks(alloc, problem)? {
+        SinkOutcome::Never(cycle) => Ok(Outcome::Never(cycle)),
+        SinkOutcome::Found(timed) => {
+            let topology = copied(alloc, topology)?;
+            let report = report_with(alloc, problem, timed, topology)?;
+            Ok(Outcome::Done(report))
+        }
+    }
+}
+
+// The same topology once more.
+fn copied(alloc: Global, topology: &Topology) -> Result<Topology, NoMemory>
+    ensures { IfOk result (λ copy. copy ≡ topology.now) }
+{
+    let mut merges = Vec::new(alloc);
+    merges.extend_from_slice(topology.merges.as_slice())?;
+    Ok(Topology {
+        merges: Listed::from_vec(merges),
+    })
+}
+
+// The report of a problem with a topology over its sinks.
+fn report_with(
+    alloc: Global,
+    problem: &Problem,
+    timed: TimedSinks,
+    topology: Topology,
+) -> Result<Report, NoMemory>
+    requires timed { AreTimedSinks problem.now timed }
+    requires topology { IsTopology (length timed.sinks) topology.merges }
+    ensures ok { IfOk result (IsReportWith problem.now topology) }
+    ensures shown { IfOk result (λ report. report.shown ≡ timed.shown) }
+    ensures sinks { IfOk result (λ report. sinks_in problem.now report ≡ timed.sinks) }
+{
+    let TimedSinks {
+        period,
+        shown,
+        times,
+        sinks,
+    } = timed;
     let tech = &problem.tech;
-    let times = times_of(alloc, circuit, levels, tech, constraints, period, &shown)?;
-    let tree = tree_for(alloc, problem, period, &times.schedule)?;
+    let source = rotated_on_grid(period, tech, problem.places.source);
+    let tree = tree_with(alloc, sinks.as_slice(), &topology, source)?;
     Ok(Report {
         version: Version::Second,
         period,
@@ -81,7 +117,7 @@ fn report_at(
         slacks: times.slacks,
         leads: times.leads,
         grid: grid_of(period, tech),
-        topology: tree.topology,
+        topology,
         tree: tree.tree,
         shows: tree.shows,
         wires: tree.wires,

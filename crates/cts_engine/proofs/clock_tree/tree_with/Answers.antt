@@ -5,34 +5,23 @@ use Rattle.cts_model.specs.Embeddings.{Embedding, IsLeastWire, embedding_of, tot
 use Rattle.cts_model.specs.Topologies.{source_of}
 use Rattle.cts_model.proofs.TreeLemmas.{shown_reaches_are_least}
 use Rattle.place_down.specs.Trees.{reach_in}
-use Rattle.cts_engine.proofs.TreeBounds.{are_shown, can_draw, greedy_topology, lengths_small}
+use Rattle.cts_engine.proofs.TreeBounds.{are_shown, can_draw, lengths_small}
 use Rattle.cts_model.proofs.TotalLemmas.{total_within}
-use Rattle.cts_engine.proofs.clock_tree.tree_over.Goals as goal
-
-pub placed-requires-clause-topology : goal.placed-requires-clause-topology
-placed-requires-clause-topology c = greedy_topology c.args.sinks.now
-    c.in_ok-topology.topology.merges c.in_ok-topology.ensures.greedy
-
-pub wires_of-requires-clause-topology : goal.wires_of-requires-clause-topology
-wires_of-requires-clause-topology c = greedy_topology c.args.sinks.now
-    c.in_ok-topology.topology.merges c.in_ok-topology.ensures.greedy
+use Rattle.cts_engine.proofs.clock_tree.tree_with.Goals as goal
 
 pub wires_of-requires-clause-tree : goal.wires_of-requires-clause-tree
 wires_of-requires-clause-tree c =
-    let topology = greedy_topology c.args.sinks.now c.in_ok-topology.topology.merges
-    c.in_ok-topology.ensures.greedy in
     let is = c.in_ok-tree.ensures in
-    can_draw topology c.requires.sinks.few c.in_ok-tree.tree is.lists is.numbers
+    can_draw c.requires.topology c.requires.sinks.few c.in_ok-tree.tree is.lists is.numbers
     is.placed.embedded.long_enough
 
 pub returns : goal.returns
 returns c =
     let sinks = c.args.sinks.now in
-    let merges = c.in_ok-topology.topology.merges in
+    let merges = c.args.topology.now.merges in
     let tree = c.in_ok-tree.tree in
     let embedding : Embedding = embedding_of tree in
     let is = c.in_ok-tree.ensures in
-    let topology = greedy_topology sinks merges c.in_ok-topology.ensures.greedy in
     let few = c.requires.sinks.few in
     let count : length tree.length ≡ source_of (length sinks) = omega (arith, is.lists.lengths) in
     let sum = total_within embedding.length (length tree.length)
@@ -48,13 +37,13 @@ returns c =
     read ∙ value ∙ ap (total_length embedding.length) count in
     record {
       tree = record {
-        greedy = c.in_ok-topology.ensures.greedy;
+        topology = c.requires.topology;
         placed = is.placed;
         drawn = c.in_ok-wires.ensures.drawn;
         total_is = total;
         least = subst (IsLeastWire sinks merges c.args.source) (sym total)
-            (shown_reaches_are_least sinks merges c.args.source embedding (reach_in tree) topology
-            (are_shown is.placed.shown) is.placed.reaches);
+            (shown_reaches_are_least sinks merges c.args.source embedding (reach_in tree)
+            c.requires.topology (are_shown is.placed.shown) is.placed.reaches);
       };
       numbers = is.numbers;
       lists = is.lists;

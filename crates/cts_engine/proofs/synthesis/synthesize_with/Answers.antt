@@ -1,0 +1,12 @@
+use Rattle.cts_engine.specs.declared.period.PeriodOutcome.TheVariants.{Never}
+use Rattle.cts_engine.proofs.OutcomeLemmas.{never_exactly}
+use Rattle.cts_engine.proofs.ShownReports.{report_is_shown}
+use Rattle.cts_engine.proofs.synthesis.synthesize_with.Goals as goal
+
+pub returns-in_ok-report-in-Found-clause-shown : goal.returns-in_ok-report-in-Found-clause-shown
+returns-in_ok-report-in-Found-clause-shown c = report_is_shown c.args.problem.now _ _
+    c.in_ok-report-in-Found.ensures.ok
+
+pub returns-in-Never-clause-never : goal.returns-in-Never-clause-never
+returns-in-Never-clause-never c = never_exactly c.args.problem.now.circuit
+    c.args.problem.now.tech (Never c.in-Never.cycle) (rw c.in-Never.is at c.in_ok-cycle.ensures.ok)
