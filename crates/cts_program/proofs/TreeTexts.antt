@@ -11,29 +11,29 @@ use Rattle.cts_engine.specs.SynthesisOutcomes.{ShowsFromLowest}
 use Rattle.cts_program.specs.DemoTexts.{summary_lines, IsSummaryText}
 use Rattle.cts_program.specs.Headline.{IsSynthesisText}
 
-module _ (problem : Problem) (report : Report) (made : IsReportOf problem report)
+module _ (problem : Problem) (report : Report) (is : IsReportOf problem report)
     (lowest : ShowsFromLowest report.shown) where
   -- the lines of a report of the problem spell a clock tree for it
   pub tree_spelled : (text : List ℕ) → text ≡ text_of (report_lines problem.circuit report)
       → IsSynthesisText problem text
   tree_spelled text spelled = record {
     report = report;
-    spelled = record { size = made.size; bounds = made.bounds; lines = spelled };
-    version = made.version;
-    least_period = made.timed.period;
-    shown = made.timed.shown;
+    spelled = record { size = is.made.size; bounds = is.made.bounds; lines = spelled };
+    version = is.made.version;
+    least_period = is.made.timed.period;
+    shown = is.made.timed.shown;
     lowest = lowest;
-    paths = made.timed.paths;
-    least_schedule = made.timed.schedule;
-    leads = made.timed.leads;
-    slacks = made.timed.slacks;
-    realises = made.realises;
-    meets = made.meets;
-    least_wire = made.least;
-    placed = made.tree.placed;
-    greedy = made.tree.greedy;
-    drawn = made.tree.drawn;
-    total = made.tree.total_is;
+    paths = is.made.timed.paths;
+    least_schedule = is.made.timed.schedule;
+    leads = is.made.timed.leads;
+    slacks = is.made.timed.slacks;
+    realises = is.made.realises;
+    meets = is.made.meets;
+    least_wire = is.made.least;
+    placed = is.made.tree.placed;
+    greedy = is.greedy;
+    drawn = is.made.tree.drawn;
+    total = is.made.tree.total_is;
   }
 
   -- so the summary of a report that the checker shows is one of that tree

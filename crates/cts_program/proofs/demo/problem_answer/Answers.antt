@@ -3,7 +3,7 @@ use Rattle.cts_program.proofs.demo.problem_answer.Goals as goal
 
 pub summary-requires : goal.summary-requires
 summary-requires c =
-    (c.args.problem.now.tech, (rw c.in-Done.is at c.in_ok-report.ensures.ok).bounds)
+    (c.args.problem.now.tech, (rw c.in-Done.is at c.in_ok-report.ensures.ok).made.bounds)
 
 pub never-requires : goal.never-requires
 never-requires c =

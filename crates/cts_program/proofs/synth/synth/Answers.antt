@@ -3,7 +3,7 @@ use Rattle.cts_program.proofs.synth.synth.Goals as goal
 
 pub write_report-requires-clause-bounds : goal.write_report-requires-clause-bounds
 write_report-requires-clause-bounds c =
-    (c.args.problem.now.tech, (rw c.in-Done.is at c.in_ok-report.ensures.ok).bounds)
+    (c.args.problem.now.tech, (rw c.in-Done.is at c.in_ok-report.ensures.ok).made.bounds)
 
 pub never-requires : goal.never-requires
 never-requires c =
