@@ -19,7 +19,7 @@ pub include-requires-clause-constraints : goal.include-requires-clause-constrain
 include-requires-clause-constraints c =
     let lists = c.as_slice-lists.result.now in
     let corner = c.loop-corner.corner in
-    let within = c.loop-corner-test.true in
+    let within : corner < length lists = omega (arith, c.loop-corner-test.true) in
     let some = c.loop-corner.auto.corner in
     let taken = length-take-le corner lists (omega (arith, within)) in
     let place = c.index-lists-corner.result in
@@ -41,7 +41,7 @@ loop-corner-preserved c =
     let place = c.index-lists-corner.result in
     let next : c.as_slice-in-loop-corner.result.now ≡ get_or lists corner place =
     c.as_slice-in-loop-corner.ensures ∙ c.index-lists-corner.is in
-    rw (take_more lists corner c.index-lists-corner.result c.loop-corner-test.true, ← next)
+    rw (take_more lists corner place (omega (arith, c.loop-corner-test.true)), ← next)
     (c.include.ensures (take corner lists)
     (length-take-le corner lists (omega (arith, c.loop-corner-test.true)))
     c.loop-corner.invariant)
