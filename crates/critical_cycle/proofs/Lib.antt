@@ -8,7 +8,7 @@ mod ClimbLemmas
 mod SettleLemmas
 mod PrepareLemmas
 mod Climbs
-mod PlaceLemmas
+pub mod PlaceLemmas
 mod Turns
 mod RoundWalk
 mod SumLemmas

@@ -1,4 +1,5 @@
--- What the sums of a cycle say of a ratio that is tried: whether it is enough, and the greater value.
+-- What the sums of a cycle say of a ratio that is tried: whether it is enough, and the greater
+-- value.
 use Rattle.std.proofs.Common.{ℕ, ◌≡◌, ◌≤◌, ◌+◌, ◌*◌, ℤ, pos, negsuc, neg_ℤ, ◌*ℤ◌, ◌≤ℤ◌, ◌<ℤ◌, List, refl, ap, arith, zero, suc, of_z}
 use mir.Syntax.{w128}
 use Rattle.std.specs.Prelude.{nat_abs}

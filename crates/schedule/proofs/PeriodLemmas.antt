@@ -41,7 +41,8 @@ module _ {period : Fraction} {gains : Gains} (are : AreGainsOf period gains)
 
   -- the gain of a constraint at the period
   gain_is : (it : Constraint)
-      → gain_of gains it ≡ (pos (nat_abs period.den) *ℤ it.weight) -ℤ cond it.setup period.num (pos 0)
+      → gain_of gains it ≡ (pos (nat_abs period.den) *ℤ it.weight)
+      -ℤ cond it.setup period.num (pos 0)
   gain_is it = rw (are.scale_is, are.setup_is, are.hold_is, scale_is) refl
 
   -- what satisfies the constraints at a finer scale does so by the gains
@@ -52,7 +53,8 @@ module _ {period : Fraction} {gains : Gains} (are : AreGainsOf period gains)
       let it : Constraint = get_or constraints place default in
       let asked : ℤ = pos (nat_abs period.den) *ℤ it.weight in
       let due : ℤ = cond it.setup period.num (pos 0) in
-      let met : (arrival it.tail +ℤ (pos times *ℤ asked)) ≤ℤ (arrival it.head +ℤ (pos times *ℤ due)) =
+      let met : (arrival it.tail +ℤ (pos times *ℤ asked))
+      ≤ℤ (arrival it.head +ℤ (pos times *ℤ due)) =
       subst (λ z. (arrival it.tail +ℤ z) ≤ℤ (arrival it.head +ℤ (pos times *ℤ due)))
       (scale-finer (nat_abs period.den) times it.weight)
       (subst (λ z. (arrival it.tail +ℤ (pos (nat_abs period.den * times) *ℤ it.weight))

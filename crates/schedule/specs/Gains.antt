@@ -1,5 +1,5 @@
--- Arrivals that satisfy constraints by their gains, and the least of them. Cormen, Leiserson, Rivest
--- and Stein, "Introduction to Algorithms", 2001, section 24.4.
+-- Arrivals that satisfy constraints by their gains, and the least of them. Cormen, Leiserson,
+-- Rivest and Stein, "Introduction to Algorithms", 2001, section 24.4.
 use Rattle.std.specs.Prelude.{◌≡◌, ◌<◌, ◌≤◌, ℕ, ℤ, pos, ◌+ℤ◌, ◌-ℤ◌, ◌*ℤ◌, ◌≤ℤ◌, if◌then◌else◌, List, All, length}
 use Rattle.cts_base.specs.declared.fraction.Fraction.{Fraction}
 use Rattle.cts_model.specs.declared.constraint.Constraint.{Constraint}

@@ -14,7 +14,8 @@ returns-clause-settled c =
     let before = c.args.self.now in
     outcome _ _ _ _ c.settle.result
     (λ satisfies. settled_at before.measure c.args.constraints.now before.first before.shown
-    c.in_ok-ratio.ratio c.trial-trial.result c.settle.new.self c.in_ok-ratio.ensures c.trial-trial.ensures
+    c.in_ok-ratio.ratio c.trial-trial.result
+    c.settle.new.self c.in_ok-ratio.ensures c.trial-trial.ensures
     satisfies)
     (λ register far. record {
       far_up = far;

@@ -1,0 +1,5 @@
+mod CodeLemmas
+mod SparedCycles
+mod RatioLemmas
+mod MarginLemmas
+mod SharingLemmas

@@ -1,0 +1,72 @@
+-- What the greatest ratio says of the margin.
+use Rattle.std.proofs.Common.{List, ℕ, All, Contains}
+use Rattle.std.proofs.lemmas.List.Elements.{All-contains_itself}
+use Rattle.cts_model.specs.declared.constraint.Constraint.{Constraint}
+use Rattle.critical_cycle.specs.CyclePlaces.{AreWithin, constraints_at}
+use Rattle.critical_cycle.proofs.PlaceLemmas.{All-constraints_at}
+use Rattle.safety_margin.proofs.MarginLemmas.{can_spare, margin_small, no_more, shows_margin}
+use Rattle.safety_margin.proofs.RatioLemmas.{below_can_try, no_cycle}
+use Rattle.safety_margin.proofs.margin.margin_in.Goals as goal
+
+-- the constraints at places are constraints of the list
+among : (constraints : List Constraint) (cycle : List ℕ) → AreWithin constraints cycle
+    → All (Contains constraints) (constraints_at constraints cycle)
+among constraints cycle within =
+    All-constraints_at (Contains constraints) constraints cycle (All-contains_itself constraints)
+    within
+
+pub greatest_ratio_in-requires-clause-first : goal.greatest_ratio_in-requires-clause-first
+greatest_ratio_in-requires-clause-first c =
+    below_can_try c.args.period c.below_all.result c.measure_at-measure.result c.requires.period
+    c.measure_at-measure.ensures c.below_all.ensures
+
+pub sparing_schedule-schedule-requires-clause-value :
+    goal.sparing_schedule-schedule-requires-clause-value
+sparing_schedule-schedule-requires-clause-value c =
+    margin_small c.args.period c.in-Cycle.ratio c.margin_at-value.result c.requires.period
+    (rw (c.measure_at-measure.ensures.scale_is, c.measure_at-measure.ensures.period_is) at
+    c.in-Cycle.ensures.ratio.small) c.margin_at-value.ensures
+
+pub sparing_schedule-schedule-requires-clause-spared :
+    goal.sparing_schedule-schedule-requires-clause-spared
+sparing_schedule-schedule-requires-clause-spared c =
+    can_spare c.measure_at-measure.ensures c.margin_at-value.ensures c.args.constraints.now
+    c.in-Cycle.ensures.ratio.satisfied
+
+pub returns-in-Cycle-clause-margin : goal.returns-in-Cycle-clause-margin
+returns-in-Cycle-clause-margin c =
+    let found = c.in-Cycle.ensures.ratio in
+    let constraints = c.args.constraints.now in
+    let steps = constraints_at constraints c.in-Cycle.cycle in
+    record {
+      greatest = no_more c.measure_at-measure.ensures c.margin_at-value.ensures constraints steps
+          (among constraints c.in-Cycle.cycle found.within) found.shows;
+      within = found.within;
+      shows = shows_margin c.measure_at-measure.ensures c.margin_at-value.ensures steps
+          found.shows;
+      lowest = found.lowest;
+      spared = c.sparing_schedule-schedule.ensures;
+    }
+
+pub returns-in-Cycle-clause-unbounded : goal.returns-in-Cycle-clause-unbounded
+returns-in-Cycle-clause-unbounded c =
+    let found = c.in-Cycle.ensures.ratio in
+    let constraints = c.args.constraints.now in (
+      λ unbounded. absurd unbounded,
+      λ none. none (constraints_at constraints c.in-Cycle.cycle)
+          (among constraints c.in-Cycle.cycle found.within) found.shows.is_cycle,
+    )
+
+pub returns-in-First-clause-margin : goal.returns-in-First-clause-margin
+returns-in-First-clause-margin c =
+    no_cycle _ c.args.constraints.now c.args.period c.below_all.result c.measure_at-measure.result
+    c.requires.small c.requires.period c.measure_at-measure.ensures c.below_all.ensures
+    c.in-First.ensures.ratio
+
+pub returns-in-First-clause-unbounded : goal.returns-in-First-clause-unbounded
+returns-in-First-clause-unbounded c = (
+  λ unbounded. no_cycle _ c.args.constraints.now c.args.period c.below_all.result
+      c.measure_at-measure.result c.requires.small c.requires.period
+      c.measure_at-measure.ensures c.below_all.ensures c.in-First.ensures.ratio,
+  λ none. tt,
+)

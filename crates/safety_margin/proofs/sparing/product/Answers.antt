@@ -1,0 +1,13 @@
+-- The product is small, so the code's is the same.
+use Rattle.std.proofs.Common.{◌^◌, subst, sym}
+use Rattle.cts_model.specs.Points.{IsBelow}
+use Rattle.safety_margin.proofs.CodeLemmas.{product_read, product_small}
+use Rattle.safety_margin.proofs.sparing.product.Goals as goal
+
+pub returns-clause-value : goal.returns-clause-value
+returns-clause-value c = product_read c.args.a c.args.b c.requires.a c.requires.b
+
+pub returns-clause-small : goal.returns-clause-small
+returns-clause-small c = subst (IsBelow (2 ^ 105))
+    (sym (product_read c.args.a c.args.b c.requires.a c.requires.b))
+    (product_small c.args.a c.args.b c.requires.a c.requires.b)

@@ -1,0 +1,5 @@
+pub mod Margins
+pub mod SparingSchedules
+pub mod RatioMargins
+pub mod Sharing
+pub mod Answers

@@ -1,0 +1,95 @@
+ghost use Rattle.std.specs.Prelude.{◌≡◌, ◌↔◌, IfOk, length};
+ghost use Rattle.cts_model.specs.Constraints.{AreSmallConstraints};
+ghost use Rattle.safety_margin.specs.Answers.{IsMarginOf, IsUnbounded};
+ghost use Rattle.safety_margin.specs.Margins.{HasNoCycle};
+ghost use Rattle.safety_margin.specs.RatioMargins.{IsMarginPeriod};
+
+use crate::ratio::{below_all, margin_at, measure_at};
+use crate::sparing::sparing_schedule;
+use critical_cycle::{Ratio, greatest_ratio_in};
+use cts_base::{Fraction, Listed, NoMemory};
+use cts_model::{Constraint, Schedule};
+use std::alloc::Global;
+
+/// What every setup and hold constraint has to spare at a period.
+#[derive(Debug, Drop)]
+pub enum Margin {
+    /// The greatest margin that some arrivals spare.
+    Found {
+        /// In ticks. It may be negative.
+        value: Fraction,
+        /// The places in the list of the constraints of a cycle that spares no more, in the order
+        /// in which they lead, from the one with the lowest tail on.
+        cycle: Listed<u32>,
+        /// The least arrivals that spare it, over the least common multiple of the denominators of
+        /// the period and the value.
+        schedule: Schedule,
+    },
+    /// Every margin is spared by some arrivals, as the constraints have no cycle.
+    Unbounded,
+}
+
+/// The greatest margin at a period in ticks that some arrivals spare, the cycle that shows it, and
+/// the least schedule that spares it. It takes memory for each register: three numbers for the
+/// search, of which one becomes the cycle, and one for the schedule. Fishburn, "Clock Skew
+/// Optimization", 1990.
+pub fn greatest_margin(
+    alloc: Global,
+    registers: usize,
+    constraints: &Listed<Constraint>,
+    period: Fraction,
+) -> Result<Margin, NoMemory>
+    requires small { AreSmallConstraints registers constraints.now }
+    requires period { IsMarginPeriod period }
+    ensures margin { IfOk result (IsMarginOf registers constraints.now period) }
+    ensures unbounded { IfOk result (λ margin. IsUnbounded margin ↔ HasNoCycle constraints.now) }
+{
+    let values = Listed::from_vec(vec![in alloc; 0i128; registers]?);
+    let parents = Listed::from_vec(vec![in alloc; 0u32; registers]?);
+    let cycle = Listed::from_vec(vec![in alloc; 0u32; registers]?);
+    let at = Listed::from_vec(vec![in alloc; 0i128; registers]?);
+    Ok(margin_in(values, parents, cycle, at, constraints, period))
+}
+
+// The same in lists with an entry for each register.
+fn margin_in(
+    values: Listed<i128>,
+    parents: Listed<u32>,
+    cycle: Listed<u32>,
+    at: Listed<i128>,
+    constraints: &Listed<Constraint>,
+    period: Fraction,
+) -> Margin
+    requires small { AreSmallConstraints (length at) constraints.now }
+    requires values { length values ≡ length at }
+    requires parents { length parents ≡ length at }
+    requires cycle { length cycle ≡ length at }
+    requires period { IsMarginPeriod period }
+    ensures margin { IsMarginOf (length at) constraints.now period result }
+    ensures unbounded { IsUnbounded result ↔ HasNoCycle constraints.now }
+{
+    let measure = measure_at(period);
+    match greatest_ratio_in(
+        values,
+        parents,
+        cycle,
+        constraints,
+        measure,
+        below_all(period),
+    ) {
+        Ratio::Cycle {
+            value: ratio,
+            cycle,
+        } => {
+            let value = margin_at(period, ratio);
+            let schedule = sparing_schedule(at, constraints, period, value);
+            Margin::Found {
+                value,
+                cycle,
+                schedule,
+            }
+        }
+        Ratio::First => Margin::Unbounded,
+        Ratio::Never { .. } => unreachable!(),
+    }
+}

@@ -1,0 +1,66 @@
+ghost use Rattle.std.specs.Prelude.{◌≡◌, ◌^◌, ◌*ℤ◌, length};
+ghost use Rattle.cts_model.specs.Constraints.{AreSmallConstraints};
+ghost use Rattle.cts_model.specs.Points.{IsBelow};
+ghost use Rattle.safety_margin.specs.RatioMargins.{IsMarginPeriod};
+ghost use Rattle.safety_margin.specs.Sharing.{AreGainsAt, CanSpare, IsShare, IsSmallMargin};
+ghost use Rattle.safety_margin.specs.SparingSchedules.{IsSparingSchedule};
+
+use cts_base::{Fraction, Listed};
+use cts_model::{Constraint, Schedule};
+use schedule::{Gains, least_arrivals_in};
+
+/// The least schedule that spares a margin at a period. The list has an entry for each register; it
+/// becomes the schedule's, and no other memory is taken.
+pub(crate) fn sparing_schedule(
+    at: Listed<i128>,
+    constraints: &Listed<Constraint>,
+    period: Fraction,
+    value: Fraction,
+) -> Schedule
+    requires small { AreSmallConstraints (length at) constraints.now }
+    requires period { IsMarginPeriod period }
+    requires value { IsSmallMargin value }
+    requires spared { CanSpare constraints.now period value }
+    ensures { IsSparingSchedule (length at) constraints.now period value result }
+{
+    let gains = gains_at(period, value, share_of(period, value));
+    Schedule {
+        den: gains.scale,
+        at: least_arrivals_in(at, constraints, gains),
+    }
+}
+
+// The denominator of a period over that of a value, in lowest terms: its parts are what the other
+// denominator takes to become the least common multiple.
+fn share_of(period: Fraction, value: Fraction) -> Fraction
+    requires period { IsMarginPeriod period }
+    requires value { IsSmallMargin value }
+    ensures { IsShare period value result }
+{
+    Fraction::of(period.den(), value.den())
+}
+
+// The gains that constraints have at a period where each is to spare a value.
+fn gains_at(period: Fraction, value: Fraction, share: Fraction) -> Gains
+    requires period { IsMarginPeriod period }
+    requires value { IsSmallMargin value }
+    requires share { IsShare period value share }
+    ensures { AreGainsAt period value share result }
+{
+    let spared = product(value.num(), share.num());
+    Gains {
+        scale: product(period.den(), share.den()),
+        setup: product(period.num(), share.den()) - spared,
+        hold: -spared,
+    }
+}
+
+/// The product of two numbers.
+pub(crate) fn product(a: i128, b: i128) -> i128
+    requires a { IsBelow (2 ^ 64) a }
+    requires b { IsBelow (2 ^ 40) b }
+    ensures value { result ≡ a *ℤ b }
+    ensures small { IsBelow (2 ^ 105) result }
+{
+    a * b
+}
