@@ -11,6 +11,7 @@ mod TreeBounds
 mod SinkLemmas
 mod ReportLemmas
 mod ShownReports
+mod SessionLemmas
 pub mod ProblemLemmas
 pub mod HostedLoops
 mod OnePlaces

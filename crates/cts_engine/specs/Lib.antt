@@ -9,3 +9,4 @@ pub mod TreeParts
 pub mod ClockTrees
 pub mod RegisterTimes
 pub mod SinkOutcomes
+pub mod SessionOutcomes

@@ -68,8 +68,8 @@ pub fn synthesize_with(
     match timed_sinks(alloc, problem)? {
         SinkOutcome::Never(cycle) => Ok(Outcome::Never(cycle)),
         SinkOutcome::Found(timed) => {
-            let topology = copied(alloc, topology)?;
-            let report = report_with(alloc, problem, timed, topology)?;
+            let given = copied(alloc, topology)?;
+            let report = report_with(alloc, problem, timed, given)?;
             Ok(Outcome::Done(report))
         }
     }
