@@ -10,6 +10,8 @@ mod rect_tests;
 #[cfg(test)]
 mod same;
 #[cfg(test)]
+mod session_tests;
+#[cfg(test)]
 mod topology_tests;
 #[cfg(test)]
 mod trees;
