@@ -1,12 +1,13 @@
 #!/usr/bin/env python3
-"""Follows each definition that the promise of `synth` rests on, from file to file, and fails where docs/DEFINITIONS.md
-doesn't name one. definitions.py [CRATE FILE NAME]: from another definition."""
+"""Follows each definition that the promises of `synth` and `embed` rest on, from file to file, and fails where
+docs/DEFINITIONS.md doesn't name one. definitions.py [CRATE FILE NAME]: from another definition."""
 import glob
 import os
 import re
 import sys
 
 ROOT = os.path.dirname(os.path.dirname(os.path.abspath(__file__)))
+PROMISES = [("cts_program", "Headline", "IsSynthesisText"), ("cts_program", "TopologyFiles", "IsEmbeddedBy")]
 HEAD = re.compile(r"(?:abbrev|unfoldable)? ?pub (?:record |data )?([^\s({:]+)")
 NAME = re.compile(r"[A-Za-z_][\w'-]*(?:\.[A-Za-z_][\w'-]*)?")
 
@@ -45,9 +46,8 @@ def cited(texts, imports, definition):
 
 
 def main():
-    start = tuple(sys.argv[1:4]) or ("cts_program", "Headline", "IsSynthesisText")
     texts, imports = read_specs()
-    passed, left = set(), [start]
+    passed, left = set(), [tuple(sys.argv[1:4])] if sys.argv[1:] else list(PROMISES)
     while left:
         definition = left.pop()
         if definition not in passed:

@@ -241,14 +241,33 @@ expect 'a ring in a mixed order' 0 "$(cycle | sort)" '' sorted "$work/mixed.benc
 row() { printf 'INPUT(x)\n'; seq 0 4095 | awk '{ print "r" $1 " = DFF(x)" }'; }
 row_places() { seq 0 4095 | awk '{ print "r" $1 " " $1 " 0" }'; printf 'CLK 0 0\n'; }
 pairs() { seq 0 4094 | awk '{ print 4096 + $1, 2 * $1, 2 * $1 + 1 }'; }
-merges() {
-    "$top/cts" synth --bench "$1" --tech "$work/row.toml" --pl "$2" | awk '$1 == "merges" { on = 1; next }
-        $1 == "source" { on = 0 } on { print $1, $2, $3 }'
-}
+# The merges of a report, as a topology file.
+topology() { awk 'NF == 2 && $1 == "merges" { left = $2; next } left-- > 0 { print $1, $2, $3 }'; }
+merges() { "$top/cts" synth --bench "$1" --tech "$work/row.toml" --pl "$2" | topology; }
+embed() { "$top/cts" embed --bench "$1" --tech "$2" --pl "$3" --topology "$4"; }
 registers 0 0 0 0 >"$work/row.toml"
 row >"$work/row.bench"
 row_places >"$work/row.pl"
 expect 'a row of registers' 0 "$(pairs)" '' merges "$work/row.bench" "$work/row.pl"
+
+# A topology that was printed is handed back, and one in which each register joins those before it.
+"$top/cts" synth --bench "$s27" --tech "$table" --pl "$places" | topology >"$work/s27.topology"
+expect 'the topology of s27' 0 "$tree" '' embed "$s27" "$table" "$places" "$work/s27.topology"
+handed_back() {
+    "$top/cts" synth --bench "$work/row.bench" --tech "$work/row.toml" --pl "$work/row.pl" >"$work/row.cts"
+    topology <"$work/row.cts" >"$work/row.topology"
+    embed "$work/row.bench" "$work/row.toml" "$work/row.pl" "$work/row.topology" | cmp - "$work/row.cts"
+}
+expect 'the topology of a row' 0 '' '' handed_back
+chain() { seq 1 4095 | awk '{ print 4095 + $1, $1, $1 == 1 ? 0 : 4094 + $1 }'; }
+chain >"$work/chain.topology"
+chained() { embed "$work/row.bench" "$work/row.toml" "$work/row.pl" "$work/chain.topology" | grep -E '^(8190|source|wire) '; }
+# The last merge reaches half of the row. Each register adds its half of the way from the first.
+expect 'a chain of registers' 0 "$(printf '%s\n' '8190 4095 8189 4095/2 pair r0 r4095' 'source 4095 sink r4095' \
+    'wire 4197375')" '' chained
+"$top/cts" synth --bench "$s27" --tech "$table" --pl "$places" >"$work/s27.cts"
+expect 'a report as a topology' 3 '' 'refused topology 1 line 1' embed "$s27" "$table" "$places" "$work/s27.cts"
+expect 'no topology' 4 '' 'read fault topology' embed "$s27" "$table" "$places" "$work/none"
 { cat "$work/row.pl"; head -c 16777216 /dev/zero | tr '\0' '#'; } >"$work/long.pl"
 expect 'a placement that is too long' 3 '' 'refused pl long' \
     "$top/cts" synth --bench "$work/row.bench" --tech "$work/row.toml" --pl "$work/long.pl"
@@ -263,7 +282,7 @@ expect 'a table of one byte more' 3 '' 'refused tech long' "$top/cts" zero --ben
 # Words that mean no command. No file is read.
 usage='usage: cts zero --bench F [--tech F] | cts period --bench F --tech F | cts schedule --bench F --tech F'
 usage+=' | cts synth --bench F --tech F --pl F | cts check --bench F --tech F --pl F --report F'
-usage+=' | cts demo --registers N --seed S'
+usage+=' | cts demo --registers N --seed S | cts embed --bench F --tech F --pl F --topology F'
 expect 'no words' 2 '' "$usage" "$top/cts"
 expect 'the name last' 2 '' "$usage" "$top/cts" --tech F --bench F zero
 expect 'an option twice' 2 '' "$usage" "$top/cts" zero --bench F --tech F --tech F
@@ -273,6 +292,7 @@ expect 'a period without a table' 2 '' "$usage" "$top/cts" period --bench F
 expect 'one word for both' 2 '' "$usage" "$top/cts" zero --bench=F
 expect 'an end of options' 2 '' "$usage" "$top/cts" zero --bench F --
 expect 'a check without a report' 2 '' "$usage" "$top/cts" check --bench F --tech F --pl F
+expect 'an embedding without a topology' 2 '' "$usage" "$top/cts" embed --bench F --tech F --pl F
 expect 'too few registers' 2 '' "$usage" "$top/cts" demo --registers 1 --seed 0
 expect 'too many registers' 2 '' "$usage" "$top/cts" demo --registers 1001 --seed 0
 expect 'too large a seed' 2 '' "$usage" "$top/cts" demo --registers 2 --seed 1000

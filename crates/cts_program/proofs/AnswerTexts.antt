@@ -7,6 +7,7 @@ use Rattle.cts_model.specs.declared.constraint.Constraint.{Constraint}
 use Rattle.cts_model.specs.declared.problem.Problem.{Problem}
 use Rattle.cts_model.specs.declared.report.Version.TheVariants.{First, Second}
 use Rattle.cts_model.specs.declared.tech.Tech.{Tech}
+use Rattle.cts_model.specs.declared.tree.Topology.{Topology}
 use Rattle.cts_model.specs.LeastPeriods.{HasNoPeriod, IsForbidding, IsLeastFraction}
 use Rattle.cts_model.specs.PrintedLines.{Words, text_of, show_lines}
 use Rattle.cts_model.specs.ReportLines.{report_lines}
@@ -21,10 +22,11 @@ use Rattle.report_text.proofs.ReportWords.{AreLines, report_lines_are}
 use Rattle.cts_program.specs.declared.command.table.Form.{Form}
 use Rattle.cts_program.specs.declared.command.table.Form.TheVariants as forms
 use Rattle.cts_program.specs.Checks.{shown_line}
-use Rattle.cts_program.specs.DemoTexts.{summary_lines, IsDemoText}
+use Rattle.cts_program.specs.DemoTexts.{summary_lines, IsSummaryText, IsDemoText}
+use Rattle.cts_program.specs.Headline.{IsTreeText, IsSynthesisText, IsEmbeddingText}
 use Rattle.cts_program.specs.PeriodTexts.{never_lines, period_lines, outcome_status, IsPeriodText}
 use Rattle.cts_program.specs.ScheduleTexts.{schedule_lines, IsScheduleText}
-use Rattle.cts_program.specs.SynthTexts.{IsNeverText, IsSynthText}
+use Rattle.cts_program.specs.SynthTexts.{IsNeverText, IsFoundOrNever, IsSynthText, IsEmbedText}
 use Rattle.cts_program.specs.Texts.{zero_lines, IsZeroText}
 use Rattle.cts_program.proofs.CountedLines.{AreCounted, counted_none, counted_line, counted_alone}
 use Rattle.cts_program.proofs.TextCounts.{report_plan, counted_registers, counted_show, counted_never, counted_report}
@@ -52,6 +54,7 @@ plan_of zero forms.Schedule = 0 ∷ 0 ∷ 1 ∷ 1 ∷ []
 plan_of zero forms.Synth = report_plan Second
 plan_of zero forms.Check = 0 ∷ []
 plan_of zero forms.Demo = 0 ∷ 0 ∷ 0 ∷ 0 ∷ []
+plan_of zero forms.Embed = report_plan Second
 plan_of (suc more) form = 0 ∷ 1 ∷ []
 
 -- the lines of a text with this status
@@ -172,35 +175,60 @@ module _ (circuit : Circuit) (tech : Tech) where
       says.status_is says.spelled
 
 module _ (problem : Problem) where
+  -- what was found, or a cycle that forbids every period
+  found_or_never : (form : Form) → looks_for_period form ≡ true → (Found : List ℕ → Type 0)
+      → ((text : List ℕ) → Found text → IsTextOf form 0 text problem.circuit problem.tech)
+      → (status : ℕ) (text : List ℕ) → IsFoundOrNever problem Found status text
+      → IsTextOf form status text problem.circuit problem.tech
+  found_or_never form looks Found found zero text says = found text says
+  found_or_never form looks Found found (suc zero) text says =
+      never_text problem.circuit problem.tech form text looks says
+  found_or_never form looks Found found (suc (suc more)) text says = absurd says
+
   -- the report of a clock tree
-  pub synth_text : (status : ℕ) (text : List ℕ) → IsSynthText problem status text
-      → IsTextOf forms.Synth status text problem.circuit problem.tech
-  synth_text zero text says =
+  tree_text : (form : Form) → looks_for_period form ≡ true → plan_of 0 form ≡ report_plan Second
+      → (text : List ℕ) → IsTreeText problem text
+      → IsTextOf form 0 text problem.circuit problem.tech
+  tree_text form looks plan text says =
       let lines = report_lines problem.circuit says.report in
-      text_with problem.circuit problem.tech forms.Synth 0 0 lines text (record {
+      text_with problem.circuit problem.tech form 0 0 lines text (record {
         each = report_lines_are problem.circuit says.report;
         some = omega arith;
-        counted = subst (λ version. AreCounted (report_plan version) lines) says.version
-            (counted_report problem.circuit says.report says.spelled.size problem.tech says.shown);
-        says = found_says problem.circuit problem.tech says.report.period says.least_period;
+        counted = subst (λ p. AreCounted p lines) (sym plan)
+            (subst (λ version. AreCounted (report_plan version) lines) says.version
+            (counted_report problem.circuit says.report says.spelled.size problem.tech says.shown));
+        says = subst (λ l. SaysOfPeriods l problem.circuit problem.tech 0) (sym looks)
+            (found_says problem.circuit problem.tech says.report.period says.least_period);
       }) refl says.spelled.lines
-  synth_text (suc zero) text says =
-      never_text problem.circuit problem.tech forms.Synth text refl says
-  synth_text (suc (suc more)) text says = absurd says
+
+  -- by its own topology
+  pub synth_text : (status : ℕ) (text : List ℕ) → IsSynthText problem status text
+      → IsTextOf forms.Synth status text problem.circuit problem.tech
+  synth_text = found_or_never forms.Synth refl (IsSynthesisText problem)
+      (λ text says. tree_text forms.Synth refl refl text says.tree)
+
+  -- or by one that is given
+  pub embed_text : (topology : Topology) (status : ℕ) (text : List ℕ)
+      → IsEmbedText problem topology status text
+      → IsTextOf forms.Embed status text problem.circuit problem.tech
+  embed_text topology = found_or_never forms.Embed refl (IsEmbeddingText problem topology)
+      (λ text says. tree_text forms.Embed refl refl text says.tree)
 
   -- the summary of one
   pub demo_text : (registers status : ℕ) (text : List ℕ)
       → IsDemoText registers problem status text
       → IsTextOf forms.Demo status text problem.circuit problem.tech
-  demo_text registers zero text says =
-      let report = says.tree.report in
-      let lines = summary_lines registers report in
-      text_with problem.circuit problem.tech forms.Demo 0 0 lines text (record {
-        each = summary_lines_are problem.circuit registers report;
-        some = omega arith;
-        counted = counted_alone lines;
-        says = found_says problem.circuit problem.tech report.period says.tree.least_period;
-      }) refl says.spelled
-  demo_text registers (suc zero) text says =
-      never_text problem.circuit problem.tech forms.Demo text refl says
-  demo_text registers (suc (suc more)) text says = absurd says
+  demo_text registers = found_or_never forms.Demo refl (IsSummaryText registers problem) summary
+    where
+      summary : (text : List ℕ) → IsSummaryText registers problem text
+          → IsTextOf forms.Demo 0 text problem.circuit problem.tech
+      summary text says =
+          let report = says.tree.tree.report in
+          let lines = summary_lines registers report in
+          text_with problem.circuit problem.tech forms.Demo 0 0 lines text (record {
+            each = summary_lines_are problem.circuit registers report;
+            some = omega arith;
+            counted = counted_alone lines;
+            says = found_says problem.circuit problem.tech report.period
+                says.tree.tree.least_period;
+          }) refl says.spelled

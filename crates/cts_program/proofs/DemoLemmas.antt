@@ -1,6 +1,8 @@
 -- What is read of the texts of a demonstration, which stand in place of files: they denote its
 -- problem, or are refused as files would be.
-use Rattle.std.proofs.Common.{◌≡◌, ◌≤◌, ℕ, List, [], ◌∷◌, length, take, Option, Some, Bor, refl, ap, ap₂, sym, ◌∙◌, subst, arith, codes}
+use Rattle.std.proofs.Common.{◌≡◌, ℕ, inl, inr, List, [], ◌∷◌, length, take, Option, Some, Bor, refl, ap, ap₂, sym, ◌∙◌, subst, arith, codes}
+use Rattle.std.proofs.lemmas.Bool.{cases_lt}
+use Rattle.std.proofs.lemmas.List.{take_all, take-take}
 use Rattle.demo_input.specs.NetlistLines.{netlist_text}
 use Rattle.demo_input.specs.PlacementLines.{placement_text}
 use Rattle.demo_input.specs.TableLines.{table_text}
@@ -8,12 +10,13 @@ use Rattle.cts_model.specs.declared.problem.Problem.{Problem}
 use Rattle.cts_program.specs.declared.command.Command.TheVariants.{Synth}
 use Rattle.cts_program.specs.declared.failure.Failure.{Failure}
 use Rattle.cts_program.specs.declared.failure.Failure.TheVariants as failures
-use Rattle.cts_program.specs.Answers.{IsTextRefusal, IsFirstRefusal}
+use Rattle.cts_program.specs.Answers.{JoinTooMany, RefusesText, IsRefusal, IsDemoRefusal}
 use Rattle.cts_program.specs.Checks.{AreOfProblem}
 use Rattle.cts_io.specs.NeverFails.{bytes_named}
 use Rattle.cts_io.specs.declared.memory_inputs.HeldFile.{HeldFile}
 use Rattle.cts_program.specs.DemoTexts.{demo_texts, demo_files}
 use Rattle.cts_program.specs.Files.{problem_files, AreContents}
+use Rattle.cts_program.specs.Judged.{IsFileRefusal}
 use Rattle.cts_program.specs.Run.{Stops}
 use Rattle.cts_program.specs.Steps.{DenotesProblem, FailsCircuit, FailsDemo}
 
@@ -73,45 +76,61 @@ module _ {holds : List ℕ → Option (List ℕ)} {bench file pl : Bor (List ℕ
       subst (λ (contents : List (List ℕ)). AreOfProblem contents problem)
       (sym same ∙ ap (λ count. take count (demo_texts registers seed)) three) denoted.are_of
 
-  -- and a refusal of the first of them is one of the demonstration
+  -- a refusal of the first of them is one of the demonstration
   texts_refused : (contents : List (List ℕ))
       → AreContents holds (problem_files bench file pl) contents → (failure : Failure)
-      → IsTextRefusal (3 ≤ length contents) contents failure → IsFirstRefusal (demo_texts registers seed) failure
-  texts_refused contents are failure refusal = record {
-    texts = length contents;
-    refusal = subst (λ given. IsTextRefusal (3 ≤ length contents) given failure)
-        (sym (first_texts contents are)) refusal;
-  }
+      → RefusesText contents failure → RefusesText (demo_texts registers seed) failure
+  texts_refused contents are failure refused =
+      let known = first_texts contents are in
+      elim (cases_lt (length contents) refused.count) [
+        | inl above ↦ record {
+          count = length contents;
+          refusal = subst (λ texts. IsFileRefusal texts failure)
+              (take_all refused.count contents (omega arith) ∙ sym known) refused.refusal;
+        }
+        | inr within ↦ record {
+          count = refused.count;
+          refusal = subst (λ texts. IsFileRefusal texts failure)
+              (ap (take refused.count) (sym known) ∙ take-take refused.count (length contents)
+              (demo_texts registers seed) (omega arith)) refused.refusal;
+        }
+      ]
 
   -- so where reading them stops, the demonstration is refused: no count of theirs can rise
+  refusal_of : (contents : List (List ℕ))
+      → AreContents holds (problem_files bench file pl) contents → (failure : Failure)
+      → IsRefusal (Synth bench file pl) contents failure → IsDemoRefusal registers seed failure
+  refusal_of contents are failure (inl text) = inl (texts_refused contents are failure text)
+  refusal_of contents are failure (inr (all, (is, many))) =
+      let three : length contents ≡ 3 = all in
+      inr (
+        is,
+        subst JoinTooMany (sym (first_texts contents are)
+            ∙ ap (λ count. take count (demo_texts registers seed)) three) many,
+      )
+
   pub texts_stop : (failure : Failure)
       → Stops holds (λ file. 0) (λ file. 0) (Synth bench file pl) failure
       → FailsDemo registers seed failure
-  texts_stop failures.Pairs stops =
-      let all : length stops.contents ≡ 3 = stops.refusal.0 in
-      texts_refused stops.contents stops.are failures.Pairs (omega arith, stops.refusal.1)
   texts_stop failures.Usage stops = absurd stops
   texts_stop (failures.ReadFault kind) stops = absurd (omega (arith, stops.rose))
   texts_stop failures.WriteFault stops = absurd stops
   texts_stop failures.NoMemory stops = tt
-  texts_stop failure stops = texts_refused stops.contents stops.are failure stops.refusal
+  texts_stop failure stops = refusal_of stops.contents stops.are failure stops.refusal
 
 -- too many pairs of its circuit refuse it too
 pub circuit_refused : (registers seed : ℕ) (problem : Problem)
     → AreOfProblem (demo_texts registers seed) problem → (failure : Failure)
     → FailsCircuit problem.circuit failure → FailsDemo registers seed failure
-circuit_refused registers seed problem are failures.Pairs many = record {
-  texts = 3;
-  refusal = (
-    omega arith,
-    record {
-      accepted = are.accepted;
-      circuit = problem.circuit;
-      tech = problem.tech;
-      tell = are.tell.tell;
-      many = many;
-    },
-  );
-}
+circuit_refused registers seed problem are failures.Pairs many = inr (
+  refl,
+  record {
+    accepted = are.accepted;
+    circuit = problem.circuit;
+    tech = problem.tech;
+    tell = are.tell.tell;
+    many = many;
+  },
+)
 circuit_refused registers seed problem are failures.NoMemory fails = tt
 circuit_refused registers seed problem are failure fails = absurd fails

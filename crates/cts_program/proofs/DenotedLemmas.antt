@@ -23,7 +23,7 @@ use Rattle.cts_program.specs.Run.{DenotesText, Stops}
 use Rattle.cts_program.specs.Steps.{IsReportedAs, ReadsNetlist, FailsNetlist, ReadsTable, FailsTable, ReadsCircuit, DenotesCircuit, FailsCircuit}
 use Rattle.cts_program.specs.Texts.{IsZeroText}
 use Rattle.cts_program.proofs.FileStops.{file_stops}
-use Rattle.cts_program.proofs.RefusalLemmas.{file_refusal}
+use Rattle.cts_program.proofs.FileRefusals.{file_refusal}
 use Rattle.cts_program.proofs.ResultLemmas.{if_ok_from}
 
 -- a netlist that was read is accepted
@@ -86,8 +86,7 @@ module _ (holds : List ℕ → Option (List ℕ)) (reads reads_now : List ℕ �
       record {
         contents = bytes ∷ [];
         are = subst (λ files. AreContents holds files (bytes ∷ [])) (sym named.1) (denoted, tt);
-        refusal = file_refusal command named.1 (bytes ∷ []) (failures.Bench fault) (short, has)
-            (λ _ _ _ _. (short, has));
+        refusal = file_refusal command named.1 (bytes ∷ []) (failures.Bench fault) (short, has);
       }
   netlist_stops tech named failure fails =
       file_stops holds reads reads_now command kinds.Bench bench.now [] _ named.1 [] refl tt tt named.1 (λ bytes long. long)
@@ -125,7 +124,7 @@ module _ (holds : List ℕ → Option (List ℕ)) (reads reads_now : List ℕ �
           contents = netlist.bytes ∷ bytes ∷ [];
           are = both_denoted netlist.bytes bytes netlist.denoted denoted;
           refusal = file_refusal command named.1 (netlist.bytes ∷ bytes ∷ [])
-              (failures.Tech fault) refused (λ _ _ _ _. refused);
+              (failures.Tech fault) refused;
         }
     table_stops netlist failure fails =
         file_stops holds reads reads_now command kinds.Tech file.now
@@ -138,7 +137,8 @@ module _ {holds : List ℕ → Option (List ℕ)}
     (reads reads_now : List ℕ → ℕ) (command : Command) {circuit : Circuit} {tech : Tech}
     (denoted : DenotesCircuit holds (files_of command) circuit tech) where
   -- too many joined pairs stop a command that they stop at all
-  module _ (stops : AreAll command denoted.contents × JoinTooMany denoted.contents
+  module _ (stops : AreAll command denoted.contents
+      × ((failures.Pairs ≡ failures.Pairs) × JoinTooMany denoted.contents)
       → IsRefusal command denoted.contents failures.Pairs) where
     pub circuit_stops : (failure : Failure) → FailsCircuit circuit failure
         → Stops holds reads reads_now command failure
@@ -147,13 +147,16 @@ module _ {holds : List ℕ → Option (List ℕ)}
       are = denoted.are;
       refusal = stops (
         denoted.all,
-        record {
-          accepted = denoted.accepted;
-          circuit = circuit;
-          tech = tech;
-          tell = denoted.tell;
-          many = many;
-        },
+        (
+          refl,
+          record {
+            accepted = denoted.accepted;
+            circuit = circuit;
+            tech = tech;
+            tell = denoted.tell;
+            many = many;
+          },
+        ),
       );
     }
     circuit_stops failures.NoMemory fails = tt
@@ -214,9 +217,11 @@ zero_answer bench file denoted result few says =
       are = denoted.are;
       answer = (
         denoted.all,
-        said.0,
-        tell_with denoted (λ circuit tech. IsZeroText circuit tech answer.text.items) few_here
-            said.1,
+        (
+          said.0,
+          tell_with denoted (λ circuit tech. IsZeroText circuit tech answer.text.items) few_here
+              said.1,
+        ),
       );
     })
 
@@ -228,8 +233,7 @@ denoted_acyclic {holds} {files} {circuit} {tech} denoted = at denoted.contents d
   where
     at : (contents : List (List ℕ)) → Tell contents circuit tech → (loop : List ℕ)
         → IsLoop circuit.signals loop → ⊥
-    at [] tell = absurd tell
     at (netlist ∷ []) tell = acyclic netlist circuit tell.0
     at (netlist ∷ table ∷ []) tell = both_acyclic netlist table circuit tech tell
     at (netlist ∷ table ∷ places ∷ []) tell = both_acyclic netlist table circuit tech tell
-    at (netlist ∷ table ∷ places ∷ more ∷ rest) tell = absurd tell
+    at contents tell = absurd tell

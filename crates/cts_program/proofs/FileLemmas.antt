@@ -13,7 +13,7 @@ use Rattle.cts_program.specs.Failures.{bench_failure_of, tech_failure_of}
 use Rattle.cts_program.specs.Files.{IsShortFile}
 use Rattle.cts_program.specs.Steps.{IsReportedAs, FailsNetlist, FailsTable}
 
--- some bytes are so many
+-- there are bytes of each length
 many_bytes : (count : ℕ) → (bytes : List ℕ) × (length bytes ≡ count)
 many_bytes count = (replicate count 0, length-replicate count 0)
 

@@ -9,7 +9,7 @@ use Rattle.cts_program.specs.Files.{IsShortFile, files_of, AreContents}
 use Rattle.cts_program.specs.Judged.{AreAccepted, IsFileRefusal}
 use Rattle.cts_program.specs.Run.{CannotRead, Stops}
 use Rattle.cts_program.specs.Steps.{IsReportedAs, FailsToReadFile}
-use Rattle.cts_program.proofs.RefusalLemmas.{file_refusal}
+use Rattle.cts_program.proofs.FileRefusals.{file_refusal}
 
 module _ (holds : List ℕ → Option (List ℕ)) (reads reads_now : List ℕ → ℕ) (command : Command)
     (kind : FileKind) (file : List ℕ) (before suffix : List (FileKind × List ℕ))
@@ -45,7 +45,7 @@ module _ (holds : List ℕ → Option (List ℕ)) (reads reads_now : List ℕ �
         contents = contents ++ bytes ∷ [];
         are = known bytes denoted;
         refusal = file_refusal command some (contents ++ bytes ∷ []) (failures.TooLong kind)
-            (long bytes more) (λ _ _ _ _. long bytes more);
+            (long bytes more);
       })
   file_stops some long known (failures.ReadFault other) (same, rose) =
       subst (λ kind. CannotRead holds reads reads_now command kind) same (unread rose)

@@ -64,7 +64,7 @@ apart option (one ∷ more) none =
     let parts = neither (bytes_eq option one.0) (has_option option (option_words more)) none in
     (parts.0, apart option more parts.1)
 
--- and the other way round
+-- and the converse
 apart_none : (option : Word) (given : List Given)
     → AllByRecursion (λ other. bytes_eq option other ≡ false) (keys_of given)
     → has_option option (option_words given) ≡ false

@@ -8,13 +8,16 @@ mod CycleRegisters
 mod PieceLemmas
 mod FileLemmas
 mod PlainDelays
-mod RefusalLemmas
 mod TreeTexts
+mod OutcomeTexts
 mod ResultLemmas
+mod FileRefusals
 mod FileStops
 mod DenotedLemmas
 mod PlacementLemmas
+mod LastFiles
 mod CheckLemmas
+mod EmbedLemmas
 mod ReasonLemmas
 mod PlainWordTests
 mod NumberWords

@@ -1,32 +1,34 @@
 -- Contents of files aren't both answered and refused, and have refusals of one status. Where they
 -- are accepted, all that is refused is a report.
-use Rattle.std.proofs.Common.{ℕ, ◌≡◌, ◌≢◌, ◌≤◌, ◌⊎◌, inl, inr, List, [], ◌∷◌, length, take, Some, None, zero, suc, refl, ap, sym, ◌∙◌, subst, arith}
-use Rattle.std.specs.Borrow.{Bor}
-use Rattle.std.proofs.lemmas.List.{length-take}
+use Rattle.std.proofs.Common.{ℕ, ◌≡◌, ◌≢◌, ◌≤◌, ◌⊎◌, inl, inr, List, [], ◌∷◌, length, take, Some, None, refl, ap, sym, ◌∙◌, subst, arith}
+use Rattle.std.proofs.lemmas.List.{append_cancel_left, length-take, length-append}
 use Rattle.cts_model.specs.declared.problem.Problem.{Problem}
 use Rattle.cts_model.specs.PairLists.{JoinsMoreThan}
 use Rattle.cert_check.specs.Verdicts.{IsVerdict}
 use Rattle.cert_check.specs.declared.verdict.Verdict.TheVariants.{Not}
 use Rattle.report_text.specs.Laws.{OneReport, OneFault, NoFaultOfReport}
+use Rattle.cts_engine.proofs.OneProblem.{one_problem}
 use Rattle.cts_program.specs.declared.command.Command.{Command}
-use Rattle.cts_program.specs.declared.command.Command.TheVariants.{Zero, Period, Schedule, Synth, Check, Demo}
+use Rattle.cts_program.specs.declared.command.Command.TheVariants.{Check, Embed}
 use Rattle.cts_program.specs.declared.command.table.Form.{Form}
 use Rattle.cts_program.specs.declared.command.table.Form.TheVariants as forms
 use Rattle.cts_program.specs.declared.failure.Failure.{Failure}
 use Rattle.cts_program.specs.declared.failure.Failure.TheVariants as failures
-use Rattle.cts_program.specs.declared.not_shown.NotShown.{NotShown}
 use Rattle.cts_program.specs.declared.not_shown.NotShown.TheVariants as why
-use Rattle.cts_program.specs.Answers.{JoinTooMany, IsTextRefusal, IsRefusal, IsAccepted, IsStatusOf}
-use Rattle.cts_program.specs.Checks.{IsShownReport, IsReportRefusal, IsCheckAnswer, IsCheckRefusal}
-use Rattle.cts_program.specs.Commands.{Given, options_of, number_of}
-use Rattle.cts_program.specs.DemoTexts.{demo_texts}
+use Rattle.cts_program.specs.declared.reading.file_kind.FileKind.TheVariants as kinds
+use Rattle.cts_program.specs.Answers.{JoinTooMany, RefusesText, RefusesAccepted, IsRefusal, IsAccepted, IsStatusOf, texts_for, texts_of}
+use Rattle.cts_program.specs.Checks.{EndWith, IsShownReport, RefusesReport}
+use Rattle.cts_program.specs.Commands.{Given, options_of}
 use Rattle.cts_program.specs.Failures.{status_of}
 use Rattle.cts_program.specs.Files.{files_of, AreAll}
-use Rattle.cts_program.specs.Judged.{AreAccepted, IsFileRefusal}
+use Rattle.cts_program.specs.Judged.{AreAccepted, TellProblem}
+use Rattle.cts_program.specs.TopologyFiles.{IsAcceptedFor, RefusesEmbedding}
 use Rattle.cts_program.specs.CommandTable.{form_of}
-use Rattle.cts_program.proofs.OneAnswer.{Agree, agree_same, agree_rotated, Answers, texts_for, one_denoted, file_status, accepted_not_refused}
-use Rattle.cts_engine.proofs.OneProblem.{one_problem}
+use Rattle.cts_program.proofs.FileRefusals.{Agree, agree_same, agree_self, agree_rotated, agree_prefixes, file_status, text_not_refused}
+use Rattle.cts_program.proofs.OneAnswer.{Answers, one_denoted}
+use Rattle.cts_program.proofs.PlacementLemmas.{problem_denoted}
 use Rattle.cts_program.proofs.ShownVerdicts.{no_reason}
+use Rattle.topology_file.proofs.OneFault.{no_fault}
 
 -- ---- a report that is shown
 
@@ -36,262 +38,253 @@ pub record ReportLaws : Type 0 where
   pub one_fault : OneFault
   pub no_fault : NoFaultOfReport
 
+-- these contents end with a report that is refused with this failure
+abbrev pub EndUnshown : List (List ℕ) → Failure → Type 0
+EndUnshown contents failure =
+    EndWith contents (λ problem bytes. RefusesReport problem bytes failure)
+
+-- the status for one is 7
+report_status : (problem : Problem) (bytes : List ℕ) (failure : Failure)
+    → RefusesReport problem bytes failure → status_of failure ≡ 7
+report_status problem bytes (failures.TooLong kinds.Report) refused = refl
+report_status problem bytes (failures.Unshown reason) refused = refl
+report_status problem bytes failure refused = absurd refused
+
 -- a report of a problem isn't both shown and refused
-one_judgement : ReportLaws → (problem : Problem) (bytes : List ℕ) (reason : NotShown)
-    → IsShownReport problem bytes → IsReportRefusal problem bytes reason → ⊥
-one_judgement laws problem bytes why.TooLong shown long = long shown.short
-one_judgement laws problem bytes (why.Fault fault) shown (short, named, has) =
+one_judgement : ReportLaws → (problem : Problem) (bytes : List ℕ) (failure : Failure)
+    → IsShownReport problem bytes → RefusesReport problem bytes failure → ⊥
+one_judgement laws problem bytes (failures.TooLong kinds.Report) shown long = long shown.short
+one_judgement laws problem bytes (failures.Unshown (why.Fault fault)) shown (short, named, has) =
     let none = laws.no_fault problem.circuit problem.tech bytes shown.report shown.spelled in
     let same : None ≡ Some fault =
     laws.one_fault problem.circuit problem.tech bytes None (Some fault) none has in
     cc same
-one_judgement laws problem bytes (why.Reason reason subject) shown (short, has, denoted) =
+one_judgement laws problem bytes (failures.Unshown (why.Reason reason subject)) shown
+    (short, has, denoted) =
     let same : has.report ≡ shown.report = laws.one_report problem.circuit problem.tech bytes
     has.report shown.report has.spelled shown.spelled in
     no_reason problem shown.report reason shown.shown
     (subst (λ report. IsVerdict problem report (Not reason)) same has.verdict)
+one_judgement laws problem bytes failure shown refused = absurd refused
 
--- contents with a report that isn't shown are those of four files
-reported_length : (contents : List (List ℕ)) (reason : NotShown) → IsCheckRefusal contents reason
-    → length contents ≡ 4
-reported_length [] reason refusal = absurd refusal
-reported_length (netlist ∷ []) reason refusal = absurd refusal
-reported_length (netlist ∷ table ∷ []) reason refusal = absurd refusal
-reported_length (netlist ∷ table ∷ places ∷ []) reason refusal = absurd refusal
-reported_length (netlist ∷ table ∷ places ∷ bytes ∷ []) reason refusal = refl
-reported_length (netlist ∷ table ∷ places ∷ bytes ∷ more ∷ rest) reason refusal = absurd refusal
+-- contents that end with a further file are those of four files
+four_files : {Holds : Problem → List ℕ → Type 0} (contents : List (List ℕ))
+    → EndWith contents Holds → length contents ≡ 4
+four_files contents ends =
+    let is = ap length ends.contents_are in
+    omega (arith, is, length-append (take 3 contents) (ends.bytes ∷ []), length-take 3 contents)
+
+-- contents tell one problem
+one_problem_of : (contents : List (List ℕ)) (problem other : Problem)
+    → TellProblem contents problem → TellProblem contents other → problem ≡ other
+one_problem_of (netlist ∷ table ∷ places ∷ []) problem other tell tell' =
+    one_problem netlist table places problem other tell tell'
+one_problem_of contents problem other tell tell' = absurd tell
+
+-- and end with one file
+one_end : {Holds Others : Problem → List ℕ → Type 0} (contents : List (List ℕ))
+    (ends : EndWith contents Holds) (other : EndWith contents Others)
+    → (other.problem ≡ ends.problem) × (other.bytes ≡ ends.bytes)
+one_end contents ends other =
+    let last : (other.bytes ∷ []) ≡ (ends.bytes ∷ []) = append_cancel_left (take 3 contents)
+    (other.bytes ∷ []) (ends.bytes ∷ []) (sym other.contents_are ∙ ends.contents_are) in (
+      one_problem_of (take 3 contents) other.problem ends.problem other.are_of.tell
+          ends.are_of.tell,
+      cc last,
+    )
+
+-- so what holds of the file by the one holds of it by the other
+of_one_end : {Holds Others : Problem → List ℕ → Type 0} (contents : List (List ℕ))
+    (ends : EndWith contents Holds) (other : EndWith contents Others)
+    → Others ends.problem ends.bytes
+of_one_end {Others = Others} contents ends other =
+    let (problem, bytes) = one_end contents ends other in
+    subst (λ text. Others ends.problem text) bytes
+    (subst (λ p. Others p other.bytes) problem other.holds)
 
 -- contents with a report that is shown have no such refusal
-shown_or_not : ReportLaws → (contents refused : List (List ℕ)) (text : List ℕ) (reason : NotShown)
-    → Agree contents refused → IsCheckAnswer contents text → IsCheckRefusal refused reason → ⊥
-shown_or_not laws [] refused text reason agree answer refusal = answer
-shown_or_not laws (netlist ∷ []) refused text reason agree answer refusal = answer
-shown_or_not laws (netlist ∷ table ∷ []) refused text reason agree answer refusal = answer
-shown_or_not laws (netlist ∷ table ∷ places ∷ []) refused text reason agree answer refusal =
-    answer
-shown_or_not laws (netlist ∷ table ∷ places ∷ bytes ∷ []) refused text reason agree
-    (shown, spelled) refusal =
-    let contents = netlist ∷ table ∷ places ∷ bytes ∷ [] in
-    let known : contents ≡ refused =
-    agree_same contents refused agree (sym (reported_length refused reason refusal)) in
-    let here : IsCheckRefusal contents reason =
-    subst (λ files. IsCheckRefusal files reason) (sym known) refusal in
-    let same : here.problem ≡ shown.problem = one_problem netlist table places here.problem
-    shown.problem here.problem_is.tell shown.problem_is.tell in
-    one_judgement laws shown.problem bytes reason shown.shown
-    (subst (λ problem. IsReportRefusal problem bytes reason) same here.refusal)
-shown_or_not laws (netlist ∷ table ∷ places ∷ bytes ∷ more ∷ rest) refused text reason agree
-    answer refusal = answer
+shown_or_not : ReportLaws → (contents refused : List (List ℕ)) (failure : Failure)
+    → Agree contents refused → EndWith contents IsShownReport → EndUnshown refused failure → ⊥
+shown_or_not laws contents refused failure agree shown unshown =
+    let known : contents ≡ refused = agree_same contents refused agree
+    (four_files contents shown ∙ sym (four_files refused unshown)) in
+    let here : EndUnshown contents failure =
+    subst (λ files. EndUnshown files failure) (sym known) unshown in
+    one_judgement laws shown.problem shown.bytes failure shown.holds
+    (of_one_end contents shown here)
 
--- ---- contents that agree
+-- ---- a topology that is given
 
-agree_self : (contents : List (List ℕ)) → Agree contents contents
-agree_self [] = tt
-agree_self (one ∷ more) = (refl, agree_self more)
+-- a topology that is accepted isn't refused
+one_embedding : (problem : Problem) (bytes : List ℕ) (failure : Failure)
+    → IsAcceptedFor problem bytes → RefusesEmbedding problem bytes failure → ⊥
+one_embedding problem bytes failures.Pairs accepted (file, many) = accepted.few many
+one_embedding problem bytes (failures.TooLong kinds.Topology) accepted long =
+    long accepted.file.short
+one_embedding problem bytes (failures.Topology fault) accepted (short, named, refuses) =
+    named (no_fault bytes (length problem.circuit.registers) fault
+    accepted.file.accepts.accepted refuses)
+one_embedding problem bytes failure accepted refuses = absurd refuses
 
--- so do their first items
-agree_prefix : (count : ℕ) (contents others : List (List ℕ)) → Agree contents others
-    → Agree (take count contents) others
-agree_prefix zero contents others agree = tt
-agree_prefix (suc count) [] others agree = tt
-agree_prefix (suc count) (one ∷ more) [] agree = tt
-agree_prefix (suc count) (one ∷ more) (other ∷ others) (same, agree) =
-    (same, agree_prefix count more others agree)
+-- the status for one that is refused is 3
+embedding_status : (problem : Problem) (bytes : List ℕ) (failure : Failure)
+    → RefusesEmbedding problem bytes failure → status_of failure ≡ 3
+embedding_status problem bytes failures.Pairs refuses = refl
+embedding_status problem bytes (failures.TooLong kinds.Topology) refuses = refl
+embedding_status problem bytes (failures.Topology fault) refuses = refl
+embedding_status problem bytes failure refuses = absurd refuses
+
+-- ---- the texts of a command
+
+-- where contents agree, so do the texts that a command goes by
+texts_agree : (form : Form) (given : List Given) (contents others : List (List ℕ))
+    → Agree contents others → Agree (texts_for form given contents) (texts_for form given others)
+texts_agree forms.Check given contents others agree = agree_prefixes 3 3 contents others agree
+texts_agree forms.Embed given contents others agree = agree_prefixes 3 3 contents others agree
+texts_agree forms.Demo given contents others agree =
+    agree_self (texts_for forms.Demo given contents)
+texts_agree form given contents others agree = agree
+
+-- of more contents there are no fewer
+texts_within : (form : Form) (given : List Given) (contents others : List (List ℕ))
+    → length others ≤ length contents
+    → length (texts_for form given others) ≤ length (texts_for form given contents)
+texts_within forms.Check given contents others within =
+    omega (arith, within, length-take 3 contents, length-take 3 others)
+texts_within forms.Embed given contents others within =
+    omega (arith, within, length-take 3 contents, length-take 3 others)
+texts_within forms.Demo given contents others within = omega arith
+texts_within form given contents others within = within
 
 -- ---- what a refusal is
 
--- a refusal of texts speaks of too many pairs, or is that of a file
-text_refusal : (all : Type 0) (texts : List (List ℕ)) (failure : Failure)
-    → IsTextRefusal all texts failure
-    → ((failure ≡ failures.Pairs) × all × JoinTooMany texts) ⊎ IsFileRefusal texts failure
-text_refusal all texts failures.Usage refusal = inr refusal
-text_refusal all texts (failures.TooLong kind) refusal = inr refusal
-text_refusal all texts (failures.Bench fault) refusal = inr refusal
-text_refusal all texts (failures.Tech fault) refusal = inr refusal
-text_refusal all texts (failures.Placement fault) refusal = inr refusal
-text_refusal all texts failures.Pairs refusal = inl (refl, refusal.0, refusal.1)
-text_refusal all texts (failures.Unshown reason) refusal = inr refusal
-text_refusal all texts (failures.ReadFault kind) refusal = inr refusal
-text_refusal all texts failures.WriteFault refusal = inr refusal
-text_refusal all texts failures.NoMemory refusal = inr refusal
+-- a command checks a report, or not
+checks_or_not : (form : Form) → (form ≡ forms.Check) ⊎ (form ≢ forms.Check)
+checks_or_not forms.Check = inl refl
+checks_or_not form = inr (λ same. cc same)
 
--- one where a report is checked is that of the report, or of a file before it
-check_refusal : (bench tech pl report : Bor (List ℕ)) (contents : List (List ℕ))
-    (failure : Failure) → IsRefusal (Check bench tech pl report) contents failure
-    → ((reason : NotShown) × (failure ≡ failures.Unshown reason) × IsCheckRefusal contents reason)
-    ⊎ IsFileRefusal contents failure
-check_refusal bench tech pl report contents failures.Usage refusal = inr refusal
-check_refusal bench tech pl report contents (failures.TooLong kind) refusal = inr refusal
-check_refusal bench tech pl report contents (failures.Bench fault) refusal = inr refusal
-check_refusal bench tech pl report contents (failures.Tech fault) refusal = inr refusal
-check_refusal bench tech pl report contents (failures.Placement fault) refusal = inr refusal
-check_refusal bench tech pl report contents failures.Pairs refusal = inr refusal
-check_refusal bench tech pl report contents (failures.Unshown reason) refusal =
-    inl (reason, refl, refusal)
-check_refusal bench tech pl report contents (failures.ReadFault kind) refusal = inr refusal
-check_refusal bench tech pl report contents failures.WriteFault refusal = inr refusal
-check_refusal bench tech pl report contents failures.NoMemory refusal = inr refusal
+-- where it doesn't, its refusals have status 3
+after_texts : (form : Form) (texts contents : List (List ℕ)) (failure : Failure)
+    → form ≢ forms.Check → RefusesAccepted form texts contents failure → status_of failure ≡ 3
+after_texts forms.Check texts contents failure other refusal = absurd (other refl)
+after_texts forms.Embed texts contents failure other refusal =
+    embedding_status refusal.problem refusal.bytes failure refusal.holds
+after_texts form texts contents failure other refusal = ap status_of refusal.0
 
--- ---- one status
+-- where it does, that of accepted texts is one of a report
+of_report_checked : (form : Form) (texts contents : List (List ℕ)) (failure : Failure)
+    → form ≡ forms.Check → RefusesAccepted form texts contents failure
+    → EndUnshown contents failure
+of_report_checked form texts contents failure check refusal =
+    subst (λ f. RefusesAccepted f texts contents failure) check refusal
 
 -- a refusal has status 3, and 7 where a report of accepted files isn't shown
 data Refusal (command : Command) (contents : List (List ℕ)) (failure : Failure) : Type 0 where
-  of_files : status_of failure ≡ 3
-      → (form_of command ≡ forms.Check → IsFileRefusal contents failure)
+  of_texts : status_of failure ≡ 3
+      → (form_of command ≡ forms.Check → RefusesText (take 3 contents) failure)
       → Refusal command contents failure
-  of_report : status_of failure ≡ 7 → form_of command ≡ forms.Check → (reason : NotShown)
-      → IsCheckRefusal contents reason → Refusal command contents failure
+  of_report : status_of failure ≡ 7 → form_of command ≡ forms.Check
+      → EndUnshown contents failure → Refusal command contents failure
 
--- the status of a refusal of texts is 3
-text_status : (all : Type 0) (texts : List (List ℕ)) (failure : Failure)
-    → IsTextRefusal all texts failure → status_of failure ≡ 3
-text_status all texts failure refusal = elim (text_refusal all texts failure refusal) [
-  | inl (is, are, many) ↦ ap status_of is
-  | inr file ↦ (file_status texts failure file).0
-]
-
--- a refusal is one of these
 refusal_of : (command : Command) (contents : List (List ℕ)) (failure : Failure)
     → IsRefusal command contents failure → Refusal command contents failure
-refusal_of (Zero bench tech) contents failure refusal =
-    of_files (text_status _ contents failure refusal) (λ same. absurd (cc same))
-refusal_of (Period bench tech) contents failure refusal =
-    of_files (text_status _ contents failure refusal) (λ same. absurd (cc same))
-refusal_of (Schedule bench tech) contents failure refusal =
-    of_files (text_status _ contents failure refusal) (λ same. absurd (cc same))
-refusal_of (Synth bench tech pl) contents failure refusal =
-    of_files (text_status _ contents failure refusal) (λ same. absurd (cc same))
-refusal_of (Check bench tech pl report) contents failure refusal =
-    elim (check_refusal bench tech pl report contents failure refusal) [
-      | inl (reason, is, unshown) ↦ of_report (ap status_of is) refl reason unshown
-      | inr file ↦ of_files (file_status contents failure file).0 (λ same. file)
+refusal_of command contents failure (inl text) =
+    of_texts (file_status _ failure text.refusal).0 (λ same. subst
+    (λ form. RefusesText (texts_for form (options_of command) contents) failure) same text)
+refusal_of command contents failure (inr (all, refusal)) =
+    elim (checks_or_not (form_of command)) [
+      | inl check ↦
+          let ends = of_report_checked (form_of command) _ contents failure check refusal in
+          of_report (report_status ends.problem ends.bytes failure ends.holds) check ends
+      | inr other ↦ of_texts (after_texts (form_of command) _ contents failure other refusal)
+          (λ same. absurd (other same))
     ]
-refusal_of (Demo registers seed) contents failure refusal =
-    of_files (text_status _ _ failure refusal.1.refusal) (λ same. absurd (cc same))
 
--- contents with a report that isn't shown have no file that is refused
-report_not_file : (contents files : List (List ℕ)) (reason : NotShown) (failure : Failure)
-    → Agree contents files → IsCheckRefusal contents reason → IsFileRefusal files failure → ⊥
-report_not_file [] files reason failure agree refusal file = refusal
-report_not_file (netlist ∷ []) files reason failure agree refusal file = refusal
-report_not_file (netlist ∷ table ∷ []) files reason failure agree refusal file = refusal
-report_not_file (netlist ∷ table ∷ places ∷ []) files reason failure agree refusal file = refusal
-report_not_file (netlist ∷ table ∷ places ∷ bytes ∷ []) files reason failure agree refusal file =
-    accepted_not_refused (netlist ∷ table ∷ places ∷ []) files failure
-    (agree_prefix 3 (netlist ∷ table ∷ places ∷ bytes ∷ []) files agree)
-    (file_status files failure file).1 refusal.problem_is.accepted file
-report_not_file (netlist ∷ table ∷ places ∷ bytes ∷ more ∷ rest) files reason failure agree
-    refusal file = refusal
+-- where a report isn't shown, no file before it is refused
+report_not_text : (contents others : List (List ℕ)) (failure failure' : Failure)
+    → Agree contents others → EndUnshown contents failure
+    → RefusesText (take 3 others) failure' → ⊥
+report_not_text contents others failure failure' agree ends text =
+    text_not_refused (take 3 contents) (take 3 others) failure'
+    (agree_prefixes 3 3 contents others agree)
+    (omega (arith, four_files contents ends, length-take 3 contents, length-take 3 others))
+    ends.are_of.accepted text
 
 -- so refusals of contents that agree have one status
-pub one_refusal_status : (command other : Command) → form_of command ≡ form_of other
-    → (contents refused : List (List ℕ)) → Agree contents refused → (failure failure' : Failure)
-    → IsRefusal command contents failure → IsRefusal other refused failure'
+pub one_refusal_status : (command : Command) (contents refused : List (List ℕ))
+    → Agree contents refused → (failure failure' : Failure)
+    → IsRefusal command contents failure → IsRefusal command refused failure'
     → status_of failure ≡ status_of failure'
-one_refusal_status command other form contents refused agree failure failure' refusal refusal' =
+one_refusal_status command contents refused agree failure failure' refusal refusal' =
     elim (refusal_of command contents failure refusal) [
-      | of_files is file ↦ elim (refusal_of other refused failure' refusal') [
-        | of_files is' file' ↦ is ∙ sym is'
-        | of_report is' check reason unshown ↦ absurd (report_not_file refused contents reason
-            failure (agree_rotated contents refused agree) unshown (file (form ∙ check)))
+      | of_texts is text ↦ elim (refusal_of command refused failure' refusal') [
+        | of_texts is' text' ↦ is ∙ sym is'
+        | of_report is' check ends ↦ absurd (report_not_text refused contents failure' failure
+            (agree_rotated contents refused agree) ends (text check))
       ]
-      | of_report is check reason unshown ↦ elim (refusal_of other refused failure' refusal') [
-        | of_files is' file' ↦ absurd (report_not_file contents refused reason failure' agree
-            unshown (file' (sym form ∙ check)))
-        | of_report is' check' reason' unshown' ↦ is ∙ sym is'
+      | of_report is check ends ↦ elim (refusal_of command refused failure' refusal') [
+        | of_texts is' text' ↦ absurd (report_not_text contents refused failure failure' agree ends
+            (text' check))
+        | of_report is' check' ends' ↦ is ∙ sym is'
       ]
     ]
 
 -- ---- not both
 
--- the refusal of a command of this form, with these options, beside contents of the same files
-data RefusalBeside (form : Form) (given : List Given) (contents refused : List (List ℕ))
-    (failure : Failure) : Type 0 where
-  of_file : (texts : List (List ℕ)) → Agree (texts_for form given contents) texts
-      → (length texts ≤ 3 → length texts ≤ length (texts_for form given contents))
-      → IsFileRefusal texts failure → RefusalBeside form given contents refused failure
-  of_pairs : form ≢ forms.Check → (texts : List (List ℕ))
-      → texts_for form given contents ≡ texts → JoinTooMany texts
-      → RefusalBeside form given contents refused failure
-  of_shown : form ≡ forms.Check → status_of failure ≡ 7 → (reason : NotShown)
-      → IsCheckRefusal refused reason → RefusalBeside form given contents refused failure
-
--- one of texts
-text_beside : (form : Form) (given : List Given) (contents refused texts : List (List ℕ))
-    (failure : Failure) (all : Type 0) → form ≢ forms.Check
-    → Agree (texts_for form given contents) texts
-    → (length texts ≤ 3 → length texts ≤ length (texts_for form given contents))
-    → (all → length (texts_for form given contents) ≡ length texts)
-    → IsTextRefusal all texts failure → RefusalBeside form given contents refused failure
-text_beside form given contents refused texts failure all other agree within whole refusal =
-    elim (text_refusal all texts failure refusal) [
-      | inl (is, are, many) ↦ of_pairs other texts
-          (agree_same (texts_for form given contents) texts agree (whole are)) many
-      | inr file ↦ of_file texts agree within file
-    ]
-
--- a refusal of a command is one of these, where no fewer contents are given than are refused; where
--- a report is checked, that is of the files before it
-refusal_beside : (command : Command) (contents refused : List (List ℕ)) (failure : Failure)
-    → Agree contents refused → (length refused ≤ 3 → length refused ≤ length contents)
-    → (form_of command ≢ forms.Check → AreAll command refused → length contents ≡ length refused)
-    → IsRefusal command refused failure
-    → RefusalBeside (form_of command) (options_of command) contents refused failure
-refusal_beside (Zero bench tech) contents refused failure agree within all refusal =
-    text_beside forms.Zero _ contents refused refused failure _ (λ same. cc same) agree within
-    (all (λ same. cc same)) refusal
-refusal_beside (Period bench tech) contents refused failure agree within all refusal =
-    text_beside forms.Period _ contents refused refused failure _ (λ same. cc same) agree within
-    (all (λ same. cc same)) refusal
-refusal_beside (Schedule bench tech) contents refused failure agree within all refusal =
-    text_beside forms.Schedule _ contents refused refused failure _ (λ same. cc same) agree within
-    (all (λ same. cc same)) refusal
-refusal_beside (Synth bench tech pl) contents refused failure agree within all refusal =
-    text_beside forms.Synth _ contents refused refused failure _ (λ same. cc same) agree within
-    (all (λ same. cc same)) refusal
-refusal_beside (Check bench tech pl report) contents refused failure agree within all refusal =
-    elim (check_refusal bench tech pl report refused failure refusal) [
-      | inl (reason, is, unshown) ↦ of_shown refl (ap status_of is) reason unshown
-      | inr file ↦ of_file refused (agree_prefix 3 contents refused agree)
-          (λ few. omega (arith, within few, few, length-take 3 contents)) file
-    ]
-refusal_beside (Demo registers seed) contents refused failure agree within all (none, refusal) =
-    let texts = demo_texts (number_of registers.now) (number_of seed.now) in
-    text_beside forms.Demo _ contents refused (take refusal.texts texts) failure _
-    (λ same. cc same) (agree_rotated (take refusal.texts texts) texts
-    (agree_prefix refusal.texts texts texts (agree_self texts)))
-    (λ few. omega (arith, length-take refusal.texts texts))
-    (λ three. omega (arith, three, length-take refusal.texts texts)) refusal.refusal
-
--- what a command of this form, with these options, goes by is accepted
-record Accepts (form : Form) (given : List Given) (contents : List (List ℕ)) : Type 0 where
-  accepted : AreAccepted (texts_for form given contents)
-  few : form ≢ forms.Check → JoinTooMany (texts_for form given contents) → ⊥
+-- what a command goes by is accepted
+record Accepts (command : Command) (contents : List (List ℕ)) : Type 0 where
+  accepted : AreAccepted (texts_of command contents)
+  few : form_of command ≢ forms.Check → JoinTooMany (texts_of command contents) → ⊥
+  topology : form_of command ≡ forms.Embed → EndWith contents IsAcceptedFor
 
 -- so it is where the command has an answer
-answer_accepts : (form : Form) (given : List Given) (contents : List (List ℕ)) (status : ℕ)
-    (text : List ℕ) → Answers form given contents status text → Accepts form given contents
-answer_accepts form given contents status text answer = record {
+answer_accepts : (command : Command) (contents : List (List ℕ)) (status : ℕ) (text : List ℕ)
+    → Answers (form_of command) (options_of command) contents status text
+    → Accepts command contents
+answer_accepts command contents status text answer = record {
   accepted = answer.accepted;
   few = λ other many.
-      let same = one_denoted (texts_for form given contents) many.circuit answer.circuit many.tech
+      let same = one_denoted (texts_of command contents) many.circuit answer.circuit many.tech
       answer.tech many.tell answer.tell in
       answer.few other (subst (λ c. JoinsMoreThan c 1048576) same.0 many.many);
+  topology = answer.embedded;
 }
 
--- all that is refused beside it is a report
-report_beside : (form : Form) (given : List Given) (contents refused : List (List ℕ))
-    (failure : Failure) → Accepts form given contents
-    → RefusalBeside form given contents refused failure
-    → (form ≡ forms.Check) × (status_of failure ≡ 7)
-    × ((reason : NotShown) × IsCheckRefusal refused reason)
-report_beside form given contents refused failure accepts (of_file texts alike within file) =
-    absurd (accepted_not_refused (texts_for form given contents) texts failure alike
-    (within (file_status texts failure file).1) accepts.accepted file)
-report_beside form given contents refused failure accepts (of_pairs other texts known many) =
-    absurd (accepts.few other (subst JoinTooMany (sym known) many))
-report_beside form given contents refused failure accepts (of_shown check seven reason unshown) =
-    (check, seven, (reason, unshown))
+-- what is refused of it is a report
+only_report : (form : Form) (texts contents : List (List ℕ))
+    → (form ≢ forms.Check → JoinTooMany texts → ⊥)
+    → (form ≡ forms.Embed → EndWith contents IsAcceptedFor) → (failure : Failure)
+    → RefusesAccepted form texts contents failure → form ≡ forms.Check
+only_report forms.Check texts contents few topology failure refusal = refl
+only_report forms.Embed texts contents few topology failure refusal =
+    let ends = topology refl in
+    absurd (one_embedding ends.problem ends.bytes failure ends.holds
+    (of_one_end contents ends refusal))
+only_report form texts contents few topology failure refusal =
+    absurd (few (λ same. cc same) refusal.1)
+
+-- so is all that is refused beside it
+report_beside : (command : Command) (contents refused : List (List ℕ)) → Agree contents refused
+    → length (texts_of command refused) ≤ length (texts_of command contents)
+    → (form_of command ≢ forms.Check → AreAll command refused
+    → length contents ≡ length refused) → Accepts command contents
+    → (failure : Failure) → IsRefusal command refused failure
+    → (form_of command ≡ forms.Check) × EndUnshown refused failure
+report_beside command contents refused agree within whole accepts failure (inl text) =
+    absurd (text_not_refused _ _ failure
+    (texts_agree (form_of command) (options_of command) contents refused agree) within
+    accepts.accepted text)
+report_beside command contents refused agree within whole accepts failure (inr (all, refusal)) =
+    elim (checks_or_not (form_of command)) [
+      | inl check ↦
+          (check, of_report_checked (form_of command) _ refused failure check refusal)
+      | inr other ↦
+          let known = agree_same contents refused agree (whole other all) in
+          let here = subst (λ files. RefusesAccepted (form_of command) (texts_of command files)
+          files failure) (sym known) refusal in
+          absurd (other (only_report (form_of command) (texts_of command contents) contents
+          accepts.few accepts.topology failure here))
+    ]
 
 -- so what is answered isn't refused
 pub answer_not_refused : ReportLaws → (command : Command) (contents refused : List (List ℕ))
@@ -302,79 +295,71 @@ pub answer_not_refused : ReportLaws → (command : Command) (contents refused : 
     → IsRefusal command refused failure → ⊥
 answer_not_refused laws command contents refused failure status text answer agree within all
     refusal =
-    let (check, seven, (reason, unshown)) = report_beside (form_of command) (options_of command)
-    contents refused failure
-    (answer_accepts (form_of command) (options_of command) contents status text answer)
-    (refusal_beside command contents refused failure agree (λ few. within) (λ other. all)
-    refusal) in
-    shown_or_not laws contents refused text reason agree (answer.checked check) unshown
+    let (check, ends) = report_beside command contents refused agree
+    (texts_within (form_of command) (options_of command) contents refused within) (λ other. all)
+    (answer_accepts command contents status text answer) failure refusal in
+    shown_or_not laws contents refused failure agree (answer.checked check) ends
 
 -- what is accepted for a command is all that it goes by
 accepts_of : (command : Command) (contents : List (List ℕ)) → IsAccepted command contents
-    → Accepts (form_of command) (options_of command) contents
-accepts_of (Zero bench tech) contents (all, (accepted, few)) =
-    record { accepted = accepted; few = λ other. few }
-accepts_of (Period bench tech) contents (all, (accepted, few)) =
-    record { accepted = accepted; few = λ other. few }
-accepts_of (Schedule bench tech) contents (all, (accepted, few)) =
-    record { accepted = accepted; few = λ other. few }
-accepts_of (Synth bench tech pl) contents (all, (accepted, few)) =
-    record { accepted = accepted; few = λ other. few }
-accepts_of (Check bench tech pl report) contents (three, accepted) =
-    record { accepted = accepted; few = λ other. absurd (other refl) }
-accepts_of (Demo registers seed) contents (all, (accepted, few)) =
-    record { accepted = accepted; few = λ other. few }
+    → Accepts command contents
+accepts_of (Check bench tech pl report) contents accepted = record {
+  accepted = accepted.1;
+  few = λ other. absurd (other refl);
+  topology = λ same. cc same;
+}
+accepts_of (Embed bench tech pl topology) contents ends = record {
+  accepted = ends.are_of.accepted;
+  few = λ other many.
+      let same = one_denoted (take 3 contents) many.circuit ends.problem.circuit many.tech
+      ends.problem.tech many.tell
+      (problem_denoted (take 3 contents) ends.problem ends.are_of.tell) in
+      ends.holds.few (subst (λ c. JoinsMoreThan c 1048576) same.0 many.many);
+  topology = λ same. ends;
+}
+accepts_of command contents accepted = record {
+  accepted = accepted.1;
+  few = λ other. accepted.2;
+  topology = λ same. cc same;
+}
 
 -- it is the contents of all its files, but for a report
 accepted_all : (command : Command) (contents : List (List ℕ)) → IsAccepted command contents
     → ((form_of command ≡ forms.Check) × (3 ≤ length contents)) ⊎ AreAll command contents
-accepted_all (Zero bench tech) contents accepted = inr accepted.0
-accepted_all (Period bench tech) contents accepted = inr accepted.0
-accepted_all (Schedule bench tech) contents accepted = inr accepted.0
-accepted_all (Synth bench tech pl) contents accepted = inr accepted.0
 accepted_all (Check bench tech pl report) contents accepted = inl (refl, accepted.0)
-accepted_all (Demo registers seed) contents accepted = inr accepted.0
+accepted_all (Embed bench tech pl topology) contents ends = inr (four_files contents ends)
+accepted_all command contents accepted = inr accepted.0
 
 -- the status of a report that isn't shown is one of a check
 seven_of_check : (command : Command) (status : ℕ) → form_of command ≡ forms.Check → status ≡ 7
     → IsStatusOf command status
-seven_of_check (Zero bench tech) status check seven = cc check
-seven_of_check (Period bench tech) status check seven = cc check
-seven_of_check (Schedule bench tech) status check seven = cc check
-seven_of_check (Synth bench tech pl) status check seven = cc check
 seven_of_check (Check bench tech pl report) status check seven = inr seven
-seven_of_check (Demo registers seed) status check seven = cc check
+seven_of_check command status check seven = cc check
 
 -- a refusal beside what is accepted has a status for it
-pub accepted_refusal : (command other : Command) → form_of command ≡ form_of other
-    → options_of command ≡ options_of other → files_of command ≡ files_of other
-    → (contents refused : List (List ℕ)) → Agree contents refused
-    → length refused ≤ length (files_of other) → IsAccepted command contents
-    → (failure : Failure) → IsRefusal other refused failure
+pub accepted_refusal : (command : Command) (contents refused : List (List ℕ))
+    → Agree contents refused → length refused ≤ length (files_of command)
+    → IsAccepted command contents → (failure : Failure) → IsRefusal command refused failure
     → IsStatusOf command (status_of failure)
-accepted_refusal command other form options files contents refused agree below accepted failure
-    refusal =
-    let (check, seven, found) = report_beside (form_of other) (options_of other) contents refused
-    failure accepts (refusal_beside other contents refused failure agree within whole refusal) in
-    seven_of_check command (status_of failure) (form ∙ check) seven
+accepted_refusal command contents refused agree below accepted failure refusal =
+    let (check, ends) = report_beside command contents refused agree
+    (within (form_of command) (options_of command) (accepted_all command contents accepted)) whole
+    (accepts_of command contents accepted) failure refusal in
+    seven_of_check command (status_of failure) check
+    (report_status ends.problem ends.bytes failure ends.holds)
   where
-    accepts : Accepts (form_of other) (options_of other) contents
-    accepts = subst (λ given. Accepts (form_of other) given contents) options
-        (subst (λ of. Accepts of (options_of command) contents) form
-        (accepts_of command contents accepted))
+    within : (form : Form) (given : List Given)
+        → ((form ≡ forms.Check) × (3 ≤ length contents)) ⊎ AreAll command contents
+        → length (texts_for form given refused) ≤ length (texts_for form given contents)
+    within forms.Check given (inl (check, three)) =
+        omega (arith, three, length-take 3 contents, length-take 3 refused)
+    within form given (inl (check, three)) = cc check
+    within form given (inr all) =
+        texts_within form given contents refused (omega (arith, all, below))
 
-    many : length (files_of command) ≡ length (files_of other)
-    many = ap length files
-
-    within : length refused ≤ 3 → length refused ≤ length contents
-    within few = elim (accepted_all command contents accepted) [
-      | inl (check, three) ↦ omega (arith, few, three)
-      | inr all ↦ omega (arith, all, many, below)
-    ]
-
-    whole : form_of other ≢ forms.Check → AreAll other refused
+    whole : form_of command ≢ forms.Check → AreAll command refused
         → length contents ≡ length refused
     whole apart are = elim (accepted_all command contents accepted) [
-      | inl (check, three) ↦ absurd (apart (sym form ∙ check))
-      | inr all ↦ all ∙ many ∙ sym are
+      | inl (check, three) ↦ absurd (apart check)
+      | inr all ↦ all ∙ sym are
     ]

@@ -26,7 +26,7 @@ use Rattle.cts_program.specs.Run.{DenotesText, Stops}
 use Rattle.cts_program.specs.Steps.{IsReportedAs, ReadsPlaces, FailsPlaces, GivesFault, DenotesCircuit, ReadsProblem, DenotesProblem}
 use Rattle.cts_program.specs.SynthTexts.{IsSynthText}
 use Rattle.cts_program.proofs.FileStops.{file_stops}
-use Rattle.cts_program.proofs.RefusalLemmas.{file_refusal}
+use Rattle.cts_program.proofs.FileRefusals.{file_refusal}
 use Rattle.cts_program.proofs.ResultLemmas.{if_ok_from}
 
 -- a register that has no place is one of the circuit
@@ -79,8 +79,6 @@ module _ {holds : List ℕ → Option (List ℕ)} (bench file : Bor (List ℕ)) 
           → AreContents holds (circuit_files bench (Some file)) contents
           → length contents ≡ 2 → AreAccepted contents → Tell contents circuit tech
           → DenotesTwo holds bench file circuit tech
-      at [] are two accepted tell = absurd (omega arith)
-      at (netlist ∷ []) are two accepted tell = absurd (omega arith)
       at (netlist ∷ table ∷ []) are two accepted tell = record {
         netlist = netlist;
         table = table;
@@ -90,7 +88,7 @@ module _ {holds : List ℕ → Option (List ℕ)} (bench file : Bor (List ℕ)) 
         table_accepted = accepted.1;
         tell = tell;
       }
-      at (netlist ∷ table ∷ more ∷ rest) are two accepted tell = absurd (omega arith)
+      at contents are two accepted tell = absurd (omega (arith, two))
 
   module _ (pl : Bor (List ℕ)) where
     module _ (command : Command) (named : ReadsProblem command bench file pl) where
@@ -118,7 +116,7 @@ module _ {holds : List ℕ → Option (List ℕ)} (bench file : Bor (List ℕ)) 
             contents = two.netlist ∷ two.table ∷ bytes ∷ [];
             are = three_denoted bytes denoted';
             refusal = file_refusal command named.1 (two.netlist ∷ two.table ∷ bytes ∷ [])
-                (failures.Placement fault) refused (λ _ _ _ _. refused);
+                (failures.Placement fault) refused;
           }
       placement_stops reads reads_now failure fails =
           let two = two_denoted in
@@ -164,11 +162,8 @@ placed_denotes bench file pl problem denoted placed =
 -- contents that tell a problem tell its circuit and its delays
 pub problem_denoted : (contents : List (List ℕ)) (problem : Problem) → TellProblem contents problem
     → Tell contents problem.circuit problem.tech
-problem_denoted [] problem tell = absurd tell
-problem_denoted (netlist ∷ []) problem tell = absurd tell
-problem_denoted (netlist ∷ table ∷ []) problem tell = absurd tell
 problem_denoted (netlist ∷ table ∷ places ∷ []) problem tell = tell.tell
-problem_denoted (netlist ∷ table ∷ places ∷ more ∷ rest) problem tell = absurd tell
+problem_denoted contents problem tell = absurd tell
 
 module _ {holds : List ℕ → Option (List ℕ)} {files : List (FileKind × List ℕ)}
     (problem : Problem) (denoted : DenotesProblem holds files problem) where

@@ -11,7 +11,7 @@ use Rattle.std.proofs.lemmas.Map.Keys.{IsDistinct-IsPermutation}
 use Rattle.cts_program.specs.declared.command.Command.{Command}
 use Rattle.cts_program.specs.declared.command.Command.TheVariants as command
 use Rattle.cts_program.specs.declared.command.table.Form.{Form}
-use Rattle.cts_program.specs.declared.command.table.Form.TheVariants.{Zero, Period, Schedule, Synth, Check, Demo}
+use Rattle.cts_program.specs.declared.command.table.Form.TheVariants.{Zero, Period, Schedule, Synth, Check, Demo, Embed}
 use Rattle.cts_program.specs.declared.command.table.Choice.{Choice}
 use Rattle.cts_program.specs.CommandTable.{Word, word_of, is_required, form_of, form_name, form_named, choices_of}
 use Rattle.cts_program.specs.Commands.{Given, IsTaken, name_of, values_of, options_of, listed, option_words, IsCommand, IsSame}
@@ -42,6 +42,8 @@ unfolding IsDistinct
 options_differ Synth = ((refl, (refl, tt)), ((refl, tt), (tt, tt)))
 options_differ Check =
     ((refl, (refl, (refl, tt))), ((refl, (refl, tt)), ((refl, tt), (tt, tt))))
+options_differ Embed =
+    ((refl, (refl, (refl, tt))), ((refl, (refl, tt)), ((refl, tt), (tt, tt))))
 options_differ form = ((refl, tt), (tt, tt))
 
 -- what the options of a command come to by its row: they differ, the row requires no others, and
@@ -62,6 +64,8 @@ fits_row (command.Synth bench tech pl) =
     record { once = options_differ Synth; required = refl; ordered = refl }
 fits_row (command.Check bench tech pl report) =
     record { once = options_differ Check; required = refl; ordered = refl }
+fits_row (command.Embed bench tech pl topology) =
+    record { once = options_differ Embed; required = refl; ordered = refl }
 fits_row command = record { once = ((refl, tt), (tt, tt)); required = refl; ordered = refl }
 
 -- ---- a command's words pass
@@ -95,7 +99,7 @@ command_passes words form others is command means =
 
 -- ---- words mean one command
 
--- words are options with values in one way
+-- words spell one list of options with values
 one_given : (given other : List Given) → option_words given ≡ option_words other → given ≡ other
 one_given [] [] same = refl
 one_given [] (two ∷ more) same = cc
@@ -181,6 +185,11 @@ module _ (at : ℕ × ℕ) where
   }
   made Demo (Some registers ∷ Some seed ∷ []) has = record {
     command = command.Demo (borrowed registers) (borrowed seed);
+    has_form = refl;
+    has_values = refl;
+  }
+  made Embed (Some bench ∷ Some tech ∷ Some pl ∷ Some topology ∷ []) has = record {
+    command = command.Embed (borrowed bench) (borrowed tech) (borrowed pl) (borrowed topology);
     has_form = refl;
     has_values = refl;
   }

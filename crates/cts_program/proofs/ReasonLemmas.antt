@@ -12,7 +12,7 @@ use Rattle.cert_check.specs.Judged.{Judged, JudgedOnce}
 use Rattle.cert_check.specs.Verdicts.{IsVerdict}
 use Rattle.cts_program.specs.Steps.{IsRegisterReason}
 
--- the reason is about no register, or about one among so many
+-- the reason is about no register, or about one below this number
 abbrev IsAmong : ℕ → Reason → Type 0
 IsAmong registers reason = (register : ℕ) → IsRegisterReason reason register → register < registers
 

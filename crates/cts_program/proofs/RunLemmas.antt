@@ -11,16 +11,19 @@ use Rattle.cts_program.specs.declared.command.WordsFault.TheVariants as word_fau
 use Rattle.cts_program.specs.declared.ending.Ending.{Ending}
 use Rattle.cts_program.specs.declared.ending.Ending.TheVariants.{Done, Never}
 use Rattle.cts_program.specs.declared.failure.Failure.{Failure}
-use Rattle.cts_program.specs.declared.failure.Failure.TheVariants.{Usage, Unshown, ReadFault, WriteFault, NoMemory}
+use Rattle.cts_program.specs.declared.failure.Failure.TheVariants.{Usage, TooLong, Unshown, ReadFault, WriteFault, NoMemory}
 use Rattle.cts_program.specs.declared.reading.file_kind.FileKind.{FileKind}
-use Rattle.cts_program.specs.Answers.{ending_status, IsAnswer, IsRefusal, IsAccepted, IsStatusOf, FindsNoPeriod}
-use Rattle.cts_program.specs.Commands.{options_of, IsCommand, IsSame}
+use Rattle.cts_program.specs.declared.reading.file_kind.FileKind.TheVariants.{Report}
+use Rattle.cts_program.specs.declared.command.table.Form.{Form}
+use Rattle.cts_program.specs.Answers.{ending_status, texts_for, RefusesText, RefusesAccepted, IsAnswer, IsRefusal, IsAccepted, IsStatusOf, FindsNoPeriod}
+use Rattle.cts_program.specs.Commands.{Given, options_of, IsCommand, IsSame}
 use Rattle.cts_program.specs.Failures.{words_failure_of, status_of}
 use Rattle.cts_program.specs.Files.{files_of, AreAll, AreContents, AreDenoted}
 use Rattle.cts_program.specs.CommandTable.{form_of}
 use Rattle.cts_program.specs.Run.{IsNoCommand, DenotesText, RefusesCommand, CannotRead, EndsInPart, Fails, NoneRose}
 use Rattle.cts_program.proofs.AnswerTexts.{IsTextOf}
-use Rattle.cts_program.proofs.OneAnswer.{Agree, Answers, answer_of, one_status, no_answer_prefix, some_text, agree_same, agree_rotated}
+use Rattle.cts_program.proofs.FileRefusals.{Agree, agree_same, agree_rotated}
+use Rattle.cts_program.proofs.OneAnswer.{Answers, answer_of, one_status, no_answer_prefix, some_text}
 use Rattle.cts_program.proofs.OneRefusal.{ReportLaws, answer_not_refused, one_refusal_status, accepted_refusal}
 use Rattle.cts_program.proofs.PlainCommands.{one_command, same_form}
 use Rattle.cts_program.proofs.SameFiles.{same_files, denoted_contents, contents_within, denoted_agree}
@@ -37,6 +40,12 @@ answers_moved command other same contents status text answer =
     subst (λ given. Answers (form_of other) given contents status text) same.options
     (subst (λ form. Answers form (options_of command) contents status text)
     (same_form command other same.name) answer)
+
+-- a command of this form, with these options and files, refuses them with this failure
+abbrev RefusesWith : Form → List Given → List (FileKind × List ℕ) → List (List ℕ) → Failure → Type 0
+RefusesWith form given files contents failure = RefusesText (texts_for form given contents) failure
+    ⊎ ((length contents ≡ length files)
+    × RefusesAccepted form (texts_for form given contents) contents failure)
 
 -- contents that a command's text is made of, beside those that are said of its files
 module _ (words : List (List ℕ)) (holds : List ℕ → Option (List ℕ)) (command other : Command)
@@ -63,11 +72,24 @@ module _ (words : List (List ℕ)) (holds : List ℕ → Option (List ℕ)) (com
   are_same : IsSame command other
   are_same = one_command words command other means means'
 
+  -- a refusal of the one is a refusal of the other
+  refused_here : (known : List (List ℕ)) (failure : Failure) → IsRefusal other known failure
+      → IsRefusal command known failure
+  refused_here known failure refusal =
+      let files = same_files words command other means means' in
+      subst (λ files. RefusesWith (form_of command) (options_of command) files known failure)
+      (sym files)
+      (subst (λ given. RefusesWith (form_of command) given (files_of other) known failure)
+      (sym are_same.options)
+      (subst (λ form. RefusesWith form (options_of other) (files_of other) known failure)
+      (sym (same_form command other are_same.name)) refusal))
+
   -- a refusal of contents that are given, beside a text
   pub denoted_not_refused : ReportLaws → (failure : Failure) → IsRefusal command contents failure
       → (status : ℕ) (text : List ℕ) → DenotesText holds other status text → ⊥
   denoted_not_refused laws failure refusal status text denotes =
-      let (all, answer) = answer_of other denotes.contents status text denotes.answer in
+      let (all, says) = denotes.answer in
+      let answer = answer_of other denotes.contents status text says in
       let many = as_many in
       let within = denoted_within in
       answer_not_refused laws command denotes.contents contents failure status text
@@ -80,26 +102,26 @@ module _ (words : List (List ℕ)) (holds : List ℕ → Option (List ℕ)) (com
   pub refused_alike : (failure failure' : Failure) → IsRefusal command contents failure
       → RefusesCommand holds other failure' → status_of failure' ≡ status_of failure
   refused_alike failure failure' refusal refuses =
-      sym (one_refusal_status command other (same_form command other are_same.name) contents
-      refuses.contents (agrees refuses.contents refuses.are) failure failure' refusal
-      refuses.refusal)
+      sym (one_refusal_status command contents refuses.contents
+      (agrees refuses.contents refuses.are) failure failure' refusal
+      (refused_here refuses.contents failure' refuses.refusal))
 
   -- a refusal, where what is given is accepted, has a status for it
   pub accepted_refused : IsAccepted command contents → (failure : Failure)
       → RefusesCommand holds other failure → IsStatusOf command (status_of failure)
   accepted_refused accepted failure refuses =
-      accepted_refusal command other (same_form command other are_same.name) are_same.options
-      (same_files words command other means means') contents refuses.contents
-      (agrees refuses.contents refuses.are)
-      (contents_within holds (files_of other) refuses.contents refuses.are) accepted failure
-      refuses.refusal
+      let many = as_many in
+      let within = contents_within holds (files_of other) refuses.contents refuses.are in
+      accepted_refusal command contents refuses.contents (agrees refuses.contents refuses.are)
+      (omega arith) accepted failure (refused_here refuses.contents failure refuses.refusal)
 
   -- a text, where the contents of all files are given, is made of these
   denotes_alike : AreAll command contents → (status' : ℕ) (text' : List ℕ)
       → DenotesText holds other status' text'
       → Answers (form_of command) (options_of command) contents status' text'
   denotes_alike all status' text' denotes =
-      let (all', denoted_all') = answer_of other denotes.contents status' text' denotes.answer in
+      let (all', says) = denotes.answer in
+      let denoted_all' = answer_of other denotes.contents status' text' says in
       let many = as_many in
       let known = sym (agree_same contents denotes.contents (agrees denotes.contents denotes.are)
       (omega arith)) in
@@ -125,8 +147,8 @@ module _ (words : List (List ℕ)) (holds : List ℕ → Option (List ℕ)) (com
       → (status' : ℕ) (text' : List ℕ) → DenotesText holds other status' text' → status' ≡ status
   denoted_status status text answer status' text' denotes =
       one_status (form_of command) (options_of command) contents status' text'
-      (denotes_alike (answer_of command contents status text answer).0 status' text' denotes) status
-      text (answer_of command contents status text answer).1
+      (denotes_alike answer.0 status' text' denotes) status text
+      (answer_of command contents status text answer.1)
 
   -- and isn't a prefix of it
   pub denoted_prefix : (status : ℕ) (text : List ℕ) → IsAnswer command contents status text
@@ -134,8 +156,8 @@ module _ (words : List (List ℕ)) (holds : List ℕ → Option (List ℕ)) (com
       → (count : ℕ) → text ≡ take count text' → count < length text' → ⊥
   denoted_prefix status text answer status' text' denotes =
       no_answer_prefix (form_of command) (options_of command) contents status text
-      (answer_of command contents status text answer).1 status' text'
-      (denotes_alike (answer_of command contents status text answer).0 status' text' denotes)
+      (answer_of command contents status text answer.1) status' text'
+      (denotes_alike answer.0 status' text' denotes)
 
 -- a file whose count rose is none of those whose counts didn't
 none_rose_read : (reads reads_now : List ℕ → ℕ) (files prefix : List (FileKind × List ℕ))
@@ -205,6 +227,7 @@ module _ (words : List (List ℕ)) (holds : List ℕ → Option (List ℕ)) (rea
   cause_of (ReadFault kind) (command, means, cannot) = unread kind refl command means cannot
   cause_of WriteFault (part, rose) = unwritten refl part rose
   cause_of NoMemory (command, means, any) = memory refl command means
+  cause_of (TooLong Report) (command, means, refuses) = refused (inr refl) command means refuses
   cause_of failure cause = refused (inl refl) cause.0 cause.1 cause.2
 
   module _ (failure : Failure)
@@ -340,7 +363,7 @@ module _ (words : List (List ℕ)) (holds : List ℕ → Option (List ℕ)) (rea
         some : 0 < length text
         some =
             some_text (form_of command) (options_of command) contents status text
-            (answer_of command contents status text answer).1
+            (answer_of command contents status text answer.1)
 
         not_write : (status : ℕ) → status_of failure ≡ status → (status ≡ 5 → ⊥)
             → failure ≢ WriteFault
@@ -355,7 +378,7 @@ pub done_status : (words : List (List ℕ)) (holds : List ℕ → Option (List �
     → IsStatusOf command (ending_status ending)
 done_status words holds command other means means' ending text denotes =
     let answer =
-    (answer_of other denotes.contents (ending_status ending) text denotes.answer).1 in
+    answer_of other denotes.contents (ending_status ending) text denotes.answer.1 in
     let one = one_command words other command means' means in
     text_status command ending text answer.circuit answer.tech
     (subst (λ form. IsTextOf form (ending_status ending) text answer.circuit answer.tech)
@@ -368,7 +391,7 @@ not_two Never two = omega arith
 
 -- and one that fails with neither 0 nor 1
 pub no_ending : (failure : Failure) (status : ℕ) → status_of failure ≡ status → status < 2 → ⊥
-no_ending Usage status is few = omega (arith, is, few)
+no_ending (TooLong Report) status is few = omega (arith, is, few)
 no_ending failure status is few = omega (arith, is, few)
 
 -- where a count is greater that no failure but a fault moves, the status is that of the fault

@@ -3,12 +3,12 @@ use Rattle.std.proofs.Common.{ℕ, ◌≡◌, ◌≤◌, if◌then◌else◌, Li
 use Rattle.std.specs.List.{flat_map}
 use Rattle.std.specs.Str.{bytes_eq}
 use Rattle.cts_program.specs.declared.command.Command.{Command}
-use Rattle.cts_program.specs.declared.command.Command.TheVariants.{Zero, Period, Schedule, Synth, Check, Demo}
+use Rattle.cts_program.specs.declared.command.Command.TheVariants.{Zero}
 use Rattle.cts_program.specs.declared.reading.file_kind.FileKind.{FileKind}
-use Rattle.cts_program.specs.declared.reading.file_kind.FileKind.TheVariants.{Bench, Tech, Placement, Report}
+use Rattle.cts_program.specs.declared.reading.file_kind.FileKind.TheVariants.{Bench, Tech, Placement, Report, Topology}
 use Rattle.cts_program.specs.Commands.{Given, options_of, IsSame, IsCommand}
 use Rattle.cts_program.specs.Files.{files_of, AreContents, AreDenoted}
-use Rattle.cts_program.proofs.OneAnswer.{Agree}
+use Rattle.cts_program.proofs.FileRefusals.{Agree}
 use Rattle.cts_program.proofs.PlainCommands.{one_command}
 
 -- the file that an option names, if it names one
@@ -16,17 +16,14 @@ abbrev file_of : Given → List (FileKind × List ℕ)
 file_of one = if bytes_eq one.0 (codes "--bench") then (Bench, one.1) ∷ []
     else if bytes_eq one.0 (codes "--tech") then (Tech, one.1) ∷ []
     else if bytes_eq one.0 (codes "--pl") then (Placement, one.1) ∷ []
-    else if bytes_eq one.0 (codes "--report") then (Report, one.1) ∷ [] else []
+    else if bytes_eq one.0 (codes "--report") then (Report, one.1) ∷ []
+    else if bytes_eq one.0 (codes "--topology") then (Topology, one.1) ∷ [] else []
 
 -- the files of a command are those that its options name, in their order
 files_named : (command : Command) → files_of command ≡ flat_map file_of (options_of command)
 files_named (Zero bench None) = refl
 files_named (Zero bench (Some tech)) = refl
-files_named (Period bench tech) = refl
-files_named (Schedule bench tech) = refl
-files_named (Synth bench tech pl) = refl
-files_named (Check bench tech pl report) = refl
-files_named (Demo registers seed) = refl
+files_named command = refl
 
 files_same : (command other : Command) → IsSame command other → files_of command ≡ files_of other
 files_same command other same =

@@ -8,12 +8,12 @@ use Rattle.cts_program.specs.declared.command.Command.{Command}
 use Rattle.cts_program.specs.declared.command.Command.TheVariants.{Zero, Check}
 use Rattle.cts_program.specs.declared.ending.Ending.{Ending}
 use Rattle.cts_program.specs.declared.ending.Ending.TheVariants as endings
-use Rattle.cts_program.specs.Answers.{ending_status, TellWith, IsStatusOf, FindsNoPeriod}
+use Rattle.cts_program.specs.Answers.{ending_status, TellWith, texts_for, IsStatusOf, FindsNoPeriod}
 use Rattle.cts_program.specs.Commands.{options_of}
 use Rattle.cts_program.specs.Files.{AreAll}
 use Rattle.cts_program.specs.CommandTable.{form_of}
 use Rattle.cts_program.proofs.AnswerTexts.{looks_for_period, SaysOfPeriods, IsTextOf}
-use Rattle.cts_program.proofs.OneAnswer.{Answers, texts_for, one_denoted}
+use Rattle.cts_program.proofs.OneAnswer.{Answers, one_denoted}
 
 -- ---- no period
 

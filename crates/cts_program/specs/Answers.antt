@@ -1,18 +1,22 @@
 -- What a command answers where its files have these contents: a text, or the first refusal.
-use Rattle.std.specs.Prelude.{◌≡◌, ◌≤◌, ◌⊎◌, ◌==◌, ◌||◌, ℕ, Bool, List, length, take}
+use Rattle.std.specs.Prelude.{◌≡◌, ◌≤◌, ◌⊎◌, ◌==◌, ◌||◌, ℕ, Bool, List, [], ◌∷◌, length, take, get_or}
 use Rattle.cts_model.specs.declared.circuit.Circuit.{Circuit}
 use Rattle.cts_model.specs.declared.problem.Problem.{Problem}
 use Rattle.cts_model.specs.declared.tech.Tech.{Tech}
 use Rattle.cts_model.specs.LeastPeriods.{HasNoPeriod}
 use Rattle.cts_model.specs.PairLists.{JoinsMoreThan}
+use Rattle.cts_model.specs.PrintedLines.{text_of}
 use Rattle.cts_program.specs.declared.command.Command.{Command}
-use Rattle.cts_program.specs.declared.command.Command.TheVariants.{Zero, Period, Schedule, Synth, Check, Demo}
+use Rattle.cts_program.specs.declared.command.Command.TheVariants.{Zero, Period, Schedule, Synth, Check, Demo, Embed}
+use Rattle.cts_program.specs.declared.command.table.Form.{Form}
+use Rattle.cts_program.specs.declared.command.table.Form.TheVariants as forms
 use Rattle.cts_program.specs.declared.ending.Ending.{Ending}
 use Rattle.cts_program.specs.declared.ending.Ending.TheVariants.{Done, Never}
 use Rattle.cts_program.specs.declared.failure.Failure.{Failure}
-use Rattle.cts_program.specs.declared.failure.Failure.TheVariants.{Unshown, Pairs}
-use Rattle.cts_program.specs.Checks.{IsCheckAnswer, IsCheckRefusal}
-use Rattle.cts_program.specs.Commands.{number_of}
+use Rattle.cts_program.specs.declared.failure.Failure.TheVariants.{Pairs}
+use Rattle.cts_program.specs.Checks.{shown_line, EndWith, IsShownReport, RefusesReport}
+use Rattle.cts_program.specs.CommandTable.{form_of}
+use Rattle.cts_program.specs.Commands.{Given, number_of, options_of}
 use Rattle.cts_program.specs.DemoTexts.{demo_texts, IsDemoText}
 use Rattle.cts_program.specs.Files.{AreAll}
 use Rattle.cts_program.specs.Judged.{AreAccepted, IsFileRefusal, Tell, TellProblem}
@@ -20,6 +24,7 @@ use Rattle.cts_program.specs.PeriodTexts.{IsPeriodText}
 use Rattle.cts_program.specs.ScheduleTexts.{IsScheduleText}
 use Rattle.cts_program.specs.SynthTexts.{IsSynthText}
 use Rattle.cts_program.specs.Texts.{IsZeroText}
+use Rattle.cts_program.specs.TopologyFiles.{IsAcceptedFor, IsEmbeddedBy, RefusesEmbedding}
 
 -- the contents are accepted, and paths join more pairs of registers than a circuit may have
 pub record JoinTooMany (contents : List (List ℕ)) : Type 0 where
@@ -65,7 +70,7 @@ abbrev pub IsSynthAnswer : List (List ℕ) → ℕ → List ℕ → Type 0
 IsSynthAnswer contents status text =
     TellProblemWith contents (λ problem. IsSynthText problem status text)
 
--- the text is one for a demonstration with so many registers and this seed, with its status
+-- the text is one for the demonstration with this number of registers and this seed, with its status
 abbrev pub IsDemoAnswer : (registers seed : ℕ) → ℕ → List ℕ → Type 0
 IsDemoAnswer registers seed status text = TellProblemWith (demo_texts registers seed)
     (λ problem. IsDemoText registers problem status text)
@@ -79,56 +84,73 @@ ending_status Never = 1
 abbrev pub is_ending : ℕ → Bool
 is_ending status = (status == 0) || (status == 1)
 
+-- the number that the value of an option spells
+abbrev pub number_given : List Given → (place : ℕ) → ℕ
+number_given given place = number_of (get_or given place ([], [])).1
+
+-- the texts that tell what a command with these options goes by: what its files hold, without a
+-- report that is checked or a topology that is given, or those of a demonstration
+abbrev pub texts_for : Form → List Given → (contents : List (List ℕ)) → List (List ℕ)
+texts_for forms.Check given contents = take 3 contents
+texts_for forms.Embed given contents = take 3 contents
+texts_for forms.Demo given contents = demo_texts (number_given given 0) (number_given given 1)
+texts_for form given contents = contents
+
+abbrev pub texts_of : Command → (contents : List (List ℕ)) → List (List ℕ)
+texts_of command contents = texts_for (form_of command) (options_of command) contents
+
+-- the text is one that a command prints for what its texts tell, with its status
+abbrev pub IsText : Command → List (List ℕ) → ℕ → List ℕ → Type 0
+IsText (Zero bench tech) contents status text = (status ≡ 0) × IsZeroAnswer contents text
+IsText (Period bench tech) contents status text = IsPeriodAnswer contents status text
+IsText (Schedule bench tech) contents status text = IsScheduleAnswer contents status text
+IsText (Synth bench tech pl) contents status text = IsSynthAnswer contents status text
+IsText (Check bench tech pl report) contents status text = (status ≡ 0)
+    × EndWith contents IsShownReport × (text ≡ text_of (shown_line ∷ []))
+IsText (Demo registers seed) contents status text =
+    IsDemoAnswer (number_of registers.now) (number_of seed.now) status text
+IsText (Embed bench tech pl topology) contents status text =
+    EndWith contents (IsEmbeddedBy status text)
+
 -- the command answers with this status and this text
 abbrev pub IsAnswer : Command → List (List ℕ) → ℕ → List ℕ → Type 0
-IsAnswer (Zero bench tech) contents status text =
-    AreAll (Zero bench tech) contents × (status ≡ 0) × IsZeroAnswer contents text
-IsAnswer (Period bench tech) contents status text =
-    AreAll (Period bench tech) contents × IsPeriodAnswer contents status text
-IsAnswer (Schedule bench tech) contents status text =
-    AreAll (Schedule bench tech) contents × IsScheduleAnswer contents status text
-IsAnswer (Synth bench tech pl) contents status text =
-    AreAll (Synth bench tech pl) contents × IsSynthAnswer contents status text
-IsAnswer (Check bench tech pl report) contents status text =
-    AreAll (Check bench tech pl report) contents × (status ≡ 0) × IsCheckAnswer contents text
-IsAnswer (Demo registers seed) contents status text = AreAll (Demo registers seed) contents
-    × IsDemoAnswer (number_of registers.now) (number_of seed.now) status text
+IsAnswer command contents status text =
+    AreAll command contents × IsText command contents status text
 
--- the last of these texts is refused, or all are accepted and join too many pairs
-abbrev pub IsTextRefusal : (all : Type 0) → List (List ℕ) → Failure → Type 0
-IsTextRefusal all contents Pairs = all × JoinTooMany contents
-IsTextRefusal all contents failure = IsFileRefusal contents failure
+-- the first of these texts are accepted, and the next is refused
+pub record RefusesText (texts : List (List ℕ)) (failure : Failure) : Type 0 where
+  pub count : ℕ
+  pub refusal : IsFileRefusal (take count texts) failure
 
--- the first refusal of a problem's texts, on those up to the one that is refused
-pub record IsFirstRefusal (contents : List (List ℕ)) (failure : Failure) : Type 0 where
-  pub texts : ℕ
-  pub refusal : IsTextRefusal (3 ≤ texts) (take texts contents) failure
+-- these texts are accepted, and a command of this form refuses its files all the same: where a
+-- report is checked it isn't shown, however many pairs are joined; where a topology is given it is
+-- refused, or too many pairs are joined; else too many are
+abbrev pub RefusesAccepted : Form → (texts contents : List (List ℕ)) → Failure → Type 0
+RefusesAccepted forms.Check texts contents failure =
+    EndWith contents (λ problem bytes. RefusesReport problem bytes failure)
+RefusesAccepted forms.Embed texts contents failure =
+    EndWith contents (λ problem bytes. RefusesEmbedding problem bytes failure)
+RefusesAccepted form texts contents failure = (failure ≡ Pairs) × JoinTooMany texts
 
--- the first refusal of a demonstration
-abbrev pub IsDemoRefusal : (registers seed : ℕ) → Failure → Type 0
-IsDemoRefusal registers seed failure = IsFirstRefusal (demo_texts registers seed) failure
-
--- the first refusal of the command, on the contents of its files up to the one that is refused.
--- Where a report is checked it doesn't matter how many pairs are joined.
+-- the first refusal of the command, on the contents of its files up to the one that is refused
 abbrev pub IsRefusal : Command → List (List ℕ) → Failure → Type 0
-IsRefusal (Check bench tech pl report) contents (Unshown why) = IsCheckRefusal contents why
-IsRefusal (Check bench tech pl report) contents failure = IsFileRefusal contents failure
-IsRefusal (Demo registers seed) contents failure = AreAll (Demo registers seed) contents
-    × IsDemoRefusal (number_of registers.now) (number_of seed.now) failure
-IsRefusal command contents failure = IsTextRefusal (AreAll command contents) contents failure
+IsRefusal command contents failure = RefusesText (texts_of command contents) failure
+    ⊎ (AreAll command contents
+    × RefusesAccepted (form_of command) (texts_of command contents) contents failure)
 
--- the contents are accepted, and join no more pairs than a circuit may have
-abbrev pub AreAcceptedInput : List (List ℕ) → Type 0
-AreAcceptedInput contents = AreAccepted contents × (JoinTooMany contents → ⊥)
+-- the texts of a demonstration are refused
+abbrev pub IsDemoRefusal : (registers seed : ℕ) → Failure → Type 0
+IsDemoRefusal registers seed failure = RefusesText (demo_texts registers seed) failure
+    ⊎ ((failure ≡ Pairs) × JoinTooMany (demo_texts registers seed))
 
--- what the command goes by is accepted: what its files hold, or the texts of a demonstration. Where
--- a report is checked, that is the first three files, however many pairs they join.
+-- what the command goes by is accepted, and joins no more pairs than a circuit may have. Where a
+-- report is checked, that is the first three files, however many pairs they join.
 abbrev pub IsAccepted : Command → List (List ℕ) → Type 0
 IsAccepted (Check bench tech pl report) contents =
     (3 ≤ length contents) × AreAccepted (take 3 contents)
-IsAccepted (Demo registers seed) contents = AreAll (Demo registers seed) contents
-    × AreAcceptedInput (demo_texts (number_of registers.now) (number_of seed.now))
-IsAccepted command contents = AreAll command contents × AreAcceptedInput contents
+IsAccepted (Embed bench tech pl topology) contents = EndWith contents IsAcceptedFor
+IsAccepted command contents = AreAll command contents
+    × AreAccepted (texts_of command contents) × (JoinTooMany (texts_of command contents) → ⊥)
 
 -- the statuses for what is accepted
 abbrev pub IsStatusOf : Command → ℕ → Type 0
@@ -140,6 +162,5 @@ IsStatusOf command status = (status ≡ 0) ⊎ (status ≡ 1)
 abbrev pub FindsNoPeriod : Command → List (List ℕ) → Type 0
 FindsNoPeriod (Zero bench tech) contents = ⊥
 FindsNoPeriod (Check bench tech pl report) contents = ⊥
-FindsNoPeriod (Demo registers seed) contents = AreAll (Demo registers seed) contents
-    × TellWith (demo_texts (number_of registers.now) (number_of seed.now)) HasNoPeriod
-FindsNoPeriod command contents = AreAll command contents × TellWith contents HasNoPeriod
+FindsNoPeriod command contents =
+    AreAll command contents × TellWith (texts_of command contents) HasNoPeriod

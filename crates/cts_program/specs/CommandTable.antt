@@ -5,7 +5,7 @@ use Rattle.std.specs.Str.{bytes_eq}
 use Rattle.cts_program.specs.declared.command.Command.{Command}
 use Rattle.cts_program.specs.declared.command.Command.TheVariants as command
 use Rattle.cts_program.specs.declared.command.table.Form.{Form}
-use Rattle.cts_program.specs.declared.command.table.Form.TheVariants.{Zero, Period, Schedule, Synth, Check, Demo}
+use Rattle.cts_program.specs.declared.command.table.Form.TheVariants.{Zero, Period, Schedule, Synth, Check, Demo, Embed}
 use Rattle.cts_program.specs.declared.command.table.Choice.{Choice}
 use Rattle.cts_program.specs.declared.command.table.Choice.TheVariants as option
 use Rattle.cts_program.specs.declared.command.table.ValueKind.{ValueKind}
@@ -17,7 +17,7 @@ Word = List ℕ
 
 -- all commands
 abbrev pub forms : List Form
-forms = Zero ∷ Period ∷ Schedule ∷ Synth ∷ Check ∷ Demo ∷ []
+forms = Zero ∷ Period ∷ Schedule ∷ Synth ∷ Check ∷ Demo ∷ Embed ∷ []
 
 -- the name of a command, and its options
 abbrev pub row_of : Form → Word × List Choice
@@ -28,6 +28,8 @@ row_of Synth = (codes "synth", option.Bench ∷ option.Tech ∷ option.Placement
 row_of Check =
     (codes "check", option.Bench ∷ option.Tech ∷ option.Placement ∷ option.Report ∷ [])
 row_of Demo = (codes "demo", option.Registers ∷ option.Seed ∷ [])
+row_of Embed =
+    (codes "embed", option.Bench ∷ option.Tech ∷ option.Placement ∷ option.Topology ∷ [])
 
 -- the word of an option
 abbrev pub word_of : Choice → Word
@@ -36,6 +38,7 @@ word_of option.Tech = codes "--tech"
 word_of option.TechIfWanted = codes "--tech"
 word_of option.Placement = codes "--pl"
 word_of option.Report = codes "--report"
+word_of option.Topology = codes "--topology"
 word_of option.Registers = codes "--registers"
 word_of option.Seed = codes "--seed"
 
@@ -58,6 +61,7 @@ form_of (command.Schedule bench tech) = Schedule
 form_of (command.Synth bench tech pl) = Synth
 form_of (command.Check bench tech pl report) = Check
 form_of (command.Demo registers seed) = Demo
+form_of (command.Embed bench tech pl topology) = Embed
 
 -- the name of a command
 abbrev pub form_name : Form → Word

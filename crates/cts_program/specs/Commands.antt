@@ -5,7 +5,7 @@ use Rattle.std.specs.List.Sorted.{IsPermutation}
 use Rattle.std.specs.Str.{all_ascii_digits, bytes_eq}
 use Rattle.std.specs.Str.Parse.{digits_value}
 use Rattle.cts_program.specs.declared.command.Command.{Command}
-use Rattle.cts_program.specs.declared.command.Command.TheVariants.{Zero, Period, Schedule, Synth, Check, Demo}
+use Rattle.cts_program.specs.declared.command.Command.TheVariants.{Zero, Period, Schedule, Synth, Check, Demo, Embed}
 use Rattle.cts_program.specs.declared.command.table.Choice.{Choice}
 use Rattle.cts_program.specs.declared.command.table.ValueKind.{ValueKind}
 use Rattle.cts_program.specs.declared.command.table.ValueKind.TheVariants.{File, Registers, Seed}
@@ -24,6 +24,8 @@ values_of (Synth bench tech pl) = Some bench.now ∷ Some tech.now ∷ Some pl.n
 values_of (Check bench tech pl report) =
     Some bench.now ∷ Some tech.now ∷ Some pl.now ∷ Some report.now ∷ []
 values_of (Demo registers seed) = Some registers.now ∷ Some seed.now ∷ []
+values_of (Embed bench tech pl topology) =
+    Some bench.now ∷ Some tech.now ∷ Some pl.now ∷ Some topology.now ∷ []
 
 -- an option with its value, if it has one
 abbrev pub listed_one : Choice → Option Word → List Given

@@ -1,6 +1,6 @@
 -- What the command `demo` prints: a summary of the clock tree of a demonstration, which `check`
 -- shows, or what forbids every period.
-use Rattle.std.specs.Prelude.{◌≡◌, ℕ, zero, suc, List, [], ◌∷◌, codes}
+use Rattle.std.specs.Prelude.{◌≡◌, ℕ, List, [], ◌∷◌, codes}
 use Rattle.cts_model.specs.declared.problem.Problem.{Problem}
 use Rattle.cts_model.specs.declared.report.Report.{Report}
 use Rattle.cts_model.specs.PrintedLines.{Words, text_of, count_line, period_line}
@@ -13,7 +13,7 @@ use Rattle.demo_input.specs.PlacementLines.{placement_text}
 use Rattle.demo_input.specs.TableLines.{table_text}
 use Rattle.cts_program.specs.Checks.{shown_line}
 use Rattle.cts_program.specs.Headline.{IsSynthesisText}
-use Rattle.cts_program.specs.SynthTexts.{IsNeverText}
+use Rattle.cts_program.specs.SynthTexts.{IsFoundOrNever}
 
 -- the texts of a demonstration, in place of what files hold: a netlist, a delay table, a placement
 abbrev pub demo_texts : (registers seed : ℕ) → List (List ℕ)
@@ -39,11 +39,10 @@ summary_lines registers report =
 pub record IsSummaryText (registers : ℕ) (problem : Problem) (text : List ℕ) : Type 0 where
   pub printed : List ℕ
   pub tree : IsSynthesisText problem printed
-  pub checked : IsVerdict problem tree.report Shown
-  pub spelled : text ≡ text_of (summary_lines registers tree.report)
+  pub checked : IsVerdict problem tree.tree.report Shown
+  pub spelled : text ≡ text_of (summary_lines registers tree.tree.report)
 
 -- the bytes are a text for the problem of a demonstration, with its status
 abbrev pub IsDemoText : (registers : ℕ) → Problem → (status : ℕ) → List ℕ → Type 0
-IsDemoText registers problem zero text = IsSummaryText registers problem text
-IsDemoText registers problem (suc zero) text = IsNeverText problem.circuit problem.tech text
-IsDemoText registers problem (suc (suc more)) text = ⊥
+IsDemoText registers problem status text =
+    IsFoundOrNever problem (IsSummaryText registers problem) status text

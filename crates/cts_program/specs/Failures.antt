@@ -13,17 +13,20 @@ use Rattle.cts_engine.specs.declared.fault.SynthFault.TheVariants as synth
 use Rattle.cts_model.specs.declared.kind.Kind.{Kind}
 use Rattle.cts_model.specs.declared.kind.Kind.TheVariants.{And, Nand, Or, Nor, Not, Xor, Xnor, Buff}
 use Rattle.cts_program.specs.declared.failure.Failure.{Failure}
-use Rattle.cts_program.specs.declared.failure.Failure.TheVariants.{Usage, TooLong, Bench, Tech, Placement, Pairs, Unshown, ReadFault, WriteFault, NoMemory}
+use Rattle.cts_program.specs.declared.failure.Failure.TheVariants.{Usage, TooLong, Bench, Tech, Placement, Topology, Pairs, Unshown, ReadFault, WriteFault, NoMemory}
 use Rattle.cts_program.specs.declared.command.WordsFault.{WordsFault}
 use Rattle.cts_program.specs.declared.command.WordsFault.TheVariants as words
 use Rattle.cts_base.specs.declared.number.NumberFault.{NumberFault}
 use Rattle.cts_base.specs.declared.number.NumberFault.TheVariants.{NotNumber, TooFine, TooLarge}
+use Rattle.cts_program.specs.declared.reading.file_kind.FileKind.TheVariants.{Report}
 use Rattle.cts_program.specs.declared.reading.placement.PlacementFault.{PlacementFault}
 use Rattle.cts_program.specs.declared.reading.placement.PlacementFault.TheVariants as places
 use Rattle.cert_check.specs.declared.verdict.Reason.{Reason}
 use Rattle.cert_check.specs.declared.verdict.Reason.TheVariants as reason
 use Rattle.report_text.specs.declared.fault.ReportFault.{ReportFault}
 use Rattle.report_text.specs.declared.fault.ReportFault.TheVariants as report
+use Rattle.topology_file.specs.declared.fault.TopologyFault.{TopologyFault}
+use Rattle.topology_file.specs.declared.fault.TopologyFault.TheVariants as topology
 use Rattle.cts_program.specs.declared.not_shown.NotShown.{NotShown}
 use Rattle.cts_program.specs.declared.not_shown.NotShown.TheVariants as why
 use Rattle.cts_program.specs.CommandTable.{usage}
@@ -49,6 +52,11 @@ abbrev pub synth_failure_of : SynthFault → Failure
 synth_failure_of synth.TooManyPairs = Pairs
 synth_failure_of synth.NoMemory = NoMemory
 
+-- the failure where a topology isn't read
+abbrev pub topology_failure_of : TopologyFault → Failure
+topology_failure_of topology.NoMemory = NoMemory
+topology_failure_of fault = Topology fault
+
 -- the failure where a report isn't read
 abbrev pub report_failure_of : ReportFault → Failure
 report_failure_of report.NoMemory = NoMemory
@@ -57,10 +65,12 @@ report_failure_of fault = Unshown (why.Fault fault)
 -- the program's exit status
 abbrev pub status_of : Failure → ℕ
 status_of Usage = 2
+status_of (TooLong Report) = 7
 status_of (TooLong kind) = 3
 status_of (Bench fault) = 3
 status_of (Tech fault) = 3
 status_of (Placement fault) = 3
+status_of (Topology fault) = 3
 status_of Pairs = 3
 status_of (Unshown why) = 7
 status_of (ReadFault kind) = 4
@@ -153,6 +163,14 @@ placement_line (places.PlaceTwice line) = line_at (codes "refused pl 3 line ") l
 placement_line (places.NoPlace name) = ended (codes "refused pl 4 " ++ name)
 placement_line places.NoSource = ended (codes "refused pl 5")
 
+-- the line for a fault of a topology, with the number of the fault
+abbrev pub topology_line : TopologyFault → List ℕ
+topology_line (topology.BadLine line) = line_at (codes "refused topology 1 line ") line []
+topology_line (topology.NotOpen line) = line_at (codes "refused topology 2 line ") line []
+topology_line (topology.Missing line) = line_at (codes "refused topology 3 line ") line []
+topology_line (topology.Extra line) = line_at (codes "refused topology 4 line ") line []
+topology_line topology.NoMemory = ended (codes "no memory")
+
 -- the line for a text that is no report, with the number of its fault
 abbrev pub fault_line : ReportFault → List ℕ
 fault_line (report.BadLine line) = line_at (codes "not shown report 1 line ") line []
@@ -190,17 +208,18 @@ reason_line (reason.NotLeast register) subject =
 
 -- the line for a report that isn't shown
 abbrev pub not_shown_line : NotShown → List ℕ
-not_shown_line why.TooLong = ended (codes "not shown report long")
 not_shown_line (why.Fault fault) = fault_line fault
 not_shown_line (why.Reason reason subject) = reason_line reason subject
 
 -- the line that says why
 abbrev pub failure_line : Failure → List ℕ
 failure_line Usage = ended usage
+failure_line (TooLong Report) = ended (codes "not shown report long")
 failure_line (TooLong kind) = ended (codes "refused " ++ kind_word kind ++ codes " long")
 failure_line (Bench fault) = bench_line fault
 failure_line (Tech fault) = tech_line fault
 failure_line (Placement fault) = placement_line fault
+failure_line (Topology fault) = topology_line fault
 failure_line Pairs = ended (codes "refused pairs")
 failure_line (Unshown why) = not_shown_line why
 failure_line (ReadFault kind) = ended (codes "read fault " ++ kind_word kind)

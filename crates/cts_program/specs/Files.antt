@@ -2,9 +2,9 @@
 use Rattle.std.specs.Prelude.{◌≡◌, ◌≤◌, ℕ, List, [], ◌∷◌, ◌++◌, map, length, Option, Some, IfSome, option_to_list, codes}
 use Rattle.std.specs.Borrow.{Bor}
 use Rattle.cts_program.specs.declared.reading.file_kind.FileKind.{FileKind}
-use Rattle.cts_program.specs.declared.reading.file_kind.FileKind.TheVariants.{Bench, Tech, Placement, Report}
+use Rattle.cts_program.specs.declared.reading.file_kind.FileKind.TheVariants.{Bench, Tech, Placement, Report, Topology}
 use Rattle.cts_program.specs.declared.command.Command.{Command}
-use Rattle.cts_program.specs.declared.command.Command.TheVariants.{Zero, Period, Schedule, Synth, Check, Demo}
+use Rattle.cts_program.specs.declared.command.Command.TheVariants.{Zero, Period, Schedule, Synth, Check, Demo, Embed}
 
 -- the word for a kind of file on the error output
 abbrev pub kind_word : FileKind → List ℕ
@@ -12,6 +12,7 @@ kind_word Bench = codes "bench"
 kind_word Tech = codes "tech"
 kind_word Placement = codes "pl"
 kind_word Report = codes "report"
+kind_word Topology = codes "topology"
 
 -- the files that tell a circuit: a netlist and, if one is named, a delay table
 abbrev pub circuit_files : Bor (List ℕ) → Option (Bor (List ℕ)) → List (FileKind × List ℕ)
@@ -31,6 +32,8 @@ files_of (Synth bench tech pl) = problem_files bench tech pl
 files_of (Check bench tech pl report) =
     problem_files bench tech pl ++ (Report, report.now) ∷ []
 files_of (Demo registers seed) = []
+files_of (Embed bench tech pl topology) =
+    problem_files bench tech pl ++ (Topology, topology.now) ∷ []
 
 -- no file has more bytes
 abbrev pub IsShortFile : List ℕ → Type 0

@@ -1,10 +1,11 @@
--- What a text of the command `synth` says with status 0: a clock tree whose period, schedule and
--- wire are the least, and what shows them. Fishburn, "Clock Skew Optimization", 1990; Boese and
--- Kahng 1992; Chao and others 1992.
+-- What a text of the commands `synth` and `embed` says with status 0: a clock tree whose period,
+-- schedule and wire are the least, and what shows them. Fishburn, "Clock Skew Optimization", 1990;
+-- Boese and Kahng 1992; Chao and others 1992.
 use Rattle.std.specs.Prelude.{◌≡◌, ℕ, List, length}
 use Rattle.cts_model.specs.declared.problem.Problem.{Problem}
 use Rattle.cts_model.specs.declared.report.Report.{Report}
 use Rattle.cts_model.specs.declared.report.Version.TheVariants.{Second}
+use Rattle.cts_model.specs.declared.tree.Topology.{Topology}
 use Rattle.cts_model.specs.ConstraintPaths.{ArePathsOf}
 use Rattle.cts_model.specs.Constraints.{IsConstraintOf}
 use Rattle.cts_model.specs.Embeddings.{embedding_of, total_wire}
@@ -22,7 +23,7 @@ use Rattle.cts_engine.specs.Syntheses.{AreDrawn, IsPlacedTree}
 use Rattle.cts_engine.specs.SynthesisOutcomes.{ShowsFromLowest}
 
 -- the bytes spell a clock tree for the problem
-pub record IsSynthesisText (problem : Problem) (text : List ℕ) : Type 0 where
+pub record IsTreeText (problem : Problem) (text : List ℕ) : Type 0 where
   pub report : Report
   pub spelled : Spells problem.circuit problem.tech text report
   pub version : report.version ≡ Second
@@ -47,9 +48,19 @@ pub record IsSynthesisText (problem : Problem) (text : List ℕ) : Type 0 where
       report.schedule report.topology.merges (source_in problem report) report.total
   pub placed : IsPlacedTree (sinks_in problem report) report.topology.merges
       (source_in problem report) report.tree report.shows
-  -- the topology is the greedy one, each wire is drawn, and the total is that of the tree
-  pub greedy : IsGreedy (sinks_in problem report) report.topology.merges
+  -- each wire is drawn, and the total is that of the tree
   pub drawn : AreDrawn (length (sinks_in problem report)) report.topology.merges
       (embedding_of report.tree) report.wires
   pub total : report.total
       ≡ total_wire (length (sinks_in problem report)) (embedding_of report.tree)
+
+-- so they do, and the topology is the greedy one
+pub record IsSynthesisText (problem : Problem) (text : List ℕ) : Type 0 where
+  pub tree : IsTreeText problem text
+  pub greedy : IsGreedy (sinks_in problem tree.report) tree.report.topology.merges
+
+-- or it is the given one
+pub record IsEmbeddingText (problem : Problem) (topology : Topology) (text : List ℕ)
+    : Type 0 where
+  pub tree : IsTreeText problem text
+  pub given : tree.report.topology ≡ topology

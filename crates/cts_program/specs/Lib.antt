@@ -15,3 +15,4 @@ pub mod ScheduleTexts
 pub mod Steps
 pub mod SynthTexts
 pub mod Texts
+pub mod TopologyFiles

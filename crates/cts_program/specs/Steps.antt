@@ -7,6 +7,7 @@ use Rattle.cts_model.specs.declared.place.Places.{Places}
 use Rattle.cts_model.specs.declared.problem.Problem.{Problem}
 use Rattle.cts_model.specs.declared.report.Report.{Report}
 use Rattle.cts_model.specs.declared.tech.Tech.{Tech}
+use Rattle.cts_model.specs.declared.tree.Topology.{Topology}
 use Rattle.cts_model.specs.AcceptedTables.{AcceptsTable}
 use Rattle.cts_model.specs.Netlists.{AcceptsNetlist}
 use Rattle.cts_model.specs.PairLists.{JoinsMoreThan}
@@ -17,6 +18,7 @@ use Rattle.delay_tables.specs.declared.fault.TechFault.{TechFault}
 use Rattle.delay_tables.specs.declared.fault.TechFault.TheVariants as tech
 use Rattle.delay_tables.specs.Refusals.{RefusesTable}
 use Rattle.place_reader.specs.declared.fault.PlaceFault.{PlaceFault}
+use Rattle.topology_file.specs.TopologyTexts.{AcceptsTopology}
 use Rattle.cts_engine.specs.Accepted.{HasFault}
 use Rattle.cts_program.specs.declared.failure.Failure.{Failure}
 use Rattle.cts_program.specs.declared.failure.Failure.TheVariants as failures
@@ -30,7 +32,7 @@ use Rattle.cert_check.specs.declared.verdict.Verdict.TheVariants.{Not}
 use Rattle.cert_check.specs.Verdicts.{IsVerdict}
 use Rattle.cts_program.specs.declared.not_shown.NotShown.TheVariants as why
 use Rattle.cts_program.specs.Answers.{IsDemoRefusal}
-use Rattle.cts_program.specs.Checks.{AreOfProblem, IsReportRefusal, subject_of}
+use Rattle.cts_program.specs.Checks.{AreOfProblem, subject_of}
 use Rattle.cts_program.specs.Files.{IsShortFile, circuit_files, problem_files, files_of, AreContents}
 use Rattle.cts_program.specs.Judged.{HasPlaceFault, IsNamedFault, AreAccepted, Tell}
 
@@ -138,13 +140,22 @@ pub record ReadsReport (problem : Problem) (held : Option (List ℕ)) (report : 
   pub short : IsShortFile bytes
   pub spelled : Spells problem.circuit problem.tech bytes report
 
--- a report isn't read, or isn't shown
-abbrev pub FailsReport : Problem → Option (List ℕ) → ℕ → ℕ → Failure → Type 0
-FailsReport problem held before now (failures.Unshown why) =
-    (bytes : List ℕ) × IsReportedAs held bytes × IsReportRefusal problem bytes why
-FailsReport problem held before now (failures.TooLong kind) = ⊥
-FailsReport problem held before now failure =
-    FailsToReadFile kinds.Report held before now failure
+-- the file holds this topology of the problem's registers
+pub record ReadsTopology (problem : Problem) (held : Option (List ℕ)) (topology : Topology)
+    : Type 0 where
+  pub bytes : List ℕ
+  pub denoted : IsReportedAs held bytes
+  pub short : IsShortFile bytes
+  pub accepts : AcceptsTopology bytes (length problem.circuit.registers) topology
+
+-- a command's last file isn't read, or is refused
+abbrev pub FailsLast : FileKind → (Refuses : List ℕ → Failure → Type 0) → Option (List ℕ) → ℕ → ℕ
+    → Failure → Type 0
+FailsLast kind Refuses held before now (failures.ReadFault other) =
+    (kind ≡ other) × Rose before now
+FailsLast kind Refuses held before now failures.NoMemory = Unit {0}
+FailsLast kind Refuses held before now failure =
+    (bytes : List ℕ) × IsReportedAs held bytes × Refuses bytes failure
 
 -- the reason is about this register
 abbrev pub IsRegisterReason : Reason → (register : ℕ) → Type 0

@@ -1,15 +1,18 @@
--- What the command `synth` prints: the report of a clock tree, or what forbids every period.
--- Fishburn, "Clock Skew Optimization", 1990.
+-- What the commands `synth` and `embed` print: the report of a clock tree, or what forbids every
+-- period. Fishburn, "Clock Skew Optimization", 1990.
 use Rattle.std.specs.Prelude.{◌≡◌, ℕ, zero, suc, List}
 use Rattle.cts_model.specs.declared.circuit.Circuit.{Circuit}
 use Rattle.cts_model.specs.declared.constraint.Constraint.{Constraint}
 use Rattle.cts_model.specs.declared.problem.Problem.{Problem}
 use Rattle.cts_model.specs.declared.tech.Tech.{Tech}
+use Rattle.cts_model.specs.declared.tree.Topology.{Topology}
 use Rattle.cts_model.specs.LeastPeriods.{IsForbidding}
 use Rattle.cts_model.specs.PrintedLines.{text_of}
-use Rattle.cts_engine.specs.declared.synthesis.Outcome.TheVariants.{Never}
+use Rattle.cts_model.specs.ReportLines.{report_lines}
+use Rattle.cts_engine.specs.declared.synthesis.Outcome.{Outcome}
+use Rattle.cts_engine.specs.declared.synthesis.Outcome.TheVariants.{Done, Never}
 use Rattle.cts_engine.specs.SynthesisOutcomes.{BeginsLowest}
-use Rattle.cts_program.specs.Headline.{IsSynthesisText}
+use Rattle.cts_program.specs.Headline.{IsSynthesisText, IsEmbeddingText}
 use Rattle.cts_program.specs.PeriodTexts.{never_lines}
 
 -- the bytes are a text for a cycle that forbids every period; it begins at its lowest register
@@ -19,8 +22,24 @@ pub record IsNeverText (circuit : Circuit) (tech : Tech) (text : List ℕ) : Typ
   pub lowest : BeginsLowest (Never cycle)
   pub spelled : text ≡ text_of (never_lines circuit cycle)
 
+-- the bytes say with status 0 what was found, and with status 1 that no period is admitted
+abbrev pub IsFoundOrNever : Problem → (Found : List ℕ → Type 0) → (status : ℕ) → List ℕ → Type 0
+IsFoundOrNever problem Found zero text = Found text
+IsFoundOrNever problem Found (suc zero) text = IsNeverText problem.circuit problem.tech text
+IsFoundOrNever problem Found (suc (suc more)) text = ⊥
+
 -- the bytes are a text for the problem, with its status
 abbrev pub IsSynthText : Problem → (status : ℕ) → List ℕ → Type 0
-IsSynthText problem zero text = IsSynthesisText problem text
-IsSynthText problem (suc zero) text = IsNeverText problem.circuit problem.tech text
-IsSynthText problem (suc (suc more)) text = ⊥
+IsSynthText problem status text = IsFoundOrNever problem (IsSynthesisText problem) status text
+
+-- or for the problem by this topology
+abbrev pub IsEmbedText : Problem → Topology → (status : ℕ) → List ℕ → Type 0
+IsEmbedText problem topology status text =
+    IsFoundOrNever problem (IsEmbeddingText problem topology) status text
+
+-- the lines of what was found, with the status
+abbrev pub IsOutcomeText : Problem → Outcome → (status : ℕ) → List ℕ → Type 0
+IsOutcomeText problem (Done report) status text =
+    (status ≡ 0) × (text ≡ text_of (report_lines problem.circuit report))
+IsOutcomeText problem (Never cycle) status text =
+    (status ≡ 1) × (text ≡ text_of (never_lines problem.circuit cycle))

@@ -44,11 +44,18 @@ pub enum Command<'a> {
         pl: &'a str,
         report: &'a str,
     },
-    /// The clock tree of a demonstration with so many registers and with this seed, both given as
-    /// decimal digits.
+    /// The clock tree of the demonstration with this number of registers and this seed, both given
+    /// as decimal digits.
     Demo {
         registers: &'a str,
         seed: &'a str,
+    },
+    /// The clock tree that realises that schedule by a topology that is given.
+    Embed {
+        bench: &'a str,
+        tech: &'a str,
+        pl: &'a str,
+        topology: &'a str,
     },
 }
 

@@ -26,7 +26,7 @@ use demo_input::Demo;
 use report_text::{push_count, push_line, push_period, push_total};
 use std::alloc::Global;
 
-/// The summary of a demonstration with so many registers and this seed.
+/// The summary of the demonstration with this number of registers and this seed.
 pub fn demo(alloc: Global, registers: &str, seed: &str) -> Result<Answer, Failure>
     requires registers { is_number_within 2 1000 registers.now ≡ true }
     requires seed { is_number_within 0 999 seed.now ≡ true }
@@ -85,7 +85,7 @@ fn held_file(alloc: Global, name: &[u8], bytes: Listed<u8>) -> Result<HeldFile, 
     Ok(HeldFile { name, bytes })
 }
 
-// The answer for a problem with so many registers.
+// The answer for a problem with this number of registers.
 fn problem_answer(alloc: Global, registers: u32, problem: &Problem) -> Result<Answer, Failure>
     ensures few { IfOk result (λ _. JoinsMoreThan problem.now.circuit 1048576 → ⊥) }
     ensures text { IfOk result (λ answer. IsDemoText registers problem.now
@@ -118,7 +118,7 @@ fn is_shown(alloc: Global, problem: &Problem, report: &Report) -> Result<bool, N
     }
 }
 
-// The summary of a report over so many registers.
+// The summary of a report over this number of registers.
 fn summary(alloc: Global, registers: u32, report: &Report) -> Result<Vec<u8>, NoMemory>
     requires { (tech : Tech) × IsWithinBounds tech report.now }
     ensures { IfOk result (λ text. text.items ≡ text_of (summary_lines registers report.now)) }

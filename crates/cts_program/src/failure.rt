@@ -3,7 +3,7 @@
 ghost use Rattle.std.specs.Prelude.{◌≡◌, ◌++◌, ◌∷◌, [], decimal};
 ghost use Rattle.std.specs.List.{flat_map};
 ghost use Rattle.cts_program.specs.declared.failure.Failure.TheVariants.{NoMemory};
-ghost use Rattle.cts_program.specs.Failures.{words_failure_of, bench_failure_of, tech_failure_of, synth_failure_of, report_failure_of, status_of, limit_word, gate_word, number_word, shown_byte, shown, spaced, loop_line, ended, bench_line, tech_line, placement_line, fault_line, reason_line, not_shown_line, failure_line, Reports, Writes};
+ghost use Rattle.cts_program.specs.Failures.{words_failure_of, bench_failure_of, tech_failure_of, synth_failure_of, report_failure_of, topology_failure_of, status_of, limit_word, gate_word, number_word, shown_byte, shown, spaced, loop_line, ended, bench_line, tech_line, placement_line, topology_line, fault_line, reason_line, not_shown_line, failure_line, Reports, Writes};
 
 use crate::command::WordsFault;
 use crate::not_shown::NotShown;
@@ -17,13 +17,14 @@ use cts_model::Kind;
 use delay_tables::TechFault;
 use itoa::Buffer;
 use report_text::ReportFault;
+use topology_file::TopologyFault;
 
 /// Why a command isn't done.
 #[derive(Debug, Drop)]
 pub enum Failure {
     /// The words are no command.
     Usage,
-    /// A file has more bytes than a file may have.
+    /// A file has more bytes than a file may have. A report that has isn't shown.
     TooLong(FileKind),
     /// The netlist is refused.
     Bench(BenchFault),
@@ -31,6 +32,8 @@ pub enum Failure {
     Tech(TechFault),
     /// The placement is refused.
     Placement(PlacementFault),
+    /// The topology is refused.
+    Topology(TopologyFault),
     /// More than 1,048,576 pairs of registers are joined by paths.
     Pairs,
     /// The report isn't shown.
@@ -45,7 +48,8 @@ pub enum Failure {
 
 const USAGE: &[u8] = b"usage: cts zero --bench F [--tech F] | cts period --bench F --tech F \
     | cts schedule --bench F --tech F | cts synth --bench F --tech F --pl F \
-    | cts check --bench F --tech F --pl F --report F | cts demo --registers N --seed S";
+    | cts check --bench F --tech F --pl F --report F | cts demo --registers N --seed S \
+    | cts embed --bench F --tech F --pl F --topology F";
 
 impl Failure {
     /// The program's exit status.
@@ -54,12 +58,12 @@ impl Failure {
     {
         match self {
             Failure::Usage => 2,
+            Failure::TooLong(FileKind::Report) | Failure::Unshown(_) => 7,
             Failure::TooLong(_) | Failure::Bench(_) | Failure::Tech(_) => 3,
-            Failure::Placement(_) | Failure::Pairs => 3,
+            Failure::Placement(_) | Failure::Topology(_) | Failure::Pairs => 3,
             Failure::ReadFault(_) => 4,
             Failure::WriteFault => 5,
             Failure::NoMemory => 6,
-            Failure::Unshown(_) => 7,
         }
     }
 
@@ -78,10 +82,12 @@ impl Failure {
     {
         match self {
             Failure::Usage => write_line(&[USAGE], err),
+            Failure::TooLong(FileKind::Report) => write_line(&[b"not shown report long"], err),
             Failure::TooLong(kind) => write_line(&[b"refused ", kind.word(), b" long"], err),
             Failure::Bench(fault) => write_bench_refusal(fault, err),
             Failure::Tech(fault) => write_tech_refusal(fault, err),
             Failure::Placement(fault) => write_placement_refusal(fault, err),
+            Failure::Topology(fault) => write_topology_refusal(*fault, err),
             Failure::Pairs => write_line(&[b"refused pairs"], err),
             Failure::Unshown(why) => write_not_shown(why, err),
             Failure::ReadFault(kind) => write_line(&[b"read fault ", kind.word()], err),
@@ -141,12 +147,24 @@ fn write_placement_refusal<E: Sink>(fault: &PlacementFault, err: &mut E) -> Resu
     }
 }
 
+fn write_topology_refusal<E: Sink>(fault: TopologyFault, err: &mut E) -> Result<(), Failed>
+    ensures { Writes (topology_line fault)
+        (E.written err.old) (E.faults err.old) (E.written err.new) (E.faults err.new) result }
+{
+    match fault {
+        TopologyFault::BadLine(line) => write_at(b"refused topology 1 line ", line, b"", err),
+        TopologyFault::NotOpen(line) => write_at(b"refused topology 2 line ", line, b"", err),
+        TopologyFault::Missing(line) => write_at(b"refused topology 3 line ", line, b"", err),
+        TopologyFault::Extra(line) => write_at(b"refused topology 4 line ", line, b"", err),
+        TopologyFault::NoMemory => write_line(&[b"no memory"], err),
+    }
+}
+
 fn write_not_shown<E: Sink>(why: &NotShown, err: &mut E) -> Result<(), Failed>
     ensures { Writes (not_shown_line why.now)
         (E.written err.old) (E.faults err.old) (E.written err.new) (E.faults err.new) result }
 {
     match why {
-        NotShown::TooLong => write_line(&[b"not shown report long"], err),
         NotShown::Fault(fault) => write_fault(*fault, err),
         NotShown::Reason(reason, subject) => write_reason(*reason, subject.as_slice(), err),
     }
@@ -360,6 +378,17 @@ impl From<SynthFault> for Failure {
         match fault {
             SynthFault::TooManyPairs => Failure::Pairs,
             SynthFault::NoMemory => Failure::NoMemory,
+        }
+    }
+}
+
+impl From<TopologyFault> for Failure {
+    ghost from_gives = { λ fault failure. failure ≡ topology_failure_of fault };
+
+    fn from(fault: TopologyFault) -> Failure {
+        match fault {
+            TopologyFault::NoMemory => Failure::NoMemory,
+            _ => Failure::Topology(fault),
         }
     }
 }

@@ -7,8 +7,6 @@ use report_text::ReportFault;
 /// Why a report isn't shown.
 #[derive(Debug, Drop)]
 pub enum NotShown {
-    /// It has more bytes than a file may have.
-    TooLong,
     /// It is no report; want of memory is no such fault.
     Fault(ReportFault),
     /// It doesn't show what it says, for this reason, which is about the register of this name, or

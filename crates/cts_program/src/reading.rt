@@ -9,6 +9,6 @@ mod problem;
 
 pub use circuit::read_circuit;
 pub use file_kind::FileKind;
-pub use files::read_report_file;
+pub use files::{read_report_file, read_topology_file};
 pub use placement::{PlacementFault, copied};
 pub use problem::read_problem;

@@ -16,9 +16,9 @@ use crate::demo::demo;
 use crate::ending::{Answer, Ending};
 use crate::failure::Failure;
 use crate::period::period;
-use crate::reading::{read_circuit, read_problem, read_report_file};
+use crate::reading::{read_circuit, read_problem, read_report_file, read_topology_file};
 use crate::scheduling::schedule;
-use crate::synth::synth;
+use crate::synth::{embed, synth};
 use crate::zero::zero;
 use cts_io::{Inputs, Sink, write_whole};
 use report_text::laws;
@@ -156,5 +156,15 @@ fn command_answer<I: Inputs>(
             check(alloc, &problem, &report)
         }
         Command::Demo { registers, seed } => demo(alloc, registers, seed),
+        Command::Embed {
+            bench,
+            tech,
+            pl,
+            topology,
+        } => {
+            let problem = read_problem(alloc, inputs, bench, tech, pl)?;
+            let topology = read_topology_file(alloc, inputs, topology, &problem)?;
+            embed(alloc, &problem, &topology)
+        }
     }
 }

@@ -1,6 +1,7 @@
 mod check;
 mod demo;
 mod devices;
+mod embed;
 mod faults;
 mod limits;
 mod period;
@@ -19,7 +20,8 @@ use std::process::Abort;
 
 const USAGE: &str = "usage: cts zero --bench F [--tech F] | cts period --bench F --tech F \
     | cts schedule --bench F --tech F | cts synth --bench F --tech F --pl F \
-    | cts check --bench F --tech F --pl F --report F | cts demo --registers N --seed S\n";
+    | cts check --bench F --tech F --pl F --report F | cts demo --registers N --seed S \
+    | cts embed --bench F --tech F --pl F --topology F\n";
 
 const NO_PATH: &str = "INPUT(x)\na = DFF(x)\n";
 
@@ -157,7 +159,7 @@ fn whole_files(rt: &impl Abort, alloc: Global, texts: &[&[u8]]) -> MemoryInputs 
     held_files(rt, alloc, texts, &[], 100_000)
 }
 
-// A sink with room for so many bytes, whose writes of these numbers fail, in pieces of 4 bytes.
+// A sink with room for this many bytes, whose writes of these numbers fail, in pieces of 4 bytes.
 fn sink(rt: &impl Abort, alloc: Global, room: usize, fails: &[u64]) -> MemorySink {
     let fails = Vec::from_slice(alloc, fails).expect(rt, "memory");
     MemorySink::new(alloc, room, fails, 4).expect(rt, "memory")

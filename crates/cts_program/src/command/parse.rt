@@ -52,6 +52,14 @@ fn command_of<'a>(form: Form, matches: &ArgMatches<'a>) -> Command<'a>
             }
         }
         (Form::Demo, [Some(registers), Some(seed), ..]) => Command::Demo { registers, seed },
+        (Form::Embed, [Some(bench), Some(tech), Some(pl), Some(topology)]) => {
+            Command::Embed {
+                bench,
+                tech,
+                pl,
+                topology,
+            }
+        }
         _ => unreachable!(),
     }
 }

@@ -5,8 +5,8 @@ ghost use Rattle.std.specs.Str.{bytes_eq};
 ghost use Rattle.cts_program.specs.declared.command.table.Form.{Form};
 ghost use Rattle.cts_program.specs.CommandTable.{forms, form_name, form_named, choices_of, word_of, kind_of, is_required};
 
-use Choice::{Bench, Placement, Registers, Report, Seed, Tech, TechIfWanted};
-use Form::{Check, Demo, Period, Schedule, Synth, Zero};
+use Choice::{Bench, Placement, Registers, Report, Seed, Tech, TechIfWanted, Topology};
+use Form::{Check, Demo, Embed, Period, Schedule, Synth, Zero};
 
 /// A command without the values of its options.
 #[derive(Clone, Copy, Debug, Drop, PartialEq)]
@@ -17,6 +17,7 @@ pub enum Form {
     Synth,
     Check,
     Demo,
+    Embed,
 }
 
 /// An option of a command, which stands at most once after its name.
@@ -28,6 +29,7 @@ pub enum Choice {
     TechIfWanted,
     Placement,
     Report,
+    Topology,
     Registers,
     Seed,
 }
@@ -40,7 +42,7 @@ pub enum ValueKind {
     Seed,
 }
 
-const FORMS: [Form; 6] = [Zero, Period, Schedule, Synth, Check, Demo];
+const FORMS: [Form; 7] = [Zero, Period, Schedule, Synth, Check, Demo, Embed];
 
 impl Form {
     /// The name of the command and its options, in the order of the usage line.
@@ -55,6 +57,7 @@ impl Form {
             Synth => ("synth", &[Bench, Tech, Placement]),
             Check => ("check", &[Bench, Tech, Placement, Report]),
             Demo => ("demo", &[Registers, Seed]),
+            Embed => ("embed", &[Bench, Tech, Placement, Topology]),
         }
     }
 
@@ -85,6 +88,7 @@ impl Choice {
             Tech | TechIfWanted => "--tech",
             Placement => "--pl",
             Report => "--report",
+            Topology => "--topology",
             Registers => "--registers",
             Seed => "--seed",
         }

@@ -119,6 +119,47 @@ fn reads_check_with_all_options(rt: HostRuntime) {
     }
 }
 
+#[test]
+fn reads_embed_with_all_options(rt: HostRuntime) {
+    let rows: [&[&str]; 2] = [
+        &[
+            "embed",
+            "--bench",
+            "F",
+            "--tech",
+            "G",
+            "--pl",
+            "H",
+            "--topology",
+            "I",
+        ],
+        &[
+            "embed",
+            "--topology",
+            "I",
+            "--pl",
+            "H",
+            "--tech",
+            "G",
+            "--bench",
+            "F",
+        ],
+    ];
+    for row in rows.as_slice() {
+        expect_command(
+            &rt,
+            rt.alloc(),
+            row,
+            Ok(Command::Embed {
+                bench: "F",
+                tech: "G",
+                pl: "H",
+                topology: "I",
+            }),
+        );
+    }
+}
+
 // A command line and its numbers.
 const DEMOS: [(&[&str], &str, &str); 3] = [
     (&["demo", "--registers", "2", "--seed", "0"], "2", "0"),
@@ -147,7 +188,7 @@ fn reads_demo_with_both_numbers(rt: HostRuntime) {
 }
 
 // Words that mean no command.
-const REFUSED: [&[&str]; 22] = [
+const REFUSED: [&[&str]; 24] = [
     &[],
     &["zero"],
     &["zero", "--bench"],
@@ -170,6 +211,18 @@ const REFUSED: [&[&str]; 22] = [
     &["schedule", "--bench", "F"],
     &["synth", "--tech", "F", "--pl", "F"],
     &["check", "--bench", "F", "--tech", "F", "--pl", "F"],
+    &["embed", "--bench", "F", "--tech", "F", "--pl", "F"],
+    &[
+        "synth",
+        "--bench",
+        "F",
+        "--tech",
+        "F",
+        "--pl",
+        "F",
+        "--topology",
+        "F",
+    ],
 ];
 
 #[test]

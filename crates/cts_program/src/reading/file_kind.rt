@@ -12,6 +12,8 @@ pub enum FileKind {
     Placement,
     /// A report.
     Report,
+    /// A topology.
+    Topology,
 }
 
 impl FileKind {
@@ -24,6 +26,7 @@ impl FileKind {
             FileKind::Tech => b"tech",
             FileKind::Placement => b"pl",
             FileKind::Report => b"report",
+            FileKind::Topology => b"topology",
         }
     }
 }

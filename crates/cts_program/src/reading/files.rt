@@ -4,20 +4,22 @@ ghost use Rattle.std.specs.Prelude.{◌≡◌, ◌≢◌, ◌≤◌, ◌↔◌, 
 ghost use Rattle.cts_model.specs.Circuits.{has_host};
 ghost use Rattle.cts_model.specs.Problems.{GivesUsedKinds};
 ghost use Rattle.cts_model.specs.Hosts.{HasNoHost};
+ghost use Rattle.cts_program.specs.Checks.{RefusesReport};
 ghost use Rattle.cts_program.specs.Files.{IsShortFile};
-ghost use Rattle.cts_program.specs.Steps.{IsReportedAs, FailsToReadFile, ReadsNetlist, FailsNetlist, ReadsTable, FailsTable, ReadsPlaces, FailsPlaces, ReadsReport, FailsReport, IsReadFault};
+ghost use Rattle.cts_program.specs.TopologyFiles.{RefusesTopologyFile};
+ghost use Rattle.cts_program.specs.Steps.{IsReportedAs, FailsToReadFile, ReadsNetlist, FailsNetlist, ReadsTable, FailsTable, ReadsPlaces, FailsPlaces, ReadsReport, ReadsTopology, FailsLast, IsReadFault};
 
 use crate::failure::Failure;
-use crate::not_shown::NotShown;
 use crate::reading::file_kind::FileKind;
 use crate::reading::placement::placement_failure;
 use bench_reader::read_bench;
 use cts_io::{Inputs, ReadWhole, read_whole};
-use cts_model::{Circuit, Places, Problem, Report, Tech, used_kinds};
+use cts_model::{Circuit, Places, Problem, Report, Tech, Topology, used_kinds};
 use delay_tables::read_tech;
 use place_reader::read_places;
 use report_text::read_report;
 use std::alloc::Global;
+use topology_file::read_topology;
 
 // The most bytes that a file may have.
 const FILE_LIMIT: usize = 16_777_216;
@@ -99,19 +101,36 @@ pub fn read_report_file<I: Inputs>(
     problem: &Problem,
 ) -> Result<Report, Failure>
     ensures ok { IfOk result (ReadsReport problem.now (I.holds inputs.old file.now)) }
-    ensures cause { IfErr result (FailsReport problem.now (I.holds inputs.old file.now)
-        (I.faults inputs.old file.now) (I.faults inputs.new file.now)) }
+    ensures cause { IfErr result (FailsLast FileKind.Report (RefusesReport problem.now)
+        (I.holds inputs.old file.now) (I.faults inputs.old file.now)
+        (I.faults inputs.new file.now)) }
     ensures files { (other : List ℕ) → I.holds inputs.new other ≡ I.holds inputs.old other }
     ensures counts { (other : List ℕ) → I.faults inputs.old other ≤ I.faults inputs.new other }
     ensures stays { ¬ IsReadFault FileKind.Report result
         → (other : List ℕ) → I.faults inputs.new other ≡ I.faults inputs.old other }
 {
-    let bytes = match read_file(alloc, inputs, FileKind::Report, file) {
-        Ok(bytes) => bytes,
-        Err(Failure::TooLong(_)) => return Err(Failure::Unshown(NotShown::TooLong)),
-        Err(failure) => return Err(failure),
-    };
+    let bytes = read_file(alloc, inputs, FileKind::Report, file)?;
     Ok(read_report(alloc, &bytes, &problem.circuit, &problem.tech)?)
+}
+
+/// The topology of a problem's registers in a file.
+pub fn read_topology_file<I: Inputs>(
+    alloc: Global,
+    inputs: &mut I,
+    file: &str,
+    problem: &Problem,
+) -> Result<Topology, Failure>
+    ensures ok { IfOk result (ReadsTopology problem.now (I.holds inputs.old file.now)) }
+    ensures cause { IfErr result (FailsLast FileKind.Topology (RefusesTopologyFile problem.now)
+        (I.holds inputs.old file.now) (I.faults inputs.old file.now)
+        (I.faults inputs.new file.now)) }
+    ensures files { (other : List ℕ) → I.holds inputs.new other ≡ I.holds inputs.old other }
+    ensures counts { (other : List ℕ) → I.faults inputs.old other ≤ I.faults inputs.new other }
+    ensures stays { ¬ IsReadFault FileKind.Topology result
+        → (other : List ℕ) → I.faults inputs.new other ≡ I.faults inputs.old other }
+{
+    let bytes = read_file(alloc, inputs, FileKind::Topology, file)?;
+    Ok(read_topology(alloc, &bytes, &problem.circuit)?)
 }
 
 // The bytes of a file.

@@ -1,11 +1,8 @@
 use crate::tests::problems::{
     CHECK, LONE, LONE_PLACES, LONE_TREE, LOPSIDED_PLACES, LOPSIDED_TREE, PAIR, PAIR_PLACES,
-    PAIR_TREE, S27_PLACES, S27_PROBLEM, S27_TREE, texts_of, texts_with,
+    PAIR_TREE, S27_PLACES, S27_PROBLEM, S27_TREE, files_with, texts_with,
 };
-use crate::tests::{
-    LOPSIDED, S27, S27_TABLE, SLOW, changed, held, held_files, listed, run_on, table,
-};
-use cts_io::MemoryInputs;
+use crate::tests::{LOPSIDED, S27, S27_TABLE, SLOW, changed, held_files, run_on, table};
 use std::alloc::{AllocError, Global};
 use std::process::Abort;
 
@@ -13,11 +10,7 @@ const FLOOR_5: &str = "[period]\nfloor = 5\n";
 
 // What `check` must leave over a problem and a report: that it is shown, or else why it isn't.
 fn expect_report(rt: &impl Abort, alloc: Global, problem: [&str; 3], report: &[u8], why: &str) {
-    let mut files = listed(rt, alloc, &texts_of(problem));
-    files
-        .push(held(rt, alloc, "R", report))
-        .expect(rt, "memory");
-    let inputs = MemoryInputs::new(files, Vec::new(alloc), 100_000);
+    let inputs = files_with(rt, alloc, problem, report);
     let seen = run_on(rt, alloc, &CHECK, inputs);
     if why.is_empty() {
         seen.expect(rt, 0, "shown\n", "", "a report that is shown");

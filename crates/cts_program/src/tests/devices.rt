@@ -74,7 +74,7 @@ fn write_failing(
     run_over(rt, alloc, command, whole_files(rt, alloc, texts), out, err)
 }
 
-// Each of so many writes fails in turn, and then the one after them, which never comes.
+// Each of this many writes fails in turn, and then the one after them, which never comes.
 fn expect_write_faults(
     rt: &impl Abort,
     alloc: Global,

@@ -15,7 +15,7 @@ fn wide_netlist(alloc: Global, inputs: u32, registers: u32) -> Result<Vec<u8>, A
     Ok(netlist)
 }
 
-// A netlist that fills up so many bytes by a comment.
+// A netlist of this many bytes, filled up by a comment.
 fn filled_netlist(alloc: Global, length: usize) -> Result<Vec<u8>, AllocError> {
     let mut netlist = Vec::from_slice(alloc, NO_PATH.as_bytes())?;
     let comment = vec![in alloc; b'#'; length.saturating_sub(netlist.len())]?;
@@ -23,7 +23,7 @@ fn filled_netlist(alloc: Global, length: usize) -> Result<Vec<u8>, AllocError> {
     Ok(netlist)
 }
 
-// A netlist whose first name has so many bytes.
+// A netlist whose first name has this many bytes.
 fn long_name(alloc: Global, length: usize) -> Result<Vec<u8>, AllocError> {
     let mut netlist = Vec::from_slice(alloc, b"INPUT(")?;
     netlist.extend_from_slice(&vec![in alloc; b'x'; length]?)?;
@@ -31,7 +31,7 @@ fn long_name(alloc: Global, length: usize) -> Result<Vec<u8>, AllocError> {
     Ok(netlist)
 }
 
-// Appends the line of a gate with so many inputs, all `x`.
+// Appends the line of a gate with this many inputs, all `x`.
 fn push_gate(netlist: &mut Vec<u8>, gate: &str, inputs: u32) -> Result<(), AllocError> {
     netlist.extend_from_slice(gate.as_bytes())?;
     netlist.extend_from_slice(b" = AND(x")?;
@@ -117,7 +117,7 @@ fn counts_the_bytes_of_a_name(rt: HostRuntime) {
     expect_refused(&rt, alloc, more, line, "a name of 256 bytes");
 }
 
-// A netlist with a gate of so many inputs.
+// A netlist with a gate of this many inputs.
 fn wide_gate(alloc: Global, inputs: u32) -> Result<Vec<u8>, AllocError> {
     let mut netlist = Vec::from_slice(alloc, NO_PATH.as_bytes())?;
     push_gate(&mut netlist, "g", inputs)?;
@@ -155,7 +155,7 @@ fn counts_the_bytes_of_a_table(rt: HostRuntime) {
     seen.expect(&rt, 3, "", "refused tech long\n", "a byte more");
 }
 
-// A gate with so many inputs, each a register that captures it.
+// A gate with this many inputs, each a register that captures it.
 fn joined_registers(alloc: Global, inputs: u32, registers: u32) -> Result<Vec<u8>, AllocError> {
     let mut netlist = Vec::from_slice(alloc, b"g = OR(r0")?;
     for number in 1..inputs {

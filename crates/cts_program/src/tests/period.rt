@@ -25,7 +25,7 @@ fn expect_period(
 #[test]
 fn finds_the_least_period(rt: HostRuntime) {
     for (bench, registers, more, text) in [
-        // A long and a short way to one register leave no room for skew.
+        // A long and a short path to one register leave no room for skew.
         (
             JOINED,
             [1, 2, 1, 1],

@@ -1,11 +1,26 @@
 //! Problems with places, and what `synth` prints for them.
 
-use crate::tests::{S27, S27_TABLE};
+use crate::tests::{S27, S27_TABLE, held, listed};
+use cts_io::MemoryInputs;
+use std::alloc::Global;
+use std::process::Abort;
 
 pub const SYNTH: [&str; 7] = ["synth", "--pl", "P", "--bench", "F", "--tech", "T"];
 
 pub const CHECK: [&str; 9] = [
     "check", "--report", "R", "--pl", "P", "--bench", "F", "--tech", "T",
+];
+
+pub const EMBED: [&str; 9] = [
+    "embed",
+    "--topology",
+    "R",
+    "--pl",
+    "P",
+    "--bench",
+    "F",
+    "--tech",
+    "T",
 ];
 
 pub const S27_PLACES: &str = "UCLA pl 1.0
@@ -115,7 +130,14 @@ pub fn texts_of<'a>(problem: [&'a str; 3]) -> [&'a [u8]; 3] {
     [bench.as_bytes(), tech.as_bytes(), pl.as_bytes()]
 }
 
-// The same with a report after them.
+// A problem's files, and after them one with the name `R`, each taken at once.
+pub fn files_with(rt: &impl Abort, alloc: Global, problem: [&str; 3], last: &[u8]) -> MemoryInputs {
+    let mut files = listed(rt, alloc, &texts_of(problem));
+    files.push(held(rt, alloc, "R", last)).expect(rt, "memory");
+    MemoryInputs::new(files, Vec::new(alloc), 100_000)
+}
+
+// The bytes of a problem's files, and of a report after them.
 pub fn texts_with<'a>(problem: [&'a str; 3], report: &'a [u8]) -> [&'a [u8]; 4] {
     let [bench, tech, pl] = problem;
     [bench.as_bytes(), tech.as_bytes(), pl.as_bytes(), report]

@@ -79,7 +79,7 @@ fn answers_with_a_table(rt: HostRuntime) {
         (LENIENT, [0, 0, 1, 4], "", "zero 4\nsetup a b 4\n"),
         // A hold that fails at equal arrivals.
         (RING, [0, 2, 1, 1], BUFF, "zero none\nhold A B 1\n"),
-        // The longest way is through both gates.
+        // The longest path is through both gates.
         (JOINED, [1, 2, 1, 1], BOTH, "zero 8\nsetup A B 8\n"),
         // Delays for the inputs past the first.
         (FAN, [0, 0, 0, 0], AND, "zero 25\nsetup A A 25\n"),
@@ -125,7 +125,7 @@ fn takes_options_in_any_order(rt: HostRuntime) {
     expect_order(&rt, alloc, &["zero", "--tech", "T", "--bench", "F"]);
 }
 
-// A chain of so many inverters from A to B.
+// A chain of this many inverters from A to B.
 fn inverters(alloc: Global, count: u32) -> Result<Vec<u8>, AllocError> {
     let mut netlist = Vec::from_slice(alloc, b"INPUT(x)\nA = DFF(x)\ng0 = NOT(A)\n")?;
     for number in 1..count {

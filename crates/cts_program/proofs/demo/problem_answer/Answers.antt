@@ -16,5 +16,5 @@ returns-in_ok-text-in-Done-clause-text c =
     let lowest = rw c.in-Done.is at c.in_ok-report.ensures.lowest in
     let checked = c.in_ok-is_shown-in-Done.ensures.checked c.if-not-branch.false in
     rw (c.done.ensures.ending, c.done.ensures.text) (summary_says c.args.problem.now
-    c.in-Done.report made lowest c.args.registers checked c.in_ok-text-in-Done.text.items
+    c.in-Done.report lowest made c.args.registers checked c.in_ok-text-in-Done.text.items
     c.in_ok-text-in-Done.ensures)

@@ -1,12 +1,13 @@
-use Rattle.std.proofs.Common.{[], ◌∷◌, Err, refl, ap, sym, ◌∙◌, append-nil}
+use Rattle.std.proofs.Common.{[], ◌∷◌, inr, Err, refl, ap, sym, ◌∙◌, append-nil}
 use Rattle.std.proofs.lemmas.Result.{err_from_is_err_and}
-use Rattle.cts_program.specs.declared.command.Command.TheVariants.{Zero, Period, Schedule, Synth, Check}
+use Rattle.cts_program.specs.declared.command.Command.TheVariants.{Zero, Period, Schedule, Synth, Check, Embed}
 use Rattle.cts_program.specs.declared.failure.Failure.{Failure}
 use Rattle.cts_program.specs.declared.reading.file_kind.FileKind.TheVariants as kinds
 use Rattle.cts_program.specs.Files.{circuit_files}
 use Rattle.cts_program.specs.PeriodTexts.{IsPeriodText}
 use Rattle.cts_program.specs.ScheduleTexts.{IsScheduleText}
 use Rattle.cts_program.proofs.CheckLemmas.{report_stops, unshown_stops, check_answer}
+use Rattle.cts_program.proofs.EmbedLemmas.{topology_of, topology_stops, tree_stops, embed_answer}
 use Rattle.cts_program.proofs.DemoValues.{demo_values}
 use Rattle.cts_program.proofs.DenotedLemmas.{circuit_stops, denoted_answer, zero_answer}
 use Rattle.cts_program.proofs.PlacementLemmas.{circuit_denoted, synth_answer}
@@ -103,21 +104,21 @@ pub returns-in_ok-read_circuit-in-Zero-clause-cause :
 returns-in_ok-read_circuit-in-Zero-clause-cause g c =
     rw c.in-Zero.is (if_err_from c.zero.result _ _ c.zero.ensures.cause
     (λ failure fails. circuit_stops _ _ (Zero c.in-Zero.bench c.in-Zero.tech)
-    c.in_ok-read_circuit-in-Zero.ensures.ok (λ pairs. pairs) failure fails))
+    c.in_ok-read_circuit-in-Zero.ensures.ok (λ pairs. inr pairs) failure fails))
 
 pub returns-in_ok-read_circuit-in-Period-clause-cause :
     goal.returns-in_ok-read_circuit-in-Period-clause-cause
 returns-in_ok-read_circuit-in-Period-clause-cause g c =
     rw c.in-Period.is (if_err_from c.period.result _ _ c.period.ensures.cause
     (λ failure fails. circuit_stops _ _ (Period c.in-Period.bench c.in-Period.tech)
-    c.in_ok-read_circuit-in-Period.ensures.ok (λ pairs. pairs) failure fails))
+    c.in_ok-read_circuit-in-Period.ensures.ok (λ pairs. inr pairs) failure fails))
 
 pub returns-in_ok-read_circuit-in-Schedule-clause-cause :
     goal.returns-in_ok-read_circuit-in-Schedule-clause-cause
 returns-in_ok-read_circuit-in-Schedule-clause-cause g c =
     rw c.in-Schedule.is (if_err_from c.schedule.result _ _ c.schedule.ensures.cause
     (λ failure fails. circuit_stops _ _ (Schedule c.in-Schedule.bench c.in-Schedule.tech)
-    c.in_ok-read_circuit-in-Schedule.ensures.ok (λ pairs. pairs) failure fails))
+    c.in_ok-read_circuit-in-Schedule.ensures.ok (λ pairs. inr pairs) failure fails))
 
 pub returns-in_ok-read_problem-in-Synth-clause-ok : goal.returns-in_ok-read_problem-in-Synth-clause-ok
 returns-in_ok-read_problem-in-Synth-clause-ok g c =
@@ -131,7 +132,7 @@ returns-in_ok-read_problem-in-Synth-clause-cause g c =
     rw c.in-Synth.is (if_err_from c.synth.result _ _ c.synth.ensures.cause
     (λ failure fails. circuit_stops _ _ (Synth c.in-Synth.bench c.in-Synth.tech c.in-Synth.pl)
     (circuit_denoted c.in_ok-read_problem-in-Synth.field-0 c.in_ok-read_problem-in-Synth.ensures.ok)
-    (λ pairs. pairs) failure fails))
+    (λ pairs. inr pairs) failure fails))
 
 pub returns-in_ok-report-in-Check-clause-ok : goal.returns-in_ok-report-in-Check-clause-ok
 returns-in_ok-report-in-Check-clause-ok g c =
@@ -148,3 +149,57 @@ returns-in_ok-report-in-Check-clause-cause g c =
     (unshown_stops c.in-Check.bench c.in-Check.tech c.in-Check.pl c.in-Check.report
     c.in_ok-problem-in-Check.problem c.in_ok-problem-in-Check.ensures.ok
     c.in_ok-report-in-Check.report (rw held at c.in_ok-report-in-Check.ensures.ok) _ _))
+
+pub embed-requires : goal.embed-requires
+embed-requires g c =
+    topology_of c.in_ok-problem-in-Embed.problem _ c.in_ok-topology-in-Embed.topology
+    c.in_ok-topology-in-Embed.ensures.ok
+
+pub returns-in_err-problem-in-Embed-clause-cause :
+    goal.returns-in_err-problem-in-Embed-clause-cause
+returns-in_err-problem-in-Embed-clause-cause g c =
+    let p = err_from_is_err_and c.from_residual-in_err-problem-in-Embed.result
+    c.from_residual-in_err-problem-in-Embed.ensures.1 in
+    rw (p.1, p.2, c.in-Embed.is) (c.in_err-problem-in-Embed.ensures.cause
+    (Embed c.in-Embed.bench c.in-Embed.tech c.in-Embed.pl c.in-Embed.topology)
+    ((kinds.Topology, c.in-Embed.topology.now) ∷ [], refl))
+
+pub returns-in_err-topology-in-Embed-clause-cause :
+    goal.returns-in_err-topology-in-Embed-clause-cause
+returns-in_err-topology-in-Embed-clause-cause g c =
+    let p = err_from_is_err_and c.from_residual-in_err-topology-in-Embed.result
+    c.from_residual-in_err-topology-in-Embed.ensures.1 in
+    let held = c.in_ok-problem-in-Embed.ensures.files c.in-Embed.topology.now in
+    let stood = c.in_ok-problem-in-Embed.ensures.stays (λ (kind, e). cc e) c.in-Embed.topology.now
+    in
+    rw (p.1, p.2, c.in-Embed.is) (topology_stops c.in-Embed.bench c.in-Embed.tech c.in-Embed.pl
+    c.in-Embed.topology c.in_ok-problem-in-Embed.problem c.in_ok-problem-in-Embed.ensures.ok _ _ _
+    (rw (held, stood) at c.in_err-topology-in-Embed.ensures.cause))
+
+pub returns-in_err-topology-in-Embed-clause-stays :
+    goal.returns-in_err-topology-in-Embed-clause-stays
+returns-in_err-topology-in-Embed-clause-stays g c none file =
+    let p = err_from_is_err_and c.from_residual-in_err-topology-in-Embed.result
+    c.from_residual-in_err-topology-in-Embed.ensures.1 in
+    c.in_err-topology-in-Embed.ensures.stays (λ e. none (
+      kinds.Topology,
+      rw (p.1, p.2) (ap (λ (failure : Failure). Err failure) (cc e)),
+    )) file
+    ∙ c.in_ok-problem-in-Embed.ensures.stays (λ (kind, e). cc e) file
+
+pub returns-in_ok-topology-in-Embed-clause-ok : goal.returns-in_ok-topology-in-Embed-clause-ok
+returns-in_ok-topology-in-Embed-clause-ok g c =
+    let held = c.in_ok-problem-in-Embed.ensures.files c.in-Embed.topology.now in
+    rw c.in-Embed.is (embed_answer c.in-Embed.bench c.in-Embed.tech c.in-Embed.pl
+    c.in-Embed.topology c.in_ok-problem-in-Embed.problem c.in_ok-problem-in-Embed.ensures.ok
+    c.in_ok-topology-in-Embed.topology (rw held at c.in_ok-topology-in-Embed.ensures.ok)
+    c.embed.result c.embed.ensures.few c.embed.ensures.text)
+
+pub returns-in_ok-topology-in-Embed-clause-cause :
+    goal.returns-in_ok-topology-in-Embed-clause-cause
+returns-in_ok-topology-in-Embed-clause-cause g c =
+    let held = c.in_ok-problem-in-Embed.ensures.files c.in-Embed.topology.now in
+    rw c.in-Embed.is (if_err_from c.embed.result _ _ c.embed.ensures.cause
+    (tree_stops c.in-Embed.bench c.in-Embed.tech c.in-Embed.pl c.in-Embed.topology
+    c.in_ok-problem-in-Embed.problem c.in_ok-problem-in-Embed.ensures.ok
+    c.in_ok-topology-in-Embed.topology (rw held at c.in_ok-topology-in-Embed.ensures.ok) _ _))
