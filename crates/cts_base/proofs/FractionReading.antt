@@ -111,13 +111,15 @@ judged_not_number text (Ok fraction) denoted = (
 )
 judged_not_number text (Err NotNumber) denoted = (λ _. denoted, λ _. refl)
 judged_not_number text (Err TooFine) denoted = absurd denoted
-judged_not_number text (Err TooLarge) denoted = (λ is. cc, λ other. absurd (one_fault text other denoted))
+judged_not_number text (Err TooLarge) denoted =
+    (λ is. cc, λ other. absurd (one_fault text other denoted))
 
 pub judged_too_large : (text : List ℕ) (r : Result Fraction NumberFault) → IsJudged text r
     → IsErrOf r TooLarge ↔ IsLargeQuotient text
 judged_too_large text (Ok fraction) denoted =
     (λ is. cc, λ other. absurd (small_is text fraction.num fraction.den denoted.0 denoted.1 other))
-judged_too_large text (Err NotNumber) denoted = (λ is. cc, λ other. absurd (one_fault text denoted other))
+judged_too_large text (Err NotNumber) denoted =
+    (λ is. cc, λ other. absurd (one_fault text denoted other))
 judged_too_large text (Err TooFine) denoted = absurd denoted
 judged_too_large text (Err TooLarge) denoted = (λ _. denoted, λ _. refl)
 
@@ -142,7 +144,8 @@ judged_spelled text r denoted fraction small small' same =
     at : (o : Result Fraction NumberFault) → IsJudged text o
         → SpellsQuotient text fraction.num fraction.den → o ≡ Ok fraction
     at (Ok other) denoted spells =
-        let both = one_quotient text other.num other.den fraction.num fraction.den denoted.0 spells in
+        let both =
+        one_quotient text other.num other.den fraction.num fraction.den denoted.0 spells in
         ap Ok (same_fraction other fraction both.0 both.1)
     at (Err NotNumber) denoted spells =
         absurd (fraction_is text fraction.num fraction.den spells fraction.lowest denoted)

@@ -104,7 +104,8 @@ one_split (byte ∷ prefix) (byte' ∷ prefix') back back' none none' same =
     (ap₂ (λ b bs. b ∷ bs) (ap (λ (b : List ℕ). get_or b 0 0) same) rest.0, rest.1)
 
 -- bytes with a slash aren't bytes without
-pub slash_differs : (bytes prefix back : List ℕ) → HasNoSlash bytes → bytes ≡ prefix ++ 47 ∷ back → ⊥
+pub slash_differs : (bytes prefix back : List ℕ) → HasNoSlash bytes → bytes ≡ prefix ++ 47 ∷ back
+    → ⊥
 slash_differs [] [] back none same = omega (arith, ap (λ (b : List ℕ). get_or b 0 0) same)
 slash_differs [] (byte ∷ prefix) back none same = omega (arith, ap length same)
 slash_differs (byte ∷ bytes) [] back none same =

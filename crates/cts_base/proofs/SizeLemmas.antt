@@ -12,36 +12,55 @@ use Rattle.cts_base.proofs.ScaleLemmas.{digits_of_append, digits_of_drop}
 
 -- so many digits are kept
 pub record IsPlacedIn (text : List ℕ) (places kept : ℕ) : Type 0 where
-  pub places_is : places ≡ places_of (starts_with_minus (exponent text)) (length (whole_digits text)) (min (exponent_size text) 1267650600228229401496703205376)
+  pub places_is : places ≡ places_of (starts_with_minus (exponent text))
+      (length (whole_digits text)) (min (exponent_size text) 1267650600228229401496703205376)
   pub kept_is : kept ≡ min places (length (whole_digits text) + length (fraction_digits text))
 
-pub placed : (text whole fraction suffix : List ℕ) (minus : Bool) (size places kept : ℕ) → whole ≡ whole_digits text → fraction ≡ fraction_digits text → suffix ≡ exponent text → minus ≡ starts_with_minus suffix → size ≡ min (digits_value 10 (without_leading_sign suffix)) 1267650600228229401496703205376 → places ≡ cond minus (length whole + 6 - size) (length whole + 6 + size) → kept ≡ min places (length whole + length fraction) → IsPlacedIn text places kept
+pub placed : (text whole fraction suffix : List ℕ) (minus : Bool) (size places kept : ℕ)
+    → whole ≡ whole_digits text → fraction ≡ fraction_digits text → suffix ≡ exponent text
+    → minus ≡ starts_with_minus suffix
+    → size ≡ min (digits_value 10 (without_leading_sign suffix)) 1267650600228229401496703205376
+    → places ≡ cond minus (length whole + 6 - size) (length whole + 6 + size)
+    → kept ≡ min places (length whole + length fraction) → IsPlacedIn text places kept
 unfolding exponent_size
-placed text whole fraction suffix minus size places kept whole_is fraction_is after_is minus_is size_is places_is kept_is =
-    let sign : minus ≡ starts_with_minus (exponent text) = minus_is ∙ ap starts_with_minus after_is in
-    let cut : size ≡ min (exponent_size text) 1267650600228229401496703205376 = size_is ∙ ap (λ e. min (digits_value 10 (without_leading_sign e)) 1267650600228229401496703205376) after_is in
+placed text whole fraction suffix minus size places kept whole_is fraction_is after_is minus_is
+    size_is places_is kept_is =
+    let sign : minus ≡ starts_with_minus (exponent text) =
+    minus_is ∙ ap starts_with_minus after_is in
+    let cut : size ≡ min (exponent_size text) 1267650600228229401496703205376 = size_is
+    ∙ ap (λ e. min (digits_value 10 (without_leading_sign e)) 1267650600228229401496703205376)
+    after_is in
     record {
       places_is = places_is ∙ (λ i. places_of (sign i) (length (whole_is i)) (cut i));
       kept_is = kept_is ∙ (λ i. min places (length (whole_is i) + length (fraction_is i)));
     }
 
 -- the place of the millionths by the exact exponent
-exact_kept : (text : List ℕ) (places kept : ℕ) → length text < 2 ^ 64 → IsPlacedIn text places kept → kept ≡ min (places_of (starts_with_minus (exponent text)) (length (whole_digits text)) (exponent_size text)) (length (whole_digits text) + length (fraction_digits text))
+exact_kept : (text : List ℕ) (places kept : ℕ) → length text < 2 ^ 64 → IsPlacedIn text places kept
+    → kept ≡ min (places_of (starts_with_minus (exponent text)) (length (whole_digits text))
+    (exponent_size text)) (length (whole_digits text) + length (fraction_digits text))
 exact_kept text places kept short place =
     place.kept_is
     ∙ ap (λ p. min p (length (whole_digits text) + length (fraction_digits text))) place.places_is
-    ∙ kept_cut (starts_with_minus (exponent text)) (length (whole_digits text)) (length (fraction_digits text)) (exponent_size text) (omega (arith, digits_short text))
+    ∙ kept_cut (starts_with_minus (exponent text)) (length (whole_digits text))
+    (length (fraction_digits text)) (exponent_size text) (omega (arith, digits_short text))
 
 -- how far what is kept is raised
 raise_of : List ℕ → ℕ → ℕ
-raise_of text kept = places_of (starts_with_minus (exponent text)) (length (whole_digits text)) (exponent_size text) - kept
+raise_of text kept = places_of (starts_with_minus (exponent text)) (length (whole_digits text))
+    (exponent_size text) - kept
 
-shape_of : (text : List ℕ) (places kept : ℕ) → length text < 2 ^ 64 → IsPlacedIn text places kept → IsAligned (length (drop kept (whole_digits text ++ fraction_digits text))) (raise_of text kept) (lowered text) (raised text) ⊎ IsLeft kept (length (drop kept (whole_digits text ++ fraction_digits text))) (raise_of text kept) (lowered text) (raised text)
+shape_of : (text : List ℕ) (places kept : ℕ) → length text < 2 ^ 64 → IsPlacedIn text places kept
+    → IsAligned (length (drop kept (whole_digits text ++ fraction_digits text)))
+    (raise_of text kept) (lowered text) (raised text)
+    ⊎ IsLeft kept (length (drop kept (whole_digits text ++ fraction_digits text)))
+    (raise_of text kept) (lowered text) (raised text)
 unfolding raise_of lowered raised
 shape_of text places kept short place =
     let whole = whole_digits text in
     let fraction = fraction_digits text in
-    shape (starts_with_minus (exponent text)) (length whole) (length fraction) (exponent_size text) kept (length (drop kept (whole ++ fraction))) (raise_of text kept) (lowered text) (raised text)
+    shape (starts_with_minus (exponent text)) (length whole) (length fraction) (exponent_size text)
+    kept (length (drop kept (whole ++ fraction))) (raise_of text kept) (lowered text) (raised text)
     (exact_kept text places kept short place)
     (length-drop kept (whole ++ fraction) ∙ ap (λ n. n - kept) (length-append whole fraction))
     refl refl refl
@@ -51,14 +70,20 @@ empty_prefix : (ds : List ℕ) (kept : ℕ) → kept ≡ 0 → digits_value 10 (
 empty_prefix ds kept none = ap (λ k. digits_value 10 (take k ds)) none
 
 -- where there is more than zeros after, the value is no multiple of a millionth
-pub too_fine : (text : List ℕ) (places kept : ℕ) → length text < 2 ^ 64 → IsDecimal text → IsPlacedIn text places kept → list_all is_zero (drop kept (whole_digits text ++ fraction_digits text)) ≡ false → (size : ℕ) → IsMicrosSize text size → ⊥
+pub too_fine : (text : List ℕ) (places kept : ℕ) → length text < 2 ^ 64 → IsDecimal text
+    → IsPlacedIn text places kept
+    → list_all is_zero (drop kept (whole_digits text ++ fraction_digits text)) ≡ false → (size : ℕ)
+    → IsMicrosSize text size → ⊥
 unfolding digits
 too_fine text places kept short decimal place more size same =
     let ds = whole_digits text ++ fraction_digits text in
     let rest = drop kept ds in
-    let rest_digits = digits_of_drop kept ds (digits_of_append (whole_digits text) (fraction_digits text) decimal.whole decimal.fraction) in
-    no_size kept (digits_value 10 (take kept ds)) (digits_value 10 rest) (digits_value 10 ds) (length rest) (raise_of text kept) (lowered text) (raised text) size
-    (empty_prefix ds kept) (digits_value-split kept ds) (digits_value-lt 10 rest rest_digits) (others_value rest rest_digits more) (shape_of text places kept short place) same
+    let rest_digits = digits_of_drop kept ds
+    (digits_of_append (whole_digits text) (fraction_digits text) decimal.whole decimal.fraction) in
+    no_size kept (digits_value 10 (take kept ds)) (digits_value 10 rest) (digits_value 10 ds)
+    (length rest) (raise_of text kept) (lowered text) (raised text) size
+    (empty_prefix ds kept) (digits_value-split kept ds) (digits_value-lt 10 rest rest_digits)
+    (others_value rest rest_digits more) (shape_of text places kept short place) same
 
 -- and else what is kept, raised, is the size, up to a ceiling
 pub record IsSizeUpTo (text : List ℕ) (ceiling size : ℕ) : Type 0 where
@@ -66,7 +91,13 @@ pub record IsSizeUpTo (text : List ℕ) (ceiling size : ℕ) : Type 0 where
   pub value : IsMicrosSize text exact
   pub kept : size ≡ min exact ceiling
 
-pub size_up_to : (text : List ℕ) (places kept number size : ℕ) → length text < 2 ^ 64 → IsPlacedIn text places kept → list_all is_zero (drop kept (whole_digits text ++ fraction_digits text)) ≡ true → number ≡ min (digits_value 10 (take kept (whole_digits text ++ fraction_digits text))) 1000000000000001 → size ≡ min (number * 10 ^ (places - kept)) 1000000000000001 → IsSizeUpTo text 1000000000000001 size
+pub size_up_to : (text : List ℕ) (places kept number size : ℕ) → length text < 2 ^ 64
+    → IsPlacedIn text places kept
+    → list_all is_zero (drop kept (whole_digits text ++ fraction_digits text)) ≡ true
+    → number
+    ≡ min (digits_value 10 (take kept (whole_digits text ++ fraction_digits text))) 1000000000000001
+    → size ≡ min (number * 10 ^ (places - kept)) 1000000000000001
+    → IsSizeUpTo text 1000000000000001 size
 unfolding digits raise_of
 size_up_to text places kept number size short place zeros number_is size_is_min =
     let ds = whole_digits text ++ fraction_digits text in
@@ -82,8 +113,10 @@ size_up_to text places kept number size short place zeros number_is size_is_min 
     ∙ (λ i. min (places_of minus whole (exponent_size text) - sym exact i) 16) in
     record {
       exact = prefix * 10 ^ raise_of text kept;
-      value = size_is kept prefix (digits_value 10 (drop kept ds)) (digits_value 10 ds) (length (drop kept ds)) (raise_of text kept) (lowered text) (raised text)
-          (empty_prefix ds kept) (digits_value-split kept ds) (zeros_value (drop kept ds) zeros) (shape_of text places kept short place);
+      value = size_is kept prefix (digits_value 10 (drop kept ds)) (digits_value 10 ds)
+          (length (drop kept ds)) (raise_of text kept) (lowered text) (raised text)
+          (empty_prefix ds kept) (digits_value-split kept ds) (zeros_value (drop kept ds) zeros)
+          (shape_of text places kept short place);
       kept =
           size_is_min
           ∙ ap (λ n. min (n * 10 ^ (places - kept)) 1000000000000001) number_is
@@ -91,11 +124,16 @@ size_up_to text places kept number size short place zeros number_is size_is_min 
     }
 
 -- a size below the ceiling is exact
-pub size_below : (text : List ℕ) (size : ℕ) → IsSizeUpTo text 1000000000000001 size → (size ≡ 1000000000000001 → ⊥) → IsSizeRead text size
+pub size_below : (text : List ℕ) (size : ℕ) → IsSizeUpTo text 1000000000000001 size
+    → (size ≡ 1000000000000001 → ⊥) → IsSizeRead text size
 size_below text size up other =
     let exact : up.exact ≡ size = omega (arith, up.kept, other) in
-    record { value = subst (λ n. IsMicrosSize text n) exact up.value; within = omega (arith, up.kept, other) }
+    record {
+      value = subst (λ n. IsMicrosSize text n) exact up.value;
+      within = omega (arith, up.kept, other);
+    }
 
 -- at the ceiling the exact one is above the limit
-pub size_above : (text : List ℕ) (size : ℕ) → IsSizeUpTo text 1000000000000001 size → size ≡ 1000000000000001 → RefusesSize text TooLarge
+pub size_above : (text : List ℕ) (size : ℕ) → IsSizeUpTo text 1000000000000001 size
+    → size ≡ 1000000000000001 → RefusesSize text TooLarge
 size_above text size up at = (up.exact, up.value, omega (arith, up.kept))

@@ -1,6 +1,6 @@
 -- Whole numbers, quotients and fractions as this project's own texts spell them: `0`, `-13`,
--- `3/2`. Texts may be of any length, so the digits are determined by the number that they write: std's
--- `decimal` keeps the last 64 digits. The forms are this project's choice.
+-- `3/2`. Texts may be of any length, so the digits are determined by the number that they write:
+-- std's `decimal` keeps the last 64 digits. The forms are this project's choice.
 use Rattle.std.specs.Prelude.{◌≡◌, ℕ, suc, ◌^◌, min, Bool, ◌==◌, IsTrue, ◌⊎◌, List, ◌∷◌, ◌++◌, length, drop, slice_index, ℤ, pos, negsuc, neg_ℤ, ◌≤ℤ◌}
 use Rattle.std.specs.Str.Parse.{IsNumeral, digits_value, starts_with_minus}
 use Rattle.cts_base.specs.Fractions.{HasSizeBelow, IsLowest}

@@ -22,7 +22,8 @@ module _ {S A : Type 0} (Call : S → Result A Error → S → Type 0) where
 
   module _ {T : Type 0} (Denotes : Result A Error → T → Type 0) where
     -- the last call gives, which no signal interrupted
-    pub denoted_at_last : (calls : ℕ) (first before last : S) (answer : Result A Error) (denoted : T)
+    pub denoted_at_last : (calls : ℕ) (first before last : S) (answer : Result A Error)
+        (denoted : T)
         → AreInterrupted Call calls first before → Call before answer last → Denotes answer denoted
         → (IsInterrupted answer → ⊥) → Tried Call Denotes first denoted last
     denoted_at_last calls first before last answer denoted earlier call denotes settled = record {

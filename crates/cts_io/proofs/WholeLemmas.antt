@@ -9,16 +9,20 @@ pub Rose-since : (before between now : ℕ) → before ≤ between → Rose betw
 Rose-since before between now later rose = omega arith
 
 -- two pieces at the end are one
-pub appended-appended : (denoted : Option (List ℕ)) (first next : List ℕ) → appended (appended denoted first) next ≡ appended denoted (first ++ next)
+pub appended-appended : (denoted : Option (List ℕ)) (first next : List ℕ)
+    → appended (appended denoted first) next ≡ appended denoted (first ++ next)
 appended-appended None first next = refl
 appended-appended (Some bytes) first next = ap (λ all. Some all) (append_assoc bytes first next)
 
 -- a prefix of the rest moves after what is done
-pub append-moved : (all done rest : List ℕ) (n : ℕ) → all ≡ done ++ rest → all ≡ (done ++ take n rest) ++ drop n rest
+pub append-moved : (all done rest : List ℕ) (n : ℕ) → all ≡ done ++ rest
+    → all ≡ (done ++ take n rest) ++ drop n rest
 append-moved all done rest n parts = rw append_assoc (rw take-append-drop parts)
 
 -- a fault while something is left keeps a prefix written
-pub WritesPrefix-rest : (before now : Option (List ℕ)) (bytes done rest : List ℕ) → bytes ≡ done ++ rest → 0 < length rest → now ≡ appended before done → WritesPrefix before bytes now
+pub WritesPrefix-rest : (before now : Option (List ℕ)) (bytes done rest : List ℕ)
+    → bytes ≡ done ++ rest → 0 < length rest → now ≡ appended before done
+    → WritesPrefix before bytes now
 WritesPrefix-rest before now bytes done rest parts some written = record {
   count = length done;
   short = rw parts (omega (arith, length-append done rest));
@@ -26,7 +30,9 @@ WritesPrefix-rest before now bytes done rest parts some written = record {
 }
 
 -- one more take of a file of which these bytes are taken
-pub Takes-next : (held taken rest buffer now : List ℕ) (n : ℕ) (after : Option (List ℕ)) → held ≡ taken ++ rest → Takes rest n buffer after → now ≡ taken ++ take n buffer → (left : List ℕ) × (after ≡ Some left) × (held ≡ now ++ left)
+pub Takes-next : (held taken rest buffer now : List ℕ) (n : ℕ) (after : Option (List ℕ))
+    → held ≡ taken ++ rest → Takes rest n buffer after → now ≡ taken ++ take n buffer
+    → (left : List ℕ) × (after ≡ Some left) × (held ≡ now ++ left)
 Takes-next held taken rest buffer now n after parts takes grown =
     (drop n rest, takes.rest, rw (grown, takes.given) (append-moved held taken rest n parts))
 

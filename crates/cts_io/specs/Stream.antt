@@ -25,7 +25,8 @@ AnswersRead answer denoted = MatchResult answer (λ n. denoted ≡ Ok n) (λ err
 
 -- the same of a write, where it is a fault too that nothing was taken
 abbrev pub AnswersWrite : Result ℕ Error → Result ℕ Failed → Type 0
-AnswersWrite answer denoted = MatchResult answer (λ n. (n ≡ 0 → IsErr denoted) × (0 < n → denoted ≡ Ok n))
+AnswersWrite answer denoted =
+    MatchResult answer (λ n. (n ≡ 0 → IsErr denoted) × (0 < n → denoted ≡ Ok n))
     (λ error. IsErr denoted)
 
 -- an opened file is answered, and so is want of memory; any other error is a fault

@@ -69,7 +69,8 @@ impl<W: Write> ByteWriter for W {
 pub fn read_next<R: ByteReader>(stream: &mut R, into: &mut [u8]) -> Result<usize, Failed>
     ensures within { IfOk result (λ n. n ≤ length into.new) }
     ensures bytes { ReadConsumes (R.remaining stream.old) (R.remaining stream.new) result into.new }
-    ensures denoted { Tried R.reads AnswersRead (stream.old, into.old) result (stream.new, into.new) }
+    ensures denoted { Tried R.reads AnswersRead (stream.old, into.old) result
+        (stream.new, into.new) }
 {
     for _try in 0..u64::MAX {
         match stream.read_once(into) {

@@ -6,10 +6,14 @@ use Rattle.cts_io.proofs.whole.read_whole.Goals as goal
 pub loop-taken-preserved : goal.loop-taken-preserved
 loop-taken-preserved g c =
     let i = c.loop-taken.invariant in
-    let grown : c.extend_from_slice.new.self.items ≡ c.loop-taken.bytes.items ++ take c.in-Ok.taken c.take.new.into = grind (arith, common_steps) in
+    let grown : c.extend_from_slice.new.self.items
+    ≡ c.loop-taken.bytes.items ++ take c.in-Ok.taken c.take.new.into =
+    grind (arith, common_steps) in
     record {
       within = grind (arith, common_steps);
-      denoted = λ held is. let t = i.denoted held is in Takes-next _ _ _ _ _ _ _ t.2 (c.in-Ok.ensures.ok _ t.1) grown;
+      denoted = λ held is.
+          let t = i.denoted held is in
+          Takes-next _ _ _ _ _ _ _ t.2 (c.in-Ok.ensures.ok _ t.1) grown;
       files = λ file. c.in-Ok.ensures.files file ∙ i.files file;
       stays = λ file. c.in-Ok.ensures.stays file ∙ i.stays file;
     }

@@ -8,7 +8,9 @@ pub returns-in_err-taken-clause-err : goal.returns-in_err-taken-clause-err
 returns-in_err-taken-clause-err g c =
     let i = c.loop-rest.invariant in
     let some : 0 < length c.loop-rest.rest.now = grind (arith, common_steps) in
-    let kept : WritesPrefix (g.S.Sink.written c.args.sink.now) c.args.bytes.now (g.S.Sink.written c.write.new.self) = WritesPrefix-rest _ _ _ _ _ i.parts some (c.in_err-taken.ensures.err ∙ i.written) in
+    let kept : WritesPrefix (g.S.Sink.written c.args.sink.now) c.args.bytes.now
+    (g.S.Sink.written c.write.new.self) =
+    WritesPrefix-rest _ _ _ _ _ i.parts some (c.in_err-taken.ensures.err ∙ i.written) in
     search rules
 
 pub loop-rest-preserved : goal.loop-rest-preserved
@@ -18,6 +20,8 @@ loop-rest-preserved g c =
     record {
       done = i.done ++ take n c.loop-rest.rest.now;
       parts = rw c.split_at.ensures.back (append-moved _ i.done c.loop-rest.rest.now n i.parts);
-      written = c.in_ok-taken.ensures.ok ∙ ap (λ denoted. appended denoted (take n c.loop-rest.rest.now)) i.written ∙ appended-appended _ _ _;
+      written = c.in_ok-taken.ensures.ok
+          ∙ ap (λ denoted. appended denoted (take n c.loop-rest.rest.now)) i.written
+          ∙ appended-appended _ _ _;
       stays = c.in_ok-taken.ensures.stays ∙ i.stays;
     }

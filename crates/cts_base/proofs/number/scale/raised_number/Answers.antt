@@ -3,7 +3,9 @@ use Rattle.cts_base.proofs.ScaleLemmas.{raised_step, raised_enough}
 use Rattle.cts_base.proofs.number.scale.raised_number.Goals as goal
 
 pub loop-place-preserved : goal.loop-place-preserved
-loop-place-preserved c = c.min-size.ensures ∙ raised_step c.args.number c.loop-place.size c.loop-place._place 1000000000000001 c.loop-place.invariant
+loop-place-preserved c = c.min-size.ensures
+    ∙ raised_step c.args.number c.loop-place.size c.loop-place._place 1000000000000001
+    c.loop-place.invariant
 
 pub returns : goal.returns
 returns c =

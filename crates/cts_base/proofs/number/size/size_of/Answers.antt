@@ -9,24 +9,43 @@ pub returns-then-not-is_zero_after : goal.returns-then-not-is_zero_after
 returns-then-not-is_zero_after c =
     let parts = c.parts_of-parts.ensures in
     let kept = c.kept_of-kept.result in
-    let place = placed c.args.text.now _ _ _ _ _ _ _ parts.whole parts.fraction parts.exponent c.begins_with_minus-minus.ensures c.exponent_of.ensures c.places_of-places.ensures c.kept_of-kept.ensures in
-    let more = (λ i. list_all is_zero (drop kept (sym parts.whole i ++ sym parts.fraction i))) ∙ sym c.is_zero_after.ensures ∙ c.if-not-is_zero_after.true in
+    let place = placed c.args.text.now _ _ _ _ _ _ _ parts.whole parts.fraction parts.exponent
+    c.begins_with_minus-minus.ensures c.exponent_of.ensures c.places_of-places.ensures
+    c.kept_of-kept.ensures in
+    let more = (λ i. list_all is_zero (drop kept (sym parts.whole i ++ sym parts.fraction i)))
+    ∙ sym c.is_zero_after.ensures ∙ c.if-not-is_zero_after.true in
     too_fine c.args.text.now c.places_of-places.result kept (omega arith) c.requires place more
 
 pub returns-then-size-eq-CEILING : goal.returns-then-size-eq-CEILING
 returns-then-size-eq-CEILING c =
     let parts = c.parts_of-parts.ensures in
     let kept = c.kept_of-kept.result in
-    let place = placed c.args.text.now _ _ _ _ _ _ _ parts.whole parts.fraction parts.exponent c.begins_with_minus-minus.ensures c.exponent_of.ensures c.places_of-places.ensures c.kept_of-kept.ensures in
-    let zeros = (λ i. list_all is_zero (drop kept (sym parts.whole i ++ sym parts.fraction i))) ∙ sym c.is_zero_after.ensures ∙ c.if-not-is_zero_after.false in
-    let number = c.kept_number-number.ensures ∙ (λ i. min (digits_value 10 (take kept (parts.whole i ++ parts.fraction i))) 1000000000000001) in
-    size_above c.args.text.now c.raised_number-size.result (size_up_to c.args.text.now c.places_of-places.result kept c.kept_number-number.result c.raised_number-size.result (omega arith) place zeros number c.raised_number-size.ensures) c.if-size-eq-CEILING.true
+    let place = placed c.args.text.now _ _ _ _ _ _ _ parts.whole parts.fraction parts.exponent
+    c.begins_with_minus-minus.ensures c.exponent_of.ensures c.places_of-places.ensures
+    c.kept_of-kept.ensures in
+    let zeros = (λ i. list_all is_zero (drop kept (sym parts.whole i ++ sym parts.fraction i)))
+    ∙ sym c.is_zero_after.ensures ∙ c.if-not-is_zero_after.false in
+    let number = c.kept_number-number.ensures
+    ∙ (λ i.
+    min (digits_value 10 (take kept (parts.whole i ++ parts.fraction i))) 1000000000000001) in
+    size_above c.args.text.now c.raised_number-size.result
+    (size_up_to c.args.text.now c.places_of-places.result kept c.kept_number-number.result
+    c.raised_number-size.result (omega arith) place zeros number c.raised_number-size.ensures)
+    c.if-size-eq-CEILING.true
 
 pub returns : goal.returns
 returns c =
     let parts = c.parts_of-parts.ensures in
     let kept = c.kept_of-kept.result in
-    let place = placed c.args.text.now _ _ _ _ _ _ _ parts.whole parts.fraction parts.exponent c.begins_with_minus-minus.ensures c.exponent_of.ensures c.places_of-places.ensures c.kept_of-kept.ensures in
-    let zeros = (λ i. list_all is_zero (drop kept (sym parts.whole i ++ sym parts.fraction i))) ∙ sym c.is_zero_after.ensures ∙ c.if-not-is_zero_after.false in
-    let number = c.kept_number-number.ensures ∙ (λ i. min (digits_value 10 (take kept (parts.whole i ++ parts.fraction i))) 1000000000000001) in
-    size_below c.args.text.now c.raised_number-size.result (size_up_to c.args.text.now c.places_of-places.result kept c.kept_number-number.result c.raised_number-size.result (omega arith) place zeros number c.raised_number-size.ensures) c.if-size-eq-CEILING.false
+    let place = placed c.args.text.now _ _ _ _ _ _ _ parts.whole parts.fraction parts.exponent
+    c.begins_with_minus-minus.ensures c.exponent_of.ensures c.places_of-places.ensures
+    c.kept_of-kept.ensures in
+    let zeros = (λ i. list_all is_zero (drop kept (sym parts.whole i ++ sym parts.fraction i)))
+    ∙ sym c.is_zero_after.ensures ∙ c.if-not-is_zero_after.false in
+    let number = c.kept_number-number.ensures
+    ∙ (λ i.
+    min (digits_value 10 (take kept (parts.whole i ++ parts.fraction i))) 1000000000000001) in
+    size_below c.args.text.now c.raised_number-size.result
+    (size_up_to c.args.text.now c.places_of-places.result kept c.kept_number-number.result
+    c.raised_number-size.result (omega arith) place zeros number c.raised_number-size.ensures)
+    c.if-size-eq-CEILING.false
