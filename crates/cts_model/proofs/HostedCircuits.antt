@@ -8,6 +8,8 @@ use Rattle.cts_model.specs.Circuits.{has_host, host_signal}
 use Rattle.cts_model.specs.Hosts.{IsWithHost}
 
 -- one of its signals is the host
-pub has_host-with_host : (circuit hosted : Circuit) → IsWithHost circuit hosted → has_host hosted.signals ≡ true
+pub has_host-with_host : (circuit hosted : Circuit) → IsWithHost circuit hosted
+    → has_host hosted.signals ≡ true
 has_host-with_host circuit hosted is =
-    ap has_host is.signals ∙ list_any-append (λ signal. is_host signal.kind) circuit.signals (host_signal circuit.outputs ∷ []) ∙ or-true (has_host circuit.signals)
+    ap has_host is.signals ∙ list_any-append (λ signal. is_host signal.kind) circuit.signals
+    (host_signal circuit.outputs ∷ []) ∙ or-true (has_host circuit.signals)

@@ -6,7 +6,8 @@ use Rattle.cts_model.specs.declared.place.Point.{Point}
 use Rattle.cts_model.specs.Points.{IsMultipleOf, apart, distance, rotated, rotated_distance}
 
 -- the sum of two differences is the greater of the two rotated ones
-pub apart-rotated : (x y x' y' : ℤ) → apart x x' +ℤ apart y y' ≡ int_max (apart (x +ℤ y) (x' +ℤ y')) (apart (x -ℤ y) (x' -ℤ y'))
+pub apart-rotated : (x y x' y' : ℤ)
+    → apart x x' +ℤ apart y y' ≡ int_max (apart (x +ℤ y) (x' +ℤ y')) (apart (x -ℤ y) (x' -ℤ y'))
 apart-rotated x y x' y' = omega (arith, ints, clamps)
 
 -- a sum of two values, each known by an equation

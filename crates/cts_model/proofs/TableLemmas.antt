@@ -380,8 +380,8 @@ IsOfKey (OutOfRange name) = Unit {0}
 IsOfKey flaw = ⊥
 
 -- a flaw that is given is one of two
-denoted_either : (one other : Option TableFlaw) (found : TableFlaw) → option_or one other ≡ Some found
-    → (one ≡ Some found) ⊎ (other ≡ Some found)
+denoted_either : (one other : Option TableFlaw) (found : TableFlaw)
+    → option_or one other ≡ Some found → (one ≡ Some found) ⊎ (other ≡ Some found)
 denoted_either None other found denoted = inr denoted
 denoted_either (Some flaw) other found denoted = inl denoted
 

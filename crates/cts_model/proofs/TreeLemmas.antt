@@ -65,7 +65,8 @@ module _ {sinks : ℕ} {merges : List Merge} (topology : IsTopology sinks merges
   wires_are_left node low = left_from (source_of sinks) node (omega arith) low
 
 -- a tree with reaches realises the offsets
-unfoldable pub reaches_realise_at : (scale : ℕ) (sinks : List Sink) (merges : List Merge) (tree : Embedding)
+unfoldable pub reaches_realise_at : (scale : ℕ) (sinks : List Sink) (merges : List Merge)
+    (tree : Embedding)
     → (reach : ℕ → ℤ) → HasReaches scale sinks merges tree reach
     → RealisesOffsets scale sinks merges tree
 reaches_realise_at scale sinks merges tree reach has = record {

@@ -1,5 +1,5 @@
--- Accepted placements in the Bookshelf format (.pl), and the places that each denotes for a circuit's
--- registers, its source and its host.
+-- Accepted placements in the Bookshelf format (.pl), and the places that each denotes for a
+-- circuit's registers, its source and its host.
 use Rattle.std.specs.Prelude.{◌≡◌, ◌⊎◌, ℕ, Bool, false, IsTrue, IsFalse, MatchBool, ◌||◌, List, [], ◌∷◌, ◌++◌, map, Contains, Option, Some, None, if◌then◌else◌, slice_get, ℤ}
 use Rattle.std.specs.Option.{option_map_or}
 use Rattle.std.specs.List.{list_any, cons_option}

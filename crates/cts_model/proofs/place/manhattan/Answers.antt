@@ -18,4 +18,5 @@ returns-clause-value c =
     sum_of_values x y (omega (arith, ints))
 
 pub returns-clause-rotated : goal.returns-clause-rotated
-returns-clause-rotated c = returns-clause-value c ∙ apart-rotated c.args.a.x c.args.a.y c.args.b.x c.args.b.y
+returns-clause-rotated c =
+    returns-clause-value c ∙ apart-rotated c.args.a.x c.args.a.y c.args.b.x c.args.b.y

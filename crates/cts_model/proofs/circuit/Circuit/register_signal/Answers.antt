@@ -9,4 +9,6 @@ bounds-as_slice-number c =
     rw (c.as_slice.ensures, c.as_slice-2.ensures) (slice_get_within _ _ at.signal at.here)
 
 pub returns : goal.returns
-returns c = register_signal_is c.args.self.now c.args.register c.requires c.index-as_slice-number.result (rw (c.as_slice-2.ensures, c.as_slice.ensures) at c.index-as_slice-number.is)
+returns c =
+    register_signal_is c.args.self.now c.args.register c.requires c.index-as_slice-number.result
+    (rw (c.as_slice-2.ensures, c.as_slice.ensures) at c.index-as_slice-number.is)
