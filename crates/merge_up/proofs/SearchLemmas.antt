@@ -205,10 +205,10 @@ pub below_neither : (sinks : List Sink) (merges : List Merge) (place : ℕ) (mer
     (side : Side) (far : ℤ) (order : ℕ × ℕ) → IsTopology (length sinks) merges
     → slice_get merges place ≡ Some merge
     → (order ≡ (merge.first, merge.second)) ⊎ (order ≡ (merge.second, merge.first))
-    → ((register : ℕ) → IsSoFar sinks (numbers_below (length sinks) merges order.0) side far register
-    → ⊥)
-    → ((register : ℕ) → IsSoFar sinks (numbers_below (length sinks) merges order.1) side far register
-    → ⊥)
+    → ((register : ℕ)
+    → IsSoFar sinks (numbers_below (length sinks) merges order.0) side far register → ⊥)
+    → ((register : ℕ)
+    → IsSoFar sinks (numbers_below (length sinks) merges order.1) side far register → ⊥)
     → (register : ℕ)
     → IsSoFar sinks (numbers_below (length sinks) merges (length sinks + place)) side far register
     → ⊥
@@ -219,7 +219,8 @@ below_neither sinks merges place merge side far order topology here either none 
         → IsSoFar sinks (numbers_below (length sinks) merges merge.first) side far register
         ⊎ IsSoFar sinks (numbers_below (length sinks) merges merge.second) side far register → ⊥
     at (inl same) (inl first) =
-        none register (subst (λ pair. IsSoFar sinks (numbers_below (length sinks) merges pair.0) side
+        none register
+        (subst (λ pair. IsSoFar sinks (numbers_below (length sinks) merges pair.0) side
         far register) (sym same) first)
     at (inl same) (inr second) =
         nor register (subst (λ pair. IsSoFar sinks (numbers_below (length sinks) merges pair.1) side
@@ -228,7 +229,8 @@ below_neither sinks merges place merge side far order topology here either none 
         nor register (subst (λ pair. IsSoFar sinks (numbers_below (length sinks) merges pair.1) side
         far register) (sym same) first)
     at (inr same) (inr second) =
-        none register (subst (λ pair. IsSoFar sinks (numbers_below (length sinks) merges pair.0) side
+        none register
+        (subst (λ pair. IsSoFar sinks (numbers_below (length sinks) merges pair.0) side
         far register) (sym same) second)
 
 -- a node that a merge joins is below it

@@ -1,6 +1,6 @@
--- How far sinks are to the four sides in rotated coordinates, with their offsets. The furthest sinks
--- to the four sides say all of a set of sinks that its reach and its region depend on: Boese and
--- Kahng 1992; Chao and others 1992.
+-- How far sinks are to the four sides in rotated coordinates, with their offsets. The furthest
+-- sinks to the four sides say all of a set of sinks that its reach and its region depend on: Boese
+-- and Kahng 1992; Chao and others 1992.
 use Rattle.std.specs.Prelude.{◌≡◌, ℕ, min, max, List, Contains, IsSomeAnd, slice_get, filter_map, ℤ, ◌+ℤ◌, ◌-ℤ◌, neg_ℤ}
 use Rattle.cts_model.specs.declared.place.Sink.{Sink}
 use Rattle.cts_model.specs.declared.tree.Show.{Show}

@@ -12,11 +12,14 @@ abbrev pub kept : ℤ → ℤ
 kept number = to_z w128 (of_z w128 number)
 
 -- of a call with two numbers
-pub two_read : (f : ℤ → ℤ → ℤ) (r a b : ℤ) → FitsSigned w128 r → FitsSigned w128 a → FitsSigned w128 b → r ≡ f (kept a) (kept b) → kept r ≡ f a b
-two_read f r a b fits first second value = to_z-of_z w128 r fits ∙ value ∙ ap (λ z. f z (kept b)) (to_z-of_z w128 a first) ∙ ap (f a) (to_z-of_z w128 b second)
+pub two_read : (f : ℤ → ℤ → ℤ) (r a b : ℤ) → FitsSigned w128 r → FitsSigned w128 a
+    → FitsSigned w128 b → r ≡ f (kept a) (kept b) → kept r ≡ f a b
+two_read f r a b fits first second value = to_z-of_z w128 r fits ∙ value
+    ∙ ap (λ z. f z (kept b)) (to_z-of_z w128 a first) ∙ ap (f a) (to_z-of_z w128 b second)
 
 -- of a number clamped
-pub clamp_read : (r lo hi to : ℤ) → FitsSigned w128 r → FitsSigned w128 lo → FitsSigned w128 hi → FitsSigned w128 to → r ≡ clamped (kept lo) (kept hi) (kept to) → kept r ≡ clamped lo hi to
+pub clamp_read : (r lo hi to : ℤ) → FitsSigned w128 r → FitsSigned w128 lo → FitsSigned w128 hi
+    → FitsSigned w128 to → r ≡ clamped (kept lo) (kept hi) (kept to) → kept r ≡ clamped lo hi to
 clamp_read r lo hi to fits low high at value =
     to_z-of_z w128 r fits ∙ value
     ∙ ap (λ z. clamped z (kept hi) (kept to)) (to_z-of_z w128 lo low)
@@ -24,7 +27,10 @@ clamp_read r lo hi to fits low high at value =
     ∙ ap (λ z. clamped lo hi z) (to_z-of_z w128 to at)
 
 -- of how far two intervals are apart
-pub between_read : (r lo hi other_lo other_hi : ℤ) → FitsSigned w128 r → FitsSigned w128 lo → FitsSigned w128 hi → FitsSigned w128 other_lo → FitsSigned w128 other_hi → r ≡ between (kept lo) (kept hi) (kept other_lo) (kept other_hi) → kept r ≡ between lo hi other_lo other_hi
+pub between_read : (r lo hi other_lo other_hi : ℤ) → FitsSigned w128 r → FitsSigned w128 lo
+    → FitsSigned w128 hi → FitsSigned w128 other_lo → FitsSigned w128 other_hi
+    → r ≡ between (kept lo) (kept hi) (kept other_lo) (kept other_hi)
+    → kept r ≡ between lo hi other_lo other_hi
 between_read r lo hi other_lo other_hi fits low high other_low other_high value =
     to_z-of_z w128 r fits ∙ value
     ∙ ap (λ z. between z (kept hi) (kept other_lo) (kept other_hi)) (to_z-of_z w128 lo low)
@@ -37,8 +43,12 @@ pub below_fits : (at : ℤ) → IsBelow bound at → FitsSigned w128 at
 below_fits at below = omega (arith, ints)
 
 -- of a difference, and of a sum
-pub difference_read : (a b : ℤ) → FitsSigned w128 a → FitsSigned w128 b → FitsSigned w128 (a -ℤ b) → kept (kept a -ℤ kept b) ≡ a -ℤ b
-difference_read a b first second fits = ap (λ z. kept (z -ℤ kept b)) (to_z-of_z w128 a first) ∙ ap (λ z. kept (a -ℤ z)) (to_z-of_z w128 b second) ∙ to_z-of_z w128 (a -ℤ b) fits
+pub difference_read : (a b : ℤ) → FitsSigned w128 a → FitsSigned w128 b → FitsSigned w128 (a -ℤ b)
+    → kept (kept a -ℤ kept b) ≡ a -ℤ b
+difference_read a b first second fits = ap (λ z. kept (z -ℤ kept b)) (to_z-of_z w128 a first)
+    ∙ ap (λ z. kept (a -ℤ z)) (to_z-of_z w128 b second) ∙ to_z-of_z w128 (a -ℤ b) fits
 
-pub sum_read : (a b : ℤ) → FitsSigned w128 a → FitsSigned w128 b → FitsSigned w128 (a +ℤ b) → kept (kept a +ℤ kept b) ≡ a +ℤ b
-sum_read a b first second fits = ap (λ z. kept (z +ℤ kept b)) (to_z-of_z w128 a first) ∙ ap (λ z. kept (a +ℤ z)) (to_z-of_z w128 b second) ∙ to_z-of_z w128 (a +ℤ b) fits
+pub sum_read : (a b : ℤ) → FitsSigned w128 a → FitsSigned w128 b → FitsSigned w128 (a +ℤ b)
+    → kept (kept a +ℤ kept b) ≡ a +ℤ b
+sum_read a b first second fits = ap (λ z. kept (z +ℤ kept b)) (to_z-of_z w128 a first)
+    ∙ ap (λ z. kept (a +ℤ z)) (to_z-of_z w128 b second) ∙ to_z-of_z w128 (a +ℤ b) fits

@@ -36,7 +36,8 @@ contains_none sink (k, below, is) = omega arith
 -- of one sink
 pub greatest_one : (of : Sink → ℤ) (sink : Sink) → IsGreatest of (sink ∷ []) (of sink)
 greatest_one of sink = record {
-  most = λ other among. subst (λ s. of s ≤ℤ of sink) (contains_one sink other among) (omega (arith, ints));
+  most = λ other among.
+      subst (λ s. of s ≤ℤ of sink) (contains_one sink other among) (omega (arith, ints));
   sink = sink;
   among = contains_itself sink;
   attained = refl;
@@ -44,14 +45,17 @@ greatest_one of sink = record {
 
 pub least_one : (of : Sink → ℤ) (sink : Sink) → IsLeastOf of (sink ∷ []) (of sink)
 least_one of sink = record {
-  least = λ other among. subst (λ s. of sink ≤ℤ of s) (contains_one sink other among) (omega (arith, ints));
+  least = λ other among.
+      subst (λ s. of sink ≤ℤ of s) (contains_one sink other among) (omega (arith, ints));
   sink = sink;
   among = contains_itself sink;
   attained = refl;
 }
 
 -- of a union
-pub greatest_union : (of : Sink → ℤ) (first second both : List Sink) (a b : ℤ) → IsUnion first second both → IsGreatest of first a → IsGreatest of second b → IsGreatest of both (int_max a b)
+pub greatest_union : (of : Sink → ℤ) (first second both : List Sink) (a b : ℤ)
+    → IsUnion first second both → IsGreatest of first a → IsGreatest of second b
+    → IsGreatest of both (int_max a b)
 greatest_union of first second both a b union one other =
     by_lt_z a b
     (λ below. record {
@@ -79,7 +83,9 @@ greatest_union of first second both a b union one other =
       | inr held ↦ omega (arith, ints, clamps, other.most sink held)
     ]
 
-pub least_union : (of : Sink → ℤ) (first second both : List Sink) (a b : ℤ) → IsUnion first second both → IsLeastOf of first a → IsLeastOf of second b → IsLeastOf of both (int_min a b)
+pub least_union : (of : Sink → ℤ) (first second both : List Sink) (a b : ℤ)
+    → IsUnion first second both → IsLeastOf of first a → IsLeastOf of second b
+    → IsLeastOf of both (int_min a b)
 least_union of first second both a b union one other =
     by_lt_z b a
     (λ below. record {
@@ -109,7 +115,14 @@ least_union of first second both a b union one other =
 
 -- ---- the four extremes
 
-pub extremes_one : (sink : Sink) → IsExtremes (sink ∷ []) (record { greatest_u = u_above sink; least_u = u_below sink; greatest_v = v_above sink; least_v = v_below sink })
+pub extremes_one : (sink : Sink)
+    → IsExtremes (sink ∷ [])
+    (record {
+      greatest_u = u_above sink;
+      least_u = u_below sink;
+      greatest_v = v_above sink;
+      least_v = v_below sink;
+    })
 extremes_one sink = record {
   greatest_u = greatest_one u_above sink;
   least_u = least_one u_below sink;
@@ -118,18 +131,41 @@ extremes_one sink = record {
 }
 
 -- the extremes of a union are the greater and the smaller of those of its parts
-pub extremes_union : (first second both : List Sink) (extremes others : Extremes) → IsUnion first second both → IsExtremes first extremes → IsExtremes second others → IsExtremes both (joined extremes others)
+pub extremes_union : (first second both : List Sink) (extremes others : Extremes)
+    → IsUnion first second both → IsExtremes first extremes → IsExtremes second others
+    → IsExtremes both (joined extremes others)
 extremes_union first second both extremes others union one other = record {
-  greatest_u = greatest_union u_above first second both extremes.greatest_u others.greatest_u union one.greatest_u other.greatest_u;
-  least_u = least_union u_below first second both extremes.least_u others.least_u union one.least_u other.least_u;
-  greatest_v = greatest_union v_above first second both extremes.greatest_v others.greatest_v union one.greatest_v other.greatest_v;
-  least_v = least_union v_below first second both extremes.least_v others.least_v union one.least_v other.least_v;
+  greatest_u = greatest_union u_above first second both extremes.greatest_u others.greatest_u union
+      one.greatest_u other.greatest_u;
+  least_u = least_union u_below first second both extremes.least_u others.least_u union one.least_u
+      other.least_u;
+  greatest_v = greatest_union v_above first second both extremes.greatest_v others.greatest_v union
+      one.greatest_v other.greatest_v;
+  least_v = least_union v_below first second both extremes.least_v others.least_v union one.least_v
+      other.least_v;
 }
 
 -- a set with at least one sink has extremes
-pub has_extremes : (sink : Sink) (more : List Sink) → (extremes : Extremes) × IsExtremes (sink ∷ more) extremes
-has_extremes sink [] = (record { greatest_u = u_above sink; least_u = u_below sink; greatest_v = v_above sink; least_v = v_below sink }, extremes_one sink)
+pub has_extremes : (sink : Sink) (more : List Sink)
+    → (extremes : Extremes) × IsExtremes (sink ∷ more) extremes
+has_extremes sink [] = (
+  record {
+    greatest_u = u_above sink;
+    least_u = u_below sink;
+    greatest_v = v_above sink;
+    least_v = v_below sink;
+  },
+  extremes_one sink,
+)
 has_extremes sink (next ∷ more) =
-    let single : Extremes = record { greatest_u = u_above sink; least_u = u_below sink; greatest_v = v_above sink; least_v = v_below sink } in
-    let rest = has_extremes next more in
-    (joined single rest.0, extremes_union (sink ∷ []) (next ∷ more) (sink ∷ next ∷ more) single rest.0 (append_is_union (sink ∷ []) (next ∷ more)) (extremes_one sink) rest.1)
+    let single : Extremes = record {
+      greatest_u = u_above sink;
+      least_u = u_below sink;
+      greatest_v = v_above sink;
+      least_v = v_below sink;
+    } in
+    let rest = has_extremes next more in (
+      joined single rest.0,
+      extremes_union (sink ∷ []) (next ∷ more) (sink ∷ next ∷ more) single rest.0
+          (append_is_union (sink ∷ []) (next ∷ more)) (extremes_one sink) rest.1,
+    )

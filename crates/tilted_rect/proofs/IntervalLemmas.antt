@@ -13,7 +13,8 @@ pub clamped_le : (lo hi to : ℤ) → lo ≤ℤ hi → clamped lo hi to ≤ℤ h
 clamped_le lo hi to ordered = omega (arith, ints, clamps)
 
 -- from a number in the grown interval it is no further than the interval was grown
-pub clamped_near : (lo hi by at : ℤ) → lo ≤ℤ hi → pos 0 ≤ℤ by → (lo -ℤ by) ≤ℤ at → at ≤ℤ (hi +ℤ by) → apart (clamped lo hi at) at ≤ℤ by
+pub clamped_near : (lo hi by at : ℤ) → lo ≤ℤ hi → pos 0 ≤ℤ by → (lo -ℤ by) ≤ℤ at → at ≤ℤ (hi +ℤ by)
+    → apart (clamped lo hi at) at ≤ℤ by
 clamped_near lo hi by at ordered least above below = omega (arith, ints, clamps)
 
 -- a number no further than that from one in the interval is in the grown one
@@ -24,23 +25,30 @@ pub near_le : (hi by from at : ℤ) → from ≤ℤ hi → apart from at ≤ℤ 
 near_le hi by from at below near = omega (arith, ints, clamps)
 
 -- a clamped number is the nearest one of the interval
-pub clamped_least : (lo hi to at : ℤ) → lo ≤ℤ at → at ≤ℤ hi → apart to (clamped lo hi to) ≤ℤ apart to at
+pub clamped_least : (lo hi to at : ℤ) → lo ≤ℤ at → at ≤ℤ hi
+    → apart to (clamped lo hi to) ≤ℤ apart to at
 clamped_least lo hi to at above below = omega (arith, ints, clamps)
 
 -- numbers of two intervals are no closer than the intervals
-pub between_least : (lo hi other_lo other_hi from to : ℤ) → lo ≤ℤ from → from ≤ℤ hi → other_lo ≤ℤ to → to ≤ℤ other_hi → between lo hi other_lo other_hi ≤ℤ apart from to
-between_least lo hi other_lo other_hi from to above below other_above other_below = omega (arith, ints, clamps)
+pub between_least : (lo hi other_lo other_hi from to : ℤ) → lo ≤ℤ from → from ≤ℤ hi → other_lo ≤ℤ to
+    → to ≤ℤ other_hi → between lo hi other_lo other_hi ≤ℤ apart from to
+between_least lo hi other_lo other_hi from to above below other_above other_below =
+    omega (arith, ints, clamps)
 
 -- and two are as close
-pub between_shown : (lo hi other_lo other_hi : ℤ) → lo ≤ℤ hi → other_lo ≤ℤ other_hi → apart (clamped lo hi other_lo) (clamped other_lo other_hi (clamped lo hi other_lo)) ≡ between lo hi other_lo other_hi
+pub between_shown : (lo hi other_lo other_hi : ℤ) → lo ≤ℤ hi → other_lo ≤ℤ other_hi
+    → apart (clamped lo hi other_lo) (clamped other_lo other_hi (clamped lo hi other_lo))
+    ≡ between lo hi other_lo other_hi
 between_shown lo hi other_lo other_hi ordered other_ordered = omega (arith, ints, clamps)
 
 -- intervals without a common number are apart
-pub between_above : (lo hi other_lo other_hi : ℤ) → lo ≤ℤ hi → other_lo ≤ℤ other_hi → int_min hi other_hi <ℤ int_max lo other_lo → pos 0 <ℤ between lo hi other_lo other_hi
+pub between_above : (lo hi other_lo other_hi : ℤ) → lo ≤ℤ hi → other_lo ≤ℤ other_hi
+    → int_min hi other_hi <ℤ int_max lo other_lo → pos 0 <ℤ between lo hi other_lo other_hi
 between_above lo hi other_lo other_hi ordered other_ordered crossed = omega (arith, ints, clamps)
 
 -- and others are not
-pub between_none : (lo hi other_lo other_hi : ℤ) → int_max lo other_lo ≤ℤ int_min hi other_hi → between lo hi other_lo other_hi ≤ℤ pos 0
+pub between_none : (lo hi other_lo other_hi : ℤ) → int_max lo other_lo ≤ℤ int_min hi other_hi
+    → between lo hi other_lo other_hi ≤ℤ pos 0
 between_none lo hi other_lo other_hi common = omega (arith, ints, clamps)
 
 -- the greater of two numbers

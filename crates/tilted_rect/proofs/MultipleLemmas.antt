@@ -1,4 +1,5 @@
--- No halving is lost: what is a multiple of 8 in places and offsets is a multiple of 4 in reaches and corners.
+-- No halving is lost: what is a multiple of 8 in places and offsets is a multiple of 4 in reaches
+-- and corners.
 use Rattle.std.proofs.Common.{◌≡◌, List, ℤ, pos, ◌+ℤ◌, ◌-ℤ◌, int_div, subst, arith}
 use Rattle.std.specs.List.{Contains}
 use Rattle.std.proofs.lemmas.Int.{ints}
@@ -26,7 +27,8 @@ more_than_eighths : (a b : ℤ) → IsMultipleOf 8 a → IsMultipleOf 4 b → Is
 more_than_eighths a b first second = omega (arith, ints)
 
 -- half of a multiple of 8 is one of 4
-half_of_eighths : (half twice : ℤ) → half +ℤ half ≡ twice → IsMultipleOf 8 twice → IsMultipleOf 4 half
+half_of_eighths : (half twice : ℤ) → half +ℤ half ≡ twice → IsMultipleOf 8 twice
+    → IsMultipleOf 4 half
 half_of_eighths half twice is multiple = omega (arith, ints)
 
 even_of_eighths : (twice : ℤ) → IsMultipleOf 8 twice → IsMultipleOf 2 twice
@@ -34,27 +36,35 @@ even_of_eighths twice multiple = omega (arith, ints)
 
 -- how far two multiples are apart
 apart_of_eighths : (a b : ℤ) → IsMultipleOf 8 a → IsMultipleOf 8 b → IsMultipleOf 8 (apart a b)
-apart_of_eighths a b first second = max_either (IsMultipleOf 8) (a -ℤ b) (b -ℤ a) (difference_of_eighths a b first second) (difference_of_eighths b a second first)
+apart_of_eighths a b first second = max_either (IsMultipleOf 8) (a -ℤ b) (b -ℤ a)
+    (difference_of_eighths a b first second) (difference_of_eighths b a second first)
 
 -- ---- of sinks
 
-span_multiple : (one other : Sink) → (sinks others : List Sink) → AreMultiplesOf 8 sinks → AreMultiplesOf 8 others → Contains sinks one → Contains others other → IsMultipleOf 8 (span one other)
+span_multiple : (one other : Sink) → (sinks others : List Sink) → AreMultiplesOf 8 sinks
+    → AreMultiplesOf 8 others → Contains sinks one → Contains others other
+    → IsMultipleOf 8 (span one other)
 span_multiple one other sinks others multiples other_multiples among other_among =
     let place = multiples.places one among in
     let other_place = other_multiples.places other other_among in
     sum_of_eighths (one.offset +ℤ other.offset) _
-    (sum_of_eighths one.offset other.offset (multiples.offsets one among) (other_multiples.offsets other other_among))
+    (sum_of_eighths one.offset other.offset (multiples.offsets one among)
+    (other_multiples.offsets other other_among))
     (max_either (IsMultipleOf 8) (apart one.at.u other.at.u) (apart one.at.v other.at.v)
     (apart_of_eighths one.at.u other.at.u place.u other_place.u)
     (apart_of_eighths one.at.v other.at.v place.v other_place.v))
 
 -- the greatest span of two sets
-pub greatest_span_is_multiple : (first second : List Sink) (greatest : ℤ) → AreMultiplesOf 8 first → AreMultiplesOf 8 second → IsGreatestSpan first second greatest → IsMultipleOf 8 greatest
+pub greatest_span_is_multiple : (first second : List Sink) (greatest : ℤ) → AreMultiplesOf 8 first
+    → AreMultiplesOf 8 second → IsGreatestSpan first second greatest → IsMultipleOf 8 greatest
 greatest_span_is_multiple first second greatest multiples others held =
-    subst (IsMultipleOf 8) held.shown (span_multiple held.one held.other first second multiples others held.one_among held.other_among)
+    subst (IsMultipleOf 8) held.shown
+    (span_multiple held.one held.other first second multiples others held.one_among
+    held.other_among)
 
 -- so the reach is a whole number, and a multiple of 4
-pub reach_is_multiple : (sinks : List Sink) (twice : ℤ) → AreMultiplesOf 8 sinks → IsReach sinks twice → (radius : ℤ) × (radius +ℤ radius ≡ twice) × IsMultipleOf 4 radius
+pub reach_is_multiple : (sinks : List Sink) (twice : ℤ) → AreMultiplesOf 8 sinks
+    → IsReach sinks twice → (radius : ℤ) × (radius +ℤ radius ≡ twice) × IsMultipleOf 4 radius
 reach_is_multiple sinks twice multiples reach =
     let multiple = greatest_span_is_multiple sinks sinks twice multiples multiples reach in
     let half = int_div twice (pos 2) in
@@ -62,16 +72,32 @@ reach_is_multiple sinks twice multiples reach =
     (half, is, half_of_eighths half twice is multiple)
 
 -- the extremes are multiples of 8, and the corners of a region multiples of 4
-pub corners_are_multiples : (sinks : List Sink) (extremes : Extremes) (radius : ℤ) → AreMultiplesOf 8 sinks → IsExtremes sinks extremes → IsMultipleOf 4 radius → AreSidesMultiples extremes radius
+pub corners_are_multiples : (sinks : List Sink) (extremes : Extremes) (radius : ℤ)
+    → AreMultiplesOf 8 sinks → IsExtremes sinks extremes → IsMultipleOf 4 radius
+    → AreSidesMultiples extremes radius
 corners_are_multiples sinks extremes radius multiples held multiple = record {
-  ulo = less_than_eighths extremes.greatest_u radius (greatest u_above (λ sink among. sum_of_eighths sink.at.u sink.offset (multiples.places sink among).u (multiples.offsets sink among)) extremes.greatest_u held.greatest_u) multiple;
-  uhi = more_than_eighths extremes.least_u radius (least u_below (λ sink among. difference_of_eighths sink.at.u sink.offset (multiples.places sink among).u (multiples.offsets sink among)) extremes.least_u held.least_u) multiple;
-  vlo = less_than_eighths extremes.greatest_v radius (greatest v_above (λ sink among. sum_of_eighths sink.at.v sink.offset (multiples.places sink among).v (multiples.offsets sink among)) extremes.greatest_v held.greatest_v) multiple;
-  vhi = more_than_eighths extremes.least_v radius (least v_below (λ sink among. difference_of_eighths sink.at.v sink.offset (multiples.places sink among).v (multiples.offsets sink among)) extremes.least_v held.least_v) multiple;
+  ulo = less_than_eighths extremes.greatest_u radius
+      (greatest u_above
+      (λ sink among. sum_of_eighths sink.at.u sink.offset (multiples.places sink among).u
+      (multiples.offsets sink among)) extremes.greatest_u held.greatest_u) multiple;
+  uhi = more_than_eighths extremes.least_u radius
+      (least u_below
+      (λ sink among. difference_of_eighths sink.at.u sink.offset (multiples.places sink among).u
+      (multiples.offsets sink among)) extremes.least_u held.least_u) multiple;
+  vlo = less_than_eighths extremes.greatest_v radius
+      (greatest v_above
+      (λ sink among. sum_of_eighths sink.at.v sink.offset (multiples.places sink among).v
+      (multiples.offsets sink among)) extremes.greatest_v held.greatest_v) multiple;
+  vhi = more_than_eighths extremes.least_v radius
+      (least v_below
+      (λ sink among. difference_of_eighths sink.at.v sink.offset (multiples.places sink among).v
+      (multiples.offsets sink among)) extremes.least_v held.least_v) multiple;
 }
   where
-    greatest : (of : Sink → ℤ) → ((sink : Sink) → Contains sinks sink → IsMultipleOf 8 (of sink)) → (number : ℤ) → IsGreatest of sinks number → IsMultipleOf 8 number
+    greatest : (of : Sink → ℤ) → ((sink : Sink) → Contains sinks sink → IsMultipleOf 8 (of sink))
+        → (number : ℤ) → IsGreatest of sinks number → IsMultipleOf 8 number
     greatest of each number is = subst (IsMultipleOf 8) is.attained (each is.sink is.among)
 
-    least : (of : Sink → ℤ) → ((sink : Sink) → Contains sinks sink → IsMultipleOf 8 (of sink)) → (number : ℤ) → IsLeastOf of sinks number → IsMultipleOf 8 number
+    least : (of : Sink → ℤ) → ((sink : Sink) → Contains sinks sink → IsMultipleOf 8 (of sink))
+        → (number : ℤ) → IsLeastOf of sinks number → IsMultipleOf 8 number
     least of each number is = subst (IsMultipleOf 8) is.attained (each is.sink is.among)

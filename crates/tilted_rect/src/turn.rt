@@ -8,7 +8,8 @@ use cts_model::{Point, Uv, half};
 pub fn to_uv(at: Point) -> Uv
     requires { IsPointBelow (10 ^ 33) at }
     ensures value { result ≡ rotated at }
-    ensures distance { (other : Point) → distance at other ≡ rotated_distance result (rotated other) }
+    ensures distance { (other : Point)
+        → distance at other ≡ rotated_distance result (rotated other) }
 {
     Uv {
         u: at.x + at.y,

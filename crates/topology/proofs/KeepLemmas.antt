@@ -259,7 +259,8 @@ module _ {old new : Slab Live} {key : ℕ} (looked : IsLookedAnew old new key) w
       omega (arith, sums, was, is, total)
 
 -- the first of kept pairs stands where it says
-pub first_there : (slab : Slab Live) (pair : Pair) → KeepPairs slab → IsLeastPair Keeps slab (Some pair)
+pub first_there : (slab : Slab Live) (pair : Pair) → KeepPairs slab
+    → IsLeastPair Keeps slab (Some pair)
     → (live : Live) × (get slab pair.first ≡ Some live) × (live.kept ≡ Some pair)
 first_there slab pair held least =
     let given = least.there pair refl in (
@@ -270,7 +271,8 @@ first_there slab pair held least =
     )
 
 -- so fewer are broken up where that one looks anew
-pub fewer_left : (old new : Slab Live) (pair : Pair) → KeepPairs old → IsLeastPair Keeps old (Some pair)
+pub fewer_left : (old new : Slab Live) (pair : Pair) → KeepPairs old
+    → IsLeastPair Keeps old (Some pair)
     → has_second old pair ≡ false → IsLookedAnew old new pair.first
     → broken_pairs new < broken_pairs old
 fewer_left old new pair held least broken looked =
@@ -283,7 +285,8 @@ fewer_left old new pair held least broken looked =
 
 -- the least of the kept pairs, where its second cluster is there, is the cheapest of all
 pub cheapest_there : (slab : Slab Live) (pair : Pair) → KeepPairs slab
-    → IsLeastPair Keeps slab (Some pair) → has_second slab pair ≡ true → IsCheapestPair slab (Some pair)
+    → IsLeastPair Keeps slab (Some pair) → has_second slab pair ≡ true
+    → IsCheapestPair slab (Some pair)
 cheapest_there slab pair held least there = record {
   bound = λ key other_key live other next at other_at pairs. at_most_along live.kept
       (Some pair) next (held.bound key live at other_key other next other_at pairs)

@@ -7,7 +7,8 @@ use std::alloc::Global;
 use std::process::Abort;
 use std::test::Fail;
 
-// Sinks at these rotated coordinates, with these offsets, their merges, and the place of the source.
+// Sinks at these rotated coordinates, with these offsets, their merges, and the place of the
+// source.
 type Given = (
     &'static [(i128, i128, i128)],
     &'static [(u32, u32)],

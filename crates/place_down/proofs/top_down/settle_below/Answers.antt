@@ -17,6 +17,7 @@ returns c =
       region_held = c.region.ensures.value;
       nearest = c.nearest-found.ensures.nearest;
       multiple = c.nearest-found.ensures.multiple;
-      placed = subst (λ length. IsNodeSettled c.args.node c.nearest-found.result length c.args.work.now
+      placed =
+          subst (λ length. IsNodeSettled c.args.node c.nearest-found.result length c.args.work.now
           c.settle.new.self) length c.settle.ensures;
     }

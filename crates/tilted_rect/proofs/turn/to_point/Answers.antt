@@ -6,7 +6,9 @@ use Rattle.tilted_rect.proofs.TurnLemmas.{rotated_is, same_point}
 use Rattle.tilted_rect.proofs.turn.to_point.Goals as goal
 
 pub returns-clause-back : goal.returns-clause-back
-returns-clause-back c = rotated_is (record { x = kept c.half.result; y = kept c.half-2.result }) c.args.at (omega (arith, ints)) (omega (arith, ints))
+returns-clause-back c =
+    rotated_is (record { x = kept c.half.result; y = kept c.half-2.result }) c.args.at
+    (omega (arith, ints)) (omega (arith, ints))
 
 pub returns-clause-only : goal.returns-clause-only
 returns-clause-only c = λ point is.

@@ -10,4 +10,5 @@ returns-clause-value c = same_uv (omega (arith, ints)) (omega (arith, ints))
 
 pub returns-clause-distance : goal.returns-clause-distance
 returns-clause-distance c = λ other.
-    subst (λ at. distance c.args.at other ≡ rotated_distance at (rotated other)) (sym (returns-clause-value c)) (apart-rotated c.args.at.x c.args.at.y other.x other.y)
+    subst (λ at. distance c.args.at other ≡ rotated_distance at (rotated other))
+    (sym (returns-clause-value c)) (apart-rotated c.args.at.x c.args.at.y other.x other.y)

@@ -9,7 +9,8 @@ returns-clause-anew c =
       live = c.index_mut.result.now;
       found = c.nearest.result;
       at = c.index_mut.ensures.value;
-      least = subst (λ live. IsLeastPair (Pairs c.args.key live) c.args.clusters.now c.nearest.result)
+      least =
+          subst (λ live. IsLeastPair (Pairs c.args.key live) c.args.clusters.now c.nearest.result)
           same c.nearest.ensures;
       new_is = refl;
     }

@@ -12,7 +12,8 @@ invariant_of-result c =
     let rect = c.args.self in
     let room = c.requires.room in
     record {
-      valid = is_rect_along (rect.ulo -ℤ c.args.by) (rect.uhi +ℤ c.args.by) (rect.vlo -ℤ c.args.by) (rect.vhi +ℤ c.args.by) _ _ _ _
+      valid = is_rect_along (rect.ulo -ℤ c.args.by) (rect.uhi +ℤ c.args.by) (rect.vlo -ℤ c.args.by)
+          (rect.vhi +ℤ c.args.by) _ _ _ _
           (difference_read rect.ulo c.args.by (search rules) (search rules) (below_fits _ room.ulo))
           (sum_read rect.uhi c.args.by (search rules) (search rules) (below_fits _ room.uhi))
           (difference_read rect.vlo c.args.by (search rules) (search rules) (below_fits _ room.vlo))
@@ -25,11 +26,14 @@ returns-clause-sides c =
     let rect = c.args.self in
     let room = c.requires.room in
     record {
-      ulo = difference_read rect.ulo c.args.by (search rules) (search rules) (below_fits _ room.ulo);
+      ulo =
+          difference_read rect.ulo c.args.by (search rules) (search rules) (below_fits _ room.ulo);
       uhi = sum_read rect.uhi c.args.by (search rules) (search rules) (below_fits _ room.uhi);
-      vlo = difference_read rect.vlo c.args.by (search rules) (search rules) (below_fits _ room.vlo);
+      vlo =
+          difference_read rect.vlo c.args.by (search rules) (search rules) (below_fits _ room.vlo);
       vhi = sum_read rect.vhi c.args.by (search rules) (search rules) (below_fits _ room.vhi);
     }
 
 pub returns-clause-points : goal.returns-clause-points
-returns-clause-points c = grown_points c.args.self _ c.args.by c.requires.least (returns-clause-sides c)
+returns-clause-points c =
+    grown_points c.args.self _ c.args.by c.requires.least (returns-clause-sides c)
