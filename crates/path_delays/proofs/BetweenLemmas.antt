@@ -10,37 +10,55 @@ use Rattle.cts_model.specs.declared.timing.PairDelay.{PairDelay}
 use Rattle.path_delays.specs.JoinedPairs.{IsJoinedBy, AreDelaysBetween}
 
 -- what stands before the last item
-get_before : {X : Type 0} (xs : List X) (x : X) (place : ℕ) → place < length xs → slice_get (xs ++ x ∷ []) place ≡ slice_get xs place
+get_before : {X : Type 0} (xs : List X) (x : X) (place : ℕ) → place < length xs
+    → slice_get (xs ++ x ∷ []) place ≡ slice_get xs place
 get_before xs x place inside =
-    slice_get-get_or (xs ++ x ∷ []) place x (omega (arith, length_push xs x)) ∙ (ap Some (get_or_append_left xs (x ∷ []) x place inside) ∙ sym (slice_get-get_or xs place x inside))
+    slice_get-get_or (xs ++ x ∷ []) place x (omega (arith, length_push xs x))
+    ∙ (ap Some (get_or_append_left xs (x ∷ []) x place inside)
+    ∙ sym (slice_get-get_or xs place x inside))
 
 -- the last item
-get_last : {X : Type 0} (xs : List X) (x : X) (place : ℕ) → place ≡ length xs → slice_get (xs ++ x ∷ []) place ≡ Some x
+get_last : {X : Type 0} (xs : List X) (x : X) (place : ℕ) → place ≡ length xs
+    → slice_get (xs ++ x ∷ []) place ≡ Some x
 get_last xs x place last =
-    slice_get-get_or (xs ++ x ∷ []) place x (omega (arith, length_push xs x)) ∙ ap Some (get_or_push xs x x place (sym last))
+    slice_get-get_or (xs ++ x ∷ []) place x (omega (arith, length_push xs x))
+    ∙ ap Some (get_or_push xs x x place (sym last))
 
 module _ (circuit : Circuit) (tech : Tech) where
   -- no delays of no pairs
   pub between_none : AreDelaysBetween circuit tech [] []
-  between_none = record { all = refl; each = λ place from to here. absurd (omega (arith, slice_get_within {A = ℕ × ℕ} [] place (from, to) here)) }
+  between_none = record {
+    all = refl;
+    each = λ place from to here.
+        absurd (omega (arith, slice_get_within {A = ℕ × ℕ} [] place (from, to) here));
+  }
 
   -- one pair more
-  between_push : (pairs : List (ℕ × ℕ)) (pair : ℕ × ℕ) (delays : List (Option PairDelay)) (joined : Option PairDelay) → IsJoinedBy circuit tech pair.0 pair.1 joined
-      → AreDelaysBetween circuit tech pairs delays → AreDelaysBetween circuit tech (pairs ++ pair ∷ []) (delays ++ joined ∷ [])
+  between_push : (pairs : List (ℕ × ℕ)) (pair : ℕ × ℕ) (delays : List (Option PairDelay))
+      (joined : Option PairDelay) → IsJoinedBy circuit tech pair.0 pair.1 joined
+      → AreDelaysBetween circuit tech pairs delays
+      → AreDelaysBetween circuit tech (pairs ++ pair ∷ []) (delays ++ joined ∷ [])
   between_push pairs pair delays joined is_joined so_far = record {
     all = omega (arith, length_push pairs pair, length_push delays joined, so_far.all);
     each = λ place from to here. elim (cases_lt place (length pairs)) [
       | inl earlier ↦
           let inside : place < length delays = omega (arith, so_far.all) in
-          rw (get_before delays joined place inside) (so_far.each place from to (sym (get_before pairs pair place earlier) ∙ here))
+          rw (get_before delays joined place inside)
+          (so_far.each place from to (sym (get_before pairs pair place earlier) ∙ here))
       | inr later ↦
           let within = slice_get_within (pairs ++ pair ∷ []) place (from, to) here in
           let last : place ≡ length pairs = omega (arith, length_push pairs pair) in
-          let same : pair ≡ (from, to) = same_Some pair (from, to) (sym (get_last pairs pair place last) ∙ here) in
-          rw (get_last delays joined place (omega (arith, so_far.all))) (subst (λ (p : ℕ × ℕ). IsJoinedBy circuit tech p.0 p.1 joined) same is_joined)
+          let same : pair ≡ (from, to) =
+          same_Some pair (from, to) (sym (get_last pairs pair place last) ∙ here) in
+          rw (get_last delays joined place (omega (arith, so_far.all)))
+          (subst (λ (p : ℕ × ℕ). IsJoinedBy circuit tech p.0 p.1 joined) same is_joined)
     ];
   }
 
-  pub between_next : (pairs : List (ℕ × ℕ)) (i : ℕ) (d : ℕ × ℕ) (delays : List (Option PairDelay)) (joined : Option PairDelay) → i < length pairs → IsJoinedBy circuit tech (get_or pairs i d).0 (get_or pairs i d).1 joined
-      → AreDelaysBetween circuit tech (take i pairs) delays → AreDelaysBetween circuit tech (take (i + 1) pairs) (delays ++ joined ∷ [])
-  between_next pairs i d delays joined within is_joined so_far = rw (take_more pairs i d within) (between_push (take i pairs) (get_or pairs i d) delays joined is_joined so_far)
+  pub between_next : (pairs : List (ℕ × ℕ)) (i : ℕ) (d : ℕ × ℕ) (delays : List (Option PairDelay))
+      (joined : Option PairDelay) → i < length pairs
+      → IsJoinedBy circuit tech (get_or pairs i d).0 (get_or pairs i d).1 joined
+      → AreDelaysBetween circuit tech (take i pairs) delays
+      → AreDelaysBetween circuit tech (take (i + 1) pairs) (delays ++ joined ∷ [])
+  between_next pairs i d delays joined within is_joined so_far = rw (take_more pairs i d within)
+      (between_push (take i pairs) (get_or pairs i d) delays joined is_joined so_far)

@@ -22,7 +22,8 @@ use Rattle.path_delays.proofs.ReachedPairs.{captured_within}
 use Rattle.path_delays.proofs.NetworkLemmas.{Contains-map, Contains-values_at, All-values_at, distinct_length-le}
 
 -- what isn't the host has few inputs
-pub few_inputs : (kind : Kind) (inputs : ℕ) → is_host kind ≡ false → IsTrue (is_valid kind inputs) → inputs ≤ 1024
+pub few_inputs : (kind : Kind) (inputs : ℕ) → is_host kind ≡ false → IsTrue (is_valid kind inputs)
+    → inputs ≤ 1024
 few_inputs And inputs other valid_inputs = grind (arith, nat_tests)
 few_inputs Nand inputs other valid_inputs = grind (arith, nat_tests)
 few_inputs Or inputs other valid_inputs = grind (arith, nat_tests)
@@ -50,19 +51,31 @@ module _ (circuit : Circuit) where
 
   -- so there are few outputs
   few_outputs : length circuit.outputs ≤ 65537
-  few_outputs = omega (arith, distinct_length-le (length circuit.signals) circuit.outputs circuit.valid.outputs_once circuit.valid.outputs_are, few_signals)
+  few_outputs = omega (
+    arith,
+    distinct_length-le (length circuit.signals) circuit.outputs circuit.valid.outputs_once
+        circuit.valid.outputs_are,
+    few_signals,
+  )
 
   -- a register captures few signals
-  pub few_captured : (register : ℕ) (signal : Signal) → register_signal circuit register ≡ Some signal → length signal.fan_in ≤ 65537
+  pub few_captured : (register : ℕ) (signal : Signal)
+      → register_signal circuit register ≡ Some signal → length signal.fan_in ≤ 65537
   few_captured register signal found = at (slice_get circuit.registers register) found
     where
-      by : (number : ℕ) → slice_get circuit.signals number ≡ Some signal → (b : Bool) → is_host signal.kind ≡ b → length signal.fan_in ≤ 65537
-      by number here true host = rw (circuit.valid.host number signal here (rw host refl)).captures few_outputs
+      by : (number : ℕ) → slice_get circuit.signals number ≡ Some signal → (b : Bool)
+          → is_host signal.kind ≡ b → length signal.fan_in ≤ 65537
+      by number here true host =
+          rw (circuit.valid.host number signal here (rw host refl)).captures few_outputs
       by number here false other =
-          let valid_inputs = subst (λ (s : Signal). IsTrue (is_valid s.kind (length s.fan_in))) (get_or_from_slice_get circuit.signals number signal signal here) (circuit.valid.valid_inputs number signal (slice_get_within circuit.signals number signal here)) in
+          let valid_inputs = subst (λ (s : Signal). IsTrue (is_valid s.kind (length s.fan_in)))
+          (get_or_from_slice_get circuit.signals number signal signal here)
+          (circuit.valid.valid_inputs number signal
+          (slice_get_within circuit.signals number signal here)) in
           omega (arith, few_inputs signal.kind (length signal.fan_in) other valid_inputs)
 
-      at : (listed : Option ℕ) → option_and_then (slice_get circuit.signals) listed ≡ Some signal → length signal.fan_in ≤ 65537
+      at : (listed : Option ℕ) → option_and_then (slice_get circuit.signals) listed ≡ Some signal
+          → length signal.fan_in ≤ 65537
       at None found = cc found
       at (Some number) found = by number found (is_host signal.kind) refl
 
@@ -76,17 +89,26 @@ module _ (circuit : Circuit) where
   }
 
   -- one register more
-  pub captures_more : (register : ℕ) (pairs : List (ℕ × ℕ)) (captured : List ℕ) → AreCapturedBy circuit register captured → All (λ signal. signal < length circuit.signals) captured → length captured ≤ 65537
-      → AreAllCaptures circuit register pairs → AreAllCaptures circuit (register + 1) (pairs ++ map (λ signal. (signal, register)) captured)
+  pub captures_more : (register : ℕ) (pairs : List (ℕ × ℕ)) (captured : List ℕ)
+      → AreCapturedBy circuit register captured
+      → All (λ signal. signal < length circuit.signals) captured → length captured ≤ 65537
+      → AreAllCaptures circuit register pairs
+      → AreAllCaptures circuit (register + 1) (pairs ++ map (λ signal. (signal, register)) captured)
   captures_more register pairs captured exact within few so_far = record {
-    signals = All-append (λ (pair : ℕ × ℕ). pair.0 < length circuit.signals) pairs more so_far.signals (All-map (λ (pair : ℕ × ℕ). pair.0 < length circuit.signals) with captured within);
+    signals =
+        All-append (λ (pair : ℕ × ℕ). pair.0 < length circuit.signals) pairs more so_far.signals
+        (All-map (λ (pair : ℕ × ℕ). pair.0 < length circuit.signals) with captured within);
     each = All-append (λ (pair : ℕ × ℕ). Captures circuit pair.1 pair.0) pairs more so_far.each
-        (All-map (λ (pair : ℕ × ℕ). Captures circuit pair.1 pair.0) with captured (λ i d inside. (exact (get_or captured i d)).0 (All-contains_itself captured i d inside)));
+        (All-map (λ (pair : ℕ × ℕ). Captures circuit pair.1 pair.0) with captured
+        (λ i d inside. (exact (get_or captured i d)).0 (All-contains_itself captured i d inside)));
     all = λ other signal lower captures. elim (cases_lt other register) [
-      | inl earlier ↦ Contains-append_left pairs more (signal, other) (so_far.all other signal earlier captures)
+      | inl earlier ↦
+          Contains-append_left pairs more (signal, other) (so_far.all other signal earlier captures)
       | inr last ↦
           let same : register ≡ other = omega arith in
-          Contains-append_right pairs more (signal, other) (subst (λ n. Contains more (signal, n)) same (Contains-map with captured signal ((exact signal).1 (rw (← same) at captures))))
+          Contains-append_right pairs more (signal, other)
+          (subst (λ n. Contains more (signal, n)) same
+          (Contains-map with captured signal ((exact signal).1 (rw (← same) at captures))))
     ];
     few = omega (arith, length-append pairs more, length-map captured with, so_far.few);
   }
@@ -98,33 +120,48 @@ module _ (circuit : Circuit) where
       more = map with captured
 
   -- what captures a signal is a register, and what it captures a signal
-  pub capture_within : (register signal : ℕ) → Captures circuit register signal → (register < length circuit.registers) × (signal < length circuit.signals)
+  pub capture_within : (register signal : ℕ) → Captures circuit register signal
+      → (register < length circuit.registers) × (signal < length circuit.signals)
   capture_within register signal captures = at (register_signal circuit register) refl captures
     where
-      listed : (o : Option ℕ) → slice_get circuit.registers register ≡ o → (found : Signal) → option_and_then (slice_get circuit.signals) o ≡ Some found → register < length circuit.registers
+      listed : (o : Option ℕ) → slice_get circuit.registers register ≡ o → (found : Signal)
+          → option_and_then (slice_get circuit.signals) o ≡ Some found
+          → register < length circuit.registers
       listed None here found is = cc is
       listed (Some number) here found is = slice_get_within circuit.registers register number here
 
-      at : (o : Option Signal) → register_signal circuit register ≡ o → IsSomeAnd o (λ found. Contains found.fan_in signal) → (register < length circuit.registers) × (signal < length circuit.signals)
+      at : (o : Option Signal) → register_signal circuit register ≡ o
+          → IsSomeAnd o (λ found. Contains found.fan_in signal)
+          → (register < length circuit.registers) × (signal < length circuit.signals)
       at None here none = absurd none
       at (Some found) here captured = (
         listed (slice_get circuit.registers register) refl found here,
-        All-contains (λ number. number < length circuit.signals) found.fan_in signal (captured_within circuit register found here) captured,
+        All-contains (λ number. number < length circuit.signals) found.fan_in signal
+            (captured_within circuit register found here) captured,
       )
 
   -- grouped by signal they are the registers that capture each
-  pub captures_grouped : (pairs : List (ℕ × ℕ)) (groups : Groups) → AreAllCaptures circuit (length circuit.registers) pairs → HasGroups (length circuit.signals) pairs groups → AreCapturersOf circuit groups
+  pub captures_grouped : (pairs : List (ℕ × ℕ)) (groups : Groups)
+      → AreAllCaptures circuit (length circuit.registers) pairs
+      → HasGroups (length circuit.signals) pairs groups → AreCapturersOf circuit groups
   captures_grouped pairs groups captures grouped = record {
     long = grouped.long;
     each = λ signal register inside listed.
-        All-contains (λ register. Captures circuit register signal) (group_of groups signal) register (rw (grouped.each signal inside) (All-values_at (λ signal register. Captures circuit register signal) pairs signal captures.each)) listed;
+        All-contains (λ register. Captures circuit register signal)
+        (group_of groups signal) register
+        (rw (grouped.each signal inside)
+        (All-values_at
+        (λ signal register. Captures circuit register signal) pairs signal captures.each)) listed;
     all = λ signal register captured.
         let within = capture_within register signal captured in
-        rw (grouped.each signal within.1) (Contains-values_at pairs signal register (captures.all register signal within.0 captured));
+        rw (grouped.each signal within.1)
+        (Contains-values_at pairs signal register (captures.all register signal within.0 captured));
   }
 
   -- no register captures none of an empty set
-  pub none_captured : (words : List ℕ) → length circuit.signals < 64 * length words → 64 * length words ≤ length circuit.signals + 64 → ((number : ℕ) → has_number words number ≡ false) → AreCapturedBelow circuit 0 words
+  pub none_captured : (words : List ℕ) → length circuit.signals < 64 * length words
+      → 64 * length words ≤ length circuit.signals + 64
+      → ((number : ℕ) → has_number words number ≡ false) → AreCapturedBelow circuit 0 words
   none_captured words room small empty = record {
     room = room;
     small = small;
@@ -133,13 +170,16 @@ module _ (circuit : Circuit) where
   }
 
   -- what one register more captures is put in
-  pub captured_more : (register : ℕ) (captured words later : List ℕ) → AreCapturedBy circuit register captured → All (λ signal. signal < length circuit.signals) captured → AreInserted captured words later
+  pub captured_more : (register : ℕ) (captured words later : List ℕ)
+      → AreCapturedBy circuit register captured
+      → All (λ signal. signal < length circuit.signals) captured → AreInserted captured words later
       → AreCapturedBelow circuit register words → AreCapturedBelow circuit (register + 1) later
   captured_more register captured words later exact within inserted so_far = record {
     room = omega (arith, so_far.room, inserted.covers);
     small = omega (arith, so_far.small, inserted.covers);
     each = λ signal held. elim ((inserted.each signal).0 held) [
-      | inl listed ↦ All-contains (λ number. number < length circuit.signals) captured signal within listed
+      | inl listed ↦
+          All-contains (λ number. number < length circuit.signals) captured signal within listed
       | inr earlier ↦ so_far.each signal earlier
     ];
     all = λ other signal lower captures. elim (cases_lt other register) [

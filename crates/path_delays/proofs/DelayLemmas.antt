@@ -33,30 +33,39 @@ no_delay_valid = record {
     zero high = record { above = omega (arith, ints); below = omega (arith, ints) }
 
 -- each row has them, also where a row is missing
-pub row_valid : (rows : List GateDelay) (place : ℕ) → All IsGateDelay rows → IsGateDelay (get_or rows place no_delay)
+pub row_valid : (rows : List GateDelay) (place : ℕ) → All IsGateDelay rows
+    → IsGateDelay (get_or rows place no_delay)
 row_valid rows place all = elim (cases_lt place (length rows)) [
   | inl within ↦ all place no_delay within
   | inr past ↦ subst IsGateDelay (sym (get_or_past rows place no_delay past)) no_delay_valid
 ]
 
 -- so much for each further input
-scaled : (number : ℤ) (times : ℕ) → IsWithin 0 1000 number → IsWithin 0 (1000 * times) (number *ℤ pos times)
+scaled : (number : ℤ) (times : ℕ) → IsWithin 0 1000 number
+    → IsWithin 0 (1000 * times) (number *ℤ pos times)
 scaled (pos number) times within =
     let small : number ≤ 1000 = omega (arith, ints, within.below) in
     let most : number * times ≤ 1000 * times = mul-le-mul_right times small in
     let is : pos number *ℤ pos times ≡ pos (number * times) = pos-*ℤ-pos number times in
-    subst (IsWithin 0 (1000 * times)) (sym is) (record { above = omega (arith, ints); below = omega (arith, ints, most) })
+    subst (IsWithin 0 (1000 * times)) (sym is)
+    (record { above = omega (arith, ints); below = omega (arith, ints, most) })
 scaled (negsuc number) times within = absurd (omega (arith, ints, within.above))
 
 -- what each input adds is within what it may
-delay_within : (first per_input : ℤ) (inputs : ℕ) → IsWithin 0 1000000 first → IsWithin 0 1000 per_input → IsWithin 0 (1000000 + 1000 * inputs) (first +ℤ (per_input *ℤ pos (inputs - 1)))
+delay_within : (first per_input : ℤ) (inputs : ℕ) → IsWithin 0 1000000 first
+    → IsWithin 0 1000 per_input
+    → IsWithin 0 (1000000 + 1000 * inputs) (first +ℤ (per_input *ℤ pos (inputs - 1)))
 delay_within first per_input inputs within each =
     let further = scaled per_input (inputs - 1) each in
     let fewer : 1000 * (inputs - 1) ≤ 1000 * inputs = omega arith in
-    record { above = omega (arith, ints, within.above, further.above); below = omega (arith, ints, within.below, further.below) }
+    record {
+      above = omega (arith, ints, within.above, further.above);
+      below = omega (arith, ints, within.below, further.below);
+    }
 
 -- a gate's delays are within its weight
-pub gate_within : (tech : Tech) (signal : Signal) → AreWithin (weight_of signal) (gate_sums tech signal)
+pub gate_within : (tech : Tech) (signal : Signal)
+    → AreWithin (weight_of signal) (gate_sums tech signal)
 gate_within tech signal = at (is_gate signal.kind)
   where
     row : IsGateDelay (delay_of tech signal.kind)
@@ -65,10 +74,18 @@ gate_within tech signal = at (is_gate signal.kind)
     inputs : ℕ
     inputs = length signal.fan_in
 
-    at : (b : Bool) → AreWithin (1000000 + 1000 * cond b inputs 0) (cond b (record { least = least_gate_delay tech (Some signal); greatest = greatest_gate_delay tech (Some signal) }) (record { least = pos 0; greatest = pos 0 }))
+    at : (b : Bool)
+        → AreWithin (1000000 + 1000 * cond b inputs 0)
+        (cond b
+        (record {
+          least = least_gate_delay tech (Some signal);
+          greatest = greatest_gate_delay tech (Some signal);
+        }) (record { least = pos 0; greatest = pos 0 }))
     at true = record {
-      least = delay_within (delay_of tech signal.kind).least (delay_of tech signal.kind).least_per_input inputs row.least row.least_per_input;
-      greatest = delay_within (delay_of tech signal.kind).greatest (delay_of tech signal.kind).greatest_per_input inputs row.greatest row.greatest_per_input;
+      least = delay_within (delay_of tech signal.kind).least
+          (delay_of tech signal.kind).least_per_input inputs row.least row.least_per_input;
+      greatest = delay_within (delay_of tech signal.kind).greatest
+          (delay_of tech signal.kind).greatest_per_input inputs row.greatest row.greatest_per_input;
     }
     at false = record {
       least = record { above = omega (arith, ints); below = omega (arith, ints) };

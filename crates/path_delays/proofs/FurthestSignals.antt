@@ -12,40 +12,62 @@ use Rattle.path_delays.proofs.ReachedPairs.{some_of}
 
 -- the walk found this extreme at the signal
 abbrev pub FitsAt : Walk → Bool → ℤ → ℕ → Type 0
-FitsAt walk greatest extreme signal = IsSomeAnd (sums_to walk signal) (λ sums. extreme_of greatest sums ≡ extreme)
+FitsAt walk greatest extreme signal =
+    IsSomeAnd (sums_to walk signal) (λ sums. extreme_of greatest sums ≡ extreme)
 
 -- it did at none of so many signals
 abbrev pub NoneFitsBefore : Walk → List ℕ → Bool → ℤ → ℕ → Type 0
-NoneFitsBefore walk signals greatest extreme count = (place : ℕ) → place < count → FitsAt walk greatest extreme (get_or signals place 0) → ⊥
+NoneFitsBefore walk signals greatest extreme count =
+    (place : ℕ) → place < count → FitsAt walk greatest extreme (get_or signals place 0) → ⊥
 
 -- what lies around sums is no further
-no_further_around : (greatest : Bool) (sums entry : Sums) → IsAround sums entry → IsNoFurther greatest (extreme_of greatest entry) (extreme_of greatest sums)
+no_further_around : (greatest : Bool) (sums entry : Sums) → IsAround sums entry
+    → IsNoFurther greatest (extreme_of greatest entry) (extreme_of greatest sums)
 no_further_around true sums entry around = around.greatest
 no_further_around false sums entry around = around.least
 
-module _ (walk : Walk) (signals : List ℕ) (greatest : Bool) (sums : Sums) (over : AreSumsOver walk signals sums) where
+module _ (walk : Walk) (signals : List ℕ) (greatest : Bool) (sums : Sums)
+    (over : AreSumsOver walk signals sums) where
   -- a signal where the walk found the extreme is the furthest
-  pub furthest_found : (signal : ℕ) → Contains signals signal → FitsAt walk greatest (extreme_of greatest sums) signal → IsFurthest walk (Contains signals) greatest signal
+  pub furthest_found : (signal : ℕ) → Contains signals signal
+      → FitsAt walk greatest (extreme_of greatest sums) signal
+      → IsFurthest walk (Contains signals) greatest signal
   furthest_found signal listed fits =
-      let found = some_of (sums_to walk signal) (λ entry. extreme_of greatest entry ≡ extreme_of greatest sums) fits in
+      let found = some_of (sums_to walk signal)
+      (λ entry. extreme_of greatest entry ≡ extreme_of greatest sums) fits in
       record {
         is_one = listed;
         sums = found.0;
         here = found.1;
-        furthest = λ other entry is_one there. subst (IsNoFurther greatest (extreme_of greatest entry)) (sym found.2) (no_further_around greatest sums entry (over.around other entry is_one there));
+        furthest = λ other entry is_one there.
+            subst (IsNoFurther greatest (extreme_of greatest entry)) (sym found.2)
+            (no_further_around greatest sums entry (over.around other entry is_one there));
       }
 
   -- and there is one
-  pub some_fits : NoneFitsBefore walk signals greatest (extreme_of greatest sums) (length signals) → ⊥
+  pub some_fits : NoneFitsBefore walk signals greatest (extreme_of greatest sums) (length signals)
+      → ⊥
   some_fits none = at greatest none
     where
       at : (b : Bool) → NoneFitsBefore walk signals b (extreme_of b sums) (length signals) → ⊥
-      at true none = none over.greatest_listed.0 over.greatest_listed.1 (subst (FitsAt walk true sums.greatest) (sym over.greatest_listed.2 ∙ get_or_default signals over.greatest_listed.0 over.greatest_at 0 over.greatest_listed.1) over.greatest_found)
-      at false none = none over.least_listed.0 over.least_listed.1 (subst (FitsAt walk false sums.least) (sym over.least_listed.2 ∙ get_or_default signals over.least_listed.0 over.least_at 0 over.least_listed.1) over.least_found)
+      at true none = none over.greatest_listed.0 over.greatest_listed.1
+          (subst (FitsAt walk true sums.greatest)
+          (sym over.greatest_listed.2
+          ∙ get_or_default signals over.greatest_listed.0 over.greatest_at 0 over.greatest_listed.1)
+          over.greatest_found)
+      at false none = none over.least_listed.0 over.least_listed.1
+          (subst (FitsAt walk false sums.least)
+          (sym over.least_listed.2
+          ∙ get_or_default signals over.least_listed.0 over.least_at 0 over.least_listed.1)
+          over.least_found)
 
 -- one signal more at which it didn't
-pub none_fits_next : (walk : Walk) (signals : List ℕ) (greatest : Bool) (extreme : ℤ) (count : ℕ) → (FitsAt walk greatest extreme (get_or signals count 0) → ⊥) → NoneFitsBefore walk signals greatest extreme count → NoneFitsBefore walk signals greatest extreme (count + 1)
-none_fits_next walk signals greatest extreme count unfit none place before fits = elim (cases_lt place count) [
-  | inl earlier ↦ none place earlier fits
-  | inr later ↦ let same : place ≡ count = omega arith in unfit (rw same at fits)
-]
+pub none_fits_next : (walk : Walk) (signals : List ℕ) (greatest : Bool) (extreme : ℤ) (count : ℕ)
+    → (FitsAt walk greatest extreme (get_or signals count 0) → ⊥)
+    → NoneFitsBefore walk signals greatest extreme count
+    → NoneFitsBefore walk signals greatest extreme (count + 1)
+none_fits_next walk signals greatest extreme count unfit none place before fits =
+    elim (cases_lt place count) [
+      | inl earlier ↦ none place earlier fits
+      | inr later ↦ let same : place ≡ count = omega arith in unfit (rw same at fits)
+    ]

@@ -6,7 +6,8 @@ use Rattle.path_delays.specs.declared.reach.Reach.{Reach}
 use Rattle.path_delays.specs.Handing.{HasReachRoom, IsSameRoom, IsHanded, AreHanded}
 
 -- there is room where there is as much as before
-pub HasReachRoom-same : (network : Network) (old new : Reach) → IsSameRoom old new → HasReachRoom network old → HasReachRoom network new
+pub HasReachRoom-same : (network : Network) (old new : Reach) → IsSameRoom old new
+    → HasReachRoom network old → HasReachRoom network new
 HasReachRoom-same network old new same room = record {
   starts = room.starts;
   readers = room.readers;
@@ -19,6 +20,10 @@ HasReachRoom-same network old new same room = record {
 }
 
 -- one gate more
-pub AreHanded-push : (network : Network) (given : Sums) (gates : List ℕ) (gate : ℕ) (old between new : Reach) → AreHanded network given gates old between → IsHanded network given gate between new → AreHanded network given (gates ++ gate ∷ []) old new
-AreHanded-push network given [] gate old between new same last = (new, subst (λ reach. IsHanded network given gate reach new) (sym same) last, refl)
-AreHanded-push network given (first ∷ gates) gate old between new (next, here, rest) last = (next, here, AreHanded-push network given gates gate next between new rest last)
+pub AreHanded-push : (network : Network) (given : Sums) (gates : List ℕ) (gate : ℕ)
+    (old between new : Reach) → AreHanded network given gates old between
+    → IsHanded network given gate between new → AreHanded network given (gates ++ gate ∷ []) old new
+AreHanded-push network given [] gate old between new same last =
+    (new, subst (λ reach. IsHanded network given gate reach new) (sym same) last, refl)
+AreHanded-push network given (first ∷ gates) gate old between new (next, here, rest) last =
+    (next, here, AreHanded-push network given gates gate next between new rest last)

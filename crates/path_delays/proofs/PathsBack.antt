@@ -51,35 +51,57 @@ register_no_gate Xnor register gate = false≢true register
 register_no_gate Buff register gate = false≢true register
 
 -- what a register launches reads nothing
-launched_no_gate : (circuit : Circuit) (from number read : ℕ) → Launches circuit from number → Reads circuit.signals number read → ⊥
-launched_no_gate circuit from number read launched reads = at (slice_get circuit.signals number) refl reads
+launched_no_gate : (circuit : Circuit) (from number read : ℕ) → Launches circuit from number
+    → Reads circuit.signals number read → ⊥
+launched_no_gate circuit from number read launched reads =
+    at (slice_get circuit.signals number) refl reads
   where
-    own : (signal : Signal) → slice_get circuit.signals number ≡ Some signal → is_gate signal.kind ≡ true → slice_get circuit.registers from ≡ Some number → ⊥
+    own : (signal : Signal) → slice_get circuit.signals number ≡ Some signal
+        → is_gate signal.kind ≡ true → slice_get circuit.registers from ≡ Some number → ⊥
     own signal here is_one listed =
-        let register : IsRegisterAt circuit.signals number = subst (IsRegisterAt circuit.signals) (get_or_from_slice_get circuit.registers from number 0 listed) (registered circuit from (slice_get_within circuit.registers from number listed)) in
-        let same : register.signal ≡ signal = same_Some register.signal signal (sym register.here ∙ here) in
-        register_no_gate register.signal.kind register.register (ap (λ s. is_gate s.kind) same ∙ is_one)
+        let register : IsRegisterAt circuit.signals number = subst (IsRegisterAt circuit.signals)
+        (get_or_from_slice_get circuit.registers from number 0 listed)
+        (registered circuit from (slice_get_within circuit.registers from number listed)) in
+        let same : register.signal ≡ signal =
+        same_Some register.signal signal (sym register.here ∙ here) in
+        register_no_gate register.signal.kind register.register
+        (ap (λ s. is_gate s.kind) same ∙ is_one)
 
-    by : (signal : Signal) → slice_get circuit.signals number ≡ Some signal → is_gate signal.kind ≡ true → (host : Bool) → MatchBool host (IsInput circuit number) (slice_get circuit.registers from ≡ Some number) → ⊥
+    by : (signal : Signal) → slice_get circuit.signals number ≡ Some signal
+        → is_gate signal.kind ≡ true → (host : Bool)
+        → MatchBool host (IsInput circuit number) (slice_get circuit.registers from ≡ Some number)
+        → ⊥
     by signal here is_one true input = input_no_gate signal.kind (rw here at input) is_one
     by signal here is_one false listed = own signal here is_one listed
 
-    register : (signal : Signal) → slice_get circuit.signals number ≡ Some signal → is_gate signal.kind ≡ true → (from_signal : Option Signal) → IsSomeAnd from_signal (λ launching. MatchBool (is_host launching.kind) (IsInput circuit number) (slice_get circuit.registers from ≡ Some number)) → ⊥
+    register : (signal : Signal) → slice_get circuit.signals number ≡ Some signal
+        → is_gate signal.kind ≡ true → (from_signal : Option Signal)
+        → IsSomeAnd from_signal (λ launching. MatchBool (is_host launching.kind)
+        (IsInput circuit number) (slice_get circuit.registers from ≡ Some number)) → ⊥
     register signal here is_one None launches = launches
-    register signal here is_one (Some launching) launches = by signal here is_one (is_host launching.kind) launches
+    register signal here is_one (Some launching) launches =
+        by signal here is_one (is_host launching.kind) launches
 
-    at : (found : Option Signal) → slice_get circuit.signals number ≡ found → IsSomeAnd found (λ signal. IsTrue (is_gate signal.kind) × Contains signal.fan_in read) → ⊥
+    at : (found : Option Signal) → slice_get circuit.signals number ≡ found
+        → IsSomeAnd found (λ signal. IsTrue (is_gate signal.kind) × Contains signal.fan_in read) → ⊥
     at None missing reads = reads
-    at (Some signal) here reads = register signal here reads.0 (register_signal circuit from) launched
+    at (Some signal) here reads =
+        register signal here reads.0 (register_signal circuit from) launched
 
 -- what a gate reads is within the circuit
-reads_within : (circuit : Circuit) (number read : ℕ) → Reads circuit.signals number read → read < length circuit.signals
+reads_within : (circuit : Circuit) (number read : ℕ) → Reads circuit.signals number read
+    → read < length circuit.signals
 reads_within circuit number read reads = at (slice_get circuit.signals number) refl reads
   where
-    at : (found : Option Signal) → slice_get circuit.signals number ≡ found → IsSomeAnd found (λ signal. IsTrue (is_gate signal.kind) × Contains signal.fan_in read) → read < length circuit.signals
+    at : (found : Option Signal) → slice_get circuit.signals number ≡ found
+        → IsSomeAnd found (λ signal. IsTrue (is_gate signal.kind) × Contains signal.fan_in read)
+        → read < length circuit.signals
     at None missing reads = absurd reads
     at (Some signal) here reads =
-        rw reads.1.2 at (read_within circuit number signal (slice_get_within circuit.signals number signal here) (sym (get_or_from_slice_get circuit.signals number signal signal here)) reads.1.0 read reads.1.1)
+        rw reads.1.2 at
+        (read_within circuit number signal (slice_get_within circuit.signals number signal here)
+        (sym (get_or_from_slice_get circuit.signals number signal signal here)) reads.1.0 read
+        reads.1.1)
 
 -- a chain to a signal is this signal alone, or goes through one that it reads
 pub record IsAfter (circuit : Circuit) (first : ℕ) (gates : List ℕ) (last : ℕ) : Type 0 where
@@ -90,28 +112,55 @@ pub record IsAfter (circuit : Circuit) (first : ℕ) (gates : List ℕ) (last : 
   pub reads : Reads circuit.signals last read
 
 -- and which of the two it is
-pub last_of : (circuit : Circuit) (first : ℕ) (gates : List ℕ) (last : ℕ) → Follows circuit.signals first gates last → ((gates ≡ []) × (first ≡ last)) ⊎ IsAfter circuit first gates last
+pub last_of : (circuit : Circuit) (first : ℕ) (gates : List ℕ) (last : ℕ)
+    → Follows circuit.signals first gates last
+    → ((gates ≡ []) × (first ≡ last)) ⊎ IsAfter circuit first gates last
 last_of circuit first [] last follows = inl (refl, follows)
-last_of circuit first (gate ∷ gates) last follows = elim (last_of circuit gate gates last follows.1) [
-  | inl end ↦ inr (record { read = first; prefix = []; is = ap (λ g. gate ∷ g) end.0 ∙ ap (λ g. g ∷ []) end.1; follows = refl; reads = subst (λ g. Reads circuit.signals g first) end.1 follows.0 })
-  | inr suffix ↦ inr (record { read = suffix.read; prefix = gate ∷ suffix.prefix; is = ap (λ g. gate ∷ g) suffix.is; follows = (follows.0, suffix.follows); reads = suffix.reads })
-]
+last_of circuit first (gate ∷ gates) last follows =
+    elim (last_of circuit gate gates last follows.1) [
+      | inl end ↦
+          inr (record {
+            read = first;
+            prefix = [];
+            is = ap (λ g. gate ∷ g) end.0 ∙ ap (λ g. g ∷ []) end.1;
+            follows = refl;
+            reads = subst (λ g. Reads circuit.signals g first) end.1 follows.0;
+          })
+      | inr suffix ↦
+          inr (record {
+            read = suffix.read;
+            prefix = gate ∷ suffix.prefix;
+            is = ap (λ g. gate ∷ g) suffix.is;
+            follows = (follows.0, suffix.follows);
+            reads = suffix.reads;
+          })
+    ]
 
 -- what a register captures is its fan-in
-pub captures_furthest : (circuit : Circuit) (to : ℕ) (captured : Signal) → register_signal circuit to ≡ Some captured → (walk : Walk) (greatest : Bool) (last : ℕ) → IsFurthest walk (Contains captured.fan_in) greatest last → IsFurthest walk (Captures circuit to) greatest last
+pub captures_furthest : (circuit : Circuit) (to : ℕ) (captured : Signal)
+    → register_signal circuit to ≡ Some captured → (walk : Walk) (greatest : Bool) (last : ℕ)
+    → IsFurthest walk (Contains captured.fan_in) greatest last
+    → IsFurthest walk (Captures circuit to) greatest last
 captures_furthest circuit to captured found walk greatest last furthest = record {
   is_one = rw found furthest.is_one;
   sums = furthest.sums;
   here = furthest.here;
-  furthest = λ other entry is_captured there. furthest.furthest other entry (rw found at is_captured) there;
+  furthest = λ other entry is_captured there.
+      furthest.furthest other entry (rw found at is_captured) there;
 }
 
 -- and within the circuit
-pub captures_within : (circuit : Circuit) (to : ℕ) (captured : Signal) → register_signal circuit to ≡ Some captured → (signal : ℕ) → Captures circuit to signal → signal < length circuit.signals
-captures_within circuit to captured found signal captures = let listed = rw found at captures in rw listed.2 at (captured_within circuit to captured found listed.0 signal listed.1)
+pub captures_within : (circuit : Circuit) (to : ℕ) (captured : Signal)
+    → register_signal circuit to ≡ Some captured → (signal : ℕ) → Captures circuit to signal
+    → signal < length circuit.signals
+captures_within circuit to captured found signal captures =
+    let listed = rw found at captures in
+    rw listed.2 at (captured_within circuit to captured found listed.0 signal listed.1)
 
--- from a signal on, the path to the last one, whose sums are those of the signal and what the gates after it add
-pub record IsBack (circuit : Circuit) (tech : Tech) (walk : Walk) (greatest : Bool) (last : ℕ) (path : List ℕ) (signal : ℕ) : Type 0 where
+-- from a signal on, the path to the last one, whose sums are those of the signal and what the gates
+-- after it add
+pub record IsBack (circuit : Circuit) (tech : Tech) (walk : Walk) (greatest : Bool) (last : ℕ)
+    (path : List ℕ) (signal : ℕ) : Type 0 where
   pub rest : List ℕ
   pub is : reverse path ≡ signal ∷ rest
   pub within : signal < length circuit.signals
@@ -120,83 +169,129 @@ pub record IsBack (circuit : Circuit) (tech : Tech) (walk : Walk) (greatest : Bo
   pub here : sums_to walk signal ≡ Some sums
   pub end : Sums
   pub end_here : sums_to walk last ≡ Some end
-  pub total : extreme_of greatest end ≡ extreme_of greatest sums +ℤ through_by greatest circuit tech rest
+  pub total : extreme_of greatest end
+      ≡ extreme_of greatest sums +ℤ through_by greatest circuit tech rest
 
-module _ (circuit : Circuit) (tech : Tech) (from : ℕ) (walk : Walk) (greatest : Bool) (reach : HasReach circuit tech from walk) where
+module _ (circuit : Circuit) (tech : Tech) (from : ℕ) (walk : Walk) (greatest : Bool)
+    (reach : HasReach circuit tech from walk) where
   -- what the walk found at a signal are the delays of its chains
-  reached : (signal : ℕ) (sums : Sums) → sums_to walk signal ≡ Some sums → IsReachBy greatest circuit tech from signal sums
-  reached signal sums here = reach_by greatest circuit tech from signal sums (subst (IsReach circuit tech from signal) here (reach.each signal))
+  reached : (signal : ℕ) (sums : Sums) → sums_to walk signal ≡ Some sums
+      → IsReachBy greatest circuit tech from signal sums
+  reached signal sums here = reach_by greatest circuit tech from signal sums
+      (subst (IsReach circuit tech from signal) here (reach.each signal))
 
   -- where it found nothing, there is no chain
-  unreached : (signal : ℕ) (chain : List ℕ) → sums_to walk signal ≡ None → IsChain circuit from signal chain → ⊥
-  unreached signal chain nothing is_chain = subst (IsReach circuit tech from signal) nothing (reach.each signal) chain is_chain
+  unreached : (signal : ℕ) (chain : List ℕ) → sums_to walk signal ≡ None
+      → IsChain circuit from signal chain → ⊥
+  unreached signal chain nothing is_chain =
+      subst (IsReach circuit tech from signal) nothing (reach.each signal) chain is_chain
 
   -- a chain to a signal is no further than what the walk found there
-  chain_within : (signal : ℕ) (chain : List ℕ) → IsChain circuit from signal chain → (sums : Sums) × (sums_to walk signal ≡ Some sums) × IsNoFurther greatest (delay_by greatest circuit tech chain) (extreme_of greatest sums)
+  chain_within : (signal : ℕ) (chain : List ℕ) → IsChain circuit from signal chain
+      → (sums : Sums) × (sums_to walk signal ≡ Some sums)
+      × IsNoFurther greatest (delay_by greatest circuit tech chain) (extreme_of greatest sums)
   chain_within signal chain is_chain = at (sums_to walk signal) refl
     where
-      at : (found : Option Sums) → sums_to walk signal ≡ found → (sums : Sums) × (sums_to walk signal ≡ Some sums) × IsNoFurther greatest (delay_by greatest circuit tech chain) (extreme_of greatest sums)
+      at : (found : Option Sums) → sums_to walk signal ≡ found
+          → (sums : Sums) × (sums_to walk signal ≡ Some sums)
+          × IsNoFurther greatest (delay_by greatest circuit tech chain) (extreme_of greatest sums)
       at None nothing = absurd (unreached signal chain nothing is_chain)
       at (Some sums) here = (sums, here, (reached signal sums here).extreme chain is_chain)
 
   -- a chain with a reader of its end after it is one to the reader
-  chain_push : (first : ℕ) (prefix : List ℕ) (read gate : ℕ) → IsChain circuit from read (first ∷ prefix) → Reads circuit.signals gate read → IsChain circuit from gate (first ∷ prefix ++ gate ∷ [])
-  chain_push first prefix read gate is_chain reads = (is_chain.0, follows_joined circuit.signals prefix (gate ∷ []) first read gate is_chain.1 (reads, refl))
+  chain_push : (first : ℕ) (prefix : List ℕ) (read gate : ℕ)
+      → IsChain circuit from read (first ∷ prefix) → Reads circuit.signals gate read
+      → IsChain circuit from gate (first ∷ prefix ++ gate ∷ [])
+  chain_push first prefix read gate is_chain reads = (
+    is_chain.0,
+    follows_joined circuit.signals prefix (gate ∷ []) first read gate is_chain.1 (reads, refl),
+  )
 
   -- so the walk found no less at a gate than what it reads and the gate add up to
-  reader_within : (signal read : ℕ) (sums read_sums : Sums) → Reads circuit.signals signal read → sums_to walk signal ≡ Some sums → sums_to walk read ≡ Some read_sums
-      → IsNoFurther greatest (extreme_of greatest read_sums +ℤ gate_by greatest tech (slice_get circuit.signals signal)) (extreme_of greatest sums)
+  reader_within : (signal read : ℕ) (sums read_sums : Sums) → Reads circuit.signals signal read
+      → sums_to walk signal ≡ Some sums → sums_to walk read ≡ Some read_sums
+      → IsNoFurther greatest
+      (extreme_of greatest read_sums +ℤ gate_by greatest tech (slice_get circuit.signals signal))
+      (extreme_of greatest sums)
   reader_within signal read sums read_sums reads here read_here =
       let shown = reached read read_sums read_here in
       at shown.chain shown.is_chain shown.shown
     where
-      at : (chain : List ℕ) → IsChain circuit from read chain → delay_by greatest circuit tech chain ≡ extreme_of greatest read_sums
-          → IsNoFurther greatest (extreme_of greatest read_sums +ℤ gate_by greatest tech (slice_get circuit.signals signal)) (extreme_of greatest sums)
+      at : (chain : List ℕ) → IsChain circuit from read chain
+          → delay_by greatest circuit tech chain ≡ extreme_of greatest read_sums
+          → IsNoFurther greatest
+          (extreme_of greatest read_sums
+          +ℤ gate_by greatest tech (slice_get circuit.signals signal)) (extreme_of greatest sums)
       at [] is_chain shown = absurd is_chain
       at (first ∷ prefix) is_chain shown =
-          let longer = (reached signal sums here).extreme (first ∷ prefix ++ signal ∷ []) (chain_push first prefix read signal is_chain reads) in
+          let longer = (reached signal sums here).extreme (first ∷ prefix ++ signal ∷ [])
+          (chain_push first prefix read signal is_chain reads) in
           rw (← shown) (rw (delay_push greatest circuit tech first prefix signal) at longer)
 
-  -- at a gate the walk found what it found at the furthest signal that the gate reads, and the gate's delay
-  furthest_adds : (signal read : ℕ) (sums : Sums) → sums_to walk signal ≡ Some sums → (furthest : IsFurthest walk (Reads circuit.signals signal) greatest read)
-      → extreme_of greatest sums ≡ extreme_of greatest furthest.sums +ℤ gate_by greatest tech (slice_get circuit.signals signal)
+  -- at a gate the walk found what it found at the furthest signal that the gate reads, and the
+  -- gate's delay
+  furthest_adds : (signal read : ℕ) (sums : Sums) → sums_to walk signal ≡ Some sums
+      → (furthest : IsFurthest walk (Reads circuit.signals signal) greatest read)
+      → extreme_of greatest sums ≡ extreme_of greatest furthest.sums
+      +ℤ gate_by greatest tech (slice_get circuit.signals signal)
   furthest_adds signal read sums here furthest =
       let shown = reached signal sums here in
-      same_extreme greatest _ _ (at shown.chain shown.is_chain shown.shown) (reader_within signal read sums furthest.sums furthest.is_one here furthest.here)
+      same_extreme greatest _ _ (at shown.chain shown.is_chain shown.shown)
+      (reader_within signal read sums furthest.sums furthest.is_one here furthest.here)
     where
-      suffix : (first : ℕ) (gates : List ℕ) → Launches circuit from first → IsAfter circuit first gates signal → delay_by greatest circuit tech (first ∷ gates) ≡ extreme_of greatest sums
-          → IsNoFurther greatest (extreme_of greatest sums) (extreme_of greatest furthest.sums +ℤ gate_by greatest tech (slice_get circuit.signals signal))
+      suffix : (first : ℕ) (gates : List ℕ) → Launches circuit from first
+          → IsAfter circuit first gates signal
+          → delay_by greatest circuit tech (first ∷ gates) ≡ extreme_of greatest sums
+          → IsNoFurther greatest (extreme_of greatest sums)
+          (extreme_of greatest furthest.sums
+          +ℤ gate_by greatest tech (slice_get circuit.signals signal))
       suffix first gates launches is_after shown =
-          let there = chain_within is_after.read (first ∷ is_after.prefix) (launches, is_after.follows) in
-          let lower = no_further_than greatest _ _ _ there.2 (furthest.furthest is_after.read there.0 is_after.reads there.1) in
-          let whole = sym shown ∙ ap (λ l. delay_by greatest circuit tech (first ∷ l)) is_after.is ∙ delay_push greatest circuit tech first is_after.prefix signal in
+          let there =
+          chain_within is_after.read (first ∷ is_after.prefix) (launches, is_after.follows) in
+          let lower = no_further_than greatest _ _ _ there.2
+          (furthest.furthest is_after.read there.0 is_after.reads there.1) in
+          let whole = sym shown ∙ ap (λ l. delay_by greatest circuit tech (first ∷ l)) is_after.is
+          ∙ delay_push greatest circuit tech first is_after.prefix signal in
           rw whole (no_further_after greatest _ _ _ lower)
 
-      at : (chain : List ℕ) → IsChain circuit from signal chain → delay_by greatest circuit tech chain ≡ extreme_of greatest sums
-          → IsNoFurther greatest (extreme_of greatest sums) (extreme_of greatest furthest.sums +ℤ gate_by greatest tech (slice_get circuit.signals signal))
+      at : (chain : List ℕ) → IsChain circuit from signal chain
+          → delay_by greatest circuit tech chain ≡ extreme_of greatest sums
+          → IsNoFurther greatest (extreme_of greatest sums)
+          (extreme_of greatest furthest.sums
+          +ℤ gate_by greatest tech (slice_get circuit.signals signal))
       at [] is_chain shown = absurd is_chain
       at (first ∷ gates) is_chain shown = elim (last_of circuit first gates signal is_chain.1) [
-        | inl alone ↦ absurd (launched_no_gate circuit from signal read (subst (Launches circuit from) alone.1 is_chain.0) furthest.is_one)
+        | inl alone ↦
+            absurd (launched_no_gate circuit from signal read
+            (subst (Launches circuit from) alone.1 is_chain.0) furthest.is_one)
         | inr is_after ↦ suffix first gates is_chain.0 is_after shown
       ]
 
   -- where the walk found nothing at what a signal reads, the register launches it
-  is_start : (signal : ℕ) (sums : Sums) → sums_to walk signal ≡ Some sums → ((read : ℕ) → Reads circuit.signals signal read → sums_to walk read ≡ None)
+  is_start : (signal : ℕ) (sums : Sums) → sums_to walk signal ≡ Some sums
+      → ((read : ℕ) → Reads circuit.signals signal read → sums_to walk read ≡ None)
       → Launches circuit from signal × (extreme_of greatest sums ≡ own_by greatest tech)
-  is_start signal sums here none = let shown = reached signal sums here in at shown.chain shown.is_chain shown.shown
+  is_start signal sums here none =
+      let shown = reached signal sums here in at shown.chain shown.is_chain shown.shown
     where
-      at : (chain : List ℕ) → IsChain circuit from signal chain → delay_by greatest circuit tech chain ≡ extreme_of greatest sums → Launches circuit from signal × (extreme_of greatest sums ≡ own_by greatest tech)
+      at : (chain : List ℕ) → IsChain circuit from signal chain
+          → delay_by greatest circuit tech chain ≡ extreme_of greatest sums
+          → Launches circuit from signal × (extreme_of greatest sums ≡ own_by greatest tech)
       at [] is_chain shown = absurd is_chain
       at (first ∷ gates) is_chain shown = elim (last_of circuit first gates signal is_chain.1) [
         | inl alone ↦
             let own = delay_is greatest circuit tech first [] in
             let whole = sym shown ∙ ap (λ l. delay_by greatest circuit tech (first ∷ l)) alone.0 in
             (subst (Launches circuit from) alone.1 is_chain.0, omega (arith, ints, own, whole))
-        | inr is_after ↦ absurd (unreached is_after.read (first ∷ is_after.prefix) (none is_after.read is_after.reads) (is_chain.0, is_after.follows))
+        | inr is_after ↦
+            absurd (unreached is_after.read (first ∷ is_after.prefix)
+            (none is_after.read is_after.reads) (is_chain.0, is_after.follows))
       ]
 
   -- the last signal by itself
-  pub back_first : (last : ℕ) (sums : Sums) (path : List ℕ) → path ≡ last ∷ [] → last < length circuit.signals → sums_to walk last ≡ Some sums → IsBack circuit tech walk greatest last path last
+  pub back_first : (last : ℕ) (sums : Sums) (path : List ℕ) → path ≡ last ∷ []
+      → last < length circuit.signals → sums_to walk last ≡ Some sums
+      → IsBack circuit tech walk greatest last path last
   back_first last sums path is within here = record {
     rest = [];
     is = ap reverse is;
@@ -210,7 +305,10 @@ module _ (circuit : Circuit) (tech : Tech) (from : ℕ) (walk : Walk) (greatest 
   }
 
   -- one signal further back
-  pub back_next : (last signal read : ℕ) (path longer : List ℕ) → longer ≡ path ++ read ∷ [] → IsFurthest walk (Reads circuit.signals signal) greatest read → IsBack circuit tech walk greatest last path signal → IsBack circuit tech walk greatest last longer read
+  pub back_next : (last signal read : ℕ) (path longer : List ℕ) → longer ≡ path ++ read ∷ []
+      → IsFurthest walk (Reads circuit.signals signal) greatest read
+      → IsBack circuit tech walk greatest last path signal
+      → IsBack circuit tech walk greatest last longer read
   back_next last signal read path longer is furthest back =
       let adds = furthest_adds signal read back.sums back.here furthest in
       record {
@@ -226,18 +324,25 @@ module _ (circuit : Circuit) (tech : Tech) (from : ℕ) (walk : Walk) (greatest 
       }
 
   -- back at a signal that the register launches, it is a path, and none is further
-  pub back_at_start : (to last signal : ℕ) (path rotated : List ℕ) → rotated ≡ reverse path → IsFurthest walk (Captures circuit to) greatest last
-      → ((read : ℕ) → Reads circuit.signals signal read → sums_to walk read ≡ None) → IsBack circuit tech walk greatest last path signal → IsExtremePath circuit tech from to greatest rotated
+  pub back_at_start : (to last signal : ℕ) (path rotated : List ℕ) → rotated ≡ reverse path
+      → IsFurthest walk (Captures circuit to) greatest last
+      → ((read : ℕ) → Reads circuit.signals signal read → sums_to walk read ≡ None)
+      → IsBack circuit tech walk greatest last path signal
+      → IsExtremePath circuit tech from to greatest rotated
   back_at_start to last signal path rotated is furthest none back =
       let start = is_start signal back.sums back.here none in
       let own = delay_is greatest circuit tech signal back.rest in
       let sum = back.total in
-      let delay : delay_by greatest circuit tech (signal ∷ back.rest) ≡ extreme_of greatest back.end = omega (arith, ints, own, sum, start.1) in
-      let same_end : back.end ≡ furthest.sums = same_Some back.end furthest.sums (sym back.end_here ∙ furthest.here) in
+      let delay : delay_by greatest circuit tech (signal ∷ back.rest)
+      ≡ extreme_of greatest back.end = omega (arith, ints, own, sum, start.1) in
+      let same_end : back.end ≡ furthest.sums =
+      same_Some back.end furthest.sums (sym back.end_here ∙ furthest.here) in
       rw (is, back.is) record {
         is_path = (start.0, (last, back.follows, furthest.is_one));
         extreme = λ other is_path.
             let chain = chain_of_path circuit from to other is_path in
             let there = chain_within chain.0 other chain.1 in
-            rw (delay, same_end) (no_further_than greatest _ _ _ there.2 (furthest.furthest chain.0 there.0 chain.2 there.1));
+            rw (delay, same_end)
+            (no_further_than greatest _ _ _ there.2
+            (furthest.furthest chain.0 there.0 chain.2 there.1));
       }

@@ -11,27 +11,37 @@ use Rattle.path_delays.specs.JoinedPairs.{IsJoinedBy, ListsPairsBefore}
 use Rattle.path_delays.proofs.PairWalk.{pair_next, skip_pairs, register_next}
 
 -- the pairs before the next register are listed, and each later register that is joined waits
-pub record ArePending (circuit : Circuit) (tech : Tech) (from next : ℕ) (waiting : List ℕ) (pairs : List PairDelay) : Type 0 where
+pub record ArePending (circuit : Circuit) (tech : Tech) (from next : ℕ) (waiting : List ℕ)
+    (pairs : List PairDelay) : Type 0 where
   pub listed : ListsPairsBefore circuit tech from next pairs
-  pub joined : (to : ℕ) (path : List ℕ) → next ≤ to → IsPath circuit from to path → IsTrue (has_number waiting to)
+  pub joined : (to : ℕ) (path : List ℕ) → next ≤ to → IsPath circuit from to path
+      → IsTrue (has_number waiting to)
   pub above : (to : ℕ) → IsTrue (has_number waiting to) → next ≤ to
   pub within : (to : ℕ) → IsTrue (has_number waiting to) → to < length circuit.registers
 
-module _ {circuit : Circuit} {tech : Tech} {from next : ℕ} {waiting : List ℕ} {pairs : List PairDelay} (pending : ArePending circuit tech from next waiting pairs) where
+module _ {circuit : Circuit} {tech : Tech} {from next : ℕ} {waiting : List ℕ}
+    {pairs : List PairDelay} (pending : ArePending circuit tech from next waiting pairs) where
   -- no pair comes between the next register and the lowest that waits
-  pub pending_here : (later : List ℕ) (to : ℕ) → IsLowestTaken waiting later to → ListsPairsBefore circuit tech from to pairs
-  pending_here later to taken = skip_pairs circuit tech from next to pairs (pending.above to taken.held) (λ capture path low high is_path.
-      let lowest = taken.lowest capture (pending.joined capture path low is_path) in absurd (omega arith)) pending.listed
+  pub pending_here : (later : List ℕ) (to : ℕ) → IsLowestTaken waiting later to
+      → ListsPairsBefore circuit tech from to pairs
+  pending_here later to taken = skip_pairs circuit tech from next to pairs
+      (pending.above to taken.held) (λ capture path low high is_path.
+      let lowest = taken.lowest capture (pending.joined capture path low is_path) in
+      absurd (omega arith)) pending.listed
 
   -- with the pair of that register, those after it are left
-  pub pending_next : (later : List ℕ) (to : ℕ) (joined : Option PairDelay) (listed : List PairDelay) → IsLowestTaken waiting later to → IsJoinedBy circuit tech from to joined → listed ≡ pairs ++ option_to_list joined
-      → ArePending circuit tech from (to + 1) later listed
+  pub pending_next : (later : List ℕ) (to : ℕ) (joined : Option PairDelay) (listed : List PairDelay)
+      → IsLowestTaken waiting later to → IsJoinedBy circuit tech from to joined
+      → listed ≡ pairs ++ option_to_list joined → ArePending circuit tech from (to + 1) later listed
   pending_next later to joined listed taken is_joined is = record {
-    listed = pair_next circuit tech from to pairs listed joined is_joined is (pending_here later to taken);
+    listed = pair_next circuit tech from to pairs listed joined is_joined is
+        (pending_here later to taken);
     joined = λ capture path suffix is_path.
         let low = pending.above to taken.held in
         let differs : capture ≡ to → ⊥ = λ same. absurd (omega arith) in
-        taken.each capture ∙ and_from (has_number waiting capture) (not (capture == to)) (pending.joined capture path (omega arith) is_path) (ap not (ne_eqb capture to differs));
+        taken.each capture
+        ∙ and_from (has_number waiting capture) (not (capture == to))
+        (pending.joined capture path (omega arith) is_path) (ap not (ne_eqb capture to differs));
     above = λ capture held.
         let both = left capture held in
         let lowest = taken.lowest capture both.0 in
@@ -40,9 +50,14 @@ module _ {circuit : Circuit} {tech : Tech} {from next : ℕ} {waiting : List ℕ
     within = λ capture held. pending.within capture (left capture held).0;
   }
     where
-      left : (capture : ℕ) → IsTrue (has_number later capture) → IsTrue (has_number waiting capture) × IsTrue (not (capture == to))
-      left capture held = and_parts (has_number waiting capture) (not (capture == to)) (sym (taken.each capture) ∙ held)
+      left : (capture : ℕ) → IsTrue (has_number later capture)
+          → IsTrue (has_number waiting capture) × IsTrue (not (capture == to))
+      left capture held = and_parts (has_number waiting capture) (not (capture == to))
+          (sym (taken.each capture) ∙ held)
 
   -- where none waits, the next register launches
-  pub pending_none : ((to : ℕ) → has_number waiting to ≡ false) → ListsPairsBefore circuit tech (from + 1) 0 pairs
-  pending_none none = register_next circuit tech from next pairs (λ capture path suffix is_path. true≢false (sym (pending.joined capture path suffix is_path) ∙ none capture)) pending.listed
+  pub pending_none : ((to : ℕ) → has_number waiting to ≡ false)
+      → ListsPairsBefore circuit tech (from + 1) 0 pairs
+  pending_none none = register_next circuit tech from next pairs
+      (λ capture path suffix is_path.
+      true≢false (sym (pending.joined capture path suffix is_path) ∙ none capture)) pending.listed

@@ -1,4 +1,5 @@
--- From what a walk found at the signals that a register captures to the delays between the two registers.
+-- From what a walk found at the signals that a register captures to the delays between the two
+-- registers.
 use Rattle.std.proofs.Common.{ℕ, ◌≡◌, ◌<◌, List, [], ◌∷◌, length, get_or, All, Contains, Option, Some, None, IsSomeAnd, refl, sym, ◌∙◌, subst, arith, ◌≤ℤ◌}
 use Rattle.std.specs.List.{slice_get}
 use Rattle.std.specs.Option.{option_and_then}
@@ -19,45 +20,63 @@ use Rattle.path_delays.specs.CapturedSums.{AreSumsOver, AreCaptured}
 use Rattle.path_delays.specs.JoinedPairs.{IsDelayBetween}
 
 -- the value that there is
-pub some_of : (found : Option Sums) (Holds : Sums → Type 0) → IsSomeAnd found Holds → (entry : Sums) × (found ≡ Some entry) × Holds entry
+pub some_of : (found : Option Sums) (Holds : Sums → Type 0) → IsSomeAnd found Holds
+    → (entry : Sums) × (found ≡ Some entry) × Holds entry
 some_of None Holds holds = absurd holds
 some_of (Some entry) Holds holds = (entry, refl, holds)
 
 -- what a signal reads are signals of the circuit
-pub read_within : (circuit : Circuit) (number : ℕ) (signal : Signal) → number < length circuit.signals → signal ≡ get_or circuit.signals number signal → All (λ read. read < length circuit.signals) signal.fan_in
-read_within circuit number signal within here = rw (← here) at (circuit.valid.read number signal within)
+pub read_within : (circuit : Circuit) (number : ℕ) (signal : Signal)
+    → number < length circuit.signals → signal ≡ get_or circuit.signals number signal
+    → All (λ read. read < length circuit.signals) signal.fan_in
+read_within circuit number signal within here =
+    rw (← here) at (circuit.valid.read number signal within)
 
 -- what a register captures are signals of the circuit
-pub captured_within : (circuit : Circuit) (register : ℕ) (signal : Signal) → register_signal circuit register ≡ Some signal → All (λ number. number < length circuit.signals) signal.fan_in
+pub captured_within : (circuit : Circuit) (register : ℕ) (signal : Signal)
+    → register_signal circuit register ≡ Some signal
+    → All (λ number. number < length circuit.signals) signal.fan_in
 captured_within circuit register signal found = at (slice_get circuit.registers register) found
   where
-    at : (listed : Option ℕ) → option_and_then (slice_get circuit.signals) listed ≡ Some signal → All (λ number. number < length circuit.signals) signal.fan_in
+    at : (listed : Option ℕ) → option_and_then (slice_get circuit.signals) listed ≡ Some signal
+        → All (λ number. number < length circuit.signals) signal.fan_in
     at None found = cc found
     at (Some number) found =
-        read_within circuit number signal (slice_get_within circuit.signals number signal found) (sym (get_or_from_slice_get circuit.signals number signal signal found))
+        read_within circuit number signal (slice_get_within circuit.signals number signal found)
+        (sym (get_or_from_slice_get circuit.signals number signal signal found))
 
 -- a chain to a signal that the register captures is a path
-pub path_of_chain : (circuit : Circuit) (from to signal : ℕ) (chain : List ℕ) → IsChain circuit from signal chain → Captures circuit to signal → IsPath circuit from to chain
+pub path_of_chain : (circuit : Circuit) (from to signal : ℕ) (chain : List ℕ)
+    → IsChain circuit from signal chain → Captures circuit to signal → IsPath circuit from to chain
 path_of_chain circuit from to signal [] is_chain captures = absurd is_chain
-path_of_chain circuit from to signal (first ∷ gates) is_chain captures = (is_chain.0, (signal, is_chain.1, captures))
+path_of_chain circuit from to signal (first ∷ gates) is_chain captures =
+    (is_chain.0, (signal, is_chain.1, captures))
 
 -- a path ends at a signal that the register captures, and is a chain to it
-pub chain_of_path : (circuit : Circuit) (from to : ℕ) (path : List ℕ) → IsPath circuit from to path → (last : ℕ) × IsChain circuit from last path × Captures circuit to last
+pub chain_of_path : (circuit : Circuit) (from to : ℕ) (path : List ℕ) → IsPath circuit from to path
+    → (last : ℕ) × IsChain circuit from last path × Captures circuit to last
 chain_of_path circuit from to [] is_path = absurd is_path
-chain_of_path circuit from to (first ∷ gates) is_path = (is_path.1.0, (is_path.0, is_path.1.1), is_path.1.2)
+chain_of_path circuit from to (first ∷ gates) is_path =
+    (is_path.1.0, (is_path.0, is_path.1.1), is_path.1.2)
 
 -- a register captures its signal's fan-in
-pub captured_is_fan_in : (circuit : Circuit) (register : ℕ) (signal : Signal) → register_signal circuit register ≡ Some signal → AreCapturedBy circuit register signal.fan_in
-captured_is_fan_in circuit register signal found = λ number. (λ listed. rw found listed, λ captures. rw found at captures)
+pub captured_is_fan_in : (circuit : Circuit) (register : ℕ) (signal : Signal)
+    → register_signal circuit register ≡ Some signal → AreCapturedBy circuit register signal.fan_in
+captured_is_fan_in circuit register signal found =
+    λ number. (λ listed. rw found listed, λ captures. rw found at captures)
 
-module _ (circuit : Circuit) (tech : Tech) (from to : ℕ) (walk : Walk) (captured : List ℕ) (exact : AreCapturedBy circuit to captured) (reach : HasReach circuit tech from walk) where
+module _ (circuit : Circuit) (tech : Tech) (from to : ℕ) (walk : Walk) (captured : List ℕ)
+    (exact : AreCapturedBy circuit to captured) (reach : HasReach circuit tech from walk) where
   -- what the walk found at a signal are the delays of its chains
-  reached : (signal : ℕ) (entry : Sums) → sums_to walk signal ≡ Some entry → AreExtreme circuit tech from signal entry
+  reached : (signal : ℕ) (entry : Sums) → sums_to walk signal ≡ Some entry
+      → AreExtreme circuit tech from signal entry
   reached signal entry here = subst (IsReach circuit tech from signal) here (reach.each signal)
 
   -- where it found nothing, there is no chain
-  no_chain : (signal : ℕ) (chain : List ℕ) → sums_to walk signal ≡ None → IsChain circuit from signal chain → ⊥
-  no_chain signal chain nothing is_chain = subst (IsReach circuit tech from signal) nothing (reach.each signal) chain is_chain
+  no_chain : (signal : ℕ) (chain : List ℕ) → sums_to walk signal ≡ None
+      → IsChain circuit from signal chain → ⊥
+  no_chain signal chain nothing is_chain =
+      subst (IsReach circuit tech from signal) nothing (reach.each signal) chain is_chain
 
   -- so no path joins the registers, where it found nothing at any
   pub no_path : AreCaptured walk captured None → (path : List ℕ) → IsPath circuit from to path → ⊥
@@ -66,13 +85,19 @@ module _ (circuit : Circuit) (tech : Tech) (from to : ℕ) (walk : Walk) (captur
       no_chain chain.0 path (none chain.0 ((exact chain.0).1 chain.2)) chain.1
 
   -- the delays of a path lie within the sums over all captured signals
-  path_within : (sums : Sums) → AreSumsOver walk captured sums → (path : List ℕ) → IsPath circuit from to path → (sums.least ≤ℤ least_delay circuit tech path) × (greatest_delay circuit tech path ≤ℤ sums.greatest)
+  path_within : (sums : Sums) → AreSumsOver walk captured sums → (path : List ℕ)
+      → IsPath circuit from to path
+      → (sums.least ≤ℤ least_delay circuit tech path)
+      × (greatest_delay circuit tech path ≤ℤ sums.greatest)
   path_within sums over path is_path =
       let chain = chain_of_path circuit from to path is_path in
       let listed = (exact chain.0).1 chain.2 in
       at chain.0 listed chain.1 (sums_to walk chain.0) refl
     where
-      at : (last : ℕ) → Contains captured last → IsChain circuit from last path → (entry : Option Sums) → sums_to walk last ≡ entry → (sums.least ≤ℤ least_delay circuit tech path) × (greatest_delay circuit tech path ≤ℤ sums.greatest)
+      at : (last : ℕ) → Contains captured last → IsChain circuit from last path
+          → (entry : Option Sums) → sums_to walk last ≡ entry
+          → (sums.least ≤ℤ least_delay circuit tech path)
+          × (greatest_delay circuit tech path ≤ℤ sums.greatest)
       at last listed is_chain None nothing = absurd (no_chain last path nothing is_chain)
       at last listed is_chain (Some entry) here =
           let around = over.around last entry listed here in
@@ -82,24 +107,41 @@ module _ (circuit : Circuit) (tech : Tech) (from to : ℕ) (walk : Walk) (captur
           (omega (arith, ints, around.least), omega (arith, ints, around.greatest))
 
   -- the sums over all captured signals are the delays between the registers
-  pub delays_between : (sums : Sums) (pair : PairDelay) → AreSumsOver walk captured sums → pair.from ≡ from → pair.to ≡ to → pair.least ≡ sums.least → pair.greatest ≡ sums.greatest → IsDelayBetween circuit tech from to pair
+  pub delays_between : (sums : Sums) (pair : PairDelay) → AreSumsOver walk captured sums
+      → pair.from ≡ from → pair.to ≡ to → pair.least ≡ sums.least → pair.greatest ≡ sums.greatest
+      → IsDelayBetween circuit tech from to pair
   delays_between sums pair over from_is to_is least_is greatest_is =
-      let least_entry = some_of (sums_to walk over.least_at) (λ entry. entry.least ≡ sums.least) over.least_found in
+      let least_entry =
+      some_of (sums_to walk over.least_at) (λ entry. entry.least ≡ sums.least) over.least_found in
       let least_reach = reached over.least_at least_entry.0 least_entry.1 in
       let least_chain = least_reach.shown.least in
-      let greatest_entry = some_of (sums_to walk over.greatest_at) (λ entry. entry.greatest ≡ sums.greatest) over.greatest_found in
+      let greatest_entry = some_of (sums_to walk over.greatest_at)
+      (λ entry. entry.greatest ≡ sums.greatest) over.greatest_found in
       let greatest_reach = reached over.greatest_at greatest_entry.0 greatest_entry.1 in
       let greatest_chain = greatest_reach.shown.greatest in
-      let here : (path : List ℕ) → IsPath circuit from to path → IsPath circuit pair.from pair.to path = λ path is_path. rw (from_is, to_is) is_path in
-      let there : (path : List ℕ) → IsPath circuit pair.from pair.to path → IsPath circuit from to path = λ path is_path. rw (from_is, to_is) at is_path in
+      let here : (path : List ℕ) → IsPath circuit from to path
+      → IsPath circuit pair.from pair.to path = λ path is_path. rw (from_is, to_is) is_path in
+      let there : (path : List ℕ) → IsPath circuit pair.from pair.to path
+      → IsPath circuit from to path = λ path is_path. rw (from_is, to_is) at is_path in
       record {
         from_is = from_is;
         to_is = to_is;
         delays = record {
-          least_shown = (least_chain.0, here least_chain.0 (path_of_chain circuit from to over.least_at least_chain.0 least_chain.1 ((exact over.least_at).0 over.least_listed)), least_chain.2 ∙ least_entry.2 ∙ sym least_is);
+          least_shown = (
+            least_chain.0,
+            here least_chain.0 (path_of_chain circuit from to over.least_at least_chain.0
+                least_chain.1 ((exact over.least_at).0 over.least_listed)),
+            least_chain.2 ∙ least_entry.2 ∙ sym least_is,
+          );
           least = λ path is_path. rw least_is (path_within sums over path (there path is_path)).0;
-          greatest_shown = (greatest_chain.0, here greatest_chain.0 (path_of_chain circuit from to over.greatest_at greatest_chain.0 greatest_chain.1 ((exact over.greatest_at).0 over.greatest_listed)), greatest_chain.2 ∙ greatest_entry.2 ∙ sym greatest_is);
-          greatest = λ path is_path. rw greatest_is (path_within sums over path (there path is_path)).1;
+          greatest_shown = (
+            greatest_chain.0,
+            here greatest_chain.0 (path_of_chain circuit from to over.greatest_at greatest_chain.0
+                greatest_chain.1 ((exact over.greatest_at).0 over.greatest_listed)),
+            greatest_chain.2 ∙ greatest_entry.2 ∙ sym greatest_is,
+          );
+          greatest =
+              λ path is_path. rw greatest_is (path_within sums over path (there path is_path)).1;
         };
         small = record {
           least = rw (least_is, ← least_entry.2) least_reach.within.least;

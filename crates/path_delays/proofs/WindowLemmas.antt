@@ -154,7 +154,8 @@ pub gate_small : (tech : Tech) (signal : Signal) → is_gate signal.kind ≡ tru
     → IsTrue (is_valid signal.kind (length signal.fan_in))
     → AreWithin 2024000 (gate_sums tech signal)
 gate_small tech signal is_one valid_inputs =
-    let few = few_inputs signal.kind (length signal.fan_in) (no_host signal.kind is_one) valid_inputs in
+    let few =
+    few_inputs signal.kind (length signal.fan_in) (no_host signal.kind is_one) valid_inputs in
     let inputs : gate_inputs signal ≡ length signal.fan_in =
     ap (λ b. cond b (length signal.fan_in) 0) is_one in
     within_higher (weight_of signal) 2024000 (gate_sums tech signal) (omega (arith, inputs, few))

@@ -5,4 +5,5 @@ use Rattle.path_delays.specs.JoinedPairs.{AreDelaysBetween}
 use Rattle.path_delays.proofs.between.delays_between.Given as goal
 
 abbrev pub invariant-loop-pair : goal.invariant-loop-pair
-invariant-loop-pair l = IsRoomFor l.circuit l.tech l.walk × AreDelaysBetween l.circuit l.tech (take l.pair-index l.pairs) l.delays.items
+invariant-loop-pair l = IsRoomFor l.circuit l.tech l.walk
+    × AreDelaysBetween l.circuit l.tech (take l.pair-index l.pairs) l.delays.items

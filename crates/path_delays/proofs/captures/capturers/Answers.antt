@@ -9,4 +9,6 @@ pub returns : goal.returns
 returns c =
     let circuit = c.args.circuit.now in
     let pairs = c.in_ok-pairs.pairs.items in
-    IfOk-weaker c.of.result (HasGroups c.len.result c.as_slice.result.now) (AreCapturersOf circuit) (λ groups grouped. captures_grouped circuit pairs groups c.in_ok-pairs.ensures (rw (c.len.ensures, c.as_slice.ensures.value) at grouped)) c.of.ensures
+    IfOk-weaker c.of.result (HasGroups c.len.result c.as_slice.result.now) (AreCapturersOf circuit)
+    (λ groups grouped. captures_grouped circuit pairs groups c.in_ok-pairs.ensures
+    (rw (c.len.ensures, c.as_slice.ensures.value) at grouped)) c.of.ensures

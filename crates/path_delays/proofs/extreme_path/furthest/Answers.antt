@@ -5,7 +5,8 @@ use Rattle.path_delays.proofs.extreme_path.furthest.Goals as goal
 
 pub returns-then-fits : goal.returns-then-fits
 returns-then-fits c =
-    furthest_found c.args.walk.now c.args.signals.now c.args.greatest c.in_ok-sums.sums c.in_ok-sums.ensures _
+    furthest_found c.args.walk.now c.args.signals.now c.args.greatest c.in_ok-sums.sums
+    c.in_ok-sums.ensures _
     (Contains-get_or c.args.signals.now c.loop-signal.signal-index 0 c.loop-signal-test.true)
     (rw c.sums.ensures at (c.fits.ensures.0 c.if-fits.true))
 
@@ -16,4 +17,6 @@ loop-signal-preserved c =
     c.loop-signal.invariant
 
 pub returns : goal.returns
-returns c = λ signal listed. absurd (some_fits c.args.walk.now c.args.signals.now c.args.greatest c.in_ok-sums.sums c.in_ok-sums.ensures (λ place within. c.loop-signal.invariant place (omega arith)))
+returns c = λ signal listed.
+    absurd (some_fits c.args.walk.now c.args.signals.now c.args.greatest c.in_ok-sums.sums
+    c.in_ok-sums.ensures (λ place within. c.loop-signal.invariant place (omega arith)))

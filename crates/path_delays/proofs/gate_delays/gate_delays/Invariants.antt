@@ -4,4 +4,5 @@ use Rattle.path_delays.specs.Networks.{gate_sums}
 use Rattle.path_delays.proofs.gate_delays.gate_delays.Given as goal
 
 abbrev pub invariant-loop-signal : goal.invariant-loop-signal
-invariant-loop-signal l = l.delays.items ≡ map (gate_sums l.tech) (take l.signal-index l.signal-items)
+invariant-loop-signal l =
+    l.delays.items ≡ map (gate_sums l.tech) (take l.signal-index l.signal-items)

@@ -11,7 +11,9 @@ loop-number-preserved c =
     let signals = c.as_slice-signals.result.now in
     let signal = c.index-signals-number.result in
     rw c.in_ok-push_reads.ensures
-    (AreReads-more signals c.loop-number.number c.loop-number.pairs.items signal (slice_get_read signals (length signals) c.loop-number.number signal refl c.loop-number-test.true c.index-signals-number.is) c.loop-number.invariant)
+    (AreReads-more signals c.loop-number.number c.loop-number.pairs.items signal
+    (slice_get_read signals (length signals) c.loop-number.number signal refl
+    c.loop-number-test.true c.index-signals-number.is) c.loop-number.invariant)
 
 pub returns : goal.returns
 returns c =

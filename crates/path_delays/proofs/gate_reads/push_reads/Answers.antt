@@ -13,4 +13,6 @@ loop-input-preserved c =
     let passed = reads_among signals number (take c.loop-input.input-index inputs) in
     let next = reads_among signals number (get_or inputs c.loop-input.input-index 0 ∷ []) in
     c.in_ok-push_read.ensures
-    ∙ (ap (λ l. l ++ next) c.loop-input.invariant ∙ (append_assoc before passed next ∙ ap (λ l. before ++ l) (sym (reads_among_more signals number inputs c.loop-input.input-index 0 c.loop-input-test.true))))
+    ∙ (ap (λ l. l ++ next) c.loop-input.invariant
+    ∙ (append_assoc before passed next ∙ ap (λ l. before ++ l) (sym (reads_among_more signals number
+    inputs c.loop-input.input-index 0 c.loop-input-test.true))))

@@ -7,11 +7,14 @@ use Rattle.path_delays.proofs.loop_search.waiting_input.Goals as goal
 pub unwrap-requires : goal.unwrap-requires
 unwrap-requires c =
     let read = rw c.as_slice.ensures at c.index-as_slice-gate.is in
-    rw (c.first_waiting.ensures, c.as_slice-2.ensures) (finds_input _ _ _ c.requires.wait c.requires.waits _ read)
+    rw (c.first_waiting.ensures, c.as_slice-2.ensures)
+    (finds_input _ _ _ c.requires.wait c.requires.waits _ read)
 
 pub returns : goal.returns
 returns c =
     let read = rw c.as_slice.ensures at c.index-as_slice-gate.is in
-    let found : find (waits c.args.waiting.now) c.index-as_slice-gate.result.fan_in ≡ Some c.unwrap.result = rw c.as_slice-2.ensures at (sym c.first_waiting.ensures ∙ c.unwrap.ensures) in
+    let found : find (waits c.args.waiting.now) c.index-as_slice-gate.result.fan_in
+    ≡ Some c.unwrap.result =
+    rw c.as_slice-2.ensures at (sym c.first_waiting.ensures ∙ c.unwrap.ensures) in
     let input = found_input _ _ _ c.requires.wait c.requires.waits _ read c.unwrap.result found in
     record { reads = input.0; waits = input.1 }

@@ -14,9 +14,13 @@ loop-from-init c = record {
 pub returns-clause-ok : goal.returns-clause-ok
 returns-clause-ok c =
     rw c.from_vec.ensures
-    (all_listed c.args.circuit.now c.args.tech.now c.loop-from.from c.loop-from.pairs.items (rw (← c.len-from-end.ensures) c.loop-from-test.false) (omega (arith, c.loop-from.pairs.ok.0)) c.loop-from.invariant.listed)
+    (all_listed c.args.circuit.now c.args.tech.now c.loop-from.from c.loop-from.pairs.items
+    (rw (← c.len-from-end.ensures) c.loop-from-test.false)
+    (omega (arith, c.loop-from.pairs.ok.0)) c.loop-from.invariant.listed)
 
 pub returns-clause-few : goal.returns-clause-few
 returns-clause-few c = λ more.
-    let all = all_listed c.args.circuit.now c.args.tech.now c.loop-from.from c.loop-from.pairs.items (rw (← c.len-from-end.ensures) c.loop-from-test.false) (omega (arith, c.loop-from.pairs.ok.0)) c.loop-from.invariant.listed in
+    let all = all_listed c.args.circuit.now c.args.tech.now c.loop-from.from c.loop-from.pairs.items
+    (rw (← c.len-from-end.ensures) c.loop-from-test.false)
+    (omega (arith, c.loop-from.pairs.ok.0)) c.loop-from.invariant.listed in
     not_more all.lists more all.few

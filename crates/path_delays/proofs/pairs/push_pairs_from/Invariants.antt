@@ -8,7 +8,8 @@ use Rattle.path_delays.proofs.pairs.push_pairs_from.Given as goal
 abbrev pub invariant-loop-to : goal.invariant-loop-to
 invariant-loop-to l = record {
   capturing : IsCapturingOf l.circuit l.capturing;
-  pending : ArePending l.circuit l.tech l.from l.next l.capturing.registers.words.items l.pairs.items;
+  pending : ArePending l.circuit l.tech l.from l.next l.capturing.registers.words.items
+      l.pairs.items;
   few : vec_len l.pairs ≤ pair_limit;
 }
 

@@ -3,10 +3,13 @@ use Rattle.path_delays.proofs.IdleGates.{AreIdleGates-none, AreIdleGates-more}
 use Rattle.path_delays.proofs.sorting.idle_gates.Goals as goal
 
 pub loop-number-init : goal.loop-number-init
-loop-number-init c = rw c.new-order.ensures.items (AreIdleGates-none c.args.circuit.now.signals c.args.waiting.now)
+loop-number-init c =
+    rw c.new-order.ensures.items (AreIdleGates-none c.args.circuit.now.signals c.args.waiting.now)
 
 pub loop-number-preserved : goal.loop-number-preserved
-loop-number-preserved c = rw c.in_ok-push_idle.ensures (AreIdleGates-more c.args.circuit.now.signals c.args.waiting.now c.loop-number.number c.loop-number.order.items c.loop-number.invariant)
+loop-number-preserved c =
+    rw c.in_ok-push_idle.ensures (AreIdleGates-more c.args.circuit.now.signals c.args.waiting.now
+    c.loop-number.number c.loop-number.order.items c.loop-number.invariant)
 
 pub returns : goal.returns
 returns c =

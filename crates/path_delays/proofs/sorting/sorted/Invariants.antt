@@ -4,7 +4,9 @@ use Rattle.path_delays.proofs.SortSteps.{IsSorting}
 use Rattle.path_delays.proofs.sorting.sorted.Given as goal
 
 abbrev pub invariant-loop-taken : goal.invariant-loop-taken
-invariant-loop-taken l = IsSorting l.circuit.signals l.pairs.items l.taken l.sorting.waiting.items l.sorting.order.items
+invariant-loop-taken l =
+    IsSorting l.circuit.signals l.pairs.items l.taken l.sorting.waiting.items l.sorting.order.items
 
 abbrev pub decreases-loop-taken : goal.decreases-loop-taken
-decreases-loop-taken l = (length l.sorting.order.items + waiting_count l.sorting.waiting.items) - l.taken
+decreases-loop-taken l =
+    (length l.sorting.order.items + waiting_count l.sorting.waiting.items) - l.taken

@@ -31,7 +31,8 @@ gate_window-window-requires-clause-gate c =
     (ap (λ l. get_or l place 0) c.gates-gate-items.ensures)
     (rw c.as_slice.ensures at c.index-as_slice-gate.is)).is_one
 
-pub gate_window-window-requires-clause-valid_inputs : goal.gate_window-window-requires-clause-valid_inputs
+pub gate_window-window-requires-clause-valid_inputs :
+    goal.gate_window-window-requires-clause-valid_inputs
 gate_window-window-requires-clause-valid_inputs c =
     let order = c.gates-gate-items.result.now in
     let place = c.loop-gate.gate-index in

@@ -12,7 +12,10 @@ loop-number-preserved c =
     let signals = c.args.circuit.now.signals in
     let signal = c.signal-item.result in
     rw c.in_ok-push_inputs.ensures
-    (AreAllReads-more signals c.loop-number.number c.loop-number.pairs.items signal (slice_get_read signals (length signals) c.loop-number.number signal refl (rw c.as_slice-signal-items.ensures at c.loop-number-test.true) (rw c.as_slice-signal-items.ensures at c.signal-item.is)) c.loop-number.invariant)
+    (AreAllReads-more signals c.loop-number.number c.loop-number.pairs.items signal
+    (slice_get_read signals (length signals) c.loop-number.number signal refl
+    (rw c.as_slice-signal-items.ensures at c.loop-number-test.true)
+    (rw c.as_slice-signal-items.ensures at c.signal-item.is)) c.loop-number.invariant)
 
 pub returns : goal.returns
 returns c =

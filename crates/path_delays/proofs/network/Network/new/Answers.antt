@@ -5,15 +5,21 @@ use Rattle.path_delays.proofs.network.Network.new.Goals as goal
 
 pub places-requires-clause-few : goal.places-requires-clause-few
 places-requires-clause-few c =
-    rw (c.as_slice-2.ensures.value, c.in_ok-order.ensures.items, c.gates.ensures) (omega (arith, few_gates c.args.circuit.now c.args.levels.now c.requires))
+    rw (c.as_slice-2.ensures.value, c.in_ok-order.ensures.items, c.gates.ensures)
+    (omega (arith, few_gates c.args.circuit.now c.args.levels.now c.requires))
 
 pub returns-clause-network : goal.returns-clause-network
 returns-clause-network c =
     let circuit = c.args.circuit.now in
-    let order : c.in_ok-order.order.items ≡ c.args.levels.now = c.in_ok-order.ensures.items ∙ c.gates.ensures in
+    let order : c.in_ok-order.order.items ≡ c.args.levels.now =
+    c.in_ok-order.ensures.items ∙ c.gates.ensures in
     record {
-      readers = AreReaders-grouped circuit.signals c.in_ok-pairs.pairs.items c.in_ok-readers.readers circuit.valid.read c.in_ok-pairs.ensures (rw (c.len-signals.ensures, c.as_slice.ensures.value) at c.in_ok-readers.ensures);
-      ranks = rw order (AreRanks-placed circuit.signals c.args.levels.now c.in_ok-ranks.ranks.items c.requires (rw (c.len-signals.ensures, c.as_slice-2.ensures.value, order) at c.in_ok-ranks.ensures));
+      readers = AreReaders-grouped circuit.signals c.in_ok-pairs.pairs.items c.in_ok-readers.readers
+          circuit.valid.read c.in_ok-pairs.ensures
+          (rw (c.len-signals.ensures, c.as_slice.ensures.value) at c.in_ok-readers.ensures);
+      ranks = rw order
+          (AreRanks-placed circuit.signals c.args.levels.now c.in_ok-ranks.ranks.items c.requires
+          (rw (c.len-signals.ensures, c.as_slice-2.ensures.value, order) at c.in_ok-ranks.ensures));
       once = rw order (weights_once circuit.signals c.args.levels.now c.requires.once);
       delays = c.in_ok-delays.ensures;
     }

@@ -10,5 +10,6 @@ loop-place-init c =
 
 pub loop-place-preserved : goal.loop-place-preserved
 loop-place-preserved c =
-    ArePlaces-more c.args.numbers c.args.order.now c.loop-place.place c.loop-place.places.items (get_or c.args.order.now c.loop-place.place 0)
-    c.requires.once c.loop-place-test.true refl (c.requires.within c.loop-place.place 0 c.loop-place-test.true) c.loop-place.invariant
+    ArePlaces-more c.args.numbers c.args.order.now c.loop-place.place c.loop-place.places.items
+    (get_or c.args.order.now c.loop-place.place 0) c.requires.once c.loop-place-test.true refl
+    (c.requires.within c.loop-place.place 0 c.loop-place-test.true) c.loop-place.invariant

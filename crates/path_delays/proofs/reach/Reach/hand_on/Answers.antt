@@ -14,15 +14,23 @@ pub loop-gate-preserved : goal.loop-gate-preserved
 loop-gate-preserved c =
     let readers = c.group-gate-items.result.now in
     let network = c.args.network.now in (
-      HasReachRoom-same network c.loop-gate.self c.hand_to.new.self c.hand_to.ensures.room c.loop-gate.invariant.0,
+      HasReachRoom-same network c.loop-gate.self c.hand_to.new.self c.hand_to.ensures.room
+          c.loop-gate.invariant.0,
       rw (take_more readers c.loop-gate.gate-index 0 c.loop-gate-test.true)
-          (AreHanded-push network c.unwrap-given.result (take c.loop-gate.gate-index readers) (get_or readers c.loop-gate.gate-index 0) c.args.self.now c.loop-gate.self c.hand_to.new.self c.loop-gate.invariant.1 c.hand_to.ensures),
+          (AreHanded-push network c.unwrap-given.result (take c.loop-gate.gate-index readers)
+          (get_or readers c.loop-gate.gate-index 0) c.args.self.now c.loop-gate.self
+          c.hand_to.new.self c.loop-gate.invariant.1 c.hand_to.ensures),
     )
 
 pub returns-clause-on : goal.returns-clause-on
 returns-clause-on c given here =
-    let known : Some c.unwrap-given.result ≡ Some given = sym c.unwrap-given.ensures ∙ (c.sums_at.ensures ∙ here) in
+    let known : Some c.unwrap-given.result ≡ Some given =
+    sym c.unwrap-given.ensures ∙ (c.sums_at.ensures ∙ here) in
     let same : c.unwrap-given.result ≡ given = cc known in
     let readers = group_of c.args.network.now.readers c.args.signal in
-    subst (λ (sums : Sums). AreHanded c.args.network.now sums readers c.args.self.now c.loop-gate.self) same
-    (rw (take_all c.loop-gate.gate-index c.group-gate-items.result.now (omega arith), c.group-gate-items.ensures) at c.loop-gate.invariant.1)
+    subst (λ (sums : Sums).
+    AreHanded c.args.network.now sums readers c.args.self.now c.loop-gate.self) same
+    (rw (
+      take_all c.loop-gate.gate-index c.group-gate-items.result.now (omega arith),
+      c.group-gate-items.ensures,
+    ) at c.loop-gate.invariant.1)

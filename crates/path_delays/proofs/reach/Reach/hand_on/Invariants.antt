@@ -4,4 +4,5 @@ use Rattle.path_delays.specs.Handing.{HasReachRoom, AreHanded}
 use Rattle.path_delays.proofs.reach.Reach.hand_on.Given as goal
 
 abbrev pub invariant-loop-gate : goal.invariant-loop-gate
-invariant-loop-gate l = HasReachRoom l.network l.self × AreHanded l.network l.given (take l.gate-index l.gate-items) l.initial.self l.self
+invariant-loop-gate l = HasReachRoom l.network l.self
+    × AreHanded l.network l.given (take l.gate-index l.gate-items) l.initial.self l.self

@@ -5,15 +5,26 @@ use Rattle.path_delays.proofs.Rooms.{HasReachRoom-made}
 use Rattle.path_delays.proofs.walk.Walk.new.Goals as goal
 
 pub overflow_cast-gates : goal.overflow_cast-gates
-overflow_cast-gates c = omega (arith, few_gates c.args.circuit.now c.args.levels.now c.requires, ap length c.gates.ensures)
+overflow_cast-gates c = omega (
+  arith,
+  few_gates c.args.circuit.now c.args.levels.now c.requires,
+  ap length c.gates.ensures,
+)
 
 pub returns : goal.returns
 returns c =
     let network = c.in_ok-network.network in
-    let few : length network.order.items ≤ length c.gates.result.now = omega (arith, ap length c.in_ok-network.ensures.order, ap length c.gates.ensures) in
+    let few : length network.order.items ≤ length c.gates.result.now =
+    omega (arith, ap length c.in_ok-network.ensures.order, ap length c.gates.ensures) in
     record {
       network = c.in_ok-network.ensures.network;
-      room = HasReachRoom-made c.args.circuit.now c.args.tech.now network c.in_ok-network.ensures.network c.in_ok-reach.reach (length c.gates.result.now) few
-          (c.in_ok-reach.ensures.sums ∙ c.len-signals.ensures) (omega (arith, c.in_ok-reach.ensures.reached)) c.in_ok-reach.ensures.waiting
-          (c.in_ok-reach.ensures.small (omega (arith, few_gates c.args.circuit.now c.args.levels.now c.requires, ap length c.gates.ensures)));
+      room = HasReachRoom-made c.args.circuit.now c.args.tech.now network
+          c.in_ok-network.ensures.network c.in_ok-reach.reach (length c.gates.result.now) few
+          (c.in_ok-reach.ensures.sums ∙ c.len-signals.ensures)
+          (omega (arith, c.in_ok-reach.ensures.reached)) c.in_ok-reach.ensures.waiting
+          (c.in_ok-reach.ensures.small (omega (
+            arith,
+            few_gates c.args.circuit.now c.args.levels.now c.requires,
+            ap length c.gates.ensures,
+          )));
     }
