@@ -13,9 +13,11 @@ use Rattle.bench_reader.specs.LineFaults.{IsFaultOf, IsLineFault}
 use Rattle.bench_reader.specs.Taken.{HasDefinitions, Adds, excess_after, flaw_after}
 use Rattle.bench_reader.proofs.LineStatements.{definitions_push_some, definitions_push_none}
 
-module _ (earlier : List (List ℕ)) (line : List ℕ) (statement : Statement) (form : statement_of line ≡ Some statement) where
+module _ (earlier : List (List ℕ)) (line : List ℕ) (statement : Statement)
+    (form : statement_of line ≡ Some statement) where
   -- a line that defines nothing leaves the definitions as they are
-  silent_has : definition_of statement ≡ None → (definitions : Definitions) → HasDefinitions definitions earlier → HasDefinitions definitions (earlier ++ line ∷ [])
+  silent_has : definition_of statement ≡ None → (definitions : Definitions)
+      → HasDefinitions definitions earlier → HasDefinitions definitions (earlier ++ line ∷ [])
   silent_has none definitions has = record {
     names = rw (definitions_push_none earlier line form none) has.names;
     registers = rw (definitions_push_none earlier line form none) has.registers;
@@ -23,46 +25,77 @@ module _ (earlier : List (List ℕ)) (line : List ℕ) (statement : Statement) (
   }
 
   -- and nothing is wrong with it, if its names are short
-  pub silent_adds : definition_of statement ≡ None → has_kind statement ≡ true → list_all is_short (names_of statement) ≡ true
-      → (definitions : Definitions) → HasDefinitions definitions earlier → (flaw_of earlier line ≡ None) × HasDefinitions definitions (earlier ++ line ∷ [])
-  silent_adds none kind short definitions has = (rw (form, kind, none, short), silent_has none definitions has)
+  pub silent_adds : definition_of statement ≡ None → has_kind statement ≡ true
+      → list_all is_short (names_of statement) ≡ true
+      → (definitions : Definitions) → HasDefinitions definitions earlier
+      → (flaw_of earlier line ≡ None) × HasDefinitions definitions (earlier ++ line ∷ [])
+  silent_adds none kind short definitions has =
+      (rw (form, kind, none, short), silent_has none definitions has)
 
   module _ (definition : Definition) (some : definition_of statement ≡ Some definition) where
     -- its name comes last
-    names_push : defined_names (definitions_in (earlier ++ line ∷ [])) ≡ defined_names (definitions_in earlier) ++ definition.name ∷ []
-    names_push = ap defined_names (definitions_push_some earlier line form some) ∙ map_push (λ d. d.name) (definitions_in earlier) definition
+    names_push : defined_names (definitions_in (earlier ++ line ∷ []))
+        ≡ defined_names (definitions_in earlier) ++ definition.name ∷ []
+    names_push = ap defined_names (definitions_push_some earlier line form some)
+        ∙ map_push (λ d. d.name) (definitions_in earlier) definition
 
     -- it counts among the registers if it is one
-    registers_push : register_count (definitions_in earlier ++ definition ∷ []) ≡ register_count (definitions_in earlier) + cond (is_register definition.kind) 1 0
-    registers_push = sum_by_push (λ d. cond (is_register d.kind) 1 0) (definitions_in earlier) definition
+    registers_push : register_count (definitions_in earlier ++ definition ∷ [])
+        ≡ register_count (definitions_in earlier) + cond (is_register definition.kind) 1 0
+    registers_push =
+        sum_by_push (λ d. cond (is_register d.kind) 1 0) (definitions_in earlier) definition
 
     -- and its inputs among those of gates if it is one
-    gate_inputs_push : gate_input_count (definitions_in earlier ++ definition ∷ []) ≡ gate_input_count (definitions_in earlier) + gate_inputs_of definition
+    gate_inputs_push : gate_input_count (definitions_in earlier ++ definition ∷ [])
+        ≡ gate_input_count (definitions_in earlier) + gate_inputs_of definition
     gate_inputs_push = sum_by_push gate_inputs_of (definitions_in earlier) definition
 
     -- so the definitions have one more
-    defining_has : {old new : Definitions} → HasDefinitions old earlier → Adds old new definition.name definition.kind (length definition.inputs) → HasDefinitions new (earlier ++ line ∷ [])
+    defining_has : {old new : Definitions} → HasDefinitions old earlier
+        → Adds old new definition.name definition.kind (length definition.inputs)
+        → HasDefinitions new (earlier ++ line ∷ [])
     defining_has {old} {new} has added = record {
       names = added.names ∙ ap (λ names. names ++ definition.name ∷ []) has.names ∙ sym names_push;
-      registers = rw (definitions_push_some earlier line form some) (omega (arith, added.registers, has.registers, registers_push));
-      gate_inputs = rw (definitions_push_some earlier line form some) (omega (arith, added.gate_inputs, has.gate_inputs, gate_inputs_push));
+      registers = rw (definitions_push_some earlier line form some)
+          (omega (arith, added.registers, has.registers, registers_push));
+      gate_inputs = rw (definitions_push_some earlier line form some)
+          (omega (arith, added.gate_inputs, has.gate_inputs, gate_inputs_push));
     }
 
     -- and the limit that it passes shows in the counts
-    excess_is : {old : Definitions} → HasDefinitions old earlier → definition_excess (definitions_in earlier) definition ≡ excess_after old definition.kind (length definition.inputs)
-    excess_is {old} has = rw (has.names, has.registers, has.gate_inputs, length-map (definitions_in earlier) (λ d. d.name), registers_push, gate_inputs_push)
+    excess_is : {old : Definitions} → HasDefinitions old earlier
+        → definition_excess (definitions_in earlier) definition
+        ≡ excess_after old definition.kind (length definition.inputs)
+    excess_is {old} has = rw (
+      has.names,
+      has.registers,
+      has.gate_inputs,
+      length-map (definitions_in earlier) (λ d. d.name),
+      registers_push,
+      gate_inputs_push,
+    )
 
-    module _ (kind : has_kind statement ≡ true) (valid_inputs : has_valid_inputs definition ≡ true) where
+    module _ (kind : has_kind statement ≡ true)
+        (valid_inputs : has_valid_inputs definition ≡ true) where
       -- as does what is wrong with its line
-      flaw_is : {old : Definitions} → HasDefinitions old earlier → flaw_of earlier line ≡ flaw_after old definition.name definition.kind (length definition.inputs) (list_all is_short (names_of statement))
+      flaw_is : {old : Definitions} → HasDefinitions old earlier
+          → flaw_of earlier line ≡ flaw_after old definition.name definition.kind
+          (length definition.inputs) (list_all is_short (names_of statement))
       flaw_is {old} has = rw (form, kind, some, valid_inputs, excess_is has, has.names)
 
       -- so a judgement by the counts is one of the line
-      pub defining_adds : {T : Type 0} {old : Definitions} (new : Definitions) (result : Result T LineFault)
+      pub defining_adds : {T : Type 0} {old : Definitions} (new : Definitions)
+          (result : Result T LineFault)
           → MatchResult result
-          (λ _. (flaw_after old definition.name definition.kind (length definition.inputs) (list_all is_short (names_of statement)) ≡ None) × Adds old new definition.name definition.kind (length definition.inputs))
-          (IsFaultOf (flaw_after old definition.name definition.kind (length definition.inputs) (list_all is_short (names_of statement))))
+          (λ _. (flaw_after old definition.name definition.kind (length definition.inputs)
+          (list_all is_short (names_of statement)) ≡ None)
+          × Adds old new definition.name definition.kind (length definition.inputs))
+          (IsFaultOf (flaw_after old definition.name definition.kind (length definition.inputs)
+          (list_all is_short (names_of statement))))
           → HasDefinitions old earlier
-          → MatchResult result (λ _. (flaw_of earlier line ≡ None) × HasDefinitions new (earlier ++ line ∷ [])) (IsLineFault earlier line)
+          → MatchResult result
+          (λ _. (flaw_of earlier line ≡ None) × HasDefinitions new (earlier ++ line ∷ []))
+          (IsLineFault earlier line)
       defining_adds new (Ok done) judged has = (flaw_is has ∙ judged.0, defining_has has judged.1)
-      defining_adds new (Err fault) judged has = subst (λ flaw. IsFaultOf flaw fault) (sym (flaw_is has)) judged
+      defining_adds new (Err fault) judged has =
+          subst (λ flaw. IsFaultOf flaw fault) (sym (flaw_is has)) judged

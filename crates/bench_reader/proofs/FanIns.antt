@@ -16,21 +16,25 @@ pub record NumbersPassed (names used left : List (List ℕ)) (numbers : List ℕ
   pub numbers_are : numbers ≡ filter_map (number_of names) passed
   pub defined : All (λ name. IsSome (number_of names name)) passed
 
-module _ {names used left more : List (List ℕ)} {numbers : List ℕ} {name : List ℕ} (before : NumbersPassed names used left numbers) (some : left ≡ name ∷ more) where
+module _ {names used left more : List (List ℕ)} {numbers : List ℕ} {name : List ℕ}
+    (before : NumbersPassed names used left numbers) (some : left ≡ name ∷ more) where
   -- where the next name stands
   place : used ≡ before.passed ++ name ∷ more
   place = before.split ∙ ap (λ l. before.passed ++ l) some
 
   -- a turn
-  pub numbers_next : {number : ℕ} {new : List ℕ} → number_of names name ≡ Some number → new ≡ numbers ++ number ∷ [] → NumbersPassed names used more new
+  pub numbers_next : {number : ℕ} {new : List ℕ} → number_of names name ≡ Some number
+      → new ≡ numbers ++ number ∷ [] → NumbersPassed names used more new
   numbers_next {number} has put = record {
     passed = before.passed ++ name ∷ [];
     split = place ∙ sym (append_assoc before.passed (name ∷ []) more);
-    numbers_are = put ∙ ap (λ l. l ++ number ∷ []) before.numbers_are ∙ sym (filter_map_push_some (number_of names) before.passed name number has);
+    numbers_are = put ∙ ap (λ l. l ++ number ∷ []) before.numbers_are
+        ∙ sym (filter_map_push_some (number_of names) before.passed name number has);
     defined = All-push (IsNumbered names) before.passed name before.defined (rw has refl);
   }
 
-module _ {names used left : List (List ℕ)} {numbers : List ℕ} (before : NumbersPassed names used left numbers) (none : left ≡ []) where
+module _ {names used left : List (List ℕ)} {numbers : List ℕ}
+    (before : NumbersPassed names used left numbers) (none : left ≡ []) where
   -- at the end all names are passed
   whole : before.passed ≡ used
   whole = sym (before.split ∙ ap (λ l. before.passed ++ l) none ∙ append-nil before.passed)

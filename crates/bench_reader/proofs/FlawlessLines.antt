@@ -21,23 +21,41 @@ pub record IsSoundLine (earlier : List (List ℕ)) (line : List ℕ) : Type 0 wh
   pub sound : IsSound (definitions_in earlier) statement
 
 -- a statement without a flaw
-sound_statement : (earlier : List Definition) (statement : Statement) → statement_flaw earlier statement ≡ None → IsSound earlier statement
-sound_statement earlier statement = at (has_kind statement) (option_map_or has_valid_inputs (definition_of statement) true) (option_map_or (is_defined_before earlier) (definition_of statement) false) (list_all is_short (names_of statement)) (option_and_then (definition_excess earlier) (definition_of statement)) refl refl refl refl refl
+sound_statement : (earlier : List Definition) (statement : Statement)
+    → statement_flaw earlier statement ≡ None → IsSound earlier statement
+sound_statement earlier statement =
+    at (has_kind statement) (option_map_or has_valid_inputs (definition_of statement) true)
+    (option_map_or (is_defined_before earlier) (definition_of statement) false)
+    (list_all is_short (names_of statement))
+    (option_and_then (definition_excess earlier) (definition_of statement)) refl refl refl refl refl
   where
-    at : (kind inputs twice short : Bool) (excess : Option Limit) → has_kind statement ≡ kind → option_map_or has_valid_inputs (definition_of statement) true ≡ inputs
-        → option_map_or (is_defined_before earlier) (definition_of statement) false ≡ twice → list_all is_short (names_of statement) ≡ short → option_and_then (definition_excess earlier) (definition_of statement) ≡ excess
-        → (if not kind then Some UnknownKind else if not inputs then Some WrongInputs else if twice then Some SignalTwice else option_map TooLarge (if short then excess else Some Name)) ≡ None → IsSound earlier statement
+    at : (kind inputs twice short : Bool) (excess : Option Limit) → has_kind statement ≡ kind
+        → option_map_or has_valid_inputs (definition_of statement) true ≡ inputs
+        → option_map_or (is_defined_before earlier) (definition_of statement) false ≡ twice
+        → list_all is_short (names_of statement) ≡ short
+        → option_and_then (definition_excess earlier) (definition_of statement) ≡ excess
+        → (if not kind then Some UnknownKind else if not inputs then Some WrongInputs else if twice
+        then Some SignalTwice else option_map TooLarge (if short then excess else Some Name)) ≡ None
+        → IsSound earlier statement
     at false inputs twice short excess k i t s e none = cc none
     at true false twice short excess k i t s e none = cc none
     at true true true short excess k i t s e none = cc none
     at true true false false excess k i t s e none = cc none
     at true true false true (Some limit) k i t s e none = cc none
-    at true true false true None k i t s e none = record { kind = k; inputs = i; once = t; short = s; within = e }
+    at true true false true None k i t s e none =
+        record { kind = k; inputs = i; once = t; short = s; within = e }
 
 -- a line without a flaw
-pub sound_line : (earlier : List (List ℕ)) (line : List ℕ) → flaw_of earlier line ≡ None → IsSoundLine earlier line
+pub sound_line : (earlier : List (List ℕ)) (line : List ℕ) → flaw_of earlier line ≡ None
+    → IsSoundLine earlier line
 sound_line earlier line = at (statement_of line) refl
   where
-    at : (o : Option Statement) → statement_of line ≡ o → option_map_or (statement_flaw (definitions_in earlier)) o (Some BadLine) ≡ None → IsSoundLine earlier line
+    at : (o : Option Statement) → statement_of line ≡ o
+        → option_map_or (statement_flaw (definitions_in earlier)) o (Some BadLine) ≡ None
+        → IsSoundLine earlier line
     at None form none = cc none
-    at (Some statement) form none = record { statement = statement; form = form; sound = sound_statement (definitions_in earlier) statement none }
+    at (Some statement) form none = record {
+      statement = statement;
+      form = form;
+      sound = sound_statement (definitions_in earlier) statement none;
+    }

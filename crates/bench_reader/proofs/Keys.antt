@@ -11,25 +11,34 @@ use Rattle.cts_model.specs.Netlists.{number_of}
 
 module _ {X Y : Type 0} (f : X → Y) (test : Y → Bool) where
   -- so many items before the first that passes
-  position_or_len-map : (xs : List X) → position_or_len test (map f xs) ≡ position_or_len (λ x. test (f x)) xs
+  position_or_len-map : (xs : List X)
+      → position_or_len test (map f xs) ≡ position_or_len (λ x. test (f x)) xs
   position_or_len-map [] = refl
-  position_or_len-map (x ∷ xs) = ap (λ n. cond (not (test (f x))) (1 + n) 0) (position_or_len-map xs)
+  position_or_len-map (x ∷ xs) =
+      ap (λ n. cond (not (test (f x))) (1 + n) 0) (position_or_len-map xs)
 
   -- the first place that passes is where it is in the list before
   position-map : (xs : List X) → position test (map f xs) ≡ position (λ x. test (f x)) xs
   position-map xs = rw (position_or_len-map xs, length-map xs f) refl
 
 -- a name that no key equals isn't among the keys
-pub absent_from_any : (names : List (List ℕ)) (name : List ℕ) → list_any (bytes_eq name) names ≡ false → Contains names name → ⊥
-absent_from_any names name none there = let found = list_any-from_Contains nat_list_eq_equiv name names there in grind (arith, found)
+pub absent_from_any : (names : List (List ℕ)) (name : List ℕ)
+    → list_any (bytes_eq name) names ≡ false → Contains names name → ⊥
+absent_from_any names name none there =
+    let found = list_any-from_Contains nat_list_eq_equiv name names there in grind (arith, found)
 
 -- the number of a name among names that keys hold
-pub number_of-keys : {X : Type 0} (keys : List X) (bytes : X → List ℕ) (name : List ℕ) → number_of (map bytes keys) name ≡ position (λ key. bytes_eq name (bytes key)) keys
+pub number_of-keys : {X : Type 0} (keys : List X) (bytes : X → List ℕ) (name : List ℕ)
+    → number_of (map bytes keys) name ≡ position (λ key. bytes_eq name (bytes key)) keys
 number_of-keys keys bytes name = position-map bytes (bytes_eq name) keys
 
 -- a name that no key has comes last
-pub insert_key-new : {X : Type 0} (bytes : X → List ℕ) (keys new : List X) (key : X) (name : List ℕ) → bytes key ≡ name → list_any (bytes_eq name) (map bytes keys) ≡ false
-    → new ≡ insert_key (λ first second. bytes_eq (bytes first) (bytes second)) keys key → map bytes new ≡ map bytes keys ++ name ∷ []
+pub insert_key-new : {X : Type 0} (bytes : X → List ℕ) (keys new : List X) (key : X) (name : List ℕ)
+    → bytes key ≡ name → list_any (bytes_eq name) (map bytes keys) ≡ false
+    → new ≡ insert_key (λ first second. bytes_eq (bytes first) (bytes second)) keys key
+    → map bytes new ≡ map bytes keys ++ name ∷ []
 insert_key-new bytes keys new key name same absent inserted =
-    let none : list_any (λ other. bytes_eq (bytes key) (bytes other)) keys ≡ false = sym (list_any-map bytes (bytes_eq (bytes key)) keys) ∙ ap (λ n. list_any (bytes_eq n) (map bytes keys)) same ∙ absent in
+    let none : list_any (λ other. bytes_eq (bytes key) (bytes other)) keys ≡ false =
+    sym (list_any-map bytes (bytes_eq (bytes key)) keys)
+    ∙ ap (λ n. list_any (bytes_eq n) (map bytes keys)) same ∙ absent in
     rw (inserted, none) (map_push bytes keys key ∙ ap (λ n. map bytes keys ++ n ∷ []) same)

@@ -8,14 +8,22 @@ use Rattle.cts_model.specs.declared.kind.Kind.{Kind}
 -- the kind at the first word that is the given one in any ASCII case
 abbrev pub kind_at : List (Bor (List ℕ) × Kind) → List ℕ → Option Kind
 kind_at [] word = None
-kind_at (row ∷ rows) word = if str_eq_ignore_ascii_case word row.0.now then Some row.1 else kind_at rows word
+kind_at (row ∷ rows) word =
+    if str_eq_ignore_ascii_case word row.0.now then Some row.1 else kind_at rows word
 
 -- a search for the word finds its kind
-pub kind_at-find : (rows : List (Bor (List ℕ) × Kind)) (word : List ℕ) → option_map (λ row. row.1) (find (λ row. str_eq_ignore_ascii_case word row.0.now) rows) ≡ kind_at rows word
+pub kind_at-find : (rows : List (Bor (List ℕ) × Kind)) (word : List ℕ)
+    → option_map (λ row. row.1) (find (λ row. str_eq_ignore_ascii_case word row.0.now) rows)
+    ≡ kind_at rows word
 kind_at-find [] word = refl
-kind_at-find (row ∷ rows) word = at (str_eq_ignore_ascii_case word row.0.now) (kind_at-find rows word)
+kind_at-find (row ∷ rows) word =
+    at (str_eq_ignore_ascii_case word row.0.now) (kind_at-find rows word)
   where
-    at : (same : Bool) → option_map (λ row. row.1) (find (λ row. str_eq_ignore_ascii_case word row.0.now) rows) ≡ kind_at rows word
-        → option_map (λ row. row.1) (if same then Some row else find (λ row. str_eq_ignore_ascii_case word row.0.now) rows) ≡ (if same then Some row.1 else kind_at rows word)
+    at : (same : Bool)
+        → option_map (λ row. row.1) (find (λ row. str_eq_ignore_ascii_case word row.0.now) rows)
+        ≡ kind_at rows word
+        → option_map (λ row. row.1)
+        (if same then Some row else find (λ row. str_eq_ignore_ascii_case word row.0.now) rows)
+        ≡ (if same then Some row.1 else kind_at rows word)
     at true rest = refl
     at false rest = rest

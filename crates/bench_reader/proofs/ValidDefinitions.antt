@@ -23,7 +23,8 @@ HasName name = IsTrue (is_name name && is_short name)
 pub record AreValid (definitions : List Definition) : Type 0 where
   pub names : All (λ definition. HasName definition.name) definitions
   pub distinct : AllPairs (λ first second. first.name ≢ second.name) definitions
-  pub valid_inputs : All (λ definition. IsTrue (is_valid definition.kind (length definition.inputs))) definitions
+  pub valid_inputs :
+      All (λ definition. IsTrue (is_valid definition.kind (length definition.inputs))) definitions
   pub few_signals : length definitions ≤ 65536
   pub few_registers : register_count definitions ≤ 4096
   pub few_inputs : gate_input_count definitions ≤ 262144
@@ -53,36 +54,58 @@ none_valid = record {
 }
 
 -- one more
-valid_push : (definitions : List Definition) (definition : Definition) → AreValid definitions → MayFollow definitions definition → AreValid (definitions ++ definition ∷ [])
+valid_push : (definitions : List Definition) (definition : Definition) → AreValid definitions
+    → MayFollow definitions definition → AreValid (definitions ++ definition ∷ [])
 valid_push definitions definition before may = record {
   names = All-push (λ d. HasName d.name) definitions definition before.names may.named;
-  distinct = all_pairs_push (λ first second. first.name ≢ second.name) definitions definition before.distinct
-      (λ k d within same. may.once (subst (Contains (defined_names definitions)) (get_or-map (λ e. e.name) definitions k d d.name within ∙ same) (Contains-get_or (defined_names definitions) k d.name (omega (arith, length-map definitions (λ e. e.name))))));
-  valid_inputs = All-push (λ d. IsTrue (is_valid d.kind (length d.inputs))) definitions definition before.valid_inputs may.inputs;
+  distinct = all_pairs_push
+      (λ first second. first.name ≢ second.name) definitions definition before.distinct
+      (λ k d within same. may.once (subst (Contains (defined_names definitions))
+      (get_or-map (λ e. e.name) definitions k d d.name within ∙ same) (Contains-get_or
+      (defined_names definitions) k d.name (omega (arith, length-map definitions (λ e. e.name))))));
+  valid_inputs = All-push (λ d. IsTrue (is_valid d.kind (length d.inputs))) definitions definition
+      before.valid_inputs may.inputs;
   few_signals = omega (arith, length_push definitions definition, may.limits.few_signals);
   few_registers = may.limits.few_registers;
   few_inputs = may.limits.few_inputs;
 }
 
 -- a definition without an excess
-within_limits : (definitions : List Definition) (definition : Definition) → definition_excess definitions definition ≡ None → IsWithinLimits definitions definition
-within_limits definitions definition = at (nat_le 65536 (length definitions)) (nat_lt 4096 (register_count (definitions ++ definition ∷ []))) (nat_lt 262144 (gate_input_count (definitions ++ definition ∷ []))) refl refl refl
+within_limits : (definitions : List Definition) (definition : Definition)
+    → definition_excess definitions definition ≡ None → IsWithinLimits definitions definition
+within_limits definitions definition = at (nat_le 65536 (length definitions))
+    (nat_lt 4096 (register_count (definitions ++ definition ∷ [])))
+    (nat_lt 262144 (gate_input_count (definitions ++ definition ∷ []))) refl refl refl
   where
-    at : (s r i : Bool) → nat_le 65536 (length definitions) ≡ s → nat_lt 4096 (register_count (definitions ++ definition ∷ [])) ≡ r → nat_lt 262144 (gate_input_count (definitions ++ definition ∷ [])) ≡ i
-        → (if s then Some Signals else if r then Some Registers else if i then Some Inputs else None) ≡ None → IsWithinLimits definitions definition
+    at : (s r i : Bool) → nat_le 65536 (length definitions) ≡ s
+        → nat_lt 4096 (register_count (definitions ++ definition ∷ [])) ≡ r
+        → nat_lt 262144 (gate_input_count (definitions ++ definition ∷ [])) ≡ i
+        → (if s then Some Signals else if r then Some Registers else if i then Some Inputs
+        else None) ≡ None → IsWithinLimits definitions definition
     at true r i signals registers inputs none = cc none
     at false true i signals registers inputs none = cc none
     at false false true signals registers inputs none = cc none
-    at false false false signals registers inputs none = record { few_signals = grind (arith, nat_tests); few_registers = grind (arith, nat_tests); few_inputs = grind (arith, nat_tests) }
+    at false false false signals registers inputs none = record {
+      few_signals = grind (arith, nat_tests);
+      few_registers = grind (arith, nat_tests);
+      few_inputs = grind (arith, nat_tests);
+    }
 
 -- one more line
-valid_line : (earlier : List (List ℕ)) (line : List ℕ) → AreValid (definitions_in earlier) → IsSoundLine earlier line → AreValid (definitions_in (earlier ++ line ∷ []))
-valid_line earlier line before here = at (definition_of here.statement) refl here.sound.inputs here.sound.once here.sound.within
+valid_line : (earlier : List (List ℕ)) (line : List ℕ) → AreValid (definitions_in earlier)
+    → IsSoundLine earlier line → AreValid (definitions_in (earlier ++ line ∷ []))
+valid_line earlier line before here =
+    at (definition_of here.statement) refl here.sound.inputs here.sound.once here.sound.within
   where
-    at : (o : Option Definition) → definition_of here.statement ≡ o → option_map_or has_valid_inputs o true ≡ true → option_map_or (is_defined_before (definitions_in earlier)) o false ≡ false → option_and_then (definition_excess (definitions_in earlier)) o ≡ None → AreValid (definitions_in (earlier ++ line ∷ []))
+    at : (o : Option Definition) → definition_of here.statement ≡ o
+        → option_map_or has_valid_inputs o true ≡ true
+        → option_map_or (is_defined_before (definitions_in earlier)) o false ≡ false
+        → option_and_then (definition_excess (definitions_in earlier)) o ≡ None
+        → AreValid (definitions_in (earlier ++ line ∷ []))
     at None none inputs once within = rw (definitions_push_none earlier line here.form none) before
     at (Some definition) some inputs once within =
-        rw (definitions_push_some earlier line here.form some) (valid_push (definitions_in earlier) definition before (record {
+        rw (definitions_push_some earlier line here.form some)
+        (valid_push (definitions_in earlier) definition before (record {
           named = defined_name line here.statement definition here.form some here.sound.short;
           once = absent_from_any (defined_names (definitions_in earlier)) definition.name once;
           inputs = inputs;
@@ -90,11 +113,18 @@ valid_line earlier line before here = at (definition_of here.statement) refl her
         }))
 
 -- and more lines
-valid_after : (prefix rest : List (List ℕ)) → ((earlier : List (List ℕ)) (line : List ℕ) (later : List (List ℕ)) → prefix ++ rest ≡ earlier ++ line ∷ later → flaw_of earlier line ≡ None) → AreValid (definitions_in prefix) → AreValid (definitions_in (prefix ++ rest))
+valid_after : (prefix rest : List (List ℕ))
+    → ((earlier : List (List ℕ)) (line : List ℕ) (later : List (List ℕ))
+    → prefix ++ rest ≡ earlier ++ line ∷ later → flaw_of earlier line ≡ None)
+    → AreValid (definitions_in prefix) → AreValid (definitions_in (prefix ++ rest))
 valid_after prefix [] each before = rw append-nil before
 valid_after prefix (line ∷ rest) each before =
-    let parts : (prefix ++ line ∷ []) ++ rest ≡ prefix ++ line ∷ rest = append_assoc prefix (line ∷ []) rest in
-    rw (← parts) (valid_after (prefix ++ line ∷ []) rest (λ earlier next later split. each earlier next later (sym parts ∙ split)) (valid_line prefix line before (sound_line prefix line (each prefix line rest refl))))
+    let parts : (prefix ++ line ∷ []) ++ rest ≡ prefix ++ line ∷ rest =
+    append_assoc prefix (line ∷ []) rest in
+    rw (← parts)
+    (valid_after (prefix ++ line ∷ []) rest
+    (λ earlier next later split. each earlier next later (sym parts ∙ split))
+    (valid_line prefix line before (sound_line prefix line (each prefix line rest refl))))
 
 -- lines without a flaw define what a netlist may have
 pub valid_lines : (lines : List (List ℕ)) → AreFlawless lines → AreValid (definitions_in lines)

@@ -54,7 +54,8 @@ RefusesNetlist text (BadLine number) = IsFirstFlawed text number flaws.BadLine
 RefusesNetlist text (UnknownKind number) = IsFirstFlawed text number flaws.UnknownKind
 RefusesNetlist text (WrongInputs number) = IsFirstFlawed text number flaws.WrongInputs
 RefusesNetlist text (SignalTwice number) = IsFirstFlawed text number flaws.SignalTwice
-RefusesNetlist text (TooLarge number which) = IsFirstFlawed text number (flaws.TooLarge (limit_of which))
+RefusesNetlist text (TooLarge number which) =
+    IsFirstFlawed text number (flaws.TooLarge (limit_of which))
 RefusesNetlist text (Undefined number) = IsUndefinedUse text number
 RefusesNetlist text NoRegisters = HasNoRegisters text
 RefusesNetlist text (CombLoop names) = HasLoop text names

@@ -44,7 +44,8 @@ impl CircuitParts {
     fn add_line(&mut self, alloc: Global, names: &Names, line: &[u8]) -> Result<(), UseFault>
         requires flawless { (earlier : List (List ℕ)) × (flaw_of earlier line.now ≡ None) }
         requires few { length self.old.signals ≤ 65536 }
-        ensures denoted { OnOk result ((earlier : List (List ℕ)) → HasParts names.now self.old earlier
+        ensures denoted { OnOk result ((earlier : List (List ℕ))
+            → HasParts names.now self.old earlier
             → HasParts names.now self.new (earlier ++ line.now ∷ [])) }
         ensures refused { IfErr result (IsUseFault names.now line.now) }
     {

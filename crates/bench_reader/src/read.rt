@@ -22,7 +22,8 @@ pub fn read_bench(alloc: Global, bytes: &[u8]) -> Result<Circuit, BenchFault>
     ensures accepted { IsNetlist bytes.now → IsOkUnless result BenchFault.NoMemory }
     // A fault comes exactly where the bytes have it; memory alone is free, and which ring is named.
     ensures refused { IfErr result (RefusesNetlist bytes.now) }
-    ensures faulty { (fault : BenchFault) → fault ≢ BenchFault.NoMemory → RefusesNetlist bytes.now fault
+    ensures faulty { (fault : BenchFault) → fault ≢ BenchFault.NoMemory
+        → RefusesNetlist bytes.now fault
         → IsErrAnd result (λ found. IsSameFault fault found ⊎ (found ≡ BenchFault.NoMemory)) }
 {
     circuit_denoted(alloc, bytes)

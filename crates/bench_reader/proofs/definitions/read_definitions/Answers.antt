@@ -3,13 +3,21 @@ use Rattle.bench_reader.proofs.DefinitionWalk.{defines_none, defines_next, refus
 use Rattle.bench_reader.proofs.definitions.read_definitions.Goals as goal
 
 pub loop-line-init : goal.loop-line-init
-loop-line-init c = (tt, tt, defines_none (c.into_iter-line-iterator.ensures.into_iter_gives ∙ c.lines-line-items.ensures) c.new-definitions.ensures)
+loop-line-init c = (
+  tt,
+  tt,
+  defines_none (c.into_iter-line-iterator.ensures.into_iter_gives ∙ c.lines-line-items.ensures)
+      c.new-definitions.ensures,
+)
 
 pub loop-line-preserved : goal.loop-line-preserved
-loop-line-preserved c = (tt, tt, defines_next c.loop-line.invariant.2 c.in-Some.ensures.steps c.in_default.ensures)
+loop-line-preserved c =
+    (tt, tt, defines_next c.loop-line.invariant.2 c.in-Some.ensures.steps c.in_default.ensures)
 
 pub returns-in-Err-clause-refused : goal.returns-in-Err-clause-refused
-returns-in-Err-clause-refused c = refuses_next c.in-Err.fault c.at.result c.loop-line.invariant.2 c.in-Some.ensures.steps c.in-Err.ensures (λ earlier. c.at.ensures.refused c.args.bytes.now earlier c.in-Some.line.text.now)
+returns-in-Err-clause-refused c = refuses_next c.in-Err.fault c.at.result c.loop-line.invariant.2
+    c.in-Some.ensures.steps c.in-Err.ensures
+    (λ earlier. c.at.ensures.refused c.args.bytes.now earlier c.in-Some.line.text.now)
 
 pub returns : goal.returns
 returns c = record {

@@ -4,9 +4,11 @@ use Rattle.bench_reader.proofs.LoopSignals.{loop_within}
 use Rattle.bench_reader.proofs.read.circuit_denoted.Goals as goal
 
 pub returns-in-Ok-clause-hostless : goal.returns-in-Ok-clause-hostless
-returns-in-Ok-clause-hostless c = denoted_hostless c.args.bytes.now c.in_ok-circuit.circuit c.in_ok-circuit.ensures.denoted
+returns-in-Ok-clause-hostless c =
+    denoted_hostless c.args.bytes.now c.in_ok-circuit.circuit c.in_ok-circuit.ensures.denoted
 
 pub signal_names-requires : goal.signal_names-requires
 signal_names-requires c =
     let named = rw c.in-Err-Loop.field-0-is at c.in-Err-Loop.ensures.looped in
-    subst (All (λ number. number < length c.in_ok-circuit.circuit.signals)) (sym c.as_slice.ensures) (loop_within c.in_ok-circuit.circuit.signals _ named.ring)
+    subst (All (λ number. number < length c.in_ok-circuit.circuit.signals)) (sym c.as_slice.ensures)
+    (loop_within c.in_ok-circuit.circuit.signals _ named.ring)

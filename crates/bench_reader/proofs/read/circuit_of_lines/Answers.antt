@@ -11,29 +11,36 @@ returns-in_err-names-clause-refused c =
 
 pub returns-in_err-signals-clause-refused : goal.returns-in_err-signals-clause-refused
 returns-in_err-signals-clause-refused c =
-    let p = err_from_is_err_and c.from_residual-in_err-signals.result c.from_residual-in_err-signals.ensures.1 in
+    let p = err_from_is_err_and c.from_residual-in_err-signals.result
+    c.from_residual-in_err-signals.ensures.1 in
     rw (p.1, p.2) (use_refused _ _ c.in_ok-names.ensures.flawless c.in_err-signals.ensures.refused)
 
 pub returns-then-is_empty-clause-refused : goal.returns-then-is_empty-clause-refused
 returns-then-is_empty-clause-refused c =
     let none : length c.in_ok-signals.field-0.registers ≡ 0 = grind (arith, nat_tests) in
-    no_registers c.args.bytes.now _ c.in_ok-signals.field-0 c.in_ok-names.ensures.flawless c.in_ok-names.ensures.names c.in_ok-signals.ensures.denoted none
+    no_registers c.args.bytes.now _ c.in_ok-signals.field-0 c.in_ok-names.ensures.flawless
+    c.in_ok-names.ensures.names c.in_ok-signals.ensures.denoted none
 
 pub returns-in_err-from_slice-clause-refused : goal.returns-in_err-from_slice-clause-refused
 returns-in_err-from_slice-clause-refused c =
-    let p = err_from_is_err_and c.from_residual-in_err-from_slice.result c.from_residual-in_err-from_slice.ensures.1 in
+    let p = err_from_is_err_and c.from_residual-in_err-from_slice.result
+    c.from_residual-in_err-from_slice.ensures.1 in
     rw (p.1, p.2) tt
 
 pub invariant_of-result : goal.invariant_of-result
 invariant_of-result c =
     let some : 0 < length c.in_ok-signals.field-0.registers = grind (arith, nat_tests) in
     record {
-      valid = parts_circuit c.args.bytes.now _ c.in_ok-signals.field-0 c.in_ok-names.ensures.flawless c.in_ok-names.ensures.names c.in_ok-signals.ensures.denoted some c.from_vec-outputs.result
+      valid =
+          parts_circuit c.args.bytes.now _ c.in_ok-signals.field-0 c.in_ok-names.ensures.flawless
+          c.in_ok-names.ensures.names c.in_ok-signals.ensures.denoted some c.from_vec-outputs.result
           (c.from_vec-outputs.ensures ∙ c.in_ok-from_slice.ensures.items ∙ c.as_slice.ensures.keys);
     }
 
 pub returns-clause-denoted : goal.returns-clause-denoted
 returns-clause-denoted c =
     let some : 0 < length c.in_ok-signals.field-0.registers = grind (arith, nat_tests) in
-    parts_denoted c.args.bytes.now _ c.in_ok-signals.field-0 c.in_ok-names.ensures.flawless c.in_ok-names.ensures.names c.in_ok-signals.ensures.denoted some c.from_vec-outputs.result
-    (c.from_vec-outputs.ensures ∙ c.in_ok-from_slice.ensures.items ∙ c.as_slice.ensures.keys) _ refl refl refl
+    parts_denoted c.args.bytes.now _ c.in_ok-signals.field-0 c.in_ok-names.ensures.flawless
+    c.in_ok-names.ensures.names c.in_ok-signals.ensures.denoted some c.from_vec-outputs.result
+    (c.from_vec-outputs.ensures ∙ c.in_ok-from_slice.ensures.items ∙ c.as_slice.ensures.keys) _ refl
+    refl refl
