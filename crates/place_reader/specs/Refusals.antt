@@ -47,6 +47,7 @@ RefusesPlacement text circuit source host (BadNumber number fault) =
     IsFirstFlawed (wanted_nodes circuit source host) text number (flaws.BadNumber fault)
 RefusesPlacement text circuit source host (PlaceTwice number) =
     IsFirstFlawed (wanted_nodes circuit source host) text number flaws.PlaceTwice
-RefusesPlacement text circuit source host (NoPlace register) = HasNoPlace text circuit source host register
+RefusesPlacement text circuit source host (NoPlace register) =
+    HasNoPlace text circuit source host register
 RefusesPlacement text circuit source host NoSource = HasNoSource text circuit source host
 RefusesPlacement text circuit source host NoMemory = Unit {0}
