@@ -54,7 +54,8 @@ one_denoted document tech other some denotes denotes' =
     let same = same_value tech.wire_num tech.wire_den other.wire_num other.wire_den
     (numerator_of text) (denominator_of text) some
     tech.valid.wire_num_within.above tech.valid.wire_den_within.above
-    other.valid.wire_num_within.above other.valid.wire_den_within.above denotes.wire denotes'.wire in
+    other.valid.wire_num_within.above other.valid.wire_den_within.above denotes.wire
+    denotes'.wire in
     let wire = one_fraction tech.wire_num tech.wire_den other.wire_num other.wire_den
     (wire_lowest tech) (wire_lowest other) same in
     same_tech tech other wire.0 wire.1

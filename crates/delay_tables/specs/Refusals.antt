@@ -15,7 +15,8 @@ RefusesTable used bytes NotToml = IsNotToml bytes
 RefusesTable used bytes (Missing name) = HasFlaw used bytes (flaws.Missing name)
 RefusesTable used bytes (WrongType name) = HasFlaw used bytes (flaws.WrongType name)
 RefusesTable used bytes (OutOfRange name) = HasFlaw used bytes (flaws.OutOfRange name)
-RefusesTable used bytes (LeastAboveGreatest name) = HasFlaw used bytes (flaws.LeastAboveGreatest name)
+RefusesTable used bytes (LeastAboveGreatest name) =
+    HasFlaw used bytes (flaws.LeastAboveGreatest name)
 RefusesTable used bytes (MissingKind kind) = HasFlaw used bytes (flaws.MissingKind kind)
 RefusesTable used bytes (UnknownKey name) = HasFlaw used bytes (flaws.UnknownKey name)
 RefusesTable used bytes NoMemory = Unit {0}

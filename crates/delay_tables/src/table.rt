@@ -37,8 +37,8 @@ pub(crate) fn table_denoted(alloc: Global, document: &Table) -> Result<Tech, NoM
 
 // The name of the node where the source or the host stands.
 fn name_at(alloc: Global, document: &Table, table: &str) -> Result<Name, NoMemory>
-    ensures { IfOk result
-        (λ name. name ≡ denoted.text_at (table.now ∷ []) (codes "place") (table_view document.now)) }
+    ensures { IfOk result (λ name. name
+        ≡ denoted.text_at (table.now ∷ []) (codes "place") (table_view document.now)) }
 {
     let name = text_at(document, &[table], "place");
     Ok(Listed::from_vec(Vec::from_slice(alloc, name.as_bytes())?))

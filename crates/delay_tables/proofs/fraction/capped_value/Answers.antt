@@ -7,6 +7,10 @@ use Rattle.delay_tables.proofs.fraction.capped_value.Goals as goal
 
 pub loop-digit-preserved : goal.loop-digit-preserved
 loop-digit-preserved c =
-    let (some, all) = and_parts (nat_le 1 (length c.args.digits.now)) (list_all is_ascii_digit c.args.digits.now) c.requires in
-    let digit : c.from.result ≡ get_or c.args.digits.now c.loop-digit.digit-index 0 - 48 = search rules in
-    rw (c.min-value.ensures, digit) (capped_more c.args.digits.now c.loop-digit.digit-index c.loop-digit.value all (omega arith) c.loop-digit.invariant)
+    let (some, all) = and_parts (nat_le 1 (length c.args.digits.now))
+    (list_all is_ascii_digit c.args.digits.now) c.requires in
+    let digit : c.from.result ≡ get_or c.args.digits.now c.loop-digit.digit-index 0 - 48 =
+    search rules in
+    rw (c.min-value.ensures, digit)
+    (capped_more c.args.digits.now c.loop-digit.digit-index c.loop-digit.value all
+    (omega arith) c.loop-digit.invariant)

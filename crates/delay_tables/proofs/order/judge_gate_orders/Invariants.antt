@@ -4,4 +4,6 @@ use Rattle.cts_model.specs.TableFlaws as flaws
 use Rattle.delay_tables.proofs.order.judge_gate_orders.Given as goal
 
 abbrev pub invariant-loop-kind : goal.invariant-loop-kind
-invariant-loop-kind l = flaws.first_flaw (flaws.gate_flaw (table_view l.document)) (drop l.kind-index l.kinds) ≡ flaws.first_flaw (flaws.gate_flaw (table_view l.document)) l.kinds
+invariant-loop-kind l =
+    flaws.first_flaw (flaws.gate_flaw (table_view l.document)) (drop l.kind-index l.kinds)
+    ≡ flaws.first_flaw (flaws.gate_flaw (table_view l.document)) l.kinds

@@ -6,5 +6,6 @@ use Rattle.delay_tables.proofs.walk.judge_section.Given as goal
 
 abbrev pub invariant-loop-key : goal.invariant-loop-key
 invariant-loop-key l =
-    flaws.first_flaw (flaws.key_flaw (texts l.way) (table_view l.document)) (keys_of (drop l.key-index l.keys))
+    flaws.first_flaw (flaws.key_flaw (texts l.way) (table_view l.document))
+    (keys_of (drop l.key-index l.keys))
     ≡ flaws.first_flaw (flaws.key_flaw (texts l.way) (table_view l.document)) (keys_of l.keys)
