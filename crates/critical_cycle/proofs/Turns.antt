@@ -97,7 +97,8 @@ once_rotated prefix back once i j d before within same =
         ∙ sym (get_or_append_left prefix back d (k - length back) (omega arith))
 
 -- a cycle that is rotated is a cycle
-cycle_rotated : (prefix back : List Constraint) → IsCycle (prefix ++ back) → IsCycle (back ++ prefix)
+cycle_rotated : (prefix back : List Constraint) → IsCycle (prefix ++ back)
+    → IsCycle (back ++ prefix)
 cycle_rotated prefix back is_cycle =
     let whole = closed (prefix ++ back) is_cycle in
     let parts = leads_parts whole.0 prefix back whole.0 whole.2 in

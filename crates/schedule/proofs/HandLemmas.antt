@@ -41,8 +41,8 @@ IsReachKept-same reach = record {
 }
 
 -- one step after the other
-IsReachKept-then : {first second third : Reach} → IsReachKept first second → IsReachKept second third
-    → IsReachKept first third
+IsReachKept-then : {first second third : Reach} → IsReachKept first second
+    → IsReachKept second third → IsReachKept first third
 IsReachKept-then one two = record {
   kept = λ register reached. two.kept register (one.kept register reached);
   longer = omega (arith, one.longer, two.longer);

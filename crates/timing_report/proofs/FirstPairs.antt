@@ -23,29 +23,38 @@ quick_false : (hold least : ℤ) → int_lt least hold ≡ false → hold ≤ℤ
 quick_false hold least fails = grind (arith, ints)
 
 -- where the search finds a pair, it is the first that comes before the hold time
-pub first_found : (hold shown : ℤ) (pairs : List PairDelay) (pair : PairDelay) → shown ≡ hold → find (is_quick shown) pairs ≡ Some pair → IsFirstOf (IsTooQuick hold) pairs pair
+pub first_found : (hold shown : ℤ) (pairs : List PairDelay) (pair : PairDelay) → shown ≡ hold
+    → find (is_quick shown) pairs ≡ Some pair → IsFirstOf (IsTooQuick hold) pairs pair
 first_found hold shown pairs pair same found =
     let place : ℕ = position_or_len (is_quick hold) pairs in
-    let got : slice_get pairs place ≡ Some pair = sym (find_at (is_quick hold) pairs) ∙ ap (λ h. find (is_quick h) pairs) (sym same) ∙ found in
+    let got : slice_get pairs place ≡ Some pair =
+    sym (find_at (is_quick hold) pairs) ∙ ap (λ h. find (is_quick h) pairs) (sym same) ∙ found in
     let within : place < length pairs = slice_get_within pairs place pair got in
     let here : get_or pairs place pair ≡ pair = get_or_from_slice_get pairs place pair pair got in
     record {
       place = place;
       within = within;
       here = here;
-      holds = quick_true hold pair.least (rw here at (passes_at_first (is_quick hold) pairs pair within));
+      holds = quick_true hold pair.least
+          (rw here at (passes_at_first (is_quick hold) pairs pair within));
       first = λ earlier other before quick.
-          let fails = quick_false hold (get_or pairs earlier other).least (fails_before_first (is_quick hold) pairs earlier other before) in
+          let fails = quick_false hold (get_or pairs earlier other).least
+          (fails_before_first (is_quick hold) pairs earlier other before) in
           omega (arith, ints);
     }
 
 -- where it finds none, every pair meets the hold time
-pub none_found : (hold shown : ℤ) (pairs : List PairDelay) → shown ≡ hold → find (is_quick shown) pairs ≡ None → All (λ p. hold ≤ℤ p.least) pairs
-none_found hold shown pairs same none place other within = elim (cases_lt place (position_or_len (is_quick hold) pairs)) [
-  | inl before ↦ quick_false hold (get_or pairs place other).least (fails_before_first (is_quick hold) pairs place other before)
-  | inr past ↦
-      let inside : position_or_len (is_quick hold) pairs < length pairs = omega arith in
-      let some = slice_get-get_or pairs (position_or_len (is_quick hold) pairs) other inside in
-      let nothing = sym (find_at (is_quick hold) pairs) ∙ ap (λ h. find (is_quick h) pairs) (sym same) ∙ none in
-      cc
-]
+pub none_found : (hold shown : ℤ) (pairs : List PairDelay) → shown ≡ hold
+    → find (is_quick shown) pairs ≡ None → All (λ p. hold ≤ℤ p.least) pairs
+none_found hold shown pairs same none place other within =
+    elim (cases_lt place (position_or_len (is_quick hold) pairs)) [
+      | inl before ↦ quick_false hold (get_or pairs place other).least
+          (fails_before_first (is_quick hold) pairs place other before)
+      | inr past ↦
+          let inside : position_or_len (is_quick hold) pairs < length pairs = omega arith in
+          let some = slice_get-get_or pairs (position_or_len (is_quick hold) pairs) other inside in
+          let nothing =
+          sym (find_at (is_quick hold) pairs) ∙ ap (λ h. find (is_quick h) pairs) (sym same)
+          ∙ none in
+          cc
+    ]

@@ -7,5 +7,7 @@ pub record IsMostSoFar (pairs : List PairDelay) (count : ℕ) (pair : PairDelay)
   pub place : ℕ
   pub within : place < length pairs
   pub here : get_or pairs place pair ≡ pair
-  pub greatest : (k : ℕ) (other : PairDelay) → k < count → (get_or pairs k other).greatest ≤ℤ pair.greatest
-  pub first : (k : ℕ) (other : PairDelay) → k < place → (get_or pairs k other).greatest <ℤ pair.greatest
+  pub greatest : (k : ℕ) (other : PairDelay) → k < count
+      → (get_or pairs k other).greatest ≤ℤ pair.greatest
+  pub first : (k : ℕ) (other : PairDelay) → k < place
+      → (get_or pairs k other).greatest <ℤ pair.greatest

@@ -1,4 +1,5 @@
-//! Tests on the public calls of the crates of the timing and of `cts_engine`, a file for each crate.
+//! Tests on the public calls of the crates of the timing and of `cts_engine`, a file for each
+//! crate.
 #![tactic(auto)]
 
 #[cfg(test)]

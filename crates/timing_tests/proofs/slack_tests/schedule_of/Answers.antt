@@ -11,5 +11,9 @@ loop-arrival-preserved c =
     rw (c.in_ok-push.ensures.items, kept_time c.widened.result c.widened.ensures (omega arith)) (
       All-push (IsBelow (10 ^ 19)) c.loop-arrival.at.items c.widened.result
           c.loop-arrival.invariant.0 c.widened.ensures,
-      omega (arith, length_push c.loop-arrival.at.items c.widened.result, c.loop-arrival.invariant.1),
+      omega (
+        arith,
+        length_push c.loop-arrival.at.items c.widened.result,
+        c.loop-arrival.invariant.1,
+      ),
     )
