@@ -20,7 +20,7 @@ use Rattle.critical_cycle.specs.RatioSizes.{most_weight}
 use Rattle.critical_cycle.specs.Raises.{IsRaise}
 use Rattle.critical_cycle.specs.Relaxing.{SatisfiesTrial}
 use Rattle.critical_cycle.specs.Searches.{ClosesWithNext}
-use Rattle.critical_cycle.specs.ShownRatios.{IsGreatestShown, IsRaisedBy, IsSettled, IsShown, raises_left, steps_below}
+use Rattle.critical_cycle.specs.ShownRatios.{IsGreatestShown, IsRaisedBy, IsNeverAtAll, IsSettled, IsShown, raises_left, steps_below}
 use Rattle.critical_cycle.specs.Trials.{total_gain, value_of}
 use Rattle.critical_cycle.proofs.MeasureLemmas.{satisfies_ratio, total_gain-sums}
 use Rattle.critical_cycle.proofs.RaiseLemmas.{size_is}
@@ -173,3 +173,10 @@ two_registers registers constraints place small closes =
     let second = (small.each (place + 1) d closes.next).tail in
     let apart = close.apart in
     omega arith
+
+-- where no ratio is enough nothing else is owed
+pub never_settled : (measure : Measure) (constraints : List Constraint) (first : Fraction)
+    (shown : Shown) → IsNeverAtAll shown → IsSettled measure constraints first shown
+never_settled measure constraints first First never = absurd never
+never_settled measure constraints first (Value value) never = absurd never
+never_settled measure constraints first Never never = tt

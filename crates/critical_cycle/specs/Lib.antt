@@ -1,4 +1,5 @@
 pub mod RatioSizes
+pub mod Rooms
 pub mod Trials
 pub mod Measures
 pub mod Relaxing

@@ -18,16 +18,21 @@ pub record IsSearch (constraints : List Constraint) (search : Search) : Type 0 w
   pub first : CanTry search.measure search.first
   pub shown : IsShown search.measure constraints search.first (last_cycle search) search.shown
 
--- a register far up the parents of the trial at the greatest ratio shown
-pub record IsAtRing (constraints : List Constraint) (search : Search) (register : ℕ) : Type 0 where
-  pub far_up : IsFarUp constraints search.trial search.relaxation register
+-- the trial is that of the greatest ratio shown
+pub record IsAtShown (search : Search) : Type 0 where
   pub at : IsTrialAt search.measure search.ratio search.trial
   pub greatest : IsGreatestShown search.first search.shown search.ratio
 
--- the search is for the same as before
+-- a register far up the parents of the trial at the greatest ratio shown
+pub record IsAtRing (constraints : List Constraint) (search : Search) (register : ℕ) : Type 0 where
+  pub far_up : IsFarUp constraints search.trial search.relaxation register
+  pub at_shown : IsAtShown search
+
+-- the search is for the same as before, over as many registers
 pub record IsSameSearch (old new : Search) : Type 0 where
   pub measure : new.measure ≡ old.measure
   pub first : new.first ≡ old.first
+  pub registers : length new.relaxation.parents.items ≡ length old.relaxation.parents.items
 
 -- the two lead to one another's tail, and those are two registers
 pub record CloseACycle (first second : Constraint) : Type 0 where

@@ -4,10 +4,12 @@
 
 mod measure;
 mod period;
+mod policy;
 mod raise;
 mod ratio;
 mod relaxation;
 mod ring;
+mod room;
 mod search;
 mod shown;
 mod sums;
@@ -16,3 +18,4 @@ mod trial;
 pub use measure::Measure;
 pub use period::{Period, least_period, least_period_in};
 pub use ratio::{Ratio, greatest_ratio_in};
+pub use room::Room;

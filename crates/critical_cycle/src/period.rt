@@ -6,6 +6,7 @@ ghost use Rattle.critical_cycle.specs.Floors.{IsSmallFloor};
 
 use crate::measure::Measure;
 use crate::ratio::{Ratio, greatest_ratio_in};
+use crate::room::Room;
 use cts_base::{Fraction, Listed, NoMemory};
 use cts_model::Constraint;
 use std::alloc::Global;
@@ -31,18 +32,10 @@ pub enum Period {
 }
 
 /// The least period, at or above a floor in ticks, at which some arrivals satisfy the constraints.
-/// The three lists have an entry for each register, whatever the entries are. Their memory serves
-/// the search, and the last becomes the cycle; no other memory is taken.
-pub fn least_period_in(
-    values: Listed<i128>,
-    parents: Listed<u32>,
-    cycle: Listed<u32>,
-    constraints: &Listed<Constraint>,
-    floor: i128,
-) -> Period
-    requires small { AreSmallConstraints (length values) constraints.now }
-    requires parents { length parents ≡ length values }
-    requires cycle { length cycle ≡ length values }
+/// The room's memory serves the search, whatever its entries are, and a list of it becomes the
+/// cycle; no other memory is taken.
+pub fn least_period_in(room: Room, constraints: &Listed<Constraint>, floor: i128) -> Period
+    requires small { AreSmallConstraints (length room.values) constraints.now }
     requires floor { IsSmallFloor floor }
     ensures period { IsPeriodOf constraints.now floor result }
     ensures never { IsNeverPeriod result ↔ HasForbidding constraints.now }
@@ -50,14 +43,14 @@ pub fn least_period_in(
     ensures small { HasSmallValue result }
 {
     let first = Fraction::of(floor, 1);
-    match greatest_ratio_in(values, parents, cycle, constraints, PERIOD, first) {
+    match greatest_ratio_in(room, constraints, PERIOD, first) {
         Ratio::Cycle { value, cycle } => Period::Cycle { value, cycle },
         Ratio::First => Period::Floor,
         Ratio::Never { cycle } => Period::Never { cycle },
     }
 }
 
-/// The same in memory of its own: a number, a parent and a place of the cycle for each register.
+/// The same in room of its own: 28 bytes for each register.
 pub fn least_period(
     alloc: Global,
     registers: usize,
@@ -72,10 +65,8 @@ pub fn least_period(
         ↔ IsLeastPeriodOf constraints.now floor floor 1) }
     ensures small { IfOk result HasSmallValue }
 {
-    let values = Listed::from_vec(vec![in alloc; 0i128; registers]?);
-    let parents = Listed::from_vec(vec![in alloc; 0u32; registers]?);
-    let cycle = Listed::from_vec(vec![in alloc; 0u32; registers]?);
-    Ok(least_period_in(values, parents, cycle, constraints, floor))
+    let room = Room::new(alloc, registers)?;
+    Ok(least_period_in(room, constraints, floor))
 }
 
 // A cycle asks for its weights in ticks over the number of its setup constraints.

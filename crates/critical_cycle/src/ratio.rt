@@ -9,6 +9,7 @@ ghost use Rattle.critical_cycle.specs.ShownRatios.{IsSettled};
 use crate::measure::Measure;
 use crate::relaxation::Relaxation;
 use crate::ring::turn_to_lowest;
+use crate::room::Room;
 use crate::search::Search;
 use crate::shown::Shown;
 use cts_base::{Fraction, Listed};
@@ -35,31 +36,30 @@ pub enum Ratio {
     },
 }
 
-/// The greatest ratio of the cycles of constraints in a measure, at or above a first one. The three
-/// lists have an entry for each register, whatever the entries are. Their memory serves the search,
-/// and the last becomes the cycle; no other memory is taken. Lawler, "Combinatorial Optimization",
-/// 1976, section 3.13.
+/// The greatest ratio of the cycles of constraints in a measure, at or above a first one. The room's
+/// memory serves the search, whatever its entries are, and a list of it becomes the cycle; no other
+/// memory is taken. Policy iteration finds the ratio, and a relaxation by it shows that no cycle has
+/// a greater one, and else goes on from there. Howard, "Dynamic Programming and Markov Processes",
+/// 1960; Lawler, "Combinatorial Optimization", 1976, section 3.13.
 pub fn greatest_ratio_in(
-    values: Listed<i128>,
-    parents: Listed<u32>,
-    cycle: Listed<u32>,
+    room: Room,
     constraints: &Listed<Constraint>,
     measure: Measure,
     first: Fraction,
 ) -> Ratio
-    requires small { AreSmallConstraints (length values) constraints.now }
-    requires parents { length parents ≡ length values }
-    requires cycle { length cycle ≡ length values }
+    requires small { AreSmallConstraints (length room.values) constraints.now }
     requires first { CanTry measure first }
     ensures ratio { IsRatioOf measure constraints.now first result }
 {
     let list = constraints.as_slice();
     let relaxation = Relaxation {
-        values: values.into_vec(),
-        parents: parents.into_vec(),
+        values: room.values.into_vec(),
+        parents: room.parents.into_vec(),
     };
-    let mut search = Search::at_first(measure, first, relaxation, cycle.into_vec());
+    let mut marks = room.marks.into_vec();
+    let mut search = Search::at_first(measure, first, relaxation, room.cycle.into_vec());
     search.look_at_short_cycles(list);
+    search.iterate(list, &mut marks);
     while let Some(register) = search.settle(list) {
         search.raise(list, register);
     }

@@ -22,10 +22,8 @@ impl Relaxation {
     ghost use Rattle.critical_cycle.specs.Relaxing.{HasTrialRoom, IsFarUp, IsRelaxed, ReachesUp, SatisfiesTrial};
     ghost use Rattle.critical_cycle.specs.Sweeps.{IsSweep};
 
-    /// Forgets the parents, and brings the values from the last trial's scale to that of the next,
-    /// rounded towards 0 and cut in size. Any values will do. Before a first trial, give it
-    /// as both: the values are then cut and else stay. It takes no memory.
-    pub(crate) fn prepare(&mut self, last: Trial, next: Trial)
+    /// Forgets the parents, and cuts the values in size. Any values will do. It takes no memory.
+    pub(crate) fn prepare(&mut self, trial: Trial)
         ensures values { length self.new.values.items ≡ length self.old.values.items }
         ensures parents { length self.new.parents.items ≡ length self.old.parents.items }
         ensures none { (constraints : List Constraint) (register : ℕ)
@@ -34,6 +32,16 @@ impl Relaxation {
         ensures small { All (IsBelow (2 ^ 90)) self.new.values.items }
     {
         self.parents.fill(NO_PARENT);
+        self.rescale(trial, trial);
+    }
+
+    /// Brings the values from the last trial's scale to that of the next, rounded towards 0 and cut
+    /// in size. Any values will do. It takes no memory.
+    pub(crate) fn rescale(&mut self, last: Trial, next: Trial)
+        ensures values { length self.new.values.items ≡ length self.old.values.items }
+        ensures parents { self.new.parents.items ≡ self.old.parents.items }
+        ensures small { All (IsBelow (2 ^ 90)) self.new.values.items }
+    {
         for register in 0..self.values.len() {
             let value = self.values[register];
             self.values[register] = rescaled(value, last, next);
@@ -97,8 +105,8 @@ impl Relaxation {
         }
     }
 
-    // From the first constraint to the last.
-    fn sweep_forwards(&mut self, constraints: &[Constraint], trial: Trial) -> Option<u32>
+    /// One sweep from the first constraint to the last. The register that changed last is answered.
+    pub(crate) fn sweep_forwards(&mut self, constraints: &[Constraint], trial: Trial) -> Option<u32>
         requires room { HasTrialRoom constraints.now self.old }
         requires small { All (IsBelow (2 ^ 98)) self.old.values.items }
         ensures { IsSweep constraints.now trial self.old result self.new }

@@ -1,11 +1,11 @@
-ghost use Rattle.std.specs.Prelude.{◌≡◌, ◌<◌, ◌≤◌, IsTrue, List, MatchOption, drop, length};
+ghost use Rattle.std.specs.Prelude.{◌≡◌, ◌<◌, ◌≤◌, false, IsTrue, List, MatchOption, drop, length};
 ghost use Rattle.cts_model.specs.declared.constraint.Constraint.{Constraint};
 ghost use Rattle.cts_model.specs.Constraints.{AreSmallConstraints};
 ghost use Rattle.cts_model.specs.Cycles.{IsCycle};
 ghost use Rattle.critical_cycle.specs.CyclePlaces.{AreWithin, constraints_at};
 ghost use Rattle.critical_cycle.specs.Measures.{CanTry};
-ghost use Rattle.critical_cycle.specs.Searches.{ClosesWithNext, IsAtRing, IsSameSearch, IsSearch};
-ghost use Rattle.critical_cycle.specs.ShownRatios.{IsSettled, raises_left};
+ghost use Rattle.critical_cycle.specs.Searches.{ClosesWithNext, IsAtRing, IsAtShown, IsSameSearch, IsSearch};
+ghost use Rattle.critical_cycle.specs.ShownRatios.{IsNeverAtAll, IsSettled, raises_left};
 
 use crate::measure::Measure;
 use crate::raise::{Raise, raise_by};
@@ -15,6 +15,9 @@ use crate::shown::Shown;
 use crate::trial::Trial;
 use cts_base::Fraction;
 use cts_model::Constraint;
+
+/// The most rounds of policy iteration.
+const ROUNDS: u32 = 256;
 
 /// A search for the greatest ratio of a cycle, from the first ratio upwards.
 #[derive(Drop)]
@@ -49,6 +52,7 @@ impl Search {
             → IsSearch constraints result }
         ensures measure { result.measure ≡ measure }
         ensures first { result.first ≡ first }
+        ensures registers { length result.relaxation.parents.items ≡ length relaxation.parents.items }
     {
         let start = places.len();
         Search {
@@ -76,6 +80,26 @@ impl Search {
         }
     }
 
+    /// Policy iteration from the greatest ratio shown: rings of parents show greater ones. It ends
+    /// where each constraint is satisfied, or else after so many rounds as take little time.
+    pub(crate) fn iterate(&mut self, constraints: &[Constraint], marks: &mut [u32])
+        requires search { IsSearch constraints.now self.old }
+        requires marks { length marks.old ≡ length self.old.relaxation.parents.items }
+        ensures search { IsSearch constraints.now self.new }
+        ensures same { IsSameSearch self.old self.new }
+    {
+        self.relaxation.prepare(self.trial);
+        if !self.reach_shown() {
+            return;
+        }
+        self.relaxation.choose_parents(constraints, self.trial);
+        for _round in 0..ROUNDS {
+            if !self.improve(constraints, marks) {
+                return;
+            }
+        }
+    }
+
     /// Tries the greatest ratio shown. The answer is a register far up the parents where it isn't
     /// enough.
     pub(crate) fn settle(&mut self, constraints: &[Constraint]) -> Option<u32>
@@ -87,12 +111,11 @@ impl Search {
             (IsSettled self.old.measure constraints.now self.old.first self.old.shown)
             (IsAtRing constraints.now self.new) }
     {
-        let ratio = self.shown.ratio(self.first)?;
-        let trial = self.measure.trial(ratio);
-        self.relaxation.prepare(self.trial, trial);
-        self.ratio = ratio;
-        self.trial = trial;
-        self.relaxation.settle(constraints, trial)
+        if !self.reach_shown() {
+            return None;
+        }
+        self.relaxation.prepare(self.trial);
+        self.relaxation.settle(constraints, self.trial)
     }
 
     /// Goes round the ring that a register far up the parents stands on. It shows a greater ratio,
@@ -110,6 +133,63 @@ impl Search {
         let cycle = self.places.split_at(self.start).1;
         let raise = raise_by(self.measure, self.ratio, constraints, cycle);
         self.shown = self.shown.raised(raise);
+    }
+
+    // Brings the relaxation to the greatest ratio shown, if some ratio may be enough.
+    fn reach_shown(&mut self) -> bool
+        requires search { (constraints : List Constraint) × IsSearch constraints self.old }
+        ensures search { (constraints : List Constraint) → IsSearch constraints self.old
+            → IsSearch constraints self.new }
+        ensures same { IsSameSearch self.old self.new }
+        ensures shown { self.new.shown ≡ self.old.shown }
+        ensures reached { IsTrue result → IsAtShown self.new }
+        ensures never { result ≡ false → IsNeverAtAll self.new.shown }
+    {
+        let Some(ratio) = self.shown.ratio(self.first) else {
+            return false;
+        };
+        let trial = self.measure.trial(ratio);
+        self.relaxation.rescale(self.trial, trial);
+        self.ratio = ratio;
+        self.trial = trial;
+        true
+    }
+
+    // One round: a ring of parents that gains, or else values by the parents and a sweep. False where
+    // there is nothing more to do.
+    fn improve(&mut self, constraints: &[Constraint], marks: &mut [u32]) -> bool
+        requires search { IsSearch constraints.now self.old }
+        requires marks { length marks.old ≡ length self.old.relaxation.parents.items }
+        ensures search { IsSearch constraints.now self.new }
+        ensures same { IsSameSearch self.old self.new }
+        ensures marks { length marks.new ≡ length marks.old }
+    {
+        if let Some(register) = self.relaxation.gaining_ring(constraints, self.trial, marks) {
+            self.take_ring(constraints, register, marks);
+            return self.reach_shown();
+        }
+        self.relaxation.evaluate(constraints, self.trial, marks);
+        self.relaxation
+            .sweep_forwards(constraints, self.trial)
+            .is_some()
+    }
+
+    // Shows the ring of parents above the register where its ratio is greater than what is shown.
+    fn take_ring(&mut self, constraints: &[Constraint], register: u32, marks: &mut [u32])
+        requires search { IsSearch constraints.now self.old }
+        requires register { register < length self.old.relaxation.parents.items }
+        requires marks { length marks.old ≡ length self.old.relaxation.parents.items }
+        ensures search { IsSearch constraints.now self.new }
+        ensures same { IsSameSearch self.old self.new }
+        ensures marks { length marks.new ≡ length marks.old }
+    {
+        if !self.relaxation.have_own_heads(constraints) {
+            return;
+        }
+        if let Some(top) = self.relaxation.climb(constraints, register) {
+            let start = go_round(marks, constraints, self.relaxation.parents.as_slice(), top);
+            self.consider(constraints, marks.split_at(start).1);
+        }
     }
 
     // A constraint that leads back to its own tail is a cycle.

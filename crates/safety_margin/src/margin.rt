@@ -6,7 +6,7 @@ ghost use Rattle.safety_margin.specs.RatioMargins.{IsMarginPeriod};
 
 use crate::ratio::{below_all, margin_at, measure_at};
 use crate::sparing::sparing_schedule;
-use critical_cycle::{Ratio, greatest_ratio_in};
+use critical_cycle::{Ratio, Room, greatest_ratio_in};
 use cts_base::{Fraction, Listed, NoMemory};
 use cts_model::{Constraint, Schedule};
 use std::alloc::Global;
@@ -44,39 +44,26 @@ pub fn greatest_margin(
     ensures margin { IfOk result (IsMarginOf registers constraints.now period) }
     ensures unbounded { IfOk result (λ margin. IsUnbounded margin ↔ HasNoCycle constraints.now) }
 {
-    let values = Listed::from_vec(vec![in alloc; 0i128; registers]?);
-    let parents = Listed::from_vec(vec![in alloc; 0u32; registers]?);
-    let cycle = Listed::from_vec(vec![in alloc; 0u32; registers]?);
+    let room = Room::new(alloc, registers)?;
     let at = Listed::from_vec(vec![in alloc; 0i128; registers]?);
-    Ok(margin_in(values, parents, cycle, at, constraints, period))
+    Ok(margin_in(room, at, constraints, period))
 }
 
-// The same in lists with an entry for each register.
+// The same in room and a list of arrivals for each register.
 fn margin_in(
-    values: Listed<i128>,
-    parents: Listed<u32>,
-    cycle: Listed<u32>,
+    room: Room,
     at: Listed<i128>,
     constraints: &Listed<Constraint>,
     period: Fraction,
 ) -> Margin
     requires small { AreSmallConstraints (length at) constraints.now }
-    requires values { length values ≡ length at }
-    requires parents { length parents ≡ length at }
-    requires cycle { length cycle ≡ length at }
+    requires room { length room.values ≡ length at }
     requires period { IsMarginPeriod period }
     ensures margin { IsMarginOf (length at) constraints.now period result }
     ensures unbounded { IsUnbounded result ↔ HasNoCycle constraints.now }
 {
     let measure = measure_at(period);
-    match greatest_ratio_in(
-        values,
-        parents,
-        cycle,
-        constraints,
-        measure,
-        below_all(period),
-    ) {
+    match greatest_ratio_in(room, constraints, measure, below_all(period)) {
         Ratio::Cycle {
             value: ratio,
             cycle,

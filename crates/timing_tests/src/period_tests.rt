@@ -1,7 +1,7 @@
 use crate::constraint_lists::{constraints_of, hold, list_of, setup};
 use crate::engine_tests::Row;
 use crate::same::expect_same;
-use critical_cycle::{Period, least_period, least_period_in};
+use critical_cycle::{Period, Room, least_period, least_period_in};
 use cts_base::Listed;
 use std::alloc::Global;
 use std::process::Abort;
@@ -110,10 +110,13 @@ fn finds_the_least_period(rt: HostRuntime) -> Result<(), Fail> {
 fn expect_over(rt: &impl Abort, alloc: Global, value: i128, place: u32) -> Result<(), Fail> {
     let constraints = [setup(0, 1, 6), setup(1, 2, 4), setup(2, 0, 3)];
     let list = list_of(rt, alloc, 3, &constraints)?;
-    let values = Listed::from_vec(vec![in alloc; value; 3]?);
-    let parents = Listed::from_vec(vec![in alloc; place; 3]?);
-    let cycle = Listed::from_vec(vec![in alloc; place; 3]?);
-    let period = least_period_in(values, parents, cycle, &list, 1);
+    let room = Room {
+        values: Listed::from_vec(vec![in alloc; value; 3]?),
+        parents: Listed::from_vec(vec![in alloc; place; 3]?),
+        cycle: Listed::from_vec(vec![in alloc; place; 3]?),
+        marks: Listed::from_vec(vec![in alloc; place; 3]?),
+    };
+    let period = least_period_in(room, &list, 1);
     let text = text_of(alloc, &period)?;
     expect_same(rt, text.as_str(), "13/3 0 1 2", &(value, place));
     Ok(())

@@ -37,5 +37,5 @@ returns c =
         shown = subst (λ ps. IsShown before.measure c.args.constraints.now before.first ps
             c.raised-self.result) (sym cycle) shows.0;
       };
-      same = record { measure = refl; first = refl };
+      same = record { measure = refl; first = refl; registers = refl };
     }

@@ -14,7 +14,7 @@ raise_by-raise-requires-clause-ratio c =
     let search = c.requires.search in
     let before = c.args.self.now in
     can_try before.measure c.args.constraints.now before.first _ before.shown before.ratio
-    search.first search.shown c.requires.ring.greatest
+    search.first search.shown c.requires.ring.at_shown.greatest
 
 pub returns : goal.returns
 returns c =
@@ -37,9 +37,9 @@ returns c =
     let steps = constraints_at constraints (drop c.go_round-self.result places) in
     let shows = raise_shows before.measure constraints before.first _
     (drop c.go_round-self.result places) before.shown c.raised-self.result before.ratio
-    c.raise_by-raise.result search.first search.shown ring.greatest c.go_round-self.ensures.within
+    c.raise_by-raise.result search.first search.shown ring.at_shown.greatest c.go_round-self.ensures.within
     c.go_round-self.ensures.cycle
-    (not_kept before.measure before.ratio before.trial steps c.raise_by-raise.result ring.at gains
+    (not_kept before.measure before.ratio before.trial steps c.raise_by-raise.result ring.at_shown.at gains
     judged) judged c.raised-self.ensures in
     record {
       search = record {
@@ -51,6 +51,6 @@ returns c =
         shown = subst (λ ps. IsShown before.measure constraints before.first
             (drop c.go_round-self.result ps) c.raised-self.result) (sym whole) shows.0;
       };
-      same = record { measure = refl; first = refl };
+      same = record { measure = refl; first = refl; registers = refl };
       less = shows.1;
     }
