@@ -19,8 +19,8 @@ use Rattle.cts_engine.specs.declared.scheduling.ScheduleOutcome.TheVariants as s
 use Rattle.cts_engine.specs.Outcomes.{IsPeriodOutcome}
 use Rattle.cts_engine.specs.ScheduleOutcomes.{period_outcome, IsScheduleOutcome}
 use Rattle.report_text.proofs.ReportWords.{AreLines, report_lines_are}
-use Rattle.cts_program.specs.declared.command.table.Form.{Form}
-use Rattle.cts_program.specs.declared.command.table.Form.TheVariants as forms
+use Rattle.command_line.specs.declared.table.Form.{Form}
+use Rattle.command_line.specs.declared.table.Form.TheVariants as forms
 use Rattle.cts_program.specs.Checks.{shown_line}
 use Rattle.cts_program.specs.DemoTexts.{summary_lines, IsSummaryText, IsDemoText}
 use Rattle.cts_program.specs.Headline.{IsTreeText, IsSynthesisText, IsEmbeddingText}

@@ -7,9 +7,9 @@ use Rattle.demo_input.specs.NetlistLines.{netlist_text}
 use Rattle.demo_input.specs.PlacementLines.{placement_text}
 use Rattle.demo_input.specs.TableLines.{table_text}
 use Rattle.cts_model.specs.declared.problem.Problem.{Problem}
-use Rattle.cts_program.specs.declared.command.Command.TheVariants.{Synth}
-use Rattle.cts_program.specs.declared.failure.Failure.{Failure}
-use Rattle.cts_program.specs.declared.failure.Failure.TheVariants as failures
+use Rattle.command_line.specs.declared.command.Command.TheVariants.{Synth}
+use Rattle.failure_lines.specs.declared.failure.Failure.{Failure}
+use Rattle.failure_lines.specs.declared.failure.Failure.TheVariants as failures
 use Rattle.cts_program.specs.Answers.{JoinTooMany, RefusesText, IsRefusal, IsDemoRefusal}
 use Rattle.cts_program.specs.Checks.{AreOfProblem}
 use Rattle.cts_io.specs.NeverFails.{bytes_named}

@@ -1,8 +1,8 @@
 -- The options of the command `demo`.
 use Rattle.std.proofs.Common.{◌≡◌, ◌||◌, Bool, true, false, List, [], ℕ, refl, arith}
 use Rattle.std.specs.Borrow.{Bor}
-use Rattle.cts_program.specs.declared.command.Command.TheVariants.{Demo}
-use Rattle.cts_program.specs.Commands.{is_number_within, HasValidValues}
+use Rattle.command_line.specs.declared.command.Command.TheVariants.{Demo}
+use Rattle.command_line.specs.Commands.{is_number_within, HasValidValues}
 
 -- a test passes where it is the only one that may
 only : (b : Bool) → (b || false) ≡ true → b ≡ true

@@ -7,13 +7,13 @@ use Rattle.cts_model.specs.Topologies.{IsTopology}
 use Rattle.topology_file.specs.declared.fault.TopologyFault.{TopologyFault}
 use Rattle.topology_file.specs.declared.fault.TopologyFault.TheVariants as fault
 use Rattle.topology_file.specs.Refusals.{RefusesTopology}
-use Rattle.cts_program.specs.declared.command.Command.TheVariants.{Embed}
+use Rattle.command_line.specs.declared.command.Command.TheVariants.{Embed}
 use Rattle.cts_program.specs.declared.ending.Answer.{Answer}
-use Rattle.cts_program.specs.declared.failure.Failure.{Failure}
-use Rattle.cts_program.specs.declared.failure.Failure.TheVariants as failures
-use Rattle.cts_program.specs.declared.reading.file_kind.FileKind.TheVariants as kinds
+use Rattle.failure_lines.specs.declared.failure.Failure.{Failure}
+use Rattle.failure_lines.specs.declared.failure.Failure.TheVariants as failures
+use Rattle.failure_lines.specs.declared.file_kind.FileKind.TheVariants as kinds
 use Rattle.cts_program.specs.Answers.{ending_status}
-use Rattle.cts_program.specs.Failures.{topology_failure_of}
+use Rattle.failure_lines.specs.Failures.{topology_failure_of}
 use Rattle.cts_program.specs.Files.{IsShortFile, problem_files}
 use Rattle.cts_program.specs.Run.{DenotesText, Stops}
 use Rattle.cts_program.specs.Steps.{IsReportedAs, DenotesProblem, ReadsTopology, FailsLast, FailsCircuit}

@@ -9,7 +9,7 @@ use Rattle.bench_reader.specs.Refusals as netlist
 use Rattle.delay_tables.specs.declared.fault.TechFault.{TechFault}
 use Rattle.delay_tables.specs.declared.fault.TechFault.TheVariants as tech
 use Rattle.delay_tables.specs.Refusals as table
-use Rattle.cts_program.specs.Failures.{bench_failure_of, tech_failure_of}
+use Rattle.failure_lines.specs.Failures.{bench_failure_of, tech_failure_of}
 use Rattle.cts_program.specs.Files.{IsShortFile}
 use Rattle.cts_program.specs.Steps.{IsReportedAs, FailsNetlist, FailsTable}
 

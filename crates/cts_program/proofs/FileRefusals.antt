@@ -9,16 +9,16 @@ use Rattle.delay_tables.specs.declared.fault.TechFault.{TechFault}
 use Rattle.place_reader.specs.declared.fault.PlaceFault.TheVariants as place
 use Rattle.cts_engine.specs.Accepted.{HasFault, HasTableFault}
 use Rattle.cts_engine.proofs.OneProblem.{table_fine, placement_fine}
-use Rattle.cts_program.specs.declared.command.Command.{Command}
-use Rattle.cts_program.specs.declared.command.Command.TheVariants.{Check, Demo, Embed}
-use Rattle.cts_program.specs.declared.failure.Failure.{Failure}
-use Rattle.cts_program.specs.declared.failure.Failure.TheVariants as failures
-use Rattle.cts_program.specs.declared.reading.file_kind.FileKind.{FileKind}
-use Rattle.cts_program.specs.declared.reading.file_kind.FileKind.TheVariants as kinds
-use Rattle.cts_program.specs.declared.reading.placement.PlacementFault.{PlacementFault}
-use Rattle.cts_program.specs.declared.reading.placement.PlacementFault.TheVariants as placements
+use Rattle.command_line.specs.declared.command.Command.{Command}
+use Rattle.command_line.specs.declared.command.Command.TheVariants.{Check, Demo, Embed}
+use Rattle.failure_lines.specs.declared.failure.Failure.{Failure}
+use Rattle.failure_lines.specs.declared.failure.Failure.TheVariants as failures
+use Rattle.failure_lines.specs.declared.file_kind.FileKind.{FileKind}
+use Rattle.failure_lines.specs.declared.file_kind.FileKind.TheVariants as kinds
+use Rattle.failure_lines.specs.declared.placement_fault.PlacementFault.{PlacementFault}
+use Rattle.failure_lines.specs.declared.placement_fault.PlacementFault.TheVariants as placements
 use Rattle.cts_program.specs.Answers.{RefusesText, IsRefusal}
-use Rattle.cts_program.specs.Failures.{status_of}
+use Rattle.failure_lines.specs.Failures.{status_of}
 use Rattle.cts_program.specs.Files.{IsShortFile, files_of}
 use Rattle.cts_program.specs.Judged.{IsNetlistFile, IsTableFile, IsPlacementFile, AreAccepted, HasPlacementFault, IsNamedFault, IsFileRefusal}
 

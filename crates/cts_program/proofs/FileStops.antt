@@ -1,10 +1,10 @@
 -- How a command stops at a file that can't be read or is too long.
 use Rattle.std.proofs.Common.{◌≡◌, ℕ, List, [], ◌∷◌, ◌++◌, length, Option, subst}
 use Rattle.cts_io.specs.Device.{Rose}
-use Rattle.cts_program.specs.declared.command.Command.{Command}
-use Rattle.cts_program.specs.declared.failure.Failure.{Failure}
-use Rattle.cts_program.specs.declared.failure.Failure.TheVariants as failures
-use Rattle.cts_program.specs.declared.reading.file_kind.FileKind.{FileKind}
+use Rattle.command_line.specs.declared.command.Command.{Command}
+use Rattle.failure_lines.specs.declared.failure.Failure.{Failure}
+use Rattle.failure_lines.specs.declared.failure.Failure.TheVariants as failures
+use Rattle.failure_lines.specs.declared.file_kind.FileKind.{FileKind}
 use Rattle.cts_program.specs.Files.{IsShortFile, files_of, AreContents}
 use Rattle.cts_program.specs.Judged.{AreAccepted, IsFileRefusal}
 use Rattle.cts_program.specs.Run.{CannotRead, Stops}

@@ -2,13 +2,13 @@
 -- read or is refused, or one that holds what is wanted.
 use Rattle.std.proofs.Common.{◌≡◌, ◌++◌, ℕ, inr, List, [], ◌∷◌, length, Option, Bor, refl, sym, ap, subst}
 use Rattle.cts_model.specs.declared.problem.Problem.{Problem}
-use Rattle.cts_program.specs.declared.command.Command.{Command}
-use Rattle.cts_program.specs.declared.failure.Failure.{Failure}
-use Rattle.cts_program.specs.declared.failure.Failure.TheVariants as failures
-use Rattle.cts_program.specs.declared.reading.file_kind.FileKind.{FileKind}
+use Rattle.command_line.specs.declared.command.Command.{Command}
+use Rattle.failure_lines.specs.declared.failure.Failure.{Failure}
+use Rattle.failure_lines.specs.declared.failure.Failure.TheVariants as failures
+use Rattle.failure_lines.specs.declared.file_kind.FileKind.{FileKind}
 use Rattle.cts_program.specs.Answers.{RefusesAccepted, texts_of}
 use Rattle.cts_program.specs.Checks.{AreOfProblem, EndWith}
-use Rattle.cts_program.specs.CommandTable.{form_of}
+use Rattle.command_line.specs.CommandTable.{form_of}
 use Rattle.cts_program.specs.Files.{IsShortFile, problem_files, files_of, AreContents, AreAll}
 use Rattle.cts_program.specs.Run.{CannotRead, Stops}
 use Rattle.cts_program.specs.Steps.{IsReportedAs, FailsToReadFile, FailsLast, DenotesProblem}

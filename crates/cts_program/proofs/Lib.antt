@@ -5,7 +5,6 @@ mod TextLines
 mod TextCounts
 mod AnswerTexts
 mod CycleRegisters
-mod PieceLemmas
 mod FileLemmas
 mod PlainDelays
 mod TreeTexts
@@ -19,12 +18,6 @@ mod LastFiles
 mod CheckLemmas
 mod EmbedLemmas
 mod ReasonLemmas
-mod PlainWordTests
-mod NumberWords
-mod GivenOptions
-mod PlainCommands
-mod ParserWalk
-mod CommandParsers
 mod OneAnswer
 mod TextStatuses
 mod ShownVerdicts

@@ -8,16 +8,16 @@ use Rattle.cts_model.specs.PlainTable.{IsPlainTable}
 use Rattle.cts_model.specs.PrintedLines.{text_of}
 use Rattle.cts_model.proofs.OneRecord.{same_tech}
 use Rattle.cts_engine.proofs.OneProblem.{one_netlist, one_both}
-use Rattle.cts_program.specs.declared.command.Command.{Command}
-use Rattle.cts_program.specs.declared.command.Command.TheVariants.{Zero, Period, Schedule, Synth, Check, Demo, Embed}
-use Rattle.cts_program.specs.declared.command.table.Form.{Form}
-use Rattle.cts_program.specs.declared.command.table.Form.TheVariants as forms
+use Rattle.command_line.specs.declared.command.Command.{Command}
+use Rattle.command_line.specs.declared.command.Command.TheVariants.{Zero, Period, Schedule, Synth, Check, Demo, Embed}
+use Rattle.command_line.specs.declared.table.Form.{Form}
+use Rattle.command_line.specs.declared.table.Form.TheVariants as forms
 use Rattle.cts_program.specs.Answers.{TellWith, TellProblemWith, texts_for, IsText}
 use Rattle.cts_program.specs.Checks.{shown_line, EndWith, IsShownReport}
-use Rattle.cts_program.specs.Commands.{Given, number_of, options_of}
+use Rattle.command_line.specs.Commands.{Given, number_of, options_of}
 use Rattle.cts_program.specs.DemoTexts.{IsDemoText}
 use Rattle.cts_program.specs.Judged.{AreAccepted, Tell}
-use Rattle.cts_program.specs.CommandTable.{form_of}
+use Rattle.command_line.specs.CommandTable.{form_of}
 use Rattle.cts_program.specs.PeriodTexts.{IsPeriodText}
 use Rattle.cts_program.specs.ScheduleTexts.{IsScheduleText}
 use Rattle.cts_program.specs.SynthTexts.{IsSynthText}

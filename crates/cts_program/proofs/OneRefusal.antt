@@ -8,22 +8,22 @@ use Rattle.cert_check.specs.Verdicts.{IsVerdict}
 use Rattle.cert_check.specs.declared.verdict.Verdict.TheVariants.{Not}
 use Rattle.report_text.specs.Laws.{OneReport, OneFault, NoFaultOfReport}
 use Rattle.cts_engine.proofs.OneProblem.{one_problem}
-use Rattle.cts_program.specs.declared.command.Command.{Command}
-use Rattle.cts_program.specs.declared.command.Command.TheVariants.{Check, Embed}
-use Rattle.cts_program.specs.declared.command.table.Form.{Form}
-use Rattle.cts_program.specs.declared.command.table.Form.TheVariants as forms
-use Rattle.cts_program.specs.declared.failure.Failure.{Failure}
-use Rattle.cts_program.specs.declared.failure.Failure.TheVariants as failures
-use Rattle.cts_program.specs.declared.not_shown.NotShown.TheVariants as why
-use Rattle.cts_program.specs.declared.reading.file_kind.FileKind.TheVariants as kinds
+use Rattle.command_line.specs.declared.command.Command.{Command}
+use Rattle.command_line.specs.declared.command.Command.TheVariants.{Check, Embed}
+use Rattle.command_line.specs.declared.table.Form.{Form}
+use Rattle.command_line.specs.declared.table.Form.TheVariants as forms
+use Rattle.failure_lines.specs.declared.failure.Failure.{Failure}
+use Rattle.failure_lines.specs.declared.failure.Failure.TheVariants as failures
+use Rattle.failure_lines.specs.declared.not_shown.NotShown.TheVariants as why
+use Rattle.failure_lines.specs.declared.file_kind.FileKind.TheVariants as kinds
 use Rattle.cts_program.specs.Answers.{JoinTooMany, RefusesText, RefusesAccepted, IsRefusal, IsAccepted, IsStatusOf, texts_for, texts_of}
 use Rattle.cts_program.specs.Checks.{EndWith, IsShownReport, RefusesReport}
-use Rattle.cts_program.specs.Commands.{Given, options_of}
-use Rattle.cts_program.specs.Failures.{status_of}
+use Rattle.command_line.specs.Commands.{Given, options_of}
+use Rattle.failure_lines.specs.Failures.{status_of}
 use Rattle.cts_program.specs.Files.{files_of, AreAll}
 use Rattle.cts_program.specs.Judged.{AreAccepted, TellProblem}
 use Rattle.cts_program.specs.TopologyFiles.{IsAcceptedFor, RefusesEmbedding}
-use Rattle.cts_program.specs.CommandTable.{form_of}
+use Rattle.command_line.specs.CommandTable.{form_of}
 use Rattle.cts_program.proofs.FileRefusals.{Agree, agree_same, agree_self, agree_rotated, agree_prefixes, file_status, text_not_refused}
 use Rattle.cts_program.proofs.OneAnswer.{Answers, one_denoted}
 use Rattle.cts_program.proofs.PlacementLemmas.{problem_denoted}

@@ -12,14 +12,14 @@ use Rattle.cts_engine.specs.Accepted.{TellBoth}
 use Rattle.place_reader.specs.declared.fault.PlaceFault.{PlaceFault}
 use Rattle.place_reader.specs.declared.fault.PlaceFault.TheVariants as place
 use Rattle.place_reader.specs.Refusals.{HasNoPlace, RefusesPlacement}
-use Rattle.cts_program.specs.declared.command.Command.{Command}
-use Rattle.cts_program.specs.declared.command.Command.TheVariants.{Synth}
+use Rattle.command_line.specs.declared.command.Command.{Command}
+use Rattle.command_line.specs.declared.command.Command.TheVariants.{Synth}
 use Rattle.cts_program.specs.declared.ending.Answer.{Answer}
-use Rattle.cts_program.specs.declared.failure.Failure.{Failure}
-use Rattle.cts_program.specs.declared.failure.Failure.TheVariants as failures
-use Rattle.cts_program.specs.declared.reading.file_kind.FileKind.TheVariants as kinds
+use Rattle.failure_lines.specs.declared.failure.Failure.{Failure}
+use Rattle.failure_lines.specs.declared.failure.Failure.TheVariants as failures
+use Rattle.failure_lines.specs.declared.file_kind.FileKind.TheVariants as kinds
 use Rattle.cts_program.specs.Answers.{ending_status}
-use Rattle.cts_program.specs.declared.reading.file_kind.FileKind.{FileKind}
+use Rattle.failure_lines.specs.declared.file_kind.FileKind.{FileKind}
 use Rattle.cts_program.specs.Files.{IsShortFile, circuit_files, problem_files, files_of, AreContents}
 use Rattle.cts_program.specs.Judged.{IsNetlistFile, IsTableFile, AreAccepted, IsFileRefusal, Tell, TellProblem}
 use Rattle.cts_program.specs.Run.{DenotesText, Stops}

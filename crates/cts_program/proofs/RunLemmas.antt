@@ -5,27 +5,27 @@ use Rattle.std.proofs.lemmas.Bool.Decides.{eqb_tells}
 use Rattle.std.proofs.lemmas.List.{append_cancel_left}
 use Rattle.std.proofs.lemmas.List.Elements.{All-head, All-drop}
 use Rattle.cts_io.specs.Device.{Rose, appended, WritesPrefix}
-use Rattle.cts_program.specs.declared.command.Command.{Command}
-use Rattle.cts_program.specs.declared.command.WordsFault.{WordsFault}
-use Rattle.cts_program.specs.declared.command.WordsFault.TheVariants as word_faults
+use Rattle.command_line.specs.declared.command.Command.{Command}
+use Rattle.command_line.specs.declared.command.WordsFault.{WordsFault}
+use Rattle.command_line.specs.declared.command.WordsFault.TheVariants as word_faults
 use Rattle.cts_program.specs.declared.ending.Ending.{Ending}
 use Rattle.cts_program.specs.declared.ending.Ending.TheVariants.{Done, Never}
-use Rattle.cts_program.specs.declared.failure.Failure.{Failure}
-use Rattle.cts_program.specs.declared.failure.Failure.TheVariants.{Usage, TooLong, Unshown, ReadFault, WriteFault, NoMemory}
-use Rattle.cts_program.specs.declared.reading.file_kind.FileKind.{FileKind}
-use Rattle.cts_program.specs.declared.reading.file_kind.FileKind.TheVariants.{Report}
-use Rattle.cts_program.specs.declared.command.table.Form.{Form}
+use Rattle.failure_lines.specs.declared.failure.Failure.{Failure}
+use Rattle.failure_lines.specs.declared.failure.Failure.TheVariants.{Usage, TooLong, Unshown, ReadFault, WriteFault, NoMemory}
+use Rattle.failure_lines.specs.declared.file_kind.FileKind.{FileKind}
+use Rattle.failure_lines.specs.declared.file_kind.FileKind.TheVariants.{Report}
+use Rattle.command_line.specs.declared.table.Form.{Form}
 use Rattle.cts_program.specs.Answers.{ending_status, texts_for, RefusesText, RefusesAccepted, IsAnswer, IsRefusal, IsAccepted, IsStatusOf, FindsNoPeriod}
-use Rattle.cts_program.specs.Commands.{Given, options_of, IsCommand, IsSame}
-use Rattle.cts_program.specs.Failures.{words_failure_of, status_of}
+use Rattle.command_line.specs.Commands.{Given, options_of, IsCommand, IsSame}
+use Rattle.failure_lines.specs.Failures.{words_failure_of, status_of}
 use Rattle.cts_program.specs.Files.{files_of, AreAll, AreContents, AreDenoted}
-use Rattle.cts_program.specs.CommandTable.{form_of}
+use Rattle.command_line.specs.CommandTable.{form_of}
 use Rattle.cts_program.specs.Run.{IsNoCommand, DenotesText, RefusesCommand, CannotRead, EndsInPart, Fails, NoneRose}
 use Rattle.cts_program.proofs.AnswerTexts.{IsTextOf}
 use Rattle.cts_program.proofs.FileRefusals.{Agree, agree_same, agree_rotated}
 use Rattle.cts_program.proofs.OneAnswer.{Answers, answer_of, one_status, no_answer_prefix, some_text}
 use Rattle.cts_program.proofs.OneRefusal.{ReportLaws, answer_not_refused, one_refusal_status, accepted_refusal}
-use Rattle.cts_program.proofs.PlainCommands.{one_command, same_form}
+use Rattle.command_line.proofs.PlainCommands.{one_command, same_form}
 use Rattle.cts_program.proofs.SameFiles.{same_files, denoted_contents, contents_within, denoted_agree}
 use Rattle.cts_program.proofs.TextStatuses.{text_status, finds_no_period, finds_all, finds_period}
 

@@ -2,14 +2,14 @@
 use Rattle.std.proofs.Common.{ℕ, ◌≡◌, ◌≤◌, if◌then◌else◌, List, [], ◌∷◌, length, Option, Some, None, IfSome, codes, refl, ap, sym, ◌∙◌, subst, arith}
 use Rattle.std.specs.List.{flat_map}
 use Rattle.std.specs.Str.{bytes_eq}
-use Rattle.cts_program.specs.declared.command.Command.{Command}
-use Rattle.cts_program.specs.declared.command.Command.TheVariants.{Zero}
-use Rattle.cts_program.specs.declared.reading.file_kind.FileKind.{FileKind}
-use Rattle.cts_program.specs.declared.reading.file_kind.FileKind.TheVariants.{Bench, Tech, Placement, Report, Topology}
-use Rattle.cts_program.specs.Commands.{Given, options_of, IsSame, IsCommand}
+use Rattle.command_line.specs.declared.command.Command.{Command}
+use Rattle.command_line.specs.declared.command.Command.TheVariants.{Zero}
+use Rattle.failure_lines.specs.declared.file_kind.FileKind.{FileKind}
+use Rattle.failure_lines.specs.declared.file_kind.FileKind.TheVariants.{Bench, Tech, Placement, Report, Topology}
+use Rattle.command_line.specs.Commands.{Given, options_of, IsSame, IsCommand}
 use Rattle.cts_program.specs.Files.{files_of, AreContents, AreDenoted}
 use Rattle.cts_program.proofs.FileRefusals.{Agree}
-use Rattle.cts_program.proofs.PlainCommands.{one_command}
+use Rattle.command_line.proofs.PlainCommands.{one_command}
 
 -- the file that an option names, if it names one
 abbrev file_of : Given → List (FileKind × List ℕ)

@@ -4,14 +4,14 @@ use Rattle.std.proofs.Common.{◌≡◌, ◌⊎◌, inl, inr, ℕ, Bool, true, f
 use Rattle.cts_model.specs.declared.circuit.Circuit.{Circuit}
 use Rattle.cts_model.specs.declared.tech.Tech.{Tech}
 use Rattle.cts_model.specs.LeastPeriods.{HasNoPeriod}
-use Rattle.cts_program.specs.declared.command.Command.{Command}
-use Rattle.cts_program.specs.declared.command.Command.TheVariants.{Zero, Check}
+use Rattle.command_line.specs.declared.command.Command.{Command}
+use Rattle.command_line.specs.declared.command.Command.TheVariants.{Zero, Check}
 use Rattle.cts_program.specs.declared.ending.Ending.{Ending}
 use Rattle.cts_program.specs.declared.ending.Ending.TheVariants as endings
 use Rattle.cts_program.specs.Answers.{ending_status, TellWith, texts_for, IsStatusOf, FindsNoPeriod}
-use Rattle.cts_program.specs.Commands.{options_of}
+use Rattle.command_line.specs.Commands.{options_of}
 use Rattle.cts_program.specs.Files.{AreAll}
-use Rattle.cts_program.specs.CommandTable.{form_of}
+use Rattle.command_line.specs.CommandTable.{form_of}
 use Rattle.cts_program.proofs.AnswerTexts.{looks_for_period, SaysOfPeriods, IsTextOf}
 use Rattle.cts_program.proofs.OneAnswer.{Answers, one_denoted}
 

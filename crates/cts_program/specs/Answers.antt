@@ -6,17 +6,17 @@ use Rattle.cts_model.specs.declared.tech.Tech.{Tech}
 use Rattle.cts_model.specs.LeastPeriods.{HasNoPeriod}
 use Rattle.cts_model.specs.PairLists.{JoinsMoreThan}
 use Rattle.cts_model.specs.PrintedLines.{text_of}
-use Rattle.cts_program.specs.declared.command.Command.{Command}
-use Rattle.cts_program.specs.declared.command.Command.TheVariants.{Zero, Period, Schedule, Synth, Check, Demo, Embed}
-use Rattle.cts_program.specs.declared.command.table.Form.{Form}
-use Rattle.cts_program.specs.declared.command.table.Form.TheVariants as forms
+use Rattle.command_line.specs.declared.command.Command.{Command}
+use Rattle.command_line.specs.declared.command.Command.TheVariants.{Zero, Period, Schedule, Synth, Check, Demo, Embed}
+use Rattle.command_line.specs.declared.table.Form.{Form}
+use Rattle.command_line.specs.declared.table.Form.TheVariants as forms
 use Rattle.cts_program.specs.declared.ending.Ending.{Ending}
 use Rattle.cts_program.specs.declared.ending.Ending.TheVariants.{Done, Never}
-use Rattle.cts_program.specs.declared.failure.Failure.{Failure}
-use Rattle.cts_program.specs.declared.failure.Failure.TheVariants.{Pairs}
+use Rattle.failure_lines.specs.declared.failure.Failure.{Failure}
+use Rattle.failure_lines.specs.declared.failure.Failure.TheVariants.{Pairs}
 use Rattle.cts_program.specs.Checks.{shown_line, EndWith, IsShownReport, RefusesReport}
-use Rattle.cts_program.specs.CommandTable.{form_of}
-use Rattle.cts_program.specs.Commands.{Given, number_of, options_of}
+use Rattle.command_line.specs.CommandTable.{form_of}
+use Rattle.command_line.specs.Commands.{Given, number_of, options_of}
 use Rattle.cts_program.specs.DemoTexts.{demo_texts, IsDemoText}
 use Rattle.cts_program.specs.Files.{AreAll}
 use Rattle.cts_program.specs.Judged.{AreAccepted, IsFileRefusal, Tell, TellProblem}

@@ -14,10 +14,10 @@ use Rattle.cert_check.specs.declared.verdict.Verdict.TheVariants.{Not}
 use Rattle.cert_check.specs.Verdicts.{IsVerdict}
 use Rattle.report_text.specs.declared.fault.ReportFault.TheVariants as fault
 use Rattle.report_text.specs.ReportFaults.{HasFault}
-use Rattle.cts_program.specs.declared.failure.Failure.{Failure}
-use Rattle.cts_program.specs.declared.failure.Failure.TheVariants.{TooLong, Unshown}
-use Rattle.cts_program.specs.declared.not_shown.NotShown.TheVariants as why
-use Rattle.cts_program.specs.declared.reading.file_kind.FileKind.TheVariants.{Report}
+use Rattle.failure_lines.specs.declared.failure.Failure.{Failure}
+use Rattle.failure_lines.specs.declared.failure.Failure.TheVariants.{TooLong, Unshown}
+use Rattle.failure_lines.specs.declared.not_shown.NotShown.TheVariants as why
+use Rattle.failure_lines.specs.declared.file_kind.FileKind.TheVariants.{Report}
 use Rattle.cts_program.specs.Files.{IsShortFile}
 use Rattle.cts_program.specs.Judged.{AreAccepted, TellProblem}
 

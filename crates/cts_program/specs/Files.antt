@@ -1,18 +1,10 @@
 -- The files that a command reads, and what is known of their contents.
 use Rattle.std.specs.Prelude.{◌≡◌, ◌≤◌, ℕ, List, [], ◌∷◌, ◌++◌, map, length, Option, Some, IfSome, option_to_list, codes}
 use Rattle.std.specs.Borrow.{Bor}
-use Rattle.cts_program.specs.declared.reading.file_kind.FileKind.{FileKind}
-use Rattle.cts_program.specs.declared.reading.file_kind.FileKind.TheVariants.{Bench, Tech, Placement, Report, Topology}
-use Rattle.cts_program.specs.declared.command.Command.{Command}
-use Rattle.cts_program.specs.declared.command.Command.TheVariants.{Zero, Period, Schedule, Synth, Check, Demo, Embed}
-
--- the word for a kind of file on the error output
-abbrev pub kind_word : FileKind → List ℕ
-kind_word Bench = codes "bench"
-kind_word Tech = codes "tech"
-kind_word Placement = codes "pl"
-kind_word Report = codes "report"
-kind_word Topology = codes "topology"
+use Rattle.failure_lines.specs.declared.file_kind.FileKind.{FileKind}
+use Rattle.failure_lines.specs.declared.file_kind.FileKind.TheVariants.{Bench, Tech, Placement, Report, Topology}
+use Rattle.command_line.specs.declared.command.Command.{Command}
+use Rattle.command_line.specs.declared.command.Command.TheVariants.{Zero, Period, Schedule, Synth, Check, Demo, Embed}
 
 -- the files that tell a circuit: a netlist and, if one is named, a delay table
 abbrev pub circuit_files : Bor (List ℕ) → Option (Bor (List ℕ)) → List (FileKind × List ℕ)

@@ -12,11 +12,11 @@ use Rattle.place_reader.specs.declared.fault.PlaceFault.{PlaceFault}
 use Rattle.place_reader.specs.declared.fault.PlaceFault.TheVariants as place
 use Rattle.place_reader.specs.Refusals as placement
 use Rattle.cts_engine.specs.Accepted.{TellBoth, TellAll, IsTableOf, IsPlacementOf, HasFault, HasTableFault}
-use Rattle.cts_program.specs.declared.failure.Failure.{Failure}
-use Rattle.cts_program.specs.declared.failure.Failure.TheVariants as failures
-use Rattle.cts_program.specs.declared.reading.file_kind.FileKind.TheVariants as kinds
-use Rattle.cts_program.specs.declared.reading.placement.PlacementFault.{PlacementFault}
-use Rattle.cts_program.specs.declared.reading.placement.PlacementFault.TheVariants.{BadLine, BadNumber, PlaceTwice, NoPlace, NoSource}
+use Rattle.failure_lines.specs.declared.failure.Failure.{Failure}
+use Rattle.failure_lines.specs.declared.failure.Failure.TheVariants as failures
+use Rattle.failure_lines.specs.declared.file_kind.FileKind.TheVariants as kinds
+use Rattle.failure_lines.specs.declared.placement_fault.PlacementFault.{PlacementFault}
+use Rattle.failure_lines.specs.declared.placement_fault.PlacementFault.TheVariants.{BadLine, BadNumber, PlaceTwice, NoPlace, NoSource}
 use Rattle.cts_program.specs.Files.{IsShortFile}
 
 -- the file holds a netlist

@@ -1,15 +1,10 @@
 pub mod Answers
 pub mod Checks
-pub mod CommandTable
-pub mod Commands
 pub mod DemoTexts
-pub mod Failures
 pub mod Files
 pub mod Headline
 pub mod Judged
-pub mod Parsers
 pub mod PeriodTexts
-pub mod PlainWords
 pub mod Run
 pub mod ScheduleTexts
 pub mod Steps

@@ -1,12 +1,12 @@
 -- What the program makes of the words after its name, the files that they name, and its output.
 use Rattle.std.specs.Prelude.{◌≡◌, ◌≢◌, ◌<◌, ◌⊎◌, ℕ, true, List, ◌∷◌, ◌++◌, length, All, Option, Some}
 use Rattle.cts_io.specs.Device.{Rose, appended, WritesPrefix}
-use Rattle.cts_program.specs.declared.command.Command.{Command}
-use Rattle.cts_program.specs.declared.failure.Failure.{Failure}
-use Rattle.cts_program.specs.declared.failure.Failure.TheVariants.{Usage, ReadFault, WriteFault, NoMemory}
-use Rattle.cts_program.specs.declared.reading.file_kind.FileKind.{FileKind}
-use Rattle.cts_program.specs.Commands.{IsCommand}
-use Rattle.cts_program.specs.Failures.{status_of, failure_line, Reports}
+use Rattle.command_line.specs.declared.command.Command.{Command}
+use Rattle.failure_lines.specs.declared.failure.Failure.{Failure}
+use Rattle.failure_lines.specs.declared.failure.Failure.TheVariants.{Usage, ReadFault, WriteFault, NoMemory}
+use Rattle.failure_lines.specs.declared.file_kind.FileKind.{FileKind}
+use Rattle.command_line.specs.Commands.{IsCommand}
+use Rattle.failure_lines.specs.Failures.{status_of, failure_line, Reports}
 use Rattle.cts_program.specs.Files.{files_of, AreAll, AreContents}
 use Rattle.cts_program.specs.Judged.{AreAccepted}
 use Rattle.cts_program.specs.Answers.{is_ending, IsAnswer, IsRefusal, IsAccepted, IsStatusOf, FindsNoPeriod}

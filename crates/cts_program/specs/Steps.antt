@@ -20,17 +20,17 @@ use Rattle.delay_tables.specs.Refusals.{RefusesTable}
 use Rattle.place_reader.specs.declared.fault.PlaceFault.{PlaceFault}
 use Rattle.topology_file.specs.TopologyTexts.{AcceptsTopology}
 use Rattle.cts_engine.specs.Accepted.{HasFault}
-use Rattle.cts_program.specs.declared.failure.Failure.{Failure}
-use Rattle.cts_program.specs.declared.failure.Failure.TheVariants as failures
-use Rattle.cts_program.specs.declared.reading.file_kind.FileKind.{FileKind}
-use Rattle.cts_program.specs.declared.reading.file_kind.FileKind.TheVariants as kinds
+use Rattle.failure_lines.specs.declared.failure.Failure.{Failure}
+use Rattle.failure_lines.specs.declared.failure.Failure.TheVariants as failures
+use Rattle.failure_lines.specs.declared.file_kind.FileKind.{FileKind}
+use Rattle.failure_lines.specs.declared.file_kind.FileKind.TheVariants as kinds
 use Rattle.std.specs.Borrow.{Bor}
-use Rattle.cts_program.specs.declared.command.Command.{Command}
+use Rattle.command_line.specs.declared.command.Command.{Command}
 use Rattle.cert_check.specs.declared.verdict.Reason.{Reason}
 use Rattle.cert_check.specs.declared.verdict.Reason.TheVariants as reason
 use Rattle.cert_check.specs.declared.verdict.Verdict.TheVariants.{Not}
 use Rattle.cert_check.specs.Verdicts.{IsVerdict}
-use Rattle.cts_program.specs.declared.not_shown.NotShown.TheVariants as why
+use Rattle.failure_lines.specs.declared.not_shown.NotShown.TheVariants as why
 use Rattle.cts_program.specs.Answers.{IsDemoRefusal}
 use Rattle.cts_program.specs.Checks.{AreOfProblem, subject_of}
 use Rattle.cts_program.specs.Files.{IsShortFile, circuit_files, problem_files, files_of, AreContents}

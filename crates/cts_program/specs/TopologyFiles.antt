@@ -7,9 +7,9 @@ use Rattle.cts_model.specs.PairLists.{JoinsMoreThan}
 use Rattle.topology_file.specs.declared.fault.TopologyFault.TheVariants.{NoMemory}
 use Rattle.topology_file.specs.Refusals.{RefusesTopology}
 use Rattle.topology_file.specs.TopologyTexts.{AcceptsTopology}
-use Rattle.cts_program.specs.declared.failure.Failure.{Failure}
-use Rattle.cts_program.specs.declared.failure.Failure.TheVariants.{TooLong, Topology, Pairs}
-use Rattle.cts_program.specs.declared.reading.file_kind.FileKind.TheVariants as kinds
+use Rattle.failure_lines.specs.declared.failure.Failure.{Failure}
+use Rattle.failure_lines.specs.declared.failure.Failure.TheVariants.{TooLong, Topology, Pairs}
+use Rattle.failure_lines.specs.declared.file_kind.FileKind.TheVariants as kinds
 use Rattle.cts_program.specs.Files.{IsShortFile}
 use Rattle.cts_program.specs.SynthTexts.{IsEmbedText}
 

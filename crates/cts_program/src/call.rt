@@ -3,17 +3,17 @@
 ghost use Rattle.std.specs.Prelude.{◌≡◌, ◌≢◌, ℕ, List, map, drop, true, string_bytes, IfOk, IfErr};
 ghost use Rattle.std.specs.IoError.{error_kind};
 ghost use Rattle.std.specs.Process.{exit_status};
-ghost use Rattle.cts_program.specs.declared.command.Command.{Command};
-ghost use Rattle.cts_program.specs.declared.failure.Failure.{Failure};
+ghost use Rattle.command_line.specs.declared.command.Command.{Command};
+ghost use Rattle.failure_lines.specs.declared.failure.Failure.{Failure};
 ghost use Rattle.cts_program.specs.Answers.{is_ending};
-ghost use Rattle.cts_program.specs.Commands.{IsCommand};
-ghost use Rattle.cts_program.specs.Failures.{status_of, failure_line, Reports};
+ghost use Rattle.command_line.specs.Commands.{IsCommand};
+ghost use Rattle.failure_lines.specs.Failures.{status_of, failure_line, Reports};
 ghost use Rattle.cts_program.specs.Files.{files_of, AreDenoted};
 ghost use Rattle.cts_program.specs.Run.{Ends, EndsFor, Keeps, Reported, ShowsFaults};
 
-use crate::failure::Failure;
 use crate::run::run;
 use cts_io::{Inputs, Sink};
+use failure_lines::Failure;
 use std::alloc::Global;
 use std::io;
 use std::io::ErrorKind;

@@ -9,11 +9,10 @@ ghost use Rattle.cts_program.specs.Checks.{shown_line, subject_of};
 ghost use Rattle.cts_program.specs.Steps.{IsRegisterReason, FailsToShow};
 
 use crate::ending::Answer;
-use crate::failure::Failure;
-use crate::not_shown::NotShown;
 use crate::reading::copied;
 use cert_check::{Reason, Verdict};
 use cts_model::{Circuit, Problem, Report};
+use failure_lines::{Failure, NotShown};
 use report_text::push_line;
 use std::alloc::Global;
 

@@ -10,12 +10,11 @@ ghost use Rattle.cts_model.specs.Shown.{IsShown};
 ghost use Rattle.cert_check.specs.Verdicts.{IsVerdict};
 ghost use Rattle.cts_program.specs.Answers.{ending_status, IsDemoAnswer};
 ghost use Rattle.cts_program.specs.Checks.{AreOfProblem};
-ghost use Rattle.cts_program.specs.Commands.{number_of, is_number_within};
+ghost use Rattle.command_line.specs.Commands.{number_of, is_number_within};
 ghost use Rattle.cts_program.specs.DemoTexts.{demo_texts, demo_files, summary_lines, IsDemoText};
 ghost use Rattle.cts_program.specs.Steps.{FailsCircuit, FailsDemo};
 
 use crate::ending::Answer;
-use crate::failure::Failure;
 use crate::reading::{copied, read_problem};
 use cert_check::Verdict;
 use cts_base::{Listed, NoMemory};
@@ -23,6 +22,7 @@ use cts_engine::{Outcome, synthesize};
 use cts_io::{HeldFile, NeverFails};
 use cts_model::{Problem, Report};
 use demo_input::Demo;
+use failure_lines::Failure;
 use report_text::{push_count, push_line, push_period, push_total};
 use std::alloc::Global;
 

@@ -3,11 +3,8 @@
 
 mod call;
 mod check;
-mod command;
 mod demo;
 mod ending;
-mod failure;
-mod not_shown;
 mod period;
 mod reading;
 mod run;

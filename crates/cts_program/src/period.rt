@@ -13,11 +13,11 @@ ghost use Rattle.cts_program.specs.PeriodTexts.{found_lines, period_lines, outco
 ghost use Rattle.cts_program.specs.Steps.{FailsCircuit};
 
 use crate::ending::Answer;
-use crate::failure::Failure;
 use crate::zero::push_zero;
 use cts_base::{Fraction, NoMemory};
 use cts_engine::{Denoted, PeriodOutcome, period_of};
 use cts_model::{Circuit, PeriodShow, ZeroSkew};
+use failure_lines::Failure;
 use report_text::{push_period, push_show};
 use std::alloc::Global;
 

@@ -2,13 +2,11 @@
 //! denote.
 
 mod circuit;
-mod file_kind;
 mod files;
 mod placement;
 mod problem;
 
 pub use circuit::read_circuit;
-pub use file_kind::FileKind;
 pub use files::{read_report_file, read_topology_file};
-pub use placement::{PlacementFault, copied};
+pub use placement::copied;
 pub use problem::read_problem;

@@ -1,26 +1,26 @@
 ghost use Rattle.std.specs.Prelude.{◌≡◌, ◌≢◌, ◌⊎◌, ◌↔◌, ◌<◌, ℕ, List, map, true, Some, string_bytes, IfOk, IfErr, IsErrOf};
 ghost use Rattle.cts_io.specs.Device.{Rose, appended};
-ghost use Rattle.cts_program.specs.declared.command.Command.{Command};
-ghost use Rattle.cts_program.specs.declared.failure.Failure.{Failure};
-ghost use Rattle.cts_program.specs.declared.reading.file_kind.FileKind.{FileKind};
+ghost use Rattle.command_line.specs.declared.command.Command.{Command};
+ghost use Rattle.failure_lines.specs.declared.failure.Failure.{Failure};
+ghost use Rattle.failure_lines.specs.declared.file_kind.FileKind.{FileKind};
 ghost use Rattle.cts_program.specs.Answers.{is_ending, ending_status};
-ghost use Rattle.cts_program.specs.Commands.{HasValidValues, IsCommand};
-ghost use Rattle.cts_program.specs.Failures.{status_of};
+ghost use Rattle.command_line.specs.Commands.{HasValidValues, IsCommand};
+ghost use Rattle.failure_lines.specs.Failures.{status_of};
 ghost use Rattle.cts_program.specs.Files.{files_of, AreDenoted};
 ghost use Rattle.cts_program.specs.Run.{IsNoCommand, DenotesText, RefusesCommand, CannotRead, Stops, Ends, EndsFor, EndsInPart, Fails, Keeps, Reported, ShowsFaults};
 ghost use Rattle.cts_program.specs.Steps.{IsAnyReadFault};
 
 use crate::check::check;
-use crate::command::{Command, read_command};
 use crate::demo::demo;
 use crate::ending::{Answer, Ending};
-use crate::failure::Failure;
 use crate::period::period;
 use crate::reading::{read_circuit, read_problem, read_report_file, read_topology_file};
 use crate::scheduling::schedule;
 use crate::synth::{embed, synth};
 use crate::zero::zero;
+use command_line::{Command, read_command};
 use cts_io::{Inputs, Sink, write_whole};
+use failure_lines::Failure;
 use report_text::laws;
 use std::alloc::Global;
 

@@ -12,11 +12,11 @@ ghost use Rattle.cts_program.specs.ScheduleTexts.{IsSmallSchedule, register_line
 ghost use Rattle.cts_program.specs.Steps.{FailsCircuit};
 
 use crate::ending::Answer;
-use crate::failure::Failure;
 use crate::period::push_found;
 use cts_base::NoMemory;
 use cts_engine::{Denoted, ScheduleOutcome, schedule_of};
 use cts_model::{Circuit, Schedule, Slack};
+use failure_lines::Failure;
 use report_text::{push_count, push_register};
 use std::alloc::Global;
 

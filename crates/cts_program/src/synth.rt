@@ -11,10 +11,10 @@ ghost use Rattle.cts_program.specs.Steps.{FailsCircuit};
 ghost use Rattle.cts_program.specs.SynthTexts.{IsOutcomeText, IsSynthText, IsEmbedText};
 
 use crate::ending::Answer;
-use crate::failure::Failure;
 use cts_base::NoMemory;
 use cts_engine::{Outcome, synthesize, synthesize_with};
 use cts_model::{Problem, Topology};
+use failure_lines::Failure;
 use report_text::write_report;
 use std::alloc::Global;
 

@@ -10,10 +10,10 @@ ghost use Rattle.cts_program.specs.Steps.{FailsCircuit};
 ghost use Rattle.cts_program.specs.Texts.{zero_line, reason_line, zero_lines, IsZeroText};
 
 use crate::ending::Answer;
-use crate::failure::Failure;
 use cts_base::NoMemory;
 use cts_engine::{Denoted, zero_of};
 use cts_model::{Circuit, Tech, ZeroSkew};
+use failure_lines::Failure;
 use report_text::{push_constraint, push_line, push_value};
 use std::alloc::Global;
 

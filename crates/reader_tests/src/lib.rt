@@ -7,6 +7,8 @@ mod base_tests;
 #[cfg(test)]
 mod bench_tests;
 #[cfg(test)]
+mod command_tests;
+#[cfg(test)]
 mod demo_tests;
 #[cfg(test)]
 mod device_tests;

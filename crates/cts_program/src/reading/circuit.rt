@@ -4,16 +4,16 @@ ghost use Rattle.std.specs.Prelude.{◌≡◌, ◌≢◌, ◌↔◌, ℕ, IsTrue
 ghost use Rattle.cts_model.specs.Circuits.{has_host};
 ghost use Rattle.cts_model.specs.Paths.{IsLoop};
 ghost use Rattle.cts_model.specs.Problems.{GivesUsedKinds};
-ghost use Rattle.cts_program.specs.declared.command.Command.{Command};
+ghost use Rattle.command_line.specs.declared.command.Command.{Command};
 ghost use Rattle.cts_program.specs.Files.{circuit_files};
 ghost use Rattle.cts_program.specs.Run.{Stops};
 ghost use Rattle.cts_program.specs.Steps.{ReadsCircuit, DenotesCircuit, IsAnyReadFault};
 
-use crate::failure::Failure;
 use crate::reading::files::{read_netlist, read_table};
 use cts_engine::{Denoted, hosted};
 use cts_io::Inputs;
 use cts_model::Tech;
+use failure_lines::Failure;
 use std::alloc::Global;
 
 /// What the netlist in a file denotes, with the delays in another or the built-in ones.

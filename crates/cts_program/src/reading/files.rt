@@ -9,13 +9,12 @@ ghost use Rattle.cts_program.specs.Files.{IsShortFile};
 ghost use Rattle.cts_program.specs.TopologyFiles.{RefusesTopologyFile};
 ghost use Rattle.cts_program.specs.Steps.{IsReportedAs, FailsToReadFile, ReadsNetlist, FailsNetlist, ReadsTable, FailsTable, ReadsPlaces, FailsPlaces, ReadsReport, ReadsTopology, FailsLast, IsReadFault};
 
-use crate::failure::Failure;
-use crate::reading::file_kind::FileKind;
 use crate::reading::placement::placement_failure;
 use bench_reader::read_bench;
 use cts_io::{Inputs, ReadWhole, read_whole};
 use cts_model::{Circuit, Places, Problem, Report, Tech, Topology, used_kinds};
 use delay_tables::read_tech;
+use failure_lines::{Failure, FileKind};
 use place_reader::read_places;
 use report_text::read_report;
 use std::alloc::Global;

@@ -1,30 +1,15 @@
 //! Why a placement is refused, as it is reported.
 
 ghost use Rattle.std.specs.Prelude.{◌≡◌, ◌<◌, ◌⊎◌, ℕ, length, IfOk};
-ghost use Rattle.cts_program.specs.declared.failure.Failure.TheVariants as failures;
-ghost use Rattle.cts_program.specs.declared.reading.placement.PlacementFault.TheVariants as faults;
+ghost use Rattle.failure_lines.specs.declared.failure.Failure.TheVariants as failures;
+ghost use Rattle.failure_lines.specs.declared.placement_fault.PlacementFault.TheVariants as faults;
 ghost use Rattle.cts_program.specs.Steps.{GivesFault};
 
-use crate::failure::Failure;
-use cts_base::{Listed, Name, NoMemory, NumberFault};
+use cts_base::{Listed, Name, NoMemory};
 use cts_model::Circuit;
+use failure_lines::{Failure, PlacementFault};
 use place_reader::PlaceFault;
 use std::alloc::Global;
-
-/// Why a placement is refused. Lines are counted from 1.
-#[derive(Debug, Drop)]
-pub enum PlacementFault {
-    /// The line hasn't the form of a node's line.
-    BadLine(u32),
-    /// x, or else y, of a wanted node is refused as a number.
-    BadNumber(u32, NumberFault),
-    /// An earlier line places the same wanted node.
-    PlaceTwice(u32),
-    /// No line places the register of this name, the first of such.
-    NoPlace(Name),
-    /// No line places the source.
-    NoSource,
-}
 
 /// The failure where a placement of the circuit's registers has this fault.
 pub fn placement_failure(alloc: Global, circuit: &Circuit, fault: PlaceFault) -> Failure

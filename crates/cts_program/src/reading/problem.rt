@@ -1,17 +1,17 @@
 //! What the files of a command tell: a problem.
 
 ghost use Rattle.std.specs.Prelude.{◌≡◌, ℕ, List, IfOk, IfErr};
-ghost use Rattle.cts_program.specs.declared.command.Command.{Command};
+ghost use Rattle.command_line.specs.declared.command.Command.{Command};
 ghost use Rattle.cts_program.specs.Files.{problem_files};
 ghost use Rattle.cts_program.specs.Run.{Stops};
 ghost use Rattle.cts_program.specs.Steps.{ReadsProblem, DenotesProblem, IsAnyReadFault};
 
-use crate::failure::Failure;
 use crate::reading::circuit::read_circuit;
 use crate::reading::files::read_placement;
 use cts_engine::Denoted;
 use cts_io::Inputs;
 use cts_model::Problem;
+use failure_lines::Failure;
 use std::alloc::Global;
 
 /// What the netlist in a file denotes, with the delays in another and the places in a third.

@@ -1,5 +1,5 @@
 use Rattle.std.proofs.Common.{[], refl}
-use Rattle.cts_program.specs.declared.command.Command.TheVariants.{Synth}
+use Rattle.command_line.specs.declared.command.Command.TheVariants.{Synth}
 use Rattle.cts_program.proofs.DemoLemmas.{bench, tech, pl, files_hold, texts_denote, texts_stop}
 use Rattle.cts_program.proofs.ResultLemmas.{if_ok_from, if_err_from}
 use Rattle.cts_program.proofs.demo.demo_problem.Goals as goal

@@ -1,5 +1,5 @@
 use Rattle.std.proofs.Common.{sym, ◌∙◌}
-use Rattle.cts_program.proofs.NumberWords.{number_parsed}
+use Rattle.command_line.proofs.NumberWords.{number_parsed}
 use Rattle.cts_program.proofs.demo.number.Goals as goal
 
 pub unreachable-requires : goal.unreachable-requires

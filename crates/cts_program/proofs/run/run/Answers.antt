@@ -1,8 +1,8 @@
 use Rattle.std.proofs.Common.{◌≡◌, map, string_bytes, inl, sym, ◌∙◌, subst, arith, ap}
-use Rattle.cts_program.specs.declared.failure.Failure.TheVariants.{ReadFault, WriteFault}
-use Rattle.cts_program.specs.declared.reading.file_kind.FileKind.{FileKind}
+use Rattle.failure_lines.specs.declared.failure.Failure.TheVariants.{ReadFault, WriteFault}
+use Rattle.failure_lines.specs.declared.file_kind.FileKind.{FileKind}
 use Rattle.cts_program.specs.Answers.{IsStatusOf}
-use Rattle.cts_program.specs.Failures.{status_of}
+use Rattle.failure_lines.specs.Failures.{status_of}
 use Rattle.cts_program.specs.Run.{DenotesText}
 use Rattle.cts_program.proofs.RunLemmas.{denoted_not_refused, denoted_status, denoted_never, denoted_found, two_is_usage, usage_is_two, refusal_given, refused_status, five_is_unwritten, accepted_status, done_status, lacks_text, not_two, no_ending, fault_status}
 use Rattle.cts_program.proofs.run.run.Goals as goal

@@ -2,7 +2,7 @@ use Rattle.std.proofs.Common.{◌≢◌, Some, subst}
 use Rattle.std.proofs.lemmas.Result.{err_from_is_err_and}
 use Rattle.report_text.specs.declared.fault.ReportFault.TheVariants.{NoMemory}
 use Rattle.report_text.specs.ReportFaults.{HasFault}
-use Rattle.cts_program.specs.declared.reading.file_kind.FileKind.TheVariants as kinds
+use Rattle.failure_lines.specs.declared.file_kind.FileKind.TheVariants as kinds
 use Rattle.cts_program.specs.Checks.{RefusesReport}
 use Rattle.cts_program.proofs.CheckLemmas.{refused_report}
 use Rattle.cts_program.proofs.LastFiles.{unread_last}

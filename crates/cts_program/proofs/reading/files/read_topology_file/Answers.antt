@@ -1,5 +1,5 @@
 use Rattle.std.proofs.lemmas.Result.{err_from_is_err_and}
-use Rattle.cts_program.specs.declared.reading.file_kind.FileKind.TheVariants as kinds
+use Rattle.failure_lines.specs.declared.file_kind.FileKind.TheVariants as kinds
 use Rattle.cts_program.specs.TopologyFiles.{RefusesTopologyFile}
 use Rattle.cts_program.proofs.EmbedLemmas.{refused_topology}
 use Rattle.cts_program.proofs.LastFiles.{unread_last}

@@ -1,7 +1,7 @@
 use Rattle.std.proofs.Common.{◌∷◌, Err, ap, ◌∙◌}
 use Rattle.std.proofs.lemmas.Result.{err_from_is_err_and}
-use Rattle.cts_program.specs.declared.failure.Failure.{Failure}
-use Rattle.cts_program.specs.declared.reading.file_kind.FileKind.TheVariants as kinds
+use Rattle.failure_lines.specs.declared.failure.Failure.{Failure}
+use Rattle.failure_lines.specs.declared.file_kind.FileKind.TheVariants as kinds
 use Rattle.cts_program.proofs.PlacementLemmas.{placement_stops, placed_denotes}
 use Rattle.cts_engine.proofs.ProblemLemmas.{problem_of}
 use Rattle.cts_program.proofs.reading.problem.read_problem.Goals as goal

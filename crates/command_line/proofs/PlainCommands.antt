@@ -1,0 +1,233 @@
+-- Words that mean a command pass the reader's test, and no others do.
+use Rattle.std.proofs.Common.{ℕ, ◌≡◌, ◌∷◌, ◌||◌, ◌&&◌, not, true, List, [], drop, map, Option, Some, None, refl, sym, ap, ap₂, ◌∙◌, get_or}
+use Rattle.std.specs.Borrow.{Bor}
+use Rattle.std.specs.Str.{bytes_eq}
+use Rattle.std.specs.List.{IsDistinct, list_all}
+use Rattle.std.specs.List.Sorted.{IsPermutation}
+use Rattle.std.specs.Map.{keys_of}
+use Rattle.std.specs.Cmp.Lexicographic.{nat_list_eq_equiv}
+use Rattle.std.proofs.lemmas.List.Sorted.{IsPermutation-sym, IsPermutation-map, All-permutation, list_any-IsPermutation}
+use Rattle.std.proofs.lemmas.Map.Keys.{IsDistinct-IsPermutation}
+use Rattle.command_line.specs.declared.command.Command.{Command}
+use Rattle.command_line.specs.declared.command.Command.TheVariants as command
+use Rattle.command_line.specs.declared.table.Form.{Form}
+use Rattle.command_line.specs.declared.table.Form.TheVariants.{Zero, Period, Schedule, Synth, Check, Demo, Embed}
+use Rattle.command_line.specs.declared.table.Choice.{Choice}
+use Rattle.command_line.specs.CommandTable.{Word, word_of, is_required, form_of, form_name, form_named, choices_of}
+use Rattle.command_line.specs.Commands.{Given, IsTaken, name_of, values_of, options_of, listed, option_words, IsCommand, IsSame}
+use Rattle.command_line.specs.PlainWords.{has_option, are_options, has_required, are_plain, has_values, IsPlain}
+use Rattle.command_line.proofs.GivenOptions.{both, has_option-given, has_option-value, SpellsOptions, spells_options, are_options-given, values_in, in_order, value_of-permutes, in_order-permutes}
+
+-- ---- the table
+
+-- a command has the name that denotes it
+form_named-name : (form : Form) → form_named (form_name form) ≡ Some form
+form_named-name Zero = refl
+form_named-name form = refl
+
+-- so commands with one name have one form
+one_form : (form other : Form) → form_name form ≡ form_name other → form ≡ other
+one_form form other same =
+    let found : Some form ≡ Some other =
+    sym (form_named-name form) ∙ ap form_named same ∙ form_named-name other in
+    cc
+
+pub same_form : (command other : Command) → name_of command ≡ name_of other
+    → form_of command ≡ form_of other
+same_form command other same = one_form (form_of command) (form_of other) same
+
+-- no command has an option twice
+options_differ : (form : Form) → IsDistinct bytes_eq (map word_of (choices_of form))
+unfolding IsDistinct
+options_differ Synth = ((refl, (refl, tt)), ((refl, tt), (tt, tt)))
+options_differ Check =
+    ((refl, (refl, (refl, tt))), ((refl, (refl, tt)), ((refl, tt), (tt, tt))))
+options_differ Embed =
+    ((refl, (refl, (refl, tt))), ((refl, (refl, tt)), ((refl, tt), (tt, tt))))
+options_differ form = ((refl, tt), (tt, tt))
+
+-- what the options of a command come to by its row: they differ, the row requires no others, and
+-- they stand in its order
+record FitsRow (command : Command) : Type 0 where
+  once : IsDistinct bytes_eq (keys_of (options_of command))
+  required : has_required (choices_of (form_of command)) (option_words (options_of command)) ≡ true
+  ordered : options_of command ≡ in_order (choices_of (form_of command)) (options_of command)
+
+-- the options of each command do
+fits_row : (command : Command) → FitsRow command
+unfolding has_option IsDistinct
+fits_row (command.Zero bench None) =
+    record { once = (tt, tt); required = refl; ordered = refl }
+fits_row (command.Zero bench (Some tech)) =
+    record { once = ((refl, tt), (tt, tt)); required = refl; ordered = refl }
+fits_row (command.Synth bench tech pl) =
+    record { once = options_differ Synth; required = refl; ordered = refl }
+fits_row (command.Check bench tech pl report) =
+    record { once = options_differ Check; required = refl; ordered = refl }
+fits_row (command.Embed bench tech pl topology) =
+    record { once = options_differ Embed; required = refl; ordered = refl }
+fits_row command = record { once = ((refl, tt), (tt, tt)); required = refl; ordered = refl }
+
+-- ---- a command's words pass
+
+-- what a command's words say of what stands after its name
+pub command_passes : (words : List Word) (form : Form) (others : List Word)
+    → words ≡ form_name form ∷ others → (command : Command) → IsCommand words command
+    → are_plain (choices_of form) others ≡ true
+command_passes words form others is command means =
+    let options = options_of command in
+    let same = sym means.words_are ∙ is in
+    let name : form_of command ≡ form = one_form (form_of command) form
+    (ap (λ (ws : List Word). get_or ws 0 []) same) in
+    let rest : option_words means.given ≡ others = ap (λ (ws : List Word). drop 1 ws) same in
+    let keys = IsPermutation-map (λ one. one.0) options means.given means.options in
+    let once = IsDistinct-IsPermutation bytes_eq nat_list_eq_equiv.symm (keys_of options)
+    (keys_of means.given) keys (fits_row command).once in
+    let taken = All-permutation (IsTaken (choices_of (form_of command))) options means.given
+    means.options means.values in
+    let stands : (word : Word) → has_option word (option_words means.given)
+    ≡ has_option word (option_words options) =
+    λ word. has_option-given word means.given
+    ∙ sym (list_any-IsPermutation (bytes_eq word) (keys_of options) (keys_of means.given) keys)
+    ∙ sym (has_option-given word options) in
+    let required : has_required (choices_of (form_of command)) (option_words means.given) ≡ true =
+    (λ i. list_all (λ choice. not (is_required choice) || stands (word_of choice) i)
+    (choices_of (form_of command)))
+    ∙ (fits_row command).required in
+    rw (← name, ← rest, are_options-given (choices_of (form_of command)) means.given once taken)
+    required
+
+-- ---- words mean one command
+
+-- words spell one list of options with values
+one_given : (given other : List Given) → option_words given ≡ option_words other → given ≡ other
+one_given [] [] same = refl
+one_given [] (two ∷ more) same = cc
+one_given (one ∷ more) [] same = cc
+one_given (one ∷ more) (two ∷ others) same =
+    λ i. (get_or (same i) 0 [], get_or (same i) 1 []) ∷ one_given more others
+    (ap (λ (words : List Word). drop 2 words) same) i
+
+-- the options of a command are those that stand, in the order of its row
+options_ordered : (command : Command) (given : List Given)
+    → IsPermutation (options_of command) given
+    → options_of command ≡ in_order (choices_of (form_of command)) given
+options_ordered command given moved =
+    (fits_row command).ordered ∙ (λ i. listed (choices_of (form_of command))
+    (map (λ choice. sym (value_of-permutes (word_of choice) (options_of command) given
+    (fits_row command).once moved) i) (choices_of (form_of command))))
+
+-- words mean one command at most
+pub one_command : (words : List Word) (command other : Command) → IsCommand words command
+    → IsCommand words other → IsSame command other
+one_command words command other means means' =
+    let same = sym means.words_are ∙ means'.words_are in
+    let name : name_of command ≡ name_of other = ap (λ (ws : List Word). get_or ws 0 []) same in
+    let given : means.given ≡ means'.given = one_given means.given means'.given
+    (ap (λ (ws : List Word). drop 1 ws) same) in
+    record {
+      name = name;
+      options = options_ordered command means.given means.options
+          ∙ ap₂ in_order (ap choices_of (same_form command other name)) given
+          ∙ sym (options_ordered other means'.given means'.options);
+    }
+
+-- ---- plain words mean a command
+
+-- the options that a row requires have values
+pub has_values-given : (choices : List Choice) (given : List Given)
+    → has_values choices (values_in choices given) ≡ has_required choices (option_words given)
+has_values-given [] given = refl
+has_values-given (choice ∷ more) given =
+    ap₂ (λ some rest. (not (is_required choice) || some) && rest)
+    (sym (has_option-value (word_of choice) given)) (has_values-given more given)
+
+-- a command of this form whose options have these values
+record Made (form : Form) (values : List (Option Word)) : Type 0 where
+  command : Command
+  has_form : form_of command ≡ form
+  has_values : values_of command ≡ values
+
+module _ (at : ℕ × ℕ) where
+  -- a word that is borrowed
+  abbrev borrowed : Word → Bor Word
+  borrowed word = record { ref_ptr = at; now = word }
+
+  -- there is one where each option that is required has a value
+  made : (form : Form) (values : List (Option Word)) → has_values (choices_of form) values ≡ true
+      → Made form values
+  made Zero (Some bench ∷ None ∷ []) has =
+      record { command = command.Zero (borrowed bench) None; has_form = refl; has_values = refl }
+  made Zero (Some bench ∷ Some tech ∷ []) has = record {
+    command = command.Zero (borrowed bench) (Some (borrowed tech));
+    has_form = refl;
+    has_values = refl;
+  }
+  made Period (Some bench ∷ Some tech ∷ []) has = record {
+    command = command.Period (borrowed bench) (borrowed tech);
+    has_form = refl;
+    has_values = refl;
+  }
+  made Schedule (Some bench ∷ Some tech ∷ []) has = record {
+    command = command.Schedule (borrowed bench) (borrowed tech);
+    has_form = refl;
+    has_values = refl;
+  }
+  made Synth (Some bench ∷ Some tech ∷ Some pl ∷ []) has = record {
+    command = command.Synth (borrowed bench) (borrowed tech) (borrowed pl);
+    has_form = refl;
+    has_values = refl;
+  }
+  made Check (Some bench ∷ Some tech ∷ Some pl ∷ Some report ∷ []) has = record {
+    command = command.Check (borrowed bench) (borrowed tech) (borrowed pl) (borrowed report);
+    has_form = refl;
+    has_values = refl;
+  }
+  made Demo (Some registers ∷ Some seed ∷ []) has = record {
+    command = command.Demo (borrowed registers) (borrowed seed);
+    has_form = refl;
+    has_values = refl;
+  }
+  made Embed (Some bench ∷ Some tech ∷ Some pl ∷ Some topology ∷ []) has = record {
+    command = command.Embed (borrowed bench) (borrowed tech) (borrowed pl) (borrowed topology);
+    has_form = refl;
+    has_values = refl;
+  }
+  made form values has = cc
+
+module _ (words : List Word) (form : Form) (plain : IsPlain words form) where
+  -- the options that plain words spell
+  pub spelled : SpellsOptions (choices_of form) plain.others
+  spelled = spells_options (choices_of form) plain.others
+      (both (are_options (choices_of form) plain.others)
+      (has_required (choices_of form) plain.others) plain.options).0
+
+  -- those that are required have values
+  pub has_values-plain : has_values (choices_of form) (values_in (choices_of form) spelled.given)
+      ≡ true
+  has_values-plain = has_values-given (choices_of form) spelled.given
+      ∙ ap (has_required (choices_of form)) (sym spelled.words_are)
+      ∙ (both (are_options (choices_of form) plain.others)
+      (has_required (choices_of form) plain.others) plain.options).1
+
+  -- so plain words mean the command that has these values
+  pub means_command : (command : Command) → form_of command ≡ form
+      → values_of command ≡ values_in (choices_of form) spelled.given → IsCommand words command
+  means_command command has values =
+      let options : options_of command ≡ in_order (choices_of form) spelled.given =
+      λ i. listed (choices_of (has i)) (values i) in
+      let moved = in_order-permutes (choices_of form) spelled.given
+      (options_differ form) spelled.once spelled.taken in
+      record {
+        given = spelled.given;
+        words_are = plain.words_are ∙ (λ i. form_name (sym has i) ∷ spelled.words_are i);
+        options = rw options (IsPermutation-sym spelled.given _ moved);
+        values = rw (options, has) (All-permutation
+            (IsTaken (choices_of form)) spelled.given _ moved spelled.taken);
+      }
+
+  -- and there is one
+  pub some_command : ℕ × ℕ → (command : Command) × IsCommand words command
+  some_command at =
+      let m = made at form (values_in (choices_of form) spelled.given) has_values-plain in
+      (m.command, means_command m.command m.has_form m.has_values)

@@ -1,0 +1,95 @@
+-- The words of a command line, and the command that they mean.
+use Rattle.std.specs.Prelude.{◌≡◌, ◌==◌, ◌&&◌, ℕ, nat_le, Bool, false, not, IsTrue, List, [], ◌∷◌, ◌++◌, length, Option, Some, option_map, option_to_list}
+use Rattle.std.specs.List.{All, flat_map, list_any}
+use Rattle.std.specs.List.Sorted.{IsPermutation}
+use Rattle.std.specs.Str.{all_ascii_digits, bytes_eq}
+use Rattle.std.specs.Str.Parse.{digits_value}
+use Rattle.command_line.specs.declared.command.Command.{Command}
+use Rattle.command_line.specs.declared.command.Command.TheVariants.{Zero, Period, Schedule, Synth, Check, Demo, Embed}
+use Rattle.command_line.specs.declared.table.Choice.{Choice}
+use Rattle.command_line.specs.declared.table.ValueKind.{ValueKind}
+use Rattle.command_line.specs.declared.table.ValueKind.TheVariants.{File, Registers, Seed}
+use Rattle.command_line.specs.CommandTable.{Word, word_of, kind_of, form_of, form_name, choices_of}
+
+-- an option and its value
+abbrev pub Given : Type 0
+Given = Word × Word
+
+-- the values of a command's options, in the order of its row
+abbrev pub values_of : Command → List (Option Word)
+values_of (Zero bench tech) = Some bench.now ∷ option_map (λ word. word.now) tech ∷ []
+values_of (Period bench tech) = Some bench.now ∷ Some tech.now ∷ []
+values_of (Schedule bench tech) = Some bench.now ∷ Some tech.now ∷ []
+values_of (Synth bench tech pl) = Some bench.now ∷ Some tech.now ∷ Some pl.now ∷ []
+values_of (Check bench tech pl report) =
+    Some bench.now ∷ Some tech.now ∷ Some pl.now ∷ Some report.now ∷ []
+values_of (Demo registers seed) = Some registers.now ∷ Some seed.now ∷ []
+values_of (Embed bench tech pl topology) =
+    Some bench.now ∷ Some tech.now ∷ Some pl.now ∷ Some topology.now ∷ []
+
+-- an option with its value, if it has one
+abbrev pub listed_one : Choice → Option Word → List Given
+listed_one choice value = option_to_list (option_map (λ word. (word_of choice, word)) value)
+
+-- options with those values that they have
+abbrev pub listed : List Choice → List (Option Word) → List Given
+listed (choice ∷ choices) (value ∷ values) = listed_one choice value ++ listed choices values
+listed _ _ = []
+
+-- the name of a command
+abbrev pub name_of : Command → Word
+name_of command = form_name (form_of command)
+
+-- the options of a command, with their values
+abbrev pub options_of : Command → List Given
+options_of command = listed (choices_of (form_of command)) (values_of command)
+
+-- a file's name is one or more bytes, of which the first is no `-`
+abbrev pub is_file_name : Word → Bool
+is_file_name [] = false
+is_file_name (byte ∷ bytes) = not (byte == 45)
+
+-- the number that decimal digits stand for; leading zeros are allowed
+abbrev pub number_of : Word → ℕ
+number_of digits = digits_value 10 digits
+
+-- one to four digits, for a number within these bounds
+abbrev pub is_number_within : (least greatest : ℕ) → Word → Bool
+is_number_within least greatest word =
+    nat_le 1 (length word) && (nat_le (length word) 4 && (all_ascii_digits word
+    && (nat_le least (number_of word) && nat_le (number_of word) greatest)))
+
+-- what a value may be: a file's name, a number of registers or a seed
+abbrev pub is_value : ValueKind → Word → Bool
+is_value File value = is_file_name value
+is_value Registers value = is_number_within 2 1000 value
+is_value Seed value = is_number_within 0 999 value
+
+-- the word is one of these options, which takes this value
+abbrev pub is_taken : List Choice → (option value : Word) → Bool
+is_taken choices option value =
+    list_any (λ choice. bytes_eq (word_of choice) option && is_value (kind_of choice) value) choices
+
+-- the option is one of these, and takes its value
+abbrev pub IsTaken : List Choice → Given → Type 0
+IsTaken choices one = IsTrue (is_taken choices one.0 one.1)
+
+-- so it is with each option of a command
+abbrev pub HasValidValues : Command → Type 0
+HasValidValues command = All (IsTaken (choices_of (form_of command))) (options_of command)
+
+-- options as words: each is followed by its value
+abbrev pub option_words : List Given → List Word
+option_words given = flat_map (λ one. one.0 ∷ one.1 ∷ []) given
+
+-- the words are the name of the command, and after it its options in some order
+pub record IsCommand (words : List Word) (command : Command) : Type 0 where
+  pub given : List Given
+  pub words_are : words ≡ name_of command ∷ option_words given
+  pub options : IsPermutation (options_of command) given
+  pub values : HasValidValues command
+
+-- the commands have one name, and the same options with the same values
+pub record IsSame (command other : Command) : Type 0 where
+  pub name : name_of command ≡ name_of other
+  pub options : options_of command ≡ options_of other

@@ -1,0 +1,4 @@
+pub mod CommandTable
+pub mod Commands
+pub mod Parsers
+pub mod PlainWords

@@ -1,0 +1,50 @@
+-- What the reader of a command line tests of its words.
+use Rattle.std.specs.Prelude.{◌≡◌, ◌&&◌, ◌||◌, Bool, true, false, not, List, [], ◌∷◌, Option, is_some, map}
+use Rattle.std.specs.Str.{bytes_eq}
+use Rattle.std.specs.List.{list_all}
+use Rattle.command_line.specs.declared.table.Form.{Form}
+use Rattle.command_line.specs.declared.table.Choice.{Choice}
+use Rattle.command_line.specs.CommandTable.{Word, word_of, is_required, form_name, choices_of}
+use Rattle.command_line.specs.Commands.{is_taken}
+
+-- the option stands among options with values
+unfoldable pub has_option : Word → List Word → Bool
+has_option option (word ∷ value ∷ others) = bytes_eq option word || has_option option others
+has_option option _ = false
+
+-- the word is an option that takes this value and isn't among the others
+abbrev pub is_option : List Choice → (word value : Word) → List Word → Bool
+is_option choices word value others = is_taken choices word value && not (has_option word others)
+
+-- the words are options with values that they take, no option twice
+unfoldable pub are_options : List Choice → List Word → Bool
+are_options choices [] = true
+are_options choices (word ∷ []) = false
+are_options choices (word ∷ value ∷ others) =
+    is_option choices word value others && are_options choices others
+
+-- each required option stands among the words
+abbrev pub has_required : List Choice → List Word → Bool
+has_required choices words =
+    list_all (λ choice. not (is_required choice) || has_option (word_of choice) words) choices
+
+-- the words are options of a command, each at most once and each required one among them
+abbrev pub are_plain : List Choice → List Word → Bool
+are_plain choices words = are_options choices words && has_required choices words
+
+-- the words are the name of a command of this form, and after it options of that command
+pub record IsPlain (words : List Word) (form : Form) : Type 0 where
+  pub others : List Word
+  pub words_are : words ≡ form_name form ∷ others
+  pub options : are_plain (choices_of form) others ≡ true
+
+-- the values of a row's options
+abbrev pub row_values : (Word → Option Word) → List Choice → List (Option Word)
+row_values value_of choices = map (λ choice. value_of (word_of choice)) choices
+
+-- each option that is required has a value
+abbrev pub has_values : List Choice → List (Option Word) → Bool
+has_values [] [] = true
+has_values (choice ∷ choices) (value ∷ values) =
+    (not (is_required choice) || is_some value) && has_values choices values
+has_values _ _ = false

@@ -1,0 +1,117 @@
+//! Whether words are plain: a command's name, and after it options of that command with values.
+
+ghost use Rattle.std.specs.Prelude.{◌≡◌, ◌||◌, not, map, string_bytes, IfSome, IsNone};
+ghost use Rattle.std.specs.Char.{is_ascii_digit};
+ghost use Rattle.std.specs.List.{list_all};
+ghost use Rattle.command_line.specs.declared.command.Command.{Command};
+ghost use Rattle.command_line.specs.CommandTable.{is_required, word_of};
+ghost use Rattle.command_line.specs.Commands.{is_file_name, is_number_within, is_value, is_taken, IsCommand};
+ghost use Rattle.command_line.specs.PlainWords.{IsPlain, has_option, is_option, are_options, has_required, are_plain};
+
+use crate::table::{Choice, Form, ValueKind};
+
+/// The form of the command that plain words mean.
+pub fn plain_form(words: &[String]) -> Option<Form>
+    ensures some { IfSome result (IsPlain (map string_bytes words.now)) }
+    ensures none { IsNone result → (command : Command)
+        → IsCommand (map string_bytes words.now) command → ⊥ }
+{
+    let [name, others @ ..] = words else {
+        return None;
+    };
+    let form = Form::named(name.as_str())?;
+    if are_plain(form.row().1, others) {
+        Some(form)
+    } else {
+        None
+    }
+}
+
+fn are_plain(choices: &[Choice], words: &[String]) -> bool
+    ensures { result ≡ are_plain choices.now (map string_bytes words.now) }
+{
+    are_options(choices, words) && has_required(choices, words)
+}
+
+// The words are options with values, no option twice.
+fn are_options(choices: &[Choice], words: &[String]) -> bool
+    ensures { result ≡ are_options choices.now (map string_bytes words.now) }
+{
+    match words {
+        [option, value, others @ ..] => {
+            is_option(choices, option.as_str(), value.as_str(), others)
+                && are_options(choices, others)
+        }
+        _ => words.is_empty(),
+    }
+}
+
+// The word is an option that takes this value and isn't among the others.
+fn is_option(choices: &[Choice], word: &str, value: &str, others: &[String]) -> bool
+    ensures { result ≡ is_option choices.now word.now value.now (map string_bytes others.now) }
+{
+    is_taken(choices, word, value) && !has_option(others, word)
+}
+
+// The word is one of the options, which takes this value.
+fn is_taken(choices: &[Choice], option: &str, value: &str) -> bool
+    ensures { result ≡ is_taken choices.now option.now value.now }
+{
+    choices.iter().any(|choice| choice.word() == option && is_value(choice.kind(), value))
+}
+
+// The option stands among options with values.
+fn has_option(words: &[String], option: &str) -> bool
+    ensures { result ≡ has_option option.now (map string_bytes words.now) }
+{
+    match words {
+        [word, _, others @ ..] => option == word.as_str() || has_option(others, option),
+        _ => false,
+    }
+}
+
+// Each required option stands among the words.
+fn has_required(choices: &[Choice], words: &[String]) -> bool
+    ensures { result ≡ has_required choices.now (map string_bytes words.now) }
+{
+    choices.iter().all(|choice| !choice.is_required() || has_option(words, choice.word()))
+}
+
+fn is_value(kind: ValueKind, value: &str) -> bool
+    ensures { result ≡ is_value kind value.now }
+{
+    match kind {
+        ValueKind::File => is_file_name(value),
+        ValueKind::Registers => is_number_within(2, 1000, value),
+        ValueKind::Seed => is_number_within(0, 999, value),
+    }
+}
+
+// One to four digits, for a number within these bounds.
+fn is_number_within(least: u32, greatest: u32, word: &str) -> bool
+    ensures { result ≡ is_number_within least greatest word.now }
+{
+    if word.len() > 4 || !are_digits(word) {
+        return false;
+    }
+    match word.parse::<u32>() {
+        Ok(number) => least <= number && number <= greatest,
+        // The empty word.
+        Err(_) => false,
+    }
+}
+
+fn are_digits(word: &str) -> bool
+    ensures { result ≡ list_all is_ascii_digit word.now }
+{
+    word.bytes().all(|byte| byte.is_ascii_digit())
+}
+
+fn is_file_name(word: &str) -> bool
+    ensures { result ≡ is_file_name word.now }
+{
+    match word.as_bytes() {
+        [] | [b'-', ..] => false,
+        _ => true,
+    }
+}

@@ -1,0 +1,112 @@
+//! The table of commands: the name and the options of each, as they stand in the usage line.
+
+ghost use Rattle.std.specs.Prelude.{◌≡◌, find, IfSome};
+ghost use Rattle.std.specs.Str.{bytes_eq};
+ghost use Rattle.command_line.specs.declared.table.Form.{Form};
+ghost use Rattle.command_line.specs.CommandTable.{forms, form_name, form_named, choices_of, word_of, kind_of, is_required};
+
+use Choice::{Bench, Placement, Registers, Report, Seed, Tech, TechIfWanted, Topology};
+use Form::{Check, Demo, Embed, Period, Schedule, Synth, Zero};
+
+/// A command without the values of its options.
+#[derive(Clone, Copy, Debug, Drop, PartialEq)]
+pub enum Form {
+    Zero,
+    Period,
+    Schedule,
+    Synth,
+    Check,
+    Demo,
+    Embed,
+}
+
+/// An option of a command, which stands at most once after its name.
+#[derive(Clone, Copy, Debug, Drop, PartialEq)]
+pub enum Choice {
+    Bench,
+    Tech,
+    /// It may be left out.
+    TechIfWanted,
+    Placement,
+    Report,
+    Topology,
+    Registers,
+    Seed,
+}
+
+/// What the value of an option is.
+#[derive(Clone, Copy, Debug, Drop, PartialEq)]
+pub enum ValueKind {
+    File,
+    Registers,
+    Seed,
+}
+
+const FORMS: [Form; 7] = [Zero, Period, Schedule, Synth, Check, Demo, Embed];
+
+impl Form {
+    /// The name of the command and its options, in the order of the usage line.
+    pub fn row(self) -> (&'static str, &'static [Choice])
+        ensures name { result.0.now ≡ form_name self }
+        ensures choices { result.1.now ≡ choices_of self }
+    {
+        match self {
+            Zero => ("zero", &[Bench, TechIfWanted]),
+            Period => ("period", &[Bench, Tech]),
+            Schedule => ("schedule", &[Bench, Tech]),
+            Synth => ("synth", &[Bench, Tech, Placement]),
+            Check => ("check", &[Bench, Tech, Placement, Report]),
+            Demo => ("demo", &[Registers, Seed]),
+            Embed => ("embed", &[Bench, Tech, Placement, Topology]),
+        }
+    }
+
+    /// The command with this name.
+    pub fn named(name: &str) -> Option<Form>
+        ensures some { IfSome result (λ form. form_name form ≡ name.now) }
+        ensures first { result ≡ form_named name.now }
+    {
+        first_named(&FORMS, name)
+    }
+}
+
+// The first of these forms that has this name.
+fn first_named(forms: &[Form], name: &str) -> Option<Form>
+    ensures some { IfSome result (λ form. form_name form ≡ name.now) }
+    ensures first { result ≡ find (λ form. bytes_eq (form_name form) name.now) forms.now }
+{
+    forms.iter().copied().find(|form| form.row().0 == name)
+}
+
+impl Choice {
+    /// The word that stands before the value.
+    pub fn word(self) -> &'static str
+        ensures { result.now ≡ word_of self }
+    {
+        match self {
+            Bench => "--bench",
+            Tech | TechIfWanted => "--tech",
+            Placement => "--pl",
+            Report => "--report",
+            Topology => "--topology",
+            Registers => "--registers",
+            Seed => "--seed",
+        }
+    }
+
+    pub fn kind(self) -> ValueKind
+        ensures { result ≡ kind_of self }
+    {
+        match self {
+            Registers => ValueKind::Registers,
+            Seed => ValueKind::Seed,
+            _ => ValueKind::File,
+        }
+    }
+
+    pub fn is_required(self) -> bool
+        ensures { result ≡ is_required self }
+    {
+        self != TechIfWanted
+    }
+}

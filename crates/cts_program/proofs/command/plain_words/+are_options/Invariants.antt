@@ -1,5 +1,0 @@
-use Rattle.std.proofs.Common.{length}
-use Rattle.cts_program.proofs.command.plain_words.+are_options.Given as goal
-
-abbrev pub decreases-are_options : goal.decreases-are_options
-decreases-are_options l = length l.words.now

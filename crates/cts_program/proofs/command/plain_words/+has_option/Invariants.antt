@@ -1,5 +1,0 @@
-use Rattle.std.proofs.Common.{length}
-use Rattle.cts_program.proofs.command.plain_words.+has_option.Given as goal
-
-abbrev pub decreases-has_option : goal.decreases-has_option
-decreases-has_option l = length l.words.now

@@ -1,0 +1,5 @@
+use Rattle.failure_lines.proofs.PieceLemmas.{reported}
+use Rattle.failure_lines.proofs.failure.Failure.report.Goals as goal
+
+pub returns : goal.returns
+returns g c = reported c.write.result _ _ _ _ _ c.write.ensures

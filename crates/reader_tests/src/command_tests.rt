@@ -1,0 +1,265 @@
+//! Tests on the words of a call.
+
+use crate::same::expect_same;
+use command_line::{Command, WordsFault, read_command};
+use std::alloc::Global;
+use std::process::Abort;
+
+// The words of a command line.
+fn words(rt: &impl Abort, alloc: Global, words: &[&str]) -> Vec<String> {
+    let mut all = Vec::new(alloc);
+    for word in words {
+        let word = String::from_str(alloc, word).expect(rt, "memory");
+        all.push(word).expect(rt, "memory");
+    }
+    all
+}
+
+fn expect_command(
+    rt: &impl Abort,
+    alloc: Global,
+    row: &[&str],
+    wanted: Result<Command<'_>, WordsFault>,
+) {
+    let words = words(rt, alloc, row);
+    let command = read_command(alloc, words.as_slice());
+    expect_same(rt, command, wanted, &row);
+}
+
+// A command line, the netlist and the table.
+const ZEROS: [(&[&str], &str, Option<&str>); 5] = [
+    (&["zero", "--bench", "F"], "F", None),
+    (&["zero", "--bench", "F", "--tech", "G"], "F", Some("G")),
+    (&["zero", "--tech", "G", "--bench", "F"], "F", Some("G")),
+    // Both options may name one file.
+    (&["zero", "--bench", "F", "--tech", "F"], "F", Some("F")),
+    // A command's name is a value where a value stands.
+    (&["zero", "--bench", "zero"], "zero", None),
+];
+
+#[test]
+fn reads_options_in_any_order(rt: HostRuntime) {
+    for (row, bench, tech) in &ZEROS {
+        let wanted = Ok(Command::Zero {
+            bench: *bench,
+            tech: *tech,
+        });
+        expect_command(&rt, rt.alloc(), row, wanted);
+    }
+}
+
+#[test]
+fn reads_period_with_both_options(rt: HostRuntime) {
+    let rows: [&[&str]; 2] = [
+        &["period", "--bench", "F", "--tech", "G"],
+        &["period", "--tech", "G", "--bench", "F"],
+    ];
+    for row in rows.as_slice() {
+        expect_command(
+            &rt,
+            rt.alloc(),
+            row,
+            Ok(Command::Period {
+                bench: "F",
+                tech: "G",
+            }),
+        );
+    }
+}
+
+#[test]
+fn reads_schedule_with_both_options(rt: HostRuntime) {
+    let rows: [&[&str]; 2] = [
+        &["schedule", "--bench", "F", "--tech", "G"],
+        &["schedule", "--tech", "G", "--bench", "F"],
+    ];
+    for row in rows.as_slice() {
+        expect_command(
+            &rt,
+            rt.alloc(),
+            row,
+            Ok(Command::Schedule {
+                bench: "F",
+                tech: "G",
+            }),
+        );
+    }
+}
+
+#[test]
+fn reads_synth_with_all_options(rt: HostRuntime) {
+    let rows: [&[&str]; 2] = [
+        &["synth", "--bench", "F", "--tech", "G", "--pl", "H"],
+        &["synth", "--pl", "H", "--tech", "G", "--bench", "F"],
+    ];
+    for row in rows.as_slice() {
+        expect_command(
+            &rt,
+            rt.alloc(),
+            row,
+            Ok(Command::Synth {
+                bench: "F",
+                tech: "G",
+                pl: "H",
+            }),
+        );
+    }
+}
+
+#[test]
+fn reads_check_with_all_options(rt: HostRuntime) {
+    let rows: [&[&str]; 2] = [
+        &[
+            "check", "--bench", "F", "--tech", "G", "--pl", "H", "--report", "I",
+        ],
+        &[
+            "check", "--report", "I", "--tech", "G", "--bench", "F", "--pl", "H",
+        ],
+    ];
+    for row in rows.as_slice() {
+        expect_command(
+            &rt,
+            rt.alloc(),
+            row,
+            Ok(Command::Check {
+                bench: "F",
+                tech: "G",
+                pl: "H",
+                report: "I",
+            }),
+        );
+    }
+}
+
+#[test]
+fn reads_embed_with_all_options(rt: HostRuntime) {
+    let rows: [&[&str]; 2] = [
+        &[
+            "embed",
+            "--bench",
+            "F",
+            "--tech",
+            "G",
+            "--pl",
+            "H",
+            "--topology",
+            "I",
+        ],
+        &[
+            "embed",
+            "--topology",
+            "I",
+            "--pl",
+            "H",
+            "--tech",
+            "G",
+            "--bench",
+            "F",
+        ],
+    ];
+    for row in rows.as_slice() {
+        expect_command(
+            &rt,
+            rt.alloc(),
+            row,
+            Ok(Command::Embed {
+                bench: "F",
+                tech: "G",
+                pl: "H",
+                topology: "I",
+            }),
+        );
+    }
+}
+
+// A command line and its numbers.
+const DEMOS: [(&[&str], &str, &str); 3] = [
+    (&["demo", "--registers", "2", "--seed", "0"], "2", "0"),
+    (
+        &["demo", "--registers", "1000", "--seed", "999"],
+        "1000",
+        "999",
+    ),
+    // Leading zeros are allowed.
+    (
+        &["demo", "--seed", "000", "--registers", "0002"],
+        "0002",
+        "000",
+    ),
+];
+
+#[test]
+fn reads_demo_with_both_numbers(rt: HostRuntime) {
+    for (row, registers, seed) in &DEMOS {
+        let wanted = Ok(Command::Demo {
+            registers: *registers,
+            seed: *seed,
+        });
+        expect_command(&rt, rt.alloc(), row, wanted);
+    }
+}
+
+// Words that mean no command.
+const REFUSED: [&[&str]; 24] = [
+    &[],
+    &["zero"],
+    &["zero", "--bench"],
+    &["--tech", "F", "--bench", "F", "zero"],
+    &["zero", "--bench", "F", "--tech", "F", "--tech", "F"],
+    &["zero", "--bench", "a", "--bench", "b"],
+    &["zero", "--tech", "F"],
+    &["zero", "--bench=F"],
+    &["zero", "--bench", "F", "--"],
+    &["zero", "--bench", "F", "extra"],
+    &["zero", "--bench", "F", "--tech"],
+    &["zero", "--", "--bench", "F"],
+    &["zero", "bench", "F"],
+    &["Zero", "--bench", "F"],
+    &["zero", "--bench", ""],
+    &["zero", "--bench", "-F"],
+    &["--help"],
+    &["zero", "--help"],
+    &["period", "--bench", "F"],
+    &["schedule", "--bench", "F"],
+    &["synth", "--tech", "F", "--pl", "F"],
+    &["check", "--bench", "F", "--tech", "F", "--pl", "F"],
+    &["embed", "--bench", "F", "--tech", "F", "--pl", "F"],
+    &[
+        "synth",
+        "--bench",
+        "F",
+        "--tech",
+        "F",
+        "--pl",
+        "F",
+        "--topology",
+        "F",
+    ],
+];
+
+#[test]
+fn refuses_words_that_mean_no_command(rt: HostRuntime) {
+    for row in &REFUSED {
+        expect_command(&rt, rt.alloc(), row, Err(WordsFault::Usage));
+    }
+}
+
+// Other numbers than a demonstration has.
+const REFUSED_NUMBERS: [&[&str]; 9] = [
+    &["demo", "--registers", "1", "--seed", "0"],
+    &["demo", "--registers", "1001", "--seed", "0"],
+    &["demo", "--registers", "2", "--seed", "1000"],
+    &["demo", "--registers", "00002", "--seed", "0"],
+    &["demo", "--registers", "+5", "--seed", "0"],
+    &["demo", "--registers", "F", "--seed", "0"],
+    &["demo", "--registers", "", "--seed", "0"],
+    &["demo", "--registers", "--seed", "0"],
+    &["demo", "--seed", "0", "--registers"],
+];
+
+#[test]
+fn refuses_other_numbers_than_a_demonstration_has(rt: HostRuntime) {
+    for row in &REFUSED_NUMBERS {
+        expect_command(&rt, rt.alloc(), row, Err(WordsFault::Usage));
+    }
+}
