@@ -9,6 +9,7 @@ use crate::sparing::sparing_schedule;
 use critical_cycle::{Ratio, Room, greatest_ratio_in};
 use cts_base::{Fraction, Listed, NoMemory};
 use cts_model::{Constraint, Schedule};
+use schedule::Room as ArrivalRoom;
 use std::alloc::Global;
 
 /// What every setup and hold constraint has to spare at a period.
@@ -30,9 +31,8 @@ pub enum Margin {
 }
 
 /// The greatest margin at a period in ticks that some arrivals spare, the cycle that shows it, and
-/// the least schedule that spares it. It takes memory for each register: three numbers for the
-/// search, of which one becomes the cycle, and one for the schedule. Fishburn, "Clock Skew
-/// Optimization", 1990.
+/// the least schedule that spares it. It takes room for the search and for the arrivals, 52 bytes for
+/// each register. Fishburn, "Clock Skew Optimization", 1990.
 pub fn greatest_margin(
     alloc: Global,
     registers: usize,
@@ -45,21 +45,21 @@ pub fn greatest_margin(
     ensures unbounded { IfOk result (λ margin. IsUnbounded margin ↔ HasNoCycle constraints.now) }
 {
     let room = Room::new(alloc, registers)?;
-    let at = Listed::from_vec(vec![in alloc; 0i128; registers]?);
-    Ok(margin_in(room, at, constraints, period))
+    let arrivals = ArrivalRoom::new(alloc, registers)?;
+    Ok(margin_in(room, arrivals, constraints, period))
 }
 
-// The same in room and a list of arrivals for each register.
+// The same in room for the search and for the arrivals.
 fn margin_in(
     room: Room,
-    at: Listed<i128>,
+    arrivals: ArrivalRoom,
     constraints: &Listed<Constraint>,
     period: Fraction,
 ) -> Margin
-    requires small { AreSmallConstraints (length at) constraints.now }
-    requires room { length room.values ≡ length at }
+    requires small { AreSmallConstraints (length arrivals.at) constraints.now }
+    requires room { length room.values ≡ length arrivals.at }
     requires period { IsMarginPeriod period }
-    ensures margin { IsMarginOf (length at) constraints.now period result }
+    ensures margin { IsMarginOf (length arrivals.at) constraints.now period result }
     ensures unbounded { IsUnbounded result ↔ HasNoCycle constraints.now }
 {
     let measure = measure_at(period);
@@ -69,7 +69,7 @@ fn margin_in(
             cycle,
         } => {
             let value = margin_at(period, ratio);
-            let schedule = sparing_schedule(at, constraints, period, value);
+            let schedule = sparing_schedule(arrivals, constraints, period, value);
             Margin::Found {
                 value,
                 cycle,

@@ -7,26 +7,26 @@ ghost use Rattle.safety_margin.specs.SparingSchedules.{IsSparingSchedule};
 
 use cts_base::{Fraction, Listed};
 use cts_model::{Constraint, Schedule};
-use schedule::{Gains, least_arrivals_in};
+use schedule::{Gains, Room, least_arrivals_in};
 
-/// The least schedule that spares a margin at a period. The list has an entry for each register; it
-/// becomes the schedule's, and no other memory is taken.
+/// The least schedule that spares a margin at a period. A list of the room becomes the schedule's,
+/// and no other memory is taken.
 pub(crate) fn sparing_schedule(
-    at: Listed<i128>,
+    room: Room,
     constraints: &Listed<Constraint>,
     period: Fraction,
     value: Fraction,
 ) -> Schedule
-    requires small { AreSmallConstraints (length at) constraints.now }
+    requires small { AreSmallConstraints (length room.at) constraints.now }
     requires period { IsMarginPeriod period }
     requires value { IsSmallMargin value }
     requires spared { CanSpare constraints.now period value }
-    ensures { IsSparingSchedule (length at) constraints.now period value result }
+    ensures { IsSparingSchedule (length room.at) constraints.now period value result }
 {
     let gains = gains_at(period, value, share_of(period, value));
     Schedule {
         den: gains.scale,
-        at: least_arrivals_in(at, constraints, gains),
+        at: least_arrivals_in(room, constraints, gains),
     }
 }
 

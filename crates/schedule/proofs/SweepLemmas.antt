@@ -1,5 +1,5 @@
 -- How far a sweep has come: what one constraint after the other makes of all arrivals.
-use Rattle.std.proofs.Common.{◌≡◌, ◌<◌, ◌≤◌, ◌^◌, ◌∙◌, ℕ, ℤ, pos, ◌+ℤ◌, ◌*ℤ◌, ◌≤ℤ◌, Bool, true, false, ◌||◌, List, length, get_or, set, All, ◌⊎◌, inl, inr, Contains, sym, subst, ap, arith}
+use Rattle.std.proofs.Common.{◌≡◌, ◌<◌, ◌≤◌, ◌^◌, ◌∙◌, ℕ, ℤ, pos, ◌+ℤ◌, ◌*ℤ◌, ◌≤ℤ◌, Bool, true, false, ◌||◌, List, length, get_or, set, All, ◌⊎◌, inl, inr, Contains, refl, sym, subst, ap, arith}
 use Rattle.std.specs.Prelude.{MatchBool}
 use Rattle.std.proofs.lemmas.List.{get_or_default}
 use Rattle.std.proofs.lemmas.Int.{ints}
@@ -8,9 +8,10 @@ use Rattle.cts_model.specs.Constraints.{IsSmallConstraint}
 use Rattle.cts_model.specs.Points.{IsBelow}
 use Rattle.cts_model.specs.Schedules.{arrival_of}
 use Rattle.schedule.specs.declared.gain.Gains.{Gains}
+use Rattle.schedule.specs.declared.raising.Raising.{Raising}
 use Rattle.schedule.specs.Gains.{SatisfiesGains, gain_of}
 use Rattle.schedule.specs.Schedules.{CanSchedule}
-use Rattle.schedule.specs.Rises.{offer_of, IsRaised, IsRelaxed, IsRising, IsSweep, room_of}
+use Rattle.schedule.specs.Rises.{offer_of, CanRaise, IsRaised, IsRelaxed, IsRisen, IsRising, IsSweep, room_of}
 use Rattle.schedule.proofs.BoundLemmas.{small_rising}
 use Rattle.schedule.proofs.RiseLemmas.{length-raised, at_head, IsRising-raised, room_less}
 
@@ -42,7 +43,7 @@ module _ {constraints : List Constraint} {gains : Gains} {Seen : ℕ → Type 0}
     (can : CanSchedule constraints gains (length begun))
     (way : IsUnderWay constraints gains Seen begun changed now) where
   -- the arrivals can be scheduled still
-  pub can_now : CanSchedule constraints gains (length now)
+  can_now : CanSchedule constraints gains (length now)
   can_now = subst (CanSchedule constraints gains) (sym way.registers) can
 
   -- they are small
@@ -139,3 +140,62 @@ module _ {constraints : List Constraint} {gains : Gains} {Seen : ℕ → Type 0}
           let it : Constraint = get_or constraints place default in
           met_once (arrival_of now it.tail) (gain_of gains it) (arrival_of now it.head)
           (met place default (all place within) within)
+
+module _ {constraints : List Constraint} {gains : Gains} where
+  -- nothing is raised at first
+  pub no_rise : (raising : Raising) → CanRaise constraints gains raising
+      → IsRisen constraints gains raising raising
+  no_rise raising ready = record { ready = ready; registers = refl; room = omega arith }
+
+  -- raises after raises
+  pub rise_more : {old now later : Raising} → IsRisen constraints gains old now
+      → IsRisen constraints gains now later → IsRisen constraints gains old later
+  rise_more risen more = record {
+    ready = more.ready;
+    registers = more.registers ∙ risen.registers;
+    room = omega (arith, risen.room, more.room);
+  }
+
+  -- one constraint that is looked at
+  pub looked_at : (at later : List ℤ) (place : ℕ) (changed : Bool)
+      → CanSchedule constraints gains (length at) → IsRising constraints gains at
+      → place < length constraints
+      → IsRelaxed (get_or constraints place nowhere) gains at changed later
+      → IsUnderWay constraints gains (λ (seen : ℕ). ⊥) at (changed || false) later
+  looked_at at later place changed can rising within relaxed =
+      let before : IsUnderWay constraints gains (λ (seen : ℕ). ⊥) at false at = record {
+        registers = refl;
+        rising = rising;
+        outcome = (refl, λ place default none inside. absurd none);
+      } in
+      IsUnderWay-more can before place within (λ seen. ⊥) (λ other none. absurd none) later changed
+      relaxed
+
+  -- what it leaves can be raised on
+  pub rise_by : (old new : Raising) (place : ℕ) (changed : Bool)
+      → CanRaise constraints gains old → CanRaise constraints gains new
+      → place < length constraints
+      → IsRelaxed (get_or constraints place nowhere) gains old.at.items changed new.at.items
+      → IsRisen constraints gains old new
+  rise_by old new place changed ready later within relaxed =
+      let way = looked_at old.at.items new.at.items place changed ready.can ready.rising within
+      relaxed in
+      record { ready = later; registers = way.registers; room = no_more_room ready.can way }
+
+  -- and can be raised on
+  pub still_ready : (old new : Raising) (place : ℕ) (changed : Bool)
+      → CanRaise constraints gains old → length new.parents.items ≡ length old.parents.items
+      → length new.links.items ≡ length old.links.items → place < length constraints
+      → IsRelaxed (get_or constraints place nowhere) gains old.at.items changed new.at.items
+      → CanRaise constraints gains new
+  still_ready old new place changed ready parents links within relaxed =
+      let way = looked_at old.at.items new.at.items place changed ready.can ready.rising within
+      relaxed in
+      record {
+        room = record {
+          parents_len = omega (arith, parents, ready.room.parents_len, way.registers);
+          links_len = omega (arith, links, ready.room.links_len, way.registers);
+        };
+        can = subst (CanSchedule constraints gains) (sym way.registers) ready.can;
+        rising = way.rising;
+      }

@@ -1,9 +1,12 @@
 -- How arrivals are raised in place until constraints hold. Cherkassky and Goldberg, "Negative-cycle
 -- detection algorithms", 1999.
-use Rattle.std.specs.Prelude.{◌≡◌, ◌<◌, ◌+◌, ◌-◌, ◌^◌, ℕ, ℤ, ◌+ℤ◌, ◌≤ℤ◌, ◌<ℤ◌, Bool, MatchBool, List, [], ◌∷◌, length, nat_abs, slice_set}
+use Rattle.std.specs.Prelude.{◌≡◌, ◌<◌, ◌≤◌, ◌+◌, ◌-◌, ◌^◌, ℕ, ℤ, ◌+ℤ◌, ◌≤ℤ◌, ◌<ℤ◌, Bool, MatchBool, List, [], ◌∷◌, length, nat_abs, slice_set}
 use Rattle.cts_model.specs.declared.constraint.Constraint.{Constraint}
 use Rattle.cts_model.specs.Schedules.{arrival_of, AreFromZero}
 use Rattle.schedule.specs.declared.gain.Gains.{Gains}
+use Rattle.schedule.specs.declared.raising.Raising.{Raising}
+use Rattle.schedule.specs.Rooms.{AreAsLong}
+use Rattle.schedule.specs.Schedules.{CanSchedule}
 use Rattle.schedule.specs.Gains.{AreLeastArrivalsBy, AreLeastBy, SatisfiesGains, gain_of}
 
 -- what the constraint gives its head
@@ -43,6 +46,20 @@ pub record IsSweep (constraints : List Constraint) (gains : Gains) (old : List �
   pub rising : IsRising constraints gains new
   pub outcome : MatchBool changed (room_of new < room_of old)
       (SatisfiesGains constraints gains 1 (arrival_of new))
+
+-- lists with an entry for each register, and arrivals that rise to what the constraints admit
+pub record CanRaise (constraints : List Constraint) (gains : Gains)
+    (raising : Raising) : Type 0 where
+  pub room : AreAsLong raising.at.items raising.parents.items raising.links.items
+  pub can : CanSchedule constraints gains (length raising.at.items)
+  pub rising : IsRising constraints gains raising.at.items
+
+-- what raises leave: no more room than before
+pub record IsRisen (constraints : List Constraint) (gains : Gains)
+    (old new : Raising) : Type 0 where
+  pub ready : CanRaise constraints gains new
+  pub registers : length new.at.items ≡ length old.at.items
+  pub room : room_of new.at.items ≤ room_of old.at.items
 
 -- as many arrivals as before, and they are the least
 pub record IsLeastAt (constraints : List Constraint) (gains : Gains)

@@ -6,54 +6,53 @@ ghost use Rattle.schedule.specs.Schedules.{AreWithinWeights, IsAdmittedBy, IsLea
 ghost use Rattle.cts_model.specs.Schedules.{IsSmallPeriod};
 
 use crate::gain::Gains;
-use crate::sweep::settle;
+use crate::raising::{NO_PARENT, Raising};
+use crate::room::Room;
 use cts_base::{Fraction, Listed, NoMemory};
 use cts_model::{Constraint, Schedule};
 use std::alloc::Global;
 
-/// The least arrivals from 0 on that satisfy the constraints by their gains. The list has an entry
-/// for each register, whatever the entries are; it becomes the arrivals, and no other memory is
-/// taken. It sweeps over the constraints until a sweep changes nothing.
-pub fn least_arrivals_in(
-    at: Listed<i128>,
-    constraints: &Listed<Constraint>,
-    gains: Gains,
-) -> Listed<i128>
-    requires small { AreSmallConstraints (length at) constraints.now }
+/// The least arrivals from 0 on that satisfy the constraints by their gains. A list of the room
+/// becomes the arrivals, and no other memory is taken. It sweeps over the constraints until a sweep
+/// changes nothing.
+pub fn least_arrivals_in(room: Room, constraints: &Listed<Constraint>, gains: Gains) -> Listed<i128>
+    requires small { AreSmallConstraints (length room.at) constraints.now }
     requires admitted { AdmitsGains constraints.now gains }
-    ensures registers { length result ≡ length at }
+    ensures registers { length result ≡ length room.at }
     ensures least { AreLeastArrivalsBy constraints.now gains result }
+    ensures small { All (IsBelow (2 ^ 93)) result }
 {
-    let mut arrivals = at.into_vec();
-    arrivals.fill(0);
-    settle(&mut arrivals, constraints.as_slice(), gains);
-    Listed::from_vec(arrivals)
+    let mut raising = Raising {
+        at: room.at.into_vec(),
+        parents: room.parents.into_vec(),
+        links: room.links.into_vec(),
+    };
+    raising.at.fill(0);
+    raising.parents.fill(NO_PARENT);
+    raising.settle(constraints.as_slice(), gains);
+    Listed::from_vec(raising.at)
 }
 
-/// The least arrivals that satisfy the constraints at a period in ticks. The list has an entry for
-/// each register, whatever the entries are; it becomes the schedule's, and no other memory is
-/// taken. It sweeps over the constraints until a sweep changes nothing.
-pub fn least_schedule_in(
-    at: Listed<i128>,
-    constraints: &Listed<Constraint>,
-    period: Fraction,
-) -> Schedule
-    requires small { AreSmallConstraints (length at) constraints.now }
+/// The least arrivals that satisfy the constraints at a period in ticks. A list of the room becomes
+/// the schedule's, and no other memory is taken. It sweeps over the constraints until a sweep
+/// changes nothing.
+pub fn least_schedule_in(room: Room, constraints: &Listed<Constraint>, period: Fraction) -> Schedule
+    requires small { AreSmallConstraints (length room.at) constraints.now }
     requires period { IsSmallPeriod period }
     requires admitted { IsAdmittedBy constraints.now period }
     ensures den { result.den ≡ period.den }
-    ensures registers { length result.at ≡ length at }
+    ensures registers { length result.at ≡ length room.at }
     ensures least { IsLeastScheduleOf constraints.now period.num (nat_abs period.den) result.at }
     ensures bound { AreWithinWeights constraints.now (nat_abs period.den) result.at }
     ensures small { All (IsBelow (10 ^ 19)) result.at }
 {
     Schedule {
         den: period.den(),
-        at: least_arrivals_in(at, constraints, Gains::of(period)),
+        at: least_arrivals_in(room, constraints, Gains::of(period)),
     }
 }
 
-/// The same in memory of its own: a number for each register.
+/// The same in room of its own.
 pub fn least_schedule(
     alloc: Global,
     registers: usize,
@@ -71,6 +70,6 @@ pub fn least_schedule(
         schedule.at) }
     ensures small { IfOk result (λ schedule. All (IsBelow (10 ^ 19)) schedule.at) }
 {
-    let at = Listed::from_vec(vec![in alloc; 0i128; registers]?);
-    Ok(least_schedule_in(at, constraints, period))
+    let room = Room::new(alloc, registers)?;
+    Ok(least_schedule_in(room, constraints, period))
 }

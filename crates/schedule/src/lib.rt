@@ -3,11 +3,13 @@
 
 mod gain;
 mod least;
+mod raising;
 mod reach;
-mod sweep;
+mod room;
 mod tails;
 mod tight;
 
 pub use gain::Gains;
 pub use least::{least_arrivals_in, least_schedule, least_schedule_in};
+pub use room::Room;
 pub use tight::leads;

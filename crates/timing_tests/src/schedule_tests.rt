@@ -5,7 +5,7 @@ use crate::engine_tests::Row;
 use crate::same::expect_same;
 use cts_base::Listed;
 use cts_model::{Constraint, Schedule};
-use schedule::{least_schedule, least_schedule_in};
+use schedule::{Room, least_schedule, least_schedule_in};
 use std::alloc::Global;
 use std::process::Abort;
 use std::test::Fail;
@@ -67,23 +67,27 @@ fn finds_the_least_schedule(rt: HostRuntime) -> Result<(), Fail> {
     expect_schedule(&rt, rt.alloc(), (13, 1), &s27(), &[2, 0, 0])
 }
 
-fn expect_over(rt: &impl Abort, alloc: Global, entry: i128) -> Result<(), Fail> {
+fn expect_over(rt: &impl Abort, alloc: Global, entry: i128, place: u32) -> Result<(), Fail> {
     let arrivals = [0, 3];
     let period = small_period(rt, 11, 2);
     let list = list_of(rt, alloc, 2, &[setup(0, 1, 7), setup(1, 0, 4)])?;
     expect_admitted(rt, &list, &arrivals, period);
-    let at = Listed::from_vec(vec![in alloc; entry; 2]?);
-    let schedule = least_schedule_in(at, &list, period);
+    let room = Room {
+        at: Listed::from_vec(vec![in alloc; entry; 2]?),
+        parents: Listed::from_vec(vec![in alloc; place; 2]?),
+        links: Listed::from_vec(vec![in alloc; place; 2]?),
+    };
+    let schedule = least_schedule_in(room, &list, period);
     expect_at(rt, &schedule, 2, &arrivals);
     Ok(())
 }
 
-// Whatever the list holds, the answer is the same.
+// Whatever the lists hold, the answer is the same.
 #[test]
-fn overwrites_what_the_list_holds(rt: HostRuntime) -> Result<(), Fail> {
-    expect_over(&rt, rt.alloc(), -5)?;
-    expect_over(&rt, rt.alloc(), 1_000_000_000_000_000_000)?;
-    expect_over(&rt, rt.alloc(), i128::MAX)
+fn overwrites_what_the_lists_hold(rt: HostRuntime) -> Result<(), Fail> {
+    expect_over(&rt, rt.alloc(), -5, 0)?;
+    expect_over(&rt, rt.alloc(), 1_000_000_000_000_000_000, 1)?;
+    expect_over(&rt, rt.alloc(), i128::MAX, u32::MAX)
 }
 
 // A ring of 4,096 registers whose constraints are listed against it: each asks for 2 ticks more

@@ -4,7 +4,7 @@ use Rattle.std.proofs.Math.ListN.{set}
 use Rattle.cts_model.specs.Points.{IsBelow}
 use Rattle.schedule.specs.Gains.{gain_of}
 use Rattle.schedule.proofs.RiseLemmas.{IsRead, sum_fits, offer_read, left_read, more_read}
-use Rattle.schedule.proofs.sweep.relax.Goals as goal
+use Rattle.schedule.proofs.raising.relax.Goals as goal
 
 pub overflow_add-offer : goal.overflow_add-offer
 overflow_add-offer c =
