@@ -62,7 +62,7 @@ module _ {period ratio value : Fraction} {measure : Measure} (at : IsMeasureAt p
 
   -- no arrivals spare more than what the cycle leaves
   pub no_more : (constraints cycle : List Constraint) → All (Contains constraints) cycle
-      → ShowsRatio measure cycle ratio → SparesNoMore constraints period value
+      → ShowsRatio measure cycle ratio → SparesNoMore (Spares constraints) period value
   no_more constraints cycle among shows scale number margin arrival some number_is spares =
       let sum = cycle_among_spares scale number margin arrival constraints cycle among
       shows.is_cycle spares in

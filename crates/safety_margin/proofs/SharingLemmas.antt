@@ -188,7 +188,7 @@ module _ {period value share : Fraction} {gains : Gains}
   -- so the least by the gains are the least that spare it
   pub least_sparing : (constraints : List Constraint) (at : List ℤ)
       → AreLeastArrivalsBy constraints gains at
-      → AreLeastSparing constraints (q * u) (period.num *ℤ pos u) (value.num *ℤ pos z) at
+      → AreLeastSparing (Spares constraints) (q * u) (period.num *ℤ pos u) (value.num *ℤ pos z) at
   least_sparing constraints at least = record {
     spares = spares_at constraints (arrival_of at) least.satisfies;
     from_zero = least.from_zero;

@@ -4,8 +4,8 @@ use Rattle.cts_base.specs.declared.fraction.Fraction.{Fraction}
 use Rattle.cts_model.specs.declared.constraint.Constraint.{Constraint}
 use Rattle.cts_model.specs.declared.schedule.Schedule.{Schedule}
 use Rattle.critical_cycle.specs.CyclePlaces.{AreWithin, IsFromLowest, constraints_at}
-use Rattle.safety_margin.specs.Margins.{HasNoCycle, ShowsMargin, SparesNoMore}
-use Rattle.safety_margin.specs.SparingSchedules.{IsSparingSchedule}
+use Rattle.safety_margin.specs.Margins.{HasNoCycle, ShowsMargin, Spares, SparesNoMore}
+use Rattle.safety_margin.specs.SparingSchedules.{IsSmallSparing, IsSparingSchedule}
 use Rattle.safety_margin.specs.declared.margin.Margin.{Margin}
 use Rattle.safety_margin.specs.declared.margin.Margin.TheVariants.{Found, Unbounded}
 
@@ -13,11 +13,11 @@ use Rattle.safety_margin.specs.declared.margin.Margin.TheVariants.{Found, Unboun
 -- it
 pub record IsGreatestMargin (registers : ℕ) (constraints : List Constraint)
     (period value : Fraction) (cycle : List ℕ) (schedule : Schedule) : Type 0 where
-  pub greatest : SparesNoMore constraints period value
+  pub greatest : SparesNoMore (Spares constraints) period value
   pub within : AreWithin constraints cycle
   pub shows : ShowsMargin (constraints_at constraints cycle) period value
   pub lowest : IsFromLowest (constraints_at constraints cycle)
-  pub spared : IsSparingSchedule registers constraints period value schedule
+  pub spared : IsSparingSchedule registers (Spares constraints) period value schedule
 
 -- the answer is right: the greatest margin, or there is none as there is no cycle
 abbrev pub IsMarginOf : (registers : ℕ) → List Constraint → (period : Fraction) → Margin → Type 0
@@ -29,3 +29,8 @@ IsMarginOf registers constraints period Unbounded = HasNoCycle constraints
 abbrev pub IsUnbounded : Margin → Type 0
 IsUnbounded (Found value cycle schedule) = ⊥
 IsUnbounded Unbounded = Unit {0}
+
+-- its schedule, if it has one, is of small numbers
+abbrev pub HasSmallSparing : Margin → Type 0
+HasSmallSparing (Found value cycle schedule) = IsSmallSparing schedule
+HasSmallSparing Unbounded = Unit {0}

@@ -13,7 +13,12 @@ SparesOne scale period margin arrival constraint =
     (arrival constraint.tail +ℤ ((pos scale *ℤ constraint.weight) +ℤ margin))
     ≤ℤ (arrival constraint.head +ℤ (period *ℤ pos (count_of constraint)))
 
-abbrev pub Spares : List Constraint → (scale : ℕ) (period margin : ℤ) (arrival : ℕ → ℤ) → Type 0
+-- what it is that arrivals spare a margin at a period, all over a scale
+abbrev pub Sparing : Type 1
+Sparing = (scale : ℕ) (period margin : ℤ) (arrival : ℕ → ℤ) → Type 0
+
+-- they spare it in each constraint
+abbrev pub Spares : List Constraint → Sparing
 Spares constraints scale period margin arrival =
     All (SparesOne scale period margin arrival) constraints
 
@@ -22,9 +27,9 @@ abbrev pub IsOver : Fraction → (scale : ℕ) (number : ℤ) → Type 0
 IsOver fraction scale number = number *ℤ fraction.den ≡ fraction.num *ℤ pos scale
 
 -- no arrivals spare more at the period, at any scale
-abbrev pub SparesNoMore : List Constraint → (period value : Fraction) → Type 0
-SparesNoMore constraints period value = (scale : ℕ) (number margin : ℤ) (arrival : ℕ → ℤ)
-    → 1 ≤ scale → IsOver period scale number → Spares constraints scale number margin arrival
+abbrev pub SparesNoMore : Sparing → (period value : Fraction) → Type 0
+SparesNoMore Holds period value = (scale : ℕ) (number margin : ℤ) (arrival : ℕ → ℤ)
+    → 1 ≤ scale → IsOver period scale number → Holds scale number margin arrival
     → (margin *ℤ value.den) ≤ℤ (value.num *ℤ pos scale)
 
 -- the cycle spares just this at the period: the period as often as it is counted, less the weights,

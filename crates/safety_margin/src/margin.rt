@@ -1,6 +1,6 @@
 ghost use Rattle.std.specs.Prelude.{◌≡◌, ◌↔◌, IfOk, length};
 ghost use Rattle.cts_model.specs.Constraints.{AreSmallConstraints};
-ghost use Rattle.safety_margin.specs.Answers.{IsMarginOf, IsUnbounded};
+ghost use Rattle.safety_margin.specs.Answers.{HasSmallSparing, IsMarginOf, IsUnbounded};
 ghost use Rattle.safety_margin.specs.Margins.{HasNoCycle};
 ghost use Rattle.safety_margin.specs.RatioMargins.{IsMarginPeriod};
 
@@ -43,6 +43,7 @@ pub fn greatest_margin(
     requires period { IsMarginPeriod period }
     ensures margin { IfOk result (IsMarginOf registers constraints.now period) }
     ensures unbounded { IfOk result (λ margin. IsUnbounded margin ↔ HasNoCycle constraints.now) }
+    ensures small { IfOk result HasSmallSparing }
 {
     let room = Room::new(alloc, registers)?;
     let arrivals = ArrivalRoom::new(alloc, registers)?;
@@ -61,6 +62,7 @@ fn margin_in(
     requires period { IsMarginPeriod period }
     ensures margin { IsMarginOf (length arrivals.at) constraints.now period result }
     ensures unbounded { IsUnbounded result ↔ HasNoCycle constraints.now }
+    ensures small { HasSmallSparing result }
 {
     let measure = measure_at(period);
     match greatest_ratio_in(room, constraints, measure, below_all(period)) {

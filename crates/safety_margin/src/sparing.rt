@@ -1,9 +1,10 @@
 ghost use Rattle.std.specs.Prelude.{◌≡◌, ◌^◌, ◌*ℤ◌, length};
 ghost use Rattle.cts_model.specs.Constraints.{AreSmallConstraints};
 ghost use Rattle.cts_model.specs.Points.{IsBelow};
+ghost use Rattle.safety_margin.specs.Margins.{Spares};
 ghost use Rattle.safety_margin.specs.RatioMargins.{IsMarginPeriod};
 ghost use Rattle.safety_margin.specs.Sharing.{AreGainsAt, CanSpare, IsShare, IsSmallMargin};
-ghost use Rattle.safety_margin.specs.SparingSchedules.{IsSparingSchedule};
+ghost use Rattle.safety_margin.specs.SparingSchedules.{IsSmallSparing, IsSparingSchedule};
 
 use cts_base::{Fraction, Listed};
 use cts_model::{Constraint, Schedule};
@@ -21,7 +22,9 @@ pub(crate) fn sparing_schedule(
     requires period { IsMarginPeriod period }
     requires value { IsSmallMargin value }
     requires spared { CanSpare constraints.now period value }
-    ensures { IsSparingSchedule (length room.at) constraints.now period value result }
+    ensures sparing { IsSparingSchedule (length room.at) (Spares constraints.now) period value
+        result }
+    ensures small { IsSmallSparing result }
 {
     let gains = gains_at(period, value, share_of(period, value));
     Schedule {

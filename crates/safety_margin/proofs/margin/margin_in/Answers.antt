@@ -45,7 +45,7 @@ returns-in-Cycle-clause-margin c =
       shows = shows_margin c.measure_at-measure.ensures c.margin_at-value.ensures steps
           found.shows;
       lowest = found.lowest;
-      spared = c.sparing_schedule-schedule.ensures;
+      spared = c.sparing_schedule-schedule.ensures.sparing;
     }
 
 pub returns-in-Cycle-clause-unbounded : goal.returns-in-Cycle-clause-unbounded

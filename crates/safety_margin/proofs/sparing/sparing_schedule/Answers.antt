@@ -2,7 +2,7 @@
 use Rattle.std.proofs.Common.{◌≡◌, ◌*◌, ◌^◌, ℤ, pos, ◌*ℤ◌, ◌≤ℤ◌, ap, subst, sym, arith}
 use Rattle.std.specs.Prelude.{nat_abs}
 use Rattle.std.proofs.lemmas.Int.{ints}
-use Rattle.safety_margin.specs.Margins.{IsOver}
+use Rattle.safety_margin.specs.Margins.{IsOver, Spares}
 use Rattle.safety_margin.specs.SparingSchedules.{AreLeastSparing}
 use Rattle.safety_margin.proofs.CodeLemmas.{kept}
 use Rattle.safety_margin.proofs.SharingLemmas.{admits, least_sparing, multiple, period_over, scale_is, value_over}
@@ -16,8 +16,8 @@ least_arrivals_in-requires-clause-admitted c =
 scale_read : (z : ℤ) → pos 1 ≤ℤ z → z ≤ℤ pos (4097 * 10 ^ 8) → kept z ≡ z
 scale_read z some fine = omega (arith, ints)
 
-pub returns : goal.returns
-returns c =
+pub returns-clause-sparing : goal.returns-clause-sparing
+returns-clause-sparing c =
     let gains = c.gains_at-gains.result in
     let share = c.share_of.ensures in
     let are = c.gains_at-gains.ensures in
@@ -33,7 +33,16 @@ returns c =
       number_is = subst (λ n. IsOver c.args.period n number) (sym size) (period_over share are);
       margin = margin;
       margin_is = subst (λ n. IsOver c.args.value n margin) (sym size) (value_over share are);
-      least = subst (λ n. AreLeastSparing c.args.constraints.now n number margin
+      least = subst (λ n. AreLeastSparing (Spares c.args.constraints.now) n number margin
           c.least_arrivals_in.result) (sym size) (least_sparing share are c.args.constraints.now
           c.least_arrivals_in.result c.least_arrivals_in.ensures.least);
+    })
+
+pub returns-clause-small : goal.returns-clause-small
+returns-clause-small c =
+    let gains = c.gains_at-gains.result in
+    rw (scale_read gains.scale gains.valid.some gains.valid.fine) (record {
+      some_den = gains.valid.some;
+      low_den = gains.valid.fine;
+      arrivals = c.least_arrivals_in.ensures.small;
     })
