@@ -1,3 +1,3 @@
-mod PairInequalities
-mod BothOfPairs
+pub mod PairInequalities
+pub mod BothOfPairs
 mod ListedConstraints

@@ -12,6 +12,7 @@ mod SinkLemmas
 mod ReportLemmas
 mod ShownReports
 mod SessionLemmas
+pub mod MarginLemmas
 pub mod ProblemLemmas
 pub mod HostedLoops
 mod OnePlaces

@@ -10,3 +10,4 @@ pub mod ClockTrees
 pub mod RegisterTimes
 pub mod SinkOutcomes
 pub mod SessionOutcomes
+pub mod CircuitMargins

@@ -5,6 +5,7 @@ mod acceptance;
 mod clock_tree;
 mod cycle_paths;
 mod fault;
+mod margin;
 mod pairs;
 mod period;
 mod refusals;
@@ -19,6 +20,7 @@ mod zero;
 
 pub use acceptance::{Denoted, accept, accept_circuit, hosted};
 pub use fault::SynthFault;
+pub use margin::{MarginOutcome, margin_of};
 pub use period::{PeriodOutcome, period_of};
 pub use refusals::Refusal;
 pub use scheduling::{ScheduleOutcome, schedule_of};

@@ -116,8 +116,8 @@ fn outcome(
     }
 }
 
-// The constraints at these places of a list.
-fn constraints_at(
+/// The constraints at these places of a list.
+pub(crate) fn constraints_at(
     alloc: Global,
     constraints: &Listed<Constraint>,
     places: &Listed<u32>,

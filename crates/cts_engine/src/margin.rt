@@ -1,0 +1,66 @@
+ghost use Rattle.std.specs.Prelude.{◌↔◌, ℕ, List, IfOk, IfErr};
+ghost use Rattle.cts_model.specs.PairLists.{JoinsMoreThan};
+ghost use Rattle.cts_model.specs.Paths.{IsLoop};
+ghost use Rattle.safety_margin.specs.RatioMargins.{IsMarginPeriod};
+ghost use Rattle.cts_engine.specs.CircuitMargins.{HasNoPath, IsMarginOutcome, IsSmallOutcome, IsUnboundedOutcome};
+ghost use Rattle.cts_engine.specs.Faults.{IsCaused};
+
+use crate::SynthFault;
+use crate::pairs::{levels_of, pairs_of};
+use crate::period::constraints_at;
+use constraints::constraints_of;
+use cts_base::{Fraction, Listed};
+use cts_model::{Circuit, Constraint, Schedule, Tech};
+use safety_margin::{Margin, greatest_margin};
+use std::alloc::Global;
+
+/// What every setup and hold inequality of a circuit has to spare at a period.
+#[derive(Debug, Drop)]
+pub enum MarginOutcome {
+    /// The greatest margin that some arrivals spare over every path.
+    Found {
+        /// In ticks. It may be negative.
+        value: Fraction,
+        /// Constraints that lead from a register back to it, and that spare no more.
+        cycle: Listed<Constraint>,
+        /// The least arrivals from 0 on that spare it, over the least common multiple of the
+        /// denominators of the period and the value.
+        schedule: Schedule,
+    },
+    /// Every margin is spared, as no path joins two registers.
+    Unbounded,
+}
+
+/// The greatest margin of a circuit at a period, whenever the clock reaches each register, in
+/// ticks.
+pub fn margin_of(
+    alloc: Global,
+    circuit: &Circuit,
+    tech: &Tech,
+    period: Fraction,
+) -> Result<MarginOutcome, SynthFault>
+    requires acyclic { (loop : List ℕ) → IsLoop circuit.now.signals loop → ⊥ }
+    requires period { IsMarginPeriod period }
+    ensures ok { IfOk result (IsMarginOutcome circuit.now tech.now period) }
+    ensures unbounded { IfOk result (λ outcome. IsUnboundedOutcome outcome ↔ HasNoPath circuit.now) }
+    ensures small { IfOk result IsSmallOutcome }
+    ensures few { IfOk result (λ _. JoinsMoreThan circuit.now 1048576 → ⊥) }
+    ensures many { IfErr result (IsCaused circuit.now) }
+{
+    let levels = levels_of(alloc, circuit)?;
+    let pairs = pairs_of(alloc, circuit, &levels, tech)?;
+    let constraints = constraints_of(alloc, &pairs, tech)?;
+    let registers = circuit.registers.len();
+    match greatest_margin(alloc, registers, &constraints, period)? {
+        Margin::Found {
+            value,
+            cycle,
+            schedule,
+        } => Ok(MarginOutcome::Found {
+            value,
+            cycle: constraints_at(alloc, &constraints, &cycle)?,
+            schedule,
+        }),
+        Margin::Unbounded => Ok(MarginOutcome::Unbounded),
+    }
+}
