@@ -1,0 +1,53 @@
+#!/usr/bin/env python3
+"""bench_to_verilog.py FILE.bench: prints the netlist as structural Verilog, of the cells that table_to_liberty.py makes.
+
+An instance has the name of the signal that it drives, and a port or a wire that of the signal. The clock comes in by the port
+'clock', and an output's port is named as its signal with '_out' behind it.
+"""
+import re
+import sys
+
+CLOCK = "clock"
+
+
+def statements(path):
+    """(KIND, NAME, inputs) for each line: INPUT, OUTPUT, DFF or a gate's kind."""
+    for line in open(path, encoding="latin-1"):
+        line = line.split("#")[0].strip()
+        port = re.fullmatch(r"(INPUT|OUTPUT)\s*\(\s*(\S+)\s*\)", line, re.IGNORECASE)
+        gate = re.fullmatch(r"(\S+)\s*=\s*(\w+)\s*\((.*)\)", line)
+        if port:
+            yield port[1].upper(), port[2], []
+        elif gate:
+            yield gate[2].upper(), gate[1], [name.strip() for name in gate[3].split(",")]
+        elif line:
+            sys.exit(f"{path}: not a line of a netlist: {line}")
+
+
+def escaped(name):
+    return f"\\{name} "
+
+
+def main():
+    netlist = list(statements(sys.argv[1]))
+    inputs = dict.fromkeys([CLOCK] + [name for kind, name, _ in netlist if kind == "INPUT"])
+    outputs = dict.fromkeys(name for kind, name, _ in netlist if kind == "OUTPUT")
+    ports = [escaped(name) for name in inputs] + [escaped(name + "_out") for name in outputs]
+    print(f"module top ({', '.join(ports)});")
+    for name in inputs:
+        print(f"  input {escaped(name)};")
+    for name in outputs:
+        print(f"  output {escaped(name + '_out')};")
+        print(f"  assign {escaped(name + '_out')} = {escaped(name)};")
+    for kind, name, reads in netlist:
+        if kind == "DFF":
+            print(f"  DFF {escaped(name)} (.CK({CLOCK}), .D({escaped(reads[0])}), .Q({escaped(name)}));")
+        elif kind not in ("INPUT", "OUTPUT"):
+            pins = "".join(f".A{place}({escaped(read)}), " for place, read in enumerate(reads, 1))
+            cell = ("BUFF" if kind == "BUF" else kind) + str(len(reads))
+            print(f"  {cell} {escaped(name)} ({pins}.Z({escaped(name)}));")
+    print("endmodule")
+
+
+if __name__ == "__main__":
+    main()

@@ -1,0 +1,20 @@
+# Prints a mapped BLIF file of berkeley-abc as a .bench netlist. Names stay as they are. A gate's kind is its cell's name
+# without the number of inputs behind it.
+{ line = line $0 }
+sub(/\\$/, "", line) { next }
+{ $0 = line; line = "" }
+
+$1 == ".inputs" { for (place = 2; place <= NF; place++) print "INPUT(" $place ")" }
+$1 == ".outputs" { for (place = 2; place <= NF; place++) print "OUTPUT(" $place ")" }
+$1 == ".latch" { print $3 " = DFF(" $2 ")" }
+$1 == ".gate" {
+    kind = $2
+    sub(/[0-9]+$/, "", kind)
+    inputs = ""
+    for (place = 3; place < NF; place++) inputs = inputs (place > 3 ? ", " : "") signal($place)
+    print signal($NF) " = " kind "(" inputs ")"
+}
+$1 == ".names" { print "a constant drives " $NF ", which a netlist of gates can't say" > "/dev/stderr"; exit 1 }
+
+# The signal of a pin that stands as PIN=SIGNAL.
+function signal(pin) { return substr(pin, index(pin, "=") + 1) }

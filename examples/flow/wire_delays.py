@@ -1,0 +1,43 @@
+#!/usr/bin/env python3
+"""wire_delays.py REPORT.cts TABLE.toml: prints a report's period, and in place of each arrival the delay of the register's wire.
+
+That is the length of all edges from the source down to the register, times the wire delay of the table. The text can be
+read as one of `cts schedule` is.
+"""
+import sys
+import tomllib
+from fractions import Fraction
+
+
+def read_report(path):
+    """The period, the registers' names, the merges as (node, its two nodes), and each node's length of edge."""
+    period, names, merges, lengths = None, [], [], {}
+    lines = map(str.split, open(path))
+    for words in lines:
+        if words[0] == "period":
+            period = words[1]
+        elif words[0] == "registers":
+            names = [next(lines)[0] for _ in range(int(words[1]))]
+        elif words[0] == "merges":
+            merges = [tuple(map(int, next(lines)[:3])) for _ in range(int(words[1]))]
+        elif words[0] == "nodes":
+            edges = [next(lines) for _ in range(int(words[1]))]
+            lengths = {int(edge[0]): Fraction(edge[3]) for edge in edges}
+    return period, names, merges, lengths
+
+
+def main():
+    period, names, merges, lengths = read_report(sys.argv[1])
+    delay = Fraction(tomllib.load(open(sys.argv[2], "rb"))["wire"]["delay"])
+    root = len(lengths) - 1
+    wires = {root: lengths[root]}
+    for node, first, second in reversed(merges):
+        wires[first] = wires[node] + lengths[first]
+        wires[second] = wires[node] + lengths[second]
+    print(f"period {period}\nregisters {len(names)}")
+    for number, name in enumerate(names):
+        print(name, wires[number] * delay)
+
+
+if __name__ == "__main__":
+    main()
