@@ -1,25 +1,29 @@
 #!/usr/bin/env python3
-"""arrivals_to_sdc.py [FILE]: prints the period and the arrivals of a text of cts (schedule, report, margin or corners) as SDC.
+"""arrivals_to_sdc.py TEXT [TABLE.toml]: prints the period and the arrivals of a text of cts (schedule, report, margin, corners) as SDC.
 
 A time that isn't a whole number of thousandths of a tick is rounded: the period up, and every arrival down. As all delays are
 whole ticks, what held before then still holds: no setup or hold slack that was at least 0 falls below 0.
+A host is a clock of its own, at whose arrival inputs are launched and outputs captured; its times are those of the table.
 """
-import fileinput
+import sys
+import tomllib
 from fractions import Fraction
 from math import ceil, floor
 
 CLOCK = "clock"  # the port that the clock comes in by
 PIN = "CK"  # the clock pin of a register
+HOST = "(host)"
 STEPS = 1000  # steps in a tick: 10 to the number of decimals
 
 
-def decimal(steps):
+def decimal(time, to_whole=floor):
+    steps = to_whole(time * STEPS)
     return f"{steps // STEPS}.{steps % STEPS:03}"
 
 
-def quoted(name):
-    """A name as a pattern of Tcl's that only this name matches."""
-    return "".join("\\" + byte if byte in "\\[]{}*?$/ " else byte for byte in name)
+def pin(name):
+    """A register's clock pin, as a pattern of Tcl's that matches no other. A backslash in front is Verilog's own mark."""
+    return "".join("\\" + byte if byte in "\\[]{}*?$/ " else byte for byte in name.removeprefix("\\")) + "/" + PIN
 
 
 def read(lines):
@@ -36,15 +40,25 @@ def read(lines):
     return period, arrivals
 
 
+def print_host(period, arrival, register):
+    print(f"create_clock -name host -period {period}\nset_clock_latency {arrival} [get_clocks host]")
+    for bound, launch, capture in (("max", "greatest", register["setup"]), ("min", "least", -register["hold"])):
+        print(f"set_input_delay -{bound} {register[launch]} -clock host [all_inputs]")
+        print(f"set_output_delay -{bound} {capture} -clock host [all_outputs]")
+
+
 def main():
-    period, arrivals = read(fileinput.input())
+    period, arrivals = read(open(sys.argv[1]))
     times = [period] + [arrival for _, arrival in arrivals]
-    exact = all(time * STEPS == floor(time * STEPS) for time in times)
+    exact = all(STEPS % time.denominator == 0 for time in times)
     print("# The times are exact." if exact else "# The period is rounded up, and arrivals are rounded down.")
-    print(f"create_clock -name {CLOCK} -period {decimal(ceil(period * STEPS))} [get_ports {CLOCK}]")
+    period = decimal(period, ceil)
+    print(f"create_clock -name {CLOCK} -period {period} [get_ports {CLOCK}]")
     for name, arrival in arrivals:
-        latency = decimal(floor(arrival * STEPS))
-        print(f"set_clock_latency {latency} [get_pins {{{quoted(name)}/{PIN}}}]")
+        if name == HOST:
+            print_host(period, decimal(arrival), tomllib.load(open(sys.argv[2], "rb"))["register"])
+        else:
+            print(f"set_clock_latency {decimal(arrival)} [get_pins {{{pin(name)}}}]")
 
 
 if __name__ == "__main__":

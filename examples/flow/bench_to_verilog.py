@@ -1,8 +1,8 @@
 #!/usr/bin/env python3
 """bench_to_verilog.py FILE.bench: prints the netlist as structural Verilog, of the cells that table_to_liberty.py makes.
 
-An instance has the name of the signal that it drives, and a port or a wire that of the signal. The clock comes in by the port
-'clock', and an output's port is named as its signal with '_out' behind it.
+An instance has the name of the signal that it drives, and a wire or a port that of the signal. The clock comes in by the port
+'clock'. An output that is an input too gets a port of its own, with '_out' behind the name.
 """
 import re
 import sys
@@ -25,20 +25,21 @@ def statements(path):
 
 
 def escaped(name):
-    return f"\\{name} "
+    """A name as Verilog's escaped identifier. A backslash in front is that mark already."""
+    return "\\" + name.removeprefix("\\") + " "
 
 
 def main():
     netlist = list(statements(sys.argv[1]))
     inputs = dict.fromkeys([CLOCK] + [name for kind, name, _ in netlist if kind == "INPUT"])
     outputs = dict.fromkeys(name for kind, name, _ in netlist if kind == "OUTPUT")
-    ports = [escaped(name) for name in inputs] + [escaped(name + "_out") for name in outputs]
-    print(f"module top ({', '.join(ports)});")
-    for name in inputs:
-        print(f"  input {escaped(name)};")
-    for name in outputs:
-        print(f"  output {escaped(name + '_out')};")
-        print(f"  assign {escaped(name + '_out')} = {escaped(name)};")
+    passed = {name: name + "_out" for name in outputs if name in inputs}
+    ports = [*inputs, *(passed.get(name, name) for name in outputs)]
+    print(f"module top ({', '.join(map(escaped, ports))});")
+    for place, name in enumerate(ports):
+        print(f"  {'input' if place < len(inputs) else 'output'} {escaped(name)};")
+    for name, port in passed.items():
+        print(f"  assign {escaped(port)} = {escaped(name)};")
     for kind, name, reads in netlist:
         if kind == "DFF":
             print(f"  DFF {escaped(name)} (.CK({CLOCK}), .D({escaped(reads[0])}), .Q({escaped(name)}));")

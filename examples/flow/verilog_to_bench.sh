@@ -19,6 +19,12 @@ yosys -q -p "
     opt_clean -purge
     write_blif logic.blif" >yosys.log 2>&1 || { cat yosys.log >&2; exit 1; }
 
+clocks=$(awk '$1 == ".latch" { print $5 }' logic.blif | sort -u)
+if [ "$(wc -l <<<"$clocks")" -ne 1 ]; then
+    echo "$top has registers of several clocks:" $clocks >&2
+    exit 1
+fi
+
 berkeley-abc -q "read_genlib $here/kinds.genlib; read_blif logic.blif; strash; dch; map; write_blif gates.blif" >abc.log 2>&1 || true
 [ -s gates.blif ] || { cat abc.log >&2; exit 1; }
 
