@@ -1,6 +1,7 @@
 #!/usr/bin/env bash
-# Goes the way of docs/FLOW.md with the filter of examples/: from Verilog to a netlist, through each command, and to OpenSTA, whose
-# slacks have to be the printed ones. What a missing tool would do is left out, with a word. usage: tests/flow.sh [PROGRAM]
+# Goes the way of docs/FLOW.md with the filter of examples/: from Verilog to a netlist, through each
+# command, and to OpenSTA, whose slacks have to be the printed ones. What needs a tool that is
+# missing is left out, with a word. usage: tests/flow.sh [PROGRAM]
 set -u
 top=$(cd "$(dirname "${BASH_SOURCE[0]}")/.." && pwd) || exit 1
 flow=$top/examples/flow
@@ -18,8 +19,9 @@ usage=$("$program" 2>&1)
 
 has() { command -v "$1" >/dev/null 2>&1; }
 has_command() { [[ $usage == *"cts $1 "* ]]; }
+left_out() { echo "flow: $1, so $2 is left out"; }
 
-# holds NAME COMMAND..: what the command says of the files is so.
+# holds NAME COMMAND..: the command ends with status 0. What it says is shown where it doesn't.
 holds() {
     local name=$1
     shift
@@ -31,67 +33,114 @@ holds() {
     fi
 }
 
-# Reckons with times as cts prints them: whole numbers and fractions.
-reckon() { awk "function value(text,  parts) { return split(text, parts, \"/\") == 2 ? parts[1] / parts[2] : text + 0 } $1" "${@:2}"; }
-# near A B: the same to a hundredth of a tick. OpenSTA keeps times in 32 bits.
-near() { at_least "$1" "$2" && at_least "$2" "$1"; }
+# cts TEXT COMMAND..: an answer of the program, kept in the file TEXT.
+cts() { "$program" "${@:2}" >"$work/$1"; }
+
+# Times are whole numbers and fractions. They are compared to a hundredth of a tick, since OpenSTA
+# keeps them in 32 bits.
+reckon() {
+    awk '
+        function value(text,  parts) {
+            return split(text, parts, "/") == 2 ? parts[1] / parts[2] : text + 0
+        }
+        function is_below(first, second) { return value(first) <= value(second) - 0.01 }
+        '"$1" "${@:2}"
+}
 at_least() {
     echo "${1:-nothing} and ${2:-nothing}"
-    [ -n "$1" ] && [ -n "$2" ] && reckon 'BEGIN { exit value(ARGV[1]) <= value(ARGV[2]) - 0.01 }' "$1" "$2"
+    [ -n "$1" ] && [ -n "$2" ] && reckon 'BEGIN { exit is_below(ARGV[1], ARGV[2]) }' "$1" "$2"
 }
-# A fifth or more of the first period is gained at the second.
-gains_a_fifth() { echo "$1 and $2" && reckon 'BEGIN { exit 5 * value(ARGV[2]) > 4 * value(ARGV[1]) }' "$1" "$2"; }
-minus() { reckon 'BEGIN { printf "%.3f", value(ARGV[1]) - value(ARGV[2]) }' "$1" "$2"; }
-# The second word of the first line of a text that begins with this word.
-word() { awk -v first="$1" '$1 == first { print $2; exit }' "$2"; }
-registers() { awk '$1 == "registers" { left = $2; next } left-- > 0' "$1"; }
-merges() { awk 'NF == 2 && $1 == "merges" { left = $2; next } left-- > 0 { print $1, $2, $3 }' "$1"; }
-same() { diff "$1" "$2" | head -n 4; cmp -s "$1" "$2"; }
+near() { at_least "$1" "$2" && at_least "$2" "$1"; }
+product() { reckon 'BEGIN { printf "%.3f", value(ARGV[1]) * value(ARGV[2]) }' "$1" "$2"; }
+difference() { reckon 'BEGIN { printf "%.3f", value(ARGV[1]) - value(ARGV[2]) }' "$1" "$2"; }
+same() { diff "$1" "$2"; }
 
-# Verilog to netlist, or the netlist that lies there.
+# word FIRST TEXT: what follows the word FIRST on the first line of the text that begins with it.
+word() { awk -v first="$1" '$1 == first { print $2; exit }' "$work/$2"; }
+registers() { awk '$1 == "registers" { left = $2; next } left-- > 0' "$work/$1"; }
+merges() {
+    awk 'NF == 2 && $1 == "merges" { left = $2; next } left-- > 0 { print $1, $2, $3 }' "$work/$1"
+}
+
+# From Verilog to a netlist, or the netlist that lies there.
 netlist=$work/biquad.bench
 table=$top/examples/biquad.toml
-places=$work/biquad.pl
 make_netlist() { "$flow/verilog_to_bench.sh" "$top/examples/biquad.v" biquad >"$netlist"; }
 if has yosys && has berkeley-abc; then
     holds 'Verilog to netlist' make_netlist
     cmp -s "$netlist" "$top/examples/biquad.bench" ||
-        echo "flow: these versions of the tools write another netlist than examples/biquad.bench"
+        echo "flow: the tools make another netlist here than examples/biquad.bench"
 else
-    echo "flow: yosys and berkeley-abc aren't both there, so the netlist is examples/biquad.bench"
+    left_out "yosys and berkeley-abc aren't both there" 'the way from Verilog to a netlist'
     cp "$top/examples/biquad.bench" "$netlist"
 fi
-awk -f "$flow/grid_placement.awk" "$netlist" >"$places"
+awk -f "$flow/grid_placement.awk" "$netlist" >"$work/biquad.pl"
 circuit=(--bench "$netlist" --tech "$table")
-problem=("${circuit[@]}" --pl "$places")
-
-# cts NAME COMMAND..: an answer of the program, kept as NAME.
-cts() { "$program" "${@:2}" >"$work/$1"; }
+problem=("${circuit[@]}" --pl "$work/biquad.pl")
 
 holds zero cts zero zero "${circuit[@]}"
 holds period cts period period "${circuit[@]}"
 holds schedule cts schedule schedule "${circuit[@]}"
 holds synth cts report synth "${problem[@]}"
 holds check cts verdict check "${problem[@]}" --report "$work/report"
-zero=$(word zero "$work/zero")
-period=$(word period "$work/period")
-holds 'a fifth is gained' gains_a_fifth "$zero" "$period"
-registers "$work/schedule" >"$work/scheduled"
-registers "$work/report" >"$work/reported"
+zero=$(word zero zero)
+period=$(word period period)
+holds 'a fifth or more is gained' at_least "$(product "$zero" 4/5)" "$period"
+registers schedule >"$work/scheduled"
+registers report >"$work/reported"
 holds 'a report has the schedule' same "$work/scheduled" "$work/reported"
-merges "$work/report" >"$work/topology"
+merges report >"$work/topology"
 holds embed cts embedded embed "${problem[@]}" --topology "$work/topology"
 holds 'the printed merges give the report again' same "$work/report" "$work/embedded"
 
-# What berkeley-abc itself writes of ANDs and inverters is read: outputs that repeat, buffers, marks in names, wide gates, and
-# registers fed by an input and by a register. Its tables of values and its constants aren't.
-abc() { (cd "$work" && berkeley-abc -q "read_blif marked.blif; $1" 2>&1); }
-refused() {
-    "$program" zero --bench "$work/$1" 2>&1 | diff - <(echo "$2")
-}
+# At the period of equal arrivals, the margin is what useful skew gives to every check.
+if has_command margin; then
+    holds margin cts margin margin "${circuit[@]}" --period "$zero"
+    holds 'there is a margin' at_least "$(word margin margin)" 1
+    holds 'margin at the least period' cts least margin "${circuit[@]}" --period "$period"
+    holds 'there is none' near "$(word margin least)" 0
+else
+    left_out "this program has no margin" 'the margin'
+fi
+
+# A fast corner has seven tenths of all times.
+fast=$work/fast.toml
+awk '$2 == "=" && $3 ~ /^[0-9]+$/ { $3 = int($3 * 7 / 10) } 1' "$table" >"$fast"
+if has_command corners; then
+    holds corners cts corners corners --bench "$netlist" "$table" "$fast"
+    holds 'two corners need no less' at_least "$(word period corners)" "$period"
+else
+    left_out "this program has no corners" 'the second corner'
+fi
+
+# Two registers move: the wire is that of the same merges with the places as they are then.
+if has_command moves; then
+    first=$(head -n 1 "$work/scheduled" | cut -d ' ' -f 1)
+    last=$(tail -n 1 "$work/scheduled" | cut -d ' ' -f 1)
+    printf '%s 33 7.5\n%s 400 0\n' "$first" "$last" >"$work/moves"
+    holds moves cts wires_of_moves moves "${problem[@]}" --moves "$work/moves"
+    awk -v first="$first" -v last="$last" '
+        $1 == first { $2 = 33; $3 = 7.5 }
+        $1 == last { $2 = 400; $3 = 0 }
+        1' "$work/biquad.pl" >"$work/moved.pl"
+    moved=("${circuit[@]}" --pl "$work/moved.pl" --topology "$work/topology")
+    holds 'embed after the moves' cts moved embed "${moved[@]}"
+    { tail -n 1 "$work/report"; tail -n 1 "$work/moved"; } >"$work/wires_of_trees"
+    sed -i 2d "$work/wires_of_moves"
+    holds 'the wire before and after' same "$work/wires_of_moves" "$work/wires_of_trees"
+else
+    left_out "this program has no moves" 'the move of two registers'
+fi
+
+# What berkeley-abc itself writes of ANDs and inverters is read: outputs that repeat, buffers, marks
+# in names, wide gates, and registers fed by an input and by a register. Its tables of values and
+# its constants are refused by their lines, and a constant is read in the form of an input.
+abc() { (cd "$work" && berkeley-abc -q "read_blif marks.blif; $1"); }
+refused() { diff <("$program" zero --bench "$work/$1" 2>&1) <(echo "$2"); }
+line_of() { grep -n -m 1 "$1" "$work/$2" | cut -d : -f 1; }
 if has berkeley-abc; then
-    cat >"$work/marked.blif" <<'END'
-.model marked
+    cat >"$work/marks.blif" <<'END'
+.model marks
 .inputs \a[3] b c d e
 .outputs wide same wide first never
 .latch \a[3] first$ 2
@@ -105,84 +154,67 @@ if has berkeley-abc; then
 1-- 1
 -1- 1
 --1 1
-CONSTANT
+.names never
+1
 .end
 END
-    sed '/^CONSTANT/d; s/ never$//' "$work/marked.blif" >"$work/plain.blif"
-    sed -i 's/^CONSTANT/.names never\n1/' "$work/marked.blif"
     holds 'a constant' abc 'strash; write_bench -l constant.bench'
-    holds 'its line' refused constant.bench "refused bench 1 line $(grep -n vdd "$work/constant.bench" | cut -d : -f 1)"
+    line="refused bench 1 line $(line_of vdd constant.bench)"
+    holds 'its line is refused' refused constant.bench "$line"
     sed 's/^\([^ ]*\) *= vdd$/INPUT(\1)/' "$work/constant.bench" >"$work/input.bench"
-    holds 'an input in its place' cts input zero --bench "$work/input.bench"
-    cp "$work/plain.blif" "$work/marked.blif"
-    holds 'ANDs and inverters' abc 'strash; write_bench -l ands.bench'
-    holds 'they are read' cts ands zero --bench "$work/ands.bench"
+    holds 'ANDs and inverters are read' cts ands zero --bench "$work/input.bench"
     holds 'tables of values' abc 'write_bench tables.bench'
-    holds 'their first line' refused tables.bench "refused bench 2 line $(grep -n DFFRSE "$work/tables.bench" | head -n 1 | cut -d : -f 1)"
+    line="refused bench 2 line $(line_of DFFRSE tables.bench)"
+    holds 'their first line is refused' refused tables.bench "$line"
+else
+    left_out "berkeley-abc isn't there" 'what it writes itself'
 fi
 
-# At the period of equal arrivals, the margin is what useful skew gives to every check.
-if has_command margin; then
-    holds margin cts margin margin "${circuit[@]}" --period "$zero"
-    holds 'there is a margin' at_least "$(word margin "$work/margin")" 1
-    holds 'margin at the least period' cts least margin "${circuit[@]}" --period "$period"
-    holds 'none is left there' near "$(word margin "$work/least")" 0
-fi
-
-# A fast corner has seven tenths of all times.
-fast=$work/fast.toml
-awk '$2 == "=" && $3 ~ /^[0-9]+$/ { $3 = int($3 * 7 / 10) } 1' "$table" >"$fast"
-if has_command corners; then
-    holds corners cts corners corners --bench "$netlist" "$table" "$fast"
-    holds 'two corners need no less' at_least "$(word period "$work/corners")" "$period"
-fi
-
-# Two registers move: the wire is that of the same merges with the places as they are then.
-if has_command moves; then
-    first=$(awk 'NR == 1 { print $1 }' "$work/scheduled")
-    last=$(awk 'END { print $1 }' "$work/scheduled")
-    printf '%s 33 7.5\n%s 400 0\n' "$first" "$last" >"$work/moves"
-    holds moves cts moved moves "${problem[@]}" --moves "$work/moves"
-    awk -v first="$first" -v last="$last" '$1 == first { $2 = 33; $3 = 7.5 } $1 == last { $2 = 400; $3 = 0 } 1' \
-        "$places" >"$work/moved.pl"
-    holds 'embed after the moves' cts again embed "${circuit[@]}" --pl "$work/moved.pl" --topology "$work/topology"
-    { tail -n 1 "$work/report"; tail -n 1 "$work/again"; } >"$work/wires_before_and_after"
-    sed 2d "$work/moved" >"$work/first_and_last"
-    holds 'the wire before and after' same "$work/first_and_last" "$work/wires_before_and_after"
-fi
-
-# signed_off NAME TABLE [NETLIST]: the slacks that OpenSTA finds with the arrivals of the text NAME, kept as NAME.slacks.
+# signed_off TEXT TABLE [NETLIST]: the slacks with the arrivals of the text, kept as TEXT.slacks.
 signed_off() {
     "$flow/arrivals_to_sdc.py" "$work/$1" "$2" >"$work/$1.sdc" &&
         "$flow/slacks.sh" "${3-$netlist}" "$2" "$work/$1.sdc" >"$work/$1.slacks"
 }
-wire_delays() { "$flow/wire_delays.py" "$work/report" "$table" >"$work/wires"; }
-# worst CHECK NAME: the least slack of setup or hold there, or of both.
+# worst CHECK TEXT: the least slack of all setup or all hold checks, or of both.
 worst() {
     awk -v check="$1" '
         check != "hold" && (least == "" || $2 < least) { least = $2 }
         check != "setup" && (least == "" || $3 < least) { least = $3 }
         END { print least }' "$work/$2.slacks"
 }
-# printed SCHEDULE NAME: each register's slacks in NAME.slacks are those that the schedule prints, and where it prints none there
-# are none. Verilog has no backslash in front of a name, since that is its mark of an escaped one.
+# printed SCHEDULE TEXT: each register's slacks with the arrivals of the text are those that the
+# schedule prints, and there are none where it prints none. The mark of a name that Verilog has to
+# escape, a backslash in front, is no part of it for OpenSTA.
 printed() {
-    registers "$work/$1" >"$work/expected"
+    registers "$1" >"$work/expected"
     reckon '
-        function differ(a, b) { return value(a) - value(b) > 0.01 || value(b) - value(a) > 0.01 }
+        function differ(first, second) {
+            return is_below(first, second) || is_below(second, first)
+        }
         NR == FNR { setup[$1] = $2; hold[$1] = $3; next }
         { sub(/^\\/, "") }
-        ($3 == "-") == ($1 in setup) || $3 != "-" && (differ($3, setup[$1]) || differ($4, hold[$1])) {
+        $3 == "-" ? $1 in setup \
+            : !($1 in setup) || differ($3, setup[$1]) || differ($4, hold[$1]) {
             print $0 ", and OpenSTA has", setup[$1], hold[$1]
             wrong = 1
         }
         END { exit wrong || FNR == 0 }' "$work/$2.slacks" "$work/expected"
 }
+equal_arrivals() {
+    printf 'period %s\nregisters %s\n' "$period" "$(wc -l <"$work/scheduled")"
+    awk '{ print $1, 0 }' "$work/scheduled"
+}
+wire_delays() { "$flow/wire_delays.py" "$work/report" "$table" >"$work/wires"; }
+with_host() {
+    cat "$1"
+    printf '[host]\nplace = "CLK"\n'
+}
 
 if has sta; then
-    { sed -n '/^period/p; /^registers/p' "$work/schedule"; awk '{ print $1, 0 }' "$work/scheduled"; } >"$work/equal"
+    equal_arrivals >"$work/equal"
     holds 'OpenSTA at equal arrivals' signed_off equal "$table"
-    holds 'the worst setup slack is the period less that of equal arrivals' near "$(worst setup equal)" "$(minus "$period" "$zero")"
+    lacking=$(difference "$period" "$zero")
+    holds 'the period less that of equal arrivals is left' near "$(worst setup equal)" "$lacking"
     holds 'OpenSTA at the scheduled arrivals' signed_off schedule "$table"
     holds 'the worst setup slack is 0' near "$(worst setup schedule)" 0
     holds 'no hold slack is below 0' at_least "$(worst hold schedule)" 0
@@ -192,28 +224,31 @@ if has sta; then
     holds 'each slack is the same with them' printed schedule wires
     if has_command margin; then
         holds 'OpenSTA at the margin' signed_off margin "$table"
-        holds 'the worst slack is the margin' near "$(worst both margin)" "$(word margin "$work/margin")"
+        holds 'the worst slack is the margin' near "$(worst both margin)" "$(word margin margin)"
     fi
     if has_command corners; then
         holds 'OpenSTA at the first corner' signed_off corners "$table"
-        cp "$work/corners.slacks" "$work/first.slacks"
+        mv "$work/corners.slacks" "$work/first.slacks"
         holds 'OpenSTA at the second corner' signed_off corners "$fast"
         cat "$work/first.slacks" >>"$work/corners.slacks"
         holds 'the worst slack of both corners is 0' near "$(worst both corners)" 0
     fi
 
-    # Inputs and outputs have a host. Then names have marks, and the period is a third, which no decimal is.
-    { sed 's/= 105/= 106/' "$table"; printf '[host]\nplace = "CLK"\n'; } >"$work/host.toml"
+    with_host "$table" >"$work/host.toml"
     holds 'a host' cts host schedule --bench "$netlist" --tech "$work/host.toml"
     holds 'OpenSTA with a host' signed_off host "$work/host.toml"
     holds 'each slack is as printed with a host' printed host host
-    printf '%s\n' 'INPUT(a)' 'INPUT(\b[1])' 'OUTPUT(a)' 'OUTPUT(\q$1)' 'OUTPUT(\q$1)' 'OUTPUT(s:2)' \
-        '\q$1 = DFF(\b[1])' 's:2 = DFF(g)' 'x/y = DFF(g)' 'g = buf(\q$1)' >"$work/marks.bench"
-    holds 'names with marks' cts marks schedule --bench "$work/marks.bench" --tech "$work/host.toml"
-    holds 'OpenSTA with marks' signed_off marks "$work/host.toml" "$work/marks.bench"
-    holds 'each slack is as printed with marks' printed marks marks
+
+    # Here names have marks, and the period and the arrivals are thirds, which no decimals are.
+    printf '%s\n' 'INPUT(a)' 'INPUT(\b[1])' 'OUTPUT(a)' 'OUTPUT(\q$1)' 'OUTPUT(\q$1)' \
+        'OUTPUT(s:2)' '\q$1 = DFF(\b[1])' 's:2 = DFF(g)' 'x/y = DFF(g)' 'g = buf(\q$1)' \
+        >"$work/thirds.bench"
+    sed -i 's/^greatest = 105$/greatest = 106/' "$work/host.toml"
+    holds thirds cts thirds schedule --bench "$work/thirds.bench" --tech "$work/host.toml"
+    holds 'OpenSTA with thirds' signed_off thirds "$work/host.toml" "$work/thirds.bench"
+    holds 'each slack is as printed with thirds' printed thirds thirds
 else
-    echo "flow: OpenSTA's sta isn't there, so its part is left out"
+    left_out "OpenSTA's sta isn't there" sign-off
 fi
 
 echo "flow: $passed passed, $failed failed"

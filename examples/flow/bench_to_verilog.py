@@ -1,8 +1,9 @@
 #!/usr/bin/env python3
-"""bench_to_verilog.py FILE.bench: prints the netlist as structural Verilog, of the cells that table_to_liberty.py makes.
+"""bench_to_verilog.py FILE.bench: prints a netlist as Verilog, of the cells of table_to_liberty.py.
 
-An instance has the name of the signal that it drives, and a wire or a port that of the signal. The clock comes in by the port
-'clock'. An output that is an input too gets a port of its own, with '_out' behind the name.
+An instance has the name of the signal that it drives, and a wire or a port that of the signal. The
+clock comes in by the port 'clock'. An output that is an input too gets a port of its own, with
+'_out' behind the name.
 """
 import re
 import sys
@@ -29,6 +30,16 @@ def escaped(name):
     return "\\" + name.removeprefix("\\") + " "
 
 
+def print_instance(kind, name, reads):
+    output = escaped(name)
+    if kind == "DFF":
+        print(f"  DFF {output} (.CK({CLOCK}), .D({escaped(reads[0])}), .Q({output}));")
+    else:
+        cell = ("BUFF" if kind == "BUF" else kind) + str(len(reads))
+        pins = "".join(f".A{place}({escaped(read)}), " for place, read in enumerate(reads, 1))
+        print(f"  {cell} {output} ({pins}.Z({output}));")
+
+
 def main():
     netlist = list(statements(sys.argv[1]))
     inputs = dict.fromkeys([CLOCK] + [name for kind, name, _ in netlist if kind == "INPUT"])
@@ -41,12 +52,8 @@ def main():
     for name, port in passed.items():
         print(f"  assign {escaped(port)} = {escaped(name)};")
     for kind, name, reads in netlist:
-        if kind == "DFF":
-            print(f"  DFF {escaped(name)} (.CK({CLOCK}), .D({escaped(reads[0])}), .Q({escaped(name)}));")
-        elif kind not in ("INPUT", "OUTPUT"):
-            pins = "".join(f".A{place}({escaped(read)}), " for place, read in enumerate(reads, 1))
-            cell = ("BUFF" if kind == "BUF" else kind) + str(len(reads))
-            print(f"  {cell} {escaped(name)} ({pins}.Z({escaped(name)}));")
+        if reads:
+            print_instance(kind, name, reads)
     print("endmodule")
 
 

@@ -1,5 +1,6 @@
-# Prints a Bookshelf placement of a .bench netlist's registers on a square grid, row by row in the order of their lines, for
-# whoever has no other. The source of the clock is the node CLK above the middle. -v pitch=N sets the distance, else 20.
+# Prints a Bookshelf placement of a .bench netlist's registers, for whoever has no other: on a
+# square grid, row by row in the order of their lines, with the source of the clock, the node CLK,
+# above the middle. -v pitch=N sets the distance, else 20.
 BEGIN { if (pitch == "") pitch = 20 }
 { sub(/#.*/, "") }
 toupper($0) ~ /=[ \t]*DFF[ \t]*\(/ {

@@ -1,5 +1,6 @@
-# Has OpenSTA print the slack at each register. Its files are named by LEAST and GREATEST (Liberty), NETLIST (Verilog) and
-# CONSTRAINTS (SDC). Setup is checked with the greatest delays, and hold with the least.
+# Has OpenSTA print the slack at each register. Its files are named by LEAST and GREATEST (Liberty),
+# NETLIST (Verilog) and CONSTRAINTS (SDC). Setup is checked with the greatest delays, and hold with
+# the least.
 read_liberty -min $env(LEAST)
 read_liberty -max $env(GREATEST)
 read_verilog $env(NETLIST)

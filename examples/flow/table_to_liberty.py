@@ -1,46 +1,49 @@
 #!/usr/bin/env python3
-"""table_to_liberty.py FILE.toml least|greatest WIDTH: prints a delay table as Liberty, with gates of up to WIDTH inputs.
+"""table_to_liberty.py FILE.toml least|greatest WIDTH: prints a delay table as a Liberty library.
 
-The least delays are for hold checks and the greatest for setup checks. One tick is a picosecond.
+Gates have up to WIDTH inputs. The least delays are for hold checks and the greatest for setup
+checks. One tick is a picosecond.
 """
 import sys
 import tomllib
 
-FUNCTIONS = {  # the operator between the inputs, and whether what it gives is inverted
-    "AND": ("&", False), "NAND": ("&", True), "OR": ("|", False), "NOR": ("|", True),
-    "XOR": ("^", False), "XNOR": ("^", True), "BUFF": ("", False), "NOT": ("", True),
+FUNCTIONS = {  # what stands in front of the inputs, and between them
+    "AND": ("", "&"), "NAND": ("!", "&"), "OR": ("", "|"), "NOR": ("!", "|"),
+    "XOR": ("", "^"), "XNOR": ("!", "^"), "BUFF": ("", ""), "NOT": ("!", ""),
 }
 
 
-def delays(*names, value):
-    return " ".join(f'{name}(scalar) {{ values("{value}"); }}' for name in names)
+def both(name, value):
+    """A time that is the same for a rising and a falling edge."""
+    edges = ("cell_rise", "cell_fall") if name == "cell" else (f"rise_{name}", f"fall_{name}")
+    return " ".join(f'{edge}(scalar) {{ values("{value}"); }}' for edge in edges)
 
 
-def gate(kind, width, delay):
-    operator, inverted = FUNCTIONS[kind]
+def delay(related, value, more=""):
+    arcs = f'{both("cell", value)} {both("transition", 0)}'
+    return f'timing () {{ related_pin : "{related}"; {more}{arcs} }}'
+
+
+def print_gate(kind, width, value):
     pins = [f"A{place}" for place in range(1, width + 1)]
+    mark, operator = FUNCTIONS[kind]
     print(f"  cell ({kind}{width}) {{")
     for pin in pins:
         print(f"    pin ({pin}) {{ direction : input; capacitance : 0; }}")
-    function = f" {operator} ".join(pins)
-    print("    pin (Z) { direction : output; function : " + f'"{"!" if inverted else ""}({function})";')
-    print(f'      timing () {{ related_pin : "{" ".join(pins)}";')
-    print("       ", delays("cell_rise", "cell_fall", value=delay))
-    print("       ", delays("rise_transition", "fall_transition", value=0), "} } }")
+    function = f"{mark}({operator.join(pins)})"
+    print(f'    pin (Z) {{ direction : output; function : "{function}";')
+    print("     ", delay(" ".join(pins), value), "} }")
 
 
-def register(times, bound):
-    print("  cell (DFF) {")
-    print('    ff (IQ, IQN) { clocked_on : "CK"; next_state : "D"; }')
+def print_register(times, value):
+    print('  cell (DFF) {\n    ff (IQ, IQN) { clocked_on : "CK"; next_state : "D"; }')
     print("    pin (CK) { direction : input; clock : true; capacitance : 0; }")
     print("    pin (D) { direction : input; capacitance : 0;")
     for check in ("setup", "hold"):
         print(f'      timing () {{ related_pin : "CK"; timing_type : {check}_rising;')
-        print("       ", delays("rise_constraint", "fall_constraint", value=times[check]), "}")
+        print("       ", both("constraint", times[check]), "}")
     print('    }\n    pin (Q) { direction : output; function : "IQ";')
-    print('      timing () { related_pin : "CK"; timing_type : rising_edge;')
-    print("       ", delays("cell_rise", "cell_fall", value=times[bound]))
-    print("       ", delays("rise_transition", "fall_transition", value=0), "} } }")
+    print("     ", delay("CK", value, "timing_type : rising_edge; "), "} }")
 
 
 def main():
@@ -51,10 +54,11 @@ def main():
     for edge in ("rise", "fall"):
         print(f"  input_threshold_pct_{edge} : 50; output_threshold_pct_{edge} : 50;")
         print(f"  slew_lower_threshold_pct_{edge} : 20; slew_upper_threshold_pct_{edge} : 80;")
-    register(table["register"], bound)
+    print_register(table["register"], table["register"][bound])
     for kind, times in table.get("gate", {}).items():
         for inputs in [1] if kind in ("NOT", "BUFF") else range(1, width + 1):
-            gate(kind, inputs, times[bound] + (inputs - 1) * times.get(f"{bound}_per_input", 0))
+            more = (inputs - 1) * times.get(f"{bound}_per_input", 0)
+            print_gate(kind, inputs, times[bound] + more)
     print("}")
 
 

@@ -1,8 +1,8 @@
 #!/usr/bin/env python3
-"""wire_delays.py REPORT.cts TABLE.toml: prints a report's period, and in place of each arrival the delay of the register's wire.
+"""wire_delays.py REPORT.cts TABLE.toml: prints the delay of each register's wire in a report.
 
-That is the length of all edges from the source down to the register, times the wire delay of the table. The text can be
-read as one of `cts schedule` is.
+That is the length of all edges from the source down to the register, times the table's wire delay.
+The delays stand in place of the arrivals, so arrivals_to_sdc.py reads the text.
 """
 import sys
 import tomllib
@@ -10,7 +10,7 @@ from fractions import Fraction
 
 
 def read_report(path):
-    """The period, the registers' names, the merges as (node, its two nodes), and each node's length of edge."""
+    """The period, the registers' names, the merges as (node, its two), and each edge's length."""
     period, names, merges, lengths = None, [], [], {}
     lines = map(str.split, open(path))
     for words in lines:
