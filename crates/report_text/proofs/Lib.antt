@@ -1,6 +1,6 @@
 mod PlainWords
 mod GridLemmas
-mod LineLemmas
+pub mod LineLemmas
 mod NumberWords
 mod OneField
 pub mod OneLine

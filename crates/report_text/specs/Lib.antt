@@ -10,6 +10,7 @@ pub mod TimingValues
 pub mod FlawOrder
 pub mod JudgedFractions
 pub mod Walks
+pub mod WireLines
 pub mod Sections
 pub mod Headings
 pub mod Bodies

@@ -31,4 +31,4 @@ pub use period::{push_cycle, push_period, push_show};
 pub use reader::read_report;
 pub use report::write_report;
 pub use timing::push_register;
-pub use tree::push_total;
+pub use tree::{push_total, push_wire_length};

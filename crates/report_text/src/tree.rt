@@ -1,6 +1,6 @@
 //! Appending the lines of a report's tree: its merges, its nodes, and what shows their reaches.
 
-ghost use Rattle.std.specs.Prelude.{◌≡◌, ◌<◌, ◌^◌, ◌++◌, ◌∷◌, [], length, All, OnOk, slice_index_or, codes};
+ghost use Rattle.std.specs.Prelude.{◌≡◌, ◌<◌, ◌^◌, ◌++◌, ◌∷◌, ◌≤ℤ◌, ◌<ℤ◌, [], pos, length, All, OnOk, slice_index_or};
 ghost use Rattle.cts_model.specs.declared.tree.Show.TheVariants.{Root};
 ghost use Rattle.std.specs.List.{flat_map};
 ghost use Rattle.cts_model.specs.Points.{IsBelow, IsPointBelow};
@@ -8,6 +8,7 @@ ghost use Rattle.cts_model.specs.PrintedLines.{line_of, text_of};
 ghost use Rattle.cts_model.specs.ReportBounds.{IsOfSize, IsSmallWire, ShowsAmong};
 ghost use Rattle.cts_model.specs.ReportLines.{length_text, lines_below, merge_line_at, merge_words, no_wire, node_line_at, number_at, point_words, show_words, source_line, tree_lines, wire_words};
 ghost use Rattle.report_text.specs.Pieces.{suffix, HasSmallLengths};
+ghost use Rattle.report_text.specs.WireLines.{wire_line};
 
 use crate::line::{push_count, push_node, push_number, push_word};
 use cts_base::{NoMemory, push_quotient};
@@ -227,11 +228,22 @@ fn push_point(out: &mut Vec<u8>, report: &Report, point: Point) -> Result<(), No
 /// Appends the last line of a report, the length of all edges in length units.
 pub fn push_total(out: &mut Vec<u8>, report: &Report) -> Result<(), NoMemory>
     requires small { HasSmallLengths report.now }
-    ensures { OnOk result (out.new.items ≡ out.old.items
-        ++ line_of (codes "wire" ∷ length_text report.now report.now.total ∷ [])) }
+    ensures { OnOk result (out.new.items
+        ≡ out.old.items ++ line_of (wire_line report.now.grid report.now.total)) }
 {
-    out.extend_from_slice(b"wire")?;
-    push_length(out, report, report.total)?;
+    push_wire_length(out, report.grid, report.total)
+}
+
+/// Appends the line of a length of wire, given in grid steps, in length units, which have so many
+/// steps.
+pub fn push_wire_length(out: &mut Vec<u8>, grid: i128, steps: i128) -> Result<(), NoMemory>
+    requires some_grid { pos 1 ≤ℤ grid }
+    requires small_grid { grid <ℤ pos (10 ^ 37) }
+    requires steps { IsBelow (10 ^ 36) steps }
+    ensures { OnOk result (out.new.items ≡ out.old.items ++ line_of (wire_line grid steps)) }
+{
+    out.extend_from_slice(b"wire ")?;
+    push_quotient(out, steps, grid)?;
     out.push(b'\n')?;
     Ok(())
 }
