@@ -11,7 +11,7 @@ mod TreeBounds
 mod SinkLemmas
 mod ReportLemmas
 mod ShownReports
-mod SessionLemmas
+pub mod SessionLemmas
 pub mod MarginLemmas
 pub mod ProblemLemmas
 pub mod HostedLoops

@@ -104,7 +104,7 @@ of_size (pos n) small = record { above = omega (arith, ints); below = omega (ari
 of_size (negsuc n) small = record { above = omega (arith, ints); below = omega (arith, ints) }
 
 -- a coordinate that is read isn't far away
-near_coordinate : (text : List ℕ) (micros : ℤ) → IsRead text micros
+pub near_coordinate : (text : List ℕ) (micros : ℤ) → IsRead text micros
     → IsBelow 1000000000000001 micros
 near_coordinate text micros read =
     of_size micros (within_limit (nat_abs micros) (lowered text) (digits text * 10 ^ raised text)

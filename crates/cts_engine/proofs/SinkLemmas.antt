@@ -1,5 +1,5 @@
 -- The registers of a problem are sinks of a tree, and its source is a tree's.
-use Rattle.std.proofs.Common.{◌≡◌, ◌<◌, ◌≤◌, ◌*◌, ◌^◌, ℕ, ℤ, pos, ◌+ℤ◌, ◌-ℤ◌, ◌*ℤ◌, neg_ℤ, List, length, get_or, sym, ap, subst, ◌∙◌, arith}
+use Rattle.std.proofs.Common.{◌≡◌, ◌<◌, ◌≤◌, ◌+◌, ◌*◌, ◌^◌, ℕ, ℤ, pos, ◌+ℤ◌, ◌-ℤ◌, ◌*ℤ◌, neg_ℤ, List, length, get_or, sym, ap, subst, ◌∙◌, arith}
 use Rattle.std.specs.List.{All}
 use Rattle.std.specs.Prelude.{nat_abs}
 use Rattle.std.proofs.lemmas.Int.{ints}
@@ -36,13 +36,14 @@ eight_last : (den num : ℕ) → 8 * den * num ≡ den * num * 8
 eight_last den num = grind arith
 
 -- a point below a bound has rotated coordinates below its double
-rotated_below : (point : Point) → IsPointBelow (10 ^ 26) point → IsUvBelow (10 ^ 31) (rotated point)
-rotated_below point below =
+pub rotated_below : (bound : ℕ) (point : Point) → bound + bound ≤ 10 ^ 31
+    → IsPointBelow bound point → IsUvBelow (10 ^ 31) (rotated point)
+rotated_below bound point low below =
     let x = below.x in
     let y = below.y in
     record {
-      u = record { above = omega (arith, ints, x, y); below = omega (arith, ints, x, y) };
-      v = record { above = omega (arith, ints, x, y); below = omega (arith, ints, x, y) };
+      u = record { above = omega (arith, ints, low, x, y); below = omega (arith, ints, low, x, y) };
+      v = record { above = omega (arith, ints, low, x, y); below = omega (arith, ints, low, x, y) };
     }
 
 -- ---- of a problem
@@ -65,7 +66,7 @@ module _ (period : Fraction) (tech : Tech) where
       )
 
   -- so rotated coordinates are multiples of 8
-  rotated_multiple : (point : Point) → IsUvMultipleOf 8 (rotated (on_grid period tech point))
+  pub rotated_multiple : (point : Point) → IsUvMultipleOf 8 (rotated (on_grid period tech point))
   rotated_multiple point =
       let (x, x_is) = coordinate_of_eighths point.x in
       let (y, y_is) = coordinate_of_eighths point.y in
@@ -92,7 +93,7 @@ module _ (period : Fraction) (tech : Tech) where
     pub tree_source : (point : Point) → IsPointBelow 1000000000000001 point
         → IsTreeSource (rotated (on_grid period tech point))
     tree_source point near = record {
-      below = rotated_below (on_grid period tech point)
+      below = rotated_below (10 ^ 26) (on_grid period tech point) (omega arith)
           (on_grid_below period tech small point near);
       multiple = rotated_multiple point;
     }

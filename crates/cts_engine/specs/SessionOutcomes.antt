@@ -1,10 +1,13 @@
 -- The outcome of a problem as a session: the tree over its registers with the least schedule at the
 -- least period, or what forbids every period. Fishburn, "Clock Skew Optimization", 1990; Boese and
 -- Kahng 1992; Chao and others 1992.
-use Rattle.std.specs.Prelude.{◌≡◌, ◌^◌, ℤ, length}
+use Rattle.std.specs.Prelude.{◌≡◌, ◌^◌, ℤ, List, length}
 use Rattle.cts_base.specs.declared.fraction.Fraction.{Fraction}
+use Rattle.cts_model.specs.declared.place.Point.{Point}
 use Rattle.cts_model.specs.declared.problem.Problem.{Problem}
 use Rattle.cts_model.specs.declared.schedule.Schedule.{Schedule}
+use Rattle.cts_model.specs.declared.tech.Tech.{Tech}
+use Rattle.cts_model.specs.declared.tree.Merge.{Merge}
 use Rattle.cts_model.specs.GreedyMerges.{IsGreedy}
 use Rattle.cts_model.specs.LeastPeriods.{IsForbidding, IsLeastFraction}
 use Rattle.cts_model.specs.Points.{rotated}
@@ -30,6 +33,23 @@ pub record IsSessionOf (problem : Problem) (session : SessionState) (grid : ℤ)
   pub greedy : IsGreedy session.sinks session.merges
   pub renewals : session.renewals ≡ length session.merges
   pub grid_is : grid ≡ grid_of period problem.tech
+
+-- the session stands for the registers at these places, with the offsets of a schedule at a period,
+-- with these merges and from the problem's source, on the grid of the period
+pub record StandsAt (problem : Problem) (period : Fraction) (schedule : Schedule)
+    (merges : List Merge) (grid : ℤ) (places : List Point) (session : SessionState)
+    : Type 0 where
+  pub stands : StandsFor (sinks_of period problem.tech places schedule.at) merges
+      (rotated (on_grid period problem.tech problem.places.source)) session
+  pub grid_is : grid ≡ grid_of period problem.tech
+  pub as_many : length places ≡ length schedule.at
+
+-- so many grid steps has a length unit at some period with some delays
+pub record IsGrid (grid : ℤ) : Type 0 where
+  pub period : Fraction
+  pub tech : Tech
+  pub is : grid ≡ grid_of period tech
+  pub within : IsWithin 1 (10 ^ 17) grid
 
 -- such a session, or a cycle of the circuit that forbids every period
 abbrev pub IsSessionOutcome : Problem → SessionOutcome → Type 0

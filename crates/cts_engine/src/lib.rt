@@ -24,6 +24,6 @@ pub use margin::{MarginOutcome, margin_of};
 pub use period::{PeriodOutcome, period_of};
 pub use refusals::Refusal;
 pub use scheduling::{ScheduleOutcome, schedule_of};
-pub use session::{SessionOutcome, session_of};
+pub use session::{SessionOutcome, move_register, session_of};
 pub use synthesis::{Outcome, synthesize, synthesize_with};
 pub use zero::zero_of;

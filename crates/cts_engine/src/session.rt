@@ -1,16 +1,25 @@
-ghost use Rattle.std.specs.Prelude.{◌↔◌, IfOk, IfErr};
+ghost use Rattle.std.specs.Prelude.{◌≡◌, ◌≤◌, ◌<◌, ◌^◌, ◌↔◌, List, length, slice_set, unsigned_abs, IfOk, IfErr};
+ghost use Rattle.cts_base.specs.declared.fraction.Fraction.{Fraction};
+ghost use Rattle.cts_model.specs.declared.place.Point.{Point};
+ghost use Rattle.cts_model.specs.declared.problem.Problem.{Problem};
+ghost use Rattle.cts_model.specs.declared.schedule.Schedule.{Schedule};
+ghost use Rattle.cts_model.specs.declared.tech.Tech.{Tech};
+ghost use Rattle.cts_model.specs.declared.tree.Merge.{Merge};
 ghost use Rattle.cts_model.specs.LeastPeriods.{HasNoPeriod};
 ghost use Rattle.cts_model.specs.PairLists.{JoinsMoreThan};
+ghost use Rattle.cts_model.specs.Points.{IsPointBelow, IsUvBelow, IsUvMultipleOf, rotated};
+ghost use Rattle.cts_model.specs.Problems.{grid_of, on_grid, steps_of_micro};
 ghost use Rattle.cts_engine.specs.Faults.{IsCaused};
-ghost use Rattle.cts_engine.specs.SessionOutcomes.{ForbidsFromLowest, HasSmallGrid, IsNeverSession, IsSessionOutcome};
+ghost use Rattle.cts_engine.specs.SessionOutcomes.{ForbidsFromLowest, HasSmallGrid, IsGrid, IsNeverSession, IsSessionOutcome, StandsAt};
 
 use crate::SynthFault;
 use crate::sink_times::{SinkOutcome, timed_sinks};
-use crate::sinks::{grid_of, rotated_on_grid};
+use crate::sinks::{grid_of, product, rotated_on_grid};
 use cts_base::Listed;
-use cts_model::{Constraint, Problem};
+use cts_model::{Constraint, Point, Problem, Uv};
 use move_session::Session;
 use std::alloc::Global;
+use tilted_rect::to_uv;
 use topology::greedy;
 
 /// A problem's clock tree whose sinks may move, or what forbids every period.
@@ -49,4 +58,46 @@ pub fn session_of(alloc: Global, problem: &Problem) -> Result<SessionOutcome, Sy
             Ok(SessionOutcome::Found { session, grid })
         }
     }
+}
+
+/// Moves a register of a problem's session to a place in micros, where a length unit has so many
+/// grid steps. It takes no memory.
+pub fn move_register(session: &mut Session, grid: i128, register: u32, at: Point)
+    requires register { register < length session.old.sinks }
+    requires grid { IsGrid grid }
+    requires near { IsPointBelow 1000000000000001 at }
+    // That register's place alone changes in what the session stands for.
+    ensures stands { (problem : Problem) (period : Fraction) (schedule : Schedule)
+        (merges : List Merge) (places : List Point)
+        → StandsAt problem period schedule merges grid places session.old
+        → StandsAt problem period schedule merges grid (slice_set places register at) session.new }
+    ensures count { length session.new.sinks ≡ length session.old.sinks }
+{
+    session.move_sink(register, sink_place(grid, at));
+}
+
+// A place in micros as a sink has it, where a length unit has so many grid steps.
+fn sink_place(grid: i128, at: Point) -> Uv
+    requires grid { IsGrid grid }
+    requires near { IsPointBelow 1000000000000001 at }
+    ensures value { (period : Fraction) (tech : Tech) → grid ≡ grid_of period tech
+        → result ≡ rotated (on_grid period tech at) }
+    ensures below { IsUvBelow (10 ^ 31) result }
+    ensures multiple { IsUvMultipleOf 8 result }
+{
+    let steps = steps_in(grid);
+    to_uv(Point {
+        x: product(steps, at.x),
+        y: product(steps, at.y),
+    })
+}
+
+// How many grid steps a micro has, where a length unit has so many.
+fn steps_in(grid: i128) -> i128
+    requires { IsGrid grid }
+    ensures value { (period : Fraction) (tech : Tech) → grid ≡ grid_of period tech
+        → result ≡ steps_of_micro period tech }
+    ensures small { unsigned_abs result ≤ 100000000000 }
+{
+    grid / 1_000_000
 }

@@ -90,8 +90,8 @@ fn scheduled_length(tech: &Tech, arrival: i128) -> i128
     product(8_000_000 * tech.wire_den, arrival)
 }
 
-// The product of a small number and a large one.
-fn product(small: i128, large: i128) -> i128
+/// The product of a small number and a large one.
+pub(crate) fn product(small: i128, large: i128) -> i128
     requires small { IsBelow (10 ^ 13) small }
     requires large { IsBelow (10 ^ 20) large }
     ensures { result ≡ (small *ℤ large) }

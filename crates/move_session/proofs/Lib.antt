@@ -1,9 +1,9 @@
 mod NumberFaults
 mod NameNumbers
-mod EntryLemmas
+pub mod EntryLemmas
 mod TakenLines
 mod MovesWalk
-mod OneFault
+pub mod OneFault
 mod AgreeingSinks
 mod StepsUp
 mod MovedSinks

@@ -201,7 +201,7 @@ module _ (text : List ℕ) (circuit : Circuit) where
   of_line faults.NoMemory named free = absurd (named refl)
 
   -- a text of moves has none
-  no_fault : (fault : MovesFault) (moves : List Move) → AcceptsMoves text circuit moves
+  pub no_fault : (fault : MovesFault) (moves : List Move) → AcceptsMoves text circuit moves
       → RefusesMoves text circuit fault → fault ≡ faults.NoMemory
   no_fault fault moves are cause = elim (memory_or_not fault) [
     | inl memory ↦ memory
