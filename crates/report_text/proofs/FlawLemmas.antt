@@ -20,7 +20,8 @@ module _ {F F' F'' K K' K'' I I' I'' W W' W'' : Type 0} (f : F'' ↔ (F × F')) 
   sooner_of None (Some Form) h g = λ all. g (f.0 all).1
   sooner_of None (Some Unknown) h g = (f.1 (h.0, g.0), λ all. g.1 (k.0 all).1)
   sooner_of None (Some Unfit) h g = (f.1 (h.0, g.0), k.1 (h.1, g.1), λ all. g.2 (i.0 all).1)
-  sooner_of None (Some Large) h g = (f.1 (h.0, g.0), k.1 (h.1, g.1), i.1 (h.2, g.2), λ all. g.3 (w.0 all).1)
+  sooner_of None (Some Large) h g =
+      (f.1 (h.0, g.0), k.1 (h.1, g.1), i.1 (h.2, g.2), λ all. g.3 (w.0 all).1)
   sooner_of (Some Form) None h g = λ all. h (f.0 all).0
   sooner_of (Some Form) (Some Form) h g = λ all. h (f.0 all).0
   sooner_of (Some Form) (Some Unknown) h g = λ all. h (f.0 all).0
@@ -36,11 +37,13 @@ module _ {F F' F'' K K' K'' I I' I'' W W' W'' : Type 0} (f : F'' ↔ (F × F')) 
   sooner_of (Some Unfit) (Some Unknown) h g = (f.1 (h.0, g.0), λ all. g.1 (k.0 all).1)
   sooner_of (Some Unfit) (Some Unfit) h g = (f.1 (h.0, g.0), k.1 (h.1, g.1), λ all. h.2 (i.0 all).0)
   sooner_of (Some Unfit) (Some Large) h g = (f.1 (h.0, g.0), k.1 (h.1, g.1), λ all. h.2 (i.0 all).0)
-  sooner_of (Some Large) None h g = (f.1 (h.0, g.0), k.1 (h.1, g.1), i.1 (h.2, g.2), λ all. h.3 (w.0 all).0)
+  sooner_of (Some Large) None h g =
+      (f.1 (h.0, g.0), k.1 (h.1, g.1), i.1 (h.2, g.2), λ all. h.3 (w.0 all).0)
   sooner_of (Some Large) (Some Form) h g = λ all. g (f.0 all).1
   sooner_of (Some Large) (Some Unknown) h g = (f.1 (h.0, g.0), λ all. g.1 (k.0 all).1)
   sooner_of (Some Large) (Some Unfit) h g = (f.1 (h.0, g.0), k.1 (h.1, g.1), λ all. g.2 (i.0 all).1)
-  sooner_of (Some Large) (Some Large) h g = (f.1 (h.0, g.0), k.1 (h.1, g.1), i.1 (h.2, g.2), λ all. h.3 (w.0 all).0)
+  sooner_of (Some Large) (Some Large) h g =
+      (f.1 (h.0, g.0), k.1 (h.1, g.1), i.1 (h.2, g.2), λ all. h.3 (w.0 all).0)
 
 -- ---- one flaw
 

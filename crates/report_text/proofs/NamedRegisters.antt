@@ -49,11 +49,13 @@ other_register circuit register other name within is differs same =
       | inl within' ↦
           differs (one_register circuit register other within within' (is ∙ sym same))
       | inr past ↦
-          register_some circuit register within (is ∙ sym same ∙ nameless other (omega (arith, past)))
+          register_some circuit register within
+          (is ∙ sym same ∙ nameless other (omega (arith, past)))
     ]
   where
     nameless : (number : ℕ) → length circuit.registers ≤ number
         → register_name circuit number ≡ []
     nameless number past =
-        let none : slice_get circuit.registers number ≡ None = slice_get_past circuit.registers number past in
+        let none : slice_get circuit.registers number ≡ None =
+        slice_get_past circuit.registers number past in
         rw none refl

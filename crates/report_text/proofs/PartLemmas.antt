@@ -104,7 +104,8 @@ module _ {circuit : Circuit} {text : List ℕ} {new : Left} {heading : Heading}
       → HasFault circuit tech text fault
   fault_given tech fault found =
       subst (λ (scale : Scale). HasFirstFault circuit scale
-      (forms_of (version_denoted text) (cycle_denoted text) (length circuit.registers)) 1 text fault)
+      (forms_of (version_denoted text) (cycle_denoted text) (length circuit.registers)) 1
+      text fault)
       (sym (denoted_scale tech))
       (subst (λ (version : Version). HasFirstFault circuit (scale_in tech heading.period)
       (forms_of version (cycle_denoted text) (length circuit.registers)) 1 text fault)

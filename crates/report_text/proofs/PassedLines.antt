@@ -86,7 +86,8 @@ line_passed circuit scale due more old sound =
         absurd (none-some (fault_of due old.line flaw) is)
 
 -- where words without a flaw tell a value, the next line does
-pub denoted_passed : {X : Type 0} (circuit : Circuit) (scale : Scale) (due : Form) (more : List Form)
+pub denoted_passed : {X : Type 0} (circuit : Circuit) (scale : Scale) (due : Form)
+    (more : List Form)
     → (Denotes : Words → X → Type 0) (old : Left)
     → ((words : Words) → 0 < length words → IsFlawless circuit scale due words
     → (value : X) × Denotes words value) → IsSound circuit scale (due ∷ more) old

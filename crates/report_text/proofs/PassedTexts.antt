@@ -41,7 +41,8 @@ heading_passed : (circuit : Circuit) (scale : Scale) (more : List Form) (old : L
 heading_passed circuit scale more old sound =
     let version = denoted_passed circuit scale form.Version (form.Period ∷ form.Show ∷ more)
     DenotesVersion old (λ words some. version_found circuit scale words) sound in
-    let period = denoted_passed circuit scale form.Period (form.Show ∷ more) DenotesPeriod version.new
+    let period =
+    denoted_passed circuit scale form.Period (form.Show ∷ more) DenotesPeriod version.new
     (λ words some. period_found circuit scale words) version.rest in
     let count = denoted_passed circuit scale form.Show more DenotesShow period.new
     (λ words some. show_found circuit scale words) period.rest in
@@ -134,7 +135,8 @@ shown_passed circuit scale Second (Some count) more old small sound =
 -- after the heading the forms are those that it denotes
 forms_denoted : {circuit : Circuit} {text : List ℕ} {new : Left} {heading : Heading}
     → HasHeading circuit (whole text) new heading → (tech : Tech)
-    → IsSound circuit (scale_denoted tech text) (cycle_forms (version_denoted text) (cycle_denoted text)
+    → IsSound circuit (scale_denoted tech text)
+    (cycle_forms (version_denoted text) (cycle_denoted text)
     ++ forms_after (version_denoted text) (length circuit.registers)) new
     → IsSound circuit (scale_in tech heading.period)
     (cycle_forms heading.version (count_of heading.count)
@@ -148,7 +150,8 @@ forms_denoted {circuit} {text} {new} {heading} has tech sound =
     ++ forms_after version (length circuit.registers)) new) (denoted_version has)
     (subst (λ (count : ℕ). IsSound circuit (scale_denoted tech text)
     (cycle_forms (version_denoted text) count
-    ++ forms_after (version_denoted text) (length circuit.registers)) new) (denoted_cycle has) sound))
+    ++ forms_after (version_denoted text) (length circuit.registers)) new)
+    (denoted_cycle has) sound))
 
 -- where nothing more is to follow, nothing is left
 nothing_left : (circuit : Circuit) (scale : Scale) (left : Left) → IsSound circuit scale [] left

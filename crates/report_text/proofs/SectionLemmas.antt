@@ -40,7 +40,8 @@ use Rattle.report_text.proofs.WalkLemmas.{next_read, next_stops, numbered_more, 
 -- a list with one more item
 module _ {X : Type 0} (xs xs' : List X) (x : X) (is : xs' ≡ xs ++ x ∷ []) where
   pub longer : (count : ℕ) → length xs ≡ count → length xs' ≡ count + 1
-  longer count long = omega (arith, ap (λ (l : List X). length l) is, length-append xs (x ∷ []), long)
+  longer count long =
+      omega (arith, ap (λ (l : List X). length l) is, length-append xs (x ∷ []), long)
 
   pub last_of : (default : X) (place : ℕ) → length xs ≡ place → x ≡ get_or xs' place default
   last_of default place long =
@@ -260,7 +261,8 @@ module _ {circuit : Circuit} {scale : Scale} {place : ℕ} {old between new : Le
   -- one more constraint and its path
   pub pathed_next : (middle : Left) (pathed pathed' : Pathed) (constraint : Constraint)
       (path : List ℕ) → HasPathed circuit scale place old between pathed
-      → DenotesLine circuit scale form.Constraint (DenotesConstraint circuit) between middle constraint
+      → DenotesLine circuit scale form.Constraint
+      (DenotesConstraint circuit) between middle constraint
       → DenotesLine circuit scale form.Path (DenotesPath circuit) middle new path
       → pathed'.cycle ≡ pathed.cycle ++ constraint ∷ []
       → pathed'.paths ≡ pathed.paths ++ path ∷ []

@@ -136,7 +136,8 @@ abbrev pub QuotientOrNot : List ℕ → Type 0
 QuotientOrNot text = ((num : ℤ) × (den : ℤ) × SpellsQuotient text num den)
     ⊎ ((num den : ℤ) → SpellsQuotient text num den → ⊥)
 
-module _ (text prefix back : List ℕ) (split : text ≡ prefix ++ 47 ∷ back) (first : HasNoSlash prefix)
+module _ (text prefix back : List ℕ) (split : text ≡ prefix ++ 47 ∷ back)
+    (first : HasNoSlash prefix)
   where
     -- what stands before and after the first slash isn't two numbers
     no_quotient : ((num den : ℤ) → SpellsWhole prefix num → SpellsWhole back den → pos 2 ≤ℤ den → ⊥)

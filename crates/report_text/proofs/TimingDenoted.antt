@@ -142,7 +142,8 @@ module _ (circuit : Circuit) (words : Words) (launch capture : ℕ) (weight : �
       → words ≡ constraint_line word circuit launch capture weight
   line_denoted word first =
       four_words words (as_many IsFormed constraint_fields words formed)
-      ∙ (λ i. first i ∷ sym (launch_denoted.1) i ∷ sym (capture_denoted.1) i ∷ weight_denoted.1 i ∷ [])
+      ∙ (λ i.
+      first i ∷ sym (launch_denoted.1) i ∷ sym (capture_denoted.1) i ∷ weight_denoted.1 i ∷ [])
 
   -- of a setup constraint
   pub setup_denoted : bytes_eq (get_or words 0 []) (codes "setup") ≡ true
@@ -330,7 +331,8 @@ module _ (circuit : Circuit) (scale : Scale) (register : ℕ) (words : Words)
   arrival_denoted some =
       let (num, den, form) = each_at IsFormed (register_fields scale register) words flawless.0
       1 field.Kind (omega arith) in
-      let (steps, below, is) = denoted_steps (get_or words 1 []) scale.den num den (10 ^ 19) some form
+      let (steps, below, is) =
+      denoted_steps (get_or words 1 []) scale.den num den (10 ^ 19) some form
       (each_at (IsFit circuit) (register_fields scale register) words flawless.2 1 field.Kind
       (omega arith))
       (each_at IsWithin (register_fields scale register) words flawless.3 1 field.Kind (omega

@@ -55,8 +55,8 @@ pub one_fault : (circuit : Circuit) (tech : Tech) (text : List ℕ)
     → HasFault circuit tech text other → fault ≡ other
 one_fault circuit tech text fault other is is' =
     one_first_fault circuit (scale_denoted tech text)
-    (forms_of (version_denoted text) (cycle_denoted text) (length circuit.registers)) 1 text fault other
-    is is'
+    (forms_of (version_denoted text) (cycle_denoted text) (length circuit.registers)) 1 text
+    fault other is is'
 
 -- a text that spells a report has none
 pub no_fault : (circuit : Circuit) (tech : Tech) (text : List ℕ) (report : Report)

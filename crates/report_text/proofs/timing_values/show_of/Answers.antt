@@ -13,7 +13,8 @@ returns-then-is_word c =
 pub number_of-requires : goal.number_of-requires
 number_of-requires c =
     let (circuit, scale, flawless) = c.requires in
-    let (count, spells, denotes) = cycle_denoted circuit scale (map (λ word. word.now) c.args.words.now)
+    let (count, spells, denotes) =
+    cycle_denoted circuit scale (map (λ word. word.now) c.args.words.now)
     flawless (sym c.is_word.ensures ∙ c.if-is_word.false) in
     (count, subst (λ w. SpellsNumber w count) (sym c.word_at.ensures) spells)
 

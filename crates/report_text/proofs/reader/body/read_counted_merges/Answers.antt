@@ -16,11 +16,12 @@ pub returns-in_err-read_count-clause-fault : goal.returns-in_err-read_count-clau
 returns-in_err-read_count-clause-fault c =
     passed_on c.from_residual.result c.in_err-read_count.field-0.0
     (Stops c.args.circuit.now c.args.scale (form.Count word.Merges c.args.count
-    ∷ map form.Merge (range_with_len (length c.args.circuit.now.registers) c.args.count)) c.args.cursor.now)
+    ∷ map form.Merge (range_with_len (length c.args.circuit.now.registers) c.args.count))
+    c.args.cursor.now)
     c.from_residual.ensures.1
     (stop_before c.args.circuit.now c.args.scale (form.Count word.Merges c.args.count ∷ [])
-    (map form.Merge (range_with_len (length c.args.circuit.now.registers) c.args.count)) c.args.cursor.now
-    c.in_err-read_count.field-0.0
+    (map form.Merge (range_with_len (length c.args.circuit.now.registers) c.args.count))
+    c.args.cursor.now c.in_err-read_count.field-0.0
     (stop_line c.args.circuit.now c.args.scale (form.Count word.Merges c.args.count)
     c.args.cursor.now c.in_err-read_count.field-0.0 c.in_err-read_count.ensures.fault))
 
@@ -29,7 +30,8 @@ returns-in_err-merged-clause-fault c =
     let line = c.in_ok-read_count.ensures.ok in
     passed_on c.from_residual-in_err-merged.result c.in_err-merged.field-0.0
     (Stops c.args.circuit.now c.args.scale (form.Count word.Merges c.args.count
-    ∷ map form.Merge (range_with_len (length c.args.circuit.now.registers) c.args.count)) c.args.cursor.now)
+    ∷ map form.Merge (range_with_len (length c.args.circuit.now.registers) c.args.count))
+    c.args.cursor.now)
     c.from_residual-in_err-merged.ensures.1
     (stop_after (line.read c.args.scale line.flawless)
     (map form.Merge (range_with_len (length c.args.circuit.now.registers) c.args.count))

@@ -17,7 +17,8 @@ read_counted_merges-requires-clause-line c =
       arith,
       registers_line c.in_ok-timings.ensures.ok,
       leads_line c.args.circuit.now c.args.scale c.args.version c.args.count
-          c.read_counted_registers.new.cursor c.read_version_leads.new.cursor c.in_ok-leads.leads c.in_ok-leads.ensures.ok,
+          c.read_counted_registers.new.cursor c.read_version_leads.new.cursor c.in_ok-leads.leads
+          c.in_ok-leads.ensures.ok,
       c.requires.line,
       c.requires.few,
     )
@@ -28,7 +29,8 @@ read_source-requires-clause-line c =
       arith,
       registers_line c.in_ok-timings.ensures.ok,
       leads_line c.args.circuit.now c.args.scale c.args.version c.args.count
-          c.read_counted_registers.new.cursor c.read_version_leads.new.cursor c.in_ok-leads.leads c.in_ok-leads.ensures.ok,
+          c.read_counted_registers.new.cursor c.read_version_leads.new.cursor c.in_ok-leads.leads
+          c.in_ok-leads.ensures.ok,
       merges_line c.in_ok-merged.ensures.ok,
       c.requires.line,
       c.requires.few,
@@ -42,7 +44,8 @@ read_counted_nodes-requires-clause-line c =
       arith,
       registers_line c.in_ok-timings.ensures.ok,
       leads_line c.args.circuit.now c.args.scale c.args.version c.args.count
-          c.read_counted_registers.new.cursor c.read_version_leads.new.cursor c.in_ok-leads.leads c.in_ok-leads.ensures.ok,
+          c.read_counted_registers.new.cursor c.read_version_leads.new.cursor c.in_ok-leads.leads
+          c.in_ok-leads.ensures.ok,
       merges_line c.in_ok-merged.ensures.ok,
       read.number,
       c.requires.line,
@@ -57,7 +60,8 @@ read_total-requires-clause-line c =
       arith,
       registers_line c.in_ok-timings.ensures.ok,
       leads_line c.args.circuit.now c.args.scale c.args.version c.args.count
-          c.read_counted_registers.new.cursor c.read_version_leads.new.cursor c.in_ok-leads.leads c.in_ok-leads.ensures.ok,
+          c.read_counted_registers.new.cursor c.read_version_leads.new.cursor c.in_ok-leads.leads
+          c.in_ok-leads.ensures.ok,
       merges_line c.in_ok-merged.ensures.ok,
       read.number,
       nodes_line c.in_ok-placed.ensures.ok,
@@ -71,8 +75,8 @@ returns-in_err-timings-clause-fault c =
     (Stops c.args.circuit.now c.args.scale
     (section_forms c.args.circuit.now c.args.version c.args.count) c.args.cursor.now)
     c.from_residual.ensures.1
-    (first_stops c.args.circuit.now c.args.scale (register_forms c.args.count) (lead_forms c.args.version c.args.count)
-    (merge_forms c.args.circuit.now (c.args.count - 1))
+    (first_stops c.args.circuit.now c.args.scale (register_forms c.args.count)
+    (lead_forms c.args.version c.args.count) (merge_forms c.args.circuit.now (c.args.count - 1))
     (form.Source ∷ node_forms (2 * c.args.count - 1)) (form.Total ∷ []) c.args.cursor.now
     c.in_err-timings.field-0.0 c.in_err-timings.ensures.fault)
 
@@ -82,8 +86,8 @@ returns-in_err-leads-clause-fault c =
     (Stops c.args.circuit.now c.args.scale
     (section_forms c.args.circuit.now c.args.version c.args.count) c.args.cursor.now)
     c.from_residual-in_err-leads.ensures.1
-    (second_stops c.args.circuit.now c.args.scale (register_forms c.args.count) (lead_forms c.args.version c.args.count)
-    (merge_forms c.args.circuit.now (c.args.count - 1))
+    (second_stops c.args.circuit.now c.args.scale (register_forms c.args.count)
+    (lead_forms c.args.version c.args.count) (merge_forms c.args.circuit.now (c.args.count - 1))
     (form.Source ∷ node_forms (2 * c.args.count - 1)) (form.Total ∷ []) c.args.cursor.now
     c.in_err-leads.field-0.0 _ c.read_counted_registers.new.cursor
     (registers_read c.in_ok-timings.ensures.ok) c.in_err-leads.ensures.fault)
@@ -94,8 +98,8 @@ returns-in_err-merged-clause-fault c =
     (Stops c.args.circuit.now c.args.scale
     (section_forms c.args.circuit.now c.args.version c.args.count) c.args.cursor.now)
     c.from_residual-in_err-merged.ensures.1
-    (third_stops c.args.circuit.now c.args.scale (register_forms c.args.count) (lead_forms c.args.version c.args.count)
-    (merge_forms c.args.circuit.now (c.args.count - 1))
+    (third_stops c.args.circuit.now c.args.scale (register_forms c.args.count)
+    (lead_forms c.args.version c.args.count) (merge_forms c.args.circuit.now (c.args.count - 1))
     (form.Source ∷ node_forms (2 * c.args.count - 1)) (form.Total ∷ []) c.args.cursor.now
     c.in_err-merged.field-0.0 _ c.read_version_leads.new.cursor
     (leads_read c.in_ok-timings.ensures.ok c.in_ok-leads.ensures.ok) c.in_err-merged.ensures.fault)
@@ -106,15 +110,15 @@ returns-in_err-source-clause-fault c =
     (Stops c.args.circuit.now c.args.scale
     (section_forms c.args.circuit.now c.args.version c.args.count) c.args.cursor.now)
     c.from_residual-in_err-source.ensures.1
-    (fourth_stops c.args.circuit.now c.args.scale (register_forms c.args.count) (lead_forms c.args.version c.args.count)
-    (merge_forms c.args.circuit.now (c.args.count - 1))
+    (fourth_stops c.args.circuit.now c.args.scale (register_forms c.args.count)
+    (lead_forms c.args.version c.args.count) (merge_forms c.args.circuit.now (c.args.count - 1))
     (form.Source ∷ node_forms (2 * c.args.count - 1)) (form.Total ∷ []) c.args.cursor.now
     c.in_err-source.field-0.0 _ c.read_counted_merges.new.cursor
     (read_more (leads_read c.in_ok-timings.ensures.ok c.in_ok-leads.ensures.ok)
     (merge_forms c.args.circuit.now (c.args.count - 1)) _ c.read_counted_merges.new.cursor
     (merges_read c.in_ok-merged.ensures.ok))
-    (stop_before c.args.circuit.now c.args.scale (form.Source ∷ []) (node_forms (2 * c.args.count - 1))
-    c.read_counted_merges.new.cursor c.in_err-source.field-0.0
+    (stop_before c.args.circuit.now c.args.scale (form.Source ∷ [])
+    (node_forms (2 * c.args.count - 1)) c.read_counted_merges.new.cursor c.in_err-source.field-0.0
     (stop_line c.args.circuit.now c.args.scale form.Source c.read_counted_merges.new.cursor
     c.in_err-source.field-0.0 c.in_err-source.ensures.fault)))
 
@@ -124,14 +128,15 @@ returns-in_err-placed-clause-fault c =
     (Stops c.args.circuit.now c.args.scale
     (section_forms c.args.circuit.now c.args.version c.args.count) c.args.cursor.now)
     c.from_residual-in_err-placed.ensures.1
-    (fourth_stops c.args.circuit.now c.args.scale (register_forms c.args.count) (lead_forms c.args.version c.args.count)
-    (merge_forms c.args.circuit.now (c.args.count - 1))
+    (fourth_stops c.args.circuit.now c.args.scale (register_forms c.args.count)
+    (lead_forms c.args.version c.args.count) (merge_forms c.args.circuit.now (c.args.count - 1))
     (form.Source ∷ node_forms (2 * c.args.count - 1)) (form.Total ∷ []) c.args.cursor.now
     c.in_err-placed.field-0.0 _ c.read_counted_merges.new.cursor
     (read_more (leads_read c.in_ok-timings.ensures.ok c.in_ok-leads.ensures.ok)
     (merge_forms c.args.circuit.now (c.args.count - 1)) _ c.read_counted_merges.new.cursor
     (merges_read c.in_ok-merged.ensures.ok))
-    (stop_after (c.in_ok-source.ensures.ok.line.read c.args.scale c.in_ok-source.ensures.ok.line.flawless)
+    (stop_after (c.in_ok-source.ensures.ok.line.read c.args.scale
+    c.in_ok-source.ensures.ok.line.flawless)
     (node_forms (2 * c.args.count - 1)) c.in_err-placed.field-0.0 c.in_err-placed.ensures.fault))
 
 pub returns-in_err-total-clause-fault : goal.returns-in_err-total-clause-fault
@@ -140,15 +145,16 @@ returns-in_err-total-clause-fault c =
     (Stops c.args.circuit.now c.args.scale
     (section_forms c.args.circuit.now c.args.version c.args.count) c.args.cursor.now)
     c.from_residual-in_err-total.ensures.1
-    (fifth_stops c.args.circuit.now c.args.scale (register_forms c.args.count) (lead_forms c.args.version c.args.count)
-    (merge_forms c.args.circuit.now (c.args.count - 1))
+    (fifth_stops c.args.circuit.now c.args.scale (register_forms c.args.count)
+    (lead_forms c.args.version c.args.count) (merge_forms c.args.circuit.now (c.args.count - 1))
     (form.Source ∷ node_forms (2 * c.args.count - 1)) (form.Total ∷ []) c.args.cursor.now
     c.in_err-total.field-0.0 _ c.read_counted_nodes.new.cursor
     (read_more (read_more (leads_read c.in_ok-timings.ensures.ok c.in_ok-leads.ensures.ok)
     (merge_forms c.args.circuit.now (c.args.count - 1)) _ c.read_counted_merges.new.cursor
     (merges_read c.in_ok-merged.ensures.ok))
     (form.Source ∷ node_forms (2 * c.args.count - 1)) _ c.read_counted_nodes.new.cursor
-    (read_more (c.in_ok-source.ensures.ok.line.read c.args.scale c.in_ok-source.ensures.ok.line.flawless)
+    (read_more (c.in_ok-source.ensures.ok.line.read c.args.scale
+    c.in_ok-source.ensures.ok.line.flawless)
     (node_forms (2 * c.args.count - 1)) _ c.read_counted_nodes.new.cursor
     (nodes_read c.in_ok-placed.ensures.ok)))
     (stop_line c.args.circuit.now c.args.scale form.Total c.read_counted_nodes.new.cursor

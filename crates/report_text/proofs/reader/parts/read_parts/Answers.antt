@@ -25,14 +25,16 @@ returns-in_err-heading-clause-fault c =
 pub read_shown-requires-clause-line : goal.read_shown-requires-clause-line
 read_shown-requires-clause-line c =
     let heading = subst (λ (left : Left). HasHeading c.args.circuit.now left
-    c.read_heading.new.cursor c.in_ok-heading.heading) c.of-cursor.ensures c.in_ok-heading.ensures.ok in
+    c.read_heading.new.cursor c.in_ok-heading.heading) c.of-cursor.ensures
+    c.in_ok-heading.ensures.ok in
     let read = heading.lines (record { den = pos 1; grid = pos 1 }) in
     omega (arith, read.number)
 
 pub returns-in_err-shown-clause-fault : goal.returns-in_err-shown-clause-fault
 returns-in_err-shown-clause-fault c =
     let heading = subst (λ (left : Left). HasHeading c.args.circuit.now left
-    c.read_heading.new.cursor c.in_ok-heading.heading) c.of-cursor.ensures c.in_ok-heading.ensures.ok in
+    c.read_heading.new.cursor c.in_ok-heading.heading) c.of-cursor.ensures
+    c.in_ok-heading.ensures.ok in
     passed_on c.from_residual-in_err-shown.result c.in_err-shown.field-0.0
     (λ (found : ReportFault). found ≢ NoMemory → HasFault c.args.circuit.now c.args.tech.now
     c.args.bytes.now (Some found))
@@ -46,7 +48,8 @@ returns-in_err-shown-clause-fault c =
 pub read_body-requires-clause-line : goal.read_body-requires-clause-line
 read_body-requires-clause-line c =
     let heading = subst (λ (left : Left). HasHeading c.args.circuit.now left
-    c.read_heading.new.cursor c.in_ok-heading.heading) c.of-cursor.ensures c.in_ok-heading.ensures.ok in
+    c.read_heading.new.cursor c.in_ok-heading.heading) c.of-cursor.ensures
+    c.in_ok-heading.ensures.ok in
     let read = heading.lines (record { den = pos 1; grid = pos 1 }) in
     let shown = c.in_ok-shown.ensures.ok in
     omega (
@@ -59,7 +62,8 @@ read_body-requires-clause-line c =
 pub returns-in_err-body-clause-fault : goal.returns-in_err-body-clause-fault
 returns-in_err-body-clause-fault c =
     let heading = subst (λ (left : Left). HasHeading c.args.circuit.now left
-    c.read_heading.new.cursor c.in_ok-heading.heading) c.of-cursor.ensures c.in_ok-heading.ensures.ok in
+    c.read_heading.new.cursor c.in_ok-heading.heading) c.of-cursor.ensures
+    c.in_ok-heading.ensures.ok in
     let shown = subst (λ (scale : Scale). HasShown c.args.circuit.now scale
     c.in_ok-heading.heading.version c.in_ok-heading.heading.count c.read_heading.new.cursor
     c.read_shown.new.cursor c.in_ok-shown.shown) c.scale_of-scale.ensures.value
@@ -77,7 +81,8 @@ returns-in_err-body-clause-fault c =
 pub returns-in_err-at_end-clause-fault : goal.returns-in_err-at_end-clause-fault
 returns-in_err-at_end-clause-fault c =
     let heading = subst (λ (left : Left). HasHeading c.args.circuit.now left
-    c.read_heading.new.cursor c.in_ok-heading.heading) c.of-cursor.ensures c.in_ok-heading.ensures.ok in
+    c.read_heading.new.cursor c.in_ok-heading.heading) c.of-cursor.ensures
+    c.in_ok-heading.ensures.ok in
     let shown = subst (λ (scale : Scale). HasShown c.args.circuit.now scale
     c.in_ok-heading.heading.version c.in_ok-heading.heading.count c.read_heading.new.cursor
     c.read_shown.new.cursor c.in_ok-shown.shown) c.scale_of-scale.ensures.value

@@ -23,9 +23,11 @@ read_constraint-requires-clause-line c =
 pub returns-in_err-constraint-clause-fault : goal.returns-in_err-constraint-clause-fault
 returns-in_err-constraint-clause-fault c =
     passed_on c.from_residual.result c.in_err-constraint.field-0.0
-    (Stops c.args.circuit.now c.args.scale (cycle_forms version.First c.args.count) c.args.cursor.now)
+    (Stops c.args.circuit.now c.args.scale
+    (cycle_forms version.First c.args.count) c.args.cursor.now)
     c.from_residual.ensures.1
-    (section_stops (cycle_forms version.First) (λ n. form.Constraint) (λ n. replicate_next n form.Constraint) c.loop-place._place c.args.count _
+    (section_stops (cycle_forms version.First) (λ n. form.Constraint)
+    (λ n. replicate_next n form.Constraint) c.loop-place._place c.args.count _
     c.args.cursor.now c.loop-place.cursor c.in_err-constraint.field-0.0 c.loop-place-test.true
     c.loop-place.invariant.lines c.in_err-constraint.ensures.fault)
 

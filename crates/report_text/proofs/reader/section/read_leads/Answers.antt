@@ -23,7 +23,8 @@ returns-in_err-lead-clause-fault c =
     passed_on c.from_residual.result c.in_err-lead.field-0.0
     (Stops c.args.circuit.now c.args.scale (replicate c.args.count form.Lead) c.args.cursor.now)
     c.from_residual.ensures.1
-    (section_stops (λ n. replicate n form.Lead) (λ n. form.Lead) (λ n. replicate_next n form.Lead) c.loop-place._place c.args.count _
+    (section_stops (λ n. replicate n form.Lead) (λ n. form.Lead)
+    (λ n. replicate_next n form.Lead) c.loop-place._place c.args.count _
     c.args.cursor.now c.loop-place.cursor c.in_err-lead.field-0.0 c.loop-place-test.true
     c.loop-place.invariant.lines c.in_err-lead.ensures.fault)
 

@@ -22,11 +22,15 @@ read_merge-requires-clause-line c =
 pub returns-in_err-line-clause-fault : goal.returns-in_err-line-clause-fault
 returns-in_err-line-clause-fault c =
     passed_on c.from_residual.result c.in_err-line.field-0.0
-    (Stops c.args.circuit.now c.args.scale (map form.Merge (range_with_len (length c.args.circuit.now.registers) c.args.count)) c.args.cursor.now)
+    (Stops c.args.circuit.now c.args.scale
+    (map form.Merge (range_with_len (length c.args.circuit.now.registers) c.args.count))
+    c.args.cursor.now)
     c.from_residual.ensures.1
-    (section_stops (λ n. map form.Merge (range_with_len (length c.args.circuit.now.registers) n)) (λ n. form.Merge (length c.args.circuit.now.registers + n)) (numbered_step form.Merge (length c.args.circuit.now.registers)) c.loop-place.place c.args.count _
-    c.args.cursor.now c.loop-place.cursor c.in_err-line.field-0.0 c.loop-place-test.true
-    c.loop-place.invariant.lines
+    (section_stops (λ n. map form.Merge (range_with_len (length c.args.circuit.now.registers) n))
+    (λ n. form.Merge (length c.args.circuit.now.registers + n))
+    (numbered_step form.Merge (length c.args.circuit.now.registers)) c.loop-place.place
+    c.args.count _ c.args.cursor.now c.loop-place.cursor c.in_err-line.field-0.0
+    c.loop-place-test.true c.loop-place.invariant.lines
     (subst (λ sinks. StopsLine c.args.circuit.now c.args.scale
     (form.Merge (sinks + c.loop-place.place)) c.loop-place.cursor c.in_err-line.field-0.0)
     c.len-sinks.ensures c.in_err-line.ensures.fault))

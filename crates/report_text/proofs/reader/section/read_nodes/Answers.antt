@@ -21,9 +21,11 @@ read_node-requires-clause-line c =
 pub returns-in_err-line-clause-fault : goal.returns-in_err-line-clause-fault
 returns-in_err-line-clause-fault c =
     passed_on c.from_residual.result c.in_err-line.field-0.0
-    (Stops c.args.circuit.now c.args.scale (map form.Node (range_with_len 0 c.args.count)) c.args.cursor.now)
+    (Stops c.args.circuit.now c.args.scale
+    (map form.Node (range_with_len 0 c.args.count)) c.args.cursor.now)
     c.from_residual.ensures.1
-    (section_stops (λ n. map form.Node (range_with_len 0 n)) (λ n. form.Node n) (numbered_from_zero form.Node) c.loop-node.node c.args.count _
+    (section_stops (λ n. map form.Node (range_with_len 0 n)) (λ n. form.Node n)
+    (numbered_from_zero form.Node) c.loop-node.node c.args.count _
     c.args.cursor.now c.loop-node.cursor c.in_err-line.field-0.0 c.loop-node-test.true
     c.loop-node.invariant.lines c.in_err-line.ensures.fault)
 

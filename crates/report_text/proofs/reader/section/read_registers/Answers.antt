@@ -21,9 +21,11 @@ read_register-requires-clause-line c =
 pub returns-in_err-timed-clause-fault : goal.returns-in_err-timed-clause-fault
 returns-in_err-timed-clause-fault c =
     passed_on c.from_residual.result c.in_err-timed.field-0.0
-    (Stops c.args.circuit.now c.args.scale (map form.Register (range_with_len 0 c.args.count)) c.args.cursor.now)
+    (Stops c.args.circuit.now c.args.scale
+    (map form.Register (range_with_len 0 c.args.count)) c.args.cursor.now)
     c.from_residual.ensures.1
-    (section_stops (λ n. map form.Register (range_with_len 0 n)) (λ n. form.Register n) (numbered_from_zero form.Register) c.loop-register.register c.args.count _
+    (section_stops (λ n. map form.Register (range_with_len 0 n)) (λ n. form.Register n)
+    (numbered_from_zero form.Register) c.loop-register.register c.args.count _
     c.args.cursor.now c.loop-register.cursor c.in_err-timed.field-0.0 c.loop-register-test.true
     c.loop-register.invariant.lines c.in_err-timed.ensures.fault)
 

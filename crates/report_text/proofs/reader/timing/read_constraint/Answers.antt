@@ -6,5 +6,6 @@ use Rattle.report_text.proofs.reader.timing.read_constraint.Goals as goal
 pub returns-clause-ok : goal.returns-clause-ok
 returns-clause-ok c =
     line_denoted c.args.circuit.now c.args.scale form.Constraint c.in_ok-words.words.items
-    c.as_slice.result.now c.as_slice.ensures.value c.in_ok-words.ensures.ok (DenotesConstraint c.args.circuit.now) c.constraint_of.result
+    c.as_slice.result.now c.as_slice.ensures.value c.in_ok-words.ensures.ok
+    (DenotesConstraint c.args.circuit.now) c.constraint_of.result
     (c.constraint_of.ensures c.args.circuit.now c.args.scale c.requires.names)

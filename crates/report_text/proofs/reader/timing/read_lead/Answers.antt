@@ -14,5 +14,6 @@ lead_of-requires c = (
 pub returns-clause-ok : goal.returns-clause-ok
 returns-clause-ok c =
     line_denoted c.args.circuit.now c.args.scale form.Lead c.in_ok-words.words.items
-    c.as_slice.result.now c.as_slice.ensures.value c.in_ok-words.ensures.ok (DenotesLead c.args.circuit.now) c.lead_of.result
+    c.as_slice.result.now c.as_slice.ensures.value c.in_ok-words.ensures.ok
+    (DenotesLead c.args.circuit.now) c.lead_of.result
     (c.lead_of.ensures c.args.circuit.now c.args.scale c.requires.names)

@@ -6,5 +6,5 @@ use Rattle.report_text.proofs.reader.timing.read_period.Goals as goal
 pub returns-clause-ok : goal.returns-clause-ok
 returns-clause-ok c =
     line_denoted c.args.circuit.now c.args.scale form.Period c.in_ok-words.words.items
-    c.as_slice.result.now c.as_slice.ensures.value c.in_ok-words.ensures.ok DenotesPeriod c.period_of.result
-    (c.period_of.ensures c.args.circuit.now c.args.scale)
+    c.as_slice.result.now c.as_slice.ensures.value c.in_ok-words.ensures.ok DenotesPeriod
+    c.period_of.result (c.period_of.ensures c.args.circuit.now c.args.scale)

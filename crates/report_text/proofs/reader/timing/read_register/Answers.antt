@@ -7,12 +7,15 @@ pub timed_of-requires-clause-flawless : goal.timed_of-requires-clause-flawless
 timed_of-requires-clause-flawless c = (
   c.args.circuit.now,
   c.args.register,
-  line_flawless c.args.circuit.now c.args.scale (form.Register c.args.register) c.in_ok-words.words.items
+  line_flawless c.args.circuit.now c.args.scale
+      (form.Register c.args.register) c.in_ok-words.words.items
       c.as_slice.result.now c.as_slice.ensures.value c.in_ok-words.ensures.ok,
 )
 
 pub returns-clause-ok : goal.returns-clause-ok
 returns-clause-ok c =
-    line_denoted c.args.circuit.now c.args.scale (form.Register c.args.register) c.in_ok-words.words.items
-    c.as_slice.result.now c.as_slice.ensures.value c.in_ok-words.ensures.ok (DenotesTimed c.args.circuit.now c.args.scale c.args.register) c.timed_of.result
+    line_denoted c.args.circuit.now c.args.scale
+    (form.Register c.args.register) c.in_ok-words.words.items
+    c.as_slice.result.now c.as_slice.ensures.value c.in_ok-words.ensures.ok
+    (DenotesTimed c.args.circuit.now c.args.scale c.args.register) c.timed_of.result
     (c.timed_of.ensures c.args.circuit.now c.args.register)

@@ -14,5 +14,5 @@ show_of-requires c = (
 pub returns-clause-ok : goal.returns-clause-ok
 returns-clause-ok c =
     line_denoted c.args.circuit.now c.args.scale form.Show c.in_ok-words.words.items
-    c.as_slice.result.now c.as_slice.ensures.value c.in_ok-words.ensures.ok DenotesShow c.show_of.result
-    (λ flawless. c.show_of.ensures)
+    c.as_slice.result.now c.as_slice.ensures.value c.in_ok-words.ensures.ok DenotesShow
+    c.show_of.result (λ flawless. c.show_of.ensures)

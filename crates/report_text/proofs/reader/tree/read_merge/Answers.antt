@@ -16,5 +16,6 @@ merge_of-requires-clause-line c = (
 pub returns-clause-ok : goal.returns-clause-ok
 returns-clause-ok c =
     line_denoted c.args.circuit.now c.args.scale (form.Merge c.args.node) c.in_ok-words.words.items
-    c.as_slice.result.now c.as_slice.ensures.value c.in_ok-words.ensures.ok (SaysMerge c.args.circuit.now c.args.scale.grid c.args.node) c.merge_of.result
+    c.as_slice.result.now c.as_slice.ensures.value c.in_ok-words.ensures.ok
+    (SaysMerge c.args.circuit.now c.args.scale.grid c.args.node) c.merge_of.result
     (c.merge_of.ensures c.args.circuit.now c.args.node c.requires.names (omega arith))

@@ -8,7 +8,12 @@ use Rattle.report_text.proofs.reader.tree.read_node.Goals as goal
 pub node_of-requires-clause-some : goal.node_of-requires-clause-some
 node_of-requires-clause-some c =
     let some = c.in_ok-words.ensures.ok.some in
-    omega (arith, c.as_slice.ensures.len, length-map c.in_ok-words.words.items (λ (word : Bor (List ℕ)). word.now), ap (λ (words : List (Bor (List ℕ))). length words) c.as_slice.ensures.value)
+    omega (
+      arith,
+      c.as_slice.ensures.len,
+      length-map c.in_ok-words.words.items (λ (word : Bor (List ℕ)). word.now),
+      ap (λ (words : List (Bor (List ℕ))). length words) c.as_slice.ensures.value,
+    )
 
 pub node_of-requires-clause-line : goal.node_of-requires-clause-line
 node_of-requires-clause-line c = (
@@ -22,5 +27,6 @@ node_of-requires-clause-line c = (
 pub returns-clause-ok : goal.returns-clause-ok
 returns-clause-ok c =
     line_denoted c.args.circuit.now c.args.scale (form.Node c.args.node) c.in_ok-words.words.items
-    c.as_slice.result.now c.as_slice.ensures.value c.in_ok-words.ensures.ok (SaysNode c.args.scale.grid c.args.node) c.node_of.result
+    c.as_slice.result.now c.as_slice.ensures.value c.in_ok-words.ensures.ok
+    (SaysNode c.args.scale.grid c.args.node) c.node_of.result
     (c.node_of.ensures c.args.circuit.now c.args.node (omega arith))

@@ -13,5 +13,6 @@ source_of-requires-clause-line c = (
 pub returns-clause-ok : goal.returns-clause-ok
 returns-clause-ok c =
     line_denoted c.args.circuit.now c.args.scale form.Source c.in_ok-words.words.items
-    c.as_slice.result.now c.as_slice.ensures.value c.in_ok-words.ensures.ok (SaysSource c.args.circuit.now c.args.scale.grid) c.source_of.result
+    c.as_slice.result.now c.as_slice.ensures.value c.in_ok-words.ensures.ok
+    (SaysSource c.args.circuit.now c.args.scale.grid) c.source_of.result
     (c.source_of.ensures c.args.circuit.now c.requires.names)
