@@ -139,7 +139,8 @@ module _ (netlist table placement : List ℕ) where
   placement_fine fault accepted has =
       let (circuit, tech) = one_both netlist table has.circuit accepted.circuit has.tech
       accepted.tech has.tell accepted.tell in
-      let cause = subst (λ t. placements.RefusesPlacement placement accepted.circuit t.source t.host fault)
+      let cause =
+      subst (λ t. placements.RefusesPlacement placement accepted.circuit t.source t.host fault)
       tech (subst (λ c. placements.RefusesPlacement placement c has.tech.source has.tech.host fault)
       circuit has.cause) in
       has.named (placement_faults.no_fault placement accepted.circuit accepted.tech.source

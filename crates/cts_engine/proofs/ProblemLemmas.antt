@@ -1,5 +1,6 @@
 -- What the texts of a problem tell keeps to what a problem is: its delays serve its circuit, which
--- has the host where the table gives it a place, and its registers have places that aren't far away.
+-- has the host where the table gives it a place, and its registers have places that aren't far
+-- away.
 use Rattle.std.proofs.Common.{◌≡◌, ◌≢◌, ◌≤◌, ◌*◌, ◌^◌, ◌+◌, ◌==◌, ◌↔◌, inl, inr, lit<, ℕ, suc, ℤ, pos, negsuc, nat_abs, Bool, true, false, IsTrue, MatchBool, List, [], ◌∷◌, length, get_or, All, refl, sym, ap, ◌∙◌, subst, true≢false, arith}
 use Rattle.std.proofs.Math.Nat.{one-le-pow, mul-le-mul_right}
 use Rattle.std.proofs.lemmas.Bool.{cases_lt}

@@ -27,7 +27,8 @@ module _ (netlist table : List ℕ) where
 
   -- a table that isn't, after a netlist that denotes this circuit
   pub tech_refused : (circuit : Circuit) → AcceptsNetlist netlist circuit → (used : List Bool)
-      → AreUsedKinds circuit.signals used → (fault : TechFault) → tables.RefusesTable used table fault
+      → AreUsedKinds circuit.signals used → (fault : TechFault)
+      → tables.RefusesTable used table fault
       → IsCircuitRefusal netlist table (tech_refusal_of fault)
   tech_refused circuit accepts used kinds tech.NoMemory cause = tt
   tech_refused circuit accepts used kinds fault cause = (

@@ -53,7 +53,8 @@ fn placed(
     requires sinks { AreTreeSinks sinks.now }
     requires topology { IsTopology (length sinks.now) topology.now.merges }
     requires source { IsTreeSource source }
-    ensures { IfOk result (λ parts. IsMadeTree sinks.now topology.now.merges source parts.0 parts.1) }
+    ensures { IfOk result (λ parts.
+        IsMadeTree sinks.now topology.now.merges source parts.0 parts.1) }
 {
     let mut work = Work::with_room(alloc, sinks.len())?;
     merge(&mut work, sinks, topology);

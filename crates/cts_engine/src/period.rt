@@ -43,7 +43,8 @@ pub fn period_of(alloc: Global, circuit: &Circuit, tech: &Tech) -> Result<Period
     ensures ok { IfOk result (IsPeriodOutcome circuit.now tech.now) }
     ensures lowest { IfOk result BeginsLowest }
     ensures small { IfOk result HasSmallZero }
-    ensures never { IfOk result (λ outcome. IsNeverOutcome outcome ↔ HasNoPeriod circuit.now tech.now) }
+    ensures never { IfOk result (λ outcome. IsNeverOutcome outcome
+        ↔ HasNoPeriod circuit.now tech.now) }
     ensures few { IfOk result (λ _. JoinsMoreThan circuit.now 1048576 → ⊥) }
     ensures many { IfErr result (IsCaused circuit.now) }
 {

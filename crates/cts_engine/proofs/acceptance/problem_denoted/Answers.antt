@@ -14,16 +14,18 @@ pub returns-in_err-places-clause-cause : goal.returns-in_err-places-clause-cause
 returns-in_err-places-clause-cause c =
     let p = err_from_is_err_and c.from_residual-in_err-places.result
     c.from_residual-in_err-places.ensures.1 in
-    let refused = rw (c.as_slice.ensures, c.as_slice-2.ensures) at c.in_err-places.ensures.refused in
+    let refused =
+    rw (c.as_slice.ensures, c.as_slice-2.ensures) at c.in_err-places.ensures.refused in
     rw (p.1, p.2) (places_refused c.args.bench.now c.args.tech.now c.args.places.now
-    c.in_ok-circuit.field-0.circuit c.in_ok-circuit.field-0.tech c.in_ok-circuit.ensures.ok _ refused)
+    c.in_ok-circuit.field-0.circuit c.in_ok-circuit.field-0.tech c.in_ok-circuit.ensures.ok _
+    refused)
 
 pub invariant_of-result : goal.invariant_of-result
 invariant_of-result c =
     let accepts = rw (c.as_slice.ensures, c.as_slice-2.ensures) at c.in_ok-places.ensures.ok in
     record {
-      valid = problem_of c.in_ok-circuit.field-0.circuit c.in_ok-circuit.field-0.tech c.in_ok-places.places
-          c.args.places.now
+      valid = problem_of c.in_ok-circuit.field-0.circuit c.in_ok-circuit.field-0.tech
+          c.in_ok-places.places c.args.places.now
           (both_acyclic c.args.bench.now c.args.tech.now c.in_ok-circuit.field-0.circuit
           c.in_ok-circuit.field-0.tech c.in_ok-circuit.ensures.ok)
           c.in_ok-circuit.ensures.kinds c.in_ok-circuit.ensures.host accepts;
