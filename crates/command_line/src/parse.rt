@@ -67,7 +67,8 @@ fn command_of<'a>(form: Form, matches: &ArgMatches<'a>) -> Command<'a>
 // The value of the option at this place of a row.
 fn value_at<'a>(choices: &[Choice], place: usize, matches: &ArgMatches<'a>) -> Option<&'a str>
     ensures { option_map (λ word. word.now) result ≡ option_and_then
-        (λ choice. first_value (found_of matches.now) (word_of choice)) (slice_get choices.now place) }
+        (λ choice. first_value (found_of matches.now) (word_of choice))
+        (slice_get choices.now place) }
 {
     matches.get_str(choices.get(place)?.word())
 }

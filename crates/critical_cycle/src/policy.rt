@@ -180,8 +180,8 @@ impl Relaxation {
         (register, gain)
     }
 
-    // Gives the registers from one up to another their values, which stand then. The upper one keeps
-    // its own, and so much more is what the constraints between them gain.
+    // Gives the registers from one up to another their values, which stand then. The upper one
+    // keeps its own; the constraints between the two gain so much.
     fn hang(
         &mut self,
         constraints: &[Constraint],

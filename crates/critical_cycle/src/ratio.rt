@@ -36,11 +36,11 @@ pub enum Ratio {
     },
 }
 
-/// The greatest ratio of the cycles of constraints in a measure, at or above a first one. The room's
-/// memory serves the search, whatever its entries are, and a list of it becomes the cycle; no other
-/// memory is taken. Policy iteration finds the ratio, and a relaxation by it shows that no cycle has
-/// a greater one, and else goes on from there. Howard, "Dynamic Programming and Markov Processes",
-/// 1960; Lawler, "Combinatorial Optimization", 1976, section 3.13.
+/// The greatest ratio of the cycles of constraints in a measure, at or above a first one. The
+/// room's memory serves the search, whatever its entries are, and a list of it becomes the cycle;
+/// no other memory is taken. Policy iteration finds the ratio, and a relaxation by it shows that no
+/// cycle has a greater one, and else goes on from there. Howard, "Dynamic Programming and Markov
+/// Processes", 1960; Lawler, "Combinatorial Optimization", 1976, section 3.13.
 pub fn greatest_ratio_in(
     room: Room,
     constraints: &Listed<Constraint>,

@@ -52,7 +52,8 @@ impl Search {
             → IsSearch constraints result }
         ensures measure { result.measure ≡ measure }
         ensures first { result.first ≡ first }
-        ensures registers { length result.relaxation.parents.items ≡ length relaxation.parents.items }
+        ensures registers { length result.relaxation.parents.items
+            ≡ length relaxation.parents.items }
     {
         let start = places.len();
         Search {
@@ -155,8 +156,8 @@ impl Search {
         true
     }
 
-    // One round: a ring of parents that gains, or else values by the parents and a sweep. False where
-    // there is nothing more to do.
+    // One round: a ring of parents that gains, or else values by the parents and a sweep. False
+    // where there is nothing more to do.
     fn improve(&mut self, constraints: &[Constraint], marks: &mut [u32]) -> bool
         requires search { IsSearch constraints.now self.old }
         requires marks { length marks.old ≡ length self.old.relaxation.parents.items }

@@ -219,7 +219,8 @@ module _ {circuit : Circuit} {tech : Tech} {pairs : List PairDelay}
 
     pub unbounded_over_paths : margin ≡ margins.Unbounded → HasNoPath circuit
     unbounded_over_paths unbounded =
-        no_path (subst HasNoCycle same (subst (IsMarginOf registers constraints period) unbounded is))
+        no_path (subst HasNoCycle same
+        (subst (IsMarginOf registers constraints period) unbounded is))
 
 -- ---- a cycle has a path
 

@@ -42,7 +42,8 @@ pub fn margin_of(
     requires acyclic { (loop : List ℕ) → IsLoop circuit.now.signals loop → ⊥ }
     requires period { IsMarginPeriod period }
     ensures ok { IfOk result (IsMarginOutcome circuit.now tech.now period) }
-    ensures unbounded { IfOk result (λ outcome. IsUnboundedOutcome outcome ↔ HasNoPath circuit.now) }
+    ensures unbounded { IfOk result (λ outcome.
+        IsUnboundedOutcome outcome ↔ HasNoPath circuit.now) }
     ensures small { IfOk result IsSmallOutcome }
     ensures few { IfOk result (λ _. JoinsMoreThan circuit.now 1048576 → ⊥) }
     ensures many { IfErr result (IsCaused circuit.now) }

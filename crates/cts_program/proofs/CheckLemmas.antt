@@ -35,7 +35,8 @@ module _ {holds : List ℕ → Option (List ℕ)} (bench file pl report : Bor (L
   -- a report that isn't read stops the command
   pub report_stops : (reads reads_now : List ℕ → ℕ) (failure : Failure)
       → FailsLast kinds.Report (RefusesReport problem) (holds report.now) (reads report.now)
-      (reads_now report.now) failure → Stops holds reads reads_now (Check bench file pl report) failure
+      (reads_now report.now) failure
+      → Stops holds reads reads_now (Check bench file pl report) failure
   report_stops reads reads_now =
       last_stops bench file pl report kinds.Report (Check bench file pl report) refl problem denoted
       reads reads_now (RefusesReport problem)
@@ -90,7 +91,8 @@ module _ {holds : List ℕ → Option (List ℕ)} (bench file pl report : Bor (L
     }
 
     -- so the command `check` has its answer
-    pub check_answer : (result : Result Answer Failure) → IfOk result (λ answer. IsShown problem says)
+    pub check_answer : (result : Result Answer Failure)
+        → IfOk result (λ answer. IsShown problem says)
         → IfOk result (λ answer. ShowsLeast problem says)
         → IfOk result (λ answer. (ending_status answer.ending ≡ 0)
         × (answer.text.items ≡ text_of (shown_line ∷ [])))

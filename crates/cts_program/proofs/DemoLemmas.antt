@@ -68,7 +68,8 @@ module _ {holds : List ℕ → Option (List ℕ)} {bench file pl : Bor (List ℕ
 
   -- texts that denote a problem are those of the demonstration
   pub texts_denote : (problem : Problem)
-      → DenotesProblem holds (problem_files bench file pl) problem → AreOfProblem (demo_texts registers seed) problem
+      → DenotesProblem holds (problem_files bench file pl) problem
+      → AreOfProblem (demo_texts registers seed) problem
   texts_denote problem denoted =
       let three : length denoted.contents ≡ 3 = denoted.all in
       let same : take (length denoted.contents) (demo_texts registers seed) ≡ denoted.contents =

@@ -89,7 +89,8 @@ module _ (holds : List ℕ → Option (List ℕ)) (reads reads_now : List ℕ �
         refusal = file_refusal command named.1 (bytes ∷ []) (failures.Bench fault) (short, has);
       }
   netlist_stops tech named failure fails =
-      file_stops holds reads reads_now command kinds.Bench bench.now [] _ named.1 [] refl tt tt named.1 (λ bytes long. long)
+      file_stops holds reads reads_now command kinds.Bench bench.now [] _ named.1 [] refl tt tt
+      named.1 (λ bytes long. long)
       (λ bytes denoted. subst (λ files. AreContents holds files (bytes ∷ [])) (sym named.1)
       (denoted, tt)) failure fails
 

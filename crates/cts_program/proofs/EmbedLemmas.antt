@@ -1,4 +1,5 @@
--- What the command `embed` is left with: a topology that is refused, too many pairs, or a clock tree.
+-- What the command `embed` is left with: a topology that is refused, too many pairs, or a clock
+-- tree.
 use Rattle.std.proofs.Common.{ℕ, List, length, Option, Result, Ok, Err, IfOk, Bor, refl, sym, subst}
 use Rattle.cts_model.specs.declared.problem.Problem.{Problem}
 use Rattle.cts_model.specs.declared.tree.Topology.{Topology}

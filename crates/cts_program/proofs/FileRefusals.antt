@@ -39,7 +39,8 @@ agree_same (one ∷ more) (other ∷ others) (same, agree) as_long =
     ap₂ (λ first rest. first ∷ rest) same (agree_same more others agree (omega arith))
 
 -- agreement is symmetric
-pub agree_rotated : (contents others : List (List ℕ)) → Agree contents others → Agree others contents
+pub agree_rotated : (contents others : List (List ℕ)) → Agree contents others
+    → Agree others contents
 agree_rotated [] [] agree = tt
 agree_rotated [] (other ∷ others) agree = tt
 agree_rotated (one ∷ more) [] agree = tt

@@ -1,5 +1,5 @@
--- What a command is left with that reads the files of a problem and one more: a last file that isn't
--- read or is refused, or one that holds what is wanted.
+-- What a command is left with that reads the files of a problem and one more: a last file that
+-- isn't read or is refused, or one that holds what is wanted.
 use Rattle.std.proofs.Common.{◌≡◌, ◌++◌, ℕ, inr, List, [], ◌∷◌, length, Option, Bor, refl, sym, ap, subst}
 use Rattle.cts_model.specs.declared.problem.Problem.{Problem}
 use Rattle.command_line.specs.declared.command.Command.{Command}

@@ -146,25 +146,30 @@ pub answer_of : (command : Command) (contents : List (List ℕ)) (status : ℕ) 
     → Answers (form_of command) (options_of command) contents status text
 answer_of (Zero bench tech) contents status text (done, answer) =
     answers_with forms.Zero _ contents status text
-    (λ circuit delays. IsZeroText circuit delays text) (record { check = λ same. cc same; embed = λ same. cc same })
+    (λ circuit delays. IsZeroText circuit delays text)
+    (record { check = λ same. cc same; embed = λ same. cc same })
     (λ circuit delays. zero_text circuit delays status text done) answer
 answer_of (Period bench tech) contents status text answer =
     answers_with forms.Period _ contents status text
-    (λ circuit delays. IsPeriodText circuit delays status text) (record { check = λ same. cc same; embed = λ same. cc same })
+    (λ circuit delays. IsPeriodText circuit delays status text)
+    (record { check = λ same. cc same; embed = λ same. cc same })
     (λ circuit delays. period_text circuit delays status text) answer
 answer_of (Schedule bench tech) contents status text answer =
     answers_with forms.Schedule _ contents status text
-    (λ circuit delays. IsScheduleText circuit delays status text) (record { check = λ same. cc same; embed = λ same. cc same })
+    (λ circuit delays. IsScheduleText circuit delays status text)
+    (record { check = λ same. cc same; embed = λ same. cc same })
     (λ circuit delays. schedule_text circuit delays status text) answer
 answer_of (Synth bench tech pl) contents status text answer =
     answers_problem forms.Synth _ contents status text
-    (λ problem. IsSynthText problem status text) (record { check = λ same. cc same; embed = λ same. cc same })
+    (λ problem. IsSynthText problem status text)
+    (record { check = λ same. cc same; embed = λ same. cc same })
     (λ problem. synth_text problem status text) answer
 answer_of (Check bench tech pl report) contents status text (done, shown, spelled) =
     check_answers _ contents status text done shown spelled
 answer_of (Demo registers seed) contents status text answer =
     answers_problem forms.Demo _ contents status text
-    (λ problem. IsDemoText (number_of registers.now) problem status text) (record { check = λ same. cc same; embed = λ same. cc same })
+    (λ problem. IsDemoText (number_of registers.now) problem status text)
+    (record { check = λ same. cc same; embed = λ same. cc same })
     (λ problem. demo_text problem (number_of registers.now) status text) answer
 answer_of (Embed bench tech pl topology) contents status text ends =
     embed_answers _ contents status text ends
@@ -187,7 +192,8 @@ module _ (form : Form) (given : List Given) (contents : List (List ℕ)) (status
     -- another text for the same contents is one for the same circuit
     of_one : IsTextOf form status' text' answer.circuit answer.tech
     of_one =
-        let same = one_denoted (texts_for form given contents) other.circuit answer.circuit other.tech
+        let same =
+        one_denoted (texts_for form given contents) other.circuit answer.circuit other.tech
         answer.tech other.tell answer.tell in
         subst (λ t. IsTextOf form status' text' answer.circuit t) same.1
         (subst (λ c. IsTextOf form status' text' c other.tech) same.0 other.holds)

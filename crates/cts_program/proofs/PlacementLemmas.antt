@@ -31,8 +31,8 @@ use Rattle.cts_program.proofs.ResultLemmas.{if_ok_from}
 
 -- a register that has no place is one of the circuit
 pub unplaced_within : (circuit : Circuit) (source host text : List ℕ) (fault : PlaceFault)
-    → RefusesPlacement text circuit source host fault → (register : ℕ) → fault ≡ place.NoPlace register
-    → register < length circuit.registers
+    → RefusesPlacement text circuit source host fault → (register : ℕ)
+    → fault ≡ place.NoPlace register → register < length circuit.registers
 unplaced_within circuit source host text fault refused register is =
     let none : HasNoPlace text circuit source host register =
     subst (RefusesPlacement text circuit source host) is refused in
@@ -70,7 +70,8 @@ record DenotesTwo (holds : List ℕ → Option (List ℕ)) (bench file : Bor (Li
   tell : TellBoth netlist table circuit tech
 
 module _ {holds : List ℕ → Option (List ℕ)} (bench file : Bor (List ℕ)) {circuit : Circuit}
-    {tech : Tech} (denoted : DenotesCircuit holds (circuit_files bench (Some file)) circuit tech) where
+    {tech : Tech}
+    (denoted : DenotesCircuit holds (circuit_files bench (Some file)) circuit tech) where
   -- the two files are all that tell it
   two_denoted : DenotesTwo holds bench file circuit tech
   two_denoted = at denoted.contents denoted.are denoted.all denoted.accepted denoted.tell

@@ -3,7 +3,8 @@ use Rattle.std.proofs.Common.{Result, Ok, Err, IfOk, IfErr, IsErrOf}
 
 module _ {T E : Type 0} (result : Result T E) where
   -- of its success, from two facts of it
-  pub if_ok_from : (P Q R : T → Type 0) → IfOk result P → IfOk result Q → ((x : T) → P x → Q x → R x) → IfOk result R
+  pub if_ok_from : (P Q R : T → Type 0) → IfOk result P → IfOk result Q
+      → ((x : T) → P x → Q x → R x) → IfOk result R
   if_ok_from P Q R = at result
     where
       at : (r : Result T E) → IfOk r P → IfOk r Q → ((x : T) → P x → Q x → R x) → IfOk r R

@@ -297,17 +297,18 @@ module _ (words : List (List ℕ)) (holds : List ℕ → Option (List ℕ)) (rea
         → IsRefusal command contents other
         → (status_of failure ≡ status_of other)
         ⊎ ((status_of failure ≡ 4) ⊎ (status_of failure ≡ 6))
-    refused_status laws command contents other means denoted refusal = elim (cause_of failure fails) [
-      | usage is none ↦ absurd (none command means)
-      | refused is command' means' refuses ↦
-          inl (refused_alike words holds command command' means means' contents denoted other failure
-          refusal refuses)
-      | unread kind is command' means' cannot ↦ inr (inl (ap status_of is))
-      | unwritten is part rose ↦
-          absurd (denoted_not_refused words holds command part.command means part.means contents denoted
-          laws other refusal part.status part.text part.denotes)
-      | memory is command' means' ↦ inr (inr (ap status_of is))
-    ]
+    refused_status laws command contents other means denoted refusal =
+        elim (cause_of failure fails) [
+          | usage is none ↦ absurd (none command means)
+          | refused is command' means' refuses ↦
+              inl (refused_alike words holds command command' means means' contents denoted other
+              failure refusal refuses)
+          | unread kind is command' means' cannot ↦ inr (inl (ap status_of is))
+          | unwritten is part rose ↦
+              absurd (denoted_not_refused words holds command part.command means part.means contents
+              denoted laws other refusal part.status part.text part.denotes)
+          | memory is command' means' ↦ inr (inr (ap status_of is))
+        ]
 
     -- no file of the command is one that can't be read, where no count rose
     not_unread : (command command' : Command) → IsCommand words command → IsCommand words command'
@@ -337,8 +338,8 @@ module _ (words : List (List ℕ)) (holds : List ℕ → Option (List ℕ)) (rea
 
     -- the text of an answer doesn't stand whole where the command line failed
     pub lacks_text : (command : Command) (contents : List (List ℕ)) (status : ℕ)
-        (text prefix : List ℕ) → IsCommand words command → AreDenoted holds (files_of command) contents
-        → IsAnswer command contents status text
+        (text prefix : List ℕ) → IsCommand words command
+        → AreDenoted holds (files_of command) contents → IsAnswer command contents status text
         → (failure ≢ WriteFault → now ≡ before) → before ≡ Some prefix → now ≡ appended before text
         → ⊥
     lacks_text command contents status text prefix means denoted answer kept is whole =
@@ -353,8 +354,8 @@ module _ (words : List (List ℕ)) (holds : List ℕ → Option (List ℕ)) (rea
               (kept (not_write 4 (ap status_of is') (λ e. cc e))) whole
           | unwritten is' part rose ↦
               part_lacks text part.text prefix before now
-              (denoted_prefix words holds command part.command means part.means contents denoted status
-              text answer part.status part.text part.denotes) is part.prefix whole
+              (denoted_prefix words holds command part.command means part.means contents denoted
+              status text answer part.status part.text part.denotes) is part.prefix whole
           | memory is' command' means' ↦
               kept_lacks text prefix before now some is
               (kept (not_write 6 (ap status_of is') (λ e. cc e))) whole

@@ -60,5 +60,7 @@ module _ (holds : List ℕ → Option (List ℕ)) where
   denoted_agree files [] contents denoted are = tt
   denoted_agree files (bytes ∷ more) [] denoted are = tt
   denoted_agree [] (bytes ∷ more) (other ∷ others) denoted are = absurd denoted
-  denoted_agree (file ∷ files) (bytes ∷ more) (other ∷ others) (is, denoted) (alike, are) =
-      (subst (λ held. IfSome held (λ b. b ≡ other)) is alike, denoted_agree files more others denoted are)
+  denoted_agree (file ∷ files) (bytes ∷ more) (other ∷ others) (is, denoted) (alike, are) = (
+    subst (λ held. IfSome held (λ b. b ≡ other)) is alike,
+    denoted_agree files more others denoted are,
+  )

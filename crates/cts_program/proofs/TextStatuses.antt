@@ -69,7 +69,8 @@ finds_no_period command contents all text answer =
         circuit = answer.circuit;
         tech = answer.tech;
         tell = answer.tell;
-        few = answer.few (λ check. let clash = sym (ap looks_for_period check) ∙ says.0 in cc clash);
+        few =
+            answer.few (λ check. let clash = sym (ap looks_for_period check) ∙ says.0 in cc clash);
         holds = says.1;
       },
     )

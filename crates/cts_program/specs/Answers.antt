@@ -70,7 +70,8 @@ abbrev pub IsSynthAnswer : List (List ℕ) → ℕ → List ℕ → Type 0
 IsSynthAnswer contents status text =
     TellProblemWith contents (λ problem. IsSynthText problem status text)
 
--- the text is one for the demonstration with this number of registers and this seed, with its status
+-- the text is one for the demonstration with this number of registers and this seed, with its
+-- status
 abbrev pub IsDemoAnswer : (registers seed : ℕ) → ℕ → List ℕ → Type 0
 IsDemoAnswer registers seed status text = TellProblemWith (demo_texts registers seed)
     (λ problem. IsDemoText registers problem status text)

@@ -47,8 +47,8 @@ pub record HasReason (problem : Problem) (bytes : List ℕ) (reason : Reason) : 
   pub spelled : Spells problem.circuit problem.tech bytes report
   pub verdict : IsVerdict problem report (Not reason)
 
--- the file holds no report that is shown: it is too long, or has a fault, or a reason stands against
--- what it spells
+-- the file holds no report that is shown: it is too long, or has a fault, or a reason stands
+-- against what it spells
 abbrev pub RefusesReport : Problem → List ℕ → Failure → Type 0
 RefusesReport problem bytes (TooLong Report) = IsShortFile bytes → ⊥
 RefusesReport problem bytes (Unshown (why.Fault found)) = IsShortFile bytes

@@ -40,7 +40,8 @@ AreContents holds (file ∷ files) (bytes ∷ contents) =
     IfSome (holds file.1) (λ denoted. denoted ≡ bytes) × AreContents holds files contents
 
 -- the device says that the first of these files hold these contents
-abbrev pub AreDenoted : (List ℕ → Option (List ℕ)) → List (FileKind × List ℕ) → List (List ℕ) → Type 0
+abbrev pub AreDenoted : (List ℕ → Option (List ℕ)) → List (FileKind × List ℕ) → List (List ℕ)
+    → Type 0
 AreDenoted holds files [] = Unit {0}
 AreDenoted holds [] (bytes ∷ contents) = ⊥
 AreDenoted holds (file ∷ files) (bytes ∷ contents) =

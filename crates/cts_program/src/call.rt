@@ -20,8 +20,8 @@ use std::io::ErrorKind;
 use std::process::ExitCode;
 
 /// Answers a call with these words, the first of which is the program's name, and gives the exit
-/// code. Words that can't be had are reported by one line on `err`: those that are no text are wrong
-/// words.
+/// code. Words that can't be had are reported by one line on `err`: those that are no text are
+/// wrong words.
 pub fn answer_call<I: Inputs, O: Sink, E: Sink>(
     alloc: Global,
     words: io::Result<Vec<String>>,

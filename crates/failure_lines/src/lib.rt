@@ -1,5 +1,5 @@
-//! Why the program doesn't do what a call asks for: the exit status of each failure, and its line on
-//! the error output.
+//! Why the program doesn't do what a call asks for: the exit status of each failure, and its line
+//! on the error output.
 #![tactic(auto)]
 
 mod failure;

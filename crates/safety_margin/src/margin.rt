@@ -31,8 +31,8 @@ pub enum Margin {
 }
 
 /// The greatest margin at a period in ticks that some arrivals spare, the cycle that shows it, and
-/// the least schedule that spares it. It takes room for the search and for the arrivals, 52 bytes for
-/// each register. Fishburn, "Clock Skew Optimization", 1990.
+/// the least schedule that spares it. It takes room for the search and for the arrivals, 52 bytes
+/// for each register. Fishburn, "Clock Skew Optimization", 1990.
 pub fn greatest_margin(
     alloc: Global,
     registers: usize,

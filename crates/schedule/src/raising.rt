@@ -158,8 +158,8 @@ impl Raising {
         requires ready { CanRaise constraints.now gains self.old }
         requires place { place < length constraints.now }
         ensures relaxed { (default : Constraint)
-            → IsRelaxed (slice_index_or constraints.now place default) gains self.old.at.items result
-            self.new.at.items }
+            → IsRelaxed (slice_index_or constraints.now place default) gains self.old.at.items
+            result self.new.at.items }
         ensures ready { CanRaise constraints.now gains self.new }
     {
         let constraint = &constraints[place];

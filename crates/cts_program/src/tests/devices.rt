@@ -60,7 +60,8 @@ fn blames_a_missing_file(rt: HostRuntime) {
     seen.expect(&rt, 4, "", "read fault report\n", "a missing report");
 }
 
-// What a command leaves over these files where this write of its text, in pieces of 16 bytes, fails.
+// What a command leaves over these files where this write of its text, in pieces of 16 bytes,
+// fails.
 fn write_failing(
     rt: &impl Abort,
     alloc: Global,

@@ -28,7 +28,8 @@ returns-in_err-read_circuit-in-Zero-clause-cause g c =
     let p = err_from_is_err_and c.from_residual.result
     c.from_residual.ensures.1 in
     rw (p.1, p.2, c.in-Zero.is) (c.in_err-read_circuit-in-Zero.ensures.cause
-    (Zero c.in-Zero.bench c.in-Zero.tech) ([], sym (append-nil (circuit_files c.in-Zero.bench c.in-Zero.tech))))
+    (Zero c.in-Zero.bench c.in-Zero.tech)
+    ([], sym (append-nil (circuit_files c.in-Zero.bench c.in-Zero.tech))))
 
 pub returns-in_err-read_circuit-in-Period-clause-cause :
     goal.returns-in_err-read_circuit-in-Period-clause-cause
@@ -60,7 +61,8 @@ returns-in_err-problem-in-Check-clause-cause g c =
     let p = err_from_is_err_and c.from_residual-in_err-problem-in-Check.result
     c.from_residual-in_err-problem-in-Check.ensures.1 in
     rw (p.1, p.2, c.in-Check.is) (c.in_err-problem-in-Check.ensures.cause
-    (Check c.in-Check.bench c.in-Check.tech c.in-Check.pl c.in-Check.report) ((kinds.Report, c.in-Check.report.now) ∷ [], refl))
+    (Check c.in-Check.bench c.in-Check.tech c.in-Check.pl c.in-Check.report)
+    ((kinds.Report, c.in-Check.report.now) ∷ [], refl))
 
 pub returns-in_err-report-in-Check-clause-cause : goal.returns-in_err-report-in-Check-clause-cause
 returns-in_err-report-in-Check-clause-cause g c =
@@ -87,17 +89,19 @@ returns-in_ok-read_circuit-in-Zero-clause-ok g c =
     rw c.in-Zero.is (zero_answer c.in-Zero.bench c.in-Zero.tech
     c.in_ok-read_circuit-in-Zero.ensures.ok c.zero.result c.zero.ensures.few c.zero.ensures.text)
 
-pub returns-in_ok-read_circuit-in-Period-clause-ok : goal.returns-in_ok-read_circuit-in-Period-clause-ok
+pub returns-in_ok-read_circuit-in-Period-clause-ok :
+    goal.returns-in_ok-read_circuit-in-Period-clause-ok
 returns-in_ok-read_circuit-in-Period-clause-ok g c =
     rw c.in-Period.is (denoted_answer (Period c.in-Period.bench c.in-Period.tech)
-    c.in_ok-read_circuit-in-Period.ensures.ok IsPeriodText (λ status text answer. answer) c.period.result
-    c.period.ensures.few c.period.ensures.text)
+    c.in_ok-read_circuit-in-Period.ensures.ok IsPeriodText
+    (λ status text answer. answer) c.period.result c.period.ensures.few c.period.ensures.text)
 
-pub returns-in_ok-read_circuit-in-Schedule-clause-ok : goal.returns-in_ok-read_circuit-in-Schedule-clause-ok
+pub returns-in_ok-read_circuit-in-Schedule-clause-ok :
+    goal.returns-in_ok-read_circuit-in-Schedule-clause-ok
 returns-in_ok-read_circuit-in-Schedule-clause-ok g c =
     rw c.in-Schedule.is (denoted_answer (Schedule c.in-Schedule.bench c.in-Schedule.tech)
-    c.in_ok-read_circuit-in-Schedule.ensures.ok IsScheduleText (λ status text answer. answer) c.schedule.result
-    c.schedule.ensures.few c.schedule.ensures.text)
+    c.in_ok-read_circuit-in-Schedule.ensures.ok IsScheduleText
+    (λ status text answer. answer) c.schedule.result c.schedule.ensures.few c.schedule.ensures.text)
 
 pub returns-in_ok-read_circuit-in-Zero-clause-cause :
     goal.returns-in_ok-read_circuit-in-Zero-clause-cause
@@ -120,7 +124,8 @@ returns-in_ok-read_circuit-in-Schedule-clause-cause g c =
     (λ failure fails. circuit_stops _ _ (Schedule c.in-Schedule.bench c.in-Schedule.tech)
     c.in_ok-read_circuit-in-Schedule.ensures.ok (λ pairs. inr pairs) failure fails))
 
-pub returns-in_ok-read_problem-in-Synth-clause-ok : goal.returns-in_ok-read_problem-in-Synth-clause-ok
+pub returns-in_ok-read_problem-in-Synth-clause-ok :
+    goal.returns-in_ok-read_problem-in-Synth-clause-ok
 returns-in_ok-read_problem-in-Synth-clause-ok g c =
     rw c.in-Synth.is (synth_answer c.in-Synth.bench c.in-Synth.tech c.in-Synth.pl
     c.in_ok-read_problem-in-Synth.field-0 c.in_ok-read_problem-in-Synth.ensures.ok c.synth.result

@@ -20,39 +20,49 @@ returns-in-Ok-clause-given g c command contents means denoted =
     let ends = c.in-Ok.ensures.done in
     record {
       only = λ other text start answer is whole. c.status.ensures
-          ∙ denoted_status (map string_bytes c.args.words.now) (g.I.Inputs.holds c.args.inputs.now) command ends.command means ends.means contents
+          ∙ denoted_status (map string_bytes c.args.words.now)
+          (g.I.Inputs.holds c.args.inputs.now) command ends.command means ends.means contents
           denoted other text answer _ ends.text ends.denotes;
-      never = λ all one. denoted_never (map string_bytes c.args.words.now) (g.I.Inputs.holds c.args.inputs.now) command ends.command means ends.means
+      never = λ all one. denoted_never (map string_bytes c.args.words.now)
+          (g.I.Inputs.holds c.args.inputs.now) command ends.command means ends.means
           contents denoted all ends.text
-          (subst (λ status. DenotesText (g.I.Inputs.holds c.args.inputs.now) ends.command status ends.text)
+          (subst (λ status.
+          DenotesText (g.I.Inputs.holds c.args.inputs.now) ends.command status ends.text)
           (sym c.status.ensures ∙ one) ends.denotes);
-      found = λ none done. denoted_found (map string_bytes c.args.words.now) (g.I.Inputs.holds c.args.inputs.now) command ends.command means ends.means
+      found = λ none done. denoted_found (map string_bytes c.args.words.now)
+          (g.I.Inputs.holds c.args.inputs.now) command ends.command means ends.means
           contents denoted none ends.text
-          (subst (λ status. DenotesText (g.I.Inputs.holds c.args.inputs.now) ends.command status ends.text)
+          (subst (λ status.
+          DenotesText (g.I.Inputs.holds c.args.inputs.now) ends.command status ends.text)
           (sym c.status.ensures ∙ done) ends.denotes);
-      refused = λ failure refusal. absurd (denoted_not_refused (map string_bytes c.args.words.now) (g.I.Inputs.holds c.args.inputs.now) command ends.command
+      refused = λ failure refusal. absurd (denoted_not_refused (map string_bytes c.args.words.now)
+          (g.I.Inputs.holds c.args.inputs.now) command ends.command
           means ends.means contents denoted (record {
             one_report = c.one_report.ensures;
             one_fault = c.faults.ensures.one;
             no_fault = c.faults.ensures.none;
           }) failure refusal _ ends.text ends.denotes);
       complete = λ accepted read wrote. inl (subst (IsStatusOf command) (sym c.status.ensures)
-          (done_status (map string_bytes c.args.words.now) (g.I.Inputs.holds c.args.inputs.now) command ends.command means ends.means c.in-Ok.ending
+          (done_status (map string_bytes c.args.words.now)
+          (g.I.Inputs.holds c.args.inputs.now) command ends.command means ends.means c.in-Ok.ending
           ends.text ends.denotes));
     }
 
 pub returns-in-Err-clause-usage : goal.returns-in-Err-clause-usage
 returns-in-Err-clause-usage g c = rw c.status-in-Err.ensures (
-  two_is_usage (map string_bytes c.args.words.now) (g.I.Inputs.holds c.args.inputs.now) _ _ _ _ _ _ c.in-Err.failure c.in-Err.ensures.cause,
-  usage_is_two (map string_bytes c.args.words.now) (g.I.Inputs.holds c.args.inputs.now) _ _ _ _ _ _ c.in-Err.failure c.in-Err.ensures.cause,
+  two_is_usage (map string_bytes c.args.words.now)
+      (g.I.Inputs.holds c.args.inputs.now) _ _ _ _ _ _ c.in-Err.failure c.in-Err.ensures.cause,
+  usage_is_two (map string_bytes c.args.words.now)
+      (g.I.Inputs.holds c.args.inputs.now) _ _ _ _ _ _ c.in-Err.failure c.in-Err.ensures.cause,
 )
 
 pub returns-in-Err-clause-given : goal.returns-in-Err-clause-given
 returns-in-Err-clause-given g c command contents means denoted =
     rw c.status-in-Err.ensures (record {
-      only = λ other text start answer is whole. absurd (lacks_text (map string_bytes c.args.words.now) (g.I.Inputs.holds c.args.inputs.now) _ _ _ _ _ _
-          c.in-Err.failure c.in-Err.ensures.cause command contents other text start means denoted
-          answer c.in-Err.ensures.kept is whole);
+      only =
+          λ other text start answer is whole. absurd (lacks_text (map string_bytes c.args.words.now)
+          (g.I.Inputs.holds c.args.inputs.now) _ _ _ _ _ _ c.in-Err.failure c.in-Err.ensures.cause
+          command contents other text start means denoted answer c.in-Err.ensures.kept is whole);
       never = λ all one. absurd (no_ending c.in-Err.failure 1 one (omega arith));
       found = λ none done. no_ending c.in-Err.failure 0 done (omega arith);
       refused = λ failure refusal. refused_status (map string_bytes c.args.words.now)
@@ -62,7 +72,8 @@ returns-in-Err-clause-given g c command contents means denoted =
             one_fault = c.faults.ensures.one;
             no_fault = c.faults.ensures.none;
           }) command contents failure means denoted refusal;
-      complete = accepted_status (map string_bytes c.args.words.now) (g.I.Inputs.holds c.args.inputs.now) _ _ _ _ _ _ c.in-Err.failure c.in-Err.ensures.cause
+      complete = accepted_status (map string_bytes c.args.words.now)
+          (g.I.Inputs.holds c.args.inputs.now) _ _ _ _ _ _ c.in-Err.failure c.in-Err.ensures.cause
           command contents means denoted;
     })
 
@@ -80,10 +91,12 @@ returns-in-Err-clause-counts g c = rw c.status-in-Err.ensures (record {
 
 pub returns-in-Err-clause-write_fault : goal.returns-in-Err-clause-write_fault
 returns-in-Err-clause-write_fault g c five =
-    let (part, rose) = five_is_unwritten (map string_bytes c.args.words.now) (g.I.Inputs.holds c.args.inputs.now) _ _ _ _ _ _ c.in-Err.failure
+    let (part, rose) = five_is_unwritten (map string_bytes c.args.words.now)
+    (g.I.Inputs.holds c.args.inputs.now) _ _ _ _ _ _ c.in-Err.failure
     c.in-Err.ensures.cause (sym c.status-in-Err.ensures ∙ five) in
     (rose, part)
 
 pub returns-in-Err-clause-refused : goal.returns-in-Err-clause-refused
 returns-in-Err-clause-refused g c = rw c.status-in-Err.ensures
-    (refusal_given (map string_bytes c.args.words.now) (g.I.Inputs.holds c.args.inputs.now) _ _ _ _ _ _ c.in-Err.failure c.in-Err.ensures.cause)
+    (refusal_given (map string_bytes c.args.words.now)
+    (g.I.Inputs.holds c.args.inputs.now) _ _ _ _ _ _ c.in-Err.failure c.in-Err.ensures.cause)

@@ -6,6 +6,7 @@ use Rattle.failure_lines.proofs.failure.write_line.Given as goal
 -- the pieces after us are written, and the count hasn't fallen
 abbrev pub invariant-loop-piece : goal.invariant-loop-piece
 invariant-loop-piece g l = record {
-  written : g.E.Sink.written l.err ≡ appended (g.E.Sink.written l.fn.err) (flat_map (λ piece. piece.now) (take l.piece-index l.pieces));
+  written : g.E.Sink.written l.err ≡ appended (g.E.Sink.written l.fn.err)
+      (flat_map (λ piece. piece.now) (take l.piece-index l.pieces));
   count : g.E.Sink.faults l.fn.err ≤ g.E.Sink.faults l.err;
 }

@@ -37,10 +37,10 @@ returns c =
     let steps = constraints_at constraints (drop c.go_round-self.result places) in
     let shows = raise_shows before.measure constraints before.first _
     (drop c.go_round-self.result places) before.shown c.raised-self.result before.ratio
-    c.raise_by-raise.result search.first search.shown ring.at_shown.greatest c.go_round-self.ensures.within
-    c.go_round-self.ensures.cycle
-    (not_kept before.measure before.ratio before.trial steps c.raise_by-raise.result ring.at_shown.at gains
-    judged) judged c.raised-self.ensures in
+    c.raise_by-raise.result search.first search.shown ring.at_shown.greatest
+    c.go_round-self.ensures.within c.go_round-self.ensures.cycle
+    (not_kept before.measure before.ratio before.trial steps c.raise_by-raise.result
+    ring.at_shown.at gains judged) judged c.raised-self.ensures in
     record {
       search = record {
         room = search.room;

@@ -18,5 +18,6 @@ returns-clause-settled c =
     (subst (λ shown. IsSettled now.measure constraints now.first shown) c.reach_shown.ensures.shown
     (settled_at now.measure constraints now.first now.shown now.ratio now.trial c.settle.new.self
     at.greatest at.at satisfies))))
-    (λ register far. record { far_up = far; at_shown = record { at = at.at; greatest = at.greatest } })
+    (λ register far.
+    record { far_up = far; at_shown = record { at = at.at; greatest = at.greatest } })
     c.settle.ensures.settled

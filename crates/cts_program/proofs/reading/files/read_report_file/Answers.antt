@@ -10,7 +10,8 @@ use Rattle.cts_program.proofs.reading.files.read_report_file.Goals as goal
 
 pub returns-in_err-read_report-clause-cause : goal.returns-in_err-read_report-clause-cause
 returns-in_err-read_report-clause-cause g c =
-    let p = err_from_is_err_and c.from_residual-in_err-read_report.result c.from_residual-in_err-read_report.ensures.1 in
+    let p = err_from_is_err_and c.from_residual-in_err-read_report.result
+    c.from_residual-in_err-read_report.ensures.1 in
     let problem = c.args.problem.now in
     let found = c.in_err-read_report.field-0.0 in
     let has = subst

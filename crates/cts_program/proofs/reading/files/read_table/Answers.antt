@@ -5,8 +5,11 @@ use Rattle.cts_program.proofs.reading.files.read_table.Goals as goal
 
 pub returns-in_err-read_tech-clause-cause : goal.returns-in_err-read_tech-clause-cause
 returns-in_err-read_tech-clause-cause g c =
-    let p = err_from_is_err_and c.from_residual-in_err-read_tech.result c.from_residual-in_err-read_tech.ensures.1 in
-    rw (p.1, p.2) (refused_table _ _ _ c.in_ok-bytes.bytes.items c.in_ok-bytes.ensures.ok c.in_ok-bytes.ensures.short c.args.circuit.now.signals _ c.used_kinds.ensures _
+    let p = err_from_is_err_and c.from_residual-in_err-read_tech.result
+    c.from_residual-in_err-read_tech.ensures.1 in
+    rw (p.1, p.2)
+    (refused_table _ _ _ c.in_ok-bytes.bytes.items c.in_ok-bytes.ensures.ok
+    c.in_ok-bytes.ensures.short c.args.circuit.now.signals _ c.used_kinds.ensures _
     (rw c.deref.ensures.value at c.in_err-read_tech.ensures.refused))
 
 pub returns-clause-kinds : goal.returns-clause-kinds

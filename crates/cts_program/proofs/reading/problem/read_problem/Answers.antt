@@ -35,7 +35,8 @@ returns-in_err-places-clause-stays g c none file =
 pub invariant_of-result : goal.invariant_of-result
 invariant_of-result g c = record {
   valid = problem_of _ _ c.in_ok-places.places c.in_ok-places.ensures.ok.bytes
-      c.in_ok-circuit.ensures.acyclic c.in_ok-circuit.ensures.kinds c.in_ok-circuit.ensures.host c.in_ok-places.ensures.ok.accepts;
+      c.in_ok-circuit.ensures.acyclic c.in_ok-circuit.ensures.kinds c.in_ok-circuit.ensures.host
+      c.in_ok-places.ensures.ok.accepts;
 }
 
 pub returns-clause-ok : goal.returns-clause-ok
