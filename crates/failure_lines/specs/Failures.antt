@@ -18,6 +18,8 @@ use Rattle.command_line.specs.declared.command.WordsFault.{WordsFault}
 use Rattle.command_line.specs.declared.command.WordsFault.TheVariants as words
 use Rattle.cts_base.specs.declared.number.NumberFault.{NumberFault}
 use Rattle.cts_base.specs.declared.number.NumberFault.TheVariants.{NotNumber, TooFine, TooLarge}
+use Rattle.failure_lines.specs.declared.file_kind.FileKind.{FileKind}
+use Rattle.failure_lines.specs.declared.file_kind.FileKind.TheVariants as kinds
 use Rattle.failure_lines.specs.declared.file_kind.FileKind.TheVariants.{Report}
 use Rattle.failure_lines.specs.declared.placement_fault.PlacementFault.{PlacementFault}
 use Rattle.failure_lines.specs.declared.placement_fault.PlacementFault.TheVariants as places
@@ -212,11 +214,11 @@ not_shown_line (why.Reason reason subject) = reason_line reason subject
 
 -- the word for a kind of file on the error output
 abbrev pub kind_word : FileKind → List ℕ
-kind_word Bench = codes "bench"
-kind_word Tech = codes "tech"
-kind_word Placement = codes "pl"
-kind_word Report = codes "report"
-kind_word Topology = codes "topology"
+kind_word kinds.Bench = codes "bench"
+kind_word kinds.Tech = codes "tech"
+kind_word kinds.Placement = codes "pl"
+kind_word kinds.Report = codes "report"
+kind_word kinds.Topology = codes "topology"
 
 -- the line that says why
 abbrev pub failure_line : Failure → List ℕ
