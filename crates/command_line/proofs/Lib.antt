@@ -1,5 +1,5 @@
 mod PlainWordTests
-mod NumberWords
+pub mod NumberWords
 mod GivenOptions
 pub mod PlainCommands
 mod ParserWalk
