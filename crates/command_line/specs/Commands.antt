@@ -5,7 +5,7 @@ use Rattle.std.specs.List.Sorted.{IsPermutation}
 use Rattle.std.specs.Str.{all_ascii_digits, bytes_eq}
 use Rattle.std.specs.Str.Parse.{digits_value}
 use Rattle.command_line.specs.declared.command.Command.{Command}
-use Rattle.command_line.specs.declared.command.Command.TheVariants.{Zero, Period, Schedule, Synth, Check, Demo, Embed}
+use Rattle.command_line.specs.declared.command.Command.TheVariants.{Zero, Period, Schedule, Synth, Check, Demo, Embed, Moves}
 use Rattle.command_line.specs.declared.table.Choice.{Choice}
 use Rattle.command_line.specs.declared.table.ValueKind.{ValueKind}
 use Rattle.command_line.specs.declared.table.ValueKind.TheVariants.{File, Registers, Seed}
@@ -26,6 +26,8 @@ values_of (Check bench tech pl report) =
 values_of (Demo registers seed) = Some registers.now ∷ Some seed.now ∷ []
 values_of (Embed bench tech pl topology) =
     Some bench.now ∷ Some tech.now ∷ Some pl.now ∷ Some topology.now ∷ []
+values_of (Moves bench tech pl moves) =
+    Some bench.now ∷ Some tech.now ∷ Some pl.now ∷ Some moves.now ∷ []
 
 -- an option with its value, if it has one
 abbrev pub listed_one : Choice → Option Word → List Given

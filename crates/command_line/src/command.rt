@@ -51,6 +51,13 @@ pub enum Command<'a> {
         pl: &'a str,
         topology: &'a str,
     },
+    /// How long that clock tree is, and how long after each of some moves of registers.
+    Moves {
+        bench: &'a str,
+        tech: &'a str,
+        pl: &'a str,
+        moves: &'a str,
+    },
 }
 
 /// Why words aren't read as a command.

@@ -60,6 +60,14 @@ fn command_of<'a>(form: Form, matches: &ArgMatches<'a>) -> Command<'a>
                 topology,
             }
         }
+        (Form::Moves, [Some(bench), Some(tech), Some(pl), Some(moves)]) => {
+            Command::Moves {
+                bench,
+                tech,
+                pl,
+                moves,
+            }
+        }
         _ => unreachable!(),
     }
 }

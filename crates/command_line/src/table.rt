@@ -5,8 +5,8 @@ ghost use Rattle.std.specs.Str.{bytes_eq};
 ghost use Rattle.command_line.specs.declared.table.Form.{Form};
 ghost use Rattle.command_line.specs.CommandTable.{forms, form_name, form_named, choices_of, word_of, kind_of, is_required};
 
-use Choice::{Bench, Placement, Registers, Report, Seed, Tech, TechIfWanted, Topology};
-use Form::{Check, Demo, Embed, Period, Schedule, Synth, Zero};
+use Choice::{Bench, MovesFile, Placement, Registers, Report, Seed, Tech, TechIfWanted, Topology};
+use Form::{Check, Demo, Embed, Moves, Period, Schedule, Synth, Zero};
 
 /// A command without the values of its options.
 #[derive(Clone, Copy, Debug, Drop, PartialEq)]
@@ -18,6 +18,7 @@ pub enum Form {
     Check,
     Demo,
     Embed,
+    Moves,
 }
 
 /// An option of a command, which stands at most once after its name.
@@ -30,6 +31,7 @@ pub enum Choice {
     Placement,
     Report,
     Topology,
+    MovesFile,
     Registers,
     Seed,
 }
@@ -42,7 +44,7 @@ pub enum ValueKind {
     Seed,
 }
 
-const FORMS: [Form; 7] = [Zero, Period, Schedule, Synth, Check, Demo, Embed];
+const FORMS: [Form; 8] = [Zero, Period, Schedule, Synth, Check, Demo, Embed, Moves];
 
 impl Form {
     /// The name of the command and its options, in the order of the usage line.
@@ -58,6 +60,7 @@ impl Form {
             Check => ("check", &[Bench, Tech, Placement, Report]),
             Demo => ("demo", &[Registers, Seed]),
             Embed => ("embed", &[Bench, Tech, Placement, Topology]),
+            Moves => ("moves", &[Bench, Tech, Placement, MovesFile]),
         }
     }
 
@@ -89,6 +92,7 @@ impl Choice {
             Placement => "--pl",
             Report => "--report",
             Topology => "--topology",
+            MovesFile => "--moves",
             Registers => "--registers",
             Seed => "--seed",
         }

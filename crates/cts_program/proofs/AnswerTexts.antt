@@ -1,15 +1,18 @@
 -- What the text of each command says of a circuit and its delays: how many lines it has, and by its
 -- status whether a period is admitted.
-use Rattle.std.proofs.Common.{◌≡◌, ◌<◌, ◌⊎◌, inl, inr, ℕ, zero, suc, Bool, true, false, List, [], ◌∷◌, length, refl, sym, subst, append-nil, arith}
+use Rattle.std.proofs.Common.{◌≡◌, ◌<◌, ◌⊎◌, inl, inr, ℕ, zero, suc, ℤ, Bool, true, false, List, [], ◌∷◌, ◌++◌, length, map, replicate, refl, ap, sym, subst, append-nil, arith}
+use Rattle.std.proofs.lemmas.List.{length-map}
 use Rattle.cts_base.specs.declared.fraction.Fraction.{Fraction}
 use Rattle.cts_model.specs.declared.circuit.Circuit.{Circuit}
 use Rattle.cts_model.specs.declared.constraint.Constraint.{Constraint}
+use Rattle.cts_model.specs.declared.place.Point.{Point}
 use Rattle.cts_model.specs.declared.problem.Problem.{Problem}
 use Rattle.cts_model.specs.declared.report.Version.TheVariants.{First, Second}
 use Rattle.cts_model.specs.declared.tech.Tech.{Tech}
 use Rattle.cts_model.specs.declared.tree.Topology.{Topology}
 use Rattle.cts_model.specs.LeastPeriods.{HasNoPeriod, IsForbidding, IsLeastFraction}
 use Rattle.cts_model.specs.PrintedLines.{Words, text_of, show_lines}
+use Rattle.cts_model.specs.Problems.{grid_of}
 use Rattle.cts_model.specs.ReportLines.{report_lines}
 use Rattle.cts_model.proofs.CircuitConstraints.{forbidding_at_all}
 use Rattle.cts_engine.specs.declared.period.PeriodOutcome.{PeriodOutcome}
@@ -18,19 +21,22 @@ use Rattle.cts_engine.specs.declared.scheduling.ScheduleOutcome.{ScheduleOutcome
 use Rattle.cts_engine.specs.declared.scheduling.ScheduleOutcome.TheVariants as schedules
 use Rattle.cts_engine.specs.Outcomes.{IsPeriodOutcome}
 use Rattle.cts_engine.specs.ScheduleOutcomes.{period_outcome, IsScheduleOutcome}
+use Rattle.move_session.specs.declared.moves.Move.{Move}
+use Rattle.report_text.specs.WireLines.{wire_line}
 use Rattle.report_text.proofs.ReportWords.{AreLines, report_lines_are}
 use Rattle.command_line.specs.declared.table.Form.{Form}
 use Rattle.command_line.specs.declared.table.Form.TheVariants as forms
 use Rattle.cts_program.specs.Checks.{shown_line}
 use Rattle.cts_program.specs.DemoTexts.{summary_lines, IsSummaryText, IsDemoText}
 use Rattle.cts_program.specs.Headline.{IsTreeText, IsSynthesisText, IsEmbeddingText}
+use Rattle.cts_program.specs.MoveTexts.{AreWires, IsMovesText, IsWireAt, moved_places}
 use Rattle.cts_program.specs.PeriodTexts.{never_lines, period_lines, outcome_status, IsPeriodText}
 use Rattle.cts_program.specs.ScheduleTexts.{schedule_lines, IsScheduleText}
 use Rattle.cts_program.specs.SynthTexts.{IsNeverText, IsFoundOrNever, IsSynthText, IsEmbedText}
 use Rattle.cts_program.specs.Texts.{zero_lines, IsZeroText}
 use Rattle.cts_program.proofs.CountedLines.{AreCounted, counted_none, counted_line, counted_alone}
 use Rattle.cts_program.proofs.TextCounts.{report_plan, counted_registers, counted_show, counted_never, counted_report}
-use Rattle.cts_program.proofs.TextLines.{zero_lines_are, found_lines_are, scheduled_lines_are, never_lines_are, summary_lines_are}
+use Rattle.cts_program.proofs.TextLines.{zero_lines_are, found_lines_are, scheduled_lines_are, never_lines_are, summary_lines_are, wire_lines_are}
 
 -- ---- what a text is
 
@@ -55,22 +61,36 @@ plan_of zero forms.Synth = report_plan Second
 plan_of zero forms.Check = 0 ∷ []
 plan_of zero forms.Demo = 0 ∷ 0 ∷ 0 ∷ 0 ∷ []
 plan_of zero forms.Embed = report_plan Second
+plan_of zero forms.Moves = 0 ∷ []
 plan_of (suc more) form = 0 ∷ 1 ∷ []
 
--- the lines of a text with this status
-pub record AreLinesOf (form : Form) (circuit : Circuit) (tech : Tech) (status : ℕ)
-    (lines : List Words) : Type 0 where
+-- the same where so many moves are given, each of which has a line with status 0
+abbrev pub plan_with : (moves status : ℕ) → Form → List ℕ
+plan_with moves zero form = replicate moves 0 ++ plan_of zero form
+plan_with moves (suc more) form = plan_of (suc more) form
+
+-- the lines of a text with this status, where so many moves are given
+pub record AreLinesWith (moves : ℕ) (form : Form) (circuit : Circuit) (tech : Tech)
+    (status : ℕ) (lines : List Words) : Type 0 where
   pub each : AreLines lines
   pub some : 0 < length lines
-  pub counted : AreCounted (plan_of status form) lines
+  pub counted : AreCounted (plan_with moves status form) lines
   pub says : SaysOfPeriods (looks_for_period form) circuit tech status
 
--- the text of a command of this form for a circuit and its delays
-pub record IsTextOf (form : Form) (status : ℕ) (text : List ℕ) (circuit : Circuit)
-    (tech : Tech) : Type 0 where
+-- and where none are
+abbrev pub AreLinesOf : Form → Circuit → Tech → (status : ℕ) → List Words → Type 0
+AreLinesOf form circuit tech status lines = AreLinesWith 0 form circuit tech status lines
+
+-- the text of a command of this form for a circuit and its delays, where so many moves are given
+pub record IsTextWith (moves : ℕ) (form : Form) (status : ℕ) (text : List ℕ)
+    (circuit : Circuit) (tech : Tech) : Type 0 where
   pub lines : List Words
-  pub are : AreLinesOf form circuit tech status lines
+  pub are : AreLinesWith moves form circuit tech status lines
   pub spelled : text ≡ text_of lines
+
+-- and where none are
+abbrev pub IsTextOf : Form → (status : ℕ) → List ℕ → Circuit → Tech → Type 0
+IsTextOf form status text circuit tech = IsTextWith 0 form status text circuit tech
 
 module _ (circuit : Circuit) (tech : Tech) where
   -- a text of such lines, whose status is theirs
@@ -213,6 +233,58 @@ module _ (problem : Problem) where
       → IsTextOf forms.Embed status text problem.circuit problem.tech
   embed_text topology = found_or_never forms.Embed refl (IsEmbeddingText problem topology)
       (λ text says. tree_text forms.Embed refl refl text says.tree)
+
+  -- there is a wire for the places as they are, and one for each move
+  length-wires : (IsWireFor : List Point → ℤ → Type 0) (places : List Point) (moves : List Move)
+      (wires : List ℤ) → AreWires IsWireFor places moves wires
+      → length wires ≡ suc (length moves)
+  length-wires IsWireFor places [] [] each = absurd each
+  length-wires IsWireFor places [] (wire ∷ []) each = refl
+  length-wires IsWireFor places [] (wire ∷ more ∷ wires) each = absurd each
+  length-wires IsWireFor places (move ∷ moves) [] each = absurd each
+  length-wires IsWireFor places (move ∷ moves) (wire ∷ wires) each =
+      ap suc (length-wires IsWireFor (moved_places places move) moves wires each.1)
+
+  -- so many lines of wire are counted one by one
+  counted_wires : (grid : ℤ) (moves : ℕ) (wires : List ℤ) → length wires ≡ suc moves
+      → AreCounted (plan_with moves 0 forms.Moves) (map (wire_line grid) wires)
+  counted_wires grid moves [] same = absurd (omega (arith, same))
+  counted_wires grid zero (wire ∷ []) same = counted_alone (wire_line grid wire ∷ [])
+  counted_wires grid zero (wire ∷ more ∷ wires) same = absurd (omega (arith, same))
+  counted_wires grid (suc moves) (wire ∷ wires) same =
+      counted_line (counted_wires grid moves wires (omega (arith, same)))
+
+  -- how long it is after each move
+  pub moves_text : (moves : List Move) (status : ℕ) (text : List ℕ)
+      → IsMovesText problem moves status text
+      → IsTextWith (length moves) forms.Moves status text problem.circuit problem.tech
+  moves_text moves zero text says =
+      let grid = grid_of says.period problem.tech in
+      let as_many = length-wires (IsWireAt problem says.period says.schedule says.merges)
+      problem.places.registers moves says.wires says.each in
+      record {
+        lines = map (wire_line grid) says.wires;
+        are = record {
+          each = wire_lines_are problem.circuit grid says.wires;
+          some = omega (arith, as_many, length-map says.wires (wire_line grid));
+          counted = counted_wires grid (length moves) says.wires as_many;
+          says = found_says problem.circuit problem.tech says.period says.least_period;
+        };
+        spelled = says.spelled;
+      }
+  moves_text moves (suc zero) text says =
+      let never = never_text problem.circuit problem.tech forms.Moves text refl says in
+      record {
+        lines = never.lines;
+        are = record {
+          each = never.are.each;
+          some = never.are.some;
+          counted = never.are.counted;
+          says = never.are.says;
+        };
+        spelled = never.spelled;
+      }
+  moves_text moves (suc (suc more)) text says = absurd says
 
   -- the summary of one
   pub demo_text : (registers status : ℕ) (text : List ℕ)

@@ -15,8 +15,11 @@ mod FileStops
 mod DenotedLemmas
 mod PlacementLemmas
 mod LastFiles
+mod LastContents
 mod CheckLemmas
 mod EmbedLemmas
+mod MoveLemmas
+mod WireTexts
 mod ReasonLemmas
 mod OneAnswer
 mod TextStatuses

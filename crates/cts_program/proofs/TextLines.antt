@@ -1,5 +1,5 @@
 -- The lines of each text are lines, as those of reports are.
-use Rattle.std.proofs.Common.{ℕ, ℤ, pos, true, false, List, [], ◌∷◌, ◌++◌, arith}
+use Rattle.std.proofs.Common.{ℕ, ℤ, pos, true, false, List, [], ◌∷◌, ◌++◌, map, arith}
 use Rattle.std.specs.Fmt.{signed_decimal}
 use Rattle.std.proofs.lemmas.Int.{ints}
 use Rattle.std.proofs.lemmas.Nat.Gcd.{dvd_refl}
@@ -17,6 +17,7 @@ use Rattle.cts_model.specs.declared.timing.ZeroSkew.{ZeroSkew}
 use Rattle.cts_model.specs.declared.timing.ZeroSkew.TheVariants.{Fails, Floor, Setup}
 use Rattle.cts_model.specs.PrintedLines.{Words, period_line, line_for, show_lines}
 use Rattle.cts_model.specs.ReportLines.{version_line, tree_lines}
+use Rattle.report_text.specs.WireLines.{wire_line}
 use Rattle.report_text.proofs.OneLine.{IsWord, IsLine}
 use Rattle.report_text.proofs.ReportWords.{AreLines, report_lines_are}
 use Rattle.cts_program.specs.DemoTexts.{summary_lines}
@@ -119,12 +120,25 @@ module _ (circuit : Circuit) where
   pub never_lines_are : (cycle : List Constraint) → AreLines (never_lines circuit cycle)
   never_lines_are cycle = (search arith, show_lines_are (shows.Cycle cycle))
 
+  -- the line of a length of wire is one
+  wire_line_is : (grid steps : ℤ) → IsLine (wire_line grid steps)
+  wire_line_is grid steps =
+      (report_lines_are circuit
+      (report_with one_tick shows.Floor no_arrivals [] grid steps)).1.1.1.1.1.1.1.0
+
+  -- and so are several
+  pub wire_lines_are : (grid : ℤ) (wires : List ℤ) → AreLines (map (wire_line grid) wires)
+  wire_lines_are grid [] = tt
+  wire_lines_are grid (wire ∷ wires) = (wire_line_is grid wire, wire_lines_are grid wires)
+
   -- and those of the summary of a report
   pub summary_lines_are : (registers : ℕ) (report : Report)
       → AreLines (summary_lines registers report)
   summary_lines_are registers report =
-      let wired = report_with report.period shows.Floor no_arrivals [] report.grid report.total in
-      let are = report_lines_are circuit wired in (
+      let wired = report_with report.period shows.Floor no_arrivals [] report.grid report.total in (
         (search arith, (number_word (pos registers), tt)),
-        (are.1.0, (are.1.1.1.1.1.1.1.0, search arith)),
+        (
+          (report_lines_are circuit wired).1.0,
+          (wire_line_is report.grid report.total, search arith),
+        ),
       )

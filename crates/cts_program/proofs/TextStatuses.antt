@@ -12,7 +12,7 @@ use Rattle.cts_program.specs.Answers.{ending_status, TellWith, texts_for, IsStat
 use Rattle.command_line.specs.Commands.{options_of}
 use Rattle.cts_program.specs.Files.{AreAll}
 use Rattle.command_line.specs.CommandTable.{form_of}
-use Rattle.cts_program.proofs.AnswerTexts.{looks_for_period, SaysOfPeriods, IsTextOf}
+use Rattle.cts_program.proofs.AnswerTexts.{looks_for_period, SaysOfPeriods, IsTextWith}
 use Rattle.cts_program.proofs.OneAnswer.{Answers, one_denoted}
 
 -- ---- no period
@@ -96,9 +96,10 @@ done_or_never endings.Done = inl refl
 done_or_never endings.Never = inr refl
 
 -- a command's text has a status of the command
-pub text_status : (command : Command) (ending : Ending) (text : List ℕ) (circuit : Circuit)
-    (tech : Tech) → IsTextOf (form_of command) (ending_status ending) text circuit tech
+pub text_status : (moves : ℕ) (command : Command) (ending : Ending) (text : List ℕ)
+    (circuit : Circuit) (tech : Tech)
+    → IsTextWith moves (form_of command) (ending_status ending) text circuit tech
     → IsStatusOf command (ending_status ending)
-text_status (Zero bench tech) ending text circuit delays is = is.are.says
-text_status (Check bench tech pl report) ending text circuit delays is = inl is.are.says
-text_status command ending text circuit delays is = done_or_never ending
+text_status moves (Zero bench tech) ending text circuit delays is = is.are.says
+text_status moves (Check bench tech pl report) ending text circuit delays is = inl is.are.says
+text_status moves command ending text circuit delays is = done_or_never ending

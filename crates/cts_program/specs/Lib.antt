@@ -4,6 +4,8 @@ pub mod DemoTexts
 pub mod Files
 pub mod Headline
 pub mod Judged
+pub mod MoveFiles
+pub mod MoveTexts
 pub mod PeriodTexts
 pub mod Run
 pub mod ScheduleTexts

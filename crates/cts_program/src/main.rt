@@ -5,6 +5,7 @@ mod call;
 mod check;
 mod demo;
 mod ending;
+mod moves;
 mod period;
 mod reading;
 mod run;

@@ -1,6 +1,6 @@
 use Rattle.std.proofs.Common.{[], ◌∷◌, inr, Err, refl, ap, sym, ◌∙◌, append-nil}
 use Rattle.std.proofs.lemmas.Result.{err_from_is_err_and}
-use Rattle.command_line.specs.declared.command.Command.TheVariants.{Zero, Period, Schedule, Synth, Check, Embed}
+use Rattle.command_line.specs.declared.command.Command.TheVariants.{Zero, Period, Schedule, Synth, Check, Embed, Moves}
 use Rattle.failure_lines.specs.declared.failure.Failure.{Failure}
 use Rattle.failure_lines.specs.declared.file_kind.FileKind.TheVariants as kinds
 use Rattle.cts_program.specs.Files.{circuit_files}
@@ -8,6 +8,8 @@ use Rattle.cts_program.specs.PeriodTexts.{IsPeriodText}
 use Rattle.cts_program.specs.ScheduleTexts.{IsScheduleText}
 use Rattle.cts_program.proofs.CheckLemmas.{report_stops, unshown_stops, check_answer}
 use Rattle.cts_program.proofs.EmbedLemmas.{topology_of, topology_stops, tree_stops, embed_answer}
+use Rattle.cts_program.proofs.MoveLemmas.{moves_stop, wires_stop, moves_answer}
+use Rattle.cts_program.proofs.WireTexts.{near_moves}
 use Rattle.cts_program.proofs.DemoValues.{demo_values}
 use Rattle.cts_program.proofs.DenotedLemmas.{circuit_stops, denoted_answer, zero_answer}
 use Rattle.cts_program.proofs.PlacementLemmas.{circuit_denoted, synth_answer}
@@ -208,3 +210,53 @@ returns-in_ok-topology-in-Embed-clause-cause g c =
     (tree_stops c.in-Embed.bench c.in-Embed.tech c.in-Embed.pl c.in-Embed.topology
     c.in_ok-problem-in-Embed.problem c.in_ok-problem-in-Embed.ensures.ok
     c.in_ok-topology-in-Embed.topology (rw held at c.in_ok-topology-in-Embed.ensures.ok) _ _))
+
+pub moves-requires : goal.moves-requires
+moves-requires g c =
+    near_moves c.in_ok-problem-in-Moves.problem _ c.in_ok-list-in-Moves.list
+    c.in_ok-list-in-Moves.ensures.ok
+
+pub returns-in_err-problem-in-Moves-clause-cause :
+    goal.returns-in_err-problem-in-Moves-clause-cause
+returns-in_err-problem-in-Moves-clause-cause g c =
+    let p = err_from_is_err_and c.from_residual-in_err-problem-in-Moves.result
+    c.from_residual-in_err-problem-in-Moves.ensures.1 in
+    rw (p.1, p.2, c.in-Moves.is) (c.in_err-problem-in-Moves.ensures.cause
+    (Moves c.in-Moves.bench c.in-Moves.tech c.in-Moves.pl c.in-Moves.file)
+    ((kinds.Moves, c.in-Moves.file.now) ∷ [], refl))
+
+pub returns-in_err-list-in-Moves-clause-cause : goal.returns-in_err-list-in-Moves-clause-cause
+returns-in_err-list-in-Moves-clause-cause g c =
+    let p = err_from_is_err_and c.from_residual-in_err-list-in-Moves.result
+    c.from_residual-in_err-list-in-Moves.ensures.1 in
+    let held = c.in_ok-problem-in-Moves.ensures.files c.in-Moves.file.now in
+    let stood = c.in_ok-problem-in-Moves.ensures.stays (λ (kind, e). cc e) c.in-Moves.file.now in
+    rw (p.1, p.2, c.in-Moves.is) (moves_stop c.in-Moves.bench c.in-Moves.tech c.in-Moves.pl
+    c.in-Moves.file c.in_ok-problem-in-Moves.problem c.in_ok-problem-in-Moves.ensures.ok _ _ _
+    (rw (held, stood) at c.in_err-list-in-Moves.ensures.cause))
+
+pub returns-in_err-list-in-Moves-clause-stays : goal.returns-in_err-list-in-Moves-clause-stays
+returns-in_err-list-in-Moves-clause-stays g c none file =
+    let p = err_from_is_err_and c.from_residual-in_err-list-in-Moves.result
+    c.from_residual-in_err-list-in-Moves.ensures.1 in
+    c.in_err-list-in-Moves.ensures.stays (λ e. none (
+      kinds.Moves,
+      rw (p.1, p.2) (ap (λ (failure : Failure). Err failure) (cc e)),
+    )) file
+    ∙ c.in_ok-problem-in-Moves.ensures.stays (λ (kind, e). cc e) file
+
+pub returns-in_ok-list-in-Moves-clause-ok : goal.returns-in_ok-list-in-Moves-clause-ok
+returns-in_ok-list-in-Moves-clause-ok g c =
+    let held = c.in_ok-problem-in-Moves.ensures.files c.in-Moves.file.now in
+    rw c.in-Moves.is (moves_answer c.in-Moves.bench c.in-Moves.tech c.in-Moves.pl c.in-Moves.file
+    c.in_ok-problem-in-Moves.problem c.in_ok-problem-in-Moves.ensures.ok
+    c.in_ok-list-in-Moves.list (rw held at c.in_ok-list-in-Moves.ensures.ok) c.moves.result
+    c.moves.ensures.few c.moves.ensures.text)
+
+pub returns-in_ok-list-in-Moves-clause-cause : goal.returns-in_ok-list-in-Moves-clause-cause
+returns-in_ok-list-in-Moves-clause-cause g c =
+    let held = c.in_ok-problem-in-Moves.ensures.files c.in-Moves.file.now in
+    rw c.in-Moves.is (if_err_from c.moves.result _ _ c.moves.ensures.cause
+    (wires_stop c.in-Moves.bench c.in-Moves.tech c.in-Moves.pl c.in-Moves.file
+    c.in_ok-problem-in-Moves.problem c.in_ok-problem-in-Moves.ensures.ok
+    c.in_ok-list-in-Moves.list (rw held at c.in_ok-list-in-Moves.ensures.ok) _ _))
