@@ -40,6 +40,10 @@ expect 'the least period of s27' 0 $'period 13\nzero 15\ncycle 1\nsetup G6 G6 13
     "$top/cts" period --bench "$s27" --tech "$table"
 scheduled=$'period 13\nzero 15\ncycle 1\nsetup G6 G6 13\nregisters 3\nG5 2 0 2\nG6 0 0 3\nG7 0 6 2'
 expect 'the least schedule of s27' 0 "$scheduled" '' "$top/cts" schedule --tech "$table" --bench "$s27"
+spared=$'period 14\nmargin 1\ncycle 1\nsetup G6 G6 13\nregisters 3\nG5 2\nG6 0\nG7 0'
+expect 'what s27 can spare' 0 "$spared" '' "$top/cts" margin --bench "$s27" --tech "$table" --period 14
+expect 'what no path asks' 0 $'period 7/3\nmargin none\nregisters 1\na 0' '' \
+    "$top/cts" margin --period 7/3 --bench "$top/examples/floor.bench" --tech "$table"
 places=$top/examples/s27.pl
 # Which path gives the weight and which pair shows a merge is free: here it is these.
 tree='cts 2
@@ -306,7 +310,7 @@ expect 'a table of one byte more' 3 '' 'refused tech long' "$top/cts" zero --ben
 usage='usage: cts zero --bench F [--tech F] | cts period --bench F --tech F | cts schedule --bench F --tech F'
 usage+=' | cts synth --bench F --tech F --pl F | cts check --bench F --tech F --pl F --report F'
 usage+=' | cts demo --registers N --seed S | cts embed --bench F --tech F --pl F --topology F'
-usage+=' | cts moves --bench F --tech F --pl F --moves F'
+usage+=' | cts margin --bench F --tech F --period P | cts moves --bench F --tech F --pl F --moves F'
 expect 'no words' 2 '' "$usage" "$top/cts"
 expect 'the name last' 2 '' "$usage" "$top/cts" --tech F --bench F zero
 expect 'an option twice' 2 '' "$usage" "$top/cts" zero --bench F --tech F --tech F
@@ -318,6 +322,9 @@ expect 'an end of options' 2 '' "$usage" "$top/cts" zero --bench F --
 expect 'a check without a report' 2 '' "$usage" "$top/cts" check --bench F --tech F --pl F
 expect 'no moves' 2 '' "$usage" "$top/cts" moves --bench F --tech F --pl F
 expect 'an embedding without a topology' 2 '' "$usage" "$top/cts" embed --bench F --tech F --pl F
+expect 'a margin without a period' 2 '' "$usage" "$top/cts" margin --bench F --tech F
+expect 'not in lowest terms' 2 '' "$usage" "$top/cts" margin --bench F --tech F --period 6/4
+expect 'too long a period' 2 '' "$usage" "$top/cts" margin --bench F --tech F --period 1000000000000000
 expect 'too few registers' 2 '' "$usage" "$top/cts" demo --registers 1 --seed 0
 expect 'too many registers' 2 '' "$usage" "$top/cts" demo --registers 1001 --seed 0
 expect 'too large a seed' 2 '' "$usage" "$top/cts" demo --registers 2 --seed 1000

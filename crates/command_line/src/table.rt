@@ -6,7 +6,7 @@ ghost use Rattle.command_line.specs.declared.table.Form.{Form};
 ghost use Rattle.command_line.specs.CommandTable.{forms, form_name, form_named, choices_of, word_of, kind_of, is_required};
 
 use Choice::{Bench, MovesFile, Placement, Registers, Report, Seed, Tech, TechIfWanted, Topology};
-use Form::{Check, Demo, Embed, Moves, Period, Schedule, Synth, Zero};
+use Form::{Check, Demo, Embed, Margin, Moves, Period, Schedule, Synth, Zero};
 
 /// A command without the values of its options.
 #[derive(Clone, Copy, Debug, Drop, PartialEq)]
@@ -18,6 +18,7 @@ pub enum Form {
     Check,
     Demo,
     Embed,
+    Margin,
     Moves,
 }
 
@@ -34,6 +35,7 @@ pub enum Choice {
     MovesFile,
     Registers,
     Seed,
+    Period,
 }
 
 /// What the value of an option is.
@@ -42,9 +44,12 @@ pub enum ValueKind {
     File,
     Registers,
     Seed,
+    Period,
 }
 
-const FORMS: [Form; 8] = [Zero, Period, Schedule, Synth, Check, Demo, Embed, Moves];
+const FORMS: [Form; 9] = [
+    Zero, Period, Schedule, Synth, Check, Demo, Embed, Margin, Moves,
+];
 
 impl Form {
     /// The name of the command and its options, in the order of the usage line.
@@ -60,6 +65,7 @@ impl Form {
             Check => ("check", &[Bench, Tech, Placement, Report]),
             Demo => ("demo", &[Registers, Seed]),
             Embed => ("embed", &[Bench, Tech, Placement, Topology]),
+            Margin => ("margin", &[Bench, Tech, Choice::Period]),
             Moves => ("moves", &[Bench, Tech, Placement, MovesFile]),
         }
     }
@@ -95,6 +101,7 @@ impl Choice {
             MovesFile => "--moves",
             Registers => "--registers",
             Seed => "--seed",
+            Choice::Period => "--period",
         }
     }
 
@@ -104,6 +111,7 @@ impl Choice {
         match self {
             Registers => ValueKind::Registers,
             Seed => ValueKind::Seed,
+            Choice::Period => ValueKind::Period,
             _ => ValueKind::File,
         }
     }

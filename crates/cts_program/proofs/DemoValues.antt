@@ -1,8 +1,8 @@
--- The options of the command `demo`.
+-- The options of the commands `demo` and `margin` that name no files.
 use Rattle.std.proofs.Common.{◌≡◌, ◌||◌, Bool, true, false, List, [], ℕ, refl, arith}
 use Rattle.std.specs.Borrow.{Bor}
-use Rattle.command_line.specs.declared.command.Command.TheVariants.{Demo}
-use Rattle.command_line.specs.Commands.{is_number_within, HasValidValues}
+use Rattle.command_line.specs.declared.command.Command.TheVariants.{Demo, Margin}
+use Rattle.command_line.specs.Commands.{is_number_within, is_period, HasValidValues}
 
 -- a test passes where it is the only one that may
 only : (b : Bool) → (b || false) ≡ true → b ≡ true
@@ -16,3 +16,9 @@ demo_values registers seed values = (
   only (is_number_within 2 1000 registers.now) (values 0 (registers.now, []) (omega arith)),
   only (is_number_within 0 999 seed.now) (values 1 (seed.now, []) (omega arith)),
 )
+
+-- or they spell a period
+pub margin_value : (bench file period : Bor (List ℕ)) → HasValidValues (Margin bench file period)
+    → is_period period.now ≡ true
+margin_value bench file period values =
+    only (is_period period.now) (values 2 (period.now, []) (omega arith))

@@ -21,6 +21,8 @@ mod EmbedLemmas
 mod MoveLemmas
 mod WireTexts
 mod ReasonLemmas
+mod ArrivalLemmas
+mod PeriodWords
 mod OneAnswer
 mod TextStatuses
 mod ShownVerdicts

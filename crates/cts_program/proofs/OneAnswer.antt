@@ -11,7 +11,7 @@ use Rattle.move_session.specs.Entries.{entries_of}
 use Rattle.move_session.proofs.EntryLemmas.{length-DenoteEach}
 use Rattle.cts_engine.proofs.OneProblem.{one_netlist, one_both}
 use Rattle.command_line.specs.declared.command.Command.{Command}
-use Rattle.command_line.specs.declared.command.Command.TheVariants.{Zero, Period, Schedule, Synth, Check, Demo, Embed, Moves}
+use Rattle.command_line.specs.declared.command.Command.TheVariants.{Zero, Period, Schedule, Synth, Check, Demo, Embed, Moves, Margin}
 use Rattle.command_line.specs.declared.table.Form.{Form}
 use Rattle.command_line.specs.declared.table.Form.TheVariants as forms
 use Rattle.cts_program.specs.Answers.{TellWith, TellProblemWith, texts_for, IsText}
@@ -20,14 +20,14 @@ use Rattle.command_line.specs.Commands.{Given, number_of, options_of}
 use Rattle.cts_program.specs.DemoTexts.{IsDemoText}
 use Rattle.cts_program.specs.Judged.{AreAccepted, Tell}
 use Rattle.command_line.specs.CommandTable.{form_of}
+use Rattle.cts_program.specs.MarginTexts.{IsMarginText}
 use Rattle.cts_program.specs.MoveFiles.{IsMovesFile, IsMovedFor, IsMovedBy}
 use Rattle.cts_program.specs.PeriodTexts.{IsPeriodText}
 use Rattle.cts_program.specs.ScheduleTexts.{IsScheduleText}
 use Rattle.cts_program.specs.SynthTexts.{IsSynthText}
 use Rattle.cts_program.specs.Texts.{IsZeroText}
 use Rattle.cts_program.specs.TopologyFiles.{IsAcceptedFor, IsEmbeddedBy}
-use Rattle.cts_program.proofs.AnswerTexts.{looks_for_period, SaysOfPeriods, plan_with, IsTextOf, IsTextWith, zero_text, period_text, schedule_text, check_text, synth_text, embed_text, moves_text, demo_text}
-use Rattle.cts_program.proofs.CountedLines.{AreCounted}
+use Rattle.cts_program.proofs.AnswerTexts.{looks_for_period, SaysOfPeriods, IsCounted, one_plan, IsTextOf, IsTextWith, zero_text, period_text, schedule_text, check_text, synth_text, embed_text, margin_text, moves_text, demo_text}
 use Rattle.cts_program.proofs.LastContents.{of_one_end}
 use Rattle.cts_program.proofs.LinePrefixes.{no_prefix, some_text_of}
 use Rattle.cts_program.proofs.PlacementLemmas.{problem_denoted}
@@ -231,6 +231,10 @@ answer_of (Demo registers seed) contents status text answer =
     (λ problem. demo_text problem (number_of registers.now) status text) answer
 answer_of (Embed bench tech pl topology) contents status text ends =
     embed_answers _ contents status text ends
+answer_of (Margin bench tech period) contents status text (done, answer) =
+    answers_with forms.Margin _ contents status text
+    (λ circuit delays. IsMarginText circuit delays period.now text) (no_last forms.Margin refl)
+    (λ circuit delays. margin_text circuit delays period.now status text done) answer
 answer_of (Moves bench tech pl moves) contents status text ends =
     moves_answers _ contents status text ends
 
@@ -292,10 +296,12 @@ module _ (form : Form) (given : List Given) (contents : List (List ℕ)) (status
     -- and isn't a prefix of it
     pub no_answer_prefix : (count : ℕ) → text ≡ take count text' → count < length text' → ⊥
     no_answer_prefix count cut short =
+        let (plan, counted, counted') = one_plan answer.moves form status answer.circuit
+        answer.holds.lines of_one.lines answer.holds.are.counted
+        (subst (λ s. IsCounted answer.moves form s answer.circuit of_one.lines) (sym one_status)
+        of_one.are.counted) in
         no_prefix answer.holds.lines of_one.lines count answer.holds.are.each of_one.are.each
-        answer.holds.are.counted
-        (subst (λ s. AreCounted (plan_with answer.moves s form) of_one.lines) (sym one_status)
-        of_one.are.counted)
+        counted counted'
         (sym answer.holds.spelled ∙ cut ∙ ap (take count) of_one.spelled)
         (subst (λ bytes. count < length bytes) of_one.spelled short)
 

@@ -7,7 +7,7 @@ use Rattle.cts_model.specs.LeastPeriods.{HasNoPeriod}
 use Rattle.cts_model.specs.PairLists.{JoinsMoreThan}
 use Rattle.cts_model.specs.PrintedLines.{text_of}
 use Rattle.command_line.specs.declared.command.Command.{Command}
-use Rattle.command_line.specs.declared.command.Command.TheVariants.{Zero, Period, Schedule, Synth, Check, Demo, Embed, Moves}
+use Rattle.command_line.specs.declared.command.Command.TheVariants.{Zero, Period, Schedule, Synth, Check, Demo, Embed, Moves, Margin}
 use Rattle.command_line.specs.declared.table.Form.{Form}
 use Rattle.command_line.specs.declared.table.Form.TheVariants as forms
 use Rattle.cts_program.specs.declared.ending.Ending.{Ending}
@@ -20,6 +20,7 @@ use Rattle.command_line.specs.Commands.{Given, number_of, options_of}
 use Rattle.cts_program.specs.DemoTexts.{demo_texts, IsDemoText}
 use Rattle.cts_program.specs.Files.{AreAll}
 use Rattle.cts_program.specs.Judged.{AreAccepted, IsFileRefusal, Tell, TellProblem}
+use Rattle.cts_program.specs.MarginTexts.{IsMarginText}
 use Rattle.cts_program.specs.MoveFiles.{IsMovedFor, IsMovedBy, RefusesMoving}
 use Rattle.cts_program.specs.PeriodTexts.{IsPeriodText}
 use Rattle.cts_program.specs.ScheduleTexts.{IsScheduleText}
@@ -57,6 +58,11 @@ IsPeriodAnswer contents status text =
 abbrev pub IsScheduleAnswer : List (List ℕ) → ℕ → List ℕ → Type 0
 IsScheduleAnswer contents status text =
     TellWith contents (λ circuit tech. IsScheduleText circuit tech status text)
+
+-- the text is the one for the greatest margin at the period of this word
+abbrev pub IsMarginAnswer : List (List ℕ) → (word text : List ℕ) → Type 0
+IsMarginAnswer contents word text =
+    TellWith contents (λ circuit tech. IsMarginText circuit tech word text)
 
 -- the contents are accepted, and this holds of the problem that they tell
 pub record TellProblemWith (contents : List (List ℕ)) (Holds : Problem → Type 0) : Type 0 where
@@ -114,6 +120,8 @@ IsText (Demo registers seed) contents status text =
     IsDemoAnswer (number_of registers.now) (number_of seed.now) status text
 IsText (Embed bench tech pl topology) contents status text =
     EndWith contents (IsEmbeddedBy status text)
+IsText (Margin bench tech period) contents status text =
+    (status ≡ 0) × IsMarginAnswer contents period.now text
 IsText (Moves bench tech pl moves) contents status text =
     EndWith contents (IsMovedBy status text)
 
@@ -163,12 +171,14 @@ IsAccepted command contents = AreAll command contents
 -- the statuses for what is accepted
 abbrev pub IsStatusOf : Command → ℕ → Type 0
 IsStatusOf (Zero bench tech) status = status ≡ 0
+IsStatusOf (Margin bench tech period) status = status ≡ 0
 IsStatusOf (Check bench tech pl report) status = (status ≡ 0) ⊎ (status ≡ 7)
 IsStatusOf command status = (status ≡ 0) ⊎ (status ≡ 1)
 
 -- what a command that looks for a period goes by is accepted, and no period is admitted
 abbrev pub FindsNoPeriod : Command → List (List ℕ) → Type 0
 FindsNoPeriod (Zero bench tech) contents = ⊥
+FindsNoPeriod (Margin bench tech period) contents = ⊥
 FindsNoPeriod (Check bench tech pl report) contents = ⊥
 FindsNoPeriod command contents =
     AreAll command contents × TellWith (texts_of command contents) HasNoPeriod

@@ -5,7 +5,7 @@ use Rattle.failure_lines.specs.declared.file_kind.FileKind.{FileKind}
 use Rattle.failure_lines.specs.declared.file_kind.FileKind.TheVariants.{Bench, Tech, Placement, Report, Topology}
 use Rattle.failure_lines.specs.declared.file_kind.FileKind.TheVariants as kinds
 use Rattle.command_line.specs.declared.command.Command.{Command}
-use Rattle.command_line.specs.declared.command.Command.TheVariants.{Zero, Period, Schedule, Synth, Check, Demo, Embed, Moves}
+use Rattle.command_line.specs.declared.command.Command.TheVariants.{Zero, Period, Schedule, Synth, Check, Demo, Embed, Moves, Margin}
 
 -- the files that tell a circuit: a netlist and, if one is named, a delay table
 abbrev pub circuit_files : Bor (List ℕ) → Option (Bor (List ℕ)) → List (FileKind × List ℕ)
@@ -27,6 +27,7 @@ files_of (Check bench tech pl report) =
 files_of (Demo registers seed) = []
 files_of (Embed bench tech pl topology) =
     problem_files bench tech pl ++ (Topology, topology.now) ∷ []
+files_of (Margin bench tech period) = circuit_files bench (Some tech)
 files_of (Moves bench tech pl moves) =
     problem_files bench tech pl ++ (kinds.Moves, moves.now) ∷ []
 

@@ -1,10 +1,12 @@
 //! The clock tree synthesizer `cts`.
 #![tactic(auto)]
 
+mod arrivals;
 mod call;
 mod check;
 mod demo;
 mod ending;
+mod margin;
 mod moves;
 mod period;
 mod reading;

@@ -13,6 +13,7 @@ ghost use Rattle.cts_program.specs.Steps.{IsAnyReadFault};
 use crate::check::check;
 use crate::demo::demo;
 use crate::ending::{Answer, Ending};
+use crate::margin::margin;
 use crate::moves::moves;
 use crate::period::period;
 use crate::reading::{
@@ -168,6 +169,17 @@ fn command_answer<I: Inputs>(
             let problem = read_problem(alloc, inputs, bench, tech, pl)?;
             let topology = read_topology_file(alloc, inputs, topology, &problem)?;
             embed(alloc, &problem, &topology)
+        }
+        Command::Margin {
+            bench,
+            tech,
+            period,
+        } => {
+            margin(
+                alloc,
+                &read_circuit(alloc, inputs, bench, Some(tech))?,
+                period,
+            )
         }
         Command::Moves {
             bench,

@@ -54,6 +54,7 @@ const USAGE: &[u8] = b"usage: cts zero --bench F [--tech F] | cts period --bench
     | cts schedule --bench F --tech F | cts synth --bench F --tech F --pl F \
     | cts check --bench F --tech F --pl F --report F | cts demo --registers N --seed S \
     | cts embed --bench F --tech F --pl F --topology F \
+    | cts margin --bench F --tech F --period P \
     | cts moves --bench F --tech F --pl F --moves F";
 
 impl Failure {

@@ -173,6 +173,26 @@ fn reads_embed_with_all_options(rt: HostRuntime) {
 }
 
 #[test]
+fn reads_margin_with_all_options(rt: HostRuntime) {
+    let rows: [&[&str]; 2] = [
+        &["margin", "--bench", "F", "--tech", "G", "--period", "11/2"],
+        &["margin", "--period", "11/2", "--tech", "G", "--bench", "F"],
+    ];
+    for row in rows.as_slice() {
+        expect_command(
+            &rt,
+            rt.alloc(),
+            row,
+            Ok(Command::Margin {
+                bench: "F",
+                tech: "G",
+                period: "11/2",
+            }),
+        );
+    }
+}
+
+#[test]
 fn reads_moves_with_all_options(rt: HostRuntime) {
     let rows: [&[&str]; 2] = [
         &[

@@ -1,17 +1,18 @@
-use Rattle.std.proofs.Common.{[], ◌∷◌, inr, Err, refl, ap, sym, ◌∙◌, append-nil}
+use Rattle.std.proofs.Common.{◌≡◌, [], ◌∷◌, inr, Err, refl, ap, sym, ◌∙◌, append-nil}
 use Rattle.std.proofs.lemmas.Result.{err_from_is_err_and}
-use Rattle.command_line.specs.declared.command.Command.TheVariants.{Zero, Period, Schedule, Synth, Check, Embed, Moves}
+use Rattle.command_line.specs.declared.command.Command.TheVariants.{Zero, Period, Schedule, Synth, Check, Embed, Moves, Margin}
 use Rattle.failure_lines.specs.declared.failure.Failure.{Failure}
 use Rattle.failure_lines.specs.declared.file_kind.FileKind.TheVariants as kinds
 use Rattle.cts_program.specs.Files.{circuit_files}
+use Rattle.cts_program.specs.MarginTexts.{IsMarginText}
 use Rattle.cts_program.specs.PeriodTexts.{IsPeriodText}
 use Rattle.cts_program.specs.ScheduleTexts.{IsScheduleText}
 use Rattle.cts_program.proofs.CheckLemmas.{report_stops, unshown_stops, check_answer}
 use Rattle.cts_program.proofs.EmbedLemmas.{topology_of, topology_stops, tree_stops, embed_answer}
 use Rattle.cts_program.proofs.MoveLemmas.{moves_stop, wires_stop, moves_answer}
 use Rattle.cts_program.proofs.WireTexts.{near_moves}
-use Rattle.cts_program.proofs.DemoValues.{demo_values}
-use Rattle.cts_program.proofs.DenotedLemmas.{circuit_stops, denoted_answer, zero_answer}
+use Rattle.cts_program.proofs.DemoValues.{demo_values, margin_value}
+use Rattle.cts_program.proofs.DenotedLemmas.{circuit_stops, denoted_answer, with_status, zero_answer}
 use Rattle.cts_program.proofs.PlacementLemmas.{circuit_denoted, synth_answer}
 use Rattle.cts_program.proofs.ResultLemmas.{if_err_from}
 use Rattle.cts_program.proofs.run.command_answer.Goals as goal
@@ -210,6 +211,37 @@ returns-in_ok-topology-in-Embed-clause-cause g c =
     (tree_stops c.in-Embed.bench c.in-Embed.tech c.in-Embed.pl c.in-Embed.topology
     c.in_ok-problem-in-Embed.problem c.in_ok-problem-in-Embed.ensures.ok
     c.in_ok-topology-in-Embed.topology (rw held at c.in_ok-topology-in-Embed.ensures.ok) _ _))
+
+pub margin-requires-clause-period : goal.margin-requires-clause-period
+margin-requires-clause-period g c =
+    margin_value c.in-Margin.bench c.in-Margin.tech c.in-Margin.period
+    (rw c.in-Margin.is at c.requires)
+
+pub returns-in_err-read_circuit-in-Margin-clause-cause :
+    goal.returns-in_err-read_circuit-in-Margin-clause-cause
+returns-in_err-read_circuit-in-Margin-clause-cause g c =
+    let p = err_from_is_err_and c.from_residual-in_err-read_circuit-in-Margin.result
+    c.from_residual-in_err-read_circuit-in-Margin.ensures.1 in
+    rw (p.1, p.2, c.in-Margin.is) (c.in_err-read_circuit-in-Margin.ensures.cause
+    (Margin c.in-Margin.bench c.in-Margin.tech c.in-Margin.period) ([], refl))
+
+pub returns-in_ok-read_circuit-in-Margin-clause-ok :
+    goal.returns-in_ok-read_circuit-in-Margin-clause-ok
+returns-in_ok-read_circuit-in-Margin-clause-ok g c =
+    rw c.in-Margin.is (denoted_answer
+    (Margin c.in-Margin.bench c.in-Margin.tech c.in-Margin.period)
+    c.in_ok-read_circuit-in-Margin.ensures.ok (λ circuit delays status text. (status ≡ 0)
+    × IsMarginText circuit delays c.in-Margin.period.now text)
+    (λ status text answer. (answer.0, with_status answer.1)) c.margin.result c.margin.ensures.few
+    c.margin.ensures.text)
+
+pub returns-in_ok-read_circuit-in-Margin-clause-cause :
+    goal.returns-in_ok-read_circuit-in-Margin-clause-cause
+returns-in_ok-read_circuit-in-Margin-clause-cause g c =
+    rw c.in-Margin.is (if_err_from c.margin.result _ _ c.margin.ensures.cause
+    (λ failure fails. circuit_stops _ _
+    (Margin c.in-Margin.bench c.in-Margin.tech c.in-Margin.period)
+    c.in_ok-read_circuit-in-Margin.ensures.ok (λ pairs. inr pairs) failure fails))
 
 pub moves-requires : goal.moves-requires
 moves-requires g c =
