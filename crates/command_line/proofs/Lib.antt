@@ -1,4 +1,5 @@
 mod PlainWordTests
+pub mod PeriodWords
 mod NumberWords
 mod GivenOptions
 pub mod PlainCommands

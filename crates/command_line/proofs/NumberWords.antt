@@ -12,7 +12,7 @@ use Rattle.command_line.specs.declared.table.ValueKind.TheVariants.{File, Regist
 use Rattle.command_line.specs.CommandTable.{Word}
 use Rattle.command_line.specs.Commands.{number_of, is_number_within, is_value, is_file_name}
 use Rattle.command_line.proofs.GivenOptions.{both}
-use Rattle.cts_program.proofs.PeriodWords.{period_first}
+use Rattle.command_line.proofs.PeriodWords.{period_first}
 
 -- bytes that are all digits, tested one by one
 all_digits : (word : Word) → list_all is_ascii_digit word ≡ all_ascii_digits word

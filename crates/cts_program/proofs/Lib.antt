@@ -22,7 +22,6 @@ mod MoveLemmas
 mod WireTexts
 mod ReasonLemmas
 mod ArrivalLemmas
-mod PeriodWords
 mod OneAnswer
 mod TextStatuses
 mod ShownVerdicts

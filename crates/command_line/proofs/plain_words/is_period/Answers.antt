@@ -1,5 +1,5 @@
 use Rattle.std.proofs.Common.{◌∙◌, sym}
-use Rattle.cts_program.proofs.PeriodWords.{read_period, unread_period}
+use Rattle.command_line.proofs.PeriodWords.{read_period, unread_period}
 use Rattle.command_line.proofs.plain_words.is_period.Goals as goal
 
 pub returns-in-Err : goal.returns-in-Err

@@ -1,6 +1,6 @@
 use Rattle.std.proofs.Common.{◌≡◌, ◌∙◌, subst, sym}
 use Rattle.safety_margin.specs.RatioMargins.{IsMarginPeriod}
-use Rattle.cts_program.proofs.PeriodWords.{period_has, period_spelled}
+use Rattle.command_line.proofs.PeriodWords.{period_has, period_spelled}
 use Rattle.cts_program.proofs.margin.fraction.Goals as goal
 
 pub unreachable-requires : goal.unreachable-requires
