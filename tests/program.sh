@@ -40,6 +40,13 @@ expect 'the least period of s27' 0 $'period 13\nzero 15\ncycle 1\nsetup G6 G6 13
     "$top/cts" period --bench "$s27" --tech "$table"
 scheduled=$'period 13\nzero 15\ncycle 1\nsetup G6 G6 13\nregisters 3\nG5 2 0 2\nG6 0 0 3\nG7 0 6 2'
 expect 'the least schedule of s27' 0 "$scheduled" '' "$top/cts" schedule --tech "$table" --bench "$s27"
+served=$'period 13\ncycle 1\nsetup G6 G6 13 1\nregisters 3\nG5 2\nG6 0\nG7 0'
+expect 'one corner of s27' 0 "$served" '' "$top/cts" corners --bench "$s27" "$table"
+expect 'the same corner twice' 0 "$served" '' "$top/cts" corners --bench "$s27" "$table" "$table"
+expect 'no table of a corner' 4 '' 'read fault corner 2' \
+    "$top/cts" corners --bench "$s27" "$table" "$work/none"
+expect 'a netlist as a table' 3 '' 'refused corner 2 tech 1' \
+    "$top/cts" corners --bench "$s27" "$table" "$s27"
 places=$top/examples/s27.pl
 # Which path gives the weight and which pair shows a merge is free: here it is these.
 tree='cts 2
@@ -285,6 +292,7 @@ expect 'a table of one byte more' 3 '' 'refused tech long' "$top/cts" zero --ben
 usage='usage: cts zero --bench F [--tech F] | cts period --bench F --tech F | cts schedule --bench F --tech F'
 usage+=' | cts synth --bench F --tech F --pl F | cts check --bench F --tech F --pl F --report F'
 usage+=' | cts demo --registers N --seed S | cts embed --bench F --tech F --pl F --topology F'
+usage+=' | cts corners --bench F T1 .. Tk'
 expect 'no words' 2 '' "$usage" "$top/cts"
 expect 'the name last' 2 '' "$usage" "$top/cts" --tech F --bench F zero
 expect 'an option twice' 2 '' "$usage" "$top/cts" zero --bench F --tech F --tech F
@@ -295,6 +303,7 @@ expect 'one word for both' 2 '' "$usage" "$top/cts" zero --bench=F
 expect 'an end of options' 2 '' "$usage" "$top/cts" zero --bench F --
 expect 'a check without a report' 2 '' "$usage" "$top/cts" check --bench F --tech F --pl F
 expect 'an embedding without a topology' 2 '' "$usage" "$top/cts" embed --bench F --tech F --pl F
+expect 'no table of any corner' 2 '' "$usage" "$top/cts" corners --bench F
 expect 'too few registers' 2 '' "$usage" "$top/cts" demo --registers 1 --seed 0
 expect 'too many registers' 2 '' "$usage" "$top/cts" demo --registers 1001 --seed 0
 expect 'too large a seed' 2 '' "$usage" "$top/cts" demo --registers 2 --seed 1000

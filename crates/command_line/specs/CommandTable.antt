@@ -1,11 +1,11 @@
 -- The table of commands: the name and the options of each, as they stand in the usage line.
-use Rattle.std.specs.Prelude.{ℕ, Bool, true, false, List, [], ◌∷◌, ◌++◌, Option, drop, find, codes, if◌then◌else◌}
+use Rattle.std.specs.Prelude.{ℕ, nat_le, Bool, true, false, List, [], ◌∷◌, ◌++◌, Option, drop, find, codes, if◌then◌else◌}
 use Rattle.std.specs.List.{flat_map}
 use Rattle.std.specs.Str.{bytes_eq}
 use Rattle.command_line.specs.declared.command.Command.{Command}
 use Rattle.command_line.specs.declared.command.Command.TheVariants as command
 use Rattle.command_line.specs.declared.table.Form.{Form}
-use Rattle.command_line.specs.declared.table.Form.TheVariants.{Zero, Period, Schedule, Synth, Check, Demo, Embed}
+use Rattle.command_line.specs.declared.table.Form.TheVariants.{Zero, Period, Schedule, Synth, Check, Demo, Embed, Corners}
 use Rattle.command_line.specs.declared.table.Choice.{Choice}
 use Rattle.command_line.specs.declared.table.Choice.TheVariants as option
 use Rattle.command_line.specs.declared.table.ValueKind.{ValueKind}
@@ -17,7 +17,7 @@ Word = List ℕ
 
 -- all commands
 abbrev pub forms : List Form
-forms = Zero ∷ Period ∷ Schedule ∷ Synth ∷ Check ∷ Demo ∷ Embed ∷ []
+forms = Zero ∷ Period ∷ Schedule ∷ Synth ∷ Check ∷ Demo ∷ Embed ∷ Corners ∷ []
 
 -- the name of a command, and its options
 abbrev pub row_of : Form → Word × List Choice
@@ -30,6 +30,12 @@ row_of Check =
 row_of Demo = (codes "demo", option.Registers ∷ option.Seed ∷ [])
 row_of Embed =
     (codes "embed", option.Bench ∷ option.Tech ∷ option.Placement ∷ option.Topology ∷ [])
+row_of Corners = (codes "corners", option.Bench ∷ [])
+
+-- how many delay tables stand as plain words after the options of a command, at least and at most
+abbrev pub table_bounds : Form → ℕ × ℕ
+table_bounds Corners = (1, 16)
+table_bounds form = (0, 0)
 
 -- the word of an option
 abbrev pub word_of : Choice → Word
@@ -62,6 +68,7 @@ form_of (command.Synth bench tech pl) = Synth
 form_of (command.Check bench tech pl report) = Check
 form_of (command.Demo registers seed) = Demo
 form_of (command.Embed bench tech pl topology) = Embed
+form_of (command.Corners bench tables) = Corners
 
 -- the name of a command
 abbrev pub form_name : Form → Word
@@ -87,9 +94,18 @@ option_usage choice =
     let words = word_of choice ++ letter_of (kind_of choice) in
     if is_required choice then codes " " ++ words else codes " [" ++ words ++ codes "]"
 
+-- whether a command takes delay tables as plain words
+abbrev pub takes_tables : Form → Bool
+takes_tables form = nat_le 1 (table_bounds form).1
+
+-- the delay tables in the usage line
+abbrev pub tables_usage : Form → Word
+tables_usage form = if takes_tables form then codes " T1 .. Tk" else []
+
 -- the words of a command in the usage line
 abbrev pub form_usage : Form → Word
 form_usage form = codes " | cts " ++ form_name form ++ flat_map option_usage (choices_of form)
+    ++ tables_usage form
 
 -- the usage line: the words of each command, with a bar between two
 abbrev pub usage : Word

@@ -3,10 +3,10 @@
 ghost use Rattle.std.specs.Prelude.{◌≡◌, find, IfSome};
 ghost use Rattle.std.specs.Str.{bytes_eq};
 ghost use Rattle.command_line.specs.declared.table.Form.{Form};
-ghost use Rattle.command_line.specs.CommandTable.{forms, form_name, form_named, choices_of, word_of, kind_of, is_required};
+ghost use Rattle.command_line.specs.CommandTable.{forms, form_name, form_named, choices_of, table_bounds, word_of, kind_of, is_required};
 
 use Choice::{Bench, Placement, Registers, Report, Seed, Tech, TechIfWanted, Topology};
-use Form::{Check, Demo, Embed, Period, Schedule, Synth, Zero};
+use Form::{Check, Corners, Demo, Embed, Period, Schedule, Synth, Zero};
 
 /// A command without the values of its options.
 #[derive(Clone, Copy, Debug, Drop, PartialEq)]
@@ -18,6 +18,7 @@ pub enum Form {
     Check,
     Demo,
     Embed,
+    Corners,
 }
 
 /// An option of a command, which stands at most once after its name.
@@ -42,7 +43,7 @@ pub enum ValueKind {
     Seed,
 }
 
-const FORMS: [Form; 7] = [Zero, Period, Schedule, Synth, Check, Demo, Embed];
+const FORMS: [Form; 8] = [Zero, Period, Schedule, Synth, Check, Demo, Embed, Corners];
 
 impl Form {
     /// The name of the command and its options, in the order of the usage line.
@@ -58,6 +59,18 @@ impl Form {
             Check => ("check", &[Bench, Tech, Placement, Report]),
             Demo => ("demo", &[Registers, Seed]),
             Embed => ("embed", &[Bench, Tech, Placement, Topology]),
+            Corners => ("corners", &[Bench]),
+        }
+    }
+
+    /// The least and the greatest number of delay tables that stand as plain words after the options
+    /// of the command. Where there may be any, each of its options has to stand.
+    pub fn table_bounds(self) -> (usize, usize)
+        ensures { result ≡ table_bounds self }
+    {
+        match self {
+            Corners => (1, 16),
+            _ => (0, 0),
         }
     }
 

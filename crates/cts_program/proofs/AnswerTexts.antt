@@ -55,6 +55,7 @@ plan_of zero forms.Synth = report_plan Second
 plan_of zero forms.Check = 0 ∷ []
 plan_of zero forms.Demo = 0 ∷ 0 ∷ 0 ∷ 0 ∷ []
 plan_of zero forms.Embed = report_plan Second
+plan_of zero forms.Corners = 0 ∷ 1 ∷ 1 ∷ []
 plan_of (suc more) form = 0 ∷ 1 ∷ []
 
 -- the lines of a text with this status

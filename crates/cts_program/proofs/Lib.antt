@@ -18,6 +18,9 @@ mod LastFiles
 mod CheckLemmas
 mod EmbedLemmas
 mod ReasonLemmas
+mod CornerAnswers
+mod CornerRefusals
+mod CornerReads
 mod OneAnswer
 mod TextStatuses
 mod ShownVerdicts

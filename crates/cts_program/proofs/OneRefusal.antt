@@ -9,7 +9,7 @@ use Rattle.cert_check.specs.declared.verdict.Verdict.TheVariants.{Not}
 use Rattle.report_text.specs.Laws.{OneReport, OneFault, NoFaultOfReport}
 use Rattle.cts_engine.proofs.OneProblem.{one_problem}
 use Rattle.command_line.specs.declared.command.Command.{Command}
-use Rattle.command_line.specs.declared.command.Command.TheVariants.{Check, Embed}
+use Rattle.command_line.specs.declared.command.Command.TheVariants.{Check, Embed, Corners}
 use Rattle.command_line.specs.declared.table.Form.{Form}
 use Rattle.command_line.specs.declared.table.Form.TheVariants as forms
 use Rattle.failure_lines.specs.declared.failure.Failure.{Failure}
@@ -25,7 +25,8 @@ use Rattle.cts_program.specs.Judged.{AreAccepted, TellProblem}
 use Rattle.cts_program.specs.TopologyFiles.{IsAcceptedFor, RefusesEmbedding}
 use Rattle.command_line.specs.CommandTable.{form_of}
 use Rattle.cts_program.proofs.FileRefusals.{Agree, agree_same, agree_self, agree_rotated, agree_prefixes, file_status, text_not_refused}
-use Rattle.cts_program.proofs.OneAnswer.{Answers, one_denoted}
+use Rattle.cts_program.proofs.OneAnswer.{Answers, AnswersByOne, one_denoted}
+use Rattle.cts_program.proofs.CornerRefusals.{corners_refusal_status, corners_answer_not_refused, accepted_corners_not_refused}
 use Rattle.cts_program.proofs.PlacementLemmas.{problem_denoted}
 use Rattle.cts_program.proofs.ShownVerdicts.{no_reason}
 use Rattle.topology_file.proofs.OneFault.{no_fault}
@@ -178,6 +179,12 @@ of_report_checked : (form : Form) (texts contents : List (List ℕ)) (failure : 
 of_report_checked form texts contents failure check refusal =
     subst (λ f. RefusesAccepted f texts contents failure) check refusal
 
+-- a command of one table refuses these contents
+abbrev RefusesByOne : Command → List (List ℕ) → Failure → Type 0
+RefusesByOne command contents failure = RefusesText (texts_of command contents) failure
+    ⊎ (AreAll command contents
+    × RefusesAccepted (form_of command) (texts_of command contents) contents failure)
+
 -- a refusal has status 3, and 7 where a report of accepted files isn't shown
 data Refusal (command : Command) (contents : List (List ℕ)) (failure : Failure) : Type 0 where
   of_texts : status_of failure ≡ 3
@@ -187,7 +194,7 @@ data Refusal (command : Command) (contents : List (List ℕ)) (failure : Failure
       → EndUnshown contents failure → Refusal command contents failure
 
 refusal_of : (command : Command) (contents : List (List ℕ)) (failure : Failure)
-    → IsRefusal command contents failure → Refusal command contents failure
+    → RefusesByOne command contents failure → Refusal command contents failure
 refusal_of command contents failure (inl text) =
     of_texts (file_status _ failure text.refusal).0 (λ same. subst
     (λ form. RefusesText (texts_for form (options_of command) contents) failure) same text)
@@ -211,11 +218,11 @@ report_not_text contents others failure failure' agree ends text =
     ends.are_of.accepted text
 
 -- so refusals of contents that agree have one status
-pub one_refusal_status : (command : Command) (contents refused : List (List ℕ))
+status_by_one : (command : Command) (contents refused : List (List ℕ))
     → Agree contents refused → (failure failure' : Failure)
-    → IsRefusal command contents failure → IsRefusal command refused failure'
+    → RefusesByOne command contents failure → RefusesByOne command refused failure'
     → status_of failure ≡ status_of failure'
-one_refusal_status command contents refused agree failure failure' refusal refusal' =
+status_by_one command contents refused agree failure failure' refusal refusal' =
     elim (refusal_of command contents failure refusal) [
       | of_texts is text ↦ elim (refusal_of command refused failure' refusal') [
         | of_texts is' text' ↦ is ∙ sym is'
@@ -229,6 +236,17 @@ one_refusal_status command contents refused agree failure failure' refusal refus
       ]
     ]
 
+-- and so it is with all commands
+pub one_refusal_status : (command : Command) (contents refused : List (List ℕ))
+    → Agree contents refused → (failure failure' : Failure)
+    → IsRefusal command contents failure → IsRefusal command refused failure'
+    → status_of failure ≡ status_of failure'
+one_refusal_status (Corners bench tables) contents refused agree failure failure' refusal refusal' =
+    corners_refusal_status contents _ failure refusal
+    ∙ sym (corners_refusal_status refused _ failure' refusal')
+one_refusal_status command contents refused agree failure failure' refusal refusal' =
+    status_by_one command contents refused agree failure failure' refusal refusal'
+
 -- ---- not both
 
 -- what a command goes by is accepted
@@ -239,7 +257,7 @@ record Accepts (command : Command) (contents : List (List ℕ)) : Type 0 where
 
 -- so it is where the command has an answer
 answer_accepts : (command : Command) (contents : List (List ℕ)) (status : ℕ) (text : List ℕ)
-    → Answers (form_of command) (options_of command) contents status text
+    → AnswersByOne (form_of command) (options_of command) contents status text
     → Accepts command contents
 answer_accepts command contents status text answer = record {
   accepted = answer.accepted;
@@ -268,7 +286,7 @@ report_beside : (command : Command) (contents refused : List (List ℕ)) → Agr
     → length (texts_of command refused) ≤ length (texts_of command contents)
     → (form_of command ≢ forms.Check → AreAll command refused
     → length contents ≡ length refused) → Accepts command contents
-    → (failure : Failure) → IsRefusal command refused failure
+    → (failure : Failure) → RefusesByOne command refused failure
     → (form_of command ≡ forms.Check) × EndUnshown refused failure
 report_beside command contents refused agree within whole accepts failure (inl text) =
     absurd (text_not_refused _ _ failure
@@ -287,28 +305,45 @@ report_beside command contents refused agree within whole accepts failure (inr (
     ]
 
 -- so what is answered isn't refused
-pub answer_not_refused : ReportLaws → (command : Command) (contents refused : List (List ℕ))
+not_refused_by_one : ReportLaws → (command : Command) (contents refused : List (List ℕ))
     (failure : Failure) (status : ℕ) (text : List ℕ)
-    → Answers (form_of command) (options_of command) contents status text
+    → AnswersByOne (form_of command) (options_of command) contents status text
     → Agree contents refused → length refused ≤ length contents
     → (AreAll command refused → length contents ≡ length refused)
-    → IsRefusal command refused failure → ⊥
-answer_not_refused laws command contents refused failure status text answer agree within all
+    → RefusesByOne command refused failure → ⊥
+not_refused_by_one laws command contents refused failure status text answer agree within all
     refusal =
     let (check, ends) = report_beside command contents refused agree
     (texts_within (form_of command) (options_of command) contents refused within) (λ other. all)
     (answer_accepts command contents status text answer) failure refusal in
     shown_or_not laws contents refused failure agree (answer.checked check) ends
 
+-- and so it is with all commands
+pub answer_not_refused : ReportLaws → (command : Command) (contents refused : List (List ℕ))
+    (failure : Failure) (status : ℕ) (text : List ℕ)
+    → Answers (form_of command) (options_of command) contents status text
+    → Agree contents refused → length refused ≤ length contents
+    → (AreAll command refused → length contents ≡ length refused)
+    → IsRefusal command refused failure → ⊥
+answer_not_refused laws (Corners bench tables) contents refused failure status text answer agree
+    within all refusal =
+    corners_answer_not_refused contents refused failure status text answer agree within _ all
+    refusal
+answer_not_refused laws command contents refused failure status text answer agree within all
+    refusal =
+    not_refused_by_one laws command contents refused failure status text answer agree within all
+    refusal
+
 -- what is accepted for a command is all that it goes by
-accepts_of : (command : Command) (contents : List (List ℕ)) → IsAccepted command contents
-    → Accepts command contents
-accepts_of (Check bench tech pl report) contents accepted = record {
+accepts_of : (command : Command) → form_of command ≢ forms.Corners → (contents : List (List ℕ))
+    → IsAccepted command contents → Accepts command contents
+accepts_of (Corners bench tables) apart contents accepted = absurd (apart refl)
+accepts_of (Check bench tech pl report) apart contents accepted = record {
   accepted = accepted.1;
   few = λ other. absurd (other refl);
   topology = λ same. cc same;
 }
-accepts_of (Embed bench tech pl topology) contents ends = record {
+accepts_of (Embed bench tech pl topology) apart contents ends = record {
   accepted = ends.are_of.accepted;
   few = λ other many.
       let same = one_denoted (take 3 contents) many.circuit ends.problem.circuit many.tech
@@ -317,7 +352,7 @@ accepts_of (Embed bench tech pl topology) contents ends = record {
       ends.holds.few (subst (λ c. JoinsMoreThan c 1048576) same.0 many.many);
   topology = λ same. ends;
 }
-accepts_of command contents accepted = record {
+accepts_of command apart contents accepted = record {
   accepted = accepted.1;
   few = λ other. accepted.2;
   topology = λ same. cc same;
@@ -337,14 +372,15 @@ seven_of_check (Check bench tech pl report) status check seven = inr seven
 seven_of_check command status check seven = cc check
 
 -- a refusal beside what is accepted has a status for it
-pub accepted_refusal : (command : Command) (contents refused : List (List ℕ))
+accepted_by_one : (command : Command) → form_of command ≢ forms.Corners
+    → (contents refused : List (List ℕ))
     → Agree contents refused → length refused ≤ length (files_of command)
-    → IsAccepted command contents → (failure : Failure) → IsRefusal command refused failure
+    → IsAccepted command contents → (failure : Failure) → RefusesByOne command refused failure
     → IsStatusOf command (status_of failure)
-accepted_refusal command contents refused agree below accepted failure refusal =
+accepted_by_one command apart contents refused agree below accepted failure refusal =
     let (check, ends) = report_beside command contents refused agree
     (within (form_of command) (options_of command) (accepted_all command contents accepted)) whole
-    (accepts_of command contents accepted) failure refusal in
+    (accepts_of command apart contents accepted) failure refusal in
     seven_of_check command (status_of failure) check
     (report_status ends.problem ends.bytes failure ends.holds)
   where
@@ -363,3 +399,14 @@ accepted_refusal command contents refused agree below accepted failure refusal =
       | inl (check, three) ↦ absurd (apart check)
       | inr all ↦ all ∙ sym are
     ]
+
+-- so it has whatever the command
+pub accepted_refusal : (command : Command) (contents refused : List (List ℕ))
+    → Agree contents refused → length refused ≤ length (files_of command)
+    → IsAccepted command contents → (failure : Failure) → IsRefusal command refused failure
+    → IsStatusOf command (status_of failure)
+accepted_refusal (Corners bench tables) contents refused agree below (all, accepted, few) failure
+    refusal = absurd (accepted_corners_not_refused contents refused agree
+    (omega (arith, all, below)) accepted few _ (λ whole. all ∙ sym whole) failure refusal)
+accepted_refusal command contents refused agree below accepted failure refusal =
+    accepted_by_one command (λ same. cc same) contents refused agree below accepted failure refusal

@@ -1,5 +1,5 @@
 -- Facts of a call's answer that follow from its other facts.
-use Rattle.std.proofs.Common.{Result, Ok, Err, IfOk, IfErr, IsErrOf}
+use Rattle.std.proofs.Common.{◌≡◌, Result, Ok, Err, IfOk, IfErr, IsErrOf}
 
 module _ {T E : Type 0} (result : Result T E) where
   -- of its success, from two facts of it
@@ -22,3 +22,8 @@ module _ {T E : Type 0} (result : Result T E) where
 -- a success is no refusal
 pub no_error : {T E : Type 0} {value : T} {error : E} → IsErrOf (Ok value) error → ⊥
 no_error same = cc same
+
+-- two refusals that are one have one error
+pub error_same : {T E : Type 0} (one other : E)
+    → ◌≡◌ {A = Result T E} (Err one) (Err other) → one ≡ other
+error_same one other same = cc same

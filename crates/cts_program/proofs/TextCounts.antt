@@ -44,17 +44,17 @@ tails_apart (constraint ∷ cycle) apart =
     (tails_apart cycle (λ i j d before within. apart (suc i) (suc j) d (omega arith) (omega arith)))
 
 -- there are few registers
-few_registers : (circuit : Circuit) → length circuit.registers ≤ 4097
+pub few_registers : (circuit : Circuit) → length circuit.registers ≤ 4097
 few_registers circuit = grind (arith, circuit.valid.few_registers)
 
--- and a cycle of a circuit's constraints has at most as many constraints
-few_constraints : (circuit : Circuit) (tech : Tech) (cycle : List Constraint)
-    → All (IsConstraintOf circuit tech) cycle → IsCycle cycle → length cycle ≤ 4097
-few_constraints circuit tech cycle of_circuit is_cycle =
+-- and a cycle of constraints between them has at most as many constraints
+pub few_between : (circuit : Circuit) (cycle : List Constraint)
+    → All (λ constraint. constraint.tail < length circuit.registers) cycle → IsCycle cycle
+    → length cycle ≤ 4097
+few_between circuit cycle between is_cycle =
     let tails = map (λ (constraint : Constraint). constraint.tail) cycle in
     let within = All-map (λ tail. tail < length circuit.registers)
-    (λ (constraint : Constraint). constraint.tail) cycle
-    (tails_within circuit tech cycle of_circuit) in
+    (λ (constraint : Constraint). constraint.tail) cycle between in
     let few = length-le_from_distinct_below tails (length circuit.registers)
     (IsDistinct-from_AllPairs Decides-eqb tails (tails_apart cycle is_cycle.once))
     (λ tail found. All-contains (λ t. t < length circuit.registers) tails tail within
@@ -64,6 +64,12 @@ few_constraints circuit tech cycle of_circuit is_cycle =
       few_registers circuit,
       length-map cycle (λ (constraint : Constraint). constraint.tail),
     )
+
+-- so does one of a circuit's constraints
+few_constraints : (circuit : Circuit) (tech : Tech) (cycle : List Constraint)
+    → All (IsConstraintOf circuit tech) cycle → IsCycle cycle → length cycle ≤ 4097
+few_constraints circuit tech cycle of_circuit is_cycle =
+    few_between circuit cycle (tails_within circuit tech cycle of_circuit) is_cycle
 
 -- a line of a word and a number says that number
 number_in-count_line : (word : List ℕ) (count : ℕ) → count ≤ 9999

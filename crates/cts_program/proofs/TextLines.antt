@@ -1,5 +1,6 @@
 -- The lines of each text are lines, as those of reports are.
-use Rattle.std.proofs.Common.{ℕ, ℤ, pos, true, false, List, [], ◌∷◌, ◌++◌, arith}
+use Rattle.std.proofs.Common.{ℕ, ℤ, pos, Bool, true, false, List, [], ◌∷◌, ◌++◌, ◌+◌, map, length, slice_index_or, arith}
+use Rattle.std.specs.List.{range_with_len}
 use Rattle.std.specs.Fmt.{signed_decimal}
 use Rattle.std.proofs.lemmas.Int.{ints}
 use Rattle.std.proofs.lemmas.Nat.Gcd.{dvd_refl}
@@ -19,15 +20,38 @@ use Rattle.cts_model.specs.PrintedLines.{Words, period_line, line_for, show_line
 use Rattle.cts_model.specs.ReportLines.{version_line, tree_lines}
 use Rattle.report_text.proofs.OneLine.{IsWord, IsLine}
 use Rattle.report_text.proofs.ReportWords.{AreLines, report_lines_are}
+use Rattle.corners.specs.declared.outcome.CornersOutcome.{CornersOutcome}
+use Rattle.corners.specs.declared.outcome.CornersOutcome.TheVariants as outcomes
+use Rattle.corners.specs.CornerLists.{constraint_at}
+use Rattle.cts_program.specs.CornerTexts.{numbered_line, numbered_line_at, numbered_lines, common_show_lines, arrival_line_at, arrival_lines, corners_lines}
 use Rattle.cts_program.specs.DemoTexts.{summary_lines}
 use Rattle.cts_program.specs.PeriodTexts.{found_lines, never_lines}
-use Rattle.cts_program.specs.ScheduleTexts.{register_lines}
+use Rattle.cts_program.specs.ScheduleTexts.{register_line_at, register_lines}
 use Rattle.cts_program.specs.Texts.{zero_lines}
 
 -- lines before others are lines
 lines_before : (lines others : List Words) → AreLines (lines ++ others) → AreLines lines
 lines_before [] others are = tt
 lines_before (line ∷ lines) others are = (are.0, lines_before lines others are.1)
+
+-- and after one another too
+lines_joined : (lines others : List Words) → AreLines lines → AreLines others
+    → AreLines (lines ++ others)
+lines_joined [] others are are' = are'
+lines_joined (line ∷ lines) others are are' = (are.0, lines_joined lines others are.1 are')
+
+-- a line for each of some numbers, and those that are lines where others are
+lines_mapped : (line_at : ℕ → Words) → ((number : ℕ) → IsLine (line_at number))
+    → (numbers : List ℕ) → AreLines (map line_at numbers)
+lines_mapped line_at each [] = tt
+lines_mapped line_at each (number ∷ numbers) = (each number, lines_mapped line_at each numbers)
+
+lines_alike : (line_at other_at : ℕ → Words)
+    → ((number : ℕ) → IsLine (line_at number) → IsLine (other_at number)) → (numbers : List ℕ)
+    → AreLines (map line_at numbers) → AreLines (map other_at numbers)
+lines_alike line_at other_at each [] are = tt
+lines_alike line_at other_at each (number ∷ numbers) are =
+    (each number are.0, lines_alike line_at other_at each numbers are.1)
 
 -- a report of these times, whose tree has no node, and this wire
 abbrev report_with : Fraction → PeriodShow → Schedule → List Slack → (grid total : ℤ) → Report
@@ -128,3 +152,50 @@ module _ (circuit : Circuit) where
         (search arith, (number_word (pos registers), tt)),
         (are.1.0, (are.1.1.1.1.1.1.1.0, search arith)),
       )
+
+  -- a constraint with the number of its corner
+  numbered_is : (setup : Bool) (tail head : ℕ) (weight : ℤ) (number : ℕ)
+      → IsLine (numbered_line circuit
+      (record { setup = setup; tail = tail; head = head; weight = weight }) number)
+  numbered_is true tail head weight number =
+      let is =
+      constraint_is (record { setup = true; tail = tail; head = head; weight = weight }) in
+      (is.0, (is.1.0, (is.1.1.0, (is.1.1.1.0, (number_word (pos number), tt)))))
+  numbered_is false tail head weight number =
+      let is =
+      constraint_is (record { setup = false; tail = tail; head = head; weight = weight }) in
+      (is.0, (is.1.0, (is.1.1.0, (is.1.1.1.0, (number_word (pos number), tt)))))
+
+  -- a cycle of such
+  numbered_lines_are : (cycle : List Constraint) (corners : List ℕ)
+      → AreLines (numbered_lines circuit cycle corners)
+  numbered_lines_are cycle corners = (
+    (show_lines_are (shows.Cycle cycle)).0,
+    lines_mapped (numbered_line_at circuit cycle corners) (λ place.
+        let constraint = constraint_at cycle place in
+        numbered_is constraint.setup constraint.tail constraint.head constraint.weight
+        (slice_index_or corners place 0 + 1))
+        (range_with_len 0 (length cycle)),
+  )
+
+  -- what shows the period of several corners
+  common_show_lines_are : (shown : PeriodShow) (corners : List ℕ)
+      → AreLines (common_show_lines circuit shown corners)
+  common_show_lines_are (shows.Cycle cycle) corners = numbered_lines_are cycle corners
+  common_show_lines_are shows.Floor corners = show_lines_are shows.Floor
+
+  -- the lines of the outcome of several corners
+  pub corners_lines_are : (outcome : CornersOutcome) → AreLines (corners_lines circuit outcome)
+  corners_lines_are (outcomes.Found period shown corners schedule) =
+      let timing = timing_lines_are period shows.Floor schedule [] in (
+        timing.0,
+        lines_joined (common_show_lines circuit shown corners) (arrival_lines circuit schedule)
+            (common_show_lines_are shown corners) (
+              timing.1.1.0,
+              lines_alike (register_line_at circuit schedule []) (arrival_line_at circuit schedule)
+                  (λ register is. (is.0, (is.1.0, tt))) (range_with_len 0 (length schedule.at))
+                  timing.1.1.1,
+            ),
+      )
+  corners_lines_are (outcomes.Never cycle corners) =
+      (search arith, numbered_lines_are cycle corners)

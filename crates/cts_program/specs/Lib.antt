@@ -1,5 +1,7 @@
 pub mod Answers
 pub mod Checks
+pub mod CornerFiles
+pub mod CornerTexts
 pub mod DemoTexts
 pub mod Files
 pub mod Headline

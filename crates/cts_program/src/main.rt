@@ -3,6 +3,7 @@
 
 mod call;
 mod check;
+mod cornering;
 mod demo;
 mod ending;
 mod period;

@@ -1,4 +1,5 @@
 mod check;
+mod cornering;
 mod demo;
 mod devices;
 mod embed;
@@ -21,7 +22,7 @@ use std::process::Abort;
 const USAGE: &str = "usage: cts zero --bench F [--tech F] | cts period --bench F --tech F \
     | cts schedule --bench F --tech F | cts synth --bench F --tech F --pl F \
     | cts check --bench F --tech F --pl F --report F | cts demo --registers N --seed S \
-    | cts embed --bench F --tech F --pl F --topology F\n";
+    | cts embed --bench F --tech F --pl F --topology F | cts corners --bench F T1 .. Tk\n";
 
 const NO_PATH: &str = "INPUT(x)\na = DFF(x)\n";
 

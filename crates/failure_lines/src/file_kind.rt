@@ -14,6 +14,8 @@ pub enum FileKind {
     Report,
     /// A topology.
     Topology,
+    /// The delay table of the corner with this number, from 1.
+    Corner(u32),
 }
 
 impl FileKind {
@@ -27,6 +29,7 @@ impl FileKind {
             FileKind::Placement => b"pl",
             FileKind::Report => b"report",
             FileKind::Topology => b"topology",
+            FileKind::Corner(_) => b"corner",
         }
     }
 }

@@ -1,4 +1,4 @@
-use Rattle.std.proofs.Common.{[], ◌∷◌, inr, Err, refl, ap, sym, ◌∙◌, append-nil}
+use Rattle.std.proofs.Common.{[], ◌∷◌, inr, Err, refl, ap, sym, ◌∙◌, append-nil, arith}
 use Rattle.std.proofs.lemmas.Result.{err_from_is_err_and}
 use Rattle.command_line.specs.declared.command.Command.TheVariants.{Zero, Period, Schedule, Synth, Check, Embed}
 use Rattle.failure_lines.specs.declared.failure.Failure.{Failure}
@@ -8,19 +8,21 @@ use Rattle.cts_program.specs.PeriodTexts.{IsPeriodText}
 use Rattle.cts_program.specs.ScheduleTexts.{IsScheduleText}
 use Rattle.cts_program.proofs.CheckLemmas.{report_stops, unshown_stops, check_answer}
 use Rattle.cts_program.proofs.EmbedLemmas.{topology_of, topology_stops, tree_stops, embed_answer}
-use Rattle.cts_program.proofs.DemoValues.{demo_values}
+use Rattle.cts_program.proofs.CornerReads.{corners_stop, corners_answer}
+use Rattle.cts_program.proofs.DemoValues.{demo_values, demo_stops}
 use Rattle.cts_program.proofs.DenotedLemmas.{circuit_stops, denoted_answer, zero_answer}
 use Rattle.cts_program.proofs.PlacementLemmas.{circuit_denoted, synth_answer}
-use Rattle.cts_program.proofs.ResultLemmas.{if_err_from}
+use Rattle.command_line.proofs.PlainCommands.{corners_within}
+use Rattle.cts_program.proofs.ResultLemmas.{if_err_from, no_error, error_same}
 use Rattle.cts_program.proofs.run.command_answer.Goals as goal
 
 pub demo-requires-clause-registers : goal.demo-requires-clause-registers
 demo-requires-clause-registers g c =
-    (demo_values c.in-Demo.registers c.in-Demo.seed (rw c.in-Demo.is at c.requires)).0
+    (demo_values c.in-Demo.registers c.in-Demo.seed (rw c.in-Demo.is at c.requires.values)).0
 
 pub demo-requires-clause-seed : goal.demo-requires-clause-seed
 demo-requires-clause-seed g c =
-    (demo_values c.in-Demo.registers c.in-Demo.seed (rw c.in-Demo.is at c.requires)).1
+    (demo_values c.in-Demo.registers c.in-Demo.seed (rw c.in-Demo.is at c.requires.values)).1
 
 pub returns-in_err-read_circuit-in-Zero-clause-cause :
     goal.returns-in_err-read_circuit-in-Zero-clause-cause
@@ -175,8 +177,8 @@ returns-in_err-topology-in-Embed-clause-cause g c =
     let p = err_from_is_err_and c.from_residual-in_err-topology-in-Embed.result
     c.from_residual-in_err-topology-in-Embed.ensures.1 in
     let held = c.in_ok-problem-in-Embed.ensures.files c.in-Embed.topology.now in
-    let stood = c.in_ok-problem-in-Embed.ensures.stays (λ (kind, e). cc e) c.in-Embed.topology.now
-    in
+    let stood = c.in_ok-problem-in-Embed.ensures.stays (λ (kind, e). no_error e)
+    c.in-Embed.topology.now in
     rw (p.1, p.2, c.in-Embed.is) (topology_stops c.in-Embed.bench c.in-Embed.tech c.in-Embed.pl
     c.in-Embed.topology c.in_ok-problem-in-Embed.problem c.in_ok-problem-in-Embed.ensures.ok _ _ _
     (rw (held, stood) at c.in_err-topology-in-Embed.ensures.cause))
@@ -188,9 +190,9 @@ returns-in_err-topology-in-Embed-clause-stays g c none file =
     c.from_residual-in_err-topology-in-Embed.ensures.1 in
     c.in_err-topology-in-Embed.ensures.stays (λ e. none (
       kinds.Topology,
-      rw (p.1, p.2) (ap (λ (failure : Failure). Err failure) (cc e)),
+      rw (p.1, p.2) (ap (λ (failure : Failure). Err failure) (error_same _ _ e)),
     )) file
-    ∙ c.in_ok-problem-in-Embed.ensures.stays (λ (kind, e). cc e) file
+    ∙ c.in_ok-problem-in-Embed.ensures.stays (λ (kind, e). no_error e) file
 
 pub returns-in_ok-topology-in-Embed-clause-ok : goal.returns-in_ok-topology-in-Embed-clause-ok
 returns-in_ok-topology-in-Embed-clause-ok g c =
@@ -208,3 +210,56 @@ returns-in_ok-topology-in-Embed-clause-cause g c =
     (tree_stops c.in-Embed.bench c.in-Embed.tech c.in-Embed.pl c.in-Embed.topology
     c.in_ok-problem-in-Embed.problem c.in_ok-problem-in-Embed.ensures.ok
     c.in_ok-topology-in-Embed.topology (rw held at c.in_ok-topology-in-Embed.ensures.ok) _ _))
+
+pub read_corners-requires-clause-some : goal.read_corners-requires-clause-some
+read_corners-requires-clause-some g c =
+    (corners_within c.in-Corners.bench c.in-Corners.tables
+    (rw c.in-Corners.is at c.requires.tables)).0
+
+pub read_corners-requires-clause-few : goal.read_corners-requires-clause-few
+read_corners-requires-clause-few g c =
+    (corners_within c.in-Corners.bench c.in-Corners.tables
+    (rw c.in-Corners.is at c.requires.tables)).1
+
+pub serve_corners-requires-clause-some : goal.serve_corners-requires-clause-some
+serve_corners-requires-clause-some g c =
+    let within = corners_within c.in-Corners.bench c.in-Corners.tables
+    (rw c.in-Corners.is at c.requires.tables) in
+    omega (arith, within.0, c.in_ok-read_corners-in-Corners.ensures.count)
+
+pub serve_corners-requires-clause-corners : goal.serve_corners-requires-clause-corners
+serve_corners-requires-clause-corners g c =
+    let within = corners_within c.in-Corners.bench c.in-Corners.tables
+    (rw c.in-Corners.is at c.requires.tables) in
+    omega (arith, within.1, c.in_ok-read_corners-in-Corners.ensures.count)
+
+pub returns-in_err-read_corners-in-Corners-clause-cause :
+    goal.returns-in_err-read_corners-in-Corners-clause-cause
+returns-in_err-read_corners-in-Corners-clause-cause g c =
+    let p = err_from_is_err_and c.from_residual-in_err-read_corners-in-Corners.result
+    c.from_residual-in_err-read_corners-in-Corners.ensures.1 in
+    rw (p.1, p.2, c.in-Corners.is) c.in_err-read_corners-in-Corners.ensures.cause
+
+pub returns-in_ok-read_corners-in-Corners-clause-ok :
+    goal.returns-in_ok-read_corners-in-Corners-clause-ok
+returns-in_ok-read_corners-in-Corners-clause-ok g c =
+    rw c.in-Corners.is (corners_answer c.in-Corners.bench c.in-Corners.tables
+    c.in_ok-read_corners-in-Corners.ensures.ok c.serve_corners.result
+    c.serve_corners.ensures.few c.serve_corners.ensures.text)
+
+pub returns-in_ok-read_corners-in-Corners-clause-cause :
+    goal.returns-in_ok-read_corners-in-Corners-clause-cause
+returns-in_ok-read_corners-in-Corners-clause-cause g c =
+    rw c.in-Corners.is (if_err_from c.serve_corners.result _ _ c.serve_corners.ensures.cause
+    (corners_stop c.in-Corners.bench c.in-Corners.tables
+    c.in_ok-read_corners-in-Corners.ensures.ok _ _))
+
+pub returns-in_ok-read_corners-in-Corners-clause-stays :
+    goal.returns-in_ok-read_corners-in-Corners-clause-stays
+returns-in_ok-read_corners-in-Corners-clause-stays g c none file =
+    c.in_ok-read_corners-in-Corners.ensures.stays (λ (kind, e). no_error e) file
+
+pub returns-in-Demo-clause-cause : goal.returns-in-Demo-clause-cause
+returns-in-Demo-clause-cause g c =
+    rw c.in-Demo.is (if_err_from c.demo.result _ _ c.demo.ensures.cause
+    (demo_stops c.in-Demo.registers c.in-Demo.seed _ _ _))
