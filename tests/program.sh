@@ -75,6 +75,7 @@ edited() {
     check "$work/edited.cts"
 }
 expect 'a report' 0 'shown' '' check "$work/s27.cts"
+expect 'the report of the examples' 0 '' '' cmp "$work/s27.cts" "$top/examples/s27.cts"
 expect 'a report of version 1' 0 'shown' '' edited 's/^cts 2/cts 1/; /^path/d; /^lead/d'
 expect 'another path' 0 'shown' '' edited 's/G16/G15/'
 expect 'the options of check in another order' 0 'shown' '' \
@@ -253,6 +254,7 @@ expect 'a row of registers' 0 "$(pairs)" '' merges "$work/row.bench" "$work/row.
 # A topology that was printed is handed back, and one in which each register joins those before it.
 "$top/cts" synth --bench "$s27" --tech "$table" --pl "$places" | topology >"$work/s27.topology"
 expect 'the topology of s27' 0 "$tree" '' embed "$s27" "$table" "$places" "$work/s27.topology"
+expect 'the topology of the examples' 0 '' '' cmp "$work/s27.topology" "$top/examples/s27.topology"
 handed_back() {
     "$top/cts" synth --bench "$work/row.bench" --tech "$work/row.toml" --pl "$work/row.pl" >"$work/row.cts"
     topology <"$work/row.cts" >"$work/row.topology"
