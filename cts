@@ -8,25 +8,45 @@ program=$crate/out/cts_program
 # Written by `cts build`: when it began to read the sources. A program of `rt ci` has none.
 begun=$crate/out/built
 most_bytes=16777216
+build_time='about half an hour on 4 processors'
 
 say() {
     echo "cts: $1" >&2
 }
 
-# The crates that the program is made of, each behind those that it uses.
+# The crates that the program is made of, each behind those that it uses, and of others the one with
+# the longest chain of crates above it first.
 crates() {
     awk -F: '
-        function list(name,   uses, count, place) {
-            if (name in listed || !(name in used)) return
-            listed[name] = 1
+        function above(name,   user, most) {
+            if (name in chain) return chain[name]
+            most = 0
+            for (user in used) {
+                if (!index(" " used[user] " ", " " name " ")) continue
+                if (above(user) > most) most = above(user)
+            }
+            return chain[name] = most + 1
+        }
+        function take(name,   uses, count, place) {
+            if (name in taken || !(name in used)) return
+            taken[name] = 1
             count = split(used[name], uses, " ")
-            for (place = 1; place <= count; place++) list(uses[place])
-            print name
+            for (place = 1; place <= count; place++) take(uses[place])
         }
         { sub(/#.*/, "") }
         NF > 1 { split($1, words, " "); used[words[1]] = $2 }
-        END { list("cts_program") }
-    ' "$top/crates.txt"
+        END {
+            take("cts_program")
+            for (name in used) if (!(name in taken)) delete used[name]
+            for (name in used) print above(name), name
+        }
+    ' "$top/crates.txt" | sort -k1,1nr -k2 | cut -d ' ' -f 2
+}
+
+# The libraries that a crate uses, those of the kit too.
+uses() {
+    awk -F: -v name="$1" '{ sub(/#.*/, ""); split($1, words, " ") } words[1] == name { print $2 }' \
+        "$top/crates.txt"
 }
 
 # Whether a source, or a folder of sources, is newer than the program.
@@ -46,39 +66,103 @@ needs_rt() {
     exit 127
 }
 
-# Proves one crate and builds it.
+# Proves one crate on so many processors and builds it.
 prove() {
     cd "$top/crates/$1" || return 1
     if [ "$1" = cts_program ]; then
         # rt builds a program by running it: this run answers the netlist that lies beside it.
-        rt run -- zero --bench data/lenient.bench
-    else
-        rt lib
+        exec rt run --jobs "$2" -- zero --bench data/lenient.bench
     fi
+    exec rt lib --jobs "$2"
 }
 
+# How many processors to use: a check takes up to 4 GB.
+processors() {
+    local processors checks
+    processors=$(nproc)
+    checks=$(awk '/^MemAvailable:/ { print int($2 / 4000000) }' /proc/meminfo)
+    [ "$checks" -ge 1 ] || checks=1
+    echo $((processors < checks ? processors : checks))
+}
+
+minutes() {
+    printf '%d:%02d' $(($1 / 60)) $(($1 % 60))
+}
+
+# Starts the crates that use no crate which isn't built, as far as processors are free.
+start_crates() {
+    local name use ready=() share
+    for name in "${left[@]}"; do
+        for use in $(uses "$name"); do
+            [[ " ${left[*]} ${crate_of[*]-} " != *" $use "* ]] || continue 2
+        done
+        ready+=("$name")
+    done
+    while [ "$free" -gt 0 ] && [ ${#ready[@]} -gt 0 ]; do
+        share=$((free > ${#ready[@]} ? free / ${#ready[@]} : 1))
+        (prove "${ready[0]}" "$share") >"$room/${ready[0]}" 2>&1 </dev/null &
+        crate_of[$!]=${ready[0]}
+        share_of[$!]=$share
+        begun_at[$!]=$SECONDS
+        free=$((free - share))
+        mapfile -t left < <(printf '%s\n' "${left[@]}" | grep -vx "${ready[0]}")
+        ready=("${ready[@]:1}")
+    done
+}
+
+stop_crates() {
+    local process
+    for process in "${!crate_of[@]}"; do kill -- "-$process"; done
+    rm -rf "$room"
+    exit 130
+}
+
+# Proves the crates side by side, each once those that it uses are built.
 build() {
     needs_rt
-    local name names place=0
     touch "$room/begun"
-    names=$(crates)
-    for name in $names; do
-        place=$((place + 1))
-        say "proving and building $name, crate $place of $(wc -w <<<"$names")"
-        if ! (prove "$name") >"$room/log" 2>&1 </dev/null; then
-            tail -n 20 "$room/log" >&2
+    local left free count built=0 failed='' process status name next
+    local -A crate_of=() share_of=() begun_at=()
+    mapfile -t left < <(crates)
+    count=${#left[@]}
+    free=$(processors)
+    say "proving and building $count crates on $free processors; from nothing $build_time"
+    # Each crate has a process group of its own, which ends with this script.
+    set -m
+    trap stop_crates INT TERM
+    start_crates
+    say "first ${crate_of[*]}"
+    while [ ${#crate_of[@]} -gt 0 ]; do
+        wait -n -p process "${!crate_of[@]}"
+        status=$?
+        name=${crate_of[$process]}
+        free=$((free + share_of[$process]))
+        unset "crate_of[$process]"
+        if [ "$status" -ne 0 ]; then
+            failed=yes
+            left=()
+            tail -n 20 "$room/$name" >&2
             say "$name wasn't built"
-            return 1
+            continue
         fi
+        built=$((built + 1))
+        start_crates
+        next=${crate_of[*]:+; now ${crate_of[*]}}
+        say "$built of $count: $name in $(minutes $((SECONDS - begun_at[$process])))$next"
     done
+    set +m
+    trap - INT TERM
+    [ -z "$failed" ] || return 1
     touch -r "$room/begun" "$begun"
+    say "built in $(minutes "$SECONDS")"
 }
 
 # Answers the words by an unproved run, which gets copies of the files that they name. It returns
 # where that run has no answer.
 answer_unproved() {
     needs_rt
-    say "no proved program is newer than the sources, so this run is unproved; ./cts build proves it"
+    say "no proved program is newer than the sources, so this run is unproved; it takes a minute"
+    say "./cts build proves and builds the program once, in $build_time"
     local words=() files=() option='' word status
     for word in "$@"; do
         case $option:$word in
