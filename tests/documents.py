@@ -1,0 +1,65 @@
+#!/usr/bin/env python3
+"""Runs the commands of the README and of the pages of docs/ whose output stands there, and compares the two. And follows the
+links between the pages."""
+import glob
+import os
+import re
+import subprocess
+import sys
+import tempfile
+
+ROOT = os.path.dirname(os.path.dirname(os.path.abspath(__file__)))
+PAGES = ["README.md", "CONTRIBUTING.md"] + sorted(glob.glob("docs/*.md", root_dir=ROOT))
+PAGES += sorted(glob.glob("crates/*/README.md", root_dir=ROOT))
+
+
+def text_of(page):
+    with open(os.path.join(ROOT, page), encoding="utf-8") as file:
+        return file.read()
+
+
+def blocks(page):
+    """The blocks of commands of a page, each a list of commands with what they print."""
+    for block in re.findall(r"^```console\n(.*?)^```$", text_of(page), re.MULTILINE | re.DOTALL):
+        parts = re.split(r"^\$ ", block, flags=re.MULTILINE)[1:]
+        yield [part.split("\n", 1) for part in parts]
+
+
+def run_block(commands):
+    """The commands whose output is another one, run one after the other in a folder with the program and the examples."""
+    with tempfile.TemporaryDirectory() as folder:
+        for name in ("cts", "examples"):
+            os.symlink(os.path.join(ROOT, name), os.path.join(folder, name))
+        for command, expected in commands:
+            done = subprocess.run(["bash", "-c", command], cwd=folder, stdout=subprocess.PIPE, stderr=subprocess.STDOUT,
+                                  timeout=600, check=False)
+            if done.stdout.decode() != expected:
+                yield command, done.stdout.decode()
+
+
+def dead_links(page):
+    folder = os.path.dirname(os.path.join(ROOT, page))
+    for link in re.findall(r"\]\(([^)#:]+)\)", text_of(page)):
+        if not os.path.exists(os.path.join(folder, link)):
+            yield link
+
+
+def main():
+    # A program that is newer than the sources is used as it is.
+    subprocess.run([os.path.join(ROOT, "cts"), "build"], check=True)
+    passed, failed = 0, 0
+    for page in PAGES:
+        for commands in blocks(page):
+            wrong = list(run_block(commands))
+            for command, output in wrong:
+                print(f"{page}: {command}\n{output}", end="")
+            failed += len(wrong)
+            passed += len(commands) - len(wrong)
+        for link in dead_links(page):
+            print(f"{page} names {link}, which isn't there")
+            failed += 1
+    print(f"{passed} passed, {failed} failed")
+    return 1 if failed else 0
+
+
+sys.exit(main())
