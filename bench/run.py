@@ -1,0 +1,147 @@
+#!/usr/bin/env python3
+"""Times each command of the built program on inputs of given sizes and of twice those, and prints a table.
+
+usage: bench/run.py [--runs N] [--registers N] [--program FILE] [COMMAND..]
+
+Without COMMAND all are timed, and where they are installed berkeley-abc, which reads the same netlist, and OpenSTA,
+which finds its worst setup path. A time is the least processor time of some runs.
+"""
+import argparse
+import os
+import re
+import shutil
+import subprocess
+import sys
+import tempfile
+
+import inputs
+import sta
+
+TOP = os.path.dirname(os.path.dirname(os.path.abspath(__file__)))
+# The kinds of inputs, with a number of registers.
+SIZES = {"local": 2000, "sparse": 2000, "ring": 2048, "dense": 512}
+# The options of each command; `demo` has numbers of its own.
+COMMANDS = {
+    "zero": ("bench", "tech"),
+    "period": ("bench", "tech"),
+    "schedule": ("bench", "tech"),
+    "synth": ("bench", "tech", "pl"),
+    "check": ("bench", "tech", "pl", "report"),
+    "embed": ("bench", "tech", "pl", "topology"),
+    "demo": (),
+}
+DEMO_REGISTERS = 500
+
+
+class Failed(Exception):
+    pass
+
+
+def timed(words, runs, out):
+    """The least processor time in milliseconds. The output of the last run is in the file."""
+    times = []
+    for _ in range(runs):
+        with open(out, "wb") as file:
+            process = subprocess.Popen(words, stdout=file, stderr=subprocess.PIPE)
+            error = process.stderr.read()
+            _, status, usage = os.wait4(process.pid, 0)
+        if status != 0:
+            raise Failed(f"{' '.join(words)}: status {os.waitstatus_to_exitcode(status)}, {error.decode()[:200]}")
+        times.append(1000 * (usage.ru_utime + usage.ru_stime))
+    return min(times)
+
+
+def topology_of(report, path):
+    """The merges of a report, as a topology file."""
+    with open(report, encoding="ascii") as file:
+        lines = file.read().split("\n")
+    first = next(place for place, line in enumerate(lines) if re.fullmatch(r"merges \d+", line)) + 1
+    count = int(lines[first - 1].split()[1])
+    inputs.write(path, [" ".join(line.split()[:3]) for line in lines[first:first + count]])
+
+
+class Input:
+    """An input of a kind and a size, with what its commands need besides, made when it is asked for first."""
+
+    def __init__(self, kind, registers, room, program):
+        self.base, self.program = f"{room}/{kind}{registers}", program
+        self.netlist, self.gates, self.register = inputs.make(kind, registers, self.base)
+
+    def option(self, name):
+        """An option with its value."""
+        path = f"{self.base}.{name}"
+        if name == "tech":
+            path = self.base + ".toml"
+        elif name == "report" and not os.path.exists(path):
+            timed(self.words("synth"), 1, path)
+        elif name == "topology" and not os.path.exists(path):
+            topology_of(self.option("report")[1], path)
+        return ["--" + name, path]
+
+    def words(self, command):
+        return [self.program, command] + [word for name in COMMANDS[command] for word in self.option(name)]
+
+    def sta_words(self, period):
+        sta.make(self.netlist, self.gates, self.register, period, self.base)
+        return ["sta", "-no_splash", "-exit", self.base + ".tcl"]
+
+
+def read(path):
+    with open(path, encoding="ascii") as file:
+        return file.read()
+
+
+def row(name, kind, less, more):
+    """A line of the table: two times and their ratio."""
+    print(f"| {name} | {kind} | {less:.1f} ms | {more:.1f} ms | {more / less:.1f} |", flush=True)
+
+
+def beside(kind, pair, runs, out):
+    """What other programs take for the same netlists, and whether OpenSTA finds the same period at equal arrivals."""
+    if shutil.which("berkeley-abc"):
+        times = [timed(["berkeley-abc", "-q", f"read_bench {one.option('bench')[1]}"], runs, out) for one in pair]
+        row("`berkeley-abc` reads the netlist", kind, *times)
+    if shutil.which("sta"):
+        times = []
+        for one in pair:
+            timed(one.words("zero"), 1, out)
+            period = int(read(out).split()[1])
+            times.append(timed(one.sta_words(period), runs, out))
+            if not re.search(r"worst slack -?0\.00", read(out)):
+                raise Failed(f"OpenSTA finds another period than {period}: {read(out)[:200]}")
+        row("OpenSTA finds the worst setup path", kind, *times)
+
+
+def main():
+    words = argparse.ArgumentParser(description=__doc__, formatter_class=argparse.RawDescriptionHelpFormatter)
+    words.add_argument("--runs", type=int, default=5)
+    words.add_argument("--registers", type=int, help="the smaller size, for every kind")
+    words.add_argument("--program", default=TOP + "/crates/cts_program/out/cts_program")
+    words.add_argument("commands", nargs="*", metavar="COMMAND", help=", ".join(COMMANDS))
+    given = words.parse_args()
+    commands = given.commands or list(COMMANDS)
+    if not os.access(given.program, os.X_OK):
+        sys.exit("bench: no built program: ./cts build makes it")
+    print("| What | Input, registers | That many | Twice as many | Ratio |")
+    print("|---|---|---|---|---|")
+    with tempfile.TemporaryDirectory() as room:
+        out = room + "/out"
+        for kind, size in SIZES.items():
+            size = given.registers or size
+            pair = [Input(kind, registers, room, given.program) for registers in (size, 2 * size)]
+            for command in commands:
+                if command != "demo":
+                    times = [timed(one.words(command), given.runs, out) for one in pair]
+                    row(f"`{command}`", f"{kind}, {size}", *times)
+            if not given.commands:
+                beside(f"{kind}, {size}", pair, given.runs, out)
+        if "demo" in commands:
+            demos = [[given.program, "demo", "--registers", str(number), "--seed", "1"]
+                     for number in (DEMO_REGISTERS, 2 * DEMO_REGISTERS)]
+            row("`demo`", f"its own, {DEMO_REGISTERS}", *(timed(demo, given.runs, out) for demo in demos))
+
+
+try:
+    main()
+except Failed as failed:
+    sys.exit(f"bench: {failed}")
