@@ -1,5 +1,5 @@
 #!/usr/bin/env python3
-"""Follows each definition that the promises of `synth` and `embed` rest on, from file to file, and fails where
+"""Follows each definition that the promises below rest on, from file to file, and fails where
 docs/DEFINITIONS.md doesn't name one. definitions.py [CRATE FILE NAME]: from another definition."""
 import glob
 import os
@@ -7,7 +7,10 @@ import re
 import sys
 
 ROOT = os.path.dirname(os.path.dirname(os.path.abspath(__file__)))
-PROMISES = [("cts_program", "Headline", "IsSynthesisText"), ("cts_program", "TopologyFiles", "IsEmbeddedBy")]
+PROMISES = [
+    ("cts_program", "Headline", "IsSynthesisText"),
+    ("cts_program", "TopologyFiles", "IsEmbeddedBy"),
+]
 HEAD = re.compile(r"(?:abbrev|unfoldable)? ?pub (?:record |data )?([^\s({:]+)")
 NAME = re.compile(r"[A-Za-z_][\w'-]*(?:\.[A-Za-z_][\w'-]*)?")
 
