@@ -85,6 +85,12 @@ def place_lines(registers):
     return ["UCLA pl 1.0"] + lines + ["CLK 5000 5000 : N /FIXED"]
 
 
+def move_lines(registers):
+    """A thousand moves of registers to places of that square."""
+    chance = random.Random(f"moves/{registers}")
+    return [f"r{chance.randrange(registers)} {chance.randrange(10000)} {chance.randrange(10000)}" for _ in range(1000)]
+
+
 def write(path, lines):
     with open(path, "w", encoding="ascii") as file:
         file.write("\n".join(lines) + "\n")

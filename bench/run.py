@@ -28,6 +28,7 @@ COMMANDS = {
     "synth": ("bench", "tech", "pl"),
     "check": ("bench", "tech", "pl", "report"),
     "embed": ("bench", "tech", "pl", "topology"),
+    "moves": ("bench", "tech", "pl", "moves"),
     "demo": (),
 }
 DEMO_REGISTERS = 500
@@ -64,7 +65,7 @@ class Input:
     """An input of a kind and a size, with what its commands need besides, made when it is asked for first."""
 
     def __init__(self, kind, registers, room, program):
-        self.base, self.program = f"{room}/{kind}{registers}", program
+        self.base, self.program, self.registers = f"{room}/{kind}{registers}", program, registers
         self.netlist, self.gates, self.register = inputs.make(kind, registers, self.base)
 
     def option(self, name):
@@ -74,6 +75,8 @@ class Input:
             path = self.base + ".toml"
         elif name == "report" and not os.path.exists(path):
             timed(self.words("synth"), 1, path)
+        elif name == "moves":
+            inputs.write(path, inputs.move_lines(self.registers))
         elif name == "topology" and not os.path.exists(path):
             topology_of(self.option("report")[1], path)
         return ["--" + name, path]
