@@ -25,6 +25,7 @@ COMMANDS = {
     "zero": ("bench", "tech"),
     "period": ("bench", "tech"),
     "schedule": ("bench", "tech"),
+    "margin": ("bench", "tech", "period"),
     "synth": ("bench", "tech", "pl"),
     "check": ("bench", "tech", "pl", "report"),
     "embed": ("bench", "tech", "pl", "topology"),
@@ -71,6 +72,9 @@ class Input:
     def option(self, name):
         """An option with its value."""
         path = f"{self.base}.{name}"
+        if name == "period":
+            timed(self.words("period"), 1, path)
+            return ["--period", read(path).split()[1]]
         if name == "tech":
             path = self.base + ".toml"
         elif name == "report" and not os.path.exists(path):
