@@ -26,6 +26,7 @@ COMMANDS = {
     "period": ("bench", "tech"),
     "schedule": ("bench", "tech"),
     "margin": ("bench", "tech", "period"),
+    "corners": ("bench", "tables"),
     "synth": ("bench", "tech", "pl"),
     "check": ("bench", "tech", "pl", "report"),
     "embed": ("bench", "tech", "pl", "topology"),
@@ -72,6 +73,8 @@ class Input:
     def option(self, name):
         """An option with its value."""
         path = f"{self.base}.{name}"
+        if name == "tables":
+            return list(self.tables())
         if name == "period":
             timed(self.words("period"), 1, path)
             return ["--period", read(path).split()[1]]
@@ -84,6 +87,14 @@ class Input:
         elif name == "topology" and not os.path.exists(path):
             topology_of(self.option("report")[1], path)
         return ["--" + name, path]
+
+    def tables(self):
+        """Four delay tables, that of the input and three with other delays."""
+        for number, factor in enumerate((5, 6, 7, 9)):
+            gates = {kind: tuple(value * factor // 5 for value in row) for kind, row in self.gates.items()}
+            path = f"{self.base}.{number}.toml"
+            inputs.write(path, inputs.table_lines(gates, self.register))
+            yield path
 
     def words(self, command):
         return [self.program, command] + [word for name in COMMANDS[command] for word in self.option(name)]
