@@ -340,7 +340,8 @@ expect 'too little memory' 6 '' 'no memory' scarce zero --bench "$work/largest.b
 # A copy with no program answers all the same, by a run that isn't proved.
 mkdir "$work/copy"
 tar -C "$top" --exclude=out --exclude=.git -cf - . | tar -C "$work/copy" -xf -
-unproved='cts: no proved program is newer than the sources, so this run is unproved; ./cts build proves it'
+unproved='cts: no proved program is newer than the sources, so this run is unproved; it takes a minute'
+unproved+=$'\ncts: ./cts build proves and builds the program once, in about half an hour on 4 processors'
 copied() { (cd "$work" && copy/cts zero --bench here.bench "$@"); }
 expect 'an unproved run' 0 $'zero 5\nsetup a a 5' "$unproved" copied
 unproved_check() {
