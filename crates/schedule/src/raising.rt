@@ -25,18 +25,40 @@ pub(crate) struct Raising {
 }
 
 impl Raising {
-    /// Sweeps over the constraints, forwards and backwards by turns, until a sweep changes nothing.
-    /// After a sweep the registers are raised along their parents, from the top of each way up them
-    /// down, so that a long way of constraints takes one sweep in whatever order they stand. It
-    /// takes no memory.
+    /// Raises the registers along their parents and sweeps over the constraints, forwards and
+    /// backwards by turns, until a sweep changes nothing. At first the constraint that gains most
+    /// is a register's parent, then the one that raised it last. Registers are raised from the top
+    /// of each way up the parents down, so a long way of constraints is gone in whatever order they
+    /// stand. It takes no memory.
     pub(crate) fn settle(&mut self, constraints: &[Constraint], gains: Gains)
         requires ready { CanRaise constraints.now gains self.old }
         ensures { IsLeastAt constraints.now gains self.old.at.items self.new.at.items }
     {
+        self.choose_parents(constraints, gains);
+        self.follow_parents(constraints, gains);
         let mut backwards = false;
         while self.sweep(constraints, gains, backwards) {
             self.follow_parents(constraints, gains);
             backwards = !backwards;
+        }
+    }
+
+    // Makes the constraint that gains most of those that lead to a register its parent.
+    fn choose_parents(&mut self, constraints: &[Constraint], gains: Gains)
+        requires ready { CanRaise constraints.now gains self.old }
+        ensures same { self.new.at.items ≡ self.old.at.items }
+        ensures room { AreAsLong self.new.at.items self.new.parents.items self.new.links.items }
+    {
+        for place in 0..constraints.len() {
+            let constraint = &constraints[place];
+            let head = constraint.head as usize;
+            let more = match constraints.get(self.parents[head] as usize) {
+                Some(parent) => gains.gain(parent) < gains.gain(constraint),
+                None => true,
+            };
+            if more {
+                self.parents[head] = place as u32;
+            }
         }
     }
 
