@@ -22,6 +22,12 @@ pub record IsSmallPeriod (period : Fraction) : Type 0 where
   pub small : period.num <ℤ pos (10 ^ 18)
   pub low : period.den ≤ℤ pos 4097
 
+-- a period at which a margin is asked for: from 0 on, its numerator below 10^15 and its denominator at most 10,000
+pub record IsMarginPeriod (period : Fraction) : Type 0 where
+  pub from_zero : pos 0 ≤ℤ period.num
+  pub short : period.num <ℤ pos (10 ^ 15)
+  pub fine : period.den ≤ℤ pos (10 ^ 4)
+
 -- the arrivals meet the period over every path and are from 0 on, and any others that do and are,
 -- at a scale that many times as fine, are at least as late
 pub record AreLeastArrivals (circuit : Circuit) (tech : Tech) (period : ℤ) (scale : ℕ)

@@ -14,7 +14,8 @@ use Rattle.critical_cycle.specs.declared.measure.Measure.{Measure}
 use Rattle.critical_cycle.specs.Measures.{SatisfiesRatio, ShowsRatio}
 use Rattle.critical_cycle.specs.RatioSizes.{IsSmallRatio}
 use Rattle.safety_margin.specs.Margins.{ShowsMargin, Spares, SparesNoMore}
-use Rattle.safety_margin.specs.RatioMargins.{IsMarginAt, IsMarginPeriod, IsMeasureAt}
+use Rattle.cts_model.specs.Schedules.{IsMarginPeriod}
+use Rattle.safety_margin.specs.RatioMargins.{IsMarginAt, IsMeasureAt}
 use Rattle.safety_margin.specs.Sharing.{CanSpare, IsSmallMargin}
 use Rattle.safety_margin.proofs.SparedCycles.{cycle_among_spares, no_more_margin, no_more_spared, ratio_spares}
 use borrow.Author.Differences.{up, down}

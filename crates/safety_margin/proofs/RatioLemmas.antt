@@ -11,7 +11,8 @@ use Rattle.cts_model.specs.Cycles.{IsCycle, total_count, total_weight}
 use Rattle.critical_cycle.specs.Measures.{CanTry, ForbidsRatios, SatisfiesRatio}
 use Rattle.critical_cycle.specs.RatioSizes.{IsSmallRatio}
 use Rattle.safety_margin.specs.Margins.{HasNoCycle, Spares}
-use Rattle.safety_margin.specs.RatioMargins.{IsBelowAll, IsMarginPeriod, IsMeasureAt}
+use Rattle.cts_model.specs.Schedules.{IsMarginPeriod}
+use Rattle.safety_margin.specs.RatioMargins.{IsBelowAll, IsMeasureAt}
 use Rattle.safety_margin.proofs.SparedCycles.{cycle_among_spares}
 use borrow.Author.Differences.{up, down}
 

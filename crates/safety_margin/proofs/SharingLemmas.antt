@@ -10,12 +10,11 @@ use Rattle.cts_base.specs.declared.fraction.Fraction.{Fraction}
 use Rattle.cts_model.specs.declared.constraint.Constraint.{Constraint}
 use Rattle.cts_model.specs.Constraints.{count_of}
 use Rattle.cts_model.specs.Points.{IsBelow}
-use Rattle.cts_model.specs.Schedules.{arrival_of}
+use Rattle.cts_model.specs.Schedules.{IsMarginPeriod, arrival_of}
 use Rattle.cts_model.proofs.ScaleLemmas.{size_same}
 use Rattle.schedule.specs.declared.gain.Gains.{Gains}
 use Rattle.schedule.specs.Gains.{AdmitsGains, AreLeastArrivalsBy, SatisfiesGains, gain_of}
 use Rattle.safety_margin.specs.Margins.{IsOver, Spares}
-use Rattle.safety_margin.specs.RatioMargins.{IsMarginPeriod}
 use Rattle.safety_margin.specs.Sharing.{AreGainsAt, CanSpare, IsShare, IsSmallMargin}
 use Rattle.safety_margin.specs.SparingSchedules.{AreLeastSparing, IsLeastMultiple}
 use Rattle.safety_margin.proofs.MarginLemmas.{den_is, den_some}

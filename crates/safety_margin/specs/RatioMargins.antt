@@ -1,14 +1,8 @@
 -- How a margin is found: the greatest ratio of a cycle, where each constraint counts once and
 -- weighs what it asks for at the period, is the least margin of the cycles, negated.
-use Rattle.std.specs.Prelude.{◌≡◌, ◌≤◌, ◌^◌, pos, neg_ℤ, ◌+ℤ◌, ◌*ℤ◌, ◌≤ℤ◌, ◌<ℤ◌, true, nat_abs}
+use Rattle.std.specs.Prelude.{◌≡◌, ◌≤◌, ◌^◌, pos, neg_ℤ, ◌+ℤ◌, ◌*ℤ◌, ◌≤ℤ◌, true, nat_abs}
 use Rattle.cts_base.specs.declared.fraction.Fraction.{Fraction}
 use Rattle.critical_cycle.specs.declared.measure.Measure.{Measure}
-
--- a period from 0 on, its numerator below 10^15 and its denominator at most 10,000
-pub record IsMarginPeriod (period : Fraction) : Type 0 where
-  pub from_zero : pos 0 ≤ℤ period.num
-  pub short : period.num <ℤ pos (10 ^ 15)
-  pub fine : period.den ≤ℤ pos (10 ^ 4)
 
 -- constraints weigh what they ask for at the period, and each counts
 pub record IsMeasureAt (period : Fraction) (measure : Measure) : Type 0 where

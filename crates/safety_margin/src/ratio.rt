@@ -1,4 +1,5 @@
-ghost use Rattle.safety_margin.specs.RatioMargins.{IsBelowAll, IsMarginAt, IsMarginPeriod, IsMeasureAt};
+ghost use Rattle.cts_model.specs.Schedules.{IsMarginPeriod};
+ghost use Rattle.safety_margin.specs.RatioMargins.{IsBelowAll, IsMarginAt, IsMeasureAt};
 ghost use Rattle.critical_cycle.specs.RatioSizes.{IsSmallRatio};
 
 use crate::sparing::product;
