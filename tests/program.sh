@@ -40,6 +40,10 @@ expect 'the least period of s27' 0 $'period 13\nzero 15\ncycle 1\nsetup G6 G6 13
     "$top/cts" period --bench "$s27" --tech "$table"
 scheduled=$'period 13\nzero 15\ncycle 1\nsetup G6 G6 13\nregisters 3\nG5 2 0 2\nG6 0 0 3\nG7 0 6 2'
 expect 'the least schedule of s27' 0 "$scheduled" '' "$top/cts" schedule --tech "$table" --bench "$s27"
+spared=$'period 14\nmargin 1\ncycle 1\nsetup G6 G6 13\nregisters 3\nG5 2\nG6 0\nG7 0'
+expect 'what s27 can spare' 0 "$spared" '' "$top/cts" margin --bench "$s27" --tech "$table" --period 14
+expect 'what no path asks' 0 $'period 7/3\nmargin none\nregisters 1\na 0' '' \
+    "$top/cts" margin --period 7/3 --bench "$top/examples/floor.bench" --tech "$table"
 places=$top/examples/s27.pl
 # Which path gives the weight and which pair shows a merge is free: here it is these.
 tree='cts 2
@@ -270,6 +274,27 @@ expect 'a chain of registers' 0 "$(printf '%s\n' '8190 4095 8189 4095/2 pair r0 
 "$top/cts" synth --bench "$s27" --tech "$table" --pl "$places" >"$work/s27.cts"
 expect 'a report as a topology' 3 '' 'refused topology 1 line 1' embed "$s27" "$table" "$places" "$work/s27.cts"
 expect 'no topology' 4 '' 'read fault topology' embed "$s27" "$table" "$places" "$work/none"
+
+# Moves: the wire for the placement, and after each move.
+moves() { "$top/cts" moves --bench "$1" --tech "$2" --pl "$3" --moves "$4"; }
+printf 'G7 8 0\nG7 10 0 # back\n' >"$work/s27.moves"
+expect 'moves of s27' 0 $'wire 23\nwire 20\nwire 23' '' moves "$s27" "$table" "$places" "$work/s27.moves"
+printf 'INPUT(x)\nA = DFF(x)\nB = DFF(x)\n' >"$work/two.bench"
+printf 'A 0 0\nB 2 1\nCLK 0 0\n' >"$work/two.pl"
+# many NUMBER: so many moves, each one length unit further from the source than the one before.
+many() { seq 1 "$1" | awk '{ print "B " $1 " 0" }'; }
+many 10000 >"$work/most.moves"
+many 10001 >"$work/more.moves"
+further() { echo 'wire 9/2'; seq 1 10000 | awk '{ print "wire " ($1 % 2 ? 3 * $1 "/2" : 3 * $1 / 2) }'; }
+expect 'the most moves' 0 "$(further)" '' moves "$work/two.bench" "$work/row.toml" "$work/two.pl" "$work/most.moves"
+expect 'a move more' 3 '' 'refused moves 4 line 10001' \
+    moves "$work/two.bench" "$work/row.toml" "$work/two.pl" "$work/more.moves"
+expect 'no file of moves' 4 '' 'read fault moves' moves "$s27" "$table" "$places" "$work/none"
+no_period() { moves "$work/itself.bench" "$work/itself.toml" "$work/two.pl" /dev/null; }
+expect 'moves without a period' 1 $'never\ncycle 1\nhold A A 1' '' no_period
+full_moves() { moves "$s27" "$table" "$places" "$work/s27.moves" >/dev/full; }
+expect 'moves on a full output' 5 '' 'write fault' full_moves
+
 { cat "$work/row.pl"; head -c 16777216 /dev/zero | tr '\0' '#'; } >"$work/long.pl"
 expect 'a placement that is too long' 3 '' 'refused pl long' \
     "$top/cts" synth --bench "$work/row.bench" --tech "$work/row.toml" --pl "$work/long.pl"
@@ -285,6 +310,7 @@ expect 'a table of one byte more' 3 '' 'refused tech long' "$top/cts" zero --ben
 usage='usage: cts zero --bench F [--tech F] | cts period --bench F --tech F | cts schedule --bench F --tech F'
 usage+=' | cts synth --bench F --tech F --pl F | cts check --bench F --tech F --pl F --report F'
 usage+=' | cts demo --registers N --seed S | cts embed --bench F --tech F --pl F --topology F'
+usage+=' | cts margin --bench F --tech F --period P | cts moves --bench F --tech F --pl F --moves F'
 expect 'no words' 2 '' "$usage" "$top/cts"
 expect 'the name last' 2 '' "$usage" "$top/cts" --tech F --bench F zero
 expect 'an option twice' 2 '' "$usage" "$top/cts" zero --bench F --tech F --tech F
@@ -294,7 +320,11 @@ expect 'a period without a table' 2 '' "$usage" "$top/cts" period --bench F
 expect 'one word for both' 2 '' "$usage" "$top/cts" zero --bench=F
 expect 'an end of options' 2 '' "$usage" "$top/cts" zero --bench F --
 expect 'a check without a report' 2 '' "$usage" "$top/cts" check --bench F --tech F --pl F
+expect 'no moves' 2 '' "$usage" "$top/cts" moves --bench F --tech F --pl F
 expect 'an embedding without a topology' 2 '' "$usage" "$top/cts" embed --bench F --tech F --pl F
+expect 'a margin without a period' 2 '' "$usage" "$top/cts" margin --bench F --tech F
+expect 'not in lowest terms' 2 '' "$usage" "$top/cts" margin --bench F --tech F --period 6/4
+expect 'too long a period' 2 '' "$usage" "$top/cts" margin --bench F --tech F --period 1000000000000000
 expect 'too few registers' 2 '' "$usage" "$top/cts" demo --registers 1 --seed 0
 expect 'too many registers' 2 '' "$usage" "$top/cts" demo --registers 1001 --seed 0
 expect 'too large a seed' 2 '' "$usage" "$top/cts" demo --registers 2 --seed 1000
@@ -332,6 +362,10 @@ apart() {
     "$top/cts" check --bench "$work/more_pairs.bench" "${files[@]}" --report "$work/apart.cts"
 }
 expect 'a report where more pairs are joined' 7 '' 'not shown 5 schedule misses r0' apart
+expect 'moves where more pairs are joined' 3 '' 'refused pairs' \
+    moves "$work/more_pairs.bench" "$work/joined.toml" "$work/row.pl" /dev/null
+expect 'moves are judged before the pairs' 3 '' 'refused moves 2 line 1' \
+    moves "$work/more_pairs.bench" "$work/joined.toml" "$work/row.pl" "$work/s27.moves"
 
 # Want of memory: the largest file doesn't fit.
 scarce() { (ulimit -v 16384 && "$top/crates/cts_program/out/cts_program" "$@"); }

@@ -1,5 +1,6 @@
 mod PlainWordTests
 pub mod NumberWords
+pub mod PeriodWords
 mod GivenOptions
 pub mod PlainCommands
 mod ParserWalk

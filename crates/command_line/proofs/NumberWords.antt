@@ -8,10 +8,11 @@ use Rattle.std.specs.Str.Parse.{ParsesUnsigned}
 use Rattle.std.proofs.lemmas.Bool.{leb-true, lt-leb, ne_eqb}
 use Rattle.std.proofs.lemmas.Str.Parse.{IsNumeralModel, numerals_by_value, tells_all_ascii_digits, parse_digits, parse_gives, digits_value_short, not_in_digits}
 use Rattle.command_line.specs.declared.table.ValueKind.{ValueKind}
-use Rattle.command_line.specs.declared.table.ValueKind.TheVariants.{File, Registers, Seed}
+use Rattle.command_line.specs.declared.table.ValueKind.TheVariants.{File, Registers, Seed, Period}
 use Rattle.command_line.specs.CommandTable.{Word}
 use Rattle.command_line.specs.Commands.{number_of, is_number_within, is_value, is_file_name}
 use Rattle.command_line.proofs.GivenOptions.{both}
+use Rattle.command_line.proofs.PeriodWords.{period_first}
 
 -- bytes that are all digits, tested one by one
 all_digits : (word : Word) → list_all is_ascii_digit word ≡ all_ascii_digits word
@@ -78,3 +79,4 @@ pub value_first : (kind : ValueKind) (value : Word) → is_value kind value ≡ 
 value_first File value passes = passes
 value_first Registers value passes = number_first 2 1000 value passes
 value_first Seed value passes = number_first 0 999 value passes
+value_first Period value passes = period_first value passes

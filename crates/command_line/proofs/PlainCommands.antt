@@ -11,7 +11,7 @@ use Rattle.std.proofs.lemmas.Map.Keys.{IsDistinct-IsPermutation}
 use Rattle.command_line.specs.declared.command.Command.{Command}
 use Rattle.command_line.specs.declared.command.Command.TheVariants as command
 use Rattle.command_line.specs.declared.table.Form.{Form}
-use Rattle.command_line.specs.declared.table.Form.TheVariants.{Zero, Period, Schedule, Synth, Check, Demo, Embed}
+use Rattle.command_line.specs.declared.table.Form.TheVariants.{Zero, Period, Schedule, Synth, Check, Demo, Embed, Moves, Margin}
 use Rattle.command_line.specs.declared.table.Choice.{Choice}
 use Rattle.command_line.specs.CommandTable.{Word, word_of, is_required, form_of, form_name, form_named, choices_of}
 use Rattle.command_line.specs.Commands.{Given, IsTaken, name_of, values_of, options_of, listed, option_words, IsCommand, IsSame}
@@ -40,9 +40,12 @@ same_form command other same = one_form (form_of command) (form_of other) same
 options_differ : (form : Form) → IsDistinct bytes_eq (map word_of (choices_of form))
 unfolding IsDistinct
 options_differ Synth = ((refl, (refl, tt)), ((refl, tt), (tt, tt)))
+options_differ Margin = ((refl, (refl, tt)), ((refl, tt), (tt, tt)))
 options_differ Check =
     ((refl, (refl, (refl, tt))), ((refl, (refl, tt)), ((refl, tt), (tt, tt))))
 options_differ Embed =
+    ((refl, (refl, (refl, tt))), ((refl, (refl, tt)), ((refl, tt), (tt, tt))))
+options_differ Moves =
     ((refl, (refl, (refl, tt))), ((refl, (refl, tt)), ((refl, tt), (tt, tt))))
 options_differ form = ((refl, tt), (tt, tt))
 
@@ -66,6 +69,10 @@ fits_row (command.Check bench tech pl report) =
     record { once = options_differ Check; required = refl; ordered = refl }
 fits_row (command.Embed bench tech pl topology) =
     record { once = options_differ Embed; required = refl; ordered = refl }
+fits_row (command.Margin bench tech period) =
+    record { once = options_differ Margin; required = refl; ordered = refl }
+fits_row (command.Moves bench tech pl moves) =
+    record { once = options_differ Moves; required = refl; ordered = refl }
 fits_row command = record { once = ((refl, tt), (tt, tt)); required = refl; ordered = refl }
 
 -- ---- a command's words pass
@@ -190,6 +197,16 @@ module _ (at : ℕ × ℕ) where
   }
   made Embed (Some bench ∷ Some tech ∷ Some pl ∷ Some topology ∷ []) has = record {
     command = command.Embed (borrowed bench) (borrowed tech) (borrowed pl) (borrowed topology);
+    has_form = refl;
+    has_values = refl;
+  }
+  made Margin (Some bench ∷ Some tech ∷ Some period ∷ []) has = record {
+    command = command.Margin (borrowed bench) (borrowed tech) (borrowed period);
+    has_form = refl;
+    has_values = refl;
+  }
+  made Moves (Some bench ∷ Some tech ∷ Some pl ∷ Some moves ∷ []) has = record {
+    command = command.Moves (borrowed bench) (borrowed tech) (borrowed pl) (borrowed moves);
     has_form = refl;
     has_values = refl;
   }

@@ -5,7 +5,7 @@ use Rattle.std.specs.Str.{bytes_eq}
 use Rattle.command_line.specs.declared.command.Command.{Command}
 use Rattle.command_line.specs.declared.command.Command.TheVariants as command
 use Rattle.command_line.specs.declared.table.Form.{Form}
-use Rattle.command_line.specs.declared.table.Form.TheVariants.{Zero, Period, Schedule, Synth, Check, Demo, Embed}
+use Rattle.command_line.specs.declared.table.Form.TheVariants.{Zero, Period, Schedule, Synth, Check, Demo, Embed, Moves, Margin}
 use Rattle.command_line.specs.declared.table.Choice.{Choice}
 use Rattle.command_line.specs.declared.table.Choice.TheVariants as option
 use Rattle.command_line.specs.declared.table.ValueKind.{ValueKind}
@@ -17,7 +17,7 @@ Word = List ℕ
 
 -- all commands
 abbrev pub forms : List Form
-forms = Zero ∷ Period ∷ Schedule ∷ Synth ∷ Check ∷ Demo ∷ Embed ∷ []
+forms = Zero ∷ Period ∷ Schedule ∷ Synth ∷ Check ∷ Demo ∷ Embed ∷ Margin ∷ Moves ∷ []
 
 -- the name of a command, and its options
 abbrev pub row_of : Form → Word × List Choice
@@ -30,6 +30,9 @@ row_of Check =
 row_of Demo = (codes "demo", option.Registers ∷ option.Seed ∷ [])
 row_of Embed =
     (codes "embed", option.Bench ∷ option.Tech ∷ option.Placement ∷ option.Topology ∷ [])
+row_of Margin = (codes "margin", option.Bench ∷ option.Tech ∷ option.Period ∷ [])
+row_of Moves =
+    (codes "moves", option.Bench ∷ option.Tech ∷ option.Placement ∷ option.MovesFile ∷ [])
 
 -- the word of an option
 abbrev pub word_of : Choice → Word
@@ -39,13 +42,16 @@ word_of option.TechIfWanted = codes "--tech"
 word_of option.Placement = codes "--pl"
 word_of option.Report = codes "--report"
 word_of option.Topology = codes "--topology"
+word_of option.MovesFile = codes "--moves"
 word_of option.Registers = codes "--registers"
 word_of option.Seed = codes "--seed"
+word_of option.Period = codes "--period"
 
 -- what the value of an option is
 abbrev pub kind_of : Choice → ValueKind
 kind_of option.Registers = kind.Registers
 kind_of option.Seed = kind.Seed
+kind_of option.Period = kind.Period
 kind_of _ = kind.File
 
 -- whether an option has to stand
@@ -62,6 +68,8 @@ form_of (command.Synth bench tech pl) = Synth
 form_of (command.Check bench tech pl report) = Check
 form_of (command.Demo registers seed) = Demo
 form_of (command.Embed bench tech pl topology) = Embed
+form_of (command.Margin bench tech period) = Margin
+form_of (command.Moves bench tech pl moves) = Moves
 
 -- the name of a command
 abbrev pub form_name : Form → Word
@@ -80,6 +88,7 @@ abbrev pub letter_of : ValueKind → Word
 letter_of kind.File = codes " F"
 letter_of kind.Registers = codes " N"
 letter_of kind.Seed = codes " S"
+letter_of kind.Period = codes " P"
 
 -- an option with its value in the usage line, in brackets where it may be left out
 abbrev pub option_usage : Choice → Word

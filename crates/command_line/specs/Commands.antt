@@ -1,14 +1,15 @@
 -- The words of a command line, and the command that they mean.
-use Rattle.std.specs.Prelude.{◌≡◌, ◌==◌, ◌&&◌, ℕ, nat_le, Bool, false, not, IsTrue, List, [], ◌∷◌, ◌++◌, length, Option, Some, option_map, option_to_list}
-use Rattle.std.specs.List.{All, flat_map, list_any}
+use Rattle.std.specs.Prelude.{◌≡◌, ◌==◌, ◌&&◌, ◌^◌, ℕ, pos, nat_le, Bool, false, not, IsTrue, List, [], ◌∷◌, ◌++◌, length, Option, Some, option_map, option_to_list}
+use Rattle.std.specs.List.{All, flat_map, list_any, range_with_len}
 use Rattle.std.specs.List.Sorted.{IsPermutation}
 use Rattle.std.specs.Str.{all_ascii_digits, bytes_eq}
 use Rattle.std.specs.Str.Parse.{digits_value}
+use Rattle.cts_base.specs.Fractions.{quotient_text}
 use Rattle.command_line.specs.declared.command.Command.{Command}
-use Rattle.command_line.specs.declared.command.Command.TheVariants.{Zero, Period, Schedule, Synth, Check, Demo, Embed}
+use Rattle.command_line.specs.declared.command.Command.TheVariants.{Zero, Period, Schedule, Synth, Check, Demo, Embed, Moves, Margin}
 use Rattle.command_line.specs.declared.table.Choice.{Choice}
 use Rattle.command_line.specs.declared.table.ValueKind.{ValueKind}
-use Rattle.command_line.specs.declared.table.ValueKind.TheVariants.{File, Registers, Seed}
+use Rattle.command_line.specs.declared.table.ValueKind.TheVariants as kind
 use Rattle.command_line.specs.CommandTable.{Word, word_of, kind_of, form_of, form_name, choices_of}
 
 -- an option and its value
@@ -26,6 +27,9 @@ values_of (Check bench tech pl report) =
 values_of (Demo registers seed) = Some registers.now ∷ Some seed.now ∷ []
 values_of (Embed bench tech pl topology) =
     Some bench.now ∷ Some tech.now ∷ Some pl.now ∷ Some topology.now ∷ []
+values_of (Margin bench tech period) = Some bench.now ∷ Some tech.now ∷ Some period.now ∷ []
+values_of (Moves bench tech pl moves) =
+    Some bench.now ∷ Some tech.now ∷ Some pl.now ∷ Some moves.now ∷ []
 
 -- an option with its value, if it has one
 abbrev pub listed_one : Choice → Option Word → List Given
@@ -59,11 +63,24 @@ is_number_within least greatest word =
     nat_le 1 (length word) && (nat_le (length word) 4 && (all_ascii_digits word
     && (nat_le least (number_of word) && nat_le (number_of word) greatest)))
 
--- what a value may be: a file's name, a number of registers or a seed
+-- the spelling in lowest terms of some number below the one bound over some number from 1 up to the
+-- other
+unfoldable pub spells_quotient : (above below : ℕ) → Word → Bool
+spells_quotient above below word = list_any (λ num. list_any (λ den.
+    bytes_eq word (quotient_text (pos num) (pos den))) (range_with_len 1 below))
+    (range_with_len 0 above)
+
+-- a period that `margin` takes: a fraction from 0 on, its numerator below 10^15 and its denominator
+-- at most 10,000
+unfoldable pub is_period : Word → Bool
+is_period word = spells_quotient (10 ^ 15) (10 ^ 4) word
+
+-- what a value may be: a file's name, a number of registers, a seed or a period
 abbrev pub is_value : ValueKind → Word → Bool
-is_value File value = is_file_name value
-is_value Registers value = is_number_within 2 1000 value
-is_value Seed value = is_number_within 0 999 value
+is_value kind.File value = is_file_name value
+is_value kind.Registers value = is_number_within 2 1000 value
+is_value kind.Seed value = is_number_within 0 999 value
+is_value kind.Period value = is_period value
 
 -- the word is one of these options, which takes this value
 abbrev pub is_taken : List Choice → (option value : Word) → Bool

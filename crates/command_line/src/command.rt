@@ -51,6 +51,20 @@ pub enum Command<'a> {
         pl: &'a str,
         topology: &'a str,
     },
+    /// What every setup and hold inequality of a netlist with a delay table has to spare at this
+    /// period, which is given as a fraction.
+    Margin {
+        bench: &'a str,
+        tech: &'a str,
+        period: &'a str,
+    },
+    /// How long that clock tree is, and how long after each of some moves of registers.
+    Moves {
+        bench: &'a str,
+        tech: &'a str,
+        pl: &'a str,
+        moves: &'a str,
+    },
 }
 
 /// Why words aren't read as a command.

@@ -60,6 +60,21 @@ fn command_of<'a>(form: Form, matches: &ArgMatches<'a>) -> Command<'a>
                 topology,
             }
         }
+        (Form::Margin, [Some(bench), Some(tech), Some(period), _]) => {
+            Command::Margin {
+                bench,
+                tech,
+                period,
+            }
+        }
+        (Form::Moves, [Some(bench), Some(tech), Some(pl), Some(moves)]) => {
+            Command::Moves {
+                bench,
+                tech,
+                pl,
+                moves,
+            }
+        }
         _ => unreachable!(),
     }
 }

@@ -1,14 +1,16 @@
 //! Whether words are plain: a command's name, and after it options of that command with values.
 
-ghost use Rattle.std.specs.Prelude.{◌≡◌, ◌||◌, not, map, string_bytes, IfSome, IsNone};
+ghost use Rattle.std.specs.Prelude.{◌≡◌, ◌↔◌, ◌||◌, not, map, string_bytes, IsTrue, IfSome, IsNone};
 ghost use Rattle.std.specs.Char.{is_ascii_digit};
 ghost use Rattle.std.specs.List.{list_all};
+ghost use Rattle.cts_model.specs.Schedules.{IsMarginPeriod};
 ghost use Rattle.command_line.specs.declared.command.Command.{Command};
 ghost use Rattle.command_line.specs.CommandTable.{is_required, word_of};
-ghost use Rattle.command_line.specs.Commands.{is_file_name, is_number_within, is_value, is_taken, IsCommand};
+ghost use Rattle.command_line.specs.Commands.{is_file_name, is_number_within, is_period, is_value, is_taken, IsCommand};
 ghost use Rattle.command_line.specs.PlainWords.{IsPlain, has_option, is_option, are_options, has_required, are_plain};
 
 use crate::table::{Choice, Form, ValueKind};
+use cts_base::{Fraction, read_fraction};
 
 /// The form of the command that plain words mean.
 pub fn plain_form(words: &[String]) -> Option<Form>
@@ -84,6 +86,7 @@ fn is_value(kind: ValueKind, value: &str) -> bool
         ValueKind::File => is_file_name(value),
         ValueKind::Registers => is_number_within(2, 1000, value),
         ValueKind::Seed => is_number_within(0, 999, value),
+        ValueKind::Period => is_period(value),
     }
 }
 
@@ -105,6 +108,22 @@ fn are_digits(word: &str) -> bool
     ensures { result ≡ list_all is_ascii_digit word.now }
 {
     word.bytes().all(|byte| byte.is_ascii_digit())
+}
+
+// A fraction in lowest terms that is such a period.
+fn is_period(word: &str) -> bool
+    ensures { result ≡ is_period word.now }
+{
+    match read_fraction(word.as_bytes()) {
+        Ok(period) => is_margin_period(period),
+        Err(_) => false,
+    }
+}
+
+fn is_margin_period(period: Fraction) -> bool
+    ensures { IsTrue result ↔ IsMarginPeriod period }
+{
+    0 <= period.num() && period.num() < 1_000_000_000_000_000 && period.den() <= 10_000
 }
 
 fn is_file_name(word: &str) -> bool

@@ -5,8 +5,8 @@ ghost use Rattle.std.specs.Str.{bytes_eq};
 ghost use Rattle.command_line.specs.declared.table.Form.{Form};
 ghost use Rattle.command_line.specs.CommandTable.{forms, form_name, form_named, choices_of, word_of, kind_of, is_required};
 
-use Choice::{Bench, Placement, Registers, Report, Seed, Tech, TechIfWanted, Topology};
-use Form::{Check, Demo, Embed, Period, Schedule, Synth, Zero};
+use Choice::{Bench, MovesFile, Placement, Registers, Report, Seed, Tech, TechIfWanted, Topology};
+use Form::{Check, Demo, Embed, Margin, Moves, Period, Schedule, Synth, Zero};
 
 /// A command without the values of its options.
 #[derive(Clone, Copy, Debug, Drop, PartialEq)]
@@ -18,6 +18,8 @@ pub enum Form {
     Check,
     Demo,
     Embed,
+    Margin,
+    Moves,
 }
 
 /// An option of a command, which stands at most once after its name.
@@ -30,8 +32,10 @@ pub enum Choice {
     Placement,
     Report,
     Topology,
+    MovesFile,
     Registers,
     Seed,
+    Period,
 }
 
 /// What the value of an option is.
@@ -40,9 +44,12 @@ pub enum ValueKind {
     File,
     Registers,
     Seed,
+    Period,
 }
 
-const FORMS: [Form; 7] = [Zero, Period, Schedule, Synth, Check, Demo, Embed];
+const FORMS: [Form; 9] = [
+    Zero, Period, Schedule, Synth, Check, Demo, Embed, Margin, Moves,
+];
 
 impl Form {
     /// The name of the command and its options, in the order of the usage line.
@@ -58,6 +65,8 @@ impl Form {
             Check => ("check", &[Bench, Tech, Placement, Report]),
             Demo => ("demo", &[Registers, Seed]),
             Embed => ("embed", &[Bench, Tech, Placement, Topology]),
+            Margin => ("margin", &[Bench, Tech, Choice::Period]),
+            Moves => ("moves", &[Bench, Tech, Placement, MovesFile]),
         }
     }
 
@@ -89,8 +98,10 @@ impl Choice {
             Placement => "--pl",
             Report => "--report",
             Topology => "--topology",
+            MovesFile => "--moves",
             Registers => "--registers",
             Seed => "--seed",
+            Choice::Period => "--period",
         }
     }
 
@@ -100,6 +111,7 @@ impl Choice {
         match self {
             Registers => ValueKind::Registers,
             Seed => ValueKind::Seed,
+            Choice::Period => ValueKind::Period,
             _ => ValueKind::File,
         }
     }

@@ -202,6 +202,22 @@ denoted_answer command denoted Says is_answer result few says =
       );
     })
 
+-- what holds of the circuit beside a status holds with that status
+pub with_status : {contents : List (List ℕ)} {Holds : Circuit → Tech → Type 0} {status : ℕ}
+    → TellWith contents (λ circuit tech. (status ≡ 0) × Holds circuit tech)
+    → (status ≡ 0) × TellWith contents Holds
+with_status tell = (
+  tell.holds.0,
+  record {
+    accepted = tell.accepted;
+    circuit = tell.circuit;
+    tech = tell.tech;
+    tell = tell.tell;
+    few = tell.few;
+    holds = tell.holds.1;
+  },
+)
+
 -- so it is with the command `zero`, all of whose answers have one status
 pub zero_answer : {holds : List ℕ → Option (List ℕ)} (bench : Bor (List ℕ))
     (file : Option (Bor (List ℕ))) {circuit : Circuit} {tech : Tech}

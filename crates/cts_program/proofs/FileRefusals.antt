@@ -10,7 +10,7 @@ use Rattle.place_reader.specs.declared.fault.PlaceFault.TheVariants as place
 use Rattle.cts_engine.specs.Accepted.{HasFault, HasTableFault}
 use Rattle.cts_engine.proofs.OneProblem.{table_fine, placement_fine}
 use Rattle.command_line.specs.declared.command.Command.{Command}
-use Rattle.command_line.specs.declared.command.Command.TheVariants.{Check, Demo, Embed}
+use Rattle.command_line.specs.declared.command.Command.TheVariants.{Check, Demo, Embed, Moves}
 use Rattle.failure_lines.specs.declared.failure.Failure.{Failure}
 use Rattle.failure_lines.specs.declared.failure.Failure.TheVariants as failures
 use Rattle.failure_lines.specs.declared.file_kind.FileKind.{FileKind}
@@ -219,6 +219,8 @@ file_refusal command {file} {files} reads contents failure refused =
     of_texts (Check bench tech pl report) reads =
         inl (subst (λ texts. RefusesText texts failure) (sym all) first)
     of_texts (Embed bench tech pl topology) reads =
+        inl (subst (λ texts. RefusesText texts failure) (sym all) first)
+    of_texts (Moves bench tech pl moves) reads =
         inl (subst (λ texts. RefusesText texts failure) (sym all) first)
     of_texts (Demo registers seed) reads = cc reads
     of_texts command reads = inl first

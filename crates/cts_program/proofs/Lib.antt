@@ -15,9 +15,13 @@ mod FileStops
 mod DenotedLemmas
 mod PlacementLemmas
 mod LastFiles
+mod LastContents
 mod CheckLemmas
 mod EmbedLemmas
+mod MoveLemmas
+mod WireTexts
 mod ReasonLemmas
+mod ArrivalLemmas
 mod OneAnswer
 mod TextStatuses
 mod ShownVerdicts

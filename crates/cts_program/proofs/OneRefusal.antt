@@ -1,15 +1,14 @@
 -- Contents of files aren't both answered and refused, and have refusals of one status. Where they
 -- are accepted, all that is refused is a report.
-use Rattle.std.proofs.Common.{ℕ, ◌≡◌, ◌≢◌, ◌≤◌, ◌⊎◌, inl, inr, List, [], ◌∷◌, length, take, Some, None, refl, ap, sym, ◌∙◌, subst, arith}
-use Rattle.std.proofs.lemmas.List.{append_cancel_left, length-take, length-append}
+use Rattle.std.proofs.Common.{ℕ, ◌≡◌, ◌≢◌, ◌≤◌, ◌⊎◌, inl, inr, List, length, take, Some, None, refl, ap, sym, ◌∙◌, subst, arith}
+use Rattle.std.proofs.lemmas.List.{length-take}
 use Rattle.cts_model.specs.declared.problem.Problem.{Problem}
 use Rattle.cts_model.specs.PairLists.{JoinsMoreThan}
 use Rattle.cert_check.specs.Verdicts.{IsVerdict}
 use Rattle.cert_check.specs.declared.verdict.Verdict.TheVariants.{Not}
 use Rattle.report_text.specs.Laws.{OneReport, OneFault, NoFaultOfReport}
-use Rattle.cts_engine.proofs.OneProblem.{one_problem}
 use Rattle.command_line.specs.declared.command.Command.{Command}
-use Rattle.command_line.specs.declared.command.Command.TheVariants.{Check, Embed}
+use Rattle.command_line.specs.declared.command.Command.TheVariants.{Check, Embed, Moves}
 use Rattle.command_line.specs.declared.table.Form.{Form}
 use Rattle.command_line.specs.declared.table.Form.TheVariants as forms
 use Rattle.failure_lines.specs.declared.failure.Failure.{Failure}
@@ -21,13 +20,16 @@ use Rattle.cts_program.specs.Checks.{EndWith, IsShownReport, RefusesReport}
 use Rattle.command_line.specs.Commands.{Given, options_of}
 use Rattle.failure_lines.specs.Failures.{status_of}
 use Rattle.cts_program.specs.Files.{files_of, AreAll}
-use Rattle.cts_program.specs.Judged.{AreAccepted, TellProblem}
+use Rattle.cts_program.specs.Judged.{AreAccepted}
+use Rattle.cts_program.specs.MoveFiles.{IsMovedFor, RefusesMoving}
 use Rattle.cts_program.specs.TopologyFiles.{IsAcceptedFor, RefusesEmbedding}
 use Rattle.command_line.specs.CommandTable.{form_of}
 use Rattle.cts_program.proofs.FileRefusals.{Agree, agree_same, agree_self, agree_rotated, agree_prefixes, file_status, text_not_refused}
+use Rattle.cts_program.proofs.LastContents.{four_files, of_one_end}
 use Rattle.cts_program.proofs.OneAnswer.{Answers, one_denoted}
 use Rattle.cts_program.proofs.PlacementLemmas.{problem_denoted}
 use Rattle.cts_program.proofs.ShownVerdicts.{no_reason}
+use Rattle.move_session.proofs.OneFault as move_faults
 use Rattle.topology_file.proofs.OneFault.{no_fault}
 
 -- ---- a report that is shown
@@ -67,41 +69,6 @@ one_judgement laws problem bytes (failures.Unshown (why.Reason reason subject)) 
     (subst (λ report. IsVerdict problem report (Not reason)) same has.verdict)
 one_judgement laws problem bytes failure shown refused = absurd refused
 
--- contents that end with a further file are those of four files
-four_files : {Holds : Problem → List ℕ → Type 0} (contents : List (List ℕ))
-    → EndWith contents Holds → length contents ≡ 4
-four_files contents ends =
-    let is = ap length ends.contents_are in
-    omega (arith, is, length-append (take 3 contents) (ends.bytes ∷ []), length-take 3 contents)
-
--- contents tell one problem
-one_problem_of : (contents : List (List ℕ)) (problem other : Problem)
-    → TellProblem contents problem → TellProblem contents other → problem ≡ other
-one_problem_of (netlist ∷ table ∷ places ∷ []) problem other tell tell' =
-    one_problem netlist table places problem other tell tell'
-one_problem_of contents problem other tell tell' = absurd tell
-
--- and end with one file
-one_end : {Holds Others : Problem → List ℕ → Type 0} (contents : List (List ℕ))
-    (ends : EndWith contents Holds) (other : EndWith contents Others)
-    → (other.problem ≡ ends.problem) × (other.bytes ≡ ends.bytes)
-one_end contents ends other =
-    let last : (other.bytes ∷ []) ≡ (ends.bytes ∷ []) = append_cancel_left (take 3 contents)
-    (other.bytes ∷ []) (ends.bytes ∷ []) (sym other.contents_are ∙ ends.contents_are) in (
-      one_problem_of (take 3 contents) other.problem ends.problem other.are_of.tell
-          ends.are_of.tell,
-      cc last,
-    )
-
--- so what holds of the file by the one holds of it by the other
-of_one_end : {Holds Others : Problem → List ℕ → Type 0} (contents : List (List ℕ))
-    (ends : EndWith contents Holds) (other : EndWith contents Others)
-    → Others ends.problem ends.bytes
-of_one_end {Others = Others} contents ends other =
-    let (problem, bytes) = one_end contents ends other in
-    subst (λ text. Others ends.problem text) bytes
-    (subst (λ p. Others p other.bytes) problem other.holds)
-
 -- contents with a report that is shown have no such refusal
 shown_or_not : ReportLaws → (contents refused : List (List ℕ)) (failure : Failure)
     → Agree contents refused → EndWith contents IsShownReport → EndUnshown refused failure → ⊥
@@ -134,6 +101,26 @@ embedding_status problem bytes (failures.TooLong kinds.Topology) refuses = refl
 embedding_status problem bytes (failures.Topology fault) refuses = refl
 embedding_status problem bytes failure refuses = absurd refuses
 
+-- ---- moves that are given
+
+-- moves that are accepted aren't refused
+one_moving : (problem : Problem) (bytes : List ℕ) (failure : Failure)
+    → IsMovedFor problem bytes → RefusesMoving problem bytes failure → ⊥
+one_moving problem bytes failures.Pairs accepted (file, many) = accepted.few many
+one_moving problem bytes (failures.TooLong kinds.Moves) accepted long = long accepted.file.short
+one_moving problem bytes (failures.Moves fault) accepted (short, named, refuses) =
+    named (move_faults.no_fault bytes problem.circuit fault accepted.file.moves
+    accepted.file.accepts refuses)
+one_moving problem bytes failure accepted refuses = absurd refuses
+
+-- the status for those that are refused is 3
+moving_status : (problem : Problem) (bytes : List ℕ) (failure : Failure)
+    → RefusesMoving problem bytes failure → status_of failure ≡ 3
+moving_status problem bytes failures.Pairs refuses = refl
+moving_status problem bytes (failures.TooLong kinds.Moves) refuses = refl
+moving_status problem bytes (failures.Moves fault) refuses = refl
+moving_status problem bytes failure refuses = absurd refuses
+
 -- ---- the texts of a command
 
 -- where contents agree, so do the texts that a command goes by
@@ -141,6 +128,7 @@ texts_agree : (form : Form) (given : List Given) (contents others : List (List �
     → Agree contents others → Agree (texts_for form given contents) (texts_for form given others)
 texts_agree forms.Check given contents others agree = agree_prefixes 3 3 contents others agree
 texts_agree forms.Embed given contents others agree = agree_prefixes 3 3 contents others agree
+texts_agree forms.Moves given contents others agree = agree_prefixes 3 3 contents others agree
 texts_agree forms.Demo given contents others agree =
     agree_self (texts_for forms.Demo given contents)
 texts_agree form given contents others agree = agree
@@ -152,6 +140,8 @@ texts_within : (form : Form) (given : List Given) (contents others : List (List 
 texts_within forms.Check given contents others within =
     omega (arith, within, length-take 3 contents, length-take 3 others)
 texts_within forms.Embed given contents others within =
+    omega (arith, within, length-take 3 contents, length-take 3 others)
+texts_within forms.Moves given contents others within =
     omega (arith, within, length-take 3 contents, length-take 3 others)
 texts_within forms.Demo given contents others within = omega arith
 texts_within form given contents others within = within
@@ -169,6 +159,8 @@ after_texts : (form : Form) (texts contents : List (List ℕ)) (failure : Failur
 after_texts forms.Check texts contents failure other refusal = absurd (other refl)
 after_texts forms.Embed texts contents failure other refusal =
     embedding_status refusal.problem refusal.bytes failure refusal.holds
+after_texts forms.Moves texts contents failure other refusal =
+    moving_status refusal.problem refusal.bytes failure refusal.holds
 after_texts form texts contents failure other refusal = ap status_of refusal.0
 
 -- where it does, that of accepted texts is one of a report
@@ -236,6 +228,7 @@ record Accepts (command : Command) (contents : List (List ℕ)) : Type 0 where
   accepted : AreAccepted (texts_of command contents)
   few : form_of command ≢ forms.Check → JoinTooMany (texts_of command contents) → ⊥
   topology : form_of command ≡ forms.Embed → EndWith contents IsAcceptedFor
+  moves : form_of command ≡ forms.Moves → EndWith contents IsMovedFor
 
 -- so it is where the command has an answer
 answer_accepts : (command : Command) (contents : List (List ℕ)) (status : ℕ) (text : List ℕ)
@@ -248,19 +241,33 @@ answer_accepts command contents status text answer = record {
       answer.tech many.tell answer.tell in
       answer.few other (subst (λ c. JoinsMoreThan c 1048576) same.0 many.many);
   topology = answer.embedded;
+  moves = λ same.
+      let ends = answer.moved same in
+      record {
+        bytes = ends.bytes;
+        contents_are = ends.contents_are;
+        problem = ends.problem;
+        are_of = ends.are_of;
+        holds = ends.holds.accepted;
+      };
 }
 
 -- what is refused of it is a report
 only_report : (form : Form) (texts contents : List (List ℕ))
     → (form ≢ forms.Check → JoinTooMany texts → ⊥)
-    → (form ≡ forms.Embed → EndWith contents IsAcceptedFor) → (failure : Failure)
+    → (form ≡ forms.Embed → EndWith contents IsAcceptedFor)
+    → (form ≡ forms.Moves → EndWith contents IsMovedFor) → (failure : Failure)
     → RefusesAccepted form texts contents failure → form ≡ forms.Check
-only_report forms.Check texts contents few topology failure refusal = refl
-only_report forms.Embed texts contents few topology failure refusal =
+only_report forms.Check texts contents few topology moves failure refusal = refl
+only_report forms.Embed texts contents few topology moves failure refusal =
     let ends = topology refl in
     absurd (one_embedding ends.problem ends.bytes failure ends.holds
     (of_one_end contents ends refusal))
-only_report form texts contents few topology failure refusal =
+only_report forms.Moves texts contents few topology moves failure refusal =
+    let ends = moves refl in
+    absurd (one_moving ends.problem ends.bytes failure ends.holds
+    (of_one_end contents ends refusal))
+only_report form texts contents few topology moves failure refusal =
     absurd (few (λ same. cc same) refusal.1)
 
 -- so is all that is refused beside it
@@ -283,7 +290,7 @@ report_beside command contents refused agree within whole accepts failure (inr (
           let here = subst (λ files. RefusesAccepted (form_of command) (texts_of command files)
           files failure) (sym known) refusal in
           absurd (other (only_report (form_of command) (texts_of command contents) contents
-          accepts.few accepts.topology failure here))
+          accepts.few accepts.topology accepts.moves failure here))
     ]
 
 -- so what is answered isn't refused
@@ -300,27 +307,54 @@ answer_not_refused laws command contents refused failure status text answer agre
     (answer_accepts command contents status text answer) failure refusal in
     shown_or_not laws contents refused failure agree (answer.checked check) ends
 
--- what is accepted for a command is all that it goes by
+-- a problem that joins few pairs isn't one that joins too many
+few_before : {Holds : Problem → List ℕ → Type 0} (contents : List (List ℕ))
+    (ends : EndWith contents Holds) → (JoinsMoreThan ends.problem.circuit 1048576 → ⊥)
+    → JoinTooMany (take 3 contents) → ⊥
+few_before contents ends few many =
+    let same = one_denoted (take 3 contents) many.circuit ends.problem.circuit many.tech
+    ends.problem.tech many.tell
+    (problem_denoted (take 3 contents) ends.problem ends.are_of.tell) in
+    few (subst (λ c. JoinsMoreThan c 1048576) same.0 many.many)
+
+-- what is accepted for a command is its texts
+accepted_texts : (command : Command) (contents : List (List ℕ)) → IsAccepted command contents
+    → AreAccepted (texts_of command contents)
+accepted_texts (Check bench tech pl report) contents accepted = accepted.1
+accepted_texts (Embed bench tech pl topology) contents ends = ends.are_of.accepted
+accepted_texts (Moves bench tech pl moves) contents ends = ends.are_of.accepted
+accepted_texts command contents accepted = accepted.1
+
+-- which join few pairs, but for a report
+few_accepted : (command : Command) (contents : List (List ℕ)) → IsAccepted command contents
+    → form_of command ≢ forms.Check → JoinTooMany (texts_of command contents) → ⊥
+few_accepted (Check bench tech pl report) contents accepted other = absurd (other refl)
+few_accepted (Embed bench tech pl topology) contents ends other =
+    few_before contents ends ends.holds.few
+few_accepted (Moves bench tech pl moves) contents ends other =
+    few_before contents ends ends.holds.few
+few_accepted command contents accepted other = accepted.2
+
+-- and a topology, where one is given
+topology_accepted : (command : Command) (contents : List (List ℕ)) → IsAccepted command contents
+    → form_of command ≡ forms.Embed → EndWith contents IsAcceptedFor
+topology_accepted (Embed bench tech pl topology) contents ends same = ends
+topology_accepted command contents accepted same = cc same
+
+-- or moves
+moves_accepted : (command : Command) (contents : List (List ℕ)) → IsAccepted command contents
+    → form_of command ≡ forms.Moves → EndWith contents IsMovedFor
+moves_accepted (Moves bench tech pl moves) contents ends same = ends
+moves_accepted command contents accepted same = cc same
+
+-- so it is all that the command goes by
 accepts_of : (command : Command) (contents : List (List ℕ)) → IsAccepted command contents
     → Accepts command contents
-accepts_of (Check bench tech pl report) contents accepted = record {
-  accepted = accepted.1;
-  few = λ other. absurd (other refl);
-  topology = λ same. cc same;
-}
-accepts_of (Embed bench tech pl topology) contents ends = record {
-  accepted = ends.are_of.accepted;
-  few = λ other many.
-      let same = one_denoted (take 3 contents) many.circuit ends.problem.circuit many.tech
-      ends.problem.tech many.tell
-      (problem_denoted (take 3 contents) ends.problem ends.are_of.tell) in
-      ends.holds.few (subst (λ c. JoinsMoreThan c 1048576) same.0 many.many);
-  topology = λ same. ends;
-}
 accepts_of command contents accepted = record {
-  accepted = accepted.1;
-  few = λ other. accepted.2;
-  topology = λ same. cc same;
+  accepted = accepted_texts command contents accepted;
+  few = few_accepted command contents accepted;
+  topology = topology_accepted command contents accepted;
+  moves = moves_accepted command contents accepted;
 }
 
 -- it is the contents of all its files, but for a report
@@ -328,6 +362,7 @@ accepted_all : (command : Command) (contents : List (List ℕ)) → IsAccepted c
     → ((form_of command ≡ forms.Check) × (3 ≤ length contents)) ⊎ AreAll command contents
 accepted_all (Check bench tech pl report) contents accepted = inl (refl, accepted.0)
 accepted_all (Embed bench tech pl topology) contents ends = inr (four_files contents ends)
+accepted_all (Moves bench tech pl moves) contents ends = inr (four_files contents ends)
 accepted_all command contents accepted = inr accepted.0
 
 -- the status of a report that isn't shown is one of a check

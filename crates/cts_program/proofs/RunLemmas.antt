@@ -21,7 +21,7 @@ use Rattle.failure_lines.specs.Failures.{words_failure_of, status_of}
 use Rattle.cts_program.specs.Files.{files_of, AreAll, AreContents, AreDenoted}
 use Rattle.command_line.specs.CommandTable.{form_of}
 use Rattle.cts_program.specs.Run.{IsNoCommand, DenotesText, RefusesCommand, CannotRead, EndsInPart, Fails, NoneRose}
-use Rattle.cts_program.proofs.AnswerTexts.{IsTextOf}
+use Rattle.cts_program.proofs.AnswerTexts.{IsTextWith}
 use Rattle.cts_program.proofs.FileRefusals.{Agree, agree_same, agree_rotated}
 use Rattle.cts_program.proofs.OneAnswer.{Answers, answer_of, one_status, no_answer_prefix, some_text}
 use Rattle.cts_program.proofs.OneRefusal.{ReportLaws, answer_not_refused, one_refusal_status, accepted_refusal}
@@ -381,9 +381,9 @@ done_status words holds command other means means' ending text denotes =
     let answer =
     answer_of other denotes.contents (ending_status ending) text denotes.answer.1 in
     let one = one_command words other command means' means in
-    text_status command ending text answer.circuit answer.tech
-    (subst (λ form. IsTextOf form (ending_status ending) text answer.circuit answer.tech)
-    (same_form other command one.name) answer.holds)
+    text_status answer.moves command ending text answer.circuit answer.tech
+    (subst (λ form. IsTextWith answer.moves form (ending_status ending) text answer.circuit
+    answer.tech) (same_form other command one.name) answer.holds)
 
 -- a command that answers doesn't end with status 2
 pub not_two : (ending : Ending) → ending_status ending ≡ 2 → ⊥

@@ -5,7 +5,7 @@ use Rattle.std.specs.Str.{bytes_eq}
 use Rattle.command_line.specs.declared.command.Command.{Command}
 use Rattle.command_line.specs.declared.command.Command.TheVariants.{Zero}
 use Rattle.failure_lines.specs.declared.file_kind.FileKind.{FileKind}
-use Rattle.failure_lines.specs.declared.file_kind.FileKind.TheVariants.{Bench, Tech, Placement, Report, Topology}
+use Rattle.failure_lines.specs.declared.file_kind.FileKind.TheVariants.{Bench, Tech, Placement, Report, Topology, Moves}
 use Rattle.command_line.specs.Commands.{Given, options_of, IsSame, IsCommand}
 use Rattle.cts_program.specs.Files.{files_of, AreContents, AreDenoted}
 use Rattle.cts_program.proofs.FileRefusals.{Agree}
@@ -17,7 +17,8 @@ file_of one = if bytes_eq one.0 (codes "--bench") then (Bench, one.1) ∷ []
     else if bytes_eq one.0 (codes "--tech") then (Tech, one.1) ∷ []
     else if bytes_eq one.0 (codes "--pl") then (Placement, one.1) ∷ []
     else if bytes_eq one.0 (codes "--report") then (Report, one.1) ∷ []
-    else if bytes_eq one.0 (codes "--topology") then (Topology, one.1) ∷ [] else []
+    else if bytes_eq one.0 (codes "--topology") then (Topology, one.1) ∷ []
+    else if bytes_eq one.0 (codes "--moves") then (Moves, one.1) ∷ [] else []
 
 -- the files of a command are those that its options name, in their order
 files_named : (command : Command) → files_of command ≡ flat_map file_of (options_of command)

@@ -27,6 +27,7 @@ use Rattle.cts_model.specs.PrintedLines.{Words, count_line, line_for, cycle_line
 use Rattle.cts_model.specs.ReportBounds.{count_in, IsOfSize}
 use Rattle.cts_model.specs.ReportLines.{pathed_lines, period_show_lines, lines_below, register_line_at, lead_line, merge_line_at, source_line, node_line_at, length_text, tree_lines, report_lines}
 use Rattle.cts_model.proofs.PathRegisters.{tails_within}
+use Rattle.cts_program.specs.ArrivalTexts.{arrival_line, arrival_lines}
 use Rattle.cts_program.specs.PeriodTexts.{never_lines}
 use Rattle.cts_program.specs.ScheduleTexts.{register_line_at as register_line_of, register_lines}
 use Rattle.cts_program.proofs.CountedLines.{number_in, AreCounted, counted_none, counted_section, counted_line, counted_alone}
@@ -48,7 +49,7 @@ few_registers : (circuit : Circuit) → length circuit.registers ≤ 4097
 few_registers circuit = grind (arith, circuit.valid.few_registers)
 
 -- and a cycle of a circuit's constraints has at most as many constraints
-few_constraints : (circuit : Circuit) (tech : Tech) (cycle : List Constraint)
+pub few_constraints : (circuit : Circuit) (tech : Tech) (cycle : List Constraint)
     → All (IsConstraintOf circuit tech) cycle → IsCycle cycle → length cycle ≤ 4097
 few_constraints circuit tech cycle of_circuit is_cycle =
     let tails = map (λ (constraint : Constraint). constraint.tail) cycle in
@@ -93,6 +94,15 @@ counted_registers circuit schedule slacks as_many =
     (counted_below (register_line_of circuit schedule slacks) (length schedule.at)
     (omega (arith, as_many, few_registers circuit)) counted_none)
 
+-- or of one alone
+pub counted_arrivals : (circuit : Circuit) (schedule : Schedule)
+    → length schedule.at ≡ length circuit.registers
+    → AreCounted (1 ∷ []) (arrival_lines circuit schedule)
+counted_arrivals circuit schedule as_many =
+    subst (AreCounted (1 ∷ [])) (append-nil (arrival_lines circuit schedule))
+    (counted_below (arrival_line circuit schedule) (length schedule.at)
+    (omega (arith, as_many, few_registers circuit)) counted_none)
+
 -- how many lines a version has for each constraint of a cycle, and for each register
 abbrev pub lines_each : Version → ℕ
 lines_each First = 1
@@ -114,8 +124,8 @@ length-pathed_lines circuit (constraint ∷ cycle) (path ∷ paths) =
     let more = length-pathed_lines circuit cycle paths in omega arith
 
 -- a cycle of few constraints
-counted_cycle : {rest : List Words} {plan : List ℕ} (circuit : Circuit) (cycle : List Constraint)
-    → length cycle ≤ 4097 → AreCounted plan rest
+pub counted_cycle : {rest : List Words} {plan : List ℕ} (circuit : Circuit)
+    (cycle : List Constraint) → length cycle ≤ 4097 → AreCounted plan rest
     → AreCounted (1 ∷ plan) (cycle_lines circuit cycle ++ rest)
 counted_cycle circuit cycle few counted =
     counted_section (map (line_for circuit) cycle)

@@ -1,5 +1,6 @@
 -- The lines of each text are lines, as those of reports are.
-use Rattle.std.proofs.Common.{ℕ, ℤ, pos, true, false, List, [], ◌∷◌, ◌++◌, arith}
+use Rattle.std.proofs.Common.{ℕ, ℤ, pos, true, false, List, [], ◌∷◌, ◌++◌, length, map, arith}
+use Rattle.std.specs.List.{range_with_len}
 use Rattle.std.specs.Fmt.{signed_decimal}
 use Rattle.std.proofs.lemmas.Int.{ints}
 use Rattle.std.proofs.lemmas.Nat.Gcd.{dvd_refl}
@@ -15,19 +16,36 @@ use Rattle.cts_model.specs.declared.schedule.Slack.{Slack}
 use Rattle.cts_model.specs.declared.tech.Tech.{Tech}
 use Rattle.cts_model.specs.declared.timing.ZeroSkew.{ZeroSkew}
 use Rattle.cts_model.specs.declared.timing.ZeroSkew.TheVariants.{Fails, Floor, Setup}
-use Rattle.cts_model.specs.PrintedLines.{Words, period_line, line_for, show_lines}
+use Rattle.cts_model.specs.PrintedLines.{Words, period_line, line_for, cycle_lines, show_lines}
 use Rattle.cts_model.specs.ReportLines.{version_line, tree_lines}
+use Rattle.report_text.specs.WireLines.{wire_line}
 use Rattle.report_text.proofs.OneLine.{IsWord, IsLine}
 use Rattle.report_text.proofs.ReportWords.{AreLines, report_lines_are}
+use Rattle.cts_engine.specs.declared.margin.MarginOutcome.{MarginOutcome}
+use Rattle.cts_engine.specs.declared.margin.MarginOutcome.TheVariants as margins
+use Rattle.cts_program.specs.ArrivalTexts.{all_at_zero, arrival_line, arrival_lines}
 use Rattle.cts_program.specs.DemoTexts.{summary_lines}
+use Rattle.cts_program.specs.MarginTexts.{margin_lines}
 use Rattle.cts_program.specs.PeriodTexts.{found_lines, never_lines}
-use Rattle.cts_program.specs.ScheduleTexts.{register_lines}
+use Rattle.cts_program.specs.ScheduleTexts.{register_line_at, register_lines}
 use Rattle.cts_program.specs.Texts.{zero_lines}
 
 -- lines before others are lines
 lines_before : (lines others : List Words) → AreLines (lines ++ others) → AreLines lines
 lines_before [] others are = tt
 lines_before (line ∷ lines) others are = (are.0, lines_before lines others are.1)
+
+-- lines after others
+lines_after : (lines others : List Words) → AreLines lines → AreLines others
+    → AreLines (lines ++ others)
+lines_after [] others are are' = are'
+lines_after (line ∷ lines) others are are' = (are.0, lines_after lines others are.1 are')
+
+-- a line for each item, where another for it is one
+lines_for : {X : Type 0} (line other : X → Words) → ((x : X) → IsLine (line x) → IsLine (other x))
+    → (xs : List X) → AreLines (map line xs) → AreLines (map other xs)
+lines_for line other so [] are = tt
+lines_for line other so (x ∷ xs) are = (so x are.0, lines_for line other so xs are.1)
 
 -- a report of these times, whose tree has no node, and this wire
 abbrev report_with : Fraction → PeriodShow → Schedule → List Slack → (grid total : ℤ) → Report
@@ -119,12 +137,55 @@ module _ (circuit : Circuit) where
   pub never_lines_are : (cycle : List Constraint) → AreLines (never_lines circuit cycle)
   never_lines_are cycle = (search arith, show_lines_are (shows.Cycle cycle))
 
+  -- the line of a length of wire is one
+  wire_line_is : (grid steps : ℤ) → IsLine (wire_line grid steps)
+  wire_line_is grid steps =
+      (report_lines_are circuit
+      (report_with one_tick shows.Floor no_arrivals [] grid steps)).1.1.1.1.1.1.1.0
+
+  -- and so are several
+  pub wire_lines_are : (grid : ℤ) (wires : List ℤ) → AreLines (map (wire_line grid) wires)
+  wire_lines_are grid [] = tt
+  wire_lines_are grid (wire ∷ wires) = (wire_line_is grid wire, wire_lines_are grid wires)
+
+  -- those of a schedule alone, as those with slacks are
+  arrival_lines_are : (schedule : Schedule) → AreLines (arrival_lines circuit schedule)
+  arrival_lines_are schedule =
+      let are = (timing_lines_are one_tick shows.Floor schedule []).1.1 in (
+        are.0,
+        lines_for (register_line_at circuit schedule []) (arrival_line circuit schedule)
+            (λ register line. (line.0, (line.1.0, tt)))
+            (range_with_len 0 (length schedule.at)) are.1,
+      )
+
+  -- the line of a period, so that a fraction is a word
+  period_line_is : (period : Fraction) → IsLine (period_line period)
+  period_line_is period = (timing_lines_are period shows.Floor no_arrivals []).0
+
+  -- those of what is spared at a period
+  pub margin_lines_are : (period : Fraction) (outcome : MarginOutcome)
+      → AreLines (margin_lines circuit period outcome)
+  margin_lines_are period (margins.Found value cycle schedule) = (
+    period_line_is period,
+    (
+      (search arith, (period_line_is value).1),
+      lines_after (cycle_lines circuit cycle) (arrival_lines circuit schedule)
+          (show_lines_are (shows.Cycle cycle)) (arrival_lines_are schedule),
+    ),
+  )
+  margin_lines_are period margins.Unbounded = (
+    period_line_is period,
+    (search arith, arrival_lines_are (all_at_zero (length circuit.registers))),
+  )
+
   -- and those of the summary of a report
   pub summary_lines_are : (registers : ℕ) (report : Report)
       → AreLines (summary_lines registers report)
   summary_lines_are registers report =
-      let wired = report_with report.period shows.Floor no_arrivals [] report.grid report.total in
-      let are = report_lines_are circuit wired in (
+      let wired = report_with report.period shows.Floor no_arrivals [] report.grid report.total in (
         (search arith, (number_word (pos registers), tt)),
-        (are.1.0, (are.1.1.1.1.1.1.1.0, search arith)),
+        (
+          (report_lines_are circuit wired).1.0,
+          (wire_line_is report.grid report.total, search arith),
+        ),
       )

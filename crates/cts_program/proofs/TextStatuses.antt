@@ -1,18 +1,18 @@
 -- What the status of a text says: 1 that the circuit admits no period, 0 that it admits one where a
--- command looks for it; and `zero` and `check` have no text with another.
+-- command looks for it; and `zero`, `check` and `margin` have no text with another.
 use Rattle.std.proofs.Common.{◌≡◌, ◌⊎◌, inl, inr, ℕ, Bool, true, false, List, refl, ap, sym, ◌∙◌, subst, arith}
 use Rattle.cts_model.specs.declared.circuit.Circuit.{Circuit}
 use Rattle.cts_model.specs.declared.tech.Tech.{Tech}
 use Rattle.cts_model.specs.LeastPeriods.{HasNoPeriod}
 use Rattle.command_line.specs.declared.command.Command.{Command}
-use Rattle.command_line.specs.declared.command.Command.TheVariants.{Zero, Check}
+use Rattle.command_line.specs.declared.command.Command.TheVariants.{Zero, Check, Margin}
 use Rattle.cts_program.specs.declared.ending.Ending.{Ending}
 use Rattle.cts_program.specs.declared.ending.Ending.TheVariants as endings
 use Rattle.cts_program.specs.Answers.{ending_status, TellWith, texts_for, IsStatusOf, FindsNoPeriod}
 use Rattle.command_line.specs.Commands.{options_of}
 use Rattle.cts_program.specs.Files.{AreAll}
 use Rattle.command_line.specs.CommandTable.{form_of}
-use Rattle.cts_program.proofs.AnswerTexts.{looks_for_period, SaysOfPeriods, IsTextOf}
+use Rattle.cts_program.proofs.AnswerTexts.{looks_for_period, SaysOfPeriods, IsTextWith}
 use Rattle.cts_program.proofs.OneAnswer.{Answers, one_denoted}
 
 -- ---- no period
@@ -41,12 +41,14 @@ finds_by : (command : Command) (contents : List (List ℕ)) → FindsNone comman
     → FindsNoPeriod command contents
 finds_by (Zero bench tech) contents (looks, all, none) = cc looks
 finds_by (Check bench tech pl report) contents (looks, all, none) = cc looks
+finds_by (Margin bench tech period) contents (looks, all, none) = cc looks
 finds_by command contents (looks, all, none) = (all, none)
 
 found_by : (command : Command) (contents : List (List ℕ)) → FindsNoPeriod command contents
     → FindsNone command contents
 found_by (Zero bench tech) contents finds = absurd finds
 found_by (Check bench tech pl report) contents finds = absurd finds
+found_by (Margin bench tech period) contents finds = absurd finds
 found_by command contents finds = (refl, finds.0, finds.1)
 
 -- where a command finds no period the contents of all its files are known
@@ -96,9 +98,11 @@ done_or_never endings.Done = inl refl
 done_or_never endings.Never = inr refl
 
 -- a command's text has a status of the command
-pub text_status : (command : Command) (ending : Ending) (text : List ℕ) (circuit : Circuit)
-    (tech : Tech) → IsTextOf (form_of command) (ending_status ending) text circuit tech
+pub text_status : (moves : ℕ) (command : Command) (ending : Ending) (text : List ℕ)
+    (circuit : Circuit) (tech : Tech)
+    → IsTextWith moves (form_of command) (ending_status ending) text circuit tech
     → IsStatusOf command (ending_status ending)
-text_status (Zero bench tech) ending text circuit delays is = is.are.says
-text_status (Check bench tech pl report) ending text circuit delays is = inl is.are.says
-text_status command ending text circuit delays is = done_or_never ending
+text_status moves (Zero bench tech) ending text circuit delays is = is.are.says
+text_status moves (Check bench tech pl report) ending text circuit delays is = inl is.are.says
+text_status moves (Margin bench tech period) ending text circuit delays is = is.are.says
+text_status moves command ending text circuit delays is = done_or_never ending

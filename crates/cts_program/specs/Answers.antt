@@ -7,7 +7,7 @@ use Rattle.cts_model.specs.LeastPeriods.{HasNoPeriod}
 use Rattle.cts_model.specs.PairLists.{JoinsMoreThan}
 use Rattle.cts_model.specs.PrintedLines.{text_of}
 use Rattle.command_line.specs.declared.command.Command.{Command}
-use Rattle.command_line.specs.declared.command.Command.TheVariants.{Zero, Period, Schedule, Synth, Check, Demo, Embed}
+use Rattle.command_line.specs.declared.command.Command.TheVariants.{Zero, Period, Schedule, Synth, Check, Demo, Embed, Moves, Margin}
 use Rattle.command_line.specs.declared.table.Form.{Form}
 use Rattle.command_line.specs.declared.table.Form.TheVariants as forms
 use Rattle.cts_program.specs.declared.ending.Ending.{Ending}
@@ -20,6 +20,8 @@ use Rattle.command_line.specs.Commands.{Given, number_of, options_of}
 use Rattle.cts_program.specs.DemoTexts.{demo_texts, IsDemoText}
 use Rattle.cts_program.specs.Files.{AreAll}
 use Rattle.cts_program.specs.Judged.{AreAccepted, IsFileRefusal, Tell, TellProblem}
+use Rattle.cts_program.specs.MarginTexts.{IsMarginText}
+use Rattle.cts_program.specs.MoveFiles.{IsMovedFor, IsMovedBy, RefusesMoving}
 use Rattle.cts_program.specs.PeriodTexts.{IsPeriodText}
 use Rattle.cts_program.specs.ScheduleTexts.{IsScheduleText}
 use Rattle.cts_program.specs.SynthTexts.{IsSynthText}
@@ -57,6 +59,11 @@ abbrev pub IsScheduleAnswer : List (List ℕ) → ℕ → List ℕ → Type 0
 IsScheduleAnswer contents status text =
     TellWith contents (λ circuit tech. IsScheduleText circuit tech status text)
 
+-- the text is the one for the greatest margin at the period of this word
+abbrev pub IsMarginAnswer : List (List ℕ) → (word text : List ℕ) → Type 0
+IsMarginAnswer contents word text =
+    TellWith contents (λ circuit tech. IsMarginText circuit tech word text)
+
 -- the contents are accepted, and this holds of the problem that they tell
 pub record TellProblemWith (contents : List (List ℕ)) (Holds : Problem → Type 0) : Type 0 where
   pub accepted : AreAccepted contents
@@ -90,10 +97,11 @@ abbrev pub number_given : List Given → (place : ℕ) → ℕ
 number_given given place = number_of (get_or given place ([], [])).1
 
 -- the texts that tell what a command with these options goes by: what its files hold, without a
--- report that is checked or a topology that is given, or those of a demonstration
+-- report that is checked, a topology or moves that are given, or those of a demonstration
 abbrev pub texts_for : Form → List Given → (contents : List (List ℕ)) → List (List ℕ)
 texts_for forms.Check given contents = take 3 contents
 texts_for forms.Embed given contents = take 3 contents
+texts_for forms.Moves given contents = take 3 contents
 texts_for forms.Demo given contents = demo_texts (number_given given 0) (number_given given 1)
 texts_for form given contents = contents
 
@@ -112,6 +120,10 @@ IsText (Demo registers seed) contents status text =
     IsDemoAnswer (number_of registers.now) (number_of seed.now) status text
 IsText (Embed bench tech pl topology) contents status text =
     EndWith contents (IsEmbeddedBy status text)
+IsText (Margin bench tech period) contents status text =
+    (status ≡ 0) × IsMarginAnswer contents period.now text
+IsText (Moves bench tech pl moves) contents status text =
+    EndWith contents (IsMovedBy status text)
 
 -- the command answers with this status and this text
 abbrev pub IsAnswer : Command → List (List ℕ) → ℕ → List ℕ → Type 0
@@ -124,13 +136,15 @@ pub record RefusesText (texts : List (List ℕ)) (failure : Failure) : Type 0 wh
   pub refusal : IsFileRefusal (take count texts) failure
 
 -- these texts are accepted, and a command of this form refuses its files all the same: where a
--- report is checked it isn't shown, however many pairs are joined; where a topology is given it is
--- refused, or too many pairs are joined; else too many are
+-- report is checked it isn't shown, however many pairs are joined; where a topology or moves are
+-- given they are refused, or too many pairs are joined; else too many are
 abbrev pub RefusesAccepted : Form → (texts contents : List (List ℕ)) → Failure → Type 0
 RefusesAccepted forms.Check texts contents failure =
     EndWith contents (λ problem bytes. RefusesReport problem bytes failure)
 RefusesAccepted forms.Embed texts contents failure =
     EndWith contents (λ problem bytes. RefusesEmbedding problem bytes failure)
+RefusesAccepted forms.Moves texts contents failure =
+    EndWith contents (λ problem bytes. RefusesMoving problem bytes failure)
 RefusesAccepted form texts contents failure = (failure ≡ Pairs) × JoinTooMany texts
 
 -- the first refusal of the command, on the contents of its files up to the one that is refused
@@ -150,18 +164,21 @@ abbrev pub IsAccepted : Command → List (List ℕ) → Type 0
 IsAccepted (Check bench tech pl report) contents =
     (3 ≤ length contents) × AreAccepted (take 3 contents)
 IsAccepted (Embed bench tech pl topology) contents = EndWith contents IsAcceptedFor
+IsAccepted (Moves bench tech pl moves) contents = EndWith contents IsMovedFor
 IsAccepted command contents = AreAll command contents
     × AreAccepted (texts_of command contents) × (JoinTooMany (texts_of command contents) → ⊥)
 
 -- the statuses for what is accepted
 abbrev pub IsStatusOf : Command → ℕ → Type 0
 IsStatusOf (Zero bench tech) status = status ≡ 0
+IsStatusOf (Margin bench tech period) status = status ≡ 0
 IsStatusOf (Check bench tech pl report) status = (status ≡ 0) ⊎ (status ≡ 7)
 IsStatusOf command status = (status ≡ 0) ⊎ (status ≡ 1)
 
 -- what a command that looks for a period goes by is accepted, and no period is admitted
 abbrev pub FindsNoPeriod : Command → List (List ℕ) → Type 0
 FindsNoPeriod (Zero bench tech) contents = ⊥
+FindsNoPeriod (Margin bench tech period) contents = ⊥
 FindsNoPeriod (Check bench tech pl report) contents = ⊥
 FindsNoPeriod command contents =
     AreAll command contents × TellWith (texts_of command contents) HasNoPeriod

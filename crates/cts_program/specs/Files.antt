@@ -1,10 +1,11 @@
 -- The files that a command reads, and what is known of their contents.
-use Rattle.std.specs.Prelude.{◌≡◌, ◌≤◌, ℕ, List, [], ◌∷◌, ◌++◌, map, length, Option, Some, IfSome, option_to_list, codes}
+use Rattle.std.specs.Prelude.{◌≡◌, ◌≤◌, ℕ, List, [], ◌∷◌, ◌++◌, map, length, Option, Some, IfSome, option_to_list}
 use Rattle.std.specs.Borrow.{Bor}
 use Rattle.failure_lines.specs.declared.file_kind.FileKind.{FileKind}
 use Rattle.failure_lines.specs.declared.file_kind.FileKind.TheVariants.{Bench, Tech, Placement, Report, Topology}
+use Rattle.failure_lines.specs.declared.file_kind.FileKind.TheVariants as kinds
 use Rattle.command_line.specs.declared.command.Command.{Command}
-use Rattle.command_line.specs.declared.command.Command.TheVariants.{Zero, Period, Schedule, Synth, Check, Demo, Embed}
+use Rattle.command_line.specs.declared.command.Command.TheVariants.{Zero, Period, Schedule, Synth, Check, Demo, Embed, Moves, Margin}
 
 -- the files that tell a circuit: a netlist and, if one is named, a delay table
 abbrev pub circuit_files : Bor (List ℕ) → Option (Bor (List ℕ)) → List (FileKind × List ℕ)
@@ -26,6 +27,9 @@ files_of (Check bench tech pl report) =
 files_of (Demo registers seed) = []
 files_of (Embed bench tech pl topology) =
     problem_files bench tech pl ++ (Topology, topology.now) ∷ []
+files_of (Margin bench tech period) = circuit_files bench (Some tech)
+files_of (Moves bench tech pl moves) =
+    problem_files bench tech pl ++ (kinds.Moves, moves.now) ∷ []
 
 -- no file has more bytes
 abbrev pub IsShortFile : List ℕ → Type 0

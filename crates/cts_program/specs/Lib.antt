@@ -1,9 +1,13 @@
 pub mod Answers
+pub mod ArrivalTexts
 pub mod Checks
 pub mod DemoTexts
 pub mod Files
 pub mod Headline
 pub mod Judged
+pub mod MarginTexts
+pub mod MoveFiles
+pub mod MoveTexts
 pub mod PeriodTexts
 pub mod Run
 pub mod ScheduleTexts

@@ -90,15 +90,15 @@ pub record EndsFor (command : Command) (contents : List (List ℕ)) (reads reads
   -- with the status of the answer whose text stands whole on the output
   pub only : (other : ℕ) (text start : List ℕ) → IsAnswer command contents other text
       → before ≡ Some start → now ≡ appended before text → status ≡ other
-  -- with 1 only where what is accepted admits no period at any scale, and never from `zero` or
-  -- `check`; such input gives no 0
+  -- with 1 only where what is accepted admits no period at any scale, and never from `zero`,
+  -- `check` or `margin`; such input gives no 0
   pub never : AreAll command contents → status ≡ 1 → FindsNoPeriod command contents
   pub found : FindsNoPeriod command contents → status ≢ 0
   -- with the status of their refusal, unless a file can't be read or memory runs out
   pub refused : (failure : Failure) → IsRefusal command contents failure
       → (status ≡ status_of failure) ⊎ ((status ≡ 4) ⊎ (status ≡ 6))
-  -- where they are accepted and no device fails, with 0 or 1, from `zero` with 0 and from `check`
-  -- with 0 or 7, whatever its report holds, unless memory runs out
+  -- where they are accepted and no device fails, with 0 or 1, from `zero` and `margin` with 0 and
+  -- from `check` with 0 or 7, whatever its report holds, unless memory runs out
   pub complete : IsAccepted command contents → NoneRose reads reads_now (files_of command)
       → (Rose writes writes_now → ⊥) → IsStatusOf command status ⊎ (status ≡ 6)
 

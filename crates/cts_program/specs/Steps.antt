@@ -18,6 +18,8 @@ use Rattle.delay_tables.specs.declared.fault.TechFault.{TechFault}
 use Rattle.delay_tables.specs.declared.fault.TechFault.TheVariants as tech
 use Rattle.delay_tables.specs.Refusals.{RefusesTable}
 use Rattle.place_reader.specs.declared.fault.PlaceFault.{PlaceFault}
+use Rattle.move_session.specs.declared.moves.Move.{Move}
+use Rattle.move_session.specs.Moves.{AcceptsMoves}
 use Rattle.topology_file.specs.TopologyTexts.{AcceptsTopology}
 use Rattle.cts_engine.specs.Accepted.{HasFault}
 use Rattle.failure_lines.specs.declared.failure.Failure.{Failure}
@@ -147,6 +149,14 @@ pub record ReadsTopology (problem : Problem) (held : Option (List ℕ)) (topolog
   pub denoted : IsReportedAs held bytes
   pub short : IsShortFile bytes
   pub accepts : AcceptsTopology bytes (length problem.circuit.registers) topology
+
+-- the file holds these moves of the problem's registers
+pub record ReadsMoves (problem : Problem) (held : Option (List ℕ)) (moves : List Move)
+    : Type 0 where
+  pub bytes : List ℕ
+  pub denoted : IsReportedAs held bytes
+  pub short : IsShortFile bytes
+  pub accepts : AcceptsMoves bytes problem.circuit moves
 
 -- a command's last file isn't read, or is refused
 abbrev pub FailsLast : FileKind → (Refuses : List ℕ → Failure → Type 0) → Option (List ℕ) → ℕ → ℕ

@@ -1,10 +1,13 @@
 //! The clock tree synthesizer `cts`.
 #![tactic(auto)]
 
+mod arrivals;
 mod call;
 mod check;
 mod demo;
 mod ending;
+mod margin;
+mod moves;
 mod period;
 mod reading;
 mod run;

@@ -7,6 +7,6 @@ mod placement;
 mod problem;
 
 pub use circuit::read_circuit;
-pub use files::{read_report_file, read_topology_file};
+pub use files::{read_moves_file, read_report_file, read_topology_file};
 pub use placement::copied;
 pub use problem::read_problem;

@@ -13,8 +13,12 @@ ghost use Rattle.cts_program.specs.Steps.{IsAnyReadFault};
 use crate::check::check;
 use crate::demo::demo;
 use crate::ending::{Answer, Ending};
+use crate::margin::margin;
+use crate::moves::moves;
 use crate::period::period;
-use crate::reading::{read_circuit, read_problem, read_report_file, read_topology_file};
+use crate::reading::{
+    read_circuit, read_moves_file, read_problem, read_report_file, read_topology_file,
+};
 use crate::scheduling::schedule;
 use crate::synth::{embed, synth};
 use crate::zero::zero;
@@ -165,6 +169,27 @@ fn command_answer<I: Inputs>(
             let problem = read_problem(alloc, inputs, bench, tech, pl)?;
             let topology = read_topology_file(alloc, inputs, topology, &problem)?;
             embed(alloc, &problem, &topology)
+        }
+        Command::Margin {
+            bench,
+            tech,
+            period,
+        } => {
+            margin(
+                alloc,
+                &read_circuit(alloc, inputs, bench, Some(tech))?,
+                period,
+            )
+        }
+        Command::Moves {
+            bench,
+            tech,
+            pl,
+            moves: file,
+        } => {
+            let problem = read_problem(alloc, inputs, bench, tech, pl)?;
+            let list = read_moves_file(alloc, inputs, file, &problem)?;
+            moves(alloc, &problem, &list)
         }
     }
 }

@@ -4,6 +4,8 @@ mod devices;
 mod embed;
 mod faults;
 mod limits;
+mod margin;
+mod moves;
 mod period;
 mod problems;
 mod refusals;
@@ -21,7 +23,9 @@ use std::process::Abort;
 const USAGE: &str = "usage: cts zero --bench F [--tech F] | cts period --bench F --tech F \
     | cts schedule --bench F --tech F | cts synth --bench F --tech F --pl F \
     | cts check --bench F --tech F --pl F --report F | cts demo --registers N --seed S \
-    | cts embed --bench F --tech F --pl F --topology F\n";
+    | cts embed --bench F --tech F --pl F --topology F \
+    | cts margin --bench F --tech F --period P \
+    | cts moves --bench F --tech F --pl F --moves F\n";
 
 const NO_PATH: &str = "INPUT(x)\na = DFF(x)\n";
 

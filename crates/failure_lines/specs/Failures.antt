@@ -13,7 +13,7 @@ use Rattle.cts_engine.specs.declared.fault.SynthFault.TheVariants as synth
 use Rattle.cts_model.specs.declared.kind.Kind.{Kind}
 use Rattle.cts_model.specs.declared.kind.Kind.TheVariants.{And, Nand, Or, Nor, Not, Xor, Xnor, Buff}
 use Rattle.failure_lines.specs.declared.failure.Failure.{Failure}
-use Rattle.failure_lines.specs.declared.failure.Failure.TheVariants.{Usage, TooLong, Bench, Tech, Placement, Topology, Pairs, Unshown, ReadFault, WriteFault, NoMemory}
+use Rattle.failure_lines.specs.declared.failure.Failure.TheVariants.{Usage, TooLong, Bench, Tech, Placement, Topology, Moves, Pairs, Unshown, ReadFault, WriteFault, NoMemory}
 use Rattle.command_line.specs.declared.command.WordsFault.{WordsFault}
 use Rattle.command_line.specs.declared.command.WordsFault.TheVariants as words
 use Rattle.cts_base.specs.declared.number.NumberFault.{NumberFault}
@@ -29,6 +29,8 @@ use Rattle.report_text.specs.declared.fault.ReportFault.{ReportFault}
 use Rattle.report_text.specs.declared.fault.ReportFault.TheVariants as report
 use Rattle.topology_file.specs.declared.fault.TopologyFault.{TopologyFault}
 use Rattle.topology_file.specs.declared.fault.TopologyFault.TheVariants as topology
+use Rattle.move_session.specs.declared.fault.MovesFault.{MovesFault}
+use Rattle.move_session.specs.declared.fault.MovesFault.TheVariants as moves
 use Rattle.failure_lines.specs.declared.not_shown.NotShown.{NotShown}
 use Rattle.failure_lines.specs.declared.not_shown.NotShown.TheVariants as why
 use Rattle.command_line.specs.CommandTable.{usage}
@@ -58,6 +60,11 @@ abbrev pub topology_failure_of : TopologyFault → Failure
 topology_failure_of topology.NoMemory = NoMemory
 topology_failure_of fault = Topology fault
 
+-- the failure where moves aren't read
+abbrev pub moves_failure_of : MovesFault → Failure
+moves_failure_of moves.NoMemory = NoMemory
+moves_failure_of fault = Moves fault
+
 -- the failure where a report isn't read
 abbrev pub report_failure_of : ReportFault → Failure
 report_failure_of report.NoMemory = NoMemory
@@ -72,6 +79,7 @@ status_of (Bench fault) = 3
 status_of (Tech fault) = 3
 status_of (Placement fault) = 3
 status_of (Topology fault) = 3
+status_of (Moves fault) = 3
 status_of Pairs = 3
 status_of (Unshown why) = 7
 status_of (ReadFault kind) = 4
@@ -172,6 +180,15 @@ topology_line (topology.Missing line) = line_at (codes "refused topology 3 line 
 topology_line (topology.Extra line) = line_at (codes "refused topology 4 line ") line []
 topology_line topology.NoMemory = ended (codes "no memory")
 
+-- the line for a fault of moves, with the number of the fault
+abbrev pub moves_line : MovesFault → List ℕ
+moves_line (moves.BadLine line) = line_at (codes "refused moves 1 line ") line []
+moves_line (moves.UnknownRegister line) = line_at (codes "refused moves 2 line ") line []
+moves_line (moves.BadNumber line fault) =
+    line_at (codes "refused moves 3 line ") line (number_word fault)
+moves_line (moves.TooMany line) = line_at (codes "refused moves 4 line ") line []
+moves_line moves.NoMemory = ended (codes "no memory")
+
 -- the line for a text that is no report, with the number of its fault
 abbrev pub fault_line : ReportFault → List ℕ
 fault_line (report.BadLine line) = line_at (codes "not shown report 1 line ") line []
@@ -219,6 +236,7 @@ kind_word kinds.Tech = codes "tech"
 kind_word kinds.Placement = codes "pl"
 kind_word kinds.Report = codes "report"
 kind_word kinds.Topology = codes "topology"
+kind_word kinds.Moves = codes "moves"
 
 -- the line that says why
 abbrev pub failure_line : Failure → List ℕ
@@ -229,6 +247,7 @@ failure_line (Bench fault) = bench_line fault
 failure_line (Tech fault) = tech_line fault
 failure_line (Placement fault) = placement_line fault
 failure_line (Topology fault) = topology_line fault
+failure_line (Moves fault) = moves_line fault
 failure_line Pairs = ended (codes "refused pairs")
 failure_line (Unshown why) = not_shown_line why
 failure_line (ReadFault kind) = ended (codes "read fault " ++ kind_word kind)

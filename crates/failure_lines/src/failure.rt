@@ -3,7 +3,7 @@
 ghost use Rattle.std.specs.Prelude.{◌≡◌, ◌++◌, ◌∷◌, [], decimal};
 ghost use Rattle.std.specs.List.{flat_map};
 ghost use Rattle.failure_lines.specs.declared.failure.Failure.TheVariants.{NoMemory};
-ghost use Rattle.failure_lines.specs.Failures.{words_failure_of, bench_failure_of, tech_failure_of, synth_failure_of, report_failure_of, topology_failure_of, status_of, limit_word, gate_word, number_word, shown_byte, shown, spaced, loop_line, ended, bench_line, tech_line, placement_line, topology_line, fault_line, reason_line, not_shown_line, failure_line, Reports, Writes};
+ghost use Rattle.failure_lines.specs.Failures.{words_failure_of, bench_failure_of, tech_failure_of, synth_failure_of, report_failure_of, topology_failure_of, moves_failure_of, status_of, limit_word, gate_word, number_word, shown_byte, shown, spaced, loop_line, ended, bench_line, tech_line, placement_line, topology_line, moves_line, fault_line, reason_line, not_shown_line, failure_line, Reports, Writes};
 
 use crate::file_kind::FileKind;
 use crate::not_shown::NotShown;
@@ -17,6 +17,7 @@ use cts_io::{Failed, Sink, write_whole};
 use cts_model::Kind;
 use delay_tables::TechFault;
 use itoa::Buffer;
+use move_session::MovesFault;
 use report_text::ReportFault;
 use topology_file::TopologyFault;
 
@@ -35,6 +36,8 @@ pub enum Failure {
     Placement(PlacementFault),
     /// The topology is refused.
     Topology(TopologyFault),
+    /// The moves are refused.
+    Moves(MovesFault),
     /// More than 1,048,576 pairs of registers are joined by paths.
     Pairs,
     /// The report isn't shown.
@@ -50,7 +53,9 @@ pub enum Failure {
 const USAGE: &[u8] = b"usage: cts zero --bench F [--tech F] | cts period --bench F --tech F \
     | cts schedule --bench F --tech F | cts synth --bench F --tech F --pl F \
     | cts check --bench F --tech F --pl F --report F | cts demo --registers N --seed S \
-    | cts embed --bench F --tech F --pl F --topology F";
+    | cts embed --bench F --tech F --pl F --topology F \
+    | cts margin --bench F --tech F --period P \
+    | cts moves --bench F --tech F --pl F --moves F";
 
 impl Failure {
     /// The program's exit status.
@@ -61,7 +66,8 @@ impl Failure {
             Failure::Usage => 2,
             Failure::TooLong(FileKind::Report) | Failure::Unshown(_) => 7,
             Failure::TooLong(_) | Failure::Bench(_) | Failure::Tech(_) => 3,
-            Failure::Placement(_) | Failure::Topology(_) | Failure::Pairs => 3,
+            Failure::Placement(_) | Failure::Topology(_) | Failure::Moves(_) => 3,
+            Failure::Pairs => 3,
             Failure::ReadFault(_) => 4,
             Failure::WriteFault => 5,
             Failure::NoMemory => 6,
@@ -89,6 +95,7 @@ impl Failure {
             Failure::Tech(fault) => write_tech_refusal(fault, err),
             Failure::Placement(fault) => write_placement_refusal(fault, err),
             Failure::Topology(fault) => write_topology_refusal(*fault, err),
+            Failure::Moves(fault) => write_moves_refusal(*fault, err),
             Failure::Pairs => write_line(&[b"refused pairs"], err),
             Failure::Unshown(why) => write_not_shown(why, err),
             Failure::ReadFault(kind) => write_line(&[b"read fault ", kind.word()], err),
@@ -158,6 +165,21 @@ fn write_topology_refusal<E: Sink>(fault: TopologyFault, err: &mut E) -> Result<
         TopologyFault::Missing(line) => write_at(b"refused topology 3 line ", line, b"", err),
         TopologyFault::Extra(line) => write_at(b"refused topology 4 line ", line, b"", err),
         TopologyFault::NoMemory => write_line(&[b"no memory"], err),
+    }
+}
+
+fn write_moves_refusal<E: Sink>(fault: MovesFault, err: &mut E) -> Result<(), Failed>
+    ensures { Writes (moves_line fault)
+        (E.written err.old) (E.faults err.old) (E.written err.new) (E.faults err.new) result }
+{
+    match fault {
+        MovesFault::BadLine(line) => write_at(b"refused moves 1 line ", line, b"", err),
+        MovesFault::UnknownRegister(line) => write_at(b"refused moves 2 line ", line, b"", err),
+        MovesFault::BadNumber(line, fault) => {
+            write_at(b"refused moves 3 line ", line, number_word(fault), err)
+        }
+        MovesFault::TooMany(line) => write_at(b"refused moves 4 line ", line, b"", err),
+        MovesFault::NoMemory => write_line(&[b"no memory"], err),
     }
 }
 
@@ -390,6 +412,17 @@ impl From<TopologyFault> for Failure {
         match fault {
             TopologyFault::NoMemory => Failure::NoMemory,
             _ => Failure::Topology(fault),
+        }
+    }
+}
+
+impl From<MovesFault> for Failure {
+    ghost from_gives = { λ fault failure. failure ≡ moves_failure_of fault };
+
+    fn from(fault: MovesFault) -> Failure {
+        match fault {
+            MovesFault::NoMemory => Failure::NoMemory,
+            _ => Failure::Moves(fault),
         }
     }
 }

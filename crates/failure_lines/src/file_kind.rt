@@ -14,6 +14,8 @@ pub enum FileKind {
     Report,
     /// A topology.
     Topology,
+    /// Moves of registers.
+    Moves,
 }
 
 impl FileKind {
@@ -27,6 +29,7 @@ impl FileKind {
             FileKind::Placement => b"pl",
             FileKind::Report => b"report",
             FileKind::Topology => b"topology",
+            FileKind::Moves => b"moves",
         }
     }
 }

@@ -172,6 +172,51 @@ fn reads_embed_with_all_options(rt: HostRuntime) {
     }
 }
 
+#[test]
+fn reads_margin_with_all_options(rt: HostRuntime) {
+    let rows: [&[&str]; 2] = [
+        &["margin", "--bench", "F", "--tech", "G", "--period", "11/2"],
+        &["margin", "--period", "11/2", "--tech", "G", "--bench", "F"],
+    ];
+    for row in rows.as_slice() {
+        expect_command(
+            &rt,
+            rt.alloc(),
+            row,
+            Ok(Command::Margin {
+                bench: "F",
+                tech: "G",
+                period: "11/2",
+            }),
+        );
+    }
+}
+
+#[test]
+fn reads_moves_with_all_options(rt: HostRuntime) {
+    let rows: [&[&str]; 2] = [
+        &[
+            "moves", "--bench", "F", "--tech", "G", "--pl", "H", "--moves", "I",
+        ],
+        &[
+            "moves", "--moves", "I", "--pl", "H", "--tech", "G", "--bench", "F",
+        ],
+    ];
+    for row in rows.as_slice() {
+        expect_command(
+            &rt,
+            rt.alloc(),
+            row,
+            Ok(Command::Moves {
+                bench: "F",
+                tech: "G",
+                pl: "H",
+                moves: "I",
+            }),
+        );
+    }
+}
+
 // A command line and its numbers.
 const DEMOS: [(&[&str], &str, &str); 3] = [
     (&["demo", "--registers", "2", "--seed", "0"], "2", "0"),
@@ -200,7 +245,7 @@ fn reads_demo_with_both_numbers(rt: HostRuntime) {
 }
 
 // Words that mean no command.
-const REFUSED: [&[&str]; 24] = [
+const REFUSED: [&[&str]; 26] = [
     &[],
     &["zero"],
     &["zero", "--bench"],
@@ -224,6 +269,10 @@ const REFUSED: [&[&str]; 24] = [
     &["synth", "--tech", "F", "--pl", "F"],
     &["check", "--bench", "F", "--tech", "F", "--pl", "F"],
     &["embed", "--bench", "F", "--tech", "F", "--pl", "F"],
+    &["moves", "--bench", "F", "--tech", "F", "--pl", "F"],
+    &[
+        "embed", "--bench", "F", "--tech", "F", "--pl", "F", "--moves", "F",
+    ],
     &[
         "synth",
         "--bench",

@@ -6,15 +6,18 @@ ghost use Rattle.cts_model.specs.Problems.{GivesUsedKinds};
 ghost use Rattle.cts_model.specs.Hosts.{HasNoHost};
 ghost use Rattle.cts_program.specs.Checks.{RefusesReport};
 ghost use Rattle.cts_program.specs.Files.{IsShortFile};
+ghost use Rattle.cts_program.specs.MoveFiles.{RefusesMovesFile};
 ghost use Rattle.cts_program.specs.TopologyFiles.{RefusesTopologyFile};
-ghost use Rattle.cts_program.specs.Steps.{IsReportedAs, FailsToReadFile, ReadsNetlist, FailsNetlist, ReadsTable, FailsTable, ReadsPlaces, FailsPlaces, ReadsReport, ReadsTopology, FailsLast, IsReadFault};
+ghost use Rattle.cts_program.specs.Steps.{IsReportedAs, FailsToReadFile, ReadsNetlist, FailsNetlist, ReadsTable, FailsTable, ReadsPlaces, FailsPlaces, ReadsReport, ReadsTopology, ReadsMoves, FailsLast, IsReadFault};
 
 use crate::reading::placement::placement_failure;
 use bench_reader::read_bench;
+use cts_base::Listed;
 use cts_io::{Inputs, ReadWhole, read_whole};
 use cts_model::{Circuit, Places, Problem, Report, Tech, Topology, used_kinds};
 use delay_tables::read_tech;
 use failure_lines::{Failure, FileKind};
+use move_session::{Move, read_moves};
 use place_reader::read_places;
 use report_text::read_report;
 use std::alloc::Global;
@@ -130,6 +133,26 @@ pub fn read_topology_file<I: Inputs>(
 {
     let bytes = read_file(alloc, inputs, FileKind::Topology, file)?;
     Ok(read_topology(alloc, &bytes, &problem.circuit)?)
+}
+
+/// The moves of a problem's registers in a file.
+pub fn read_moves_file<I: Inputs>(
+    alloc: Global,
+    inputs: &mut I,
+    file: &str,
+    problem: &Problem,
+) -> Result<Listed<Move>, Failure>
+    ensures ok { IfOk result (ReadsMoves problem.now (I.holds inputs.old file.now)) }
+    ensures cause { IfErr result (FailsLast FileKind.Moves (RefusesMovesFile problem.now)
+        (I.holds inputs.old file.now) (I.faults inputs.old file.now)
+        (I.faults inputs.new file.now)) }
+    ensures files { (other : List ℕ) → I.holds inputs.new other ≡ I.holds inputs.old other }
+    ensures counts { (other : List ℕ) → I.faults inputs.old other ≤ I.faults inputs.new other }
+    ensures stays { ¬ IsReadFault FileKind.Moves result
+        → (other : List ℕ) → I.faults inputs.new other ≡ I.faults inputs.old other }
+{
+    let bytes = read_file(alloc, inputs, FileKind::Moves, file)?;
+    Ok(read_moves(alloc, &bytes, &problem.circuit)?)
 }
 
 // The bytes of a file.

@@ -1,17 +1,20 @@
-use Rattle.std.proofs.Common.{[], ◌∷◌, inr, Err, refl, ap, sym, ◌∙◌, append-nil}
+use Rattle.std.proofs.Common.{◌≡◌, [], ◌∷◌, inr, Err, refl, ap, sym, ◌∙◌, append-nil}
 use Rattle.std.proofs.lemmas.Result.{err_from_is_err_and}
-use Rattle.command_line.specs.declared.command.Command.TheVariants.{Zero, Period, Schedule, Synth, Check, Embed}
+use Rattle.command_line.specs.declared.command.Command.TheVariants.{Zero, Period, Schedule, Synth, Check, Embed, Moves, Margin}
 use Rattle.failure_lines.specs.declared.failure.Failure.{Failure}
 use Rattle.failure_lines.specs.declared.file_kind.FileKind.TheVariants as kinds
 use Rattle.cts_program.specs.Files.{circuit_files}
+use Rattle.cts_program.specs.MarginTexts.{IsMarginText}
 use Rattle.cts_program.specs.PeriodTexts.{IsPeriodText}
 use Rattle.cts_program.specs.ScheduleTexts.{IsScheduleText}
 use Rattle.cts_program.proofs.CheckLemmas.{report_stops, unshown_stops, check_answer}
 use Rattle.cts_program.proofs.EmbedLemmas.{topology_of, topology_stops, tree_stops, embed_answer}
-use Rattle.cts_program.proofs.DemoValues.{demo_values}
-use Rattle.cts_program.proofs.DenotedLemmas.{circuit_stops, denoted_answer, zero_answer}
+use Rattle.cts_program.proofs.MoveLemmas.{moves_stop, wires_stop, moves_answer}
+use Rattle.cts_program.proofs.WireTexts.{near_moves}
+use Rattle.cts_program.proofs.DemoValues.{demo_stops, demo_values, margin_value}
+use Rattle.cts_program.proofs.DenotedLemmas.{circuit_stops, denoted_answer, with_status, zero_answer}
 use Rattle.cts_program.proofs.PlacementLemmas.{circuit_denoted, synth_answer}
-use Rattle.cts_program.proofs.ResultLemmas.{if_err_from}
+use Rattle.cts_program.proofs.ResultLemmas.{if_err_from, no_error, same_error}
 use Rattle.cts_program.proofs.run.command_answer.Goals as goal
 
 pub demo-requires-clause-registers : goal.demo-requires-clause-registers
@@ -69,7 +72,8 @@ returns-in_err-report-in-Check-clause-cause g c =
     let p = err_from_is_err_and c.from_residual-in_err-report-in-Check.result
     c.from_residual-in_err-report-in-Check.ensures.1 in
     let held = c.in_ok-problem-in-Check.ensures.files c.in-Check.report.now in
-    let stood = c.in_ok-problem-in-Check.ensures.stays (λ (kind, e). cc e) c.in-Check.report.now in
+    let stood =
+    c.in_ok-problem-in-Check.ensures.stays (λ (kind, e). no_error e) c.in-Check.report.now in
     rw (p.1, p.2, c.in-Check.is) (report_stops c.in-Check.bench c.in-Check.tech c.in-Check.pl
     c.in-Check.report c.in_ok-problem-in-Check.problem c.in_ok-problem-in-Check.ensures.ok _ _ _
     (rw (held, stood) at c.in_err-report-in-Check.ensures.cause))
@@ -80,9 +84,9 @@ returns-in_err-report-in-Check-clause-stays g c none file =
     c.from_residual-in_err-report-in-Check.ensures.1 in
     c.in_err-report-in-Check.ensures.stays (λ e. none (
       kinds.Report,
-      rw (p.1, p.2) (ap (λ (failure : Failure). Err failure) (cc e)),
+      rw (p.1, p.2) (ap (λ (failure : Failure). Err failure) (same_error e)),
     )) file
-    ∙ c.in_ok-problem-in-Check.ensures.stays (λ (kind, e). cc e) file
+    ∙ c.in_ok-problem-in-Check.ensures.stays (λ (kind, e). no_error e) file
 
 pub returns-in_ok-read_circuit-in-Zero-clause-ok : goal.returns-in_ok-read_circuit-in-Zero-clause-ok
 returns-in_ok-read_circuit-in-Zero-clause-ok g c =
@@ -155,6 +159,11 @@ returns-in_ok-report-in-Check-clause-cause g c =
     c.in_ok-problem-in-Check.problem c.in_ok-problem-in-Check.ensures.ok
     c.in_ok-report-in-Check.report (rw held at c.in_ok-report-in-Check.ensures.ok) _ _))
 
+pub returns-in-Demo-clause-cause : goal.returns-in-Demo-clause-cause
+returns-in-Demo-clause-cause g c =
+    rw c.in-Demo.is (if_err_from c.demo.result _ _ c.demo.ensures.cause
+    (demo_stops c.in-Demo.registers c.in-Demo.seed _ _ _))
+
 pub embed-requires : goal.embed-requires
 embed-requires g c =
     topology_of c.in_ok-problem-in-Embed.problem _ c.in_ok-topology-in-Embed.topology
@@ -175,8 +184,8 @@ returns-in_err-topology-in-Embed-clause-cause g c =
     let p = err_from_is_err_and c.from_residual-in_err-topology-in-Embed.result
     c.from_residual-in_err-topology-in-Embed.ensures.1 in
     let held = c.in_ok-problem-in-Embed.ensures.files c.in-Embed.topology.now in
-    let stood = c.in_ok-problem-in-Embed.ensures.stays (λ (kind, e). cc e) c.in-Embed.topology.now
-    in
+    let stood =
+    c.in_ok-problem-in-Embed.ensures.stays (λ (kind, e). no_error e) c.in-Embed.topology.now in
     rw (p.1, p.2, c.in-Embed.is) (topology_stops c.in-Embed.bench c.in-Embed.tech c.in-Embed.pl
     c.in-Embed.topology c.in_ok-problem-in-Embed.problem c.in_ok-problem-in-Embed.ensures.ok _ _ _
     (rw (held, stood) at c.in_err-topology-in-Embed.ensures.cause))
@@ -188,9 +197,9 @@ returns-in_err-topology-in-Embed-clause-stays g c none file =
     c.from_residual-in_err-topology-in-Embed.ensures.1 in
     c.in_err-topology-in-Embed.ensures.stays (λ e. none (
       kinds.Topology,
-      rw (p.1, p.2) (ap (λ (failure : Failure). Err failure) (cc e)),
+      rw (p.1, p.2) (ap (λ (failure : Failure). Err failure) (same_error e)),
     )) file
-    ∙ c.in_ok-problem-in-Embed.ensures.stays (λ (kind, e). cc e) file
+    ∙ c.in_ok-problem-in-Embed.ensures.stays (λ (kind, e). no_error e) file
 
 pub returns-in_ok-topology-in-Embed-clause-ok : goal.returns-in_ok-topology-in-Embed-clause-ok
 returns-in_ok-topology-in-Embed-clause-ok g c =
@@ -208,3 +217,85 @@ returns-in_ok-topology-in-Embed-clause-cause g c =
     (tree_stops c.in-Embed.bench c.in-Embed.tech c.in-Embed.pl c.in-Embed.topology
     c.in_ok-problem-in-Embed.problem c.in_ok-problem-in-Embed.ensures.ok
     c.in_ok-topology-in-Embed.topology (rw held at c.in_ok-topology-in-Embed.ensures.ok) _ _))
+
+pub margin-requires-clause-period : goal.margin-requires-clause-period
+margin-requires-clause-period g c =
+    margin_value c.in-Margin.bench c.in-Margin.tech c.in-Margin.period
+    (rw c.in-Margin.is at c.requires)
+
+pub returns-in_err-read_circuit-in-Margin-clause-cause :
+    goal.returns-in_err-read_circuit-in-Margin-clause-cause
+returns-in_err-read_circuit-in-Margin-clause-cause g c =
+    let p = err_from_is_err_and c.from_residual-in_err-read_circuit-in-Margin.result
+    c.from_residual-in_err-read_circuit-in-Margin.ensures.1 in
+    rw (p.1, p.2, c.in-Margin.is) (c.in_err-read_circuit-in-Margin.ensures.cause
+    (Margin c.in-Margin.bench c.in-Margin.tech c.in-Margin.period) ([], refl))
+
+pub returns-in_ok-read_circuit-in-Margin-clause-ok :
+    goal.returns-in_ok-read_circuit-in-Margin-clause-ok
+returns-in_ok-read_circuit-in-Margin-clause-ok g c =
+    rw c.in-Margin.is (denoted_answer
+    (Margin c.in-Margin.bench c.in-Margin.tech c.in-Margin.period)
+    c.in_ok-read_circuit-in-Margin.ensures.ok (λ circuit delays status text. (status ≡ 0)
+    × IsMarginText circuit delays c.in-Margin.period.now text)
+    (λ status text answer. (answer.0, with_status answer.1)) c.margin.result c.margin.ensures.few
+    c.margin.ensures.text)
+
+pub returns-in_ok-read_circuit-in-Margin-clause-cause :
+    goal.returns-in_ok-read_circuit-in-Margin-clause-cause
+returns-in_ok-read_circuit-in-Margin-clause-cause g c =
+    rw c.in-Margin.is (if_err_from c.margin.result _ _ c.margin.ensures.cause
+    (λ failure fails. circuit_stops _ _
+    (Margin c.in-Margin.bench c.in-Margin.tech c.in-Margin.period)
+    c.in_ok-read_circuit-in-Margin.ensures.ok (λ pairs. inr pairs) failure fails))
+
+pub moves-requires : goal.moves-requires
+moves-requires g c =
+    near_moves c.in_ok-problem-in-Moves.problem _ c.in_ok-list-in-Moves.list
+    c.in_ok-list-in-Moves.ensures.ok
+
+pub returns-in_err-problem-in-Moves-clause-cause :
+    goal.returns-in_err-problem-in-Moves-clause-cause
+returns-in_err-problem-in-Moves-clause-cause g c =
+    let p = err_from_is_err_and c.from_residual-in_err-problem-in-Moves.result
+    c.from_residual-in_err-problem-in-Moves.ensures.1 in
+    rw (p.1, p.2, c.in-Moves.is) (c.in_err-problem-in-Moves.ensures.cause
+    (Moves c.in-Moves.bench c.in-Moves.tech c.in-Moves.pl c.in-Moves.file)
+    ((kinds.Moves, c.in-Moves.file.now) ∷ [], refl))
+
+pub returns-in_err-list-in-Moves-clause-cause : goal.returns-in_err-list-in-Moves-clause-cause
+returns-in_err-list-in-Moves-clause-cause g c =
+    let p = err_from_is_err_and c.from_residual-in_err-list-in-Moves.result
+    c.from_residual-in_err-list-in-Moves.ensures.1 in
+    let held = c.in_ok-problem-in-Moves.ensures.files c.in-Moves.file.now in
+    let stood =
+    c.in_ok-problem-in-Moves.ensures.stays (λ (kind, e). no_error e) c.in-Moves.file.now in
+    rw (p.1, p.2, c.in-Moves.is) (moves_stop c.in-Moves.bench c.in-Moves.tech c.in-Moves.pl
+    c.in-Moves.file c.in_ok-problem-in-Moves.problem c.in_ok-problem-in-Moves.ensures.ok _ _ _
+    (rw (held, stood) at c.in_err-list-in-Moves.ensures.cause))
+
+pub returns-in_err-list-in-Moves-clause-stays : goal.returns-in_err-list-in-Moves-clause-stays
+returns-in_err-list-in-Moves-clause-stays g c none file =
+    let p = err_from_is_err_and c.from_residual-in_err-list-in-Moves.result
+    c.from_residual-in_err-list-in-Moves.ensures.1 in
+    c.in_err-list-in-Moves.ensures.stays (λ e. none (
+      kinds.Moves,
+      rw (p.1, p.2) (ap (λ (failure : Failure). Err failure) (same_error e)),
+    )) file
+    ∙ c.in_ok-problem-in-Moves.ensures.stays (λ (kind, e). no_error e) file
+
+pub returns-in_ok-list-in-Moves-clause-ok : goal.returns-in_ok-list-in-Moves-clause-ok
+returns-in_ok-list-in-Moves-clause-ok g c =
+    let held = c.in_ok-problem-in-Moves.ensures.files c.in-Moves.file.now in
+    rw c.in-Moves.is (moves_answer c.in-Moves.bench c.in-Moves.tech c.in-Moves.pl c.in-Moves.file
+    c.in_ok-problem-in-Moves.problem c.in_ok-problem-in-Moves.ensures.ok
+    c.in_ok-list-in-Moves.list (rw held at c.in_ok-list-in-Moves.ensures.ok) c.moves.result
+    c.moves.ensures.few c.moves.ensures.text)
+
+pub returns-in_ok-list-in-Moves-clause-cause : goal.returns-in_ok-list-in-Moves-clause-cause
+returns-in_ok-list-in-Moves-clause-cause g c =
+    let held = c.in_ok-problem-in-Moves.ensures.files c.in-Moves.file.now in
+    rw c.in-Moves.is (if_err_from c.moves.result _ _ c.moves.ensures.cause
+    (wires_stop c.in-Moves.bench c.in-Moves.tech c.in-Moves.pl c.in-Moves.file
+    c.in_ok-problem-in-Moves.problem c.in_ok-problem-in-Moves.ensures.ok
+    c.in_ok-list-in-Moves.list (rw held at c.in_ok-list-in-Moves.ensures.ok) _ _))
