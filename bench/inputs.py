@@ -96,4 +96,3 @@ def make(kind, registers, base):
     write(base + ".bench", netlist)
     write(base + ".toml", table_lines(gates, register))
     write(base + ".pl", place_lines(registers))
-    return netlist, gates, register

@@ -15,9 +15,9 @@ import sys
 import tempfile
 
 import inputs
-import sta
 
 TOP = os.path.dirname(os.path.dirname(os.path.abspath(__file__)))
+FLOW = TOP + "/examples/flow"
 # The kinds of inputs, with a number of registers.
 SIZES = {"local": 2000, "sparse": 2000, "ring": 2048, "dense": 512}
 # The options of each command; `demo` has numbers of its own.
@@ -31,6 +31,13 @@ COMMANDS = {
     "demo": (),
 }
 DEMO_REGISTERS = 500
+# OpenSTA finds the worst setup slack of BASE.v with the cells of BASE.lib at a period.
+WORST_SLACK = """read_liberty {base}.lib
+read_verilog {base}.v
+link_design top
+create_clock -period {period} [get_ports clock]
+report_worst_slack
+"""
 
 
 class Failed(Exception):
@@ -65,7 +72,7 @@ class Input:
 
     def __init__(self, kind, registers, room, program):
         self.base, self.program = f"{room}/{kind}{registers}", program
-        self.netlist, self.gates, self.register = inputs.make(kind, registers, self.base)
+        inputs.make(kind, registers, self.base)
 
     def option(self, name):
         """An option with its value."""
@@ -82,8 +89,18 @@ class Input:
         return [self.program, command] + [word for name in COMMANDS[command] for word in self.option(name)]
 
     def sta_words(self, period):
-        sta.make(self.netlist, self.gates, self.register, period, self.base)
+        """OpenSTA with the same circuit, as the scripts of the flow write it."""
+        netlist, table = self.base + ".bench", self.base + ".toml"
+        printed(self.base + ".v", "bench_to_verilog.py", netlist)
+        printed(self.base + ".lib", "table_to_liberty.py", table, "greatest", netlist)
+        inputs.write(self.base + ".tcl", [WORST_SLACK.format(base=self.base, period=period)])
         return ["sta", "-no_splash", "-exit", self.base + ".tcl"]
+
+
+def printed(path, script, *words):
+    """Keeps what a script of the flow prints."""
+    with open(path, "wb") as file:
+        subprocess.run([sys.executable, f"{FLOW}/{script}", *words], stdout=file, check=True)
 
 
 def read(path):
@@ -101,7 +118,8 @@ def beside(kind, pair, runs, out):
     if shutil.which("berkeley-abc"):
         times = [timed(["berkeley-abc", "-q", f"read_bench {one.option('bench')[1]}"], runs, out) for one in pair]
         row("`berkeley-abc` reads the netlist", kind, *times)
-    if shutil.which("sta"):
+    # Its library comes from a script that reads TOML.
+    if shutil.which("sta") and sys.version_info >= (3, 11):
         times = []
         for one in pair:
             timed(one.words("zero"), 1, out)

@@ -12,7 +12,7 @@ CLOCK = "clock"
 
 
 def statements(path):
-    """(KIND, NAME, inputs) for each line: INPUT, OUTPUT, DFF or a gate's kind."""
+    """(KIND, NAME, inputs) for each line: INPUT, OUTPUT, DFF or a gate's kind. BUF is BUFF."""
     for line in open(path, encoding="latin-1"):
         line = line.split("#")[0].strip()
         port = re.fullmatch(r"(INPUT|OUTPUT)\s*\(\s*(\S+)\s*\)", line, re.IGNORECASE)
@@ -20,7 +20,9 @@ def statements(path):
         if port:
             yield port[1].upper(), port[2], []
         elif gate:
-            yield gate[2].upper(), gate[1], [name.strip() for name in gate[3].split(",")]
+            kind = gate[2].upper()
+            reads = [name.strip() for name in gate[3].split(",")]
+            yield "BUFF" if kind == "BUF" else kind, gate[1], reads
         elif line:
             sys.exit(f"{path}: not a line of a netlist: {line}")
 
@@ -35,9 +37,8 @@ def print_instance(kind, name, reads):
     if kind == "DFF":
         print(f"  DFF {output} (.CK({CLOCK}), .D({escaped(reads[0])}), .Q({output}));")
     else:
-        cell = ("BUFF" if kind == "BUF" else kind) + str(len(reads))
         pins = "".join(f".A{place}({escaped(read)}), " for place, read in enumerate(reads, 1))
-        print(f"  {cell} {output} ({pins}.Z({output}));")
+        print(f"  {kind}{len(reads)} {output} ({pins}.Z({output}));")
 
 
 def main():

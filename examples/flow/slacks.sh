@@ -8,13 +8,10 @@ table=$2
 work=$(mktemp -d)
 trap 'rm -rf "$work"' EXIT
 
-width=$(awk '
-    { inputs = gsub(/,/, ",") + 1 }
-    inputs > most { most = inputs }
-    END { print most }' "$netlist")
 "$here/bench_to_verilog.py" "$netlist" >"$work/netlist.v"
-"$here/table_to_liberty.py" "$table" least "$width" >"$work/least.lib"
-"$here/table_to_liberty.py" "$table" greatest "$width" >"$work/greatest.lib"
+for bound in least greatest; do
+    "$here/table_to_liberty.py" "$table" "$bound" "$netlist" >"$work/$bound.lib"
+done
 
 LEAST=$work/least.lib GREATEST=$work/greatest.lib NETLIST=$work/netlist.v CONSTRAINTS=$3 \
     sta -no_splash -exit "$here/slacks.tcl" >"$work/log" 2>&1 </dev/null

@@ -1,11 +1,13 @@
 #!/usr/bin/env python3
-"""table_to_liberty.py FILE.toml least|greatest WIDTH: prints a delay table as a Liberty library.
+"""table_to_liberty.py TABLE.toml least|greatest NETLIST.bench: prints a delay table as Liberty.
 
-Gates have up to WIDTH inputs. The least delays are for hold checks and the greatest for setup
-checks. One tick is a picosecond.
+The library has the cells of the netlist, as bench_to_verilog.py names them. The least delays are
+for hold checks and the greatest for setup checks. One tick is a picosecond.
 """
 import sys
 import tomllib
+
+from bench_to_verilog import statements
 
 FUNCTIONS = {  # what stands in front of the inputs, and between them
     "AND": ("", "&"), "NAND": ("!", "&"), "OR": ("", "|"), "NOR": ("!", "|"),
@@ -47,7 +49,7 @@ def print_register(times, value):
 
 
 def main():
-    path, bound, width = sys.argv[1], sys.argv[2], int(sys.argv[3])
+    path, bound, netlist = sys.argv[1:]
     table = tomllib.load(open(path, "rb"))
     print(f"library ({bound}) {{\n  delay_model : table_lookup;\n  time_unit : \"1ps\";")
     print("  capacitive_load_unit (1, ff);")
@@ -55,10 +57,11 @@ def main():
         print(f"  input_threshold_pct_{edge} : 50; output_threshold_pct_{edge} : 50;")
         print(f"  slew_lower_threshold_pct_{edge} : 20; slew_upper_threshold_pct_{edge} : 80;")
     print_register(table["register"], table["register"][bound])
-    for kind, times in table.get("gate", {}).items():
-        for inputs in [1] if kind in ("NOT", "BUFF") else range(1, width + 1):
-            more = (inputs - 1) * times.get(f"{bound}_per_input", 0)
-            print_gate(kind, inputs, times[bound] + more)
+    cells = {(kind, len(reads)) for kind, _, reads in statements(netlist) if kind in FUNCTIONS}
+    for kind, inputs in sorted(cells):
+        times = table["gate"][kind]
+        more = (inputs - 1) * times.get(f"{bound}_per_input", 0)
+        print_gate(kind, inputs, times[bound] + more)
     print("}")
 
 
