@@ -1,10 +1,12 @@
 #!/usr/bin/env python3
-"""Times each command of the built program on inputs of given sizes and of twice those, and prints a table.
+"""Times each command of the built program on inputs of given sizes and of twice those, and some commands beside another
+one on the same files, with their memory. Prints two tables.
 
 usage: bench/run.py [--runs N] [--registers N] [--program FILE] [COMMAND..]
 
 Without COMMAND all are timed, and where they are installed berkeley-abc, which reads the same netlist, and OpenSTA,
-which finds its worst setup path. A time is the least processor time of some runs.
+which finds its worst setup path. A time is the least processor time of some runs. Memory is what GNU time prints, where
+it is installed.
 """
 import argparse
 import os
@@ -13,6 +15,7 @@ import shutil
 import subprocess
 import sys
 import tempfile
+from typing import NamedTuple, Optional
 
 import inputs
 
@@ -31,6 +34,23 @@ COMMANDS = {
     "demo": (),
 }
 DEMO_REGISTERS = 500
+
+
+class Bar(NamedTuple):
+    """The most that a command may take of what another one does, on an input of a kind and a size."""
+
+    command: str
+    other: str
+    kind: str
+    registers: int
+    time: float
+    memory: Optional[float] = None
+
+
+BARS = [
+    Bar("check", "synth", "sparse", 4000, time=1),
+    Bar("embed", "synth", "sparse", 4000, time=0.5),
+]
 # OpenSTA finds the worst setup slack of BASE.v with the cells of BASE.lib at a period.
 WORST_SLACK = """read_liberty {base}.lib
 read_verilog {base}.v
@@ -56,6 +76,14 @@ def timed(words, runs, out):
             raise Failed(f"{' '.join(words)}: status {os.waitstatus_to_exitcode(status)}, {error.decode()[:200]}")
         times.append(1000 * (usage.ru_utime + usage.ru_stime))
     return min(times)
+
+
+def peak(words, out):
+    """The most memory that a run has at a time, in MB. GNU time starts it: the system counts what the starting process
+    has, and this script has more than the program."""
+    with open(out, "wb") as file:
+        subprocess.run(["time", "-f", "%M", "-o", out + ".memory"] + words, stdout=file, check=True)
+    return int(read(out + ".memory")) / 1024
 
 
 def topology_of(report, path):
@@ -113,6 +141,24 @@ def row(name, kind, less, more):
     print(f"| {name} | {kind} | {less:.1f} ms | {more:.1f} ms | {more / less:.1f} |", flush=True)
 
 
+def bar_row(bar, registers, amounts, unit, most):
+    """A line of the table of commands beside others: what each takes, the ratio, and what that may be at most."""
+    mine, other = amounts
+    cells = [f"`{bar.command}`", f"{bar.kind}, {registers}", f"{mine:.1f} {unit}", f"`{bar.other}`",
+             f"{other:.1f} {unit}", f"{mine / other:.3f}", "" if most is None else f"{most:g}"]
+    print(f"| {' | '.join(cells)} |", flush=True)
+
+
+def compare(bar, registers, runs, room, program):
+    """The least times of two commands that run in turn on the same files, and their memory."""
+    one, out = Input(bar.kind, registers, room, program), room + "/out"
+    words = [one.words(command) for command in (bar.command, bar.other)]
+    rounds = [[timed(command, 1, out) for command in words] for _ in range(runs)]
+    bar_row(bar, registers, [min(times) for times in zip(*rounds)], "ms", bar.time)
+    if shutil.which("time"):
+        bar_row(bar, registers, [peak(command, out) for command in words], "MB", bar.memory)
+
+
 def beside(kind, pair, runs, out):
     """What other programs take for the same netlists, and whether OpenSTA finds the same period at equal arrivals."""
     if shutil.which("berkeley-abc"):
@@ -130,6 +176,34 @@ def beside(kind, pair, runs, out):
         row("OpenSTA finds the worst setup path", kind, *times)
 
 
+def time_sizes(given, commands, room):
+    """The table of times by the size of the input."""
+    print("| What | Input, registers | That many | Twice as many | Ratio |\n|---|---|---|---|---|")
+    out = room + "/out"
+    for kind, size in SIZES.items():
+        size = given.registers or size
+        pair = [Input(kind, registers, room, given.program) for registers in (size, 2 * size)]
+        for command in commands:
+            if command != "demo":
+                times = [timed(one.words(command), given.runs, out) for one in pair]
+                row(f"`{command}`", f"{kind}, {size}", *times)
+        if not given.commands:
+            beside(f"{kind}, {size}", pair, given.runs, out)
+    if "demo" in commands:
+        demos = [[given.program, "demo", "--registers", str(number), "--seed", "1"]
+                 for number in (DEMO_REGISTERS, 2 * DEMO_REGISTERS)]
+        row("`demo`", f"its own, {DEMO_REGISTERS}", *(timed(demo, given.runs, out) for demo in demos))
+
+
+def time_bars(given, commands, room):
+    """The table of commands beside others."""
+    print("\n| What | Input, registers | It takes | Beside | It takes | Ratio | At most |")
+    print("|---" * 7 + "|")
+    for bar in BARS:
+        if bar.command in commands:
+            compare(bar, given.registers or bar.registers, given.runs, room, given.program)
+
+
 def main():
     words = argparse.ArgumentParser(description=__doc__, formatter_class=argparse.RawDescriptionHelpFormatter)
     words.add_argument("--runs", type=int, default=5)
@@ -140,23 +214,9 @@ def main():
     commands = given.commands or list(COMMANDS)
     if not os.access(given.program, os.X_OK):
         sys.exit("bench: no built program: ./cts build makes it")
-    print("| What | Input, registers | That many | Twice as many | Ratio |")
-    print("|---|---|---|---|---|")
     with tempfile.TemporaryDirectory() as room:
-        out = room + "/out"
-        for kind, size in SIZES.items():
-            size = given.registers or size
-            pair = [Input(kind, registers, room, given.program) for registers in (size, 2 * size)]
-            for command in commands:
-                if command != "demo":
-                    times = [timed(one.words(command), given.runs, out) for one in pair]
-                    row(f"`{command}`", f"{kind}, {size}", *times)
-            if not given.commands:
-                beside(f"{kind}, {size}", pair, given.runs, out)
-        if "demo" in commands:
-            demos = [[given.program, "demo", "--registers", str(number), "--seed", "1"]
-                     for number in (DEMO_REGISTERS, 2 * DEMO_REGISTERS)]
-            row("`demo`", f"its own, {DEMO_REGISTERS}", *(timed(demo, given.runs, out) for demo in demos))
+        time_sizes(given, commands, room)
+        time_bars(given, commands, room)
 
 
 try:
