@@ -10,6 +10,7 @@ ROOT = os.path.dirname(os.path.dirname(os.path.abspath(__file__)))
 PROMISES = [
     ("cts_program", "Headline", "IsSynthesisText"),
     ("cts_program", "TopologyFiles", "IsEmbeddedBy"),
+    ("cts_program", "MoveFiles", "IsMovedBy"),
 ]
 HEAD = re.compile(r"(?:abbrev|unfoldable)? ?pub (?:record |data )?([^\s({:]+)")
 NAME = re.compile(r"[A-Za-z_][\w'-]*(?:\.[A-Za-z_][\w'-]*)?")
