@@ -114,23 +114,19 @@ else
 fi
 
 # Two registers move: the wire is that of the same merges with the places as they are then.
-if has_command moves; then
-    first=$(head -n 1 "$work/scheduled" | cut -d ' ' -f 1)
-    last=$(tail -n 1 "$work/scheduled" | cut -d ' ' -f 1)
-    printf '%s 33 7.5\n%s 400 0\n' "$first" "$last" >"$work/moves"
-    holds moves cts wires_of_moves moves "${problem[@]}" --moves "$work/moves"
-    awk -v first="$first" -v last="$last" '
-        $1 == first { $2 = 33; $3 = 7.5 }
-        $1 == last { $2 = 400; $3 = 0 }
-        1' "$work/biquad.pl" >"$work/moved.pl"
-    moved=("${circuit[@]}" --pl "$work/moved.pl" --topology "$work/topology")
-    holds 'embed after the moves' cts moved embed "${moved[@]}"
-    { tail -n 1 "$work/report"; tail -n 1 "$work/moved"; } >"$work/wires_of_trees"
-    sed -i 2d "$work/wires_of_moves"
-    holds 'the wire before and after' same "$work/wires_of_moves" "$work/wires_of_trees"
-else
-    left_out "this program has no moves" 'the move of two registers'
-fi
+first=$(head -n 1 "$work/scheduled" | cut -d ' ' -f 1)
+last=$(tail -n 1 "$work/scheduled" | cut -d ' ' -f 1)
+printf '%s 33 7.5\n%s 400 0\n' "$first" "$last" >"$work/moves"
+holds moves cts wires_of_moves moves "${problem[@]}" --moves "$work/moves"
+awk -v first="$first" -v last="$last" '
+    $1 == first { $2 = 33; $3 = 7.5 }
+    $1 == last { $2 = 400; $3 = 0 }
+    1' "$work/biquad.pl" >"$work/moved.pl"
+moved=("${circuit[@]}" --pl "$work/moved.pl" --topology "$work/topology")
+holds 'embed after the moves' cts moved embed "${moved[@]}"
+{ tail -n 1 "$work/report"; tail -n 1 "$work/moved"; } >"$work/wires_of_trees"
+sed -i 2d "$work/wires_of_moves"
+holds 'the wire before and after' same "$work/wires_of_moves" "$work/wires_of_trees"
 
 # What berkeley-abc itself writes of ANDs and inverters is read: outputs that repeat, buffers, marks
 # in names, wide gates, and registers fed by an input and by a register. Its tables of values and
