@@ -1,7 +1,7 @@
 """Inputs of given sizes: a netlist, a delay table and a placement of each kind, always the same for a kind and a size.
 
 KINDS maps a name to a function that gives the lines of a netlist with that many registers and the rows of its delay
-table. `make` writes the three files.
+table. `make` writes the three files, and a file of moves beside them.
 """
 import random
 
@@ -12,6 +12,8 @@ GATES = {
 }
 # setup, hold, least, greatest
 REGISTER = (35, 20, 19, 60)
+# As many moves as a file may have.
+MOVES = 10000
 
 
 def local(registers):
@@ -85,14 +87,21 @@ def place_lines(registers):
     return ["UCLA pl 1.0"] + lines + ["CLK 5000 5000 : N /FIXED"]
 
 
+def move_lines(registers):
+    """Moves of random registers to random places of that square."""
+    chance = random.Random(f"moves/{registers}")
+    return [f"r{chance.randrange(registers)} {chance.randrange(10000)} {chance.randrange(10000)}" for _ in range(MOVES)]
+
+
 def write(path, lines):
     with open(path, "w", encoding="ascii") as file:
         file.write("\n".join(lines) + "\n")
 
 
 def make(kind, registers, base):
-    """Writes base.bench, base.toml and base.pl."""
+    """Writes base.bench, base.toml, base.pl and base.moves."""
     netlist, gates, register = KINDS[kind](registers)
     write(base + ".bench", netlist)
     write(base + ".toml", table_lines(gates, register))
     write(base + ".pl", place_lines(registers))
+    write(base + ".moves", move_lines(registers))

@@ -31,6 +31,7 @@ COMMANDS = {
     "synth": ("bench", "tech", "pl"),
     "check": ("bench", "tech", "pl", "report"),
     "embed": ("bench", "tech", "pl", "topology"),
+    "moves": ("bench", "tech", "pl", "moves"),
     "demo": (),
 }
 DEMO_REGISTERS = 500
@@ -45,11 +46,14 @@ class Bar(NamedTuple):
     registers: int
     time: float
     memory: Optional[float] = None
+    # How many runs of the other one it stands for.
+    runs: int = 1
 
 
 BARS = [
     Bar("check", "synth", "sparse", 4000, time=1),
     Bar("embed", "synth", "sparse", 4000, time=0.5),
+    Bar("moves", "embed", "sparse", 4000, time=1 / 20, runs=inputs.MOVES),
 ]
 # OpenSTA finds the worst setup slack of BASE.v with the cells of BASE.lib at a period.
 WORST_SLACK = """read_liberty {base}.lib
@@ -141,10 +145,12 @@ def row(name, kind, less, more):
     print(f"| {name} | {kind} | {less:.1f} ms | {more:.1f} ms | {more / less:.1f} |", flush=True)
 
 
-def bar_row(bar, registers, amounts, unit, most):
-    """A line of the table of commands beside others: what each takes, the ratio, and what that may be at most."""
-    mine, other = amounts
-    cells = [f"`{bar.command}`", f"{bar.kind}, {registers}", f"{mine:.1f} {unit}", f"`{bar.other}`",
+def bar_row(bar, registers, amounts, unit, most, runs=1):
+    """A line of the table of commands beside others: what each takes, the other one for so many runs, the ratio, and
+    what that may be at most."""
+    mine, other = amounts[0], amounts[1] * runs
+    name = f"`{bar.other}`" + (f" {runs:,} times" if runs > 1 else "")
+    cells = [f"`{bar.command}`", f"{bar.kind}, {registers}", f"{mine:.1f} {unit}", name,
              f"{other:.1f} {unit}", f"{mine / other:.3f}", "" if most is None else f"{most:g}"]
     print(f"| {' | '.join(cells)} |", flush=True)
 
@@ -154,7 +160,7 @@ def compare(bar, registers, runs, room, program):
     one, out = Input(bar.kind, registers, room, program), room + "/out"
     words = [one.words(command) for command in (bar.command, bar.other)]
     rounds = [[timed(command, 1, out) for command in words] for _ in range(runs)]
-    bar_row(bar, registers, [min(times) for times in zip(*rounds)], "ms", bar.time)
+    bar_row(bar, registers, [min(times) for times in zip(*rounds)], "ms", bar.time, bar.runs)
     if shutil.which("time"):
         bar_row(bar, registers, [peak(command, out) for command in words], "MB", bar.memory)
 
