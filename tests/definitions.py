@@ -11,6 +11,7 @@ PROMISES = [
     ("cts_program", "Headline", "IsSynthesisText"),
     ("cts_program", "TopologyFiles", "IsEmbeddedBy"),
     ("cts_program", "MoveFiles", "IsMovedBy"),
+    ("cts_program", "MarginTexts", "IsMarginText"),
 ]
 HEAD = re.compile(r"(?:abbrev|unfoldable)? ?pub (?:record |data )?([^\s({:]+)")
 NAME = re.compile(r"[A-Za-z_][\w'-]*(?:\.[A-Za-z_][\w'-]*)?")
