@@ -94,14 +94,10 @@ holds embed cts embedded embed "${problem[@]}" --topology "$work/topology"
 holds 'the printed merges give the report again' same "$work/report" "$work/embedded"
 
 # At the period of equal arrivals, the margin is what useful skew gives to every check.
-if has_command margin; then
-    holds margin cts margin margin "${circuit[@]}" --period "$zero"
-    holds 'there is a margin' at_least "$(word margin margin)" 1
-    holds 'margin at the least period' cts least margin "${circuit[@]}" --period "$period"
-    holds 'there is none' near "$(word margin least)" 0
-else
-    left_out "this program has no margin" 'the margin'
-fi
+holds margin cts margin margin "${circuit[@]}" --period "$zero"
+holds 'there is a margin' at_least "$(word margin margin)" 1
+holds 'margin at the least period' cts least margin "${circuit[@]}" --period "$period"
+holds 'there is none' near "$(word margin least)" 0
 
 # A fast corner has seven tenths of all times.
 fast=$work/fast.toml
@@ -218,10 +214,8 @@ if has sta && python3 -c 'import tomllib' 2>/dev/null; then
     holds 'the delays of the wires' wire_delays
     holds 'OpenSTA with the delays of the wires' signed_off wires "$table"
     holds 'each slack is the same with them' printed schedule wires
-    if has_command margin; then
-        holds 'OpenSTA at the margin' signed_off margin "$table"
-        holds 'the worst slack is the margin' near "$(worst both margin)" "$(word margin margin)"
-    fi
+    holds 'OpenSTA at the margin' signed_off margin "$table"
+    holds 'the worst slack is the margin' near "$(worst both margin)" "$(word margin margin)"
     if has_command corners; then
         holds 'OpenSTA at the first corner' signed_off corners "$table"
         mv "$work/corners.slacks" "$work/first.slacks"
