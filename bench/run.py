@@ -31,6 +31,7 @@ COMMANDS = {
     "synth": ("bench", "tech", "pl"),
     "check": ("bench", "tech", "pl", "report"),
     "embed": ("bench", "tech", "pl", "topology"),
+    "margin": ("bench", "tech", "period"),
     "moves": ("bench", "tech", "pl", "moves"),
     "demo": (),
 }
@@ -53,6 +54,8 @@ class Bar(NamedTuple):
 BARS = [
     Bar("check", "synth", "sparse", 4000, time=1),
     Bar("embed", "synth", "sparse", 4000, time=0.5),
+    # As many registers as s38417 has.
+    Bar("margin", "period", "local", 1636, time=1.5),
     Bar("moves", "embed", "sparse", 4000, time=1 / 20, runs=inputs.MOVES),
 ]
 # OpenSTA finds the worst setup slack of BASE.v with the cells of BASE.lib at a period.
@@ -109,6 +112,10 @@ class Input:
     def option(self, name):
         """An option with its value."""
         path = f"{self.base}.{name}"
+        if name == "period":
+            # That of equal arrivals.
+            timed(self.words("zero"), 1, path)
+            return ["--period", read(path).split()[1]]
         if name == "tech":
             path = self.base + ".toml"
         elif name == "report" and not os.path.exists(path):
