@@ -166,7 +166,7 @@ answer_unproved() {
     local words=() files=() option='' word status
     for word in "$@"; do
         case $option:$word in
-            --bench:[!-]* | --tech:[!-]* | --pl:[!-]* | --report:[!-]* | --topology:[!-]*)
+            --bench:[!-]* | --tech:[!-]* | --pl:[!-]* | --report:[!-]* | --topology:[!-]* | --moves:[!-]*)
                 local name=file${#words[@]}
                 # A byte more than a file may have is enough for its refusal.
                 if head -c $((most_bytes + 1)) "$word" >"$room/$name" 2>/dev/null; then
