@@ -165,6 +165,8 @@ answer_unproved() {
     say "./cts build proves and builds the program once, in $build_time"
     local words=() files=() option='' word status
     for word in "$@"; do
+        # The tables of `corners` stand as plain words after its option.
+        [ "$1" != corners ] || [ ${#words[@]} -lt 3 ] || option=--tech
         case $option:$word in
             --bench:[!-]* | --tech:[!-]* | --pl:[!-]* | --report:[!-]* | --topology:[!-]* | --moves:[!-]*)
                 local name=file${#words[@]}

@@ -44,6 +44,13 @@ spared=$'period 14\nmargin 1\ncycle 1\nsetup G6 G6 13\nregisters 3\nG5 2\nG6 0\n
 expect 'what s27 can spare' 0 "$spared" '' "$top/cts" margin --bench "$s27" --tech "$table" --period 14
 expect 'what no path asks' 0 $'period 7/3\nmargin none\nregisters 1\na 0' '' \
     "$top/cts" margin --period 7/3 --bench "$top/examples/floor.bench" --tech "$table"
+served=$'period 13\ncycle 1\nsetup G6 G6 13 1\nregisters 3\nG5 2\nG6 0\nG7 0'
+expect 'one corner of s27' 0 "$served" '' "$top/cts" corners --bench "$s27" "$table"
+expect 'the same corner twice' 0 "$served" '' "$top/cts" corners --bench "$s27" "$table" "$table"
+expect 'no table of a corner' 4 '' 'read fault corner 2' \
+    "$top/cts" corners --bench "$s27" "$table" "$work/none"
+expect 'a netlist as a table' 3 '' 'refused corner 2 tech 1' \
+    "$top/cts" corners --bench "$s27" "$table" "$s27"
 places=$top/examples/s27.pl
 # Which path gives the weight and which pair shows a merge is free: here it is these.
 tree='cts 2
@@ -311,6 +318,7 @@ usage='usage: cts zero --bench F [--tech F] | cts period --bench F --tech F | ct
 usage+=' | cts synth --bench F --tech F --pl F | cts check --bench F --tech F --pl F --report F'
 usage+=' | cts demo --registers N --seed S | cts embed --bench F --tech F --pl F --topology F'
 usage+=' | cts margin --bench F --tech F --period P | cts moves --bench F --tech F --pl F --moves F'
+usage+=' | cts corners --bench F T1 .. Tk'
 expect 'no words' 2 '' "$usage" "$top/cts"
 expect 'the name last' 2 '' "$usage" "$top/cts" --tech F --bench F zero
 expect 'an option twice' 2 '' "$usage" "$top/cts" zero --bench F --tech F --tech F
@@ -325,6 +333,7 @@ expect 'an embedding without a topology' 2 '' "$usage" "$top/cts" embed --bench 
 expect 'a margin without a period' 2 '' "$usage" "$top/cts" margin --bench F --tech F
 expect 'not in lowest terms' 2 '' "$usage" "$top/cts" margin --bench F --tech F --period 6/4
 expect 'too long a period' 2 '' "$usage" "$top/cts" margin --bench F --tech F --period 1000000000000000
+expect 'no table of any corner' 2 '' "$usage" "$top/cts" corners --bench F
 expect 'too few registers' 2 '' "$usage" "$top/cts" demo --registers 1 --seed 0
 expect 'too many registers' 2 '' "$usage" "$top/cts" demo --registers 1001 --seed 0
 expect 'too large a seed' 2 '' "$usage" "$top/cts" demo --registers 2 --seed 1000

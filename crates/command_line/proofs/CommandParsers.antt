@@ -20,7 +20,7 @@ use Rattle.command_line.specs.declared.table.Form.TheVariants.{Zero}
 use Rattle.command_line.specs.declared.table.Choice.{Choice}
 use Rattle.command_line.specs.CommandTable.{Word, word_of, kind_of, is_required, form_name, choices_of}
 use Rattle.command_line.specs.Commands.{Given, IsTaken, is_value, is_taken, is_file_name, option_words}
-use Rattle.command_line.specs.PlainWords.{has_option, are_options, has_required, row_values, IsPlain}
+use Rattle.command_line.specs.PlainWords.{has_option, are_options, has_required, row_values, IsPlainHead}
 use Rattle.command_line.specs.Parsers.{long_name, parser_for}
 use Rattle.command_line.proofs.GivenOptions.{both, is_word, value_of, has_option-value, values_in, SpellsOptions}
 use Rattle.command_line.proofs.NumberWords.{value_first}
@@ -158,7 +158,7 @@ read_all rules choices each (one ∷ more) taken = (
 
 -- ---- plain words, read
 
-module _ (words : List Word) (form : Form) (plain : IsPlain words form) where
+module _ (words : List Word) (form : Form) (plain : IsPlainHead words form) where
   -- the options that they spell, and the parser for them
   abbrev options : SpellsOptions (choices_of form) plain.others
   options = spelled words form plain

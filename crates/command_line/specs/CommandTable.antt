@@ -1,11 +1,11 @@
 -- The table of commands: the name and the options of each, as they stand in the usage line.
-use Rattle.std.specs.Prelude.{ℕ, Bool, true, false, List, [], ◌∷◌, ◌++◌, Option, drop, find, codes, if◌then◌else◌}
+use Rattle.std.specs.Prelude.{ℕ, nat_le, Bool, true, false, List, [], ◌∷◌, ◌++◌, Option, drop, find, codes, if◌then◌else◌}
 use Rattle.std.specs.List.{flat_map}
 use Rattle.std.specs.Str.{bytes_eq}
 use Rattle.command_line.specs.declared.command.Command.{Command}
 use Rattle.command_line.specs.declared.command.Command.TheVariants as command
 use Rattle.command_line.specs.declared.table.Form.{Form}
-use Rattle.command_line.specs.declared.table.Form.TheVariants.{Zero, Period, Schedule, Synth, Check, Demo, Embed, Moves, Margin}
+use Rattle.command_line.specs.declared.table.Form.TheVariants.{Zero, Period, Schedule, Synth, Check, Demo, Embed, Moves, Margin, Corners}
 use Rattle.command_line.specs.declared.table.Choice.{Choice}
 use Rattle.command_line.specs.declared.table.Choice.TheVariants as option
 use Rattle.command_line.specs.declared.table.ValueKind.{ValueKind}
@@ -17,7 +17,7 @@ Word = List ℕ
 
 -- all commands
 abbrev pub forms : List Form
-forms = Zero ∷ Period ∷ Schedule ∷ Synth ∷ Check ∷ Demo ∷ Embed ∷ Margin ∷ Moves ∷ []
+forms = Zero ∷ Period ∷ Schedule ∷ Synth ∷ Check ∷ Demo ∷ Embed ∷ Margin ∷ Moves ∷ Corners ∷ []
 
 -- the name of a command, and its options
 abbrev pub row_of : Form → Word × List Choice
@@ -33,6 +33,12 @@ row_of Embed =
 row_of Margin = (codes "margin", option.Bench ∷ option.Tech ∷ option.Period ∷ [])
 row_of Moves =
     (codes "moves", option.Bench ∷ option.Tech ∷ option.Placement ∷ option.MovesFile ∷ [])
+row_of Corners = (codes "corners", option.Bench ∷ [])
+
+-- how many delay tables stand as plain words after the options of a command, at least and at most
+abbrev pub table_bounds : Form → ℕ × ℕ
+table_bounds Corners = (1, 16)
+table_bounds form = (0, 0)
 
 -- the word of an option
 abbrev pub word_of : Choice → Word
@@ -70,6 +76,7 @@ form_of (command.Demo registers seed) = Demo
 form_of (command.Embed bench tech pl topology) = Embed
 form_of (command.Margin bench tech period) = Margin
 form_of (command.Moves bench tech pl moves) = Moves
+form_of (command.Corners bench tables) = Corners
 
 -- the name of a command
 abbrev pub form_name : Form → Word
@@ -96,9 +103,18 @@ option_usage choice =
     let words = word_of choice ++ letter_of (kind_of choice) in
     if is_required choice then codes " " ++ words else codes " [" ++ words ++ codes "]"
 
+-- whether a command takes delay tables as plain words
+abbrev pub takes_tables : Form → Bool
+takes_tables form = nat_le 1 (table_bounds form).1
+
+-- the delay tables in the usage line
+abbrev pub tables_usage : Form → Word
+tables_usage form = if takes_tables form then codes " T1 .. Tk" else []
+
 -- the words of a command in the usage line
 abbrev pub form_usage : Form → Word
 form_usage form = codes " | cts " ++ form_name form ++ flat_map option_usage (choices_of form)
+    ++ tables_usage form
 
 -- the usage line: the words of each command, with a bar between two
 abbrev pub usage : Word

@@ -1,16 +1,17 @@
 -- The words of a command line, and the command that they mean.
-use Rattle.std.specs.Prelude.{◌≡◌, ◌==◌, ◌&&◌, ◌^◌, ℕ, pos, nat_le, Bool, false, not, IsTrue, List, [], ◌∷◌, ◌++◌, length, Option, Some, option_map, option_to_list}
-use Rattle.std.specs.List.{All, flat_map, list_any, range_with_len}
+use Rattle.std.specs.Prelude.{◌≡◌, ◌==◌, ◌&&◌, ◌^◌, ℕ, pos, nat_le, Bool, false, not, IsTrue, List, [], ◌∷◌, ◌++◌, length, Option, Some, option_map, option_to_list, map, string_bytes}
+use Rattle.std.specs.List.{All, flat_map, list_any, range_with_len, list_all}
 use Rattle.std.specs.List.Sorted.{IsPermutation}
 use Rattle.std.specs.Str.{all_ascii_digits, bytes_eq}
 use Rattle.std.specs.Str.Parse.{digits_value}
 use Rattle.cts_base.specs.Fractions.{quotient_text}
 use Rattle.command_line.specs.declared.command.Command.{Command}
-use Rattle.command_line.specs.declared.command.Command.TheVariants.{Zero, Period, Schedule, Synth, Check, Demo, Embed, Moves, Margin}
+use Rattle.command_line.specs.declared.command.Command.TheVariants.{Zero, Period, Schedule, Synth, Check, Demo, Embed, Moves, Margin, Corners}
 use Rattle.command_line.specs.declared.table.Choice.{Choice}
 use Rattle.command_line.specs.declared.table.ValueKind.{ValueKind}
 use Rattle.command_line.specs.declared.table.ValueKind.TheVariants as kind
-use Rattle.command_line.specs.CommandTable.{Word, word_of, kind_of, form_of, form_name, choices_of}
+use Rattle.command_line.specs.declared.table.Form.{Form}
+use Rattle.command_line.specs.CommandTable.{Word, word_of, kind_of, form_of, form_name, choices_of, table_bounds}
 
 -- an option and its value
 abbrev pub Given : Type 0
@@ -30,6 +31,12 @@ values_of (Embed bench tech pl topology) =
 values_of (Margin bench tech period) = Some bench.now ∷ Some tech.now ∷ Some period.now ∷ []
 values_of (Moves bench tech pl moves) =
     Some bench.now ∷ Some tech.now ∷ Some pl.now ∷ Some moves.now ∷ []
+values_of (Corners bench tables) = Some bench.now ∷ []
+
+-- the delay tables that stand after a command's options
+abbrev pub tables_of : Command → List Word
+tables_of (Corners bench tables) = map string_bytes tables.now
+tables_of command = []
 
 -- an option with its value, if it has one
 abbrev pub listed_one : Choice → Option Word → List Given
@@ -95,18 +102,29 @@ IsTaken choices one = IsTrue (is_taken choices one.0 one.1)
 abbrev pub HasValidValues : Command → Type 0
 HasValidValues command = All (IsTaken (choices_of (form_of command))) (options_of command)
 
+-- the words are as many files' names as a command of this form takes delay tables
+abbrev pub are_tables : Form → List Word → Bool
+are_tables form tables = nat_le (table_bounds form).0 (length tables)
+    && (nat_le (length tables) (table_bounds form).1 && list_all is_file_name tables)
+
+-- so are those of a command
+abbrev pub HasValidTables : Command → Type 0
+HasValidTables command = IsTrue (are_tables (form_of command) (tables_of command))
+
 -- options as words: each is followed by its value
 abbrev pub option_words : List Given → List Word
 option_words given = flat_map (λ one. one.0 ∷ one.1 ∷ []) given
 
--- the words are the name of the command, and after it its options in some order
+-- the words are the name of the command, after it its options in some order, and then its tables
 pub record IsCommand (words : List Word) (command : Command) : Type 0 where
   pub given : List Given
-  pub words_are : words ≡ name_of command ∷ option_words given
+  pub words_are : words ≡ name_of command ∷ (option_words given ++ tables_of command)
   pub options : IsPermutation (options_of command) given
   pub values : HasValidValues command
+  pub tables : HasValidTables command
 
--- the commands have one name, and the same options with the same values
+-- the commands have one name, the same options with the same values, and the same tables
 pub record IsSame (command other : Command) : Type 0 where
   pub name : name_of command ≡ name_of other
   pub options : options_of command ≡ options_of other
+  pub tables : tables_of command ≡ tables_of other

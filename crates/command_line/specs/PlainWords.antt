@@ -1,11 +1,11 @@
 -- What the reader of a command line tests of its words.
-use Rattle.std.specs.Prelude.{◌≡◌, ◌&&◌, ◌||◌, Bool, true, false, not, List, [], ◌∷◌, Option, is_some, map}
+use Rattle.std.specs.Prelude.{◌≡◌, ◌&&◌, ◌||◌, ◌*◌, Bool, true, false, not, if◌then◌else◌, List, [], ◌∷◌, ◌++◌, length, take, drop, Option, is_some, map}
 use Rattle.std.specs.Str.{bytes_eq}
 use Rattle.std.specs.List.{list_all}
 use Rattle.command_line.specs.declared.table.Form.{Form}
 use Rattle.command_line.specs.declared.table.Choice.{Choice}
-use Rattle.command_line.specs.CommandTable.{Word, word_of, is_required, form_name, choices_of}
-use Rattle.command_line.specs.Commands.{is_taken}
+use Rattle.command_line.specs.CommandTable.{Word, word_of, is_required, form_name, choices_of, takes_tables}
+use Rattle.command_line.specs.Commands.{is_taken, are_tables}
 
 -- the option stands among options with values
 unfoldable pub has_option : Word → List Word → Bool
@@ -33,10 +33,28 @@ abbrev pub are_plain : List Choice → List Word → Bool
 are_plain choices words = are_options choices words && has_required choices words
 
 -- the words are the name of a command of this form, and after it options of that command
-pub record IsPlain (words : List Word) (form : Form) : Type 0 where
+pub record IsPlainHead (words : List Word) (form : Form) : Type 0 where
   pub others : List Word
   pub words_are : words ≡ form_name form ∷ others
   pub options : are_plain (choices_of form) others ≡ true
+
+-- the words are that, and after it these tables of the command
+pub record IsPlain (words tables : List Word) (form : Form) : Type 0 where
+  pub head : List Word
+  pub words_are : words ≡ head ++ tables
+  pub plain : IsPlainHead head form
+  pub files : are_tables form tables ≡ true
+
+-- of the words after the name of a command those that stand before its tables: all, where it takes
+-- none, else as many as each of its options and their values are
+abbrev pub before_tables : {X : Type 0} → Form → List X → List X
+before_tables form words =
+    if takes_tables form then take (2 * length (choices_of form)) words else words
+
+-- and those after them
+abbrev pub tables_among : {X : Type 0} → Form → List X → List X
+tables_among form words =
+    if takes_tables form then drop (2 * length (choices_of form)) words else []
 
 -- the values of a row's options
 abbrev pub row_values : (Word → Option Word) → List Choice → List (Option Word)

@@ -65,6 +65,11 @@ pub enum Command<'a> {
         pl: &'a str,
         moves: &'a str,
     },
+    /// The least period and the least schedule that serve several delay tables, one for each corner.
+    Corners {
+        bench: &'a str,
+        tables: &'a [String],
+    },
 }
 
 /// Why words aren't read as a command.
@@ -89,10 +94,10 @@ pub fn read_command<'a>(alloc: Global, words: &'a [String]) -> Result<Command<'a
     ensures memory { IsErrOf result WordsFault.NoMemory
         → (command : Command) × IsCommand (map string_bytes words.now) command }
 {
-    let Some(form) = plain_form(words) else {
+    let Some((form, tables)) = plain_form(words) else {
         return Err(WordsFault::Usage);
     };
-    match parsed(alloc, form, words) {
+    match parsed(alloc, form, words, tables) {
         Ok(command) => Ok(command),
         // Plain words are refused for want of memory alone.
         Err(_) => Err(WordsFault::NoMemory),

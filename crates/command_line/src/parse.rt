@@ -3,7 +3,7 @@
 ghost use Rattle.std.specs.Prelude.{◌≡◌, map, option_map, option_and_then, slice_get, string_bytes, true, false, IfOk, IfErr};
 ghost use Rattle.clap.specs.Words.{app_of, rule_of, kind_of, found_of, first_value};
 ghost use Rattle.command_line.specs.CommandTable.{choices_of, form_of, word_of};
-ghost use Rattle.command_line.specs.Commands.{values_of, IsCommand};
+ghost use Rattle.command_line.specs.Commands.{values_of, tables_of, are_tables, IsCommand};
 ghost use Rattle.command_line.specs.PlainWords.{has_values, row_values, IsPlain};
 ghost use Rattle.command_line.specs.Parsers.{long_name, rule_for, parser_for};
 
@@ -13,21 +13,31 @@ use clap::error::ErrorKind;
 use clap::{Arg, ArgAction, ArgMatches, Command as Parser, Error};
 use std::alloc::{AllocError, Global};
 
-/// The command that plain words mean. The parser refuses them for want of memory alone.
-pub fn parsed<'a>(alloc: Global, form: Form, words: &'a [String]) -> Result<Command<'a>, Error>
-    requires { IsPlain (map string_bytes words.now) form }
+/// The command that plain words mean, of which the last are these tables. The parser refuses the
+/// words before them for want of memory alone.
+pub fn parsed<'a>(
+    alloc: Global,
+    form: Form,
+    words: &'a [String],
+    tables: &'a [String],
+) -> Result<Command<'a>, Error>
+    requires { IsPlain (map string_bytes words.now) (map string_bytes tables.now) form }
     ensures ok { IfOk result (IsCommand (map string_bytes words.now)) }
     ensures err { IfErr result (λ error. kind_of error ≡ ErrorKind.OutOfMemory) }
 {
-    let matches = parser(alloc, form)?.try_get_matches_from(words)?;
-    Ok(command_of(form, &matches))
+    let head = words.split_at(words.len() - tables.len()).0;
+    let matches = parser(alloc, form)?.try_get_matches_from(head)?;
+    Ok(command_of(form, &matches, tables))
 }
 
-// The command whose options have the values that were found, in the order of its row.
-fn command_of<'a>(form: Form, matches: &ArgMatches<'a>) -> Command<'a>
-    requires { has_values (choices_of form)
+// The command whose options have the values that were found, in the order of its row, and which has
+// these tables.
+fn command_of<'a>(form: Form, matches: &ArgMatches<'a>, tables: &'a [String]) -> Command<'a>
+    requires values { has_values (choices_of form)
         (row_values (first_value (found_of matches.now)) (choices_of form)) ≡ true }
+    requires tables { are_tables form (map string_bytes tables.now) ≡ true }
     ensures form { form_of result ≡ form }
+    ensures tables { tables_of result ≡ map string_bytes tables.now }
     ensures values { values_of result
         ≡ row_values (first_value (found_of matches.now)) (choices_of form) }
 {
@@ -75,6 +85,7 @@ fn command_of<'a>(form: Form, matches: &ArgMatches<'a>) -> Command<'a>
                 moves,
             }
         }
+        (Form::Corners, [Some(bench), ..]) => Command::Corners { bench, tables },
         _ => unreachable!(),
     }
 }

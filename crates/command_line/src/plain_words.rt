@@ -1,20 +1,22 @@
-//! Whether words are plain: a command's name, and after it options of that command with values.
+//! Whether words are plain: a command's name, after it options of that command with values, and then
+//! the delay tables that it takes.
 
 ghost use Rattle.std.specs.Prelude.{◌≡◌, ◌↔◌, ◌||◌, not, map, string_bytes, IsTrue, IfSome, IsNone};
 ghost use Rattle.std.specs.Char.{is_ascii_digit};
 ghost use Rattle.std.specs.List.{list_all};
 ghost use Rattle.cts_model.specs.Schedules.{IsMarginPeriod};
 ghost use Rattle.command_line.specs.declared.command.Command.{Command};
-ghost use Rattle.command_line.specs.CommandTable.{is_required, word_of};
-ghost use Rattle.command_line.specs.Commands.{is_file_name, is_number_within, is_period, is_value, is_taken, IsCommand};
-ghost use Rattle.command_line.specs.PlainWords.{IsPlain, has_option, is_option, are_options, has_required, are_plain};
+ghost use Rattle.command_line.specs.CommandTable.{is_required, word_of, takes_tables};
+ghost use Rattle.command_line.specs.Commands.{is_file_name, is_number_within, is_period, is_value, is_taken, IsCommand, are_tables};
+ghost use Rattle.command_line.specs.PlainWords.{IsPlain, has_option, is_option, are_options, has_required, are_plain, before_tables, tables_among};
 
 use crate::table::{Choice, Form, ValueKind};
 use cts_base::{Fraction, read_fraction};
 
-/// The form of the command that plain words mean.
-pub fn plain_form(words: &[String]) -> Option<Form>
-    ensures some { IfSome result (IsPlain (map string_bytes words.now)) }
+/// The form of the command that plain words mean, and the tables at their end.
+pub fn plain_form<'a>(words: &'a [String]) -> Option<(Form, &'a [String])>
+    ensures some { IfSome result (λ plain. IsPlain (map string_bytes words.now)
+        (map string_bytes plain.1.now) plain.0) }
     ensures none { IsNone result → (command : Command)
         → IsCommand (map string_bytes words.now) command → ⊥ }
 {
@@ -22,10 +24,47 @@ pub fn plain_form(words: &[String]) -> Option<Form>
         return None;
     };
     let form = Form::named(name.as_str())?;
-    if are_plain(form.row().1, others) {
-        Some(form)
+    let (options, tables) = parts(form, others);
+    if are_plain(form.row().1, options) && are_tables(form, tables) {
+        Some((form, tables))
     } else {
         None
+    }
+}
+
+// The words after a command's name: those before its tables, and those after them.
+fn parts<'a>(form: Form, words: &'a [String]) -> (&'a [String], &'a [String])
+    ensures options { result.0.now ≡ before_tables form words.now }
+    ensures tables { result.1.now ≡ tables_among form words.now }
+{
+    let options = 2 * form.row().1.len();
+    if takes_tables(form) && options < words.len() {
+        words.split_at(options)
+    } else {
+        (words, &[])
+    }
+}
+
+fn takes_tables(form: Form) -> bool
+    ensures { result ≡ takes_tables form }
+{
+    form.table_bounds().1 >= 1
+}
+
+// The words are as many files' names as the command takes tables.
+fn are_tables(form: Form, words: &[String]) -> bool
+    ensures { result ≡ are_tables form (map string_bytes words.now) }
+{
+    let (least, most) = form.table_bounds();
+    least <= words.len() && (words.len() <= most && are_file_names(words))
+}
+
+fn are_file_names(words: &[String]) -> bool
+    ensures { result ≡ list_all is_file_name (map string_bytes words.now) }
+{
+    match words {
+        [word, others @ ..] => is_file_name(word.as_str()) && are_file_names(others),
+        _ => true,
     }
 }
 

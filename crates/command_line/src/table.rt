@@ -3,10 +3,10 @@
 ghost use Rattle.std.specs.Prelude.{◌≡◌, find, IfSome};
 ghost use Rattle.std.specs.Str.{bytes_eq};
 ghost use Rattle.command_line.specs.declared.table.Form.{Form};
-ghost use Rattle.command_line.specs.CommandTable.{forms, form_name, form_named, choices_of, word_of, kind_of, is_required};
+ghost use Rattle.command_line.specs.CommandTable.{forms, form_name, form_named, choices_of, table_bounds, word_of, kind_of, is_required};
 
 use Choice::{Bench, MovesFile, Placement, Registers, Report, Seed, Tech, TechIfWanted, Topology};
-use Form::{Check, Demo, Embed, Margin, Moves, Period, Schedule, Synth, Zero};
+use Form::{Check, Corners, Demo, Embed, Margin, Moves, Period, Schedule, Synth, Zero};
 
 /// A command without the values of its options.
 #[derive(Clone, Copy, Debug, Drop, PartialEq)]
@@ -20,6 +20,7 @@ pub enum Form {
     Embed,
     Margin,
     Moves,
+    Corners,
 }
 
 /// An option of a command, which stands at most once after its name.
@@ -47,8 +48,8 @@ pub enum ValueKind {
     Period,
 }
 
-const FORMS: [Form; 9] = [
-    Zero, Period, Schedule, Synth, Check, Demo, Embed, Margin, Moves,
+const FORMS: [Form; 10] = [
+    Zero, Period, Schedule, Synth, Check, Demo, Embed, Margin, Moves, Corners,
 ];
 
 impl Form {
@@ -67,6 +68,18 @@ impl Form {
             Embed => ("embed", &[Bench, Tech, Placement, Topology]),
             Margin => ("margin", &[Bench, Tech, Choice::Period]),
             Moves => ("moves", &[Bench, Tech, Placement, MovesFile]),
+            Corners => ("corners", &[Bench]),
+        }
+    }
+
+    /// The least and the greatest number of delay tables that stand as plain words after the options
+    /// of the command. Where there may be any, each of its options has to stand.
+    pub fn table_bounds(self) -> (usize, usize)
+        ensures { result ≡ table_bounds self }
+    {
+        match self {
+            Corners => (1, 16),
+            _ => (0, 0),
         }
     }
 

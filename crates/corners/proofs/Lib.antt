@@ -6,5 +6,5 @@ mod ParallelLemmas
 mod OneWeight
 mod CornerPlaces
 mod CommonLemmas
-mod OutcomeLemmas
+pub mod OutcomeLemmas
 mod FloorLemmas

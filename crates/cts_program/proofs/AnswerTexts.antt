@@ -15,6 +15,7 @@ use Rattle.cts_model.specs.PrintedLines.{Words, text_of, show_lines}
 use Rattle.cts_model.specs.Problems.{grid_of}
 use Rattle.cts_model.specs.ReportLines.{report_lines}
 use Rattle.cts_model.proofs.CircuitConstraints.{forbidding_at_all}
+use Rattle.cts_model.proofs.PathRegisters.{tails_within}
 use Rattle.cts_engine.specs.declared.margin.MarginOutcome.{MarginOutcome}
 use Rattle.cts_engine.specs.declared.margin.MarginOutcome.TheVariants as margins
 use Rattle.cts_engine.specs.CircuitMargins.{HasNoPath, IsMarginOutcome}
@@ -70,6 +71,7 @@ plan_of zero forms.Demo = 0 ∷ 0 ∷ 0 ∷ 0 ∷ []
 plan_of zero forms.Embed = report_plan Second
 plan_of zero forms.Margin = 0 ∷ 0 ∷ 1 ∷ 1 ∷ []
 plan_of zero forms.Moves = 0 ∷ []
+plan_of zero forms.Corners = 0 ∷ 1 ∷ 1 ∷ []
 plan_of (suc more) form = 0 ∷ 1 ∷ []
 
 -- the same where so many moves are given, each of which has a line with status 0
@@ -245,7 +247,8 @@ module _ (circuit : Circuit) (tech : Tech) where
   counted_margin period (margins.Found value cycle schedule) found = inr (
     (λ none. cycle_joins circuit tech cycle found.of_circuit found.shows.is_cycle none),
     counted_line (counted_line (counted_cycle circuit cycle
-        (few_constraints circuit tech cycle found.of_circuit found.shows.is_cycle)
+        (few_constraints circuit cycle (tails_within circuit tech cycle found.of_circuit)
+        found.shows.is_cycle)
         (counted_arrivals circuit schedule found.spared.registers_are))),
   )
   counted_margin period margins.Unbounded none = inl (

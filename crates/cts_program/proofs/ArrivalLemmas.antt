@@ -1,10 +1,12 @@
 -- Arrivals that can be printed.
-use Rattle.std.proofs.Common.{◌^◌, ℕ, ℤ, pos, arith}
+use Rattle.std.proofs.Common.{◌≡◌, ◌^◌, ℕ, ℤ, pos, arith}
 use Rattle.std.proofs.lemmas.Int.{ints}
 use Rattle.std.proofs.lemmas.List.Elements.{All-replicate, All-weaker}
+use Rattle.cts_base.specs.declared.fraction.Fraction.{Fraction}
 use Rattle.cts_base.specs.Fractions.{HasSizeBelow}
 use Rattle.cts_model.specs.declared.schedule.Schedule.{Schedule}
 use Rattle.cts_model.specs.Points.{IsBelow}
+use Rattle.corners.specs.CornerOutcomes.{AreSmallCommonTimes}
 use Rattle.safety_margin.specs.SparingSchedules.{IsSmallSparing}
 use Rattle.cts_program.specs.ArrivalTexts.{CanPrint, all_at_zero}
 
@@ -35,3 +37,21 @@ zero_can_print registers = record {
   arrivals = All-replicate (HasSizeBelow (10 ^ 37)) registers (pos 0)
       (record { above = omega (arith, ints); below = omega (arith, ints) });
 }
+
+-- and those at a period that serves several corners
+pub common_can_print : (period : Fraction) (schedule : Schedule)
+    → AreSmallCommonTimes period schedule → schedule.den ≡ period.den → CanPrint schedule
+common_can_print period schedule small den =
+    let some = period.lowest.some_den in
+    let low = small.period.low in
+    record {
+      some_den = omega (arith, ints, den, some);
+      small_den = record {
+        above = omega (arith, ints, den, some);
+        below = omega (arith, ints, den, low);
+      };
+      arrivals = All-weaker (IsBelow (10 ^ 19)) (HasSizeBelow (10 ^ 37)) (λ arrival is. record {
+        above = omega (arith, ints, is.above);
+        below = omega (arith, ints, is.below);
+      }) schedule.at small.arrivals;
+    }

@@ -43,7 +43,7 @@ module _ {holds : List ℕ → Option (List ℕ)} (bench file pl report : Bor (L
       (λ bytes failure refused. end_with bench file pl report kinds.Report
       (Check bench file pl report) refl problem denoted
       (λ problem bytes. RefusesReport problem bytes failure) bytes refused)
-      (λ bytes refused. refused) (λ bytes refused. refused)
+      (λ same. cc same) (λ bytes refused. refused) (λ bytes refused. refused)
 
   module _ (says : Report) (read : ReadsReport problem (holds report.now) says) where
     -- so does one that isn't shown

@@ -23,7 +23,8 @@ use Rattle.cts_program.specs.Run.{DenotesText, Stops}
 use Rattle.cts_program.specs.Steps.{IsReportedAs, ReadsNetlist, FailsNetlist, ReadsTable, FailsTable, ReadsCircuit, DenotesCircuit, FailsCircuit}
 use Rattle.cts_program.specs.Texts.{IsZeroText}
 use Rattle.cts_program.proofs.FileStops.{file_stops}
-use Rattle.cts_program.proofs.FileRefusals.{file_refusal}
+use Rattle.command_line.specs.CommandTable.{form_of}
+use Rattle.cts_program.proofs.FileRefusals.{not_corners, accepted_by, none_accepted, file_refusal, netlist_refusal}
 use Rattle.cts_program.proofs.ResultLemmas.{if_ok_from}
 
 -- a netlist that was read is accepted
@@ -86,11 +87,12 @@ module _ (holds : List ℕ → Option (List ℕ)) (reads reads_now : List ℕ �
       record {
         contents = bytes ∷ [];
         are = subst (λ files. AreContents holds files (bytes ∷ [])) (sym named.1) (denoted, tt);
-        refusal = file_refusal command named.1 (bytes ∷ []) (failures.Bench fault) (short, has);
+        refusal = netlist_refusal command named.1 bytes (failures.Bench fault) (short, has);
       }
   netlist_stops tech named failure fails =
-      file_stops holds reads reads_now command kinds.Bench bench.now [] _ named.1 [] refl tt tt
-      named.1 (λ bytes long. long)
+      file_stops holds reads reads_now command kinds.Bench bench.now [] _ named.1 [] refl tt
+      (none_accepted (form_of command))
+      (λ bytes long. netlist_refusal command named.1 bytes (failures.TooLong kinds.Bench) long)
       (λ bytes denoted. subst (λ files. AreContents holds files (bytes ∷ [])) (sym named.1)
       (denoted, tt)) failure fails
 
@@ -124,14 +126,19 @@ module _ (holds : List ℕ → Option (List ℕ)) (reads reads_now : List ℕ �
         record {
           contents = netlist.bytes ∷ bytes ∷ [];
           are = both_denoted netlist.bytes bytes netlist.denoted denoted;
-          refusal = file_refusal command named.1 (netlist.bytes ∷ bytes ∷ [])
+          refusal = file_refusal command (not_corners command named.1) named.1
+              (netlist.bytes ∷ bytes ∷ [])
               (failures.Tech fault) refused;
         }
     table_stops netlist failure fails =
         file_stops holds reads reads_now command kinds.Tech file.now
         ((kinds.Bench, bench.now) ∷ []) named.0 named.1 (netlist.bytes ∷ []) refl
-        (netlist.denoted, tt) (accepted_netlist netlist) named.1
-        (λ bytes long. (accepted_netlist netlist, long))
+        (netlist.denoted, tt)
+        (accepted_by (form_of command) (not_corners command named.1) (netlist.bytes ∷ [])
+        (accepted_netlist netlist))
+        (λ bytes long. file_refusal command (not_corners command named.1) named.1
+        (netlist.bytes ∷ bytes ∷ []) (failures.TooLong kinds.Tech)
+        (accepted_netlist netlist, long))
         (λ bytes denoted. both_denoted netlist.bytes bytes netlist.denoted denoted) failure fails
 
 module _ {holds : List ℕ → Option (List ℕ)}

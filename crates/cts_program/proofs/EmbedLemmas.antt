@@ -59,7 +59,7 @@ module _ {holds : List ℕ → Option (List ℕ)} (bench file pl topology : Bor 
       (λ bytes failure refused. end_with bench file pl topology kinds.Topology
       (Embed bench file pl topology) refl problem denoted
       (λ problem bytes. RefusesEmbedding problem bytes failure) bytes refused)
-      (λ bytes refused. refused) (λ bytes refused. refused)
+      (λ same. cc same) (λ bytes refused. refused) (λ bytes refused. refused)
 
   -- so does a topology that isn't read
   pub topology_stops : (reads reads_now : List ℕ → ℕ) (failure : Failure)

@@ -1,6 +1,6 @@
 -- Files of which the first are accepted and the next is refused: the status of that, and that files
 -- that agree with accepted ones aren't refused.
-use Rattle.std.proofs.Common.{ℕ, ◌≡◌, ◌≤◌, ◌⊎◌, inl, inr, List, [], ◌∷◌, length, take, zero, suc, refl, ap₂, sym, subst, arith}
+use Rattle.std.proofs.Common.{ℕ, ◌≡◌, ◌≢◌, ◌≤◌, ◌⊎◌, inl, inr, List, [], ◌∷◌, map, string_bytes, length, take, zero, suc, get_or, refl, ap, ap₂, sym, subst, arith}
 use Rattle.std.proofs.lemmas.List.{length-take, take_all}
 use Rattle.cts_model.specs.declared.circuit.Circuit.{Circuit}
 use Rattle.bench_reader.specs.declared.fault.BenchFault.{BenchFault}
@@ -10,16 +10,20 @@ use Rattle.place_reader.specs.declared.fault.PlaceFault.TheVariants as place
 use Rattle.cts_engine.specs.Accepted.{HasFault, HasTableFault}
 use Rattle.cts_engine.proofs.OneProblem.{table_fine, placement_fine}
 use Rattle.command_line.specs.declared.command.Command.{Command}
-use Rattle.command_line.specs.declared.command.Command.TheVariants.{Check, Demo, Embed, Moves}
+use Rattle.command_line.specs.declared.command.Command.TheVariants.{Check, Demo, Embed, Moves, Corners}
 use Rattle.failure_lines.specs.declared.failure.Failure.{Failure}
 use Rattle.failure_lines.specs.declared.failure.Failure.TheVariants as failures
 use Rattle.failure_lines.specs.declared.file_kind.FileKind.{FileKind}
 use Rattle.failure_lines.specs.declared.file_kind.FileKind.TheVariants as kinds
 use Rattle.failure_lines.specs.declared.placement_fault.PlacementFault.{PlacementFault}
 use Rattle.failure_lines.specs.declared.placement_fault.PlacementFault.TheVariants as placements
-use Rattle.cts_program.specs.Answers.{RefusesText, IsRefusal}
+use Rattle.command_line.specs.declared.table.Form.{Form}
+use Rattle.command_line.specs.declared.table.Form.TheVariants as forms
+use Rattle.command_line.specs.CommandTable.{form_of}
+use Rattle.cts_program.specs.Answers.{texts_for, AreAcceptedBy, RefusesText, RefusesAccepted, RefusesBy, IsRefusal}
+use Rattle.command_line.specs.Commands.{Given}
 use Rattle.failure_lines.specs.Failures.{status_of}
-use Rattle.cts_program.specs.Files.{IsShortFile, files_of}
+use Rattle.cts_program.specs.Files.{IsShortFile, corner_files, files_of}
 use Rattle.cts_program.specs.Judged.{IsNetlistFile, IsTableFile, IsPlacementFile, AreAccepted, HasPlacementFault, IsNamedFault, IsFileRefusal}
 
 -- ---- contents that agree
@@ -197,13 +201,49 @@ text_not_refused texts others failure agree within accepted refused =
     (agree_rotated texts others agree)))
     (omega (arith, within, length-take refused.count others)) accepted refused.refusal
 
+-- a command whose second file is a delay table has none of several corners
+pub not_corners : (command : Command) {file : FileKind × List ℕ} {table : List ℕ}
+    {files : List (FileKind × List ℕ)} → files_of command ≡ file ∷ (kinds.Tech, table) ∷ files
+    → form_of command ≢ forms.Corners
+not_corners (Corners bench tables) {file} {table} {files} reads same =
+    at (map string_bytes tables.now) reads
+  where
+    at : (names : List (List ℕ))
+        → (kinds.Bench, bench.now) ∷ corner_files 1 names ≡ file ∷ (kinds.Tech, table) ∷ files → ⊥
+    at [] is = cc is
+    at (name ∷ names) is =
+        let same : kinds.Corner 1 ≡ kinds.Tech =
+        ap (λ (fs : List (FileKind × List ℕ)). (get_or fs 1 (kinds.Bench, [])).0) is in cc same
+not_corners command reads same = cc same
+
+-- what is accepted of its files is accepted by it
+pub accepted_by : (form : Form) → form ≢ forms.Corners → (contents : List (List ℕ))
+    → AreAccepted contents → AreAcceptedBy form contents
+accepted_by forms.Corners apart contents accepted = absurd (apart refl)
+accepted_by form apart contents accepted = accepted
+
+-- and what refuses its files makes it refuse them
+pub refused_by : (form : Form) → form ≢ forms.Corners → (given : List Given) (files : ℕ)
+    (contents : List (List ℕ)) (failure : Failure)
+    → RefusesText (texts_for form given contents) failure ⊎ ((length contents ≡ files)
+    × RefusesAccepted form (texts_for form given contents) contents failure)
+    → RefusesBy form given files contents failure
+refused_by forms.Corners apart given files contents failure refused = absurd (apart refl)
+refused_by form apart given files contents failure refused = refused
+
+-- no files are accepted by any command
+pub none_accepted : (form : Form) → AreAcceptedBy form []
+none_accepted forms.Corners = tt
+none_accepted form = tt
+
 -- a command that reads a file refuses what it refuses of files
-pub file_refusal : (command : Command) {file : FileKind × List ℕ}
-    {files : List (FileKind × List ℕ)} → files_of command ≡ file ∷ files
+pub file_refusal : (command : Command) → form_of command ≢ forms.Corners
+    → {file : FileKind × List ℕ} {files : List (FileKind × List ℕ)}
+    → files_of command ≡ file ∷ files
     → (contents : List (List ℕ)) (failure : Failure) → IsFileRefusal contents failure
     → IsRefusal command contents failure
-file_refusal command {file} {files} reads contents failure refused =
-    of_texts command reads
+file_refusal command apart {file} {files} reads contents failure refused =
+    of_texts command apart reads
   where
     all : take 3 contents ≡ contents
     all = take_all 3 contents (file_status contents failure refused).1
@@ -214,13 +254,23 @@ file_refusal command {file} {files} reads contents failure refused =
       refusal = subst (λ texts. IsFileRefusal texts failure) (sym all) refused;
     }
 
-    of_texts : (command : Command) → files_of command ≡ file ∷ files
-        → IsRefusal command contents failure
-    of_texts (Check bench tech pl report) reads =
+    of_texts : (command : Command) → form_of command ≢ forms.Corners
+        → files_of command ≡ file ∷ files → IsRefusal command contents failure
+    of_texts (Corners bench tables) apart reads = absurd (apart refl)
+    of_texts (Check bench tech pl report) apart reads =
         inl (subst (λ texts. RefusesText texts failure) (sym all) first)
-    of_texts (Embed bench tech pl topology) reads =
+    of_texts (Embed bench tech pl topology) apart reads =
         inl (subst (λ texts. RefusesText texts failure) (sym all) first)
-    of_texts (Moves bench tech pl moves) reads =
+    of_texts (Moves bench tech pl moves) apart reads =
         inl (subst (λ texts. RefusesText texts failure) (sym all) first)
-    of_texts (Demo registers seed) reads = cc reads
-    of_texts command reads = inl first
+    of_texts (Demo registers seed) apart reads = cc reads
+    of_texts command apart reads = inl first
+
+-- a refusal of a netlist is one of every command that reads it
+pub netlist_refusal : (command : Command) {file : FileKind × List ℕ}
+    {files : List (FileKind × List ℕ)} → files_of command ≡ file ∷ files
+    → (netlist : List ℕ) (failure : Failure) → IsFileRefusal (netlist ∷ []) failure
+    → IsRefusal command (netlist ∷ []) failure
+netlist_refusal (Corners bench tables) reads netlist failure refused = inl (inl refused)
+netlist_refusal command reads netlist failure refused =
+    file_refusal command (λ same. cc same) reads (netlist ∷ []) failure refused

@@ -1,6 +1,6 @@
 -- What a command is left with that reads the files of a problem and one more: a last file that
 -- isn't read or is refused, or one that holds what is wanted.
-use Rattle.std.proofs.Common.{◌≡◌, ◌++◌, ℕ, inr, List, [], ◌∷◌, length, Option, Bor, refl, sym, ap, subst}
+use Rattle.std.proofs.Common.{◌≡◌, ◌≢◌, ◌++◌, ℕ, inr, List, [], ◌∷◌, length, Option, Bor, refl, sym, ap, subst}
 use Rattle.cts_model.specs.declared.problem.Problem.{Problem}
 use Rattle.command_line.specs.declared.command.Command.{Command}
 use Rattle.failure_lines.specs.declared.failure.Failure.{Failure}
@@ -12,6 +12,8 @@ use Rattle.command_line.specs.CommandTable.{form_of}
 use Rattle.cts_program.specs.Files.{IsShortFile, problem_files, files_of, AreContents, AreAll}
 use Rattle.cts_program.specs.Run.{CannotRead, Stops}
 use Rattle.cts_program.specs.Steps.{IsReportedAs, FailsToReadFile, FailsLast, DenotesProblem}
+use Rattle.command_line.specs.declared.table.Form.TheVariants as forms
+use Rattle.cts_program.proofs.FileRefusals.{accepted_by, refused_by}
 use Rattle.cts_program.proofs.FileStops.{unread}
 
 -- a last file that isn't read fails as any file does; one that is too long is refused
@@ -82,6 +84,7 @@ module _ {holds : List ℕ → Option (List ℕ)} (bench file pl last : Bor (Lis
       (refuses : (bytes : List ℕ) (failure : Failure) → Refuses bytes failure
       → RefusesAccepted (form_of command) (texts_of command (all_contents bytes))
       (all_contents bytes) failure)
+      (apart : form_of command ≢ forms.Corners)
       (no_usage : (bytes : List ℕ) → Refuses bytes failures.Usage → ⊥)
       (no_write : (bytes : List ℕ) → Refuses bytes failures.WriteFault → ⊥) where
     pub last_stops : (failure : Failure)
@@ -93,10 +96,12 @@ module _ {holds : List ℕ → Option (List ℕ)} (bench file pl last : Bor (Lis
         subst (λ k. CannotRead holds reads reads_now command k) same
         (unread holds reads reads_now command kind last.now (problem_files bench file pl) [] named
         (three_denoted.netlist ∷ three_denoted.table ∷ three_denoted.places ∷ []) refl
-        three_denoted.are three_denoted.are_of.accepted rose)
+        three_denoted.are
+        (accepted_by (form_of command) apart _ three_denoted.are_of.accepted) rose)
     last_stops failures.NoMemory fails = tt
     last_stops failure fails = record {
       contents = all_contents fails.0;
       are = all_are fails.0 fails.1;
-      refusal = inr (are_all fails.0, refuses fails.0 failure fails.2);
+      refusal = refused_by (form_of command) apart _ _ _ failure
+          (inr (are_all fails.0, refuses fails.0 failure fails.2));
     }

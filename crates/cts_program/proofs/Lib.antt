@@ -22,6 +22,9 @@ mod MoveLemmas
 mod WireTexts
 mod ReasonLemmas
 mod ArrivalLemmas
+mod CornerAnswers
+mod CornerRefusals
+mod CornerReads
 mod OneAnswer
 mod TextStatuses
 mod ShownVerdicts

@@ -54,7 +54,7 @@ module _ {holds : List ℕ → Option (List ℕ)} (bench file pl moves : Bor (Li
       reads reads_now (RefusesMovesFile problem)
       (λ bytes failure refused. ends (λ problem bytes. RefusesMoving problem bytes failure) bytes
       (moving_refused problem bytes failure refused))
-      (λ bytes refused. refused) (λ bytes refused. refused)
+      (λ same. cc same) (λ bytes refused. refused) (λ bytes refused. refused)
 
   module _ (given : List Move) (read : ReadsMoves problem (holds moves.now) given) where
     -- the file holds them

@@ -11,11 +11,12 @@ use Rattle.move_session.specs.Entries.{entries_of}
 use Rattle.move_session.proofs.EntryLemmas.{length-DenoteEach}
 use Rattle.cts_engine.proofs.OneProblem.{one_netlist, one_both}
 use Rattle.command_line.specs.declared.command.Command.{Command}
-use Rattle.command_line.specs.declared.command.Command.TheVariants.{Zero, Period, Schedule, Synth, Check, Demo, Embed, Moves, Margin}
+use Rattle.command_line.specs.declared.command.Command.TheVariants.{Zero, Period, Schedule, Synth, Check, Demo, Embed, Moves, Margin, Corners}
 use Rattle.command_line.specs.declared.table.Form.{Form}
 use Rattle.command_line.specs.declared.table.Form.TheVariants as forms
 use Rattle.cts_program.specs.Answers.{TellWith, TellProblemWith, texts_for, IsText}
 use Rattle.cts_program.specs.Checks.{shown_line, EndWith, IsShownReport}
+use Rattle.cts_program.specs.CornerFiles.{IsCornersAnswer}
 use Rattle.command_line.specs.Commands.{Given, number_of, options_of}
 use Rattle.cts_program.specs.DemoTexts.{IsDemoText}
 use Rattle.cts_program.specs.Judged.{AreAccepted, Tell}
@@ -28,6 +29,7 @@ use Rattle.cts_program.specs.SynthTexts.{IsSynthText}
 use Rattle.cts_program.specs.Texts.{IsZeroText}
 use Rattle.cts_program.specs.TopologyFiles.{IsAcceptedFor, IsEmbeddedBy}
 use Rattle.cts_program.proofs.AnswerTexts.{looks_for_period, SaysOfPeriods, IsCounted, one_plan, IsTextOf, IsTextWith, zero_text, period_text, schedule_text, check_text, synth_text, embed_text, margin_text, moves_text, demo_text}
+use Rattle.cts_program.proofs.CornerAnswers.{one_corners_status, no_corners_prefix, some_corners_text}
 use Rattle.cts_program.proofs.LastContents.{of_one_end}
 use Rattle.cts_program.proofs.LinePrefixes.{no_prefix, some_text_of}
 use Rattle.cts_program.proofs.PlacementLemmas.{problem_denoted}
@@ -60,8 +62,9 @@ pub record HasMoves (moves : ℕ) (problem : Problem) (bytes : List ℕ) : Type 
   pub accepted : IsMovedFor problem bytes
   pub as_many : moves ≡ length accepted.file.moves
 
--- a command of this form, with these options, answers so for what its files hold
-pub record Answers (form : Form) (given : List Given) (contents : List (List ℕ)) (status : ℕ)
+-- a command of this form with one delay table answers so, with these options, for what its files
+-- hold
+pub record AnswersByOne (form : Form) (given : List Given) (contents : List (List ℕ)) (status : ℕ)
     (text : List ℕ) : Type 0 where
   pub accepted : AreAccepted (texts_for form given contents)
   pub circuit : Circuit
@@ -74,6 +77,11 @@ pub record Answers (form : Form) (given : List Given) (contents : List (List ℕ
   pub embedded : form ≡ forms.Embed → EndWith contents IsAcceptedFor
   pub moved : form ≡ forms.Moves → EndWith contents (HasMoves moves)
   pub unmoved : form ≢ forms.Moves → moves ≡ 0
+
+-- a command of this form does so, with one table or with those of several corners
+abbrev pub Answers : Form → List Given → List (List ℕ) → (status : ℕ) → List ℕ → Type 0
+Answers forms.Corners given contents status text = IsCornersAnswer contents status text
+Answers form given contents status text = AnswersByOne form given contents status text
 
 -- a command of this form has no file after those of a circuit or a problem
 record HasNoLast (form : Form) : Type 0 where
@@ -101,7 +109,7 @@ answers_with : (form : Form) (given : List Given) (contents : List (List ℕ)) (
     → ((circuit : Circuit) (tech : Tech) → Holds circuit tech
     → IsTextOf form status text circuit tech)
     → TellWith (texts_for form given contents) Holds
-    → Answers form given contents status text
+    → AnswersByOne form given contents status text
 answers_with form given contents status text Holds other so tell = record {
   accepted = tell.accepted;
   circuit = tell.circuit;
@@ -122,7 +130,7 @@ answers_problem : (form : Form) (given : List Given) (contents : List (List ℕ)
     → ((problem : Problem) → Holds problem
     → IsTextOf form status text problem.circuit problem.tech)
     → TellProblemWith (texts_for form given contents) Holds
-    → Answers form given contents status text
+    → AnswersByOne form given contents status text
 answers_problem form given contents status text Holds other so tell = record {
   accepted = tell.accepted;
   circuit = tell.problem.circuit;
@@ -237,6 +245,7 @@ answer_of (Margin bench tech period) contents status text (done, answer) =
     (λ circuit delays. margin_text circuit delays period.now status text done) answer
 answer_of (Moves bench tech pl moves) contents status text ends =
     moves_answers _ contents status text ends
+answer_of (Corners bench tables) contents status text answer = answer
 
 -- ---- one status, and no text that is a prefix of another
 
@@ -265,48 +274,73 @@ one_count problem bytes moves others has has' =
     count file = length-DenoteEach problem.circuit (entries_of bytes) file.moves file.accepts.each
 
 module _ (form : Form) (given : List Given) (contents : List (List ℕ)) (status : ℕ)
-    (text : List ℕ) (answer : Answers form given contents status text) where
-  module _ (status' : ℕ) (text' : List ℕ) (other : Answers form given contents status' text') where
-    -- as many moves are given for the same contents
-    as_many : other.moves ≡ answer.moves
-    as_many = elim (moves_or_not form) [
-      | inl given' ↦
-          let ends = answer.moved given' in
-          one_count ends.problem ends.bytes other.moves answer.moves
-          (of_one_end contents ends (other.moved given')) ends.holds
-      | inr none ↦ other.unmoved none ∙ sym (answer.unmoved none)
-    ]
+    (text : List ℕ) (answer : AnswersByOne form given contents status text) where
+  module _ (status' : ℕ) (text' : List ℕ) (other : AnswersByOne form given contents status' text')
+    where
+      -- as many moves are given for the same contents
+      as_many : other.moves ≡ answer.moves
+      as_many = elim (moves_or_not form) [
+        | inl given' ↦
+            let ends = answer.moved given' in
+            one_count ends.problem ends.bytes other.moves answer.moves
+            (of_one_end contents ends (other.moved given')) ends.holds
+        | inr none ↦ other.unmoved none ∙ sym (answer.unmoved none)
+      ]
 
-    -- another text for the same contents is one for the same circuit
-    of_one : IsTextWith answer.moves form status' text' answer.circuit answer.tech
-    of_one =
-        let same =
-        one_denoted (texts_for form given contents) other.circuit answer.circuit other.tech
-        answer.tech other.tell answer.tell in
-        subst (λ m. IsTextWith m form status' text' answer.circuit answer.tech) as_many
-        (subst (λ t. IsTextWith other.moves form status' text' answer.circuit t) same.1
-        (subst (λ c. IsTextWith other.moves form status' text' c other.tech) same.0 other.holds))
+      -- another text for the same contents is one for the same circuit
+      of_one : IsTextWith answer.moves form status' text' answer.circuit answer.tech
+      of_one =
+          let same =
+          one_denoted (texts_for form given contents) other.circuit answer.circuit other.tech
+          answer.tech other.tell answer.tell in
+          subst (λ m. IsTextWith m form status' text' answer.circuit answer.tech) as_many
+          (subst (λ t. IsTextWith other.moves form status' text' answer.circuit t) same.1
+          (subst (λ c. IsTextWith other.moves form status' text' c other.tech) same.0 other.holds))
 
-    -- so it has the same status
-    pub one_status : status ≡ status'
-    one_status =
-        one_status_says (looks_for_period form) answer.circuit answer.tech status status'
-        answer.holds.are.says of_one.are.says
+      -- so it has the same status
+      same_status : status ≡ status'
+      same_status =
+          one_status_says (looks_for_period form) answer.circuit answer.tech status status'
+          answer.holds.are.says of_one.are.says
 
-    -- and isn't a prefix of it
-    pub no_answer_prefix : (count : ℕ) → text ≡ take count text' → count < length text' → ⊥
-    no_answer_prefix count cut short =
-        let (plan, counted, counted') = one_plan answer.moves form status answer.circuit
-        answer.holds.lines of_one.lines answer.holds.are.counted
-        (subst (λ s. IsCounted answer.moves form s answer.circuit of_one.lines) (sym one_status)
-        of_one.are.counted) in
-        no_prefix answer.holds.lines of_one.lines count answer.holds.are.each of_one.are.each
-        counted counted'
-        (sym answer.holds.spelled ∙ cut ∙ ap (take count) of_one.spelled)
-        (subst (λ bytes. count < length bytes) of_one.spelled short)
+      -- and isn't a prefix of it
+      no_text_prefix : (count : ℕ) → text ≡ take count text' → count < length text' → ⊥
+      no_text_prefix count cut short =
+          let (plan, counted, counted') = one_plan answer.moves form status answer.circuit
+          answer.holds.lines of_one.lines answer.holds.are.counted
+          (subst (λ s. IsCounted answer.moves form s answer.circuit of_one.lines)
+          (sym same_status) of_one.are.counted) in
+          no_prefix answer.holds.lines of_one.lines count answer.holds.are.each of_one.are.each
+          counted counted'
+          (sym answer.holds.spelled ∙ cut ∙ ap (take count) of_one.spelled)
+          (subst (λ bytes. count < length bytes) of_one.spelled short)
 
   -- a text has a line
-  pub some_text : 0 < length text
-  some_text =
+  some_line : 0 < length text
+  some_line =
       subst (λ bytes. 0 < length bytes) (sym answer.holds.spelled)
       (some_text_of answer.holds.lines answer.holds.are.some)
+
+-- so it is with all commands
+pub one_status : (form : Form) (given : List Given) (contents : List (List ℕ)) (status : ℕ)
+    (text : List ℕ) → Answers form given contents status text → (status' : ℕ) (text' : List ℕ)
+    → Answers form given contents status' text' → status ≡ status'
+one_status forms.Corners given contents status text answer status' text' other =
+    one_corners_status contents status text answer status' text' other
+one_status form given contents status text answer status' text' other =
+    same_status form given contents status text answer status' text' other
+
+pub no_answer_prefix : (form : Form) (given : List Given) (contents : List (List ℕ)) (status : ℕ)
+    (text : List ℕ) → Answers form given contents status text → (status' : ℕ) (text' : List ℕ)
+    → Answers form given contents status' text' → (count : ℕ) → text ≡ take count text'
+    → count < length text' → ⊥
+no_answer_prefix forms.Corners given contents status text answer status' text' other =
+    no_corners_prefix contents status text answer status' text' other
+no_answer_prefix form given contents status text answer status' text' other =
+    no_text_prefix form given contents status text answer status' text' other
+
+pub some_text : (form : Form) (given : List Given) (contents : List (List ℕ)) (status : ℕ)
+    (text : List ℕ) → Answers form given contents status text → 0 < length text
+some_text forms.Corners given contents status text answer =
+    some_corners_text contents status text answer
+some_text form given contents status text answer = some_line form given contents status text answer

@@ -8,7 +8,7 @@ use Rattle.cert_check.specs.Verdicts.{IsVerdict}
 use Rattle.cert_check.specs.declared.verdict.Verdict.TheVariants.{Not}
 use Rattle.report_text.specs.Laws.{OneReport, OneFault, NoFaultOfReport}
 use Rattle.command_line.specs.declared.command.Command.{Command}
-use Rattle.command_line.specs.declared.command.Command.TheVariants.{Check, Embed, Moves}
+use Rattle.command_line.specs.declared.command.Command.TheVariants.{Check, Embed, Moves, Corners}
 use Rattle.command_line.specs.declared.table.Form.{Form}
 use Rattle.command_line.specs.declared.table.Form.TheVariants as forms
 use Rattle.failure_lines.specs.declared.failure.Failure.{Failure}
@@ -25,8 +25,9 @@ use Rattle.cts_program.specs.MoveFiles.{IsMovedFor, RefusesMoving}
 use Rattle.cts_program.specs.TopologyFiles.{IsAcceptedFor, RefusesEmbedding}
 use Rattle.command_line.specs.CommandTable.{form_of}
 use Rattle.cts_program.proofs.FileRefusals.{Agree, agree_same, agree_self, agree_rotated, agree_prefixes, file_status, text_not_refused}
+use Rattle.cts_program.proofs.CornerRefusals.{corners_refusal_status, corners_answer_not_refused, accepted_corners_not_refused}
 use Rattle.cts_program.proofs.LastContents.{four_files, of_one_end}
-use Rattle.cts_program.proofs.OneAnswer.{Answers, one_denoted}
+use Rattle.cts_program.proofs.OneAnswer.{Answers, AnswersByOne, one_denoted}
 use Rattle.cts_program.proofs.PlacementLemmas.{problem_denoted}
 use Rattle.cts_program.proofs.ShownVerdicts.{no_reason}
 use Rattle.move_session.proofs.OneFault as move_faults
@@ -170,6 +171,12 @@ of_report_checked : (form : Form) (texts contents : List (List ℕ)) (failure : 
 of_report_checked form texts contents failure check refusal =
     subst (λ f. RefusesAccepted f texts contents failure) check refusal
 
+-- a command of one table refuses these contents
+abbrev RefusesByOne : Command → List (List ℕ) → Failure → Type 0
+RefusesByOne command contents failure = RefusesText (texts_of command contents) failure
+    ⊎ (AreAll command contents
+    × RefusesAccepted (form_of command) (texts_of command contents) contents failure)
+
 -- a refusal has status 3, and 7 where a report of accepted files isn't shown
 data Refusal (command : Command) (contents : List (List ℕ)) (failure : Failure) : Type 0 where
   of_texts : status_of failure ≡ 3
@@ -179,7 +186,7 @@ data Refusal (command : Command) (contents : List (List ℕ)) (failure : Failure
       → EndUnshown contents failure → Refusal command contents failure
 
 refusal_of : (command : Command) (contents : List (List ℕ)) (failure : Failure)
-    → IsRefusal command contents failure → Refusal command contents failure
+    → RefusesByOne command contents failure → Refusal command contents failure
 refusal_of command contents failure (inl text) =
     of_texts (file_status _ failure text.refusal).0 (λ same. subst
     (λ form. RefusesText (texts_for form (options_of command) contents) failure) same text)
@@ -203,11 +210,11 @@ report_not_text contents others failure failure' agree ends text =
     ends.are_of.accepted text
 
 -- so refusals of contents that agree have one status
-pub one_refusal_status : (command : Command) (contents refused : List (List ℕ))
+status_by_one : (command : Command) (contents refused : List (List ℕ))
     → Agree contents refused → (failure failure' : Failure)
-    → IsRefusal command contents failure → IsRefusal command refused failure'
+    → RefusesByOne command contents failure → RefusesByOne command refused failure'
     → status_of failure ≡ status_of failure'
-one_refusal_status command contents refused agree failure failure' refusal refusal' =
+status_by_one command contents refused agree failure failure' refusal refusal' =
     elim (refusal_of command contents failure refusal) [
       | of_texts is text ↦ elim (refusal_of command refused failure' refusal') [
         | of_texts is' text' ↦ is ∙ sym is'
@@ -221,6 +228,17 @@ one_refusal_status command contents refused agree failure failure' refusal refus
       ]
     ]
 
+-- and so it is with all commands
+pub one_refusal_status : (command : Command) (contents refused : List (List ℕ))
+    → Agree contents refused → (failure failure' : Failure)
+    → IsRefusal command contents failure → IsRefusal command refused failure'
+    → status_of failure ≡ status_of failure'
+one_refusal_status (Corners bench tables) contents refused agree failure failure' refusal refusal' =
+    corners_refusal_status contents _ failure refusal
+    ∙ sym (corners_refusal_status refused _ failure' refusal')
+one_refusal_status command contents refused agree failure failure' refusal refusal' =
+    status_by_one command contents refused agree failure failure' refusal refusal'
+
 -- ---- not both
 
 -- what a command goes by is accepted
@@ -232,7 +250,7 @@ record Accepts (command : Command) (contents : List (List ℕ)) : Type 0 where
 
 -- so it is where the command has an answer
 answer_accepts : (command : Command) (contents : List (List ℕ)) (status : ℕ) (text : List ℕ)
-    → Answers (form_of command) (options_of command) contents status text
+    → AnswersByOne (form_of command) (options_of command) contents status text
     → Accepts command contents
 answer_accepts command contents status text answer = record {
   accepted = answer.accepted;
@@ -275,7 +293,7 @@ report_beside : (command : Command) (contents refused : List (List ℕ)) → Agr
     → length (texts_of command refused) ≤ length (texts_of command contents)
     → (form_of command ≢ forms.Check → AreAll command refused
     → length contents ≡ length refused) → Accepts command contents
-    → (failure : Failure) → IsRefusal command refused failure
+    → (failure : Failure) → RefusesByOne command refused failure
     → (form_of command ≡ forms.Check) × EndUnshown refused failure
 report_beside command contents refused agree within whole accepts failure (inl text) =
     absurd (text_not_refused _ _ failure
@@ -294,18 +312,34 @@ report_beside command contents refused agree within whole accepts failure (inr (
     ]
 
 -- so what is answered isn't refused
+not_refused_by_one : ReportLaws → (command : Command) (contents refused : List (List ℕ))
+    (failure : Failure) (status : ℕ) (text : List ℕ)
+    → AnswersByOne (form_of command) (options_of command) contents status text
+    → Agree contents refused → length refused ≤ length contents
+    → (AreAll command refused → length contents ≡ length refused)
+    → RefusesByOne command refused failure → ⊥
+not_refused_by_one laws command contents refused failure status text answer agree within all
+    refusal =
+    let (check, ends) = report_beside command contents refused agree
+    (texts_within (form_of command) (options_of command) contents refused within) (λ other. all)
+    (answer_accepts command contents status text answer) failure refusal in
+    shown_or_not laws contents refused failure agree (answer.checked check) ends
+
+-- and so it is with all commands
 pub answer_not_refused : ReportLaws → (command : Command) (contents refused : List (List ℕ))
     (failure : Failure) (status : ℕ) (text : List ℕ)
     → Answers (form_of command) (options_of command) contents status text
     → Agree contents refused → length refused ≤ length contents
     → (AreAll command refused → length contents ≡ length refused)
     → IsRefusal command refused failure → ⊥
+answer_not_refused laws (Corners bench tables) contents refused failure status text answer agree
+    within all refusal =
+    corners_answer_not_refused contents refused failure status text answer agree within _ all
+    refusal
 answer_not_refused laws command contents refused failure status text answer agree within all
     refusal =
-    let (check, ends) = report_beside command contents refused agree
-    (texts_within (form_of command) (options_of command) contents refused within) (λ other. all)
-    (answer_accepts command contents status text answer) failure refusal in
-    shown_or_not laws contents refused failure agree (answer.checked check) ends
+    not_refused_by_one laws command contents refused failure status text answer agree within all
+    refusal
 
 -- a problem that joins few pairs isn't one that joins too many
 few_before : {Holds : Problem → List ℕ → Type 0} (contents : List (List ℕ))
@@ -317,23 +351,27 @@ few_before contents ends few many =
     (problem_denoted (take 3 contents) ends.problem ends.are_of.tell) in
     few (subst (λ c. JoinsMoreThan c 1048576) same.0 many.many)
 
--- what is accepted for a command is its texts
-accepted_texts : (command : Command) (contents : List (List ℕ)) → IsAccepted command contents
+-- what is accepted for a command of one table is its texts
+accepted_texts : (command : Command) → form_of command ≢ forms.Corners
+    → (contents : List (List ℕ)) → IsAccepted command contents
     → AreAccepted (texts_of command contents)
-accepted_texts (Check bench tech pl report) contents accepted = accepted.1
-accepted_texts (Embed bench tech pl topology) contents ends = ends.are_of.accepted
-accepted_texts (Moves bench tech pl moves) contents ends = ends.are_of.accepted
-accepted_texts command contents accepted = accepted.1
+accepted_texts (Corners bench tables) apart contents accepted = absurd (apart refl)
+accepted_texts (Check bench tech pl report) apart contents accepted = accepted.1
+accepted_texts (Embed bench tech pl topology) apart contents ends = ends.are_of.accepted
+accepted_texts (Moves bench tech pl moves) apart contents ends = ends.are_of.accepted
+accepted_texts command apart contents accepted = accepted.1
 
 -- which join few pairs, but for a report
-few_accepted : (command : Command) (contents : List (List ℕ)) → IsAccepted command contents
+few_accepted : (command : Command) → form_of command ≢ forms.Corners
+    → (contents : List (List ℕ)) → IsAccepted command contents
     → form_of command ≢ forms.Check → JoinTooMany (texts_of command contents) → ⊥
-few_accepted (Check bench tech pl report) contents accepted other = absurd (other refl)
-few_accepted (Embed bench tech pl topology) contents ends other =
+few_accepted (Corners bench tables) apart contents accepted other = absurd (apart refl)
+few_accepted (Check bench tech pl report) apart contents accepted other = absurd (other refl)
+few_accepted (Embed bench tech pl topology) apart contents ends other =
     few_before contents ends ends.holds.few
-few_accepted (Moves bench tech pl moves) contents ends other =
+few_accepted (Moves bench tech pl moves) apart contents ends other =
     few_before contents ends ends.holds.few
-few_accepted command contents accepted other = accepted.2
+few_accepted command apart contents accepted other = accepted.2
 
 -- and a topology, where one is given
 topology_accepted : (command : Command) (contents : List (List ℕ)) → IsAccepted command contents
@@ -348,11 +386,11 @@ moves_accepted (Moves bench tech pl moves) contents ends same = ends
 moves_accepted command contents accepted same = cc same
 
 -- so it is all that the command goes by
-accepts_of : (command : Command) (contents : List (List ℕ)) → IsAccepted command contents
-    → Accepts command contents
-accepts_of command contents accepted = record {
-  accepted = accepted_texts command contents accepted;
-  few = few_accepted command contents accepted;
+accepts_of : (command : Command) → form_of command ≢ forms.Corners → (contents : List (List ℕ))
+    → IsAccepted command contents → Accepts command contents
+accepts_of command apart contents accepted = record {
+  accepted = accepted_texts command apart contents accepted;
+  few = few_accepted command apart contents accepted;
   topology = topology_accepted command contents accepted;
   moves = moves_accepted command contents accepted;
 }
@@ -372,14 +410,15 @@ seven_of_check (Check bench tech pl report) status check seven = inr seven
 seven_of_check command status check seven = cc check
 
 -- a refusal beside what is accepted has a status for it
-pub accepted_refusal : (command : Command) (contents refused : List (List ℕ))
+accepted_by_one : (command : Command) → form_of command ≢ forms.Corners
+    → (contents refused : List (List ℕ))
     → Agree contents refused → length refused ≤ length (files_of command)
-    → IsAccepted command contents → (failure : Failure) → IsRefusal command refused failure
+    → IsAccepted command contents → (failure : Failure) → RefusesByOne command refused failure
     → IsStatusOf command (status_of failure)
-accepted_refusal command contents refused agree below accepted failure refusal =
+accepted_by_one command apart contents refused agree below accepted failure refusal =
     let (check, ends) = report_beside command contents refused agree
     (within (form_of command) (options_of command) (accepted_all command contents accepted)) whole
-    (accepts_of command contents accepted) failure refusal in
+    (accepts_of command apart contents accepted) failure refusal in
     seven_of_check command (status_of failure) check
     (report_status ends.problem ends.bytes failure ends.holds)
   where
@@ -398,3 +437,14 @@ accepted_refusal command contents refused agree below accepted failure refusal =
       | inl (check, three) ↦ absurd (apart check)
       | inr all ↦ all ∙ sym are
     ]
+
+-- so it has whatever the command
+pub accepted_refusal : (command : Command) (contents refused : List (List ℕ))
+    → Agree contents refused → length refused ≤ length (files_of command)
+    → IsAccepted command contents → (failure : Failure) → IsRefusal command refused failure
+    → IsStatusOf command (status_of failure)
+accepted_refusal (Corners bench tables) contents refused agree below (all, accepted, few) failure
+    refusal = absurd (accepted_corners_not_refused contents refused agree
+    (omega (arith, all, below)) accepted few _ (λ whole. all ∙ sym whole) failure refusal)
+accepted_refusal command contents refused agree below accepted failure refusal =
+    accepted_by_one command (λ same. cc same) contents refused agree below accepted failure refusal

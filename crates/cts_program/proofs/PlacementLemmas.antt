@@ -26,7 +26,8 @@ use Rattle.cts_program.specs.Run.{DenotesText, Stops}
 use Rattle.cts_program.specs.Steps.{IsReportedAs, ReadsPlaces, FailsPlaces, GivesFault, DenotesCircuit, ReadsProblem, DenotesProblem}
 use Rattle.cts_program.specs.SynthTexts.{IsSynthText}
 use Rattle.cts_program.proofs.FileStops.{file_stops}
-use Rattle.cts_program.proofs.FileRefusals.{file_refusal}
+use Rattle.command_line.specs.CommandTable.{form_of}
+use Rattle.cts_program.proofs.FileRefusals.{not_corners, accepted_by, file_refusal}
 use Rattle.cts_program.proofs.ResultLemmas.{if_ok_from}
 
 -- a register that has no place is one of the circuit
@@ -116,7 +117,8 @@ module _ {holds : List ℕ → Option (List ℕ)} (bench file : Bor (List ℕ)) 
           record {
             contents = two.netlist ∷ two.table ∷ bytes ∷ [];
             are = three_denoted bytes denoted';
-            refusal = file_refusal command named.1 (two.netlist ∷ two.table ∷ bytes ∷ [])
+            refusal = file_refusal command (not_corners command named.1) named.1
+                (two.netlist ∷ two.table ∷ bytes ∷ [])
                 (failures.Placement fault) refused;
           }
       placement_stops reads reads_now failure fails =
@@ -124,9 +126,11 @@ module _ {holds : List ℕ → Option (List ℕ)} (bench file : Bor (List ℕ)) 
           file_stops holds reads reads_now command kinds.Placement pl.now
           ((kinds.Bench, bench.now) ∷ (kinds.Tech, file.now) ∷ []) named.0 named.1
           (two.netlist ∷ two.table ∷ []) refl (two.netlist_denoted, (two.table_denoted, tt))
-          (two.netlist_accepted, two.table_accepted) named.1
-          (λ bytes long. (two.netlist_accepted, two.table_accepted, long)) three_denoted failure
-          fails
+          (accepted_by (form_of command) (not_corners command named.1)
+          (two.netlist ∷ two.table ∷ []) (two.netlist_accepted, two.table_accepted))
+          (λ bytes long. file_refusal command (not_corners command named.1) named.1
+          (two.netlist ∷ two.table ∷ bytes ∷ []) (failures.TooLong kinds.Placement)
+          (two.netlist_accepted, two.table_accepted, long)) three_denoted failure fails
 
 -- an accepted placement after them denotes the problem
 pub placed_denotes : {holds : List ℕ → Option (List ℕ)} (bench file pl : Bor (List ℕ))

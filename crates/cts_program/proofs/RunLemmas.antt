@@ -14,14 +14,12 @@ use Rattle.failure_lines.specs.declared.failure.Failure.{Failure}
 use Rattle.failure_lines.specs.declared.failure.Failure.TheVariants.{Usage, TooLong, Unshown, ReadFault, WriteFault, NoMemory}
 use Rattle.failure_lines.specs.declared.file_kind.FileKind.{FileKind}
 use Rattle.failure_lines.specs.declared.file_kind.FileKind.TheVariants.{Report}
-use Rattle.command_line.specs.declared.table.Form.{Form}
-use Rattle.cts_program.specs.Answers.{ending_status, texts_for, RefusesText, RefusesAccepted, IsAnswer, IsRefusal, IsAccepted, IsStatusOf, FindsNoPeriod}
-use Rattle.command_line.specs.Commands.{Given, options_of, IsCommand, IsSame}
+use Rattle.cts_program.specs.Answers.{ending_status, RefusesBy, IsAnswer, IsRefusal, IsAccepted, IsStatusOf, FindsNoPeriod}
+use Rattle.command_line.specs.Commands.{options_of, IsCommand, IsSame}
 use Rattle.failure_lines.specs.Failures.{words_failure_of, status_of}
 use Rattle.cts_program.specs.Files.{files_of, AreAll, AreContents, AreDenoted}
 use Rattle.command_line.specs.CommandTable.{form_of}
 use Rattle.cts_program.specs.Run.{IsNoCommand, DenotesText, RefusesCommand, CannotRead, EndsInPart, Fails, NoneRose}
-use Rattle.cts_program.proofs.AnswerTexts.{IsTextWith}
 use Rattle.cts_program.proofs.FileRefusals.{Agree, agree_same, agree_rotated}
 use Rattle.cts_program.proofs.OneAnswer.{Answers, answer_of, one_status, no_answer_prefix, some_text}
 use Rattle.cts_program.proofs.OneRefusal.{ReportLaws, answer_not_refused, one_refusal_status, accepted_refusal}
@@ -40,12 +38,6 @@ answers_moved command other same contents status text answer =
     subst (λ given. Answers (form_of other) given contents status text) same.options
     (subst (λ form. Answers form (options_of command) contents status text)
     (same_form command other same.name) answer)
-
--- a command of this form, with these options and files, refuses them with this failure
-abbrev RefusesWith : Form → List Given → List (FileKind × List ℕ) → List (List ℕ) → Failure → Type 0
-RefusesWith form given files contents failure = RefusesText (texts_for form given contents) failure
-    ⊎ ((length contents ≡ length files)
-    × RefusesAccepted form (texts_for form given contents) contents failure)
 
 -- contents that a command's text is made of, beside those that are said of its files
 module _ (words : List (List ℕ)) (holds : List ℕ → Option (List ℕ)) (command other : Command)
@@ -77,11 +69,11 @@ module _ (words : List (List ℕ)) (holds : List ℕ → Option (List ℕ)) (com
       → IsRefusal command known failure
   refused_here known failure refusal =
       let files = same_files words command other means means' in
-      subst (λ files. RefusesWith (form_of command) (options_of command) files known failure)
-      (sym files)
-      (subst (λ given. RefusesWith (form_of command) given (files_of other) known failure)
+      subst (λ files. RefusesBy (form_of command) (options_of command) files known failure)
+      (sym (ap length files))
+      (subst (λ given. RefusesBy (form_of command) given (length (files_of other)) known failure)
       (sym are_same.options)
-      (subst (λ form. RefusesWith form (options_of other) (files_of other) known failure)
+      (subst (λ form. RefusesBy form (options_of other) (length (files_of other)) known failure)
       (sym (same_form command other are_same.name)) refusal))
 
   -- a refusal of contents that are given, beside a text
@@ -381,9 +373,8 @@ done_status words holds command other means means' ending text denotes =
     let answer =
     answer_of other denotes.contents (ending_status ending) text denotes.answer.1 in
     let one = one_command words other command means' means in
-    text_status answer.moves command ending text answer.circuit answer.tech
-    (subst (λ form. IsTextWith answer.moves form (ending_status ending) text answer.circuit
-    answer.tech) (same_form other command one.name) answer.holds)
+    text_status command ending (options_of command) denotes.contents text
+    (answers_moved other command one denotes.contents (ending_status ending) text answer)
 
 -- a command that answers doesn't end with status 2
 pub not_two : (ending : Ending) → ending_status ending ≡ 2 → ⊥

@@ -1,13 +1,13 @@
 -- The words of a command line name files in one way, so what is said of their contents is one.
-use Rattle.std.proofs.Common.{ℕ, ◌≡◌, ◌≤◌, if◌then◌else◌, List, [], ◌∷◌, length, Option, Some, None, IfSome, codes, refl, ap, sym, ◌∙◌, subst, arith}
+use Rattle.std.proofs.Common.{ℕ, ◌≡◌, ◌≤◌, if◌then◌else◌, List, [], ◌∷◌, ◌++◌, length, Option, Some, None, IfSome, codes, refl, ap₂, sym, ◌∙◌, subst, arith}
 use Rattle.std.specs.List.{flat_map}
 use Rattle.std.specs.Str.{bytes_eq}
 use Rattle.command_line.specs.declared.command.Command.{Command}
 use Rattle.command_line.specs.declared.command.Command.TheVariants.{Zero}
 use Rattle.failure_lines.specs.declared.file_kind.FileKind.{FileKind}
 use Rattle.failure_lines.specs.declared.file_kind.FileKind.TheVariants.{Bench, Tech, Placement, Report, Topology, Moves}
-use Rattle.command_line.specs.Commands.{Given, options_of, IsSame, IsCommand}
-use Rattle.cts_program.specs.Files.{files_of, AreContents, AreDenoted}
+use Rattle.command_line.specs.Commands.{Given, options_of, tables_of, IsSame, IsCommand}
+use Rattle.cts_program.specs.Files.{corner_files, files_of, AreContents, AreDenoted}
 use Rattle.cts_program.proofs.FileRefusals.{Agree}
 use Rattle.command_line.proofs.PlainCommands.{one_command}
 
@@ -20,15 +20,18 @@ file_of one = if bytes_eq one.0 (codes "--bench") then (Bench, one.1) ∷ []
     else if bytes_eq one.0 (codes "--topology") then (Topology, one.1) ∷ []
     else if bytes_eq one.0 (codes "--moves") then (Moves, one.1) ∷ [] else []
 
--- the files of a command are those that its options name, in their order
-files_named : (command : Command) → files_of command ≡ flat_map file_of (options_of command)
+-- the files of a command are those that its options name, in their order, and its tables
+files_named : (command : Command) → files_of command
+    ≡ flat_map file_of (options_of command) ++ corner_files 1 (tables_of command)
 files_named (Zero bench None) = refl
 files_named (Zero bench (Some tech)) = refl
 files_named command = refl
 
 files_same : (command other : Command) → IsSame command other → files_of command ≡ files_of other
 files_same command other same =
-    files_named command ∙ ap (flat_map file_of) same.options ∙ sym (files_named other)
+    files_named command
+    ∙ ap₂ (λ given tables. flat_map file_of given ++ corner_files 1 tables) same.options same.tables
+    ∙ sym (files_named other)
 
 -- commands that the same words mean read the same files
 pub same_files : (words : List (List ℕ)) (command other : Command) → IsCommand words command

@@ -20,7 +20,6 @@ use Rattle.cts_model.specs.declared.report.Version.TheVariants.{First, Second}
 use Rattle.cts_model.specs.declared.schedule.Schedule.{Schedule}
 use Rattle.cts_model.specs.declared.schedule.Slack.{Slack}
 use Rattle.cts_model.specs.declared.tech.Tech.{Tech}
-use Rattle.cts_model.specs.Constraints.{IsConstraintOf}
 use Rattle.cts_model.specs.Cycles.{IsCycle}
 use Rattle.cts_model.specs.LeastPeriods.{IsForbidding, IsPeriodShow}
 use Rattle.cts_model.specs.PrintedLines.{Words, count_line, line_for, cycle_lines}
@@ -48,14 +47,14 @@ tails_apart (constraint ∷ cycle) apart =
 few_registers : (circuit : Circuit) → length circuit.registers ≤ 4097
 few_registers circuit = grind (arith, circuit.valid.few_registers)
 
--- and a cycle of a circuit's constraints has at most as many constraints
-pub few_constraints : (circuit : Circuit) (tech : Tech) (cycle : List Constraint)
-    → All (IsConstraintOf circuit tech) cycle → IsCycle cycle → length cycle ≤ 4097
-few_constraints circuit tech cycle of_circuit is_cycle =
+-- and a cycle of constraints between them has at most as many constraints
+pub few_constraints : (circuit : Circuit) (cycle : List Constraint)
+    → All (λ constraint. constraint.tail < length circuit.registers) cycle → IsCycle cycle
+    → length cycle ≤ 4097
+few_constraints circuit cycle between is_cycle =
     let tails = map (λ (constraint : Constraint). constraint.tail) cycle in
     let within = All-map (λ tail. tail < length circuit.registers)
-    (λ (constraint : Constraint). constraint.tail) cycle
-    (tails_within circuit tech cycle of_circuit) in
+    (λ (constraint : Constraint). constraint.tail) cycle between in
     let few = length-le_from_distinct_below tails (length circuit.registers)
     (IsDistinct-from_AllPairs Decides-eqb tails (tails_apart cycle is_cycle.once))
     (λ tail found. All-contains (λ t. t < length circuit.registers) tails tail within
@@ -144,9 +143,11 @@ module _ (circuit : Circuit) (tech : Tech) where
       (period_show_lines version circuit shown paths ++ rest)
   counted_show First period (Cycle cycle) paths shows counted =
       counted_cycle circuit cycle
-      (few_constraints circuit tech cycle shows.of_circuit shows.shows.is_cycle) counted
+      (few_constraints circuit cycle (tails_within circuit tech cycle shows.of_circuit)
+      shows.shows.is_cycle) counted
   counted_show Second period (Cycle cycle) paths shows counted =
-      let few = few_constraints circuit tech cycle shows.of_circuit shows.shows.is_cycle in
+      let few = few_constraints circuit cycle (tails_within circuit tech cycle shows.of_circuit)
+      shows.shows.is_cycle in
       counted_section (pathed_lines circuit cycle paths)
       (omega (
         arith,
@@ -162,7 +163,8 @@ module _ (circuit : Circuit) (tech : Tech) where
   counted_never cycle never =
       counted_line (subst (AreCounted (1 ∷ [])) (append-nil (cycle_lines circuit cycle))
       (counted_cycle circuit cycle
-      (few_constraints circuit tech cycle never.of_circuit never.forbids.is_cycle) counted_none))
+      (few_constraints circuit cycle (tails_within circuit tech cycle never.of_circuit)
+      never.forbids.is_cycle) counted_none))
 
 -- ---- reports
 

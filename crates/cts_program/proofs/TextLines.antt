@@ -1,5 +1,5 @@
 -- The lines of each text are lines, as those of reports are.
-use Rattle.std.proofs.Common.{ℕ, ℤ, pos, true, false, List, [], ◌∷◌, ◌++◌, length, map, arith}
+use Rattle.std.proofs.Common.{ℕ, ℤ, pos, Bool, true, false, List, [], ◌∷◌, ◌++◌, ◌+◌, length, map, slice_index_or, arith}
 use Rattle.std.specs.List.{range_with_len}
 use Rattle.std.specs.Fmt.{signed_decimal}
 use Rattle.std.proofs.lemmas.Int.{ints}
@@ -21,9 +21,13 @@ use Rattle.cts_model.specs.ReportLines.{version_line, tree_lines}
 use Rattle.report_text.specs.WireLines.{wire_line}
 use Rattle.report_text.proofs.OneLine.{IsWord, IsLine}
 use Rattle.report_text.proofs.ReportWords.{AreLines, report_lines_are}
+use Rattle.corners.specs.declared.outcome.CornersOutcome.{CornersOutcome}
+use Rattle.corners.specs.declared.outcome.CornersOutcome.TheVariants as outcomes
+use Rattle.corners.specs.CornerLists.{constraint_at}
 use Rattle.cts_engine.specs.declared.margin.MarginOutcome.{MarginOutcome}
 use Rattle.cts_engine.specs.declared.margin.MarginOutcome.TheVariants as margins
 use Rattle.cts_program.specs.ArrivalTexts.{all_at_zero, arrival_line, arrival_lines}
+use Rattle.cts_program.specs.CornerTexts.{numbered_line, numbered_line_at, numbered_lines, common_show_lines, corners_lines}
 use Rattle.cts_program.specs.DemoTexts.{summary_lines}
 use Rattle.cts_program.specs.MarginTexts.{margin_lines}
 use Rattle.cts_program.specs.PeriodTexts.{found_lines, never_lines}
@@ -41,7 +45,12 @@ lines_after : (lines others : List Words) → AreLines lines → AreLines others
 lines_after [] others are are' = are'
 lines_after (line ∷ lines) others are are' = (are.0, lines_after lines others are.1 are')
 
--- a line for each item, where another for it is one
+-- a line for each item, and where another for it is one
+lines_each : {X : Type 0} (line : X → Words) → ((x : X) → IsLine (line x)) → (xs : List X)
+    → AreLines (map line xs)
+lines_each line each [] = tt
+lines_each line each (x ∷ xs) = (each x, lines_each line each xs)
+
 lines_for : {X : Type 0} (line other : X → Words) → ((x : X) → IsLine (line x) → IsLine (other x))
     → (xs : List X) → AreLines (map line xs) → AreLines (map other xs)
 lines_for line other so [] are = tt
@@ -145,8 +154,7 @@ module _ (circuit : Circuit) where
 
   -- and so are several
   pub wire_lines_are : (grid : ℤ) (wires : List ℤ) → AreLines (map (wire_line grid) wires)
-  wire_lines_are grid [] = tt
-  wire_lines_are grid (wire ∷ wires) = (wire_line_is grid wire, wire_lines_are grid wires)
+  wire_lines_are grid wires = lines_each (wire_line grid) (wire_line_is grid) wires
 
   -- those of a schedule alone, as those with slacks are
   arrival_lines_are : (schedule : Schedule) → AreLines (arrival_lines circuit schedule)
@@ -189,3 +197,44 @@ module _ (circuit : Circuit) where
           (wire_line_is report.grid report.total, search arith),
         ),
       )
+
+  -- a constraint with the number of its corner
+  numbered_is : (setup : Bool) (tail head : ℕ) (weight : ℤ) (number : ℕ)
+      → IsLine (numbered_line circuit
+      (record { setup = setup; tail = tail; head = head; weight = weight }) number)
+  numbered_is true tail head weight number =
+      let is =
+      constraint_is (record { setup = true; tail = tail; head = head; weight = weight }) in
+      (is.0, (is.1.0, (is.1.1.0, (is.1.1.1.0, (number_word (pos number), tt)))))
+  numbered_is false tail head weight number =
+      let is =
+      constraint_is (record { setup = false; tail = tail; head = head; weight = weight }) in
+      (is.0, (is.1.0, (is.1.1.0, (is.1.1.1.0, (number_word (pos number), tt)))))
+
+  -- a cycle of such
+  numbered_lines_are : (cycle : List Constraint) (corners : List ℕ)
+      → AreLines (numbered_lines circuit cycle corners)
+  numbered_lines_are cycle corners = (
+    (show_lines_are (shows.Cycle cycle)).0,
+    lines_each (numbered_line_at circuit cycle corners) (λ place.
+        let constraint = constraint_at cycle place in
+        numbered_is constraint.setup constraint.tail constraint.head constraint.weight
+        (slice_index_or corners place 0 + 1))
+        (range_with_len 0 (length cycle)),
+  )
+
+  -- what shows the period of several corners
+  common_show_lines_are : (shown : PeriodShow) (corners : List ℕ)
+      → AreLines (common_show_lines circuit shown corners)
+  common_show_lines_are (shows.Cycle cycle) corners = numbered_lines_are cycle corners
+  common_show_lines_are shows.Floor corners = show_lines_are shows.Floor
+
+  -- the lines of the outcome of several corners
+  pub corners_lines_are : (outcome : CornersOutcome) → AreLines (corners_lines circuit outcome)
+  corners_lines_are (outcomes.Found period shown corners schedule) = (
+    period_line_is period,
+    lines_after (common_show_lines circuit shown corners) (arrival_lines circuit schedule)
+        (common_show_lines_are shown corners) (arrival_lines_are schedule),
+  )
+  corners_lines_are (outcomes.Never cycle corners) =
+      (search arith, numbered_lines_are cycle corners)

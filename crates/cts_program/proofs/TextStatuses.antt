@@ -1,19 +1,21 @@
 -- What the status of a text says: 1 that the circuit admits no period, 0 that it admits one where a
 -- command looks for it; and `zero`, `check` and `margin` have no text with another.
-use Rattle.std.proofs.Common.{◌≡◌, ◌⊎◌, inl, inr, ℕ, Bool, true, false, List, refl, ap, sym, ◌∙◌, subst, arith}
+use Rattle.std.proofs.Common.{◌≡◌, ◌≢◌, ◌⊎◌, inl, inr, ℕ, Bool, true, false, List, refl, ap, sym, ◌∙◌, subst, arith}
 use Rattle.cts_model.specs.declared.circuit.Circuit.{Circuit}
 use Rattle.cts_model.specs.declared.tech.Tech.{Tech}
 use Rattle.cts_model.specs.LeastPeriods.{HasNoPeriod}
 use Rattle.command_line.specs.declared.command.Command.{Command}
-use Rattle.command_line.specs.declared.command.Command.TheVariants.{Zero, Check, Margin}
+use Rattle.command_line.specs.declared.command.Command.TheVariants.{Zero, Check, Margin, Corners}
 use Rattle.cts_program.specs.declared.ending.Ending.{Ending}
 use Rattle.cts_program.specs.declared.ending.Ending.TheVariants as endings
 use Rattle.cts_program.specs.Answers.{ending_status, TellWith, texts_for, IsStatusOf, FindsNoPeriod}
-use Rattle.command_line.specs.Commands.{options_of}
+use Rattle.command_line.specs.declared.table.Form.TheVariants as forms
+use Rattle.command_line.specs.Commands.{Given, options_of}
 use Rattle.cts_program.specs.Files.{AreAll}
 use Rattle.command_line.specs.CommandTable.{form_of}
-use Rattle.cts_program.proofs.AnswerTexts.{looks_for_period, SaysOfPeriods, IsTextWith}
-use Rattle.cts_program.proofs.OneAnswer.{Answers, one_denoted}
+use Rattle.cts_program.proofs.AnswerTexts.{looks_for_period, SaysOfPeriods}
+use Rattle.cts_program.proofs.CornerAnswers.{corners_find_none, corners_find_some}
+use Rattle.cts_program.proofs.OneAnswer.{Answers, AnswersByOne, one_denoted}
 
 -- ---- no period
 
@@ -31,39 +33,43 @@ says_some false circuit tech is says none = cc is
 says_some true circuit tech is (inl found) none = found.1 none
 says_some true circuit tech is (inr never) none = absurd (omega (arith, never.0))
 
--- a command looks for a period, and what it goes by admits none
+-- a command of one table looks for a period, and what it goes by admits none
 abbrev FindsNone : Command → List (List ℕ) → Type 0
 FindsNone command contents = (looks_for_period (form_of command) ≡ true)
     × AreAll command contents
     × TellWith (texts_for (form_of command) (options_of command) contents) HasNoPeriod
 
-finds_by : (command : Command) (contents : List (List ℕ)) → FindsNone command contents
-    → FindsNoPeriod command contents
-finds_by (Zero bench tech) contents (looks, all, none) = cc looks
-finds_by (Check bench tech pl report) contents (looks, all, none) = cc looks
-finds_by (Margin bench tech period) contents (looks, all, none) = cc looks
-finds_by command contents (looks, all, none) = (all, none)
+finds_by : (command : Command) → form_of command ≢ forms.Corners → (contents : List (List ℕ))
+    → FindsNone command contents → FindsNoPeriod command contents
+finds_by (Zero bench tech) apart contents (looks, all, none) = cc looks
+finds_by (Check bench tech pl report) apart contents (looks, all, none) = cc looks
+finds_by (Margin bench tech period) apart contents (looks, all, none) = cc looks
+finds_by (Corners bench tables) apart contents finds = absurd (apart refl)
+finds_by command apart contents (looks, all, none) = (all, none)
 
-found_by : (command : Command) (contents : List (List ℕ)) → FindsNoPeriod command contents
-    → FindsNone command contents
-found_by (Zero bench tech) contents finds = absurd finds
-found_by (Check bench tech pl report) contents finds = absurd finds
-found_by (Margin bench tech period) contents finds = absurd finds
-found_by command contents finds = (refl, finds.0, finds.1)
+found_by : (command : Command) → form_of command ≢ forms.Corners → (contents : List (List ℕ))
+    → FindsNoPeriod command contents → FindsNone command contents
+found_by (Zero bench tech) apart contents finds = absurd finds
+found_by (Check bench tech pl report) apart contents finds = absurd finds
+found_by (Margin bench tech period) apart contents finds = absurd finds
+found_by (Corners bench tables) apart contents finds = absurd (apart refl)
+found_by command apart contents finds = (refl, finds.0, finds.1)
 
 -- where a command finds no period the contents of all its files are known
 pub finds_all : (command : Command) (contents : List (List ℕ)) → FindsNoPeriod command contents
     → AreAll command contents
-finds_all command contents finds = (found_by command contents finds).1
+finds_all (Corners bench tables) contents finds = finds.0
+finds_all command contents finds = (found_by command (λ same. cc same) contents finds).1
 
--- with a text of status 1 it finds none
-pub finds_no_period : (command : Command) (contents : List (List ℕ)) → AreAll command contents
-    → (text : List ℕ) → Answers (form_of command) (options_of command) contents 1 text
+-- with a text of status 1 a command of one table finds none
+none_by_one : (command : Command) → form_of command ≢ forms.Corners → (contents : List (List ℕ))
+    → AreAll command contents → (text : List ℕ)
+    → AnswersByOne (form_of command) (options_of command) contents 1 text
     → FindsNoPeriod command contents
-finds_no_period command contents all text answer =
+none_by_one command apart contents all text answer =
     let says = says_none (looks_for_period (form_of command)) answer.circuit answer.tech
     answer.holds.are.says in
-    finds_by command contents (
+    finds_by command apart contents (
       says.0,
       all,
       record {
@@ -78,17 +84,34 @@ finds_no_period command contents all text answer =
     )
 
 -- and then it has no text with status 0
-pub finds_period : (command : Command) (contents : List (List ℕ)) (text : List ℕ)
-    → Answers (form_of command) (options_of command) contents 0 text
+some_by_one : (command : Command) → form_of command ≢ forms.Corners → (contents : List (List ℕ))
+    (text : List ℕ) → AnswersByOne (form_of command) (options_of command) contents 0 text
     → FindsNoPeriod command contents → ⊥
-finds_period command contents text answer finds =
-    let (looks, all, none) = found_by command contents finds in
+some_by_one command apart contents text answer finds =
+    let (looks, all, none) = found_by command apart contents finds in
     let same = one_denoted (texts_for (form_of command) (options_of command) contents)
     none.circuit answer.circuit none.tech answer.tech none.tell answer.tell in
     says_some (looks_for_period (form_of command)) answer.circuit answer.tech looks
     answer.holds.are.says
     (subst (λ t. HasNoPeriod answer.circuit t) same.1
     (subst (λ c. HasNoPeriod c none.tech) same.0 none.holds))
+
+-- so it is with all commands
+pub finds_no_period : (command : Command) (contents : List (List ℕ)) → AreAll command contents
+    → (text : List ℕ) → Answers (form_of command) (options_of command) contents 1 text
+    → FindsNoPeriod command contents
+finds_no_period (Corners bench tables) contents all text answer =
+    (all, corners_find_none contents text answer)
+finds_no_period command contents all text answer =
+    none_by_one command (λ same. cc same) contents all text answer
+
+pub finds_period : (command : Command) (contents : List (List ℕ)) (text : List ℕ)
+    → Answers (form_of command) (options_of command) contents 0 text
+    → FindsNoPeriod command contents → ⊥
+finds_period (Corners bench tables) contents text answer finds =
+    corners_find_some contents text answer finds.1
+finds_period command contents text answer finds =
+    some_by_one command (λ same. cc same) contents text answer finds
 
 -- ---- the statuses of a command
 
@@ -98,11 +121,12 @@ done_or_never endings.Done = inl refl
 done_or_never endings.Never = inr refl
 
 -- a command's text has a status of the command
-pub text_status : (moves : ℕ) (command : Command) (ending : Ending) (text : List ℕ)
-    (circuit : Circuit) (tech : Tech)
-    → IsTextWith moves (form_of command) (ending_status ending) text circuit tech
+pub text_status : (command : Command) (ending : Ending) (given : List Given)
+    (contents : List (List ℕ)) (text : List ℕ)
+    → Answers (form_of command) given contents (ending_status ending) text
     → IsStatusOf command (ending_status ending)
-text_status moves (Zero bench tech) ending text circuit delays is = is.are.says
-text_status moves (Check bench tech pl report) ending text circuit delays is = inl is.are.says
-text_status moves (Margin bench tech period) ending text circuit delays is = is.are.says
-text_status moves command ending text circuit delays is = done_or_never ending
+text_status (Zero bench tech) ending given contents text answer = answer.holds.are.says
+text_status (Check bench tech pl report) ending given contents text answer =
+    inl answer.holds.are.says
+text_status (Margin bench tech period) ending given contents text answer = answer.holds.are.says
+text_status command ending given contents text answer = done_or_never ending

@@ -7,7 +7,7 @@ use Rattle.cts_model.specs.LeastPeriods.{HasNoPeriod}
 use Rattle.cts_model.specs.PairLists.{JoinsMoreThan}
 use Rattle.cts_model.specs.PrintedLines.{text_of}
 use Rattle.command_line.specs.declared.command.Command.{Command}
-use Rattle.command_line.specs.declared.command.Command.TheVariants.{Zero, Period, Schedule, Synth, Check, Demo, Embed, Moves, Margin}
+use Rattle.command_line.specs.declared.command.Command.TheVariants.{Zero, Period, Schedule, Synth, Check, Demo, Embed, Moves, Margin, Corners}
 use Rattle.command_line.specs.declared.table.Form.{Form}
 use Rattle.command_line.specs.declared.table.Form.TheVariants as forms
 use Rattle.cts_program.specs.declared.ending.Ending.{Ending}
@@ -17,8 +17,9 @@ use Rattle.failure_lines.specs.declared.failure.Failure.TheVariants.{Pairs}
 use Rattle.cts_program.specs.Checks.{shown_line, EndWith, IsShownReport, RefusesReport}
 use Rattle.command_line.specs.CommandTable.{form_of}
 use Rattle.command_line.specs.Commands.{Given, number_of, options_of}
+use Rattle.cts_program.specs.CornerFiles.{AreCornerFiles, CornersFindNoPeriod, CornersJoinTooMany, IsCornersAnswer, RefusesCorners}
 use Rattle.cts_program.specs.DemoTexts.{demo_texts, IsDemoText}
-use Rattle.cts_program.specs.Files.{AreAll}
+use Rattle.cts_program.specs.Files.{files_of, AreAll}
 use Rattle.cts_program.specs.Judged.{AreAccepted, IsFileRefusal, Tell, TellProblem}
 use Rattle.cts_program.specs.MarginTexts.{IsMarginText}
 use Rattle.cts_program.specs.MoveFiles.{IsMovedFor, IsMovedBy, RefusesMoving}
@@ -124,6 +125,7 @@ IsText (Margin bench tech period) contents status text =
     (status ≡ 0) × IsMarginAnswer contents period.now text
 IsText (Moves bench tech pl moves) contents status text =
     EndWith contents (IsMovedBy status text)
+IsText (Corners bench tables) contents status text = IsCornersAnswer contents status text
 
 -- the command answers with this status and this text
 abbrev pub IsAnswer : Command → List (List ℕ) → ℕ → List ℕ → Type 0
@@ -147,11 +149,24 @@ RefusesAccepted forms.Moves texts contents failure =
     EndWith contents (λ problem bytes. RefusesMoving problem bytes failure)
 RefusesAccepted form texts contents failure = (failure ≡ Pairs) × JoinTooMany texts
 
+-- a command of this form, with these options and so many files, refuses these contents: a text that
+-- it goes by, or all files though those are accepted. Several corners have their own tables.
+abbrev pub RefusesBy : Form → List Given → (files : ℕ) → List (List ℕ) → Failure → Type 0
+RefusesBy forms.Corners given files contents failure = RefusesCorners contents failure
+    ⊎ ((length contents ≡ files) × (failure ≡ Pairs) × CornersJoinTooMany contents)
+RefusesBy form given files contents failure = RefusesText (texts_for form given contents) failure
+    ⊎ ((length contents ≡ files)
+    × RefusesAccepted form (texts_for form given contents) contents failure)
+
 -- the first refusal of the command, on the contents of its files up to the one that is refused
 abbrev pub IsRefusal : Command → List (List ℕ) → Failure → Type 0
-IsRefusal command contents failure = RefusesText (texts_of command contents) failure
-    ⊎ (AreAll command contents
-    × RefusesAccepted (form_of command) (texts_of command contents) contents failure)
+IsRefusal command contents failure =
+    RefusesBy (form_of command) (options_of command) (length (files_of command)) contents failure
+
+-- the first files of a command of this form are accepted
+abbrev pub AreAcceptedBy : Form → List (List ℕ) → Type 0
+AreAcceptedBy forms.Corners contents = AreCornerFiles contents
+AreAcceptedBy form contents = AreAccepted contents
 
 -- the texts of a demonstration are refused
 abbrev pub IsDemoRefusal : (registers seed : ℕ) → Failure → Type 0
@@ -165,6 +180,8 @@ IsAccepted (Check bench tech pl report) contents =
     (3 ≤ length contents) × AreAccepted (take 3 contents)
 IsAccepted (Embed bench tech pl topology) contents = EndWith contents IsAcceptedFor
 IsAccepted (Moves bench tech pl moves) contents = EndWith contents IsMovedFor
+IsAccepted (Corners bench tables) contents = AreAll (Corners bench tables) contents
+    × AreCornerFiles contents × (CornersJoinTooMany contents → ⊥)
 IsAccepted command contents = AreAll command contents
     × AreAccepted (texts_of command contents) × (JoinTooMany (texts_of command contents) → ⊥)
 
@@ -180,5 +197,7 @@ abbrev pub FindsNoPeriod : Command → List (List ℕ) → Type 0
 FindsNoPeriod (Zero bench tech) contents = ⊥
 FindsNoPeriod (Margin bench tech period) contents = ⊥
 FindsNoPeriod (Check bench tech pl report) contents = ⊥
+FindsNoPeriod (Corners bench tables) contents =
+    AreAll (Corners bench tables) contents × CornersFindNoPeriod contents
 FindsNoPeriod command contents =
     AreAll command contents × TellWith (texts_of command contents) HasNoPeriod

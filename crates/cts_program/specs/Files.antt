@@ -1,11 +1,12 @@
 -- The files that a command reads, and what is known of their contents.
-use Rattle.std.specs.Prelude.{◌≡◌, ◌≤◌, ℕ, List, [], ◌∷◌, ◌++◌, map, length, Option, Some, IfSome, option_to_list}
+use Rattle.std.specs.Prelude.{◌≡◌, ◌≤◌, ℕ, suc, List, [], ◌∷◌, ◌++◌, map, length, Option, Some, IfSome, option_to_list}
 use Rattle.std.specs.Borrow.{Bor}
 use Rattle.failure_lines.specs.declared.file_kind.FileKind.{FileKind}
-use Rattle.failure_lines.specs.declared.file_kind.FileKind.TheVariants.{Bench, Tech, Placement, Report, Topology}
+use Rattle.failure_lines.specs.declared.file_kind.FileKind.TheVariants.{Bench, Tech, Placement, Report, Topology, Corner}
 use Rattle.failure_lines.specs.declared.file_kind.FileKind.TheVariants as kinds
 use Rattle.command_line.specs.declared.command.Command.{Command}
-use Rattle.command_line.specs.declared.command.Command.TheVariants.{Zero, Period, Schedule, Synth, Check, Demo, Embed, Moves, Margin}
+use Rattle.command_line.specs.declared.command.Command.TheVariants.{Zero, Period, Schedule, Synth, Check, Demo, Embed, Moves, Margin, Corners}
+use Rattle.command_line.specs.Commands.{tables_of}
 
 -- the files that tell a circuit: a netlist and, if one is named, a delay table
 abbrev pub circuit_files : Bor (List ℕ) → Option (Bor (List ℕ)) → List (FileKind × List ℕ)
@@ -15,6 +16,11 @@ circuit_files bench tech =
 -- the files that tell a problem: with a placement after them
 abbrev pub problem_files : (bench tech pl : Bor (List ℕ)) → List (FileKind × List ℕ)
 problem_files bench tech pl = circuit_files bench (Some tech) ++ (Placement, pl.now) ∷ []
+
+-- the delay tables of corners, which are numbered from one on
+abbrev pub corner_files : (number : ℕ) → List (List ℕ) → List (FileKind × List ℕ)
+corner_files number [] = []
+corner_files number (table ∷ tables) = (Corner number, table) ∷ corner_files (suc number) tables
 
 -- the files that a command reads, in this order, each with its name
 abbrev pub files_of : Command → List (FileKind × List ℕ)
@@ -30,6 +36,8 @@ files_of (Embed bench tech pl topology) =
 files_of (Margin bench tech period) = circuit_files bench (Some tech)
 files_of (Moves bench tech pl moves) =
     problem_files bench tech pl ++ (kinds.Moves, moves.now) ∷ []
+files_of (Corners bench tables) =
+    (Bench, bench.now) ∷ corner_files 1 (tables_of (Corners bench tables))
 
 -- no file has more bytes
 abbrev pub IsShortFile : List ℕ → Type 0

@@ -1,6 +1,8 @@
 pub mod Answers
 pub mod ArrivalTexts
 pub mod Checks
+pub mod CornerFiles
+pub mod CornerTexts
 pub mod DemoTexts
 pub mod Files
 pub mod Headline

@@ -8,8 +8,8 @@ use Rattle.failure_lines.specs.declared.file_kind.FileKind.{FileKind}
 use Rattle.command_line.specs.Commands.{IsCommand}
 use Rattle.failure_lines.specs.Failures.{status_of, failure_line, Reports}
 use Rattle.cts_program.specs.Files.{files_of, AreAll, AreContents}
-use Rattle.cts_program.specs.Judged.{AreAccepted}
-use Rattle.cts_program.specs.Answers.{is_ending, IsAnswer, IsRefusal, IsAccepted, IsStatusOf, FindsNoPeriod}
+use Rattle.command_line.specs.CommandTable.{form_of}
+use Rattle.cts_program.specs.Answers.{is_ending, AreAcceptedBy, IsAnswer, IsRefusal, IsAccepted, IsStatusOf, FindsNoPeriod}
 
 -- the words ask for nothing that the program does
 abbrev pub IsNoCommand : List (List ℕ) → Type 0
@@ -40,7 +40,7 @@ pub record CannotRead (holds : List ℕ → Option (List ℕ)) (reads reads_now 
   pub contents : List (List ℕ)
   pub before : length contents ≡ length prefix
   pub are : AreContents holds prefix contents
-  pub accepted : AreAccepted contents
+  pub accepted : AreAcceptedBy (form_of command) contents
 
 -- why a command has no text
 abbrev pub Stops : (List ℕ → Option (List ℕ)) → (reads reads_now : List ℕ → ℕ) → Command → Failure

@@ -1,5 +1,5 @@
 -- What one step of a command finds: a file that was read, or why the command stops there.
-use Rattle.std.specs.Prelude.{◌≡◌, ℕ, Bool, List, ◌++◌, length, Option, IfSome, Result, IsErrOf}
+use Rattle.std.specs.Prelude.{◌≡◌, ◌≢◌, ℕ, suc, Bool, List, [], ◌∷◌, ◌++◌, All, length, Option, IfSome, Result, IsErrOf}
 use Rattle.cts_io.specs.Device.{Rose}
 use Rattle.cts_model.specs.declared.signal.Signal.{Signal}
 use Rattle.cts_model.specs.declared.circuit.Circuit.{Circuit}
@@ -34,6 +34,7 @@ use Rattle.cert_check.specs.declared.verdict.Verdict.TheVariants.{Not}
 use Rattle.cert_check.specs.Verdicts.{IsVerdict}
 use Rattle.failure_lines.specs.declared.not_shown.NotShown.TheVariants as why
 use Rattle.cts_program.specs.Answers.{IsDemoRefusal}
+use Rattle.cts_program.specs.CornerFiles.{is_hostless, TellCorners}
 use Rattle.cts_program.specs.Checks.{AreOfProblem, subject_of}
 use Rattle.cts_program.specs.Files.{IsShortFile, circuit_files, problem_files, files_of, AreContents}
 use Rattle.cts_program.specs.Judged.{HasPlaceFault, IsNamedFault, AreAccepted, Tell}
@@ -85,6 +86,59 @@ FailsTable signals held before now (failures.Tech fault) =
     (bytes : List ℕ) × IsReportedAs held bytes × IsShortFile bytes × HasFaultFor signals bytes fault
 FailsTable signals held before now failure = FailsToReadFile kinds.Tech held before now failure
 
+-- the delay tables in these files denote these delays, and each gives each gate kind of these
+-- signals
+abbrev pub ReadsEach : List Signal → (holds : List ℕ → Option (List ℕ)) → List (List ℕ) → List Tech
+    → Type 0
+ReadsEach signals holds [] [] = Unit {0}
+ReadsEach signals holds (file ∷ files) (tech ∷ techs) =
+    ReadsTable signals (holds file) tech × ReadsEach signals holds files techs
+ReadsEach signals holds files techs = ⊥
+
+-- these delays are read from these files, and all or none give the host a place
+pub record ReadsCorners (signals : List Signal) (holds : List ℕ → Option (List ℕ))
+    (files : List (List ℕ)) (techs : List Tech) : Type 0 where
+  pub each : ReadsEach signals holds files techs
+  pub hostless : Bool
+  pub hosts : All (λ tech. is_hostless tech ≡ hostless) techs
+
+-- one of the first table and this one gives the host a place, and the other doesn't
+abbrev pub DiffersFromFirst : List Tech → Tech → Type 0
+DiffersFromFirst [] tech = ⊥
+DiffersFromFirst (first ∷ more) tech = is_hostless first ≢ is_hostless tech
+
+-- the table of a corner isn't read, or is refused after these
+abbrev pub FailsCorner : List Signal → List Tech → (number : ℕ) → Option (List ℕ) → ℕ → ℕ → Failure
+    → Type 0
+FailsCorner signals techs number held before now (failures.CornerTech other fault) =
+    (other ≡ number)
+    × ((bytes : List ℕ) × IsReportedAs held bytes × IsShortFile bytes
+    × HasFaultFor signals bytes fault)
+FailsCorner signals techs number held before now (failures.CornerHost other) =
+    (other ≡ number)
+    × ((tech : Tech) × ReadsTable signals held tech × DiffersFromFirst techs tech)
+FailsCorner signals techs number held before now failure =
+    FailsToReadFile (kinds.Corner number) held before now failure
+
+-- so it is with one of these files, after those before it were read
+pub record FailsAmong (signals : List Signal) (holds : List ℕ → Option (List ℕ))
+    (reads reads_now : List ℕ → ℕ) (files : List (List ℕ)) (failure : Failure) : Type 0 where
+  pub before : List (List ℕ)
+  pub file : List ℕ
+  pub after : List (List ℕ)
+  pub files_are : files ≡ before ++ file ∷ after
+  pub techs : List Tech
+  pub read : ReadsCorners signals holds before techs
+  pub fails : FailsCorner signals techs (suc (length before)) (holds file) (reads file)
+      (reads_now file) failure
+
+-- or memory ran out
+abbrev pub FailsCorners : List Signal → (holds : List ℕ → Option (List ℕ))
+    → (reads reads_now : List ℕ → ℕ) → (files : List (List ℕ)) → Failure → Type 0
+FailsCorners signals holds reads reads_now files failures.NoMemory = Unit {0}
+FailsCorners signals holds reads reads_now files failure =
+    FailsAmong signals holds reads reads_now files failure
+
 -- the placement in a file denotes these places of the circuit's registers and of the source
 pub record ReadsPlaces (circuit : Circuit) (tech : Tech) (held : Option (List ℕ))
     (places : Places) : Type 0 where
@@ -120,6 +174,14 @@ pub record DenotesCircuit (holds : List ℕ → Option (List ℕ)) (files : List
   pub all : length contents ≡ length files
   pub accepted : AreAccepted contents
   pub tell : Tell contents circuit tech
+
+-- what these files of several corners hold is accepted, and denotes this circuit and these delays
+pub record DenotesCorners (holds : List ℕ → Option (List ℕ)) (files : List (FileKind × List ℕ))
+    (circuit : Circuit) (techs : List Tech) : Type 0 where
+  pub contents : List (List ℕ)
+  pub are : AreContents holds files contents
+  pub all : length contents ≡ length files
+  pub tell : TellCorners contents (λ told delays. (told ≡ circuit) × (delays ≡ techs))
 
 -- the first files of the command are those of a problem
 abbrev pub ReadsProblem : Command → (bench tech pl : Bor (List ℕ)) → Type 0

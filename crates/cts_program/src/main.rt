@@ -4,6 +4,7 @@
 mod arrivals;
 mod call;
 mod check;
+mod cornering;
 mod demo;
 mod ending;
 mod margin;

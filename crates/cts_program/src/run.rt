@@ -4,20 +4,22 @@ ghost use Rattle.command_line.specs.declared.command.Command.{Command};
 ghost use Rattle.failure_lines.specs.declared.failure.Failure.{Failure};
 ghost use Rattle.failure_lines.specs.declared.file_kind.FileKind.{FileKind};
 ghost use Rattle.cts_program.specs.Answers.{is_ending, ending_status};
-ghost use Rattle.command_line.specs.Commands.{HasValidValues, IsCommand};
+ghost use Rattle.command_line.specs.Commands.{HasValidTables, HasValidValues, IsCommand};
 ghost use Rattle.failure_lines.specs.Failures.{status_of};
 ghost use Rattle.cts_program.specs.Files.{files_of, AreDenoted};
 ghost use Rattle.cts_program.specs.Run.{IsNoCommand, DenotesText, RefusesCommand, CannotRead, Stops, Ends, EndsFor, EndsInPart, Fails, Keeps, Reported, ShowsFaults};
 ghost use Rattle.cts_program.specs.Steps.{IsAnyReadFault};
 
 use crate::check::check;
+use crate::cornering::serve_corners;
 use crate::demo::demo;
 use crate::ending::{Answer, Ending};
 use crate::margin::margin;
 use crate::moves::moves;
 use crate::period::period;
 use crate::reading::{
-    read_circuit, read_moves_file, read_problem, read_report_file, read_topology_file,
+    read_circuit, read_corners, read_moves_file, read_problem, read_report_file,
+    read_topology_file,
 };
 use crate::scheduling::schedule;
 use crate::synth::{embed, synth};
@@ -123,13 +125,14 @@ fn write_answer<I: Inputs, O: Sink>(
     }
 }
 
-// What a command answers whose options have such values.
+// What a command answers whose options have such values, and which has as many tables as it takes.
 fn command_answer<I: Inputs>(
     alloc: Global,
     inputs: &mut I,
     command: Command,
 ) -> Result<Answer, Failure>
-    requires { HasValidValues command }
+    requires values { HasValidValues command }
+    requires tables { HasValidTables command }
     ensures ok { IfOk result (λ answer. DenotesText (I.holds inputs.old) command.entry
         (ending_status answer.ending) answer.text.items) }
     ensures cause { IfErr result (Stops (I.holds inputs.old) (I.faults inputs.old)
@@ -190,6 +193,9 @@ fn command_answer<I: Inputs>(
             let problem = read_problem(alloc, inputs, bench, tech, pl)?;
             let list = read_moves_file(alloc, inputs, file, &problem)?;
             moves(alloc, &problem, &list)
+        }
+        Command::Corners { bench, tables } => {
+            serve_corners(alloc, &read_corners(alloc, inputs, bench, tables)?)
         }
     }
 }

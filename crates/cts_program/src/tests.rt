@@ -1,4 +1,5 @@
 mod check;
+mod cornering;
 mod demo;
 mod devices;
 mod embed;
@@ -25,7 +26,7 @@ const USAGE: &str = "usage: cts zero --bench F [--tech F] | cts period --bench F
     | cts check --bench F --tech F --pl F --report F | cts demo --registers N --seed S \
     | cts embed --bench F --tech F --pl F --topology F \
     | cts margin --bench F --tech F --period P \
-    | cts moves --bench F --tech F --pl F --moves F\n";
+    | cts moves --bench F --tech F --pl F --moves F | cts corners --bench F T1 .. Tk\n";
 
 const NO_PATH: &str = "INPUT(x)\na = DFF(x)\n";
 

@@ -10,17 +10,19 @@ use Rattle.delay_tables.specs.declared.fault.TechFault.{TechFault}
 use Rattle.delay_tables.specs.declared.fault.TechFault.TheVariants as tech
 use Rattle.cts_engine.specs.declared.fault.SynthFault.{SynthFault}
 use Rattle.cts_engine.specs.declared.fault.SynthFault.TheVariants as synth
+use Rattle.path_delays.specs.declared.fault.PairFault.{PairFault}
+use Rattle.path_delays.specs.declared.fault.PairFault.TheVariants as pairs
 use Rattle.cts_model.specs.declared.kind.Kind.{Kind}
 use Rattle.cts_model.specs.declared.kind.Kind.TheVariants.{And, Nand, Or, Nor, Not, Xor, Xnor, Buff}
 use Rattle.failure_lines.specs.declared.failure.Failure.{Failure}
-use Rattle.failure_lines.specs.declared.failure.Failure.TheVariants.{Usage, TooLong, Bench, Tech, Placement, Topology, Moves, Pairs, Unshown, ReadFault, WriteFault, NoMemory}
+use Rattle.failure_lines.specs.declared.failure.Failure.TheVariants.{Usage, TooLong, Bench, Tech, Placement, Topology, Moves, Pairs, Unshown, ReadFault, WriteFault, NoMemory, CornerTech, CornerHost}
 use Rattle.command_line.specs.declared.command.WordsFault.{WordsFault}
 use Rattle.command_line.specs.declared.command.WordsFault.TheVariants as words
 use Rattle.cts_base.specs.declared.number.NumberFault.{NumberFault}
 use Rattle.cts_base.specs.declared.number.NumberFault.TheVariants.{NotNumber, TooFine, TooLarge}
 use Rattle.failure_lines.specs.declared.file_kind.FileKind.{FileKind}
 use Rattle.failure_lines.specs.declared.file_kind.FileKind.TheVariants as kinds
-use Rattle.failure_lines.specs.declared.file_kind.FileKind.TheVariants.{Report}
+use Rattle.failure_lines.specs.declared.file_kind.FileKind.TheVariants.{Report, Corner}
 use Rattle.failure_lines.specs.declared.placement_fault.PlacementFault.{PlacementFault}
 use Rattle.failure_lines.specs.declared.placement_fault.PlacementFault.TheVariants as places
 use Rattle.cert_check.specs.declared.verdict.Reason.{Reason}
@@ -50,10 +52,20 @@ abbrev pub tech_failure_of : TechFault → Failure
 tech_failure_of tech.NoMemory = NoMemory
 tech_failure_of fault = Tech fault
 
+-- the failure where the delay table of a corner isn't read
+abbrev pub corner_failure_of : (number : ℕ) → TechFault → Failure
+corner_failure_of number tech.NoMemory = NoMemory
+corner_failure_of number fault = CornerTech number fault
+
 -- the failure where a circuit has no outcome
 abbrev pub synth_failure_of : SynthFault → Failure
 synth_failure_of synth.TooManyPairs = Pairs
 synth_failure_of synth.NoMemory = NoMemory
+
+-- the failure where the pairs of a circuit have no delays
+abbrev pub pair_failure_of : PairFault → Failure
+pair_failure_of pairs.TooManyPairs = Pairs
+pair_failure_of pairs.NoMemory = NoMemory
 
 -- the failure where a topology isn't read
 abbrev pub topology_failure_of : TopologyFault → Failure
@@ -77,6 +89,8 @@ status_of (TooLong Report) = 7
 status_of (TooLong kind) = 3
 status_of (Bench fault) = 3
 status_of (Tech fault) = 3
+status_of (CornerTech number fault) = 3
+status_of (CornerHost number) = 3
 status_of (Placement fault) = 3
 status_of (Topology fault) = 3
 status_of (Moves fault) = 3
@@ -146,16 +160,25 @@ shown bytes = flat_map (λ byte. shown_byte byte ∷ []) bytes
 abbrev pub line_about : List ℕ → List ℕ → List ℕ
 line_about refusal name = ended (refusal ++ shown name)
 
--- the line for a fault of a delay table, with the number of the fault
+-- what is wrong with a delay table, with the number of the fault, to the end of the line
+abbrev pub table_fault_line : TechFault → List ℕ
+table_fault_line tech.NotToml = ended (codes "tech 1")
+table_fault_line (tech.Missing name) = line_about (codes "tech 2 ") name
+table_fault_line (tech.WrongType name) = line_about (codes "tech 3 ") name
+table_fault_line (tech.OutOfRange name) = line_about (codes "tech 4 ") name
+table_fault_line (tech.LeastAboveGreatest name) = line_about (codes "tech 5 ") name
+table_fault_line (tech.MissingKind kind) = ended (codes "tech 6 " ++ gate_word kind)
+table_fault_line (tech.UnknownKey name) = line_about (codes "tech 7 ") name
+table_fault_line tech.NoMemory = ended (codes "tech 8")
+
+-- the line for a fault of a delay table
 abbrev pub tech_line : TechFault → List ℕ
-tech_line tech.NotToml = ended (codes "refused tech 1")
-tech_line (tech.Missing name) = line_about (codes "refused tech 2 ") name
-tech_line (tech.WrongType name) = line_about (codes "refused tech 3 ") name
-tech_line (tech.OutOfRange name) = line_about (codes "refused tech 4 ") name
-tech_line (tech.LeastAboveGreatest name) = line_about (codes "refused tech 5 ") name
-tech_line (tech.MissingKind kind) = ended (codes "refused tech 6 " ++ gate_word kind)
-tech_line (tech.UnknownKey name) = line_about (codes "refused tech 7 ") name
-tech_line tech.NoMemory = ended (codes "no memory")
+tech_line fault = codes "refused " ++ table_fault_line fault
+
+-- the line for a fault of the delay table of a corner
+abbrev pub corner_line : (number : ℕ) → TechFault → List ℕ
+corner_line number fault =
+    (codes "refused corner " ++ decimal number ++ codes " ") ++ table_fault_line fault
 
 -- the word for what is wrong with a number, after a space
 abbrev pub number_word : NumberFault → List ℕ
@@ -237,19 +260,25 @@ kind_word kinds.Placement = codes "pl"
 kind_word kinds.Report = codes "report"
 kind_word kinds.Topology = codes "topology"
 kind_word kinds.Moves = codes "moves"
+kind_word (Corner number) = codes "corner"
 
 -- the line that says why
 abbrev pub failure_line : Failure → List ℕ
 failure_line Usage = ended usage
 failure_line (TooLong Report) = ended (codes "not shown report long")
+failure_line (TooLong (Corner number)) =
+    line_at (codes "refused corner ") number (codes " tech long")
 failure_line (TooLong kind) = ended (codes "refused " ++ kind_word kind ++ codes " long")
 failure_line (Bench fault) = bench_line fault
 failure_line (Tech fault) = tech_line fault
+failure_line (CornerTech number fault) = corner_line number fault
+failure_line (CornerHost number) = line_at (codes "refused corner ") number (codes " host")
 failure_line (Placement fault) = placement_line fault
 failure_line (Topology fault) = topology_line fault
 failure_line (Moves fault) = moves_line fault
 failure_line Pairs = ended (codes "refused pairs")
 failure_line (Unshown why) = not_shown_line why
+failure_line (ReadFault (Corner number)) = line_at (codes "read fault corner ") number []
 failure_line (ReadFault kind) = ended (codes "read fault " ++ kind_word kind)
 failure_line WriteFault = ended (codes "write fault")
 failure_line NoMemory = ended (codes "no memory")

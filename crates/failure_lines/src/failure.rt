@@ -3,7 +3,7 @@
 ghost use Rattle.std.specs.Prelude.{◌≡◌, ◌++◌, ◌∷◌, [], decimal};
 ghost use Rattle.std.specs.List.{flat_map};
 ghost use Rattle.failure_lines.specs.declared.failure.Failure.TheVariants.{NoMemory};
-ghost use Rattle.failure_lines.specs.Failures.{words_failure_of, bench_failure_of, tech_failure_of, synth_failure_of, report_failure_of, topology_failure_of, moves_failure_of, status_of, limit_word, gate_word, number_word, shown_byte, shown, spaced, loop_line, ended, bench_line, tech_line, placement_line, topology_line, moves_line, fault_line, reason_line, not_shown_line, failure_line, Reports, Writes};
+ghost use Rattle.failure_lines.specs.Failures.{words_failure_of, bench_failure_of, tech_failure_of, synth_failure_of, report_failure_of, topology_failure_of, moves_failure_of, status_of, limit_word, gate_word, number_word, shown_byte, shown, spaced, loop_line, ended, bench_line, tech_line, placement_line, topology_line, moves_line, fault_line, reason_line, not_shown_line, failure_line, Reports, Writes, corner_failure_of, pair_failure_of, corner_line, table_fault_line};
 
 use crate::file_kind::FileKind;
 use crate::not_shown::NotShown;
@@ -18,6 +18,7 @@ use cts_model::Kind;
 use delay_tables::TechFault;
 use itoa::Buffer;
 use move_session::MovesFault;
+use path_delays::PairFault;
 use report_text::ReportFault;
 use topology_file::TopologyFault;
 
@@ -32,6 +33,10 @@ pub enum Failure {
     Bench(BenchFault),
     /// The delay table is refused.
     Tech(TechFault),
+    /// The delay table of this corner, from 1, is refused.
+    CornerTech(u32, TechFault),
+    /// One of the first corner's table and this one's gives the host a place, and the other doesn't.
+    CornerHost(u32),
     /// The placement is refused.
     Placement(PlacementFault),
     /// The topology is refused.
@@ -55,7 +60,7 @@ const USAGE: &[u8] = b"usage: cts zero --bench F [--tech F] | cts period --bench
     | cts check --bench F --tech F --pl F --report F | cts demo --registers N --seed S \
     | cts embed --bench F --tech F --pl F --topology F \
     | cts margin --bench F --tech F --period P \
-    | cts moves --bench F --tech F --pl F --moves F";
+    | cts moves --bench F --tech F --pl F --moves F | cts corners --bench F T1 .. Tk";
 
 impl Failure {
     /// The program's exit status.
@@ -67,7 +72,7 @@ impl Failure {
             Failure::TooLong(FileKind::Report) | Failure::Unshown(_) => 7,
             Failure::TooLong(_) | Failure::Bench(_) | Failure::Tech(_) => 3,
             Failure::Placement(_) | Failure::Topology(_) | Failure::Moves(_) => 3,
-            Failure::Pairs => 3,
+            Failure::Pairs | Failure::CornerTech(_, _) | Failure::CornerHost(_) => 3,
             Failure::ReadFault(_) => 4,
             Failure::WriteFault => 5,
             Failure::NoMemory => 6,
@@ -90,14 +95,22 @@ impl Failure {
         match self {
             Failure::Usage => write_line(&[USAGE], err),
             Failure::TooLong(FileKind::Report) => write_line(&[b"not shown report long"], err),
+            Failure::TooLong(FileKind::Corner(number)) => {
+                write_at(b"refused corner ", *number, b" tech long", err)
+            }
             Failure::TooLong(kind) => write_line(&[b"refused ", kind.word(), b" long"], err),
             Failure::Bench(fault) => write_bench_refusal(fault, err),
             Failure::Tech(fault) => write_tech_refusal(fault, err),
+            Failure::CornerTech(number, fault) => write_corner_refusal(*number, fault, err),
+            Failure::CornerHost(number) => write_at(b"refused corner ", *number, b" host", err),
             Failure::Placement(fault) => write_placement_refusal(fault, err),
             Failure::Topology(fault) => write_topology_refusal(*fault, err),
             Failure::Moves(fault) => write_moves_refusal(*fault, err),
             Failure::Pairs => write_line(&[b"refused pairs"], err),
             Failure::Unshown(why) => write_not_shown(why, err),
+            Failure::ReadFault(FileKind::Corner(number)) => {
+                write_at(b"read fault corner ", *number, b"", err)
+            }
             Failure::ReadFault(kind) => write_line(&[b"read fault ", kind.word()], err),
             Failure::WriteFault => write_line(&[b"write fault"], err),
             Failure::NoMemory => write_line(&[b"no memory"], err),
@@ -128,15 +141,34 @@ fn write_tech_refusal<E: Sink>(fault: &TechFault, err: &mut E) -> Result<(), Fai
     ensures { Writes (tech_line fault.now)
         (E.written err.old) (E.faults err.old) (E.written err.new) (E.faults err.new) result }
 {
+    write_pieces(&[b"refused "], err)?;
+    write_table_fault(fault, err)
+}
+
+fn write_corner_refusal<E: Sink>(number: u32, fault: &TechFault, err: &mut E) -> Result<(), Failed>
+    ensures { Writes (corner_line number fault.now)
+        (E.written err.old) (E.faults err.old) (E.written err.new) (E.faults err.new) result }
+{
+    let mut buffer = Buffer::new();
+    let number = buffer.format(number).as_bytes();
+    write_pieces(&[b"refused corner ", number, b" "], err)?;
+    write_table_fault(fault, err)
+}
+
+// Writes what is wrong with a delay table, and the end of the line.
+fn write_table_fault<E: Sink>(fault: &TechFault, err: &mut E) -> Result<(), Failed>
+    ensures { Writes (table_fault_line fault.now)
+        (E.written err.old) (E.faults err.old) (E.written err.new) (E.faults err.new) result }
+{
     match fault {
-        TechFault::NotToml => write_line(&[b"refused tech 1"], err),
-        TechFault::Missing(name) => write_shown(b"refused tech 2 ", name, err),
-        TechFault::WrongType(name) => write_shown(b"refused tech 3 ", name, err),
-        TechFault::OutOfRange(name) => write_shown(b"refused tech 4 ", name, err),
-        TechFault::LeastAboveGreatest(name) => write_shown(b"refused tech 5 ", name, err),
-        TechFault::MissingKind(kind) => write_line(&[b"refused tech 6 ", gate_word(*kind)], err),
-        TechFault::UnknownKey(name) => write_shown(b"refused tech 7 ", name, err),
-        TechFault::NoMemory => write_line(&[b"no memory"], err),
+        TechFault::NotToml => write_line(&[b"tech 1"], err),
+        TechFault::Missing(name) => write_shown(b"tech 2 ", name, err),
+        TechFault::WrongType(name) => write_shown(b"tech 3 ", name, err),
+        TechFault::OutOfRange(name) => write_shown(b"tech 4 ", name, err),
+        TechFault::LeastAboveGreatest(name) => write_shown(b"tech 5 ", name, err),
+        TechFault::MissingKind(kind) => write_line(&[b"tech 6 ", gate_word(*kind)], err),
+        TechFault::UnknownKey(name) => write_shown(b"tech 7 ", name, err),
+        TechFault::NoMemory => write_line(&[b"tech 8"], err),
     }
 }
 
@@ -355,10 +387,19 @@ fn write_line<E: Sink>(pieces: &[&[u8]], err: &mut E) -> Result<(), Failed>
     ensures { Writes (ended (flat_map (λ piece. piece.now) pieces.now))
         (E.written err.old) (E.faults err.old) (E.written err.new) (E.faults err.new) result }
 {
+    write_pieces(pieces, err)?;
+    write_whole(err, b"\n")
+}
+
+// Writes pieces of a line, one after the other.
+fn write_pieces<E: Sink>(pieces: &[&[u8]], err: &mut E) -> Result<(), Failed>
+    ensures { Writes (flat_map (λ piece. piece.now) pieces.now)
+        (E.written err.old) (E.faults err.old) (E.written err.new) (E.faults err.new) result }
+{
     for piece in pieces {
         write_whole(err, piece)?;
     }
-    write_whole(err, b"\n")
+    Ok(())
 }
 
 impl From<WordsFault> for Failure {
@@ -405,6 +446,17 @@ impl From<SynthFault> for Failure {
     }
 }
 
+impl From<PairFault> for Failure {
+    ghost from_gives = { λ fault failure. failure ≡ pair_failure_of fault };
+
+    fn from(fault: PairFault) -> Failure {
+        match fault {
+            PairFault::TooManyPairs => Failure::Pairs,
+            PairFault::NoMemory => Failure::NoMemory,
+        }
+    }
+}
+
 impl From<TopologyFault> for Failure {
     ghost from_gives = { λ fault failure. failure ≡ topology_failure_of fault };
 
@@ -443,5 +495,15 @@ impl From<cts_base::NoMemory> for Failure {
 
     fn from(_refused: cts_base::NoMemory) -> Failure {
         Failure::NoMemory
+    }
+}
+
+/// The failure where the delay table of a corner has this fault.
+pub fn corner_failure(number: u32, fault: TechFault) -> Failure
+    ensures { result ≡ corner_failure_of number fault }
+{
+    match fault {
+        TechFault::NoMemory => Failure::NoMemory,
+        _ => Failure::CornerTech(number, fault),
     }
 }

@@ -16,6 +16,8 @@ pub enum FileKind {
     Topology,
     /// Moves of registers.
     Moves,
+    /// The delay table of the corner with this number, from 1.
+    Corner(u32),
 }
 
 impl FileKind {
@@ -30,6 +32,7 @@ impl FileKind {
             FileKind::Report => b"report",
             FileKind::Topology => b"topology",
             FileKind::Moves => b"moves",
+            FileKind::Corner(_) => b"corner",
         }
     }
 }

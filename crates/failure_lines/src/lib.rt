@@ -7,7 +7,7 @@ mod file_kind;
 mod not_shown;
 mod placement_fault;
 
-pub use failure::Failure;
+pub use failure::{Failure, corner_failure};
 pub use file_kind::FileKind;
 pub use not_shown::NotShown;
 pub use placement_fault::PlacementFault;

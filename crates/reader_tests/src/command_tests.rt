@@ -217,6 +217,20 @@ fn reads_moves_with_all_options(rt: HostRuntime) {
     }
 }
 
+#[test]
+fn reads_corners_with_its_tables(rt: HostRuntime) {
+    let alloc = rt.alloc();
+    let row = words(&rt, alloc, &["corners", "--bench", "F", "T", "F"]);
+    let command = read_command(alloc, row.as_slice());
+    let tables = row.as_slice().split_at(3).1;
+    expect_same(
+        &rt,
+        command,
+        Ok(Command::Corners { bench: "F", tables }),
+        &"corners",
+    );
+}
+
 // A command line and its numbers.
 const DEMOS: [(&[&str], &str, &str); 3] = [
     (&["demo", "--registers", "2", "--seed", "0"], "2", "0"),
@@ -245,7 +259,7 @@ fn reads_demo_with_both_numbers(rt: HostRuntime) {
 }
 
 // Words that mean no command.
-const REFUSED: [&[&str]; 26] = [
+const REFUSED: [&[&str]; 28] = [
     &[],
     &["zero"],
     &["zero", "--bench"],
@@ -273,6 +287,8 @@ const REFUSED: [&[&str]; 26] = [
     &[
         "embed", "--bench", "F", "--tech", "F", "--pl", "F", "--moves", "F",
     ],
+    &["corners", "--bench", "F"],
+    &["corners", "T", "--bench", "F"],
     &[
         "synth",
         "--bench",

@@ -155,8 +155,8 @@ pub fn read_moves_file<I: Inputs>(
     Ok(read_moves(alloc, &bytes, &problem.circuit)?)
 }
 
-// The bytes of a file.
-fn read_file<I: Inputs>(
+/// The bytes of a file.
+pub fn read_file<I: Inputs>(
     alloc: Global,
     inputs: &mut I,
     kind: FileKind,

@@ -20,4 +20,4 @@ returns-clause-same c command means =
 
 pub returns-clause-memory : goal.returns-clause-memory
 returns-clause-memory c none = some_command (map string_bytes c.args.words.now) c.in-Some.form
-    c.in-Some.ensures.some c.args.words.ref_ptr
+    c.args.words.ref_ptr c.in-Some.tables c.in-Some.ensures.some

@@ -1,4 +1,4 @@
-use Rattle.std.proofs.Common.{◌≡◌, [], ◌∷◌, inr, Err, refl, ap, sym, ◌∙◌, append-nil}
+use Rattle.std.proofs.Common.{◌≡◌, [], ◌∷◌, inr, Err, refl, ap, sym, ◌∙◌, append-nil, arith}
 use Rattle.std.proofs.lemmas.Result.{err_from_is_err_and}
 use Rattle.command_line.specs.declared.command.Command.TheVariants.{Zero, Period, Schedule, Synth, Check, Embed, Moves, Margin}
 use Rattle.failure_lines.specs.declared.failure.Failure.{Failure}
@@ -9,21 +9,23 @@ use Rattle.cts_program.specs.PeriodTexts.{IsPeriodText}
 use Rattle.cts_program.specs.ScheduleTexts.{IsScheduleText}
 use Rattle.cts_program.proofs.CheckLemmas.{report_stops, unshown_stops, check_answer}
 use Rattle.cts_program.proofs.EmbedLemmas.{topology_of, topology_stops, tree_stops, embed_answer}
+use Rattle.cts_program.proofs.CornerReads.{corners_stop, corners_answer}
 use Rattle.cts_program.proofs.MoveLemmas.{moves_stop, wires_stop, moves_answer}
 use Rattle.cts_program.proofs.WireTexts.{near_moves}
 use Rattle.cts_program.proofs.DemoValues.{demo_stops, demo_values, margin_value}
 use Rattle.cts_program.proofs.DenotedLemmas.{circuit_stops, denoted_answer, with_status, zero_answer}
 use Rattle.cts_program.proofs.PlacementLemmas.{circuit_denoted, synth_answer}
+use Rattle.command_line.proofs.PlainCommands.{corners_within}
 use Rattle.cts_program.proofs.ResultLemmas.{if_err_from, no_error, same_error}
 use Rattle.cts_program.proofs.run.command_answer.Goals as goal
 
 pub demo-requires-clause-registers : goal.demo-requires-clause-registers
 demo-requires-clause-registers g c =
-    (demo_values c.in-Demo.registers c.in-Demo.seed (rw c.in-Demo.is at c.requires)).0
+    (demo_values c.in-Demo.registers c.in-Demo.seed (rw c.in-Demo.is at c.requires.values)).0
 
 pub demo-requires-clause-seed : goal.demo-requires-clause-seed
 demo-requires-clause-seed g c =
-    (demo_values c.in-Demo.registers c.in-Demo.seed (rw c.in-Demo.is at c.requires)).1
+    (demo_values c.in-Demo.registers c.in-Demo.seed (rw c.in-Demo.is at c.requires.values)).1
 
 pub returns-in_err-read_circuit-in-Zero-clause-cause :
     goal.returns-in_err-read_circuit-in-Zero-clause-cause
@@ -221,7 +223,7 @@ returns-in_ok-topology-in-Embed-clause-cause g c =
 pub margin-requires-clause-period : goal.margin-requires-clause-period
 margin-requires-clause-period g c =
     margin_value c.in-Margin.bench c.in-Margin.tech c.in-Margin.period
-    (rw c.in-Margin.is at c.requires)
+    (rw c.in-Margin.is at c.requires.values)
 
 pub returns-in_err-read_circuit-in-Margin-clause-cause :
     goal.returns-in_err-read_circuit-in-Margin-clause-cause
@@ -299,3 +301,51 @@ returns-in_ok-list-in-Moves-clause-cause g c =
     (wires_stop c.in-Moves.bench c.in-Moves.tech c.in-Moves.pl c.in-Moves.file
     c.in_ok-problem-in-Moves.problem c.in_ok-problem-in-Moves.ensures.ok
     c.in_ok-list-in-Moves.list (rw held at c.in_ok-list-in-Moves.ensures.ok) _ _))
+
+pub read_corners-requires-clause-some : goal.read_corners-requires-clause-some
+read_corners-requires-clause-some g c =
+    (corners_within c.in-Corners.bench c.in-Corners.tables
+    (rw c.in-Corners.is at c.requires.tables)).0
+
+pub read_corners-requires-clause-few : goal.read_corners-requires-clause-few
+read_corners-requires-clause-few g c =
+    (corners_within c.in-Corners.bench c.in-Corners.tables
+    (rw c.in-Corners.is at c.requires.tables)).1
+
+pub serve_corners-requires-clause-some : goal.serve_corners-requires-clause-some
+serve_corners-requires-clause-some g c =
+    let within = corners_within c.in-Corners.bench c.in-Corners.tables
+    (rw c.in-Corners.is at c.requires.tables) in
+    omega (arith, within.0, c.in_ok-read_corners-in-Corners.ensures.count)
+
+pub serve_corners-requires-clause-corners : goal.serve_corners-requires-clause-corners
+serve_corners-requires-clause-corners g c =
+    let within = corners_within c.in-Corners.bench c.in-Corners.tables
+    (rw c.in-Corners.is at c.requires.tables) in
+    omega (arith, within.1, c.in_ok-read_corners-in-Corners.ensures.count)
+
+pub returns-in_err-read_corners-in-Corners-clause-cause :
+    goal.returns-in_err-read_corners-in-Corners-clause-cause
+returns-in_err-read_corners-in-Corners-clause-cause g c =
+    let p = err_from_is_err_and c.from_residual-in_err-read_corners-in-Corners.result
+    c.from_residual-in_err-read_corners-in-Corners.ensures.1 in
+    rw (p.1, p.2, c.in-Corners.is) c.in_err-read_corners-in-Corners.ensures.cause
+
+pub returns-in_ok-read_corners-in-Corners-clause-ok :
+    goal.returns-in_ok-read_corners-in-Corners-clause-ok
+returns-in_ok-read_corners-in-Corners-clause-ok g c =
+    rw c.in-Corners.is (corners_answer c.in-Corners.bench c.in-Corners.tables
+    c.in_ok-read_corners-in-Corners.ensures.ok c.serve_corners.result
+    c.serve_corners.ensures.few c.serve_corners.ensures.text)
+
+pub returns-in_ok-read_corners-in-Corners-clause-cause :
+    goal.returns-in_ok-read_corners-in-Corners-clause-cause
+returns-in_ok-read_corners-in-Corners-clause-cause g c =
+    rw c.in-Corners.is (if_err_from c.serve_corners.result _ _ c.serve_corners.ensures.cause
+    (corners_stop c.in-Corners.bench c.in-Corners.tables
+    c.in_ok-read_corners-in-Corners.ensures.ok _ _))
+
+pub returns-in_ok-read_corners-in-Corners-clause-stays :
+    goal.returns-in_ok-read_corners-in-Corners-clause-stays
+returns-in_ok-read_corners-in-Corners-clause-stays g c none file =
+    c.in_ok-read_corners-in-Corners.ensures.stays (λ (kind, e). no_error e) file

@@ -3,8 +3,11 @@ use Rattle.std.proofs.lemmas.Result.{err_from_is_err_and}
 use Rattle.cts_program.proofs.RunLemmas.{words_fail}
 use Rattle.cts_program.proofs.run.write_answer.Goals as goal
 
-pub command_answer-requires : goal.command_answer-requires
-command_answer-requires g c = c.in_ok-command.ensures.ok.values
+pub command_answer-requires-clause-values : goal.command_answer-requires-clause-values
+command_answer-requires-clause-values g c = c.in_ok-command.ensures.ok.values
+
+pub command_answer-requires-clause-tables : goal.command_answer-requires-clause-tables
+command_answer-requires-clause-tables g c = c.in_ok-command.ensures.ok.tables
 
 pub returns-in_err-command-clause-cause : goal.returns-in_err-command-clause-cause
 returns-in_err-command-clause-cause g c =

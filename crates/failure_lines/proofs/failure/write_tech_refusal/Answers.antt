@@ -1,11 +1,18 @@
 use Rattle.std.proofs.Common.{codes}
-use Rattle.failure_lines.proofs.PieceLemmas.{line_with_word}
+use Rattle.std.proofs.lemmas.Result.{err_from_is_err_and}
+use Rattle.failure_lines.specs.Failures.{table_fault_line}
+use Rattle.failure_lines.proofs.PieceLemmas.{prefix_failed, writes_after}
 use Rattle.failure_lines.proofs.failure.write_tech_refusal.Goals as goal
 
-pub returns-in-MissingKind : goal.returns-in-MissingKind
-returns-in-MissingKind g c =
-    rw c.in-MissingKind.is (line_with_word _
-    (codes "refused tech 6 ") _ _ _ _ _ _ c.gate_word.ensures c.write_line-in-MissingKind.ensures)
+pub returns-in_err-write_pieces : goal.returns-in_err-write_pieces
+returns-in_err-write_pieces g c =
+    let p = err_from_is_err_and c.from_residual.result c.from_residual.ensures.1 in
+    let failed = c.in_err-write_pieces.ensures in
+    prefix_failed _ p.0 p.1 (codes "refused ") (table_fault_line c.args.fault.now) _ _ _ _ failed.0
+    failed.1
 
-pub returns-in-UnknownKey : goal.returns-in-UnknownKey
-returns-in-UnknownKey g c = rw c.in-UnknownKey.is c.write_shown-in-UnknownKey.ensures
+pub returns : goal.returns
+returns g c =
+    let prefix = c.in_ok-write_pieces.ensures in
+    writes_after c.write_table_fault.result _ _ _ _ _ _ (codes "refused ")
+    (table_fault_line c.args.fault.now) prefix.0 prefix.1 c.write_table_fault.ensures

@@ -1,7 +1,7 @@
 use Rattle.std.proofs.Common.{◌≡◌, ◌≤◌, take}
 use Rattle.std.specs.List.{flat_map}
 use Rattle.cts_io.specs.Device.{appended}
-use Rattle.failure_lines.proofs.failure.write_line.Given as goal
+use Rattle.failure_lines.proofs.failure.write_pieces.Given as goal
 
 -- the pieces after us are written, and the count hasn't fallen
 abbrev pub invariant-loop-piece : goal.invariant-loop-piece

@@ -1,0 +1,12 @@
+use Rattle.std.proofs.Common.{◌≡◌, ◌++◌, codes, length}
+use Rattle.cts_model.specs.PrintedLines.{line_of, text_of, count_line}
+use Rattle.cts_model.specs.ReportLines.{lines_below}
+use Rattle.cts_program.specs.CornerTexts.{numbered_line_at}
+use Rattle.cts_program.proofs.cornering.push_numbered.Given as goal
+
+-- the count, and the constraints so far
+abbrev pub invariant-loop-place : goal.invariant-loop-place
+invariant-loop-place l =
+    l.out.items
+    ≡ (l.fn.out.items ++ line_of (count_line (codes "cycle") (length l.cycle)))
+    ++ text_of (lines_below (numbered_line_at l.circuit l.cycle l.corners) l.place)
