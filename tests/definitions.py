@@ -12,6 +12,7 @@ PROMISES = [
     ("cts_program", "TopologyFiles", "IsEmbeddedBy"),
     ("cts_program", "MoveFiles", "IsMovedBy"),
     ("cts_program", "MarginTexts", "IsMarginText"),
+    ("cts_program", "CornerTexts", "IsCornersText"),
 ]
 HEAD = re.compile(r"(?:abbrev|unfoldable)? ?pub (?:record |data )?([^\s({:]+)")
 NAME = re.compile(r"[A-Za-z_][\w'-]*(?:\.[A-Za-z_][\w'-]*)?")
