@@ -15,10 +15,8 @@ if [ -z "$program" ]; then
     "$top/cts" build || exit 1
     program=$top/cts
 fi
-usage=$("$program" 2>&1)
 
 has() { command -v "$1" >/dev/null 2>&1; }
-has_command() { [[ $usage == *"cts $1 "* ]]; }
 left_out() { echo "flow: $1, so $2 is left out"; }
 
 # holds NAME COMMAND..: the command ends with status 0. What it says is shown where it doesn't.
@@ -102,12 +100,8 @@ holds 'there is none' near "$(word margin least)" 0
 # A fast corner has seven tenths of all times.
 fast=$work/fast.toml
 awk '$2 == "=" && $3 ~ /^[0-9]+$/ { $3 = int($3 * 7 / 10) } 1' "$table" >"$fast"
-if has_command corners; then
-    holds corners cts corners corners --bench "$netlist" "$table" "$fast"
-    holds 'two corners need no less' at_least "$(word period corners)" "$period"
-else
-    left_out "this program has no corners" 'the second corner'
-fi
+holds corners cts corners corners --bench "$netlist" "$table" "$fast"
+holds 'two corners need no less' at_least "$(word period corners)" "$period"
 
 # Two registers move: the wire is that of the same merges with the places as they are then.
 first=$(head -n 1 "$work/scheduled" | cut -d ' ' -f 1)
@@ -216,13 +210,11 @@ if has sta && python3 -c 'import tomllib' 2>/dev/null; then
     holds 'each slack is the same with them' printed schedule wires
     holds 'OpenSTA at the margin' signed_off margin "$table"
     holds 'the worst slack is the margin' near "$(worst both margin)" "$(word margin margin)"
-    if has_command corners; then
-        holds 'OpenSTA at the first corner' signed_off corners "$table"
-        mv "$work/corners.slacks" "$work/first.slacks"
-        holds 'OpenSTA at the second corner' signed_off corners "$fast"
-        cat "$work/first.slacks" >>"$work/corners.slacks"
-        holds 'the worst slack of both corners is 0' near "$(worst both corners)" 0
-    fi
+    holds 'OpenSTA at the first corner' signed_off corners "$table"
+    mv "$work/corners.slacks" "$work/first.slacks"
+    holds 'OpenSTA at the second corner' signed_off corners "$fast"
+    cat "$work/first.slacks" >>"$work/corners.slacks"
+    holds 'the worst slack of both corners is 0' near "$(worst both corners)" 0
 
     with_host "$table" >"$work/host.toml"
     holds 'a host' cts host schedule --bench "$netlist" --tech "$work/host.toml"
