@@ -1,7 +1,7 @@
 """Inputs of given sizes: a netlist, a delay table and a placement of each kind, always the same for a kind and a size.
 
 KINDS maps a name to a function that gives the lines of a netlist with that many registers and the rows of its delay
-table. `make` writes the three files, and a file of moves beside them.
+table. `make` writes the three files, and beside them the tables of further corners and a file of moves.
 """
 import random
 
@@ -12,6 +12,8 @@ GATES = {
 }
 # setup, hold, least, greatest
 REGISTER = (35, 20, 19, 60)
+# The times of a corner as multiples of those of the first.
+CORNERS = (1, 1.3, 1.7, 2.2)
 # As many moves as a file may have.
 MOVES = 10000
 
@@ -80,6 +82,13 @@ def table_lines(gates, register, wire="1/50"):
     return lines
 
 
+def corner_lines(gates, register, multiple):
+    """The table with all times that many times as long, to the nearest whole number."""
+    def longer(times):
+        return tuple(round(time * multiple) for time in times)
+    return table_lines({kind: longer(row) for kind, row in gates.items()}, longer(register))
+
+
 def place_lines(registers):
     """Each register at a random place of a square of 10,000 length units, the source in its middle."""
     chance = random.Random(f"place/{registers}")
@@ -99,9 +108,11 @@ def write(path, lines):
 
 
 def make(kind, registers, base):
-    """Writes base.bench, base.toml, base.pl and base.moves."""
+    """Writes base.bench, base.toml, base.pl and base.moves, and base.corner1.toml and so on."""
     netlist, gates, register = KINDS[kind](registers)
     write(base + ".bench", netlist)
     write(base + ".toml", table_lines(gates, register))
     write(base + ".pl", place_lines(registers))
     write(base + ".moves", move_lines(registers))
+    for number, multiple in enumerate(CORNERS, 1):
+        write(f"{base}.corner{number}.toml", corner_lines(gates, register, multiple))

@@ -33,6 +33,7 @@ COMMANDS = {
     "embed": ("bench", "tech", "pl", "topology"),
     "margin": ("bench", "tech", "period"),
     "moves": ("bench", "tech", "pl", "moves"),
+    "corners": ("bench", "tables"),
     "demo": (),
 }
 DEMO_REGISTERS = 500
@@ -57,6 +58,7 @@ BARS = [
     # As many registers as s38417 has.
     Bar("margin", "period", "local", 1636, time=1.5),
     Bar("moves", "embed", "sparse", 4000, time=1 / 20, runs=inputs.MOVES),
+    Bar("corners", "schedule", "local", 1636, time=4, memory=1.5),
 ]
 # OpenSTA finds the worst setup slack of BASE.v with the cells of BASE.lib at a period.
 WORST_SLACK = """read_liberty {base}.lib
@@ -112,6 +114,8 @@ class Input:
     def option(self, name):
         """An option with its value."""
         path = f"{self.base}.{name}"
+        if name == "tables":
+            return [f"{self.base}.corner{number}.toml" for number, _ in enumerate(inputs.CORNERS, 1)]
         if name == "period":
             # That of equal arrivals.
             timed(self.words("zero"), 1, path)
