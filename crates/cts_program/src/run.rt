@@ -18,8 +18,7 @@ use crate::margin::margin;
 use crate::moves::moves;
 use crate::period::period;
 use crate::reading::{
-    read_circuit, read_corners, read_moves_file, read_problem, read_report_file,
-    read_topology_file,
+    read_circuit, read_corners, read_moves_file, read_problem, read_report_file, read_topology_file,
 };
 use crate::scheduling::schedule;
 use crate::synth::{embed, synth};

@@ -72,14 +72,7 @@ const ROWS: [Row<'_>; 14] = [
     ),
     (RING, &[([0, 2, 1, 1], BUFF)], &["T"], 0, RING_TEXT, ""),
     // The first of the corners with the greatest weight is named.
-    (
-        RING,
-        &[([0, 2, 1, 1], BUFF)],
-        &["T", "T"],
-        0,
-        RING_TEXT,
-        "",
-    ),
+    (RING, &[([0, 2, 1, 1], BUFF)], &["T", "T"], 0, RING_TEXT, ""),
     (
         RING,
         &[([0, 2, 1, 1], BUFF)],

@@ -72,7 +72,8 @@ fn gives_the_greatest_margin(rt: HostRuntime) {
     }
 }
 
-// A period, and the text over the ring. From 5 on the two holds have nothing to spare.
+// A period, and the text over the ring. From 5 on the two holds have nothing to spare. At 5 nor has
+// the longer path's setup with its hold, and either cycle may be named.
 const RING_MARGINS: [(&str, &str); 3] = [
     (
         "0",
@@ -80,7 +81,7 @@ const RING_MARGINS: [(&str, &str); 3] = [
     ),
     (
         "5",
-        "period 5\nmargin 0\ncycle 2\nhold B A -1\nhold A B 1\nregisters 2\nA 1\nB 0\n",
+        "period 5\nmargin 0\ncycle 2\nhold B A -1\nsetup B A 6\nregisters 2\nA 1\nB 0\n",
     ),
     (
         "13/2",
