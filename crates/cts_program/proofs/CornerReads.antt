@@ -22,7 +22,7 @@ use Rattle.failure_lines.specs.declared.failure.Failure.TheVariants as failures
 use Rattle.failure_lines.specs.declared.file_kind.FileKind.{FileKind}
 use Rattle.failure_lines.specs.declared.file_kind.FileKind.TheVariants.{Bench, Corner}
 use Rattle.cts_program.specs.Answers.{ending_status}
-use Rattle.cts_program.specs.CornerFiles.{is_hostless, TellsDelays, TellDelays, AcceptsCorners, AreCornerFiles, TellCorners, IsTableRefusal, HostsDifferFrom}
+use Rattle.cts_program.specs.CornerFiles.{is_hostless, TellsDelays, TellDelays, AreCornerFiles, TellCorners, IsTableRefusal, HostsDifferFrom}
 use Rattle.cts_program.specs.CornerTexts.{IsCornersText}
 use Rattle.failure_lines.specs.Failures.{corner_failure_of}
 use Rattle.cts_program.specs.Files.{IsShortFile, corner_files, files_of, AreContents}

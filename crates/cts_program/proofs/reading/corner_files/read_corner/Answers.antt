@@ -1,5 +1,4 @@
 use Rattle.std.proofs.Common.{refl}
-use Rattle.cts_program.specs.Steps.{ReadsTable}
 use Rattle.cts_program.proofs.CornerReads.{refused_corner}
 use Rattle.cts_program.proofs.reading.corner_files.read_corner.Goals as goal
 

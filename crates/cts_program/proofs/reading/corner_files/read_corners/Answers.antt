@@ -1,8 +1,7 @@
-use Rattle.std.proofs.Common.{◌≡◌, ◌∙◌, ℕ, List, map, string_bytes, None, refl, arith}
+use Rattle.std.proofs.Common.{◌≡◌, map, string_bytes, None, refl, arith}
 use Rattle.std.proofs.lemmas.Result.{err_from_is_err_and}
 use Rattle.command_line.specs.declared.command.Command.TheVariants.{Corners}
 use Rattle.cts_program.specs.Files.{corner_files}
-use Rattle.cts_program.specs.Steps.{DenotesCorners}
 use Rattle.cts_program.proofs.CornerReads.{tables_stop, corners_told, corners_acyclic}
 use Rattle.cts_program.proofs.DenotedLemmas.{netlist_stops}
 use Rattle.cts_program.proofs.reading.corner_files.read_corners.Goals as goal

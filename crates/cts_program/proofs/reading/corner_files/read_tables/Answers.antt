@@ -1,8 +1,6 @@
-use Rattle.std.proofs.Common.{◌≡◌, ◌∙◌, ◌+◌, ℕ, List, [], ◌∷◌, ◌++◌, length, map, take, string_bytes, Err, refl, ap, sym, subst, arith, length-append}
-use Rattle.std.proofs.lemmas.List.{take_all}
+use Rattle.std.proofs.Common.{◌∙◌, [], ◌∷◌, string_bytes, Err, refl, ap, arith, length-append}
 use Rattle.std.proofs.lemmas.Result.{err_from_is_err_and}
 use Rattle.failure_lines.specs.declared.failure.Failure.{Failure}
-use Rattle.cts_program.specs.Steps.{ReadsTable, ReadsCorners}
 use Rattle.cts_program.proofs.CornerReads.{none_read, fails_at, read_at}
 use Rattle.cts_program.proofs.reading.corner_files.read_tables.Goals as goal
 
