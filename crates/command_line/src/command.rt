@@ -65,7 +65,8 @@ pub enum Command<'a> {
         pl: &'a str,
         moves: &'a str,
     },
-    /// The least period and the least schedule that serve several delay tables, one for each corner.
+    /// The least period and the least schedule that serve several delay tables, one for each
+    /// corner.
     Corners {
         bench: &'a str,
         tables: &'a [String],

@@ -1,5 +1,5 @@
-//! Whether words are plain: a command's name, after it options of that command with values, and then
-//! the delay tables that it takes.
+//! Whether words are plain: a command's name, after it options of that command with values, and
+//! then the delay tables that it takes.
 
 ghost use Rattle.std.specs.Prelude.{◌≡◌, ◌↔◌, ◌||◌, not, map, string_bytes, IsTrue, IfSome, IsNone};
 ghost use Rattle.std.specs.Char.{is_ascii_digit};

@@ -72,8 +72,8 @@ impl Form {
         }
     }
 
-    /// The least and the greatest number of delay tables that stand as plain words after the options
-    /// of the command. Where there may be any, each of its options has to stand.
+    /// The least and the greatest number of delay tables that stand as plain words after the
+    /// options of the command. Where there may be any, each of its options has to stand.
     pub fn table_bounds(self) -> (usize, usize)
         ensures { result ≡ table_bounds self }
     {

@@ -35,7 +35,8 @@ pub enum Failure {
     Tech(TechFault),
     /// The delay table of this corner, from 1, is refused.
     CornerTech(u32, TechFault),
-    /// One of the first corner's table and this one's gives the host a place, and the other doesn't.
+    /// One of the first corner's table and this one's gives the host a place, and the other
+    /// doesn't.
     CornerHost(u32),
     /// The placement is refused.
     Placement(PlacementFault),

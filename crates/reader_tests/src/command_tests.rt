@@ -221,6 +221,7 @@ fn reads_moves_with_all_options(rt: HostRuntime) {
 fn reads_corners_with_its_tables(rt: HostRuntime) {
     let alloc = rt.alloc();
     let row = words(&rt, alloc, &["corners", "--bench", "F", "T", "F"]);
+    assert!(rt; row.len() == 5);
     let command = read_command(alloc, row.as_slice());
     let tables = row.as_slice().split_at(3).1;
     expect_same(

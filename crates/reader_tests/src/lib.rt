@@ -1,5 +1,5 @@
 //! Tests on the public calls of the crates that read and write: numbers, lines, devices, netlists,
-//! tables, placements and topologies, a file for each crate.
+//! tables, placements, topologies and moves, a file for each crate.
 #![tactic(auto)]
 
 #[cfg(test)]
@@ -20,6 +20,8 @@ mod held_files;
 mod io_tests;
 #[cfg(test)]
 mod model_tests;
+#[cfg(test)]
+mod moves_file_tests;
 #[cfg(test)]
 mod number_tests;
 #[cfg(test)]

@@ -25,8 +25,8 @@ pub struct Corners {
     pub techs: Listed<Tech>,
 }
 
-/// What the netlist in a file denotes, with the delay table of each corner in a file of its own. Each
-/// table is judged as it is read.
+/// What the netlist in a file denotes, with the delay table of each corner in a file of its own.
+/// Each table is judged as it is read.
 pub fn read_corners<I: Inputs>(
     alloc: Global,
     inputs: &mut I,
