@@ -75,6 +75,8 @@ sed 's/^G5 2 0 2$/G5 1 0 2/' "$work/report" >"$work/misses"
 refuse check "${s27[@]}" --report "$work/misses"
 printf 'G7 8 0\nG5 1 1\n' >"$work/moves"
 refuse moves "${s27[@]}" --moves "$work/moves"
+refuse margin --bench "$top/examples/s27.bench" --tech "$top/examples/s27.toml" --period 14
+refuse corners --bench "$top/examples/s27.bench" "$top/examples/s27.toml" "$top/examples/s27_fast.toml"
 refuse demo --registers 2 --seed 0
 printf 'A = DFF(A)\n' >"$work/itself.bench"
 refuse zero --bench "$work/itself.bench"
