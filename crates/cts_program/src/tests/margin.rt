@@ -146,21 +146,18 @@ fn refuses_other_periods(rt: HostRuntime) {
     }
 }
 
+// What is refused of a netlist and a table without gates.
+fn expect_refused(rt: &impl Abort, alloc: Global, bench: &str, line: &str) {
+    let tech = table(rt, alloc, [0, 0, 0, 0], "");
+    expect_margin(rt, alloc, [bench, &tech], "5", 3, "", line);
+}
+
 // The files are read in their order, and the first refusal is given.
 #[test]
 fn judges_both_files(rt: HostRuntime) {
     let alloc = rt.alloc();
-    let tech = table(&rt, alloc, [0, 0, 0, 0], "");
-    expect_margin(&rt, alloc, ["", &tech], "5", 3, "", "refused bench 8\n");
-    expect_margin(
-        &rt,
-        alloc,
-        [LOPSIDED, &tech],
-        "5",
-        3,
-        "",
-        "refused tech 6 NOT\n",
-    );
+    expect_refused(&rt, alloc, "", "refused bench 8\n");
+    expect_refused(&rt, alloc, LOPSIDED, "refused tech 6 NOT\n");
     let inputs = whole_files(&rt, alloc, &[APART.as_bytes()]);
     let command = ["margin", "--period", "5", "--bench", "F", "--tech", "T"];
     run_on(&rt, alloc, &command, inputs).expect(&rt, 4, "", "read fault tech\n", "no table");

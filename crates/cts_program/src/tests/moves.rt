@@ -156,21 +156,18 @@ fn blames_moves_that_are_not_read(rt: HostRuntime) {
     seen.expect(&rt, 0, "wire 9/2\nwire 9/2\n", "", "no call that fails");
 }
 
+// What is refused of two registers at these places and these moves.
+fn expect_refused(rt: &impl Abort, alloc: Global, pl: &str, moves: &[u8], line: &str) {
+    let tech = table(rt, alloc, [0, 0, 0, 0], "");
+    let inputs = files_with(rt, alloc, [PAIR, &tech, pl], moves);
+    run_on(rt, alloc, &MOVES, inputs).expect(rt, 3, "", line, line);
+}
+
 // The files before it are judged first, then its length.
 #[test]
 fn judges_the_moves_last(rt: HostRuntime) {
     let alloc = rt.alloc();
     let long = vec![in alloc; b'#'; 16_777_217].expect(&rt, "memory");
-    let tech = table(&rt, alloc, [0, 0, 0, 0], "");
-    let inputs = files_with(&rt, alloc, [PAIR, &tech, PAIR_PLACES], &long);
-    let seen = run_on(&rt, alloc, &MOVES, inputs);
-    seen.expect(&rt, 3, "", "refused moves long\n", "a byte more");
-    let seen = moves_of(&rt, alloc, [PAIR, &tech, "A 0 0\nCLK 0 0\n"], "x");
-    seen.expect(
-        &rt,
-        3,
-        "",
-        "refused pl 4 B\n",
-        "a placement that is refused",
-    );
+    expect_refused(&rt, alloc, PAIR_PLACES, &long, "refused moves long\n");
+    expect_refused(&rt, alloc, "A 0 0\nCLK 0 0\n", b"x", "refused pl 4 B\n");
 }
