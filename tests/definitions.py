@@ -21,11 +21,12 @@ NAME = re.compile(r"[A-Za-z_][\w'-]*(?:\.[A-Za-z_][\w'-]*)?")
 def read_specs():
     """The text of each definition by crate, file and name, and what each file imports, by its name there."""
     texts, imports = {}, {}
-    for path in glob.glob(ROOT + "/crates/*/specs/*.antt"):
-        where = (path.split("/")[-3], os.path.basename(path)[: -len(".antt")])
+    for path in glob.glob(ROOT + "/crates/*/specs/**/*.antt", recursive=True):
+        crate, file = re.search(r"crates/(\w+)/specs/(.*)\.antt$", path).groups()
+        where = (crate, file.replace("/", "."))
         imports[where], name = {}, None
         for line in open(path, encoding="utf-8"):
-            found = re.match(r"use Rattle\.(\w+)\.specs\.(\w+)(?:\.\{(.*)\}| as (\w+))", line)
+            found = re.match(r"use Rattle\.(\w+)\.specs\.([\w.]+)(?:\.\{(.*)\}| as (\w+))", line)
             if found:
                 crate, file, names, alias = found.groups()
                 for word in (names or "").split(", "):
@@ -63,7 +64,7 @@ def main():
     named = {word for quoted in re.findall(r"`([^`]+)`", page) for word in quoted.split()}
     missing = sorted(name for name in passed if name[2] not in named)
     for crate, file, name in missing:
-        print(f"docs/DEFINITIONS.md doesn't name {name} of crates/{crate}/specs/{file}.antt")
+        print(f"docs/DEFINITIONS.md doesn't name {name} of crates/{crate}/specs/{file.replace('.', '/')}.antt")
     print(f"{len(passed) - len(missing)} passed, {len(missing)} failed")
     return 1 if missing else 0
 

@@ -3,10 +3,10 @@ use Rattle.std.proofs.Common.{◌≡◌, ℕ, nat_eq, List, [], ◌∷◌, ◌++
 use Rattle.std.specs.List.{filter_map}
 use Rattle.std.proofs.lemmas.List.{map_push}
 use Rattle.std.proofs.lemmas.List.Elements.{All-nil, All-cons, All-push}
-use Rattle.cts_model.specs.Circuits.{registers_of}
-use Rattle.cts_model.specs.Statements.{Statement, Blank, Output, Definition, statement_of, definition_of, mention_of}
-use Rattle.cts_model.specs.Flaws.{statements_in, definitions_in}
-use Rattle.cts_model.specs.Netlists.{AreDefined, UsesDefined, signal_of, number_of, first_mentions}
+use Rattle.cts_model.specs.netlist.Circuits.{registers_of}
+use Rattle.cts_model.specs.netlist.Statements.{Statement, Blank, Output, Definition, statement_of, definition_of, mention_of}
+use Rattle.cts_model.specs.netlist.Flaws.{statements_in, definitions_in}
+use Rattle.cts_model.specs.netlist.Netlists.{AreDefined, UsesDefined, signal_of, number_of, first_mentions}
 use Rattle.indexmap.specs.IndexSet.{insert_key}
 use Rattle.bench_reader.specs.declared.circuit_parts.CircuitParts.{CircuitParts}
 use Rattle.bench_reader.specs.Taken.{HasParts}

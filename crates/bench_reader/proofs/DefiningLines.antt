@@ -3,10 +3,10 @@ use Rattle.std.proofs.Common.{◌≡◌, ℕ, ◌+◌, cond, true, List, [], ◌
 use Rattle.std.specs.List.{list_all}
 use Rattle.std.proofs.lemmas.List.{length-map, map_push}
 use Rattle.std.proofs.lemmas.List.Sums.{sum_by_push}
-use Rattle.cts_model.specs.Kinds.{is_register}
-use Rattle.cts_model.specs.Names.{is_short}
-use Rattle.cts_model.specs.Statements.{Statement, Definition, statement_of, definition_of, names_of}
-use Rattle.cts_model.specs.Flaws.{definitions_in, defined_names, register_count, gate_inputs_of, gate_input_count, has_kind, has_valid_inputs, definition_excess, flaw_of}
+use Rattle.cts_model.specs.netlist.Kinds.{is_register}
+use Rattle.cts_model.specs.text.Names.{is_short}
+use Rattle.cts_model.specs.netlist.Statements.{Statement, Definition, statement_of, definition_of, names_of}
+use Rattle.cts_model.specs.netlist.Flaws.{definitions_in, defined_names, register_count, gate_inputs_of, gate_input_count, has_kind, has_valid_inputs, definition_excess, flaw_of}
 use Rattle.bench_reader.specs.declared.definitions.Definitions.{Definitions}
 use Rattle.bench_reader.specs.declared.line_fault.LineFault.{LineFault}
 use Rattle.bench_reader.specs.LineFaults.{IsFaultOf, IsLineFault}

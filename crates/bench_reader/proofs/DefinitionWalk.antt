@@ -3,8 +3,8 @@ use Rattle.std.proofs.Common.{◌≡◌, ℕ, List, [], ◌∷◌, ◌++◌, Non
 use Rattle.cts_base.specs.Lines.{lines_of, numbered_lines, IsLine}
 use Rattle.cts_base.proofs.LineSplits.{IsPassed, none_passed, all_passed, next_line}
 use Rattle.cts_base.proofs.ListPlaces.{nothing_before, split_push}
-use Rattle.cts_model.specs.Flaws.{definitions_in, defined_names, flaw_of}
-use Rattle.cts_model.specs.Netlists.{AreFlawless, names_in}
+use Rattle.cts_model.specs.netlist.Flaws.{definitions_in, defined_names, flaw_of}
+use Rattle.cts_model.specs.netlist.Netlists.{AreFlawless, names_in}
 use Rattle.bench_reader.specs.declared.definitions.Definitions.{Definitions}
 use Rattle.bench_reader.specs.declared.fault.BenchFault.{BenchFault}
 use Rattle.bench_reader.specs.declared.line_fault.LineFault.{LineFault}

@@ -3,11 +3,11 @@ use Rattle.std.proofs.Common.{◌≡◌, ℕ, ◌<◌, List, length, map, ap, �
 use Rattle.std.specs.List.{filter_map}
 use Rattle.cts_base.specs.Lines.{lines_of}
 use Rattle.cts_model.specs.declared.circuit.Circuit.{Circuit}
-use Rattle.cts_model.specs.Circuits.{IsCircuit, registers_of}
-use Rattle.cts_model.specs.Hosts.{HasNoHost}
-use Rattle.cts_model.specs.Statements.{definition_of, mention_of}
-use Rattle.cts_model.specs.Flaws.{statements_in, definitions_in, register_count}
-use Rattle.cts_model.specs.Netlists.{AreFlawless, UsesDefined, names_in, signal_of}
+use Rattle.cts_model.specs.netlist.Circuits.{IsCircuit, registers_of}
+use Rattle.cts_model.specs.netlist.Hosts.{HasNoHost}
+use Rattle.cts_model.specs.netlist.Statements.{definition_of, mention_of}
+use Rattle.cts_model.specs.netlist.Flaws.{statements_in, definitions_in, register_count}
+use Rattle.cts_model.specs.netlist.Netlists.{AreFlawless, UsesDefined, names_in, signal_of}
 use Rattle.bench_reader.specs.declared.fault.BenchFault.{BenchFault}
 use Rattle.bench_reader.specs.declared.fault.BenchFault.TheVariants as faults
 use Rattle.bench_reader.specs.declared.circuit_parts.CircuitParts.{CircuitParts}

@@ -2,7 +2,7 @@
 use Rattle.std.proofs.Common.{◌≡◌, ℕ, List, [], ◌∷◌, ◌++◌, Some, IsSome, All, refl, sym, ap, ◌∙◌, subst, append_assoc, append-nil}
 use Rattle.std.specs.List.{filter_map}
 use Rattle.std.proofs.lemmas.List.Elements.{All-push}
-use Rattle.cts_model.specs.Netlists.{number_of}
+use Rattle.cts_model.specs.netlist.Netlists.{number_of}
 use Rattle.cts_model.proofs.RegisterLists.{filter_map_push_some}
 
 -- the name has a number

@@ -2,9 +2,9 @@
 use Rattle.std.proofs.Common.{◌≡◌, ℕ, Bool, true, false, not, if◌then◌else◌, List, Option, Some, None, refl}
 use Rattle.std.specs.Option.{option_map, option_and_then, option_map_or}
 use Rattle.std.specs.List.{list_all}
-use Rattle.cts_model.specs.Names.{is_short}
-use Rattle.cts_model.specs.Statements.{Statement, Definition, statement_of, definition_of, names_of}
-use Rattle.cts_model.specs.Flaws.{Limit, Name, BadLine, UnknownKind, WrongInputs, SignalTwice, TooLarge, definitions_in, has_kind, has_valid_inputs, is_defined_before, definition_excess, statement_flaw, flaw_of}
+use Rattle.cts_model.specs.text.Names.{is_short}
+use Rattle.cts_model.specs.netlist.Statements.{Statement, Definition, statement_of, definition_of, names_of}
+use Rattle.cts_model.specs.netlist.Flaws.{Limit, Name, BadLine, UnknownKind, WrongInputs, SignalTwice, TooLarge, definitions_in, has_kind, has_valid_inputs, is_defined_before, definition_excess, statement_flaw, flaw_of}
 
 -- nothing is wrong with a statement after these definitions
 pub record IsSound (earlier : List Definition) (statement : Statement) : Type 0 where

@@ -9,11 +9,11 @@ use Rattle.std.proofs.lemmas.List.Folds.{list_any_none}
 use Rattle.cts_model.specs.declared.kind.Kind.{Kind}
 use Rattle.cts_model.specs.declared.signal.Signal.{Signal}
 use Rattle.cts_model.specs.declared.kind.Kind.TheVariants.{And, Nand, Or, Nor, Not, Xor, Xnor, Buff, Dff}
-use Rattle.cts_model.specs.Kinds.{is_host, kind_of}
-use Rattle.cts_model.specs.Circuits.{has_host}
-use Rattle.cts_model.specs.Statements.{Statement, Blank, Input, Output, Assign, Definition, definition_of}
-use Rattle.cts_model.specs.Flaws.{statements_in, definitions_in}
-use Rattle.cts_model.specs.Netlists.{signal_of}
+use Rattle.cts_model.specs.netlist.Kinds.{is_host, kind_of}
+use Rattle.cts_model.specs.netlist.Circuits.{has_host}
+use Rattle.cts_model.specs.netlist.Statements.{Statement, Blank, Input, Output, Assign, Definition, definition_of}
+use Rattle.cts_model.specs.netlist.Flaws.{statements_in, definitions_in}
+use Rattle.cts_model.specs.netlist.Netlists.{signal_of}
 use Rattle.bench_reader.proofs.Lists.{All-filter_map}
 
 -- a definition that isn't the host's

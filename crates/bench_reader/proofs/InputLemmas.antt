@@ -2,9 +2,9 @@
 use Rattle.std.proofs.Common.{ℕ, suc, if◌then◌else◌, ◌≡◌, ◌≤◌, Bool, true, false, List, [], ◌∷◌, length, Option, Some, None, is_some, refl, sym, ap, ◌∙◌, arith}
 use Rattle.std.specs.Option.{option_map}
 use Rattle.cts_base.specs.Words.{is_blank}
-use Rattle.cts_model.specs.Names.{is_name_byte}
-use Rattle.cts_model.specs.Tokens.{Token, Word, Close, Comma, begins_with_name_byte, mark_of, onto_word, tokens_of}
-use Rattle.cts_model.specs.Statements.{inputs_of, more_inputs_of}
+use Rattle.cts_model.specs.text.Names.{is_name_byte}
+use Rattle.cts_model.specs.text.Tokens.{Token, Word, Close, Comma, begins_with_name_byte, mark_of, onto_word, tokens_of}
+use Rattle.cts_model.specs.netlist.Statements.{inputs_of, more_inputs_of}
 use Rattle.bench_reader.specs.Inputs.{words_in}
 
 -- a name before doesn't change whether there is a list

@@ -7,7 +7,7 @@ use Rattle.std.proofs.lemmas.List.{length-map, map_push}
 use Rattle.std.proofs.lemmas.Map.Views.{list_any-from_Contains}
 use Rattle.cts_base.proofs.ListTests.{list_any-map}
 use Rattle.indexmap.specs.IndexSet.{insert_key}
-use Rattle.cts_model.specs.Netlists.{number_of}
+use Rattle.cts_model.specs.netlist.Netlists.{number_of}
 
 module _ {X Y : Type 0} (f : X → Y) (test : Y → Bool) where
   -- so many items before the first that passes

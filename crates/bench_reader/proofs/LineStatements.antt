@@ -2,8 +2,8 @@
 use Rattle.std.proofs.Common.{◌≡◌, ℕ, List, [], ◌∷◌, ◌++◌, Some, None, All, ap, ◌∙◌, arith}
 use Rattle.std.specs.List.{filter_map, cons_option}
 use Rattle.std.proofs.lemmas.List.Elements.{All-contains, filter_map-append, Contains-append_right, Contains-get_or}
-use Rattle.cts_model.specs.Statements.{Statement, Definition, statement_of, definition_of}
-use Rattle.cts_model.specs.Flaws.{statements_in, definitions_in}
+use Rattle.cts_model.specs.netlist.Statements.{Statement, Definition, statement_of, definition_of}
+use Rattle.cts_model.specs.netlist.Flaws.{statements_in, definitions_in}
 use Rattle.cts_model.proofs.RegisterLists.{filter_map_push_none, filter_map_push_some}
 
 module _ (earlier : List (List ℕ)) (line : List ℕ) {statement : Statement} where

@@ -4,8 +4,8 @@ use Rattle.std.specs.List.{slice_get}
 use Rattle.std.proofs.lemmas.Option.{slice_get_within}
 use Rattle.std.proofs.lemmas.List.Elements.{All-nil, All-cons}
 use Rattle.cts_model.specs.declared.signal.Signal.{Signal}
-use Rattle.cts_model.specs.Kinds.{is_gate}
-use Rattle.cts_model.specs.Paths.{Reads, Follows, IsLoop}
+use Rattle.cts_model.specs.netlist.Kinds.{is_gate}
+use Rattle.cts_model.specs.netlist.Paths.{Reads, Follows, IsLoop}
 
 -- a gate that reads is one
 reads_within : (signals : List Signal) (gate read : ℕ) → Reads signals gate read

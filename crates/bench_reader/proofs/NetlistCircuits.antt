@@ -10,11 +10,11 @@ use Rattle.std.proofs.lemmas.List.Elements.{All-nil, All-cons, All-head, All-tai
 use Rattle.std.proofs.lemmas.List.Quantifiers.{position-Some}
 use Rattle.std.proofs.lemmas.List.Kept.{AllPairs-filter}
 use Rattle.cts_model.specs.declared.kind.Kind.{Kind}
-use Rattle.cts_model.specs.Kinds.{is_register, is_gate, is_host, is_valid, kind_of}
-use Rattle.cts_model.specs.Circuits.{IsCircuit, is_named, register_number, registers_of, gate_inputs}
-use Rattle.cts_model.specs.Statements.{Statement, Blank, Input, Output, Assign, Definition, definition_of}
-use Rattle.cts_model.specs.Flaws.{defined_names, register_count, gate_inputs_of, gate_input_count}
-use Rattle.cts_model.specs.Netlists.{UsesDefined, number_of, signal_of, first_mentions}
+use Rattle.cts_model.specs.netlist.Kinds.{is_register, is_gate, is_host, is_valid, kind_of}
+use Rattle.cts_model.specs.netlist.Circuits.{IsCircuit, is_named, register_number, registers_of, gate_inputs}
+use Rattle.cts_model.specs.netlist.Statements.{Statement, Blank, Input, Output, Assign, Definition, definition_of}
+use Rattle.cts_model.specs.netlist.Flaws.{defined_names, register_count, gate_inputs_of, gate_input_count}
+use Rattle.cts_model.specs.netlist.Netlists.{UsesDefined, number_of, signal_of, first_mentions}
 use Rattle.bench_reader.proofs.Lists.{All-filter_map, length-filter_map, AllPairs-map, AllPairs-cons}
 use Rattle.bench_reader.proofs.ValidDefinitions.{AreValid}
 use Rattle.bench_reader.proofs.Hostless.{IsHostless, no_host}

@@ -3,9 +3,9 @@ use Rattle.std.proofs.Common.{◌≡◌, ◌≢◌, ◌⊎◌, inl, inr, ℕ, Li
 use Rattle.std.proofs.lemmas.Option.{same_Some}
 use Rattle.cts_base.specs.Lines.{lines_of}
 use Rattle.cts_model.specs.declared.circuit.Circuit.{Circuit}
-use Rattle.cts_model.specs.Flaws.{Limit, Flaw, flaw_of}
-use Rattle.cts_model.specs.Flaws as flaws
-use Rattle.cts_model.specs.Netlists.{AreFlawless, AreDefined, UsesDefined, AcceptsNetlist, IsNetlist, names_in}
+use Rattle.cts_model.specs.netlist.Flaws.{Limit, Flaw, flaw_of}
+use Rattle.cts_model.specs.netlist.Flaws as flaws
+use Rattle.cts_model.specs.netlist.Netlists.{AreFlawless, AreDefined, UsesDefined, AcceptsNetlist, IsNetlist, names_in}
 use Rattle.bench_reader.specs.declared.fault.Which.{Which}
 use Rattle.bench_reader.specs.declared.fault.Which.TheVariants.{Name, Signals, Registers, Inputs}
 use Rattle.bench_reader.specs.declared.fault.BenchFault.{BenchFault}

@@ -4,9 +4,9 @@ use Rattle.std.specs.List.{list_any}
 use Rattle.std.proofs.lemmas.Bool.Decides.{nat_tests}
 use Rattle.std.proofs.lemmas.List.Elements.{filter-append}
 use Rattle.cts_model.specs.declared.signal.Signal.{Signal}
-use Rattle.cts_model.specs.Kinds.{is_register}
-use Rattle.cts_model.specs.Circuits.{registers_of}
-use Rattle.cts_model.specs.Netlists.{first_mentions}
+use Rattle.cts_model.specs.netlist.Kinds.{is_register}
+use Rattle.cts_model.specs.netlist.Circuits.{registers_of}
+use Rattle.cts_model.specs.netlist.Netlists.{first_mentions}
 use Rattle.cts_model.proofs.RegisterLists.{registers_push_none, registers_push_some}
 use Rattle.indexmap.specs.IndexSet.{insert_key}
 

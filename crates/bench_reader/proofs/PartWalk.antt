@@ -4,9 +4,9 @@ use Rattle.std.specs.List.{filter_map}
 use Rattle.std.proofs.lemmas.List.{length-map}
 use Rattle.std.proofs.lemmas.List.Elements.{filter_map-append}
 use Rattle.cts_base.specs.Lines.{lines_of, numbered_lines}
-use Rattle.cts_model.specs.Statements.{statement_of, definition_of}
-use Rattle.cts_model.specs.Flaws.{statements_in, definitions_in, flaw_of}
-use Rattle.cts_model.specs.Netlists.{AreFlawless, AreDefined, names_in, signal_of}
+use Rattle.cts_model.specs.netlist.Statements.{statement_of, definition_of}
+use Rattle.cts_model.specs.netlist.Flaws.{statements_in, definitions_in, flaw_of}
+use Rattle.cts_model.specs.netlist.Netlists.{AreFlawless, AreDefined, names_in, signal_of}
 use Rattle.bench_reader.specs.declared.circuit_parts.CircuitParts.{CircuitParts}
 use Rattle.bench_reader.specs.Lines.{UsesUndefined, IsFirstUndefined}
 use Rattle.bench_reader.specs.Taken.{HasParts}

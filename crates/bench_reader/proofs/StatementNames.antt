@@ -7,10 +7,10 @@ use Rattle.std.proofs.lemmas.Option.{same_Some}
 use Rattle.std.proofs.lemmas.Bool.Decides.{nat_tests}
 use Rattle.cts_base.specs.Words.{is_blank, before_hash}
 use Rattle.cts_model.specs.declared.kind.Kind.{Kind}
-use Rattle.cts_model.specs.Kinds.{kind_of}
-use Rattle.cts_model.specs.Names.{is_name_byte, is_name, is_short}
-use Rattle.cts_model.specs.Tokens.{Token, Word, Open, Close, Comma, Equals, Stray, tokens_of, mark_of, onto_word, begins_with_name_byte}
-use Rattle.cts_model.specs.Statements.{Statement, Blank, Input, Output, Assign, Definition, statement_of, form_of, inputs_of, more_inputs_of, declaration_of, definition_of, names_of}
+use Rattle.cts_model.specs.netlist.Kinds.{kind_of}
+use Rattle.cts_model.specs.text.Names.{is_name_byte, is_name, is_short}
+use Rattle.cts_model.specs.text.Tokens.{Token, Word, Open, Close, Comma, Equals, Stray, tokens_of, mark_of, onto_word, begins_with_name_byte}
+use Rattle.cts_model.specs.netlist.Statements.{Statement, Blank, Input, Output, Assign, Definition, statement_of, form_of, inputs_of, more_inputs_of, declaration_of, definition_of, names_of}
 
 -- each of these is a name
 abbrev AreNames : List (List ℕ) → Type 0

@@ -3,8 +3,8 @@ use Rattle.std.proofs.Common.{ℕ, suc, ◌≡◌, ◌<◌, ◌+◌, Bool, true,
 use Rattle.std.proofs.lemmas.Bool.Decides.{nat_tests}
 use Rattle.std.specs.List.{prefix_len}
 use Rattle.cts_base.specs.Words.{is_blank}
-use Rattle.cts_model.specs.Names.{is_name_byte}
-use Rattle.cts_model.specs.Tokens.{Word, begins_with_name_byte, tokens_of}
+use Rattle.cts_model.specs.text.Names.{is_name_byte}
+use Rattle.cts_model.specs.text.Tokens.{Word, begins_with_name_byte, tokens_of}
 
 -- a space or a tab is no byte of a name
 blank_outside_names : (byte : ℕ) → is_blank byte ≡ true → is_name_byte byte ≡ false

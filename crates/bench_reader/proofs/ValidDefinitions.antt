@@ -5,11 +5,11 @@ use Rattle.std.proofs.lemmas.Bool.Decides.{nat_tests}
 use Rattle.std.proofs.lemmas.List.{length_push, length-map, get_or-map}
 use Rattle.std.proofs.lemmas.List.Elements.{All-nil, All-push, Contains-get_or}
 use Rattle.std.proofs.lemmas.List.Quantifiers.{all_pairs_push}
-use Rattle.cts_model.specs.Names.{is_name, is_short}
-use Rattle.cts_model.specs.Kinds.{is_valid}
-use Rattle.cts_model.specs.Statements.{Definition, definition_of}
-use Rattle.cts_model.specs.Flaws.{Signals, Registers, Inputs, definitions_in, defined_names, register_count, gate_input_count, has_valid_inputs, is_defined_before, definition_excess, flaw_of}
-use Rattle.cts_model.specs.Netlists.{AreFlawless}
+use Rattle.cts_model.specs.text.Names.{is_name, is_short}
+use Rattle.cts_model.specs.netlist.Kinds.{is_valid}
+use Rattle.cts_model.specs.netlist.Statements.{Definition, definition_of}
+use Rattle.cts_model.specs.netlist.Flaws.{Signals, Registers, Inputs, definitions_in, defined_names, register_count, gate_input_count, has_valid_inputs, is_defined_before, definition_excess, flaw_of}
+use Rattle.cts_model.specs.netlist.Netlists.{AreFlawless}
 use Rattle.bench_reader.proofs.LineStatements.{definitions_push_some, definitions_push_none}
 use Rattle.bench_reader.proofs.FlawlessLines.{IsSoundLine, sound_line}
 use Rattle.bench_reader.proofs.StatementNames.{defined_name}

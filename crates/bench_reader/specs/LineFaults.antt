@@ -1,14 +1,14 @@
 -- What the two walks over the lines refuse.
 use Rattle.std.specs.Prelude.{◌≡◌, ℕ, List, All, Option, Some, None, IsSome}
-use Rattle.cts_model.specs.Flaws.{Flaw, flaw_of}
-use Rattle.cts_model.specs.Flaws as flaws
+use Rattle.cts_model.specs.netlist.Flaws.{Flaw, flaw_of}
+use Rattle.cts_model.specs.netlist.Flaws as flaws
 use Rattle.bench_reader.specs.declared.line_fault.LineFault.{LineFault}
 use Rattle.bench_reader.specs.declared.line_fault.LineFault.TheVariants as line
 use Rattle.bench_reader.specs.declared.use_fault.UseFault.{UseFault}
 use Rattle.bench_reader.specs.declared.use_fault.UseFault.TheVariants as use_fault
 use Rattle.bench_reader.specs.declared.fault.BenchFault.{BenchFault}
 use Rattle.bench_reader.specs.declared.fault.BenchFault.TheVariants.{Undefined, CombLoop, NoRegisters, NoMemory}
-use Rattle.cts_model.specs.Netlists.{number_of}
+use Rattle.cts_model.specs.netlist.Netlists.{number_of}
 use Rattle.bench_reader.specs.Lines.{UsesUndefined, IsFirstUndefined}
 use Rattle.bench_reader.specs.Refusals.{limit_of, RefusesNetlist}
 

@@ -1,9 +1,9 @@
 -- Places of lines in a text: the first with a flaw, and the first that uses an undefined name.
 use Rattle.std.specs.Prelude.{◌≡◌, ℕ, List, Some}
 use Rattle.cts_base.specs.Lines.{IsLine}
-use Rattle.cts_model.specs.Statements.{Statement, statement_of}
-use Rattle.cts_model.specs.Flaws.{Flaw, flaw_of}
-use Rattle.cts_model.specs.Netlists.{AreFlawless, AreDefined, UsesDefined, names_in}
+use Rattle.cts_model.specs.netlist.Statements.{Statement, statement_of}
+use Rattle.cts_model.specs.netlist.Flaws.{Flaw, flaw_of}
+use Rattle.cts_model.specs.netlist.Netlists.{AreFlawless, AreDefined, UsesDefined, names_in}
 
 -- the line of this number is the first that has a flaw, and it has this one
 pub record IsFirstFlawed (text : List ℕ) (number : ℕ) (flaw : Flaw) : Type 0 where

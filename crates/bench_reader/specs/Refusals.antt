@@ -6,10 +6,10 @@ use Rattle.std.specs.Option.{option_map_or}
 use Rattle.std.specs.List.{slice_get}
 use Rattle.cts_base.specs.Lines.{lines_of}
 use Rattle.cts_model.specs.declared.signal.Signal.{Signal}
-use Rattle.cts_model.specs.Flaws.{Limit, Flaw, definitions_in, register_count}
-use Rattle.cts_model.specs.Flaws as flaws
-use Rattle.cts_model.specs.Netlists.{AreFlawless, AreDefined, names_in, signals_of}
-use Rattle.cts_model.specs.Paths.{IsNamedLoop}
+use Rattle.cts_model.specs.netlist.Flaws.{Limit, Flaw, definitions_in, register_count}
+use Rattle.cts_model.specs.netlist.Flaws as flaws
+use Rattle.cts_model.specs.netlist.Netlists.{AreFlawless, AreDefined, names_in, signals_of}
+use Rattle.cts_model.specs.netlist.Paths.{IsNamedLoop}
 use Rattle.bench_reader.specs.declared.fault.Which.{Which}
 use Rattle.bench_reader.specs.declared.fault.Which.TheVariants.{Name, Signals, Registers, Inputs}
 use Rattle.bench_reader.specs.declared.fault.BenchFault.{BenchFault}

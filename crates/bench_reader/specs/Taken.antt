@@ -6,11 +6,11 @@ use Rattle.std.specs.Str.{bytes_eq}
 use Rattle.cts_base.specs.Lines.{lines_of}
 use Rattle.cts_model.specs.declared.kind.Kind.{Kind}
 use Rattle.cts_model.specs.declared.circuit.Circuit.{Circuit}
-use Rattle.cts_model.specs.Kinds.{is_register, is_gate}
-use Rattle.cts_model.specs.Circuits.{registers_of}
-use Rattle.cts_model.specs.Statements.{mention_of}
-use Rattle.cts_model.specs.Flaws.{Limit, Name, Signals, Registers, Inputs, Flaw, SignalTwice, TooLarge, definitions_in, defined_names, register_count, gate_input_count, statements_in}
-use Rattle.cts_model.specs.Netlists.{AreFlawless, AreDefined, names_in, signal_of, signals_of, outputs_of, number_of, first_mentions}
+use Rattle.cts_model.specs.netlist.Kinds.{is_register, is_gate}
+use Rattle.cts_model.specs.netlist.Circuits.{registers_of}
+use Rattle.cts_model.specs.netlist.Statements.{mention_of}
+use Rattle.cts_model.specs.netlist.Flaws.{Limit, Name, Signals, Registers, Inputs, Flaw, SignalTwice, TooLarge, definitions_in, defined_names, register_count, gate_input_count, statements_in}
+use Rattle.cts_model.specs.netlist.Netlists.{AreFlawless, AreDefined, names_in, signal_of, signals_of, outputs_of, number_of, first_mentions}
 use Rattle.bench_reader.specs.declared.definitions.Definitions.{Definitions}
 use Rattle.bench_reader.specs.declared.circuit_parts.CircuitParts.{CircuitParts}
 

@@ -3,8 +3,8 @@ use Rattle.bench_reader.specs.declared.token.Token.{Token}
 use Rattle.bench_reader.specs.declared.token.Token.TheVariants as read
 use Rattle.bench_reader.specs.declared.statement.Statement.{Statement}
 use Rattle.bench_reader.specs.declared.statement.Statement.TheVariants.{Blank, Input, Output, Assign}
-use Rattle.cts_model.specs.Tokens as format
-use Rattle.cts_model.specs.Statements as formats
+use Rattle.cts_model.specs.text.Tokens as format
+use Rattle.cts_model.specs.netlist.Statements as formats
 
 -- a token, wherever its bytes lie
 abbrev pub token_of : Token → format.Token

@@ -1,9 +1,9 @@
 ghost use Rattle.std.specs.Prelude.{◌≡◌, ◌≤◌, List, ℕ, None, [], ◌∷◌, ◌++◌, length, IfOk, IfErr, OnOk, IsSome, IsSomeAnd, All, nat_eq};
 ghost use Rattle.std.specs.List.{filter_map};
 ghost use Rattle.cts_base.specs.Lines.{lines_of};
-ghost use Rattle.cts_model.specs.Circuits.{registers_of};
-ghost use Rattle.cts_model.specs.Flaws.{flaw_of};
-ghost use Rattle.cts_model.specs.Netlists.{AreFlawless, names_in, number_of};
+ghost use Rattle.cts_model.specs.netlist.Circuits.{registers_of};
+ghost use Rattle.cts_model.specs.netlist.Flaws.{flaw_of};
+ghost use Rattle.cts_model.specs.netlist.Netlists.{AreFlawless, names_in, number_of};
 ghost use Rattle.indexmap.specs.IndexSet.{insert_key};
 ghost use Rattle.bench_reader.specs.LineFaults.{MissesName, IsUseFault, RefusesUse};
 ghost use Rattle.bench_reader.specs.Taken.{HasParts};

@@ -3,9 +3,9 @@ ghost use Rattle.std.specs.Option.{option_map};
 ghost use Rattle.std.specs.List.{list_any};
 ghost use Rattle.std.specs.Str.{bytes_eq};
 ghost use Rattle.cts_base.specs.Lines.{lines_of};
-ghost use Rattle.cts_model.specs.Kinds.{is_register, is_gate};
-ghost use Rattle.cts_model.specs.Flaws.{flaw_of};
-ghost use Rattle.cts_model.specs.Netlists.{AreFlawless, names_in};
+ghost use Rattle.cts_model.specs.netlist.Kinds.{is_register, is_gate};
+ghost use Rattle.cts_model.specs.netlist.Flaws.{flaw_of};
+ghost use Rattle.cts_model.specs.netlist.Netlists.{AreFlawless, names_in};
 ghost use Rattle.bench_reader.specs.Refusals.{limit_of};
 ghost use Rattle.bench_reader.specs.LineFaults.{IsFaultOf, IsLineFault, RefusesLine};
 

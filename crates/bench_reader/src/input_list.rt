@@ -1,7 +1,7 @@
 ghost use Rattle.std.specs.Prelude.{◌≡◌, ℕ, List, is_some, length};
 ghost use Rattle.std.specs.Iterator.{YieldsFirstRef, item_count};
-ghost use Rattle.cts_model.specs.Tokens.{tokens_of};
-ghost use Rattle.cts_model.specs.Statements.{inputs_of, more_inputs_of};
+ghost use Rattle.cts_model.specs.text.Tokens.{tokens_of};
+ghost use Rattle.cts_model.specs.netlist.Statements.{inputs_of, more_inputs_of};
 ghost use Rattle.bench_reader.specs.Inputs.{words_in};
 
 use crate::token::{Token, Tokens};

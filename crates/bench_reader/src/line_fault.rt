@@ -1,6 +1,6 @@
 ghost use Rattle.std.specs.Prelude.{◌≡◌, List, ℕ};
 ghost use Rattle.cts_base.specs.Lines.{IsLine};
-ghost use Rattle.cts_model.specs.Netlists.{AreFlawless};
+ghost use Rattle.cts_model.specs.netlist.Netlists.{AreFlawless};
 ghost use Rattle.bench_reader.specs.LineFaults.{IsLineFault, RefusesLine};
 ghost use Rattle.bench_reader.specs.declared.line_fault.LineFault.TheVariants as fault;
 ghost use Rattle.bench_reader.specs.declared.fault.BenchFault.TheVariants as bench;

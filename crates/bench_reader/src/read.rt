@@ -1,6 +1,6 @@
 ghost use Rattle.std.specs.Prelude.{◌≡◌, ◌≤◌, ◌<◌, ◌≢◌, ◌⊎◌, length, All, IfOk, IfErr, IsErrAnd, IsOkUnless};
-ghost use Rattle.cts_model.specs.Hosts.{HasNoHost};
-ghost use Rattle.cts_model.specs.Netlists.{IsNetlist, AcceptsNetlist};
+ghost use Rattle.cts_model.specs.netlist.Hosts.{HasNoHost};
+ghost use Rattle.cts_model.specs.netlist.Netlists.{IsNetlist, AcceptsNetlist};
 ghost use Rattle.bench_reader.specs.declared.fault.BenchFault.{BenchFault};
 ghost use Rattle.bench_reader.specs.Refusals.{RefusesNetlist, IsSameFault, names_of_signals};
 ghost use Rattle.bench_reader.specs.Taken.{DenotesCircuit};

@@ -2,9 +2,9 @@ ghost use Rattle.std.specs.Prelude.{◌≡◌, ◌≢◌, ℕ, List, [], ◌∷�
 ghost use Rattle.std.specs.Option.{option_map};
 ghost use Rattle.std.specs.Str.{str_eq_ignore_ascii_case};
 ghost use Rattle.std.specs.List.{list_all};
-ghost use Rattle.cts_model.specs.Names.{is_short};
-ghost use Rattle.cts_model.specs.Statements.{statement_of, form_of, declaration_of, names_of};
-ghost use Rattle.cts_model.specs.Tokens.{Word, Close, Equals};
+ghost use Rattle.cts_model.specs.text.Names.{is_short};
+ghost use Rattle.cts_model.specs.netlist.Statements.{statement_of, form_of, declaration_of, names_of};
+ghost use Rattle.cts_model.specs.text.Tokens.{Word, Close, Equals};
 ghost use Rattle.bench_reader.specs.View.{said_by};
 
 use crate::input_list::InputList;

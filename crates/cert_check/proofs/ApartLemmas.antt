@@ -4,7 +4,7 @@ use Rattle.std.specs.Int.{int_max, int_min}
 use Rattle.std.proofs.Math.Nat.{mul-add, mul-one, mul-le-mul_left}
 use Rattle.std.proofs.lemmas.Int.{ints, clamps, by_lt_z}
 use Rattle.cts_model.specs.declared.place.Point.{Point}
-use Rattle.cts_model.specs.DrawnWires.{IsBetween, AreApart}
+use Rattle.cts_model.specs.tree.DrawnWires.{IsBetween, AreApart}
 use Rattle.cts_model.proofs.ScaleLemmas.{scale_le, scale-max}
 use Rattle.cert_check.specs.DrawnParts.{Share, greatest_common, least_common, piece}
 use borrow.Author.Differences.{up, down}

@@ -11,10 +11,10 @@ use Rattle.cts_model.specs.declared.circuit.Circuit.{Circuit}
 use Rattle.cts_model.specs.declared.constraint.Constraint.{Constraint}
 use Rattle.cts_model.specs.declared.tech.Tech.{Tech}
 use Rattle.cts_model.specs.declared.timing.PairDelay.{PairDelay}
-use Rattle.cts_model.specs.Constraints.{IsConstraintOf}
-use Rattle.cts_model.specs.Judgements.{IsOfCircuit}
-use Rattle.cts_model.specs.PairLists.{IsSmallPair}
-use Rattle.cts_model.specs.ReportBounds.{IsBetweenRegisters}
+use Rattle.cts_model.specs.timing.Constraints.{IsConstraintOf}
+use Rattle.cts_model.specs.report.Judgements.{IsOfCircuit}
+use Rattle.cts_model.specs.timing.PairLists.{IsSmallPair}
+use Rattle.cts_model.specs.report.ReportBounds.{IsBetweenRegisters}
 use Rattle.path_delays.specs.JoinedPairs.{AreDelaysBetween, IsJoinedBy}
 use Rattle.cert_check.specs.GivenConstraints.{AreOfCircuit, pair_of}
 use Rattle.cert_check.specs.Judged.{FindsFirst}

@@ -9,10 +9,10 @@ use Rattle.std.proofs.lemmas.List.{get_or-set_same, get_or-set_other, get_or-rep
 use Rattle.std.proofs.lemmas.List.Elements.{All-nil, All-cons, All-append, All-set, All-replicate}
 use Rattle.std.proofs.lemmas.Option.{get_or_from_slice_get, slice_get-get_or, slice_get_within}
 use Rattle.cts_model.specs.declared.tree.Merge.{Merge}
-use Rattle.cts_model.specs.Embeddings.{total_length}
-use Rattle.cts_model.specs.Points.{IsBelow}
-use Rattle.cts_model.specs.ReportLines.{number_at}
-use Rattle.cts_model.specs.Topologies.{IsTopology}
+use Rattle.cts_model.specs.tree.Embeddings.{total_length}
+use Rattle.cts_model.specs.placement.Points.{IsBelow}
+use Rattle.cts_model.specs.report.ReportLines.{number_at}
+use Rattle.cts_model.specs.tree.Topologies.{IsTopology}
 use Rattle.cts_model.proofs.ParentLemmas.{both_at, made_parent, one_parent, pair_within}
 use Rattle.cts_model.proofs.TopologyLemmas.{merge_at, merge_here, first_made, second_made}
 use Rattle.cts_model.proofs.TotalLemmas.{total_length-parts}

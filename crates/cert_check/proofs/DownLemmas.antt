@@ -8,10 +8,10 @@ use Rattle.std.proofs.lemmas.List.{get_or-set_same, get_or-set_other, get_or-rep
 use Rattle.std.proofs.lemmas.List.Elements.{All-set, All-replicate}
 use Rattle.std.proofs.lemmas.Option.{get_or_from_slice_get, slice_get_within}
 use Rattle.cts_model.specs.declared.tree.Merge.{Merge}
-use Rattle.cts_model.specs.Embeddings.{AreWiresDown}
-use Rattle.cts_model.specs.Points.{IsBelow}
-use Rattle.cts_model.specs.ReportLines.{number_at}
-use Rattle.cts_model.specs.Topologies.{IsTopology, IsParent, Joins, root_of, source_of}
+use Rattle.cts_model.specs.tree.Embeddings.{AreWiresDown}
+use Rattle.cts_model.specs.placement.Points.{IsBelow}
+use Rattle.cts_model.specs.report.ReportLines.{number_at}
+use Rattle.cts_model.specs.tree.Topologies.{IsTopology, IsParent, Joins, root_of, source_of}
 use Rattle.cts_model.proofs.ParentLemmas.{has_parent, made_parent, one_parent, parent_above, parent_stands}
 use Rattle.cts_model.proofs.TopologyLemmas.{some_and, merge_at, merge_here}
 

@@ -6,11 +6,11 @@ use Rattle.std.proofs.lemmas.Option.{slice_get-get_or}
 use Rattle.cts_model.specs.declared.tree.Merge.{Merge}
 use Rattle.cts_model.specs.declared.tree.Tree.{Tree}
 use Rattle.cts_model.specs.declared.tree.Wire.{Wire}
-use Rattle.cts_model.specs.DrawnWires.{IsDrawn}
-use Rattle.cts_model.specs.Embeddings.{Embedding}
-use Rattle.cts_model.specs.Judgements.{IsDrawnEdge, IsLongEnough}
-use Rattle.cts_model.specs.Points.{IsBelow, IsPointBelow, distance}
-use Rattle.cts_model.specs.Topologies.{IsParent, IsTopology, source_of}
+use Rattle.cts_model.specs.tree.DrawnWires.{IsDrawn}
+use Rattle.cts_model.specs.tree.Embeddings.{Embedding}
+use Rattle.cts_model.specs.report.Judgements.{IsDrawnEdge, IsLongEnough}
+use Rattle.cts_model.specs.placement.Points.{IsBelow, IsPointBelow, distance}
+use Rattle.cts_model.specs.tree.Topologies.{IsParent, IsTopology, source_of}
 use Rattle.cts_model.proofs.ParentLemmas.{one_parent, parent_stands}
 use Rattle.cert_check.specs.EmbeddingParts.{DrawnAt, HasEdges, ReachesAt}
 use Rattle.cert_check.specs.Parents.{AreParents, parent_at}

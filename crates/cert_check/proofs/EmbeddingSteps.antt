@@ -6,11 +6,11 @@ use Rattle.cts_model.specs.declared.place.Uv.{Uv}
 use Rattle.cts_model.specs.declared.problem.Problem.{Problem}
 use Rattle.cts_model.specs.declared.report.Report.{Report}
 use Rattle.cts_model.specs.declared.tree.Merge.{Merge}
-use Rattle.cts_model.specs.Embeddings.{Embedding, embedding_of}
-use Rattle.cts_model.specs.Judgements.{HasShape, IsDrawnEdge, IsLongEnough}
-use Rattle.cts_model.specs.ReportBounds.{IsOfSize}
-use Rattle.cts_model.specs.Shown.{AtEach, sinks_in, source_in}
-use Rattle.cts_model.specs.Topologies.{IsTopology}
+use Rattle.cts_model.specs.tree.Embeddings.{Embedding, embedding_of}
+use Rattle.cts_model.specs.report.Judgements.{HasShape, IsDrawnEdge, IsLongEnough}
+use Rattle.cts_model.specs.report.ReportBounds.{IsOfSize}
+use Rattle.cts_model.specs.report.Shown.{AtEach, sinks_in, source_in}
+use Rattle.cts_model.specs.tree.Topologies.{IsTopology}
 use Rattle.cts_model.proofs.SkewLemmas.{length-sinks_of}
 use Rattle.cert_check.specs.declared.verdict.Reason.TheVariants.{TreeShape, TooShort, WireSum}
 use Rattle.cert_check.specs.EmbeddingParts.{DrawnAt, ReachesAt}

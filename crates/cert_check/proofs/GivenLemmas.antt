@@ -6,7 +6,7 @@ use Rattle.cts_model.specs.declared.circuit.Circuit.{Circuit}
 use Rattle.cts_model.specs.declared.constraint.Constraint.{Constraint}
 use Rattle.cts_model.specs.declared.tech.Tech.{Tech}
 use Rattle.cts_model.specs.declared.timing.PairDelay.{PairDelay}
-use Rattle.cts_model.specs.Constraints.{IsConstraintOf, IsHoldConstraint, IsSetupConstraint}
+use Rattle.cts_model.specs.timing.Constraints.{IsConstraintOf, IsHoldConstraint, IsSetupConstraint}
 use Rattle.path_delays.specs.JoinedPairs.{IsDelayBetween, IsJoinedBy}
 use Rattle.cert_check.specs.GivenConstraints.{pair_of, weight_by}
 

@@ -9,9 +9,9 @@ use Rattle.cts_base.specs.declared.fraction.Fraction.{Fraction}
 use Rattle.cts_model.specs.declared.schedule.Lead.{Lead}
 use Rattle.cts_model.specs.declared.schedule.Slack.{Slack}
 use Rattle.cts_model.specs.declared.tech.Tech.{Tech}
-use Rattle.cts_model.specs.Judgements.{IsFromFloor, HoldsTogether, IsOfCircuit, GivesPeriod, MeetsAt, HasSlack, IsGivenPath, IsEarliest}
-use Rattle.cts_model.specs.Shown.{AtEach, cycle_of}
-use Rattle.cts_model.specs.Slacks.{AreSlacks}
+use Rattle.cts_model.specs.report.Judgements.{IsFromFloor, HoldsTogether, IsOfCircuit, GivesPeriod, MeetsAt, HasSlack, IsGivenPath, IsEarliest}
+use Rattle.cts_model.specs.report.Shown.{AtEach, cycle_of}
+use Rattle.cts_model.specs.timing.Slacks.{AreSlacks}
 use Rattle.cert_check.specs.declared.verdict.Reason.TheVariants.{NotOfCircuit, CycleValue, ScheduleMisses, SlackDiffers, NotLeast}
 use Rattle.cert_check.specs.ComparedSlacks.{HasOneSlack, SparesTime}
 use Rattle.cert_check.specs.Judged.{FailsFirst, FindsFirst}

@@ -3,9 +3,9 @@
 use Rattle.std.proofs.Common.{◌≡◌, ◌*◌, ℕ, length, Option, Some, None, inl, inr, refl}
 use Rattle.cts_model.specs.declared.problem.Problem.{Problem}
 use Rattle.cts_model.specs.declared.report.Report.{Report}
-use Rattle.cts_model.specs.Embeddings.{embedding_of}
-use Rattle.cts_model.specs.Judgements.{HasShape}
-use Rattle.cts_model.specs.Shown.{AtEach, IsShown, IsShownTiming, IsShownTree, sinks_in, source_in}
+use Rattle.cts_model.specs.tree.Embeddings.{embedding_of}
+use Rattle.cts_model.specs.report.Judgements.{HasShape}
+use Rattle.cts_model.specs.report.Shown.{AtEach, IsShown, IsShownTiming, IsShownTree, sinks_in, source_in}
 use Rattle.cert_check.specs.declared.verdict.Reason.{Reason}
 use Rattle.cert_check.specs.declared.verdict.Verdict.{Verdict}
 use Rattle.cert_check.specs.declared.verdict.Verdict.TheVariants.{Shown, Not}

@@ -2,8 +2,8 @@
 use Rattle.std.proofs.Common.{◌≡◌, ◌^◌, ◌↔◌, ℤ, ◌+ℤ◌, ◌-ℤ◌, Bool, IsTrue, sym, ap, ◌∙◌, FitsSigned, of_z, to_z, arith}
 use mir.Syntax.{w128}
 use Rattle.std.proofs.lemmas.Int.{ints, to_z-of_z}
-use Rattle.cts_model.specs.Points.{IsBelow}
-use Rattle.cts_model.specs.Tables.{IsWithin}
+use Rattle.cts_model.specs.placement.Points.{IsBelow}
+use Rattle.cts_model.specs.table.Tables.{IsWithin}
 
 -- a number as the code keeps it
 abbrev pub kept : ℤ → ℤ

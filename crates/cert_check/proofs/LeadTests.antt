@@ -9,9 +9,9 @@ use Rattle.cts_model.specs.declared.circuit.Circuit.{Circuit}
 use Rattle.cts_model.specs.declared.schedule.Lead.{Lead}
 use Rattle.cts_model.specs.declared.schedule.Lead.TheVariants.{Zero, Tight}
 use Rattle.cts_model.specs.declared.tech.Tech.{Tech}
-use Rattle.cts_model.specs.Constraints.{IsConstraintOf}
-use Rattle.cts_model.specs.Leads.{lead_at}
-use Rattle.cts_model.specs.ReportBounds.{HasSmallWeight, IsBetweenRegisters, IsSmallLead, LeadsAmong}
+use Rattle.cts_model.specs.timing.Constraints.{IsConstraintOf}
+use Rattle.cts_model.specs.timing.Leads.{lead_at}
+use Rattle.cts_model.specs.report.ReportBounds.{HasSmallWeight, IsBetweenRegisters, IsSmallLead, LeadsAmong}
 use Rattle.cert_check.specs.Earliest.{constraint_of}
 use Rattle.cert_check.specs.GivenConstraints.{AreOfCircuit}
 

@@ -8,8 +8,8 @@ use Rattle.std.proofs.lemmas.List.Elements.{All-append, All-cons, All-nil}
 use Rattle.std.proofs.Math.Seq.{get_or-append_seam}
 use Rattle.std.proofs.Math.ListN.{get_or-append}
 use Rattle.cts_model.specs.declared.tree.Merge.{Merge}
-use Rattle.cts_model.specs.Shown.{AtEach}
-use Rattle.cts_model.specs.Topologies.{IsMerge}
+use Rattle.cts_model.specs.report.Shown.{AtEach}
+use Rattle.cts_model.specs.tree.Topologies.{IsMerge}
 use Rattle.cts_model.proofs.TopologyLemmas.{merge_at, merge_here}
 use Rattle.cert_check.specs.EmbeddingParts.{IsOfUnmarked, JoinsAt}
 use Rattle.cert_check.proofs.FirstPlaces.{each_more}

@@ -6,8 +6,8 @@ use Rattle.std.proofs.lemmas.Int.{ints}
 use Rattle.std.proofs.lemmas.List.Elements.{Contains-append_cases, Contains-append_left, Contains-append_right}
 use Rattle.std.proofs.lemmas.Option.{slice_get_within}
 use Rattle.cts_model.specs.declared.tree.Merge.{Merge}
-use Rattle.cts_model.specs.Embeddings.{AreWiresDown}
-use Rattle.cts_model.specs.Topologies.{IsTopology, IsParent, Joins, numbers_below, root_of, source_of}
+use Rattle.cts_model.specs.tree.Embeddings.{AreWiresDown}
+use Rattle.cts_model.specs.tree.Topologies.{IsTopology, IsParent, Joins, numbers_below, root_of, source_of}
 use Rattle.cts_model.proofs.ParentLemmas.{has_parent, made_parent, parent_above}
 use Rattle.cts_model.proofs.TopologyLemmas.{some_and, numbers_below-sink, numbers_below-merge, of_made}
 use Rattle.cert_check.specs.SinkOrders.{AreSizes, AreSteps, IsPlacedBelow}

@@ -5,7 +5,7 @@ use Rattle.std.proofs.lemmas.Bool.{cases_lt}
 use Rattle.std.proofs.lemmas.List.{get_or-set_same, get_or-set_other, length-set}
 use Rattle.std.proofs.lemmas.Option.{slice_get_within, get_or_from_slice_get}
 use Rattle.cts_model.specs.declared.tree.Merge.{Merge}
-use Rattle.cts_model.specs.Topologies.{IsParent, IsTopology, Joins, root_of, source_of}
+use Rattle.cts_model.specs.tree.Topologies.{IsParent, IsTopology, Joins, root_of, source_of}
 use Rattle.cts_model.proofs.ParentLemmas.{has_parent, made_parent, one_parent}
 use Rattle.cts_model.proofs.TopologyLemmas.{first_made, second_made, some_and}
 use Rattle.cert_check.specs.Parents.{AreParents, parent_at}

@@ -12,16 +12,16 @@ use Rattle.cts_model.specs.declared.place.Uv.{Uv}
 use Rattle.cts_model.specs.declared.problem.Problem.{Problem}
 use Rattle.cts_model.specs.declared.report.Report.{Report}
 use Rattle.cts_model.specs.declared.tree.Merge.{Merge}
-use Rattle.cts_model.specs.Embeddings.{AreWiresDown, Embedding, embedding_of, total_length, total_wire}
-use Rattle.cts_model.specs.Judgements.{IsReachShown, IsSkewed}
-use Rattle.cts_model.specs.Points.{IsBelow, IsPointBelow, IsUvBelow, rotated}
-use Rattle.cts_model.specs.Problems.{on_grid, sink_of}
-use Rattle.cts_model.specs.ReportBounds.{IsOfSize, IsWithinBounds, ShowsAmong}
-use Rattle.cts_model.specs.ReportLines.{number_at}
-use Rattle.cts_model.specs.Schedules.{arrival_of}
-use Rattle.cts_model.specs.Shown.{AtEach, sinks_in, source_in}
-use Rattle.cts_model.specs.ShownReaches.{ShowsMerge, ShowsSource}
-use Rattle.cts_model.specs.Topologies.{IsTopology, IsParent, Joins, numbers_below, root_of, source_of}
+use Rattle.cts_model.specs.tree.Embeddings.{AreWiresDown, Embedding, embedding_of, total_length, total_wire}
+use Rattle.cts_model.specs.report.Judgements.{IsReachShown, IsSkewed}
+use Rattle.cts_model.specs.placement.Points.{IsBelow, IsPointBelow, IsUvBelow, rotated}
+use Rattle.cts_model.specs.tree.Problems.{on_grid, sink_of}
+use Rattle.cts_model.specs.report.ReportBounds.{IsOfSize, IsWithinBounds, ShowsAmong}
+use Rattle.cts_model.specs.report.ReportLines.{number_at}
+use Rattle.cts_model.specs.timing.Schedules.{arrival_of}
+use Rattle.cts_model.specs.report.Shown.{AtEach, sinks_in, source_in}
+use Rattle.cts_model.specs.tree.ShownReaches.{ShowsMerge, ShowsSource}
+use Rattle.cts_model.specs.tree.Topologies.{IsTopology, IsParent, Joins, numbers_below, root_of, source_of}
 use Rattle.cts_model.proofs.GridLemmas.{on_grid_below, scheduled_size}
 use Rattle.cts_model.proofs.ParentLemmas.{made_parent}
 use Rattle.cts_model.proofs.SkewLemmas.{length-sinks_of, sink_at}

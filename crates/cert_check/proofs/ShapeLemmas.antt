@@ -6,11 +6,11 @@ use Rattle.std.proofs.lemmas.Option.{slice_get_past, slice_get_within}
 use Rattle.cts_model.specs.declared.place.Sink.{Sink}
 use Rattle.cts_model.specs.declared.place.Uv.{Uv}
 use Rattle.cts_model.specs.declared.tree.Merge.{Merge}
-use Rattle.cts_model.specs.Embeddings.{Embedding}
-use Rattle.cts_model.specs.Judgements.{HasShape}
-use Rattle.cts_model.specs.Points.{rotated}
-use Rattle.cts_model.specs.Shown.{AtEach}
-use Rattle.cts_model.specs.Topologies.{IsMerge, source_of}
+use Rattle.cts_model.specs.tree.Embeddings.{Embedding}
+use Rattle.cts_model.specs.report.Judgements.{HasShape}
+use Rattle.cts_model.specs.placement.Points.{rotated}
+use Rattle.cts_model.specs.report.Shown.{AtEach}
+use Rattle.cts_model.specs.tree.Topologies.{IsMerge, source_of}
 use Rattle.cert_check.specs.EmbeddingParts.{JoinsAt, StandsAt}
 use Rattle.cert_check.specs.Judged.{FailsFirst}
 use Rattle.cert_check.proofs.MarkLemmas.{if_some, some_if}

@@ -10,11 +10,11 @@ use Rattle.cts_model.specs.declared.place.Uv.{Uv}
 use Rattle.cts_model.specs.declared.tree.Merge.{Merge}
 use Rattle.cts_model.specs.declared.tree.Show.{Show}
 use Rattle.cts_model.specs.declared.tree.Show.TheVariants as shows
-use Rattle.cts_model.specs.Points.{IsBelow}
-use Rattle.cts_model.specs.Regions.{span}
-use Rattle.cts_model.specs.ReportBounds.{ShowsAmong}
-use Rattle.cts_model.specs.ShownReaches.{ShowsMerge, ShowsSource}
-use Rattle.cts_model.specs.Topologies.{numbers_below}
+use Rattle.cts_model.specs.placement.Points.{IsBelow}
+use Rattle.cts_model.specs.tree.Regions.{span}
+use Rattle.cts_model.specs.report.ReportBounds.{ShowsAmong}
+use Rattle.cts_model.specs.tree.ShownReaches.{ShowsMerge, ShowsSource}
+use Rattle.cts_model.specs.tree.Topologies.{numbers_below}
 use Rattle.cert_check.specs.declared.order.SinkOrder.{SinkOrder}
 use Rattle.cert_check.specs.ReachParts.{IsLevel, ShowsPlaced}
 use Rattle.cert_check.specs.SinkOrders.{IsSinkOrder}

@@ -10,10 +10,10 @@ use Rattle.cts_model.specs.declared.circuit.Circuit.{Circuit}
 use Rattle.cts_model.specs.declared.schedule.Schedule.{Schedule}
 use Rattle.cts_model.specs.declared.schedule.Slack.{Slack}
 use Rattle.cts_model.specs.declared.tech.Tech.{Tech}
-use Rattle.cts_model.specs.Judgements.{HasSlack, MeetsAt}
-use Rattle.cts_model.specs.Paths.{IsPath}
-use Rattle.cts_model.specs.Schedules.{arrival_of}
-use Rattle.cts_model.specs.Slacks.{AreSlacks, IsSlack, IsSlackOf, hold_spare, setup_spare}
+use Rattle.cts_model.specs.report.Judgements.{HasSlack, MeetsAt}
+use Rattle.cts_model.specs.netlist.Paths.{IsPath}
+use Rattle.cts_model.specs.timing.Schedules.{arrival_of}
+use Rattle.cts_model.specs.timing.Slacks.{AreSlacks, IsSlack, IsSlackOf, hold_spare, setup_spare}
 use Rattle.cert_check.specs.ComparedSlacks.{AreOneSlack, HasOneSlack, HasSlackRoom, IsFromZero, SparesTime}
 
 -- ---- fractions that are numbers over a scale

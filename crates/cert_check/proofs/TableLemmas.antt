@@ -4,8 +4,8 @@ use Rattle.std.proofs.lemmas.Bool.{cases_lt}
 use Rattle.std.proofs.lemmas.List.{get_or_past}
 use Rattle.std.proofs.lemmas.Int.{ints}
 use Rattle.cts_model.specs.declared.tech.GateDelay.{GateDelay}
-use Rattle.cts_model.specs.Delays.{no_delay}
-use Rattle.cts_model.specs.Tables.{IsGateDelay, IsWithin}
+use Rattle.cts_model.specs.timing.Delays.{no_delay}
+use Rattle.cts_model.specs.table.Tables.{IsGateDelay, IsWithin}
 
 -- a row of no gates has the facts of every row
 no_delay_valid : IsGateDelay no_delay

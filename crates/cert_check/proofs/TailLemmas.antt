@@ -4,8 +4,8 @@ use Rattle.std.specs.Prelude.{slice_get}
 use Rattle.std.proofs.lemmas.Bool.{cases_lt, cases_eq}
 use Rattle.std.proofs.lemmas.List.{get_or-set_same, get_or-set_other, length-set}
 use Rattle.cts_model.specs.declared.constraint.Constraint.{Constraint}
-use Rattle.cts_model.specs.Judgements.{HoldsTogether}
-use Rattle.cts_model.specs.Shown.{AtEach}
+use Rattle.cts_model.specs.report.Judgements.{HoldsTogether}
+use Rattle.cts_model.specs.report.Shown.{AtEach}
 use Rattle.cert_check.specs.CyclePlaces.{AreTailsBefore, BeginsBefore}
 use Rattle.cert_check.proofs.FirstPlaces.{each_more}
 

@@ -8,8 +8,8 @@ use Rattle.std.proofs.lemmas.List.{take_rest}
 use Rattle.std.proofs.lemmas.List.Elements.{All-cons}
 use Rattle.std.proofs.lemmas.List.Kept.{AllPairs-cons}
 use Rattle.cts_model.specs.declared.place.Point.{Point}
-use Rattle.cts_model.specs.DrawnWires.{AreApart, IsDrawn, Piece, pieces, total}
-use Rattle.cts_model.specs.Points.{IsBelow, IsPointBelow, apart, distance}
+use Rattle.cts_model.specs.tree.DrawnWires.{AreApart, IsDrawn, Piece, pieces, total}
+use Rattle.cts_model.specs.placement.Points.{IsBelow, IsPointBelow, apart, distance}
 use Rattle.cert_check.specs.DrawnParts.{AreEnds, IsWay, piece}
 
 -- the point that stands where there is none

@@ -1,8 +1,8 @@
 -- What the constraints of a cycle sum to, and how large that is.
 use Rattle.std.specs.Prelude.{◌≡◌, ◌^◌, List, pos}
 use Rattle.cts_model.specs.declared.constraint.Constraint.{Constraint}
-use Rattle.cts_model.specs.Cycles.{total_count, total_weight}
-use Rattle.cts_model.specs.Points.{IsBelow}
+use Rattle.cts_model.specs.timing.Cycles.{total_count, total_weight}
+use Rattle.cts_model.specs.placement.Points.{IsBelow}
 use Rattle.cert_check.specs.declared.value.Sums.{Sums}
 
 pub record AreSumsOf (cycle : List Constraint) (sums : Sums) : Type 0 where

@@ -4,10 +4,10 @@ use Rattle.cts_model.specs.declared.place.Sink.{Sink}
 use Rattle.cts_model.specs.declared.tree.Merge.{Merge}
 use Rattle.cts_model.specs.declared.tree.Tree.{Tree}
 use Rattle.cts_model.specs.declared.tree.Wire.{Wire}
-use Rattle.cts_model.specs.DrawnWires.{IsDrawn}
-use Rattle.cts_model.specs.Embeddings.{Embedding}
-use Rattle.cts_model.specs.Points.{IsBelow, IsPointBelow, distance, rotated}
-use Rattle.cts_model.specs.Topologies.{IsMerge}
+use Rattle.cts_model.specs.tree.DrawnWires.{IsDrawn}
+use Rattle.cts_model.specs.tree.Embeddings.{Embedding}
+use Rattle.cts_model.specs.placement.Points.{IsBelow, IsPointBelow, distance, rotated}
+use Rattle.cts_model.specs.tree.Topologies.{IsMerge}
 use Rattle.cert_check.specs.Parents.{parent_at}
 
 -- the sink of that number stands at its given place

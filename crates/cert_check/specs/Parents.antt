@@ -1,7 +1,7 @@
 -- The parents of the nodes of a topology, as a list: Boese and Kahng 1992; Chao and others 1992.
 use Rattle.std.specs.Prelude.{◌≡◌, ◌<◌, ℕ, List, length, slice_index_or}
 use Rattle.cts_model.specs.declared.tree.Merge.{Merge}
-use Rattle.cts_model.specs.Topologies.{IsParent, source_of}
+use Rattle.cts_model.specs.tree.Topologies.{IsParent, source_of}
 
 -- what the list has at a node's number
 abbrev pub parent_at : List ℕ → ℕ → ℕ

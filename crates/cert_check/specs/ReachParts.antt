@@ -7,12 +7,12 @@ use Rattle.cts_model.specs.declared.report.Report.{Report}
 use Rattle.cts_model.specs.declared.tree.Show.{Show}
 use Rattle.cts_model.specs.declared.tree.Show.TheVariants as shows
 use Rattle.cts_model.specs.declared.tree.Tree.{Tree}
-use Rattle.cts_model.specs.Points.{IsBelow, IsUvBelow}
-use Rattle.cts_model.specs.Regions.{span}
-use Rattle.cts_model.specs.ReportBounds.{ShowsAmong}
-use Rattle.cts_model.specs.ReportLines.{number_at}
-use Rattle.cts_model.specs.ShownReaches.{ShowsMerge, ShowsSource}
-use Rattle.cts_model.specs.Topologies.{IsTopology, numbers_below, root_of, source_of}
+use Rattle.cts_model.specs.placement.Points.{IsBelow, IsUvBelow}
+use Rattle.cts_model.specs.tree.Regions.{span}
+use Rattle.cts_model.specs.report.ReportBounds.{ShowsAmong}
+use Rattle.cts_model.specs.report.ReportLines.{number_at}
+use Rattle.cts_model.specs.tree.ShownReaches.{ShowsMerge, ShowsSource}
+use Rattle.cts_model.specs.tree.Topologies.{IsTopology, numbers_below, root_of, source_of}
 use Rattle.cert_check.specs.declared.order.SinkOrder.{SinkOrder}
 use Rattle.cert_check.specs.SinkOrders.{IsInOrder}
 

@@ -1,7 +1,7 @@
 ghost use Rattle.std.specs.Prelude.{◌≡◌, ◌<◌, ◌≤◌, ◌+◌, ◌*◌, ◌^◌, All, IfOk, length};
-ghost use Rattle.cts_model.specs.Points.{IsBelow};
-ghost use Rattle.cts_model.specs.ReportLines.{number_at};
-ghost use Rattle.cts_model.specs.Topologies.{IsTopology};
+ghost use Rattle.cts_model.specs.placement.Points.{IsBelow};
+ghost use Rattle.cts_model.specs.report.ReportLines.{number_at};
+ghost use Rattle.cts_model.specs.tree.Topologies.{IsTopology};
 ghost use Rattle.cert_check.specs.SinkOrders.{AreSizes, AreSteps, IsSinkOrder};
 
 use crate::down::{sum, wires_down};

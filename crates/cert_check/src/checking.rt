@@ -1,7 +1,7 @@
 ghost use Rattle.std.specs.Prelude.{◌≡◌, ◌↔◌, IfOk};
-ghost use Rattle.cts_model.specs.ReportBounds.{IsOfSize, IsWithinBounds};
-ghost use Rattle.cts_model.specs.SaidReports.{ShowsWhatItSays};
-ghost use Rattle.cts_model.specs.Shown.{IsShown, ShowsLeast};
+ghost use Rattle.cts_model.specs.report.ReportBounds.{IsOfSize, IsWithinBounds};
+ghost use Rattle.cts_model.specs.report.SaidReports.{ShowsWhatItSays};
+ghost use Rattle.cts_model.specs.report.Shown.{IsShown, ShowsLeast};
 ghost use Rattle.path_delays.specs.LevelParts.{IsLevelsOf};
 ghost use Rattle.cert_check.specs.declared.verdict.Verdict.{Verdict};
 ghost use Rattle.cert_check.specs.Judged.{verdict_of};

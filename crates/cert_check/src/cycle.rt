@@ -1,5 +1,5 @@
 ghost use Rattle.std.specs.Prelude.{◌≡◌, ◌<◌, ◌≤◌, ◌↔◌, All, IfOk, IsTrue, Some, length, slice_get};
-ghost use Rattle.cts_model.specs.Judgements.{HoldsTogether, next_place};
+ghost use Rattle.cts_model.specs.report.Judgements.{HoldsTogether, next_place};
 ghost use Rattle.cert_check.specs.CyclePlaces.{AreTailsBefore};
 ghost use Rattle.cert_check.specs.Judged.{FindsFirst};
 

@@ -1,10 +1,10 @@
 ghost use Rattle.std.specs.Prelude.{◌≡◌, ◌<◌, ◌≤◌, ◌^◌, All, IsTrue, Some, drop, length, pos, slice_get, if◌then◌else◌, ◌+ℤ◌, ◌*ℤ◌};
-ghost use Rattle.cts_model.specs.Delays.{delay_of};
-ghost use Rattle.cts_model.specs.Kinds.{is_gate, is_valid};
-ghost use Rattle.cts_model.specs.Kinds as places;
-ghost use Rattle.cts_model.specs.Paths.{IsGate};
-ghost use Rattle.cts_model.specs.Points.{IsBelow};
-ghost use Rattle.cts_model.specs.Tables.{IsGateDelay, IsWithin};
+ghost use Rattle.cts_model.specs.timing.Delays.{delay_of};
+ghost use Rattle.cts_model.specs.netlist.Kinds.{is_gate, is_valid};
+ghost use Rattle.cts_model.specs.netlist.Kinds as places;
+ghost use Rattle.cts_model.specs.netlist.Paths.{IsGate};
+ghost use Rattle.cts_model.specs.placement.Points.{IsBelow};
+ghost use Rattle.cts_model.specs.table.Tables.{IsGateDelay, IsWithin};
 ghost use Rattle.cert_check.specs.WalkedPaths.{delay_by, gate_delay_by, through_by};
 
 use crate::path::signal_at;

@@ -1,8 +1,8 @@
 ghost use Rattle.std.specs.Prelude.{◌≡◌, ◌<◌, ◌≤◌, ◌+◌, ◌*◌, ◌^◌, ◌+ℤ◌, ◌-ℤ◌, ◌↔◌, All, IfOk, IsTrue, length, slice_set};
-ghost use Rattle.cts_model.specs.Embeddings.{AreWiresDown};
-ghost use Rattle.cts_model.specs.Points.{IsBelow};
-ghost use Rattle.cts_model.specs.ReportLines.{number_at};
-ghost use Rattle.cts_model.specs.Topologies.{IsTopology};
+ghost use Rattle.cts_model.specs.tree.Embeddings.{AreWiresDown};
+ghost use Rattle.cts_model.specs.placement.Points.{IsBelow};
+ghost use Rattle.cts_model.specs.report.ReportLines.{number_at};
+ghost use Rattle.cts_model.specs.tree.Topologies.{IsTopology};
 
 use cts_base::{Listed, NoMemory};
 use cts_model::Merge;

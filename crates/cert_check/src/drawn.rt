@@ -1,7 +1,7 @@
 ghost use Rattle.std.specs.Prelude.{◌≡◌, ◌↔◌, ◌≤◌, ◌*◌, ◌+◌, ◌^◌, ◌∷◌, pos, ◌≤ℤ◌, All, AllPairs, IsTrue, length, take};
-ghost use Rattle.cts_model.specs.DrawnWires.{AreApart, IsDrawn, IsStraight, pieces, total};
-ghost use Rattle.cts_model.specs.Points.{IsPointBelow};
-ghost use Rattle.cts_model.specs.ReportBounds.{IsSmallWire};
+ghost use Rattle.cts_model.specs.tree.DrawnWires.{AreApart, IsDrawn, IsStraight, pieces, total};
+ghost use Rattle.cts_model.specs.placement.Points.{IsPointBelow};
+ghost use Rattle.cts_model.specs.report.ReportBounds.{IsSmallWire};
 ghost use Rattle.cert_check.specs.DrawnParts.{AreEnds, IsFree, IsLong, IsWay, Share, greatest_common, least_common, piece};
 
 use cts_model::{Point, Wire, manhattan};

@@ -2,10 +2,10 @@ ghost use Rattle.std.specs.Prelude.{◌≡◌, ◌≤◌, ◌^◌, All, IfOk, le
 ghost use Rattle.cts_model.specs.declared.circuit.Circuit.{Circuit};
 ghost use Rattle.cts_model.specs.declared.tech.Tech.{Tech};
 ghost use Rattle.cts_model.specs.declared.report.Version.TheVariants as version;
-ghost use Rattle.cts_model.specs.Judgements.{IsEarliest};
-ghost use Rattle.cts_model.specs.Points.{IsBelow};
-ghost use Rattle.cts_model.specs.ReportBounds.{IsOfSize, IsSmallLead, IsWithinBounds, LeadsAmong};
-ghost use Rattle.cts_model.specs.Schedules.{IsSmallPeriod};
+ghost use Rattle.cts_model.specs.report.Judgements.{IsEarliest};
+ghost use Rattle.cts_model.specs.placement.Points.{IsBelow};
+ghost use Rattle.cts_model.specs.report.ReportBounds.{IsOfSize, IsSmallLead, IsWithinBounds, LeadsAmong};
+ghost use Rattle.cts_model.specs.timing.Schedules.{IsSmallPeriod};
 ghost use Rattle.path_delays.specs.LevelParts.{IsLevelsOf};
 ghost use Rattle.cert_check.specs.Earliest.{constraint_of};
 ghost use Rattle.cert_check.specs.GivenConstraints.{AreOfCircuit};

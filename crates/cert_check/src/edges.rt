@@ -1,8 +1,8 @@
 ghost use Rattle.std.specs.Prelude.{◌≡◌, ◌↔◌, ◌≤◌, ◌<◌, ◌^◌, ◌≤ℤ◌, All, IsTrue, Some, length, slice_get, take};
-ghost use Rattle.cts_model.specs.DrawnWires.{IsDrawn};
-ghost use Rattle.cts_model.specs.Embeddings.{embedding_of};
-ghost use Rattle.cts_model.specs.Points.{IsBelow, IsPointBelow, distance};
-ghost use Rattle.cts_model.specs.ReportBounds.{IsSmallWire};
+ghost use Rattle.cts_model.specs.tree.DrawnWires.{IsDrawn};
+ghost use Rattle.cts_model.specs.tree.Embeddings.{embedding_of};
+ghost use Rattle.cts_model.specs.placement.Points.{IsBelow, IsPointBelow, distance};
+ghost use Rattle.cts_model.specs.report.ReportBounds.{IsSmallWire};
 ghost use Rattle.cert_check.specs.EmbeddingParts.{DrawnAt, HasEdges, ReachesAt};
 ghost use Rattle.cert_check.specs.Judged.{FindsFirst};
 

@@ -1,10 +1,10 @@
 ghost use Rattle.std.specs.Prelude.{◌≡◌, ◌⊎◌, ◌<◌, ◌≤◌, ◌↔◌, ◌^◌, [], All, IsTrue, Some, drop, length, slice_get, ◌+ℤ◌, ◌-ℤ◌};
-ghost use Rattle.cts_model.specs.ConstraintPaths.{GivesWeight};
-ghost use Rattle.cts_model.specs.Delays.{greatest_delay, least_delay};
-ghost use Rattle.cts_model.specs.Judgements.{IsGivenPath};
-ghost use Rattle.cts_model.specs.Paths.{IsGate, IsPath};
-ghost use Rattle.cts_model.specs.Points.{IsBelow};
-ghost use Rattle.cts_model.specs.ReportBounds.{HasSmallWeight, IsBetweenRegisters};
+ghost use Rattle.cts_model.specs.timing.ConstraintPaths.{GivesWeight};
+ghost use Rattle.cts_model.specs.timing.Delays.{greatest_delay, least_delay};
+ghost use Rattle.cts_model.specs.report.Judgements.{IsGivenPath};
+ghost use Rattle.cts_model.specs.netlist.Paths.{IsGate, IsPath};
+ghost use Rattle.cts_model.specs.placement.Points.{IsBelow};
+ghost use Rattle.cts_model.specs.report.ReportBounds.{HasSmallWeight, IsBetweenRegisters};
 ghost use Rattle.cert_check.specs.Judged.{FindsFirst};
 
 use crate::cycle::constraint_at;

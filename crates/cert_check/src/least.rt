@@ -1,12 +1,12 @@
 ghost use Rattle.std.specs.Prelude.{◌≡◌, ◌<◌, ◌≤◌, ◌↔◌, ◌^◌, pos, ◌-ℤ◌, ◌*ℤ◌, All, IfOk, IsTrue, length, map};
 ghost use Rattle.cts_model.specs.declared.circuit.Circuit.{Circuit};
 ghost use Rattle.cts_model.specs.declared.tech.Tech.{Tech};
-ghost use Rattle.cts_model.specs.Constraints.{IsConstraintOf, count_of};
-ghost use Rattle.cts_model.specs.Judgements.{IsEarliest};
-ghost use Rattle.cts_model.specs.Leads.{IsTight, ShowsEarliest, depth_of, lead_at};
-ghost use Rattle.cts_model.specs.Points.{IsBelow};
-ghost use Rattle.cts_model.specs.ReportBounds.{HasSmallWeight, IsBetweenRegisters, IsSmallLead, LeadsAmong};
-ghost use Rattle.cts_model.specs.Schedules.{IsSmallPeriod, arrival_of};
+ghost use Rattle.cts_model.specs.timing.Constraints.{IsConstraintOf, count_of};
+ghost use Rattle.cts_model.specs.report.Judgements.{IsEarliest};
+ghost use Rattle.cts_model.specs.timing.Leads.{IsTight, ShowsEarliest, depth_of, lead_at};
+ghost use Rattle.cts_model.specs.placement.Points.{IsBelow};
+ghost use Rattle.cts_model.specs.report.ReportBounds.{HasSmallWeight, IsBetweenRegisters, IsSmallLead, LeadsAmong};
+ghost use Rattle.cts_model.specs.timing.Schedules.{IsSmallPeriod, arrival_of};
 ghost use Rattle.cert_check.specs.Earliest.{constraint_of};
 
 use crate::product::{are_same, difference, product};

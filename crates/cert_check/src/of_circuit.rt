@@ -1,11 +1,11 @@
 ghost use Rattle.std.specs.Prelude.{◌≡◌, ◌<◌, ◌≤◌, ◌↔◌, ◌^◌, All, IfOk, IsTrue, Some, length, map, slice_get, slice_index_or, false};
 ghost use Rattle.std.specs.Option.{IfSome};
 ghost use Rattle.cts_model.specs.declared.circuit.Circuit.{Circuit};
-ghost use Rattle.cts_model.specs.Constraints.{IsConstraintOf};
-ghost use Rattle.cts_model.specs.Judgements.{IsOfCircuit};
-ghost use Rattle.cts_model.specs.PairLists.{IsSmallPair};
-ghost use Rattle.cts_model.specs.Points.{IsBelow};
-ghost use Rattle.cts_model.specs.ReportBounds.{HasSmallWeight, IsBetweenRegisters};
+ghost use Rattle.cts_model.specs.timing.Constraints.{IsConstraintOf};
+ghost use Rattle.cts_model.specs.report.Judgements.{IsOfCircuit};
+ghost use Rattle.cts_model.specs.timing.PairLists.{IsSmallPair};
+ghost use Rattle.cts_model.specs.placement.Points.{IsBelow};
+ghost use Rattle.cts_model.specs.report.ReportBounds.{HasSmallWeight, IsBetweenRegisters};
 ghost use Rattle.path_delays.specs.JoinedPairs.{IsJoinedBy};
 ghost use Rattle.path_delays.specs.LevelParts.{IsLevelsOf};
 ghost use Rattle.cert_check.specs.GivenConstraints.{AreOfCircuit, pair_of, weight_by};

@@ -11,7 +11,7 @@ pub(crate) struct SinkOrder {
 
 impl SinkOrder {
     ghost use Rattle.std.specs.Prelude.{◌<◌, ◌^◌, ◌↔◌, IsTrue, All, length};
-    ghost use Rattle.cts_model.specs.Points.{IsBelow};
+    ghost use Rattle.cts_model.specs.placement.Points.{IsBelow};
     ghost use Rattle.cert_check.specs.SinkOrders.{IsInOrder};
 
     /// Whether a sink is placed below a node.

@@ -1,6 +1,6 @@
 ghost use Rattle.std.specs.Prelude.{◌≡◌, ◌<◌, ◌↔◌, All, IsTrue, Some, length, slice_get};
-ghost use Rattle.cts_model.specs.Kinds as kinds;
-ghost use Rattle.cts_model.specs.Paths.{Captures, IsPath, Launches, Reads};
+ghost use Rattle.cts_model.specs.netlist.Kinds as kinds;
+ghost use Rattle.cts_model.specs.netlist.Paths.{Captures, IsPath, Launches, Reads};
 ghost use Rattle.cert_check.specs.WalkedPaths.{LeadsTo};
 
 use cts_model::{Circuit, Kind, Signal};

@@ -1,9 +1,9 @@
 ghost use Rattle.std.specs.Prelude.{◌≡◌, ◌↔◌, IfOk, IsTrue};
-ghost use Rattle.cts_model.specs.Judgements.{IsFromFloor};
-ghost use Rattle.cts_model.specs.ReportBounds.{IsOfSize, IsWithinBounds};
-ghost use Rattle.cts_model.specs.Schedules.{IsSmallPeriod};
-ghost use Rattle.cts_model.specs.Shown.{cycle_of};
-ghost use Rattle.cts_model.specs.Slacks.{AreSlacks};
+ghost use Rattle.cts_model.specs.report.Judgements.{IsFromFloor};
+ghost use Rattle.cts_model.specs.report.ReportBounds.{IsOfSize, IsWithinBounds};
+ghost use Rattle.cts_model.specs.timing.Schedules.{IsSmallPeriod};
+ghost use Rattle.cts_model.specs.report.Shown.{cycle_of};
+ghost use Rattle.cts_model.specs.timing.Slacks.{AreSlacks};
 ghost use Rattle.path_delays.specs.LevelParts.{IsLevelsOf};
 ghost use Rattle.cert_check.specs.Verdicts.{PeriodFound};
 

@@ -1,5 +1,5 @@
 ghost use Rattle.std.specs.Prelude.{◌≡◌, ◌↔◌, ◌^◌, ◌-ℤ◌, ◌*ℤ◌, IsTrue};
-ghost use Rattle.cts_model.specs.Points.{IsBelow};
+ghost use Rattle.cts_model.specs.placement.Points.{IsBelow};
 
 /// The product of two numbers.
 pub(crate) fn product(a: i128, b: i128) -> i128

@@ -1,11 +1,11 @@
 ghost use Rattle.std.specs.Prelude.{◌≡◌, ◌<◌, ◌≤◌, ◌+◌, ◌*◌, ◌^◌, ◌↔◌, IsTrue, pos, All, IfOk, length, slice_index_or};
-ghost use Rattle.cts_model.specs.Embeddings.{embedding_of, total_length};
-ghost use Rattle.cts_model.specs.Judgements.{IsReachShown, IsSkewed};
-ghost use Rattle.cts_model.specs.Points.{IsBelow, IsUvBelow};
-ghost use Rattle.cts_model.specs.ReportBounds.{IsOfSize, IsWithinBounds};
-ghost use Rattle.cts_model.specs.ReportLines.{number_at};
-ghost use Rattle.cts_model.specs.Shown.{sinks_in};
-ghost use Rattle.cts_model.specs.Topologies.{IsTopology};
+ghost use Rattle.cts_model.specs.tree.Embeddings.{embedding_of, total_length};
+ghost use Rattle.cts_model.specs.report.Judgements.{IsReachShown, IsSkewed};
+ghost use Rattle.cts_model.specs.placement.Points.{IsBelow, IsUvBelow};
+ghost use Rattle.cts_model.specs.report.ReportBounds.{IsOfSize, IsWithinBounds};
+ghost use Rattle.cts_model.specs.report.ReportLines.{number_at};
+ghost use Rattle.cts_model.specs.report.Shown.{sinks_in};
+ghost use Rattle.cts_model.specs.tree.Topologies.{IsTopology};
 ghost use Rattle.cert_check.specs.Judged.{FindsFirst};
 ghost use Rattle.cert_check.specs.ReachParts.{HasReachParts, IsLevel, IsSmallSink};
 ghost use Rattle.cert_check.specs.Verdicts.{ReachesFound};

@@ -1,7 +1,7 @@
 ghost use Rattle.std.specs.Prelude.{◌≡◌, ◌≢◌, ◌↔◌, ◌≤◌, ◌<◌, ◌+◌, ◌*◌, ◌^◌, All, IfOk, IsTrue, length, slice_index_or};
-ghost use Rattle.cts_model.specs.Embeddings.{embedding_of};
-ghost use Rattle.cts_model.specs.Judgements.{HasShape};
-ghost use Rattle.cts_model.specs.Points.{IsPointBelow, rotated};
+ghost use Rattle.cts_model.specs.tree.Embeddings.{embedding_of};
+ghost use Rattle.cts_model.specs.report.Judgements.{HasShape};
+ghost use Rattle.cts_model.specs.placement.Points.{IsPointBelow, rotated};
 ghost use Rattle.cert_check.specs.EmbeddingParts.{IsOfUnmarked, JoinsAt, StandsAt};
 ghost use Rattle.cert_check.specs.Judged.{FindsFirst};
 

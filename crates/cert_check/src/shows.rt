@@ -1,12 +1,12 @@
 ghost use Rattle.std.specs.Prelude.{◌≡◌, ◌<◌, ◌≤◌, ◌+◌, ◌*◌, ◌^◌, ◌↔◌, ◌+ℤ◌, All, IsTrue, IsSomeAnd, length, slice_get};
-ghost use Rattle.cts_model.specs.Embeddings.{embedding_of};
-ghost use Rattle.cts_model.specs.Judgements.{IsReachShown};
-ghost use Rattle.cts_model.specs.Points.{IsBelow, IsUvBelow, apart, rotated_distance};
-ghost use Rattle.cts_model.specs.Regions.{span};
-ghost use Rattle.cts_model.specs.ReportBounds.{ShowsAmong};
-ghost use Rattle.cts_model.specs.ReportLines.{number_at};
-ghost use Rattle.cts_model.specs.ShownReaches.{ShowsMerge, ShowsSource};
-ghost use Rattle.cts_model.specs.Topologies.{numbers_below, root_of, source_of};
+ghost use Rattle.cts_model.specs.tree.Embeddings.{embedding_of};
+ghost use Rattle.cts_model.specs.report.Judgements.{IsReachShown};
+ghost use Rattle.cts_model.specs.placement.Points.{IsBelow, IsUvBelow, apart, rotated_distance};
+ghost use Rattle.cts_model.specs.tree.Regions.{span};
+ghost use Rattle.cts_model.specs.report.ReportBounds.{ShowsAmong};
+ghost use Rattle.cts_model.specs.report.ReportLines.{number_at};
+ghost use Rattle.cts_model.specs.tree.ShownReaches.{ShowsMerge, ShowsSource};
+ghost use Rattle.cts_model.specs.tree.Topologies.{numbers_below, root_of, source_of};
 ghost use Rattle.cert_check.specs.ReachParts.{ArePlaced, HasReachParts, IsMergeShown, IsPairPlaced, IsReachOver, IsSmallSink, IsSourceShown, ShowsPlaced};
 ghost use Rattle.cert_check.specs.SinkOrders.{IsSinkOrder};
 

@@ -1,9 +1,9 @@
 ghost use Rattle.std.specs.Prelude.{◌≡◌, ◌≤◌, ◌^◌, ◌*ℤ◌, All, IfOk, length, unsigned_abs};
-ghost use Rattle.cts_model.specs.Points.{IsBelow, IsPointBelow, rotated};
-ghost use Rattle.cts_model.specs.Problems.{on_grid, scheduled_length, sink_of, sinks_of, steps_of_micro};
-ghost use Rattle.cts_model.specs.ReportBounds.{IsOfSize, IsWithinBounds};
-ghost use Rattle.cts_model.specs.Schedules.{IsSmallPeriod};
-ghost use Rattle.cts_model.specs.Shown.{sinks_in, source_in};
+ghost use Rattle.cts_model.specs.placement.Points.{IsBelow, IsPointBelow, rotated};
+ghost use Rattle.cts_model.specs.tree.Problems.{on_grid, scheduled_length, sink_of, sinks_of, steps_of_micro};
+ghost use Rattle.cts_model.specs.report.ReportBounds.{IsOfSize, IsWithinBounds};
+ghost use Rattle.cts_model.specs.timing.Schedules.{IsSmallPeriod};
+ghost use Rattle.cts_model.specs.report.Shown.{sinks_in, source_in};
 
 use cts_base::{Fraction, NoMemory};
 use cts_model::{Point, Problem, Report, Sink, Tech, Uv};

@@ -1,6 +1,6 @@
 ghost use Rattle.std.specs.Prelude.{◌≡◌, ◌<◌, ◌≤◌, ◌↔◌, IsTrue, Some, length, slice_get};
-ghost use Rattle.cts_model.specs.ReportBounds.{IsOfSize};
-ghost use Rattle.cts_model.specs.Slacks.{AreSlacks};
+ghost use Rattle.cts_model.specs.report.ReportBounds.{IsOfSize};
+ghost use Rattle.cts_model.specs.timing.Slacks.{AreSlacks};
 ghost use Rattle.cert_check.specs.Judged.{FindsFirst};
 ghost use Rattle.cert_check.specs.Verdicts.{SlacksFound};
 ghost use Rattle.cert_check.specs.ComparedSlacks.{AreOneSlack, HasOneSlack, HasSlackRoom, IsFromZero, SparesTime};

@@ -1,11 +1,11 @@
 ghost use Rattle.std.specs.Prelude.{◌≡◌, ◌≤◌, ◌↔◌, ◌^◌, IsTrue, All, length, pos, ◌+ℤ◌, ◌*ℤ◌, ◌≤ℤ◌};
-ghost use Rattle.cts_model.specs.Constraints.{count_of};
-ghost use Rattle.cts_model.specs.Cycles.{total_count, total_weight};
-ghost use Rattle.cts_model.specs.Judgements.{GivesPeriod};
-ghost use Rattle.cts_model.specs.LeastPeriods.{IsFloorPeriod};
-ghost use Rattle.cts_model.specs.Points.{IsBelow};
-ghost use Rattle.cts_model.specs.ReportBounds.{HasSmallWeight, HasSmallWeights};
-ghost use Rattle.cts_model.specs.Schedules.{IsSmallPeriod};
+ghost use Rattle.cts_model.specs.timing.Constraints.{count_of};
+ghost use Rattle.cts_model.specs.timing.Cycles.{total_count, total_weight};
+ghost use Rattle.cts_model.specs.report.Judgements.{GivesPeriod};
+ghost use Rattle.cts_model.specs.timing.LeastPeriods.{IsFloorPeriod};
+ghost use Rattle.cts_model.specs.placement.Points.{IsBelow};
+ghost use Rattle.cts_model.specs.report.ReportBounds.{HasSmallWeight, HasSmallWeights};
+ghost use Rattle.cts_model.specs.timing.Schedules.{IsSmallPeriod};
 ghost use Rattle.cert_check.specs.CycleSums.{AreSumsOf};
 
 use crate::product::{are_same, product};

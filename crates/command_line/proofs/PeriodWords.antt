@@ -19,7 +19,7 @@ use Rattle.cts_base.proofs.GreatestDivisors.{quotient_text_is, up_to_second}
 use Rattle.cts_base.proofs.OneNumberText.{AreDigits, decimal_digits}
 use Rattle.cts_base.proofs.Quotients.{lowest_quotients}
 use Rattle.cts_model.proofs.ScaleLemmas.{size_same}
-use Rattle.cts_model.specs.Schedules.{IsMarginPeriod}
+use Rattle.cts_model.specs.timing.Schedules.{IsMarginPeriod}
 use Rattle.command_line.specs.CommandTable.{Word}
 use Rattle.command_line.specs.Commands.{is_file_name, is_period, spells_quotient}
 

@@ -10,7 +10,7 @@ use Rattle.std.proofs.Math.Seq.{get_or-append_seam}
 use Rattle.cts_model.specs.declared.circuit.Circuit.{Circuit}
 use Rattle.cts_model.specs.declared.constraint.Constraint.{Constraint}
 use Rattle.cts_model.specs.declared.tech.Tech.{Tech}
-use Rattle.cts_model.specs.Constraints.{IsConstraintOf, Satisfies}
+use Rattle.cts_model.specs.timing.Constraints.{IsConstraintOf, Satisfies}
 use Rattle.corners.specs.declared.fold.Combined.{Combined}
 use Rattle.corners.specs.CommonPeriods.{MeetsEach}
 use Rattle.corners.specs.CornerConstraints.{AreCommonConstraints, AreConstraintsBy, IsCombined}

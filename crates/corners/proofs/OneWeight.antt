@@ -5,7 +5,7 @@ use Rattle.std.proofs.lemmas.Int.{ints}
 use Rattle.cts_model.specs.declared.circuit.Circuit.{Circuit}
 use Rattle.cts_model.specs.declared.constraint.Constraint.{Constraint}
 use Rattle.cts_model.specs.declared.tech.Tech.{Tech}
-use Rattle.cts_model.specs.Constraints.{IsSetupConstraint, IsHoldConstraint, IsConstraintOf}
+use Rattle.cts_model.specs.timing.Constraints.{IsSetupConstraint, IsHoldConstraint, IsConstraintOf}
 use Rattle.corners.specs.CornerLists.{AreAlike}
 
 module _ (circuit : Circuit) (tech : Tech) where

@@ -9,10 +9,10 @@ use Rattle.cts_base.specs.declared.fraction.Fraction.{Fraction}
 use Rattle.cts_model.specs.declared.circuit.Circuit.{Circuit}
 use Rattle.cts_model.specs.declared.constraint.Constraint.{Constraint}
 use Rattle.cts_model.specs.declared.tech.Tech.{Tech}
-use Rattle.cts_model.specs.Constraints.{IsConstraintOf, IsSatisfied, Satisfies}
-use Rattle.cts_model.specs.Timing.{Meets}
-use Rattle.cts_model.specs.Cycles.{AdmitsPeriod, IsLeastPeriodOf}
-use Rattle.cts_model.specs.Schedules.{IsSmallPeriod, arrival_of}
+use Rattle.cts_model.specs.timing.Constraints.{IsConstraintOf, IsSatisfied, Satisfies}
+use Rattle.cts_model.specs.timing.Timing.{Meets}
+use Rattle.cts_model.specs.timing.Cycles.{AdmitsPeriod, IsLeastPeriodOf}
+use Rattle.cts_model.specs.timing.Schedules.{IsSmallPeriod, arrival_of}
 use Rattle.cts_model.proofs.CircuitConstraints.{met_constraint}
 use Rattle.cts_model.proofs.CycleLemmas.{forbidden_at_all}
 use Rattle.cts_model.proofs.ScaleLemmas.{scale_le, size_same}

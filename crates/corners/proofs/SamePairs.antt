@@ -6,8 +6,8 @@ use Rattle.std.proofs.lemmas.List.{get_or_default}
 use Rattle.cts_model.specs.declared.circuit.Circuit.{Circuit}
 use Rattle.cts_model.specs.declared.tech.Tech.{Tech}
 use Rattle.cts_model.specs.declared.timing.PairDelay.{PairDelay}
-use Rattle.cts_model.specs.EqualArrivals.{ComesBefore}
-use Rattle.cts_model.specs.PairLists.{AreOrdered, ListsPairs}
+use Rattle.cts_model.specs.timing.EqualArrivals.{ComesBefore}
+use Rattle.cts_model.specs.timing.PairLists.{AreOrdered, ListsPairs}
 
 -- what is read past the end of a list
 abbrev pub no_pair : PairDelay

@@ -4,7 +4,7 @@ use Rattle.std.specs.List.{All}
 use Rattle.std.proofs.lemmas.Int.{ints}
 use Rattle.std.proofs.lemmas.List.{get_or_default}
 use Rattle.cts_model.specs.declared.constraint.Constraint.{Constraint}
-use Rattle.cts_model.specs.Constraints.{IsSatisfied, Satisfies}
+use Rattle.cts_model.specs.timing.Constraints.{IsSatisfied, Satisfies}
 use Rattle.cts_model.proofs.ScaleLemmas.{scale_le}
 use Rattle.corners.specs.CornerLists.{no_constraint, constraint_at, list_of, AreAlike, AreCorners}
 use Rattle.corners.specs.GreatestWeights.{IsCombinedAt}

@@ -3,7 +3,7 @@ use Rattle.std.proofs.Common.{◌<◌, ◌≤◌, ◌≡◌, ℕ, List, [], leng
 use Rattle.std.specs.List.{All}
 use Rattle.std.proofs.lemmas.List.{get_or_default}
 use Rattle.cts_model.specs.declared.constraint.Constraint.{Constraint}
-use Rattle.cts_model.specs.Constraints.{AreSmallConstraints}
+use Rattle.cts_model.specs.timing.Constraints.{AreSmallConstraints}
 use Rattle.corners.specs.CornerLists.{no_constraint, list_of}
 use Rattle.corners.specs.GreatestWeights.{IsCombinedAt}
 

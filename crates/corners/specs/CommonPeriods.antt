@@ -5,8 +5,8 @@ use Rattle.cts_base.specs.declared.fraction.Fraction.{Fraction}
 use Rattle.cts_model.specs.declared.circuit.Circuit.{Circuit}
 use Rattle.cts_model.specs.declared.schedule.Schedule.{Schedule}
 use Rattle.cts_model.specs.declared.tech.Tech.{Tech}
-use Rattle.cts_model.specs.Schedules.{arrival_of, AreFromZero}
-use Rattle.cts_model.specs.Timing.{Meets}
+use Rattle.cts_model.specs.timing.Schedules.{arrival_of, AreFromZero}
+use Rattle.cts_model.specs.timing.Timing.{Meets}
 
 -- the arrivals meet the period over every path, by the table of each corner
 abbrev pub MeetsEach : Circuit → List Tech → (scale : ℕ) (period : ℤ) (arrival : ℕ → ℤ) → Type 0

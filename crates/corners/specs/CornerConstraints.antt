@@ -5,9 +5,9 @@ use Rattle.cts_model.specs.declared.circuit.Circuit.{Circuit}
 use Rattle.cts_model.specs.declared.constraint.Constraint.{Constraint}
 use Rattle.cts_model.specs.declared.tech.Tech.{Tech}
 use Rattle.cts_model.specs.declared.timing.PairDelay.{PairDelay}
-use Rattle.cts_model.specs.Constraints.{AreSmallConstraints, IsConstraintOf, Satisfies}
-use Rattle.cts_model.specs.PairLists.{ListsPairs}
-use Rattle.cts_model.specs.Timing.{Meets}
+use Rattle.cts_model.specs.timing.Constraints.{AreSmallConstraints, IsConstraintOf, Satisfies}
+use Rattle.cts_model.specs.timing.PairLists.{ListsPairs}
+use Rattle.cts_model.specs.timing.Timing.{Meets}
 use Rattle.constraints.specs.PairConstraints.{constraints_of_pairs}
 use Rattle.corners.specs.declared.fold.Combined.{Combined}
 use Rattle.corners.specs.CommonPeriods.{MeetsEach}

@@ -7,8 +7,8 @@ use Rattle.cts_model.specs.declared.constraint.Constraint.{Constraint}
 use Rattle.cts_model.specs.declared.period.PeriodShow.{PeriodShow}
 use Rattle.cts_model.specs.declared.period.PeriodShow.TheVariants.{Cycle, Floor}
 use Rattle.cts_model.specs.declared.tech.Tech.{Tech}
-use Rattle.cts_model.specs.Constraints.{IsConstraintOf}
-use Rattle.cts_model.specs.Cycles.{ShowsPeriod, ForbidsPeriods}
+use Rattle.cts_model.specs.timing.Constraints.{IsConstraintOf}
+use Rattle.cts_model.specs.timing.Cycles.{ShowsPeriod, ForbidsPeriods}
 use Rattle.corners.specs.CornerLists.{AreAlike, constraint_at}
 
 -- the constraint is one of the circuit by the table of the corner

@@ -7,8 +7,8 @@ use Rattle.cts_model.specs.declared.period.PeriodShow.{PeriodShow}
 use Rattle.cts_model.specs.declared.period.PeriodShow.TheVariants.{Cycle, Floor}
 use Rattle.cts_model.specs.declared.schedule.Schedule.{Schedule}
 use Rattle.cts_model.specs.declared.tech.Tech.{Tech}
-use Rattle.cts_model.specs.Points.{IsBelow}
-use Rattle.cts_model.specs.Schedules.{IsSmallPeriod}
+use Rattle.cts_model.specs.placement.Points.{IsBelow}
+use Rattle.cts_model.specs.timing.Schedules.{IsSmallPeriod}
 use Rattle.critical_cycle.specs.CyclePlaces.{IsFromLowest}
 use Rattle.corners.specs.declared.outcome.CornersOutcome.{CornersOutcome}
 use Rattle.corners.specs.declared.outcome.CornersOutcome.TheVariants.{Found, Never}

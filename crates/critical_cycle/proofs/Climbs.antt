@@ -10,7 +10,7 @@ use Rattle.std.proofs.lemmas.List.Kept.{AllPairs-cons}
 use Rattle.std.proofs.lemmas.List.Folds.{Any-from_list_any}
 use Rattle.std.proofs.lemmas.Map.Made.{IsDistinct-from_AllPairs}
 use Rattle.std.proofs.lemmas.Map.Steps.{length-le_from_distinct_below}
-use Rattle.cts_model.specs.Constraints.{AreSmallConstraints, IsSmallConstraint}
+use Rattle.cts_model.specs.timing.Constraints.{AreSmallConstraints, IsSmallConstraint}
 use Rattle.critical_cycle.specs.CyclePlaces.{EndsClimb}
 use Rattle.std.specs.Prelude.{slice_get}
 use Rattle.std.specs.List.{list_any}

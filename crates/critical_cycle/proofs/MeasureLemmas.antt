@@ -6,9 +6,9 @@ use Rattle.std.proofs.lemmas.Nat.{mul-le}
 use Rattle.std.proofs.lemmas.List.Sums.{sum_by-cons}
 use Rattle.cts_base.specs.declared.fraction.Fraction.{Fraction}
 use Rattle.cts_model.specs.declared.constraint.Constraint.{Constraint}
-use Rattle.cts_model.specs.Constraints.{count_of}
-use Rattle.cts_model.specs.Cycles.{total_weight, total_count}
-use Rattle.cts_model.specs.Points.{IsBelow}
+use Rattle.cts_model.specs.timing.Constraints.{count_of}
+use Rattle.cts_model.specs.timing.Cycles.{total_weight, total_count}
+use Rattle.cts_model.specs.placement.Points.{IsBelow}
 use Rattle.critical_cycle.specs.declared.measure.Measure.{Measure}
 use Rattle.critical_cycle.specs.declared.trial.Trial.{Trial}
 use Rattle.critical_cycle.specs.declared.relaxation.Relaxation.{Relaxation}

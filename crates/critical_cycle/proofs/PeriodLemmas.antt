@@ -5,9 +5,9 @@ use Rattle.std.proofs.lemmas.Int.{ints}
 use Rattle.std.proofs.lemmas.List.Elements.{All-contains_itself}
 use Rattle.cts_base.specs.declared.fraction.Fraction.{Fraction}
 use Rattle.cts_model.specs.declared.constraint.Constraint.{Constraint}
-use Rattle.cts_model.specs.Constraints.{Satisfies, count_of}
-use Rattle.cts_model.specs.Cycles.{IsLeastPeriodOf, ShowsPeriod, total_count, total_weight}
-use Rattle.cts_model.specs.Schedules.{IsSmallPeriod}
+use Rattle.cts_model.specs.timing.Constraints.{Satisfies, count_of}
+use Rattle.cts_model.specs.timing.Cycles.{IsLeastPeriodOf, ShowsPeriod, total_count, total_weight}
+use Rattle.cts_model.specs.timing.Schedules.{IsSmallPeriod}
 use Rattle.cts_model.proofs.CycleLemmas.{shown_period_is_least, forbidden_at_all}
 use Rattle.critical_cycle.specs.declared.measure.Measure.{Measure}
 use Rattle.critical_cycle.specs.CyclePlaces.{AreWithin, constraints_at}

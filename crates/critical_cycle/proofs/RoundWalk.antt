@@ -6,11 +6,11 @@ use Rattle.std.proofs.lemmas.List.{length-set, length-append, length-drop, drop-
 use Rattle.std.proofs.lemmas.List.Elements.{All-nil, All-cons, All-head, All-tail}
 use Rattle.std.proofs.lemmas.List.Kept.{AllPairs-cons}
 use Rattle.std.proofs.lemmas.Option.{slice_get_within, get_or_from_slice_get}
-use Rattle.cts_model.specs.Constraints.{AreSmallConstraints}
+use Rattle.cts_model.specs.timing.Constraints.{AreSmallConstraints}
 use Rattle.std.specs.Prelude.{slice_get}
 use Rattle.std.specs.List.{cons_option}
 use Rattle.cts_model.specs.declared.constraint.Constraint.{Constraint}
-use Rattle.cts_model.specs.Cycles.{Leads, IsCycle}
+use Rattle.cts_model.specs.timing.Cycles.{Leads, IsCycle}
 use Rattle.critical_cycle.specs.declared.trial.Trial.{Trial}
 use Rattle.critical_cycle.specs.Trials.{AreParents, parent_of, Climbs, gain_of, total_gain}
 use Rattle.critical_cycle.specs.CyclePlaces.{AreWithin, EndsClimb, constraints_at}

@@ -5,8 +5,8 @@ use Rattle.std.proofs.Math.Nat.{mul-le-mul_left}
 use Rattle.std.proofs.lemmas.Int.{ints, by_lt_z}
 use Rattle.cts_base.specs.declared.fraction.Fraction.{Fraction}
 use Rattle.cts_model.specs.declared.constraint.Constraint.{Constraint}
-use Rattle.cts_model.specs.Constraints.{AreSmallConstraints}
-use Rattle.cts_model.specs.Cycles.{IsCycle}
+use Rattle.cts_model.specs.timing.Constraints.{AreSmallConstraints}
+use Rattle.cts_model.specs.timing.Cycles.{IsCycle}
 use Rattle.critical_cycle.specs.declared.measure.Measure.{Measure}
 use Rattle.critical_cycle.specs.declared.raise.Raise.{Raise}
 use Rattle.critical_cycle.specs.declared.raise.Raise.TheVariants as raise

@@ -5,7 +5,7 @@ use Rattle.std.specs.Bool.{⊤}
 use Rattle.std.proofs.lemmas.Bool.{cases_lt}
 use Rattle.std.proofs.lemmas.Int.{ints}
 use Rattle.cts_model.specs.declared.constraint.Constraint.{Constraint}
-use Rattle.cts_model.specs.Points.{IsBelow}
+use Rattle.cts_model.specs.placement.Points.{IsBelow}
 use Rattle.critical_cycle.specs.declared.trial.Trial.{Trial}
 use Rattle.critical_cycle.specs.declared.relaxation.Relaxation.{Relaxation}
 use Rattle.critical_cycle.specs.Trials.{parent_of}

@@ -6,9 +6,9 @@ use Rattle.std.proofs.lemmas.List.Elements.{All-head, All-tail, All-take, filter
 use Rattle.std.proofs.lemmas.List.Sums.{sum_by-append, sum_by-cons}
 use Rattle.std.specs.Prelude.{slice_get}
 use Rattle.cts_model.specs.declared.constraint.Constraint.{Constraint}
-use Rattle.cts_model.specs.Constraints.{count_of}
-use Rattle.cts_model.specs.Cycles.{total_weight, total_count}
-use Rattle.cts_model.specs.Points.{IsBelow}
+use Rattle.cts_model.specs.timing.Constraints.{count_of}
+use Rattle.cts_model.specs.timing.Cycles.{total_weight, total_count}
+use Rattle.cts_model.specs.placement.Points.{IsBelow}
 use Rattle.critical_cycle.specs.CyclePlaces.{AreWithin, constraints_at}
 use Rattle.critical_cycle.proofs.PlaceLemmas.{constraints_at-cons, length-constraints_at, All-constraints_at}
 use Rattle.critical_cycle.proofs.Turns.{total_weight-append}

@@ -7,8 +7,8 @@ use Rattle.std.proofs.lemmas.List.Elements.{All-append, All-take, All-drop, All-
 use Rattle.std.proofs.lemmas.List.Sums.{sum_by-append}
 use Rattle.std.specs.Prelude.{slice_get, slice_index}
 use Rattle.cts_model.specs.declared.constraint.Constraint.{Constraint}
-use Rattle.cts_model.specs.Constraints.{count_of}
-use Rattle.cts_model.specs.Cycles.{Leads, IsCycle, total_weight, total_count}
+use Rattle.cts_model.specs.timing.Constraints.{count_of}
+use Rattle.cts_model.specs.timing.Cycles.{Leads, IsCycle, total_weight, total_count}
 use Rattle.critical_cycle.specs.CyclePlaces.{AreWithin, IsFromLowest, constraints_at, tail_at}
 use Rattle.critical_cycle.proofs.PlaceLemmas.{from_lowest}
 

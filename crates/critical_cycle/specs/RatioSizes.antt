@@ -1,6 +1,6 @@
 -- How large the numbers are that a search for the greatest ratio works with.
 use Rattle.std.specs.Prelude.{◌*◌, ◌^◌, ℤ, pos, neg_ℤ, ◌+ℤ◌, ◌*ℤ◌, ◌≤ℤ◌, ◌<ℤ◌}
-use Rattle.cts_model.specs.Points.{IsBelow}
+use Rattle.cts_model.specs.placement.Points.{IsBelow}
 
 -- a scale from 1 to 10,000, and a period from 0 on, below 10^15
 pub record IsMeasure (scale period : ℤ) : Type 0 where

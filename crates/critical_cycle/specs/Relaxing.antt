@@ -2,7 +2,7 @@
 -- raised it. Cherkassky and Goldberg, "Negative-cycle detection algorithms", 1999.
 use Rattle.std.specs.Prelude.{◌≡◌, ◌<◌, ℕ, ℤ, ◌+ℤ◌, ◌≤ℤ◌, ◌<ℤ◌, List, All, length, slice_get, slice_set, Option, IfSome, MatchOption}
 use Rattle.cts_model.specs.declared.constraint.Constraint.{Constraint}
-use Rattle.cts_model.specs.Constraints.{AreSmallConstraints}
+use Rattle.cts_model.specs.timing.Constraints.{AreSmallConstraints}
 use Rattle.critical_cycle.specs.declared.trial.Trial.{Trial}
 use Rattle.critical_cycle.specs.declared.relaxation.Relaxation.{Relaxation}
 use Rattle.critical_cycle.specs.Trials.{gain_of, value_of, AreParents, Climbs}

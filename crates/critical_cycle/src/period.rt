@@ -1,6 +1,6 @@
 ghost use Rattle.std.specs.Prelude.{◌≡◌, ◌↔◌, IfOk, length};
-ghost use Rattle.cts_model.specs.Constraints.{AreSmallConstraints};
-ghost use Rattle.cts_model.specs.Cycles.{IsLeastPeriodOf};
+ghost use Rattle.cts_model.specs.timing.Constraints.{AreSmallConstraints};
+ghost use Rattle.cts_model.specs.timing.Cycles.{IsLeastPeriodOf};
 ghost use Rattle.critical_cycle.specs.Periods.{HasForbidding, HasSmallValue, IsFloor, IsNeverPeriod, IsPeriodOf};
 ghost use Rattle.critical_cycle.specs.Floors.{IsSmallFloor};
 

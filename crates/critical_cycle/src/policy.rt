@@ -3,7 +3,7 @@
 //! Dasdan, "Experimental analysis of the fastest optimum cycle ratio and mean algorithms", 2004.
 
 ghost use Rattle.std.specs.Prelude.{◌≡◌, ◌<◌, ◌^◌, All, IsTrue, IfSome, length};
-ghost use Rattle.cts_model.specs.Points.{IsBelow};
+ghost use Rattle.cts_model.specs.placement.Points.{IsBelow};
 ghost use Rattle.critical_cycle.specs.CyclePlaces.{HaveOwnHeads};
 ghost use Rattle.critical_cycle.specs.Relaxing.{HasTrialRoom};
 

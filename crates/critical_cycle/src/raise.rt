@@ -1,5 +1,5 @@
 ghost use Rattle.std.specs.Prelude.{◌≤◌, ◌^◌, All, length};
-ghost use Rattle.cts_model.specs.Points.{IsBelow};
+ghost use Rattle.cts_model.specs.placement.Points.{IsBelow};
 ghost use Rattle.critical_cycle.specs.CyclePlaces.{AreWithin, constraints_at};
 ghost use Rattle.critical_cycle.specs.Measures.{CanTry};
 ghost use Rattle.critical_cycle.specs.Raises.{IsRaise};

@@ -1,5 +1,5 @@
 ghost use Rattle.std.specs.Prelude.{◌≡◌, ◌<◌, ◌++◌, ℕ, drop, length, take};
-ghost use Rattle.cts_model.specs.Constraints.{AreSmallConstraints};
+ghost use Rattle.cts_model.specs.timing.Constraints.{AreSmallConstraints};
 ghost use Rattle.critical_cycle.specs.CyclePlaces.{AreWithin, IsFromLowest, constraints_at};
 ghost use Rattle.critical_cycle.specs.Measures.{CanTry};
 ghost use Rattle.critical_cycle.specs.Ratios.{IsRatioOf};

@@ -1,6 +1,6 @@
 ghost use Rattle.std.specs.Prelude.{◌≡◌, ◌<◌, ◌≤◌, ◌^◌, ℕ, None, List, All, IfSome, MatchOption, length};
 ghost use Rattle.cts_model.specs.declared.constraint.Constraint.{Constraint};
-ghost use Rattle.cts_model.specs.Points.{IsBelow};
+ghost use Rattle.cts_model.specs.placement.Points.{IsBelow};
 
 use crate::trial::Trial;
 use cts_model::Constraint;

@@ -1,7 +1,7 @@
 ghost use Rattle.std.specs.Prelude.{◌≡◌, ◌<◌, ◌≤◌, ◌++◌, ℕ, ℤ, pos, ◌<ℤ◌, List, All, length, take, drop, slice_index, Some};
 ghost use Rattle.cts_model.specs.declared.constraint.Constraint.{Constraint};
-ghost use Rattle.cts_model.specs.Constraints.{AreSmallConstraints};
-ghost use Rattle.cts_model.specs.Cycles.{IsCycle};
+ghost use Rattle.cts_model.specs.timing.Constraints.{AreSmallConstraints};
+ghost use Rattle.cts_model.specs.timing.Cycles.{IsCycle};
 ghost use Rattle.critical_cycle.specs.declared.trial.Trial.{Trial};
 ghost use Rattle.critical_cycle.specs.Trials.{AreParents, parent_of, total_gain};
 ghost use Rattle.critical_cycle.specs.CyclePlaces.{AreWithin, EndsClimb, IsFromLowest, constraints_at, tail_at};

@@ -1,7 +1,7 @@
 ghost use Rattle.std.specs.Prelude.{◌≡◌, ◌<◌, ◌≤◌, false, IsTrue, List, MatchOption, drop, length};
 ghost use Rattle.cts_model.specs.declared.constraint.Constraint.{Constraint};
-ghost use Rattle.cts_model.specs.Constraints.{AreSmallConstraints};
-ghost use Rattle.cts_model.specs.Cycles.{IsCycle};
+ghost use Rattle.cts_model.specs.timing.Constraints.{AreSmallConstraints};
+ghost use Rattle.cts_model.specs.timing.Cycles.{IsCycle};
 ghost use Rattle.critical_cycle.specs.CyclePlaces.{AreWithin, constraints_at};
 ghost use Rattle.critical_cycle.specs.Measures.{CanTry};
 ghost use Rattle.critical_cycle.specs.Searches.{ClosesWithNext, IsAtRing, IsAtShown, IsSameSearch, IsSearch};

@@ -1,7 +1,7 @@
 ghost use Rattle.std.specs.Prelude.{◌≡◌, ◌≤◌, ◌^◌, ◌↔◌, IsTrue, pos, ◌+ℤ◌, ◌-ℤ◌, ◌*ℤ◌, ◌<ℤ◌, if◌then◌else◌, All, length};
-ghost use Rattle.cts_model.specs.Constraints.{count_of};
-ghost use Rattle.cts_model.specs.Cycles.{total_count, total_weight};
-ghost use Rattle.cts_model.specs.Points.{IsBelow};
+ghost use Rattle.cts_model.specs.timing.Constraints.{count_of};
+ghost use Rattle.cts_model.specs.timing.Cycles.{total_count, total_weight};
+ghost use Rattle.cts_model.specs.placement.Points.{IsBelow};
 ghost use Rattle.critical_cycle.specs.CyclePlaces.{AreWithin, constraints_at};
 
 use crate::measure::Measure;

@@ -16,7 +16,7 @@ pub(crate) struct Trial {
 
 impl Trial {
     ghost use Rattle.std.specs.Prelude.{◌≡◌, ◌^◌};
-    ghost use Rattle.cts_model.specs.Points.{IsBelow};
+    ghost use Rattle.cts_model.specs.placement.Points.{IsBelow};
     ghost use Rattle.critical_cycle.specs.Trials.{gain_of};
 
     /// What the constraint asks of the head beyond the tail.

@@ -13,11 +13,11 @@ use Rattle.cts_model.specs.declared.constraint.Constraint.{Constraint}
 use Rattle.cts_model.specs.declared.schedule.Lead.{Lead}
 use Rattle.cts_model.specs.declared.schedule.Lead.TheVariants.{Zero, Tight}
 use Rattle.cts_model.specs.declared.tech.Tech.{Tech}
-use Rattle.cts_model.specs.Constraints.{IsConstraintOf}
-use Rattle.cts_model.specs.Leads.{EachLead, IsLead, lead_at}
-use Rattle.cts_model.specs.LeastPeriods.{IsLeastFraction}
-use Rattle.cts_model.specs.Schedules.{AreFromZero, IsSmallPeriod, arrival_of}
-use Rattle.cts_model.specs.Tables.{IsWithin}
+use Rattle.cts_model.specs.timing.Constraints.{IsConstraintOf}
+use Rattle.cts_model.specs.timing.Leads.{EachLead, IsLead, lead_at}
+use Rattle.cts_model.specs.timing.LeastPeriods.{IsLeastFraction}
+use Rattle.cts_model.specs.timing.Schedules.{AreFromZero, IsSmallPeriod, arrival_of}
+use Rattle.cts_model.specs.table.Tables.{IsWithin}
 use Rattle.schedule.specs.Schedules.{AreWithinWeights, IsAdmittedBy}
 use Rattle.cts_engine.specs.Outcomes.{AreConstraintsOf, HasSmallPairs}
 use Rattle.cts_engine.specs.RegisterTimes.{AreTreeArrivals}

@@ -15,13 +15,13 @@ use Rattle.cts_model.specs.declared.circuit.Circuit.{Circuit}
 use Rattle.cts_model.specs.declared.constraint.Constraint.{Constraint}
 use Rattle.cts_model.specs.declared.signal.Signal.{Signal}
 use Rattle.cts_model.specs.declared.tech.Tech.{Tech}
-use Rattle.cts_model.specs.Circuits.{has_host}
-use Rattle.cts_model.specs.ConstraintPaths.{ArePathsWithin, GivesWeight}
-use Rattle.cts_model.specs.Constraints.{IsConstraintOf}
-use Rattle.cts_model.specs.Cycles.{IsCycle}
-use Rattle.cts_model.specs.Delays.{greatest_delay, least_delay}
-use Rattle.cts_model.specs.Kinds.{is_host}
-use Rattle.cts_model.specs.Paths.{Follows, IsInput, IsPath, Launches}
+use Rattle.cts_model.specs.netlist.Circuits.{has_host}
+use Rattle.cts_model.specs.timing.ConstraintPaths.{ArePathsWithin, GivesWeight}
+use Rattle.cts_model.specs.timing.Constraints.{IsConstraintOf}
+use Rattle.cts_model.specs.timing.Cycles.{IsCycle}
+use Rattle.cts_model.specs.timing.Delays.{greatest_delay, least_delay}
+use Rattle.cts_model.specs.netlist.Kinds.{is_host}
+use Rattle.cts_model.specs.netlist.Paths.{Follows, IsInput, IsPath, Launches}
 use Rattle.cts_model.proofs.PathRegisters.{tails_within}
 use Rattle.cts_model.proofs.TopologyLemmas.{some_and}
 

@@ -7,10 +7,10 @@ use Rattle.std.proofs.Math.Seq.{append_snoc}
 use Rattle.cts_model.specs.declared.circuit.Circuit.{Circuit}
 use Rattle.cts_model.specs.declared.constraint.Constraint.{Constraint}
 use Rattle.cts_model.specs.declared.tech.Tech.{Tech}
-use Rattle.cts_model.specs.ConstraintPaths.{ArePathsWithin, GivesWeight}
-use Rattle.cts_model.specs.Constraints.{IsConstraintOf, IsHoldConstraint, IsSetupConstraint}
-use Rattle.cts_model.specs.Delays.{least_delay, greatest_delay}
-use Rattle.cts_model.specs.Paths.{IsPath}
+use Rattle.cts_model.specs.timing.ConstraintPaths.{ArePathsWithin, GivesWeight}
+use Rattle.cts_model.specs.timing.Constraints.{IsConstraintOf, IsHoldConstraint, IsSetupConstraint}
+use Rattle.cts_model.specs.timing.Delays.{least_delay, greatest_delay}
+use Rattle.cts_model.specs.netlist.Paths.{IsPath}
 use Rattle.cts_engine.specs.CyclePaths.{FitsRoom, IsPathWithin, path_signals}
 
 -- paths of the constraints from this place on, for which there is room, come after those before

@@ -11,16 +11,16 @@ use Rattle.cts_model.specs.declared.schedule.Schedule.{Schedule}
 use Rattle.cts_model.specs.declared.schedule.Slack.{Slack}
 use Rattle.cts_model.specs.declared.tech.Tech.{Tech}
 use Rattle.cts_model.specs.declared.timing.PairDelay.{PairDelay}
-use Rattle.cts_model.specs.Constraints.{IsConstraintOf, IsHoldConstraint, IsSetupConstraint}
-use Rattle.cts_model.specs.Delays.{least_delay, greatest_delay}
-use Rattle.cts_model.specs.EqualArrivals.{IsPairDelay}
-use Rattle.cts_model.specs.PairLists.{IsSmallPair}
-use Rattle.cts_model.specs.Paths.{IsPath}
-use Rattle.cts_model.specs.Points.{IsBelow}
-use Rattle.cts_model.specs.Slacks.{AreSmallSlacks, IsSmallSlack}
-use Rattle.cts_model.specs.Schedules.{IsSmallPeriod, arrival_of}
-use Rattle.cts_model.specs.Slacks.{AreSlacks, IsLeastSpare, IsSlackOf, hold_spare, setup_spare}
-use Rattle.cts_model.specs.Tables.{IsWithin}
+use Rattle.cts_model.specs.timing.Constraints.{IsConstraintOf, IsHoldConstraint, IsSetupConstraint}
+use Rattle.cts_model.specs.timing.Delays.{least_delay, greatest_delay}
+use Rattle.cts_model.specs.timing.EqualArrivals.{IsPairDelay}
+use Rattle.cts_model.specs.timing.PairLists.{IsSmallPair}
+use Rattle.cts_model.specs.netlist.Paths.{IsPath}
+use Rattle.cts_model.specs.placement.Points.{IsBelow}
+use Rattle.cts_model.specs.timing.Slacks.{AreSmallSlacks, IsSmallSlack}
+use Rattle.cts_model.specs.timing.Schedules.{IsSmallPeriod, arrival_of}
+use Rattle.cts_model.specs.timing.Slacks.{AreSlacks, IsLeastSpare, IsSlackOf, hold_spare, setup_spare}
+use Rattle.cts_model.specs.table.Tables.{IsWithin}
 use Rattle.cts_model.proofs.ScaleLemmas.{scale_le, size_same}
 use Rattle.path_delays.specs.JoinedPairs.{ArePairs}
 use Rattle.cts_engine.specs.Outcomes.{HasSmallPairs}

@@ -8,9 +8,9 @@ use Rattle.std.proofs.lemmas.Option.{slice_get_within, slice_get-get_or, get_or_
 use Rattle.cts_model.specs.declared.tree.Merge.{Merge}
 use Rattle.cts_model.specs.declared.tree.Tree.{Tree}
 use Rattle.cts_model.specs.declared.tree.Wire.{Wire}
-use Rattle.cts_model.specs.Embeddings.{embedding_of}
-use Rattle.cts_model.specs.ReportBounds.{IsSmallWire}
-use Rattle.cts_model.specs.Topologies.{IsParent, IsTopology, Joins, root_of, source_of}
+use Rattle.cts_model.specs.tree.Embeddings.{embedding_of}
+use Rattle.cts_model.specs.report.ReportBounds.{IsSmallWire}
+use Rattle.cts_model.specs.tree.Topologies.{IsParent, IsTopology, Joins, root_of, source_of}
 use Rattle.cts_model.proofs.ParentLemmas.{made_parent, one_parent}
 use Rattle.cts_model.proofs.TopologyLemmas.{first_made, merge_at, merge_here, second_made, some_and}
 use Rattle.cts_engine.specs.Syntheses.{AreDrawn}

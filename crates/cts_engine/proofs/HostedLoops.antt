@@ -10,11 +10,11 @@ use Rattle.std.proofs.lemmas.Option.{slice_get_within, slice_get-get_or, get_or_
 use Rattle.cts_model.specs.declared.signal.Signal.{Signal}
 use Rattle.cts_model.specs.declared.circuit.Circuit.{Circuit}
 use Rattle.cts_model.specs.declared.tech.Tech.{Tech}
-use Rattle.cts_model.specs.Circuits.{host_signal}
-use Rattle.cts_model.specs.Hosts.{IsWithHost}
-use Rattle.cts_model.specs.Kinds.{is_gate}
-use Rattle.cts_model.specs.Netlists.{AcceptsNetlist}
-use Rattle.cts_model.specs.Paths.{Reads, Follows, IsLoop}
+use Rattle.cts_model.specs.netlist.Circuits.{host_signal}
+use Rattle.cts_model.specs.netlist.Hosts.{IsWithHost}
+use Rattle.cts_model.specs.netlist.Kinds.{is_gate}
+use Rattle.cts_model.specs.netlist.Netlists.{AcceptsNetlist}
+use Rattle.cts_model.specs.netlist.Paths.{Reads, Follows, IsLoop}
 use Rattle.cts_engine.specs.Accepted.{IsHostedBy, TellBoth}
 
 -- with the host a gate reads what it read

@@ -12,12 +12,12 @@ use Rattle.cts_model.specs.declared.constraint.Constraint.{Constraint}
 use Rattle.cts_model.specs.declared.schedule.Schedule.{Schedule}
 use Rattle.cts_model.specs.declared.tech.Tech.{Tech}
 use Rattle.cts_model.specs.declared.timing.PairDelay.{PairDelay}
-use Rattle.cts_model.specs.Constraints.{IsConstraintOf, IsHoldConstraint, IsSetupConstraint}
-use Rattle.cts_model.specs.Cycles.{IsCycle}
-use Rattle.cts_model.specs.Delays.{least_delay, greatest_delay}
-use Rattle.cts_model.specs.EqualArrivals.{IsPairDelay}
-use Rattle.cts_model.specs.PairLists.{ListsPairs}
-use Rattle.cts_model.specs.Paths.{IsPath}
+use Rattle.cts_model.specs.timing.Constraints.{IsConstraintOf, IsHoldConstraint, IsSetupConstraint}
+use Rattle.cts_model.specs.timing.Cycles.{IsCycle}
+use Rattle.cts_model.specs.timing.Delays.{least_delay, greatest_delay}
+use Rattle.cts_model.specs.timing.EqualArrivals.{IsPairDelay}
+use Rattle.cts_model.specs.timing.PairLists.{ListsPairs}
+use Rattle.cts_model.specs.netlist.Paths.{IsPath}
 use Rattle.constraints.specs.PairConstraints.{setup_constraint, hold_constraint, constraints_of_pairs}
 use Rattle.constraints.proofs.BothOfPairs.{HaveBoth, all_from_each, each_from_all}
 use Rattle.constraints.proofs.PairInequalities.{setup_met, hold_met, setup_satisfied, hold_satisfied}

@@ -16,8 +16,8 @@ use Rattle.cts_base.specs.Lines.{lines_of}
 use Rattle.cts_model.specs.declared.circuit.Circuit.{Circuit}
 use Rattle.cts_model.specs.declared.place.Places.{Places}
 use Rattle.cts_model.specs.declared.place.Point.{Point}
-use Rattle.cts_model.specs.PlaceLines.{Node, Entry, Blank, Header, Stands, entry_after, entry_of_words, has_begun, is_not_blank, place_words}
-use Rattle.cts_model.specs.Placements.{Flaw, HasEntryFlaw, HasFlaw, HasNodeFlaw, AreFlawless, AcceptsPlacement, StandsAt, StandAt, is_among, is_placed, nodes_from, nodes_in, placed_by, register_nodes, wanted_nodes}
+use Rattle.cts_model.specs.placement.PlaceLines.{Node, Entry, Blank, Header, Stands, entry_after, entry_of_words, has_begun, is_not_blank, place_words}
+use Rattle.cts_model.specs.placement.Placements.{Flaw, HasEntryFlaw, HasFlaw, HasNodeFlaw, AreFlawless, AcceptsPlacement, StandsAt, StandAt, is_among, is_placed, nodes_from, nodes_in, placed_by, register_nodes, wanted_nodes}
 
 -- ---- numbers
 

@@ -6,12 +6,12 @@ use Rattle.cts_model.specs.declared.circuit.Circuit.{Circuit}
 use Rattle.cts_model.specs.declared.place.Places.{Places}
 use Rattle.cts_model.specs.declared.problem.Problem.{Problem}
 use Rattle.cts_model.specs.declared.tech.Tech.{Tech}
-use Rattle.cts_model.specs.AcceptedTables.{AcceptsTable}
-use Rattle.cts_model.specs.Hosts.{IsWithHost}
-use Rattle.cts_model.specs.Netlists.{AcceptsNetlist, signals_of}
-use Rattle.cts_model.specs.Placements.{AcceptsPlacement}
-use Rattle.cts_model.specs.Problems.{IsProblem}
-use Rattle.cts_model.specs.UsedKinds.{AreUsedKinds}
+use Rattle.cts_model.specs.table.AcceptedTables.{AcceptsTable}
+use Rattle.cts_model.specs.netlist.Hosts.{IsWithHost}
+use Rattle.cts_model.specs.netlist.Netlists.{AcceptsNetlist, signals_of}
+use Rattle.cts_model.specs.placement.Placements.{AcceptsPlacement}
+use Rattle.cts_model.specs.tree.Problems.{IsProblem}
+use Rattle.cts_model.specs.netlist.UsedKinds.{AreUsedKinds}
 use Rattle.cts_model.proofs.OneRecord.{same_circuit, one_use}
 use Rattle.bench_reader.proofs.OneFault.{no_fault}
 use Rattle.delay_tables.specs.declared.fault.TechFault.{TechFault}

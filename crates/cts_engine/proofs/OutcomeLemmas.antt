@@ -8,13 +8,13 @@ use Rattle.cts_model.specs.declared.tech.Tech.{Tech}
 use Rattle.cts_model.specs.declared.timing.ZeroSkew.{ZeroSkew}
 use Rattle.cts_model.specs.declared.constraint.Constraint.{Constraint}
 use Rattle.cts_model.specs.declared.period.PeriodShow.TheVariants.{Cycle, Floor}
-use Rattle.cts_model.specs.EqualArrivals.{IsZeroSkew}
-use Rattle.cts_model.specs.Timing.{IsLeastPeriod}
-use Rattle.cts_model.specs.Constraints.{IsConstraintOf}
-use Rattle.cts_model.specs.Cycles.{IsLeastPeriodOf}
-use Rattle.cts_model.specs.Schedules.{arrival_of, AreLeastArrivals}
+use Rattle.cts_model.specs.timing.EqualArrivals.{IsZeroSkew}
+use Rattle.cts_model.specs.timing.Timing.{IsLeastPeriod}
+use Rattle.cts_model.specs.timing.Constraints.{IsConstraintOf}
+use Rattle.cts_model.specs.timing.Cycles.{IsLeastPeriodOf}
+use Rattle.cts_model.specs.timing.Schedules.{arrival_of, AreLeastArrivals}
 use Rattle.schedule.specs.Schedules.{IsLeastScheduleOf}
-use Rattle.cts_model.specs.LeastPeriods.{IsFloorPeriod, IsForbidding, HasNoPeriod}
+use Rattle.cts_model.specs.timing.LeastPeriods.{IsFloorPeriod, IsForbidding, HasNoPeriod}
 use Rattle.cts_model.proofs.CircuitConstraints.{forbidding_at_all}
 use Rattle.cts_engine.specs.declared.period.PeriodOutcome.{PeriodOutcome}
 use Rattle.cts_engine.specs.declared.period.PeriodOutcome.TheVariants.{Found, Never}

@@ -14,17 +14,17 @@ use Rattle.cts_model.specs.declared.place.Places.{Places}
 use Rattle.cts_model.specs.declared.place.Point.{Point}
 use Rattle.cts_model.specs.declared.signal.Signal.{Signal}
 use Rattle.cts_model.specs.declared.tech.Tech.{Tech}
-use Rattle.cts_model.specs.AcceptedTables.{GivesKinds}
-use Rattle.cts_model.specs.Circuits.{has_host, host_signal}
-use Rattle.cts_model.specs.Delays.{delay_of}
-use Rattle.cts_model.specs.Hosts.{HasNoHost, IsWithHost}
-use Rattle.cts_model.specs.Kinds.{is_gate}
-use Rattle.cts_model.specs.Paths.{IsLoop}
-use Rattle.cts_model.specs.PlaceLines.{Node}
-use Rattle.cts_model.specs.Placements.{AcceptsPlacement, StandsAt, StandAt}
-use Rattle.cts_model.specs.Points.{IsBelow, IsPointBelow}
-use Rattle.cts_model.specs.Problems.{GivesUsedKinds, IsProblem}
-use Rattle.cts_model.specs.UsedKinds.{AreUsedKinds}
+use Rattle.cts_model.specs.table.AcceptedTables.{GivesKinds}
+use Rattle.cts_model.specs.netlist.Circuits.{has_host, host_signal}
+use Rattle.cts_model.specs.timing.Delays.{delay_of}
+use Rattle.cts_model.specs.netlist.Hosts.{HasNoHost, IsWithHost}
+use Rattle.cts_model.specs.netlist.Kinds.{is_gate}
+use Rattle.cts_model.specs.netlist.Paths.{IsLoop}
+use Rattle.cts_model.specs.placement.PlaceLines.{Node}
+use Rattle.cts_model.specs.placement.Placements.{AcceptsPlacement, StandsAt, StandAt}
+use Rattle.cts_model.specs.placement.Points.{IsBelow, IsPointBelow}
+use Rattle.cts_model.specs.tree.Problems.{GivesUsedKinds, IsProblem}
+use Rattle.cts_model.specs.netlist.UsedKinds.{AreUsedKinds}
 use Rattle.cts_model.proofs.HostedCircuits.{has_host-with_host}
 use Rattle.cts_engine.specs.Accepted.{IsHostedBy}
 

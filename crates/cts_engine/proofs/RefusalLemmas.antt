@@ -2,8 +2,8 @@
 use Rattle.std.proofs.Common.{ℕ, Bool, List, subst}
 use Rattle.cts_model.specs.declared.circuit.Circuit.{Circuit}
 use Rattle.cts_model.specs.declared.tech.Tech.{Tech}
-use Rattle.cts_model.specs.Netlists.{AcceptsNetlist}
-use Rattle.cts_model.specs.UsedKinds.{AreUsedKinds}
+use Rattle.cts_model.specs.netlist.Netlists.{AcceptsNetlist}
+use Rattle.cts_model.specs.netlist.UsedKinds.{AreUsedKinds}
 use Rattle.bench_reader.specs.declared.fault.BenchFault.{BenchFault}
 use Rattle.bench_reader.specs.declared.fault.BenchFault.TheVariants as bench
 use Rattle.bench_reader.specs.Refusals as netlists

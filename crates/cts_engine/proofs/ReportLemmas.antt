@@ -7,17 +7,17 @@ use Rattle.cts_model.specs.declared.problem.Problem.{Problem}
 use Rattle.cts_model.specs.declared.report.Report.{Report}
 use Rattle.cts_model.specs.declared.report.Version.TheVariants.{Second}
 use Rattle.cts_model.specs.declared.tree.Wire.{Wire}
-use Rattle.cts_model.specs.Embeddings.{embedding_of}
-use Rattle.cts_model.specs.Problems.{grid_of}
-use Rattle.cts_model.specs.RealisedSchedules.{RealisesSchedule}
-use Rattle.cts_model.specs.ReportBounds.{HasTimingBounds, HasTreeBounds, IsOfSize, ShowsAmong}
-use Rattle.cts_model.specs.Topologies.{root_of, source_of}
+use Rattle.cts_model.specs.tree.Embeddings.{embedding_of}
+use Rattle.cts_model.specs.tree.Problems.{grid_of}
+use Rattle.cts_model.specs.tree.RealisedSchedules.{RealisesSchedule}
+use Rattle.cts_model.specs.report.ReportBounds.{HasTimingBounds, HasTreeBounds, IsOfSize, ShowsAmong}
+use Rattle.cts_model.specs.tree.Topologies.{root_of, source_of}
 use Rattle.cts_model.proofs.SkewLemmas.{least_for_schedule, length-sinks_of, offsets_are_skews, realised_meets}
 use Rattle.cts_model.proofs.TreeLemmas.{reaches_realise}
 use Rattle.place_down.specs.Trees.{reach_in}
 use Rattle.cts_engine.specs.ClockTrees.{IsClockTree}
 use Rattle.cts_engine.specs.RegisterTimes.{AreTimes, HasLeastPeriod}
-use Rattle.cts_model.specs.Shown.{sinks_in, source_in}
+use Rattle.cts_model.specs.report.Shown.{sinks_in, source_in}
 use Rattle.cts_engine.specs.Syntheses.{IsReportWith, IsTimed}
 use Rattle.cts_engine.specs.declared.clock_tree.ClockTree.{ClockTree}
 use Rattle.cts_engine.specs.declared.times.Times.{Times}

@@ -12,11 +12,11 @@ use Rattle.cts_model.specs.declared.problem.Problem.{Problem}
 use Rattle.cts_model.specs.declared.schedule.Schedule.{Schedule}
 use Rattle.cts_model.specs.declared.tech.Tech.{Tech}
 use Rattle.cts_model.specs.declared.tree.Merge.{Merge}
-use Rattle.cts_model.specs.GreedyMerges.{IsGreedy}
-use Rattle.cts_model.specs.Points.{IsBelow, IsPointBelow, rotated}
-use Rattle.cts_model.specs.Problems.{grid_of, on_grid, sink_of, sinks_of}
-use Rattle.cts_model.specs.Schedules.{IsSmallPeriod}
-use Rattle.cts_model.specs.Tables.{IsWithin}
+use Rattle.cts_model.specs.tree.GreedyMerges.{IsGreedy}
+use Rattle.cts_model.specs.placement.Points.{IsBelow, IsPointBelow, rotated}
+use Rattle.cts_model.specs.tree.Problems.{grid_of, on_grid, sink_of, sinks_of}
+use Rattle.cts_model.specs.timing.Schedules.{IsSmallPeriod}
+use Rattle.cts_model.specs.table.Tables.{IsWithin}
 use Rattle.cts_model.proofs.GridLemmas.{grid_size, number_read, product_size}
 use Rattle.cts_model.proofs.ScaleLemmas.{size_same}
 use Rattle.cts_model.proofs.SkewLemmas.{length-sinks_of}

@@ -21,16 +21,16 @@ use Rattle.cts_model.specs.declared.tree.Merge.{Merge}
 use Rattle.cts_model.specs.declared.tree.Show.{Show}
 use Rattle.cts_model.specs.declared.tree.Topology.{Topology}
 use Rattle.cts_model.specs.declared.tree.Tree.{Tree}
-use Rattle.cts_model.specs.ConstraintPaths.{ArePathsOf, ArePathsWithin, GivesWeight}
-use Rattle.cts_model.specs.Constraints.{IsConstraintOf}
-use Rattle.cts_model.specs.Embeddings.{Embedding, embedding_of}
-use Rattle.cts_model.specs.Judgements.{GivesPeriod, HasShape, HoldsTogether, IsGivenPath, IsOfCircuit, IsReachShown, IsSkewed}
-use Rattle.cts_model.specs.Leads.{IsLead, ShowsEarliest, lead_at}
-use Rattle.cts_model.specs.LeastPeriods.{IsPeriodShow}
-use Rattle.cts_model.specs.Points.{rotated}
-use Rattle.cts_model.specs.Shown.{AtEach, IsShown, IsShownLeast, IsShownTiming, IsShownTree, cycle_of}
-use Rattle.cts_model.specs.ShownReaches.{ShowsMerge, ShowsSource}
-use Rattle.cts_model.specs.Topologies.{IsTopology, numbers_below, root_of}
+use Rattle.cts_model.specs.timing.ConstraintPaths.{ArePathsOf, ArePathsWithin, GivesWeight}
+use Rattle.cts_model.specs.timing.Constraints.{IsConstraintOf}
+use Rattle.cts_model.specs.tree.Embeddings.{Embedding, embedding_of}
+use Rattle.cts_model.specs.report.Judgements.{GivesPeriod, HasShape, HoldsTogether, IsGivenPath, IsOfCircuit, IsReachShown, IsSkewed}
+use Rattle.cts_model.specs.timing.Leads.{IsLead, ShowsEarliest, lead_at}
+use Rattle.cts_model.specs.timing.LeastPeriods.{IsPeriodShow}
+use Rattle.cts_model.specs.placement.Points.{rotated}
+use Rattle.cts_model.specs.report.Shown.{AtEach, IsShown, IsShownLeast, IsShownTiming, IsShownTree, cycle_of}
+use Rattle.cts_model.specs.tree.ShownReaches.{ShowsMerge, ShowsSource}
+use Rattle.cts_model.specs.tree.Topologies.{IsTopology, numbers_below, root_of}
 use Rattle.cts_model.proofs.RoundLemmas.{cycle_holds_together}
 use Rattle.cts_model.proofs.ScaleLemmas.{size_same}
 use Rattle.cts_model.proofs.ShownTrees.{scaled-once}

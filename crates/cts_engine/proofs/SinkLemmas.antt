@@ -7,11 +7,11 @@ use Rattle.std.proofs.lemmas.Option.{get_or_from_slice_get}
 use Rattle.cts_base.specs.declared.fraction.Fraction.{Fraction}
 use Rattle.cts_model.specs.declared.place.Point.{Point}
 use Rattle.cts_model.specs.declared.tech.Tech.{Tech}
-use Rattle.cts_model.specs.Points.{IsMultipleOf, IsPointBelow, IsUvBelow, IsUvMultipleOf, rotated}
-use Rattle.cts_model.specs.Problems.{on_grid, scheduled_length, sink_of, sinks_of, steps_of_micro}
-use Rattle.cts_model.specs.Schedules.{IsSmallPeriod, arrival_of}
-use Rattle.cts_model.specs.Sinks.{AreTreeSinks, IsTreeSink}
-use Rattle.cts_model.specs.Tables.{IsWithin}
+use Rattle.cts_model.specs.placement.Points.{IsMultipleOf, IsPointBelow, IsUvBelow, IsUvMultipleOf, rotated}
+use Rattle.cts_model.specs.tree.Problems.{on_grid, scheduled_length, sink_of, sinks_of, steps_of_micro}
+use Rattle.cts_model.specs.timing.Schedules.{IsSmallPeriod, arrival_of}
+use Rattle.cts_model.specs.tree.Sinks.{AreTreeSinks, IsTreeSink}
+use Rattle.cts_model.specs.table.Tables.{IsWithin}
 use Rattle.cts_model.proofs.ScaleLemmas.{scale-finer, size_same}
 use Rattle.cts_model.proofs.SkewLemmas.{length-sinks_of, sink_at}
 use Rattle.place_down.specs.Trees.{IsTreeSource}

@@ -12,12 +12,12 @@ use Rattle.cts_model.specs.declared.period.PeriodShow.TheVariants.{Cycle, Floor}
 use Rattle.cts_model.specs.declared.schedule.Lead.{Lead}
 use Rattle.cts_model.specs.declared.schedule.Lead.TheVariants.{Zero, Tight}
 use Rattle.cts_model.specs.declared.tech.Tech.{Tech}
-use Rattle.cts_model.specs.ConstraintPaths.{ArePathsOf}
-use Rattle.cts_model.specs.Constraints.{IsConstraintOf}
-use Rattle.cts_model.specs.Leads.{EachLead, IsLead, depth_of, lead_at}
-use Rattle.cts_model.specs.LeastPeriods.{IsPeriodShow}
-use Rattle.cts_model.specs.Points.{IsBelow}
-use Rattle.cts_model.specs.ReportBounds.{HasSmallWeight, HasSmallWeights, IsSmallLead, LeadsAmong, ShowsPeriodAmong, cycle_length}
+use Rattle.cts_model.specs.timing.ConstraintPaths.{ArePathsOf}
+use Rattle.cts_model.specs.timing.Constraints.{IsConstraintOf}
+use Rattle.cts_model.specs.timing.Leads.{EachLead, IsLead, depth_of, lead_at}
+use Rattle.cts_model.specs.timing.LeastPeriods.{IsPeriodShow}
+use Rattle.cts_model.specs.placement.Points.{IsBelow}
+use Rattle.cts_model.specs.report.ReportBounds.{HasSmallWeight, HasSmallWeights, IsSmallLead, LeadsAmong, ShowsPeriodAmong, cycle_length}
 use Rattle.cts_model.proofs.PathRegisters.{head_within, tail_within}
 use Rattle.cts_engine.specs.CyclePaths.{IsShownBy}
 use Rattle.cts_engine.specs.Outcomes.{HasSmallPairs}

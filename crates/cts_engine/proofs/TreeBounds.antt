@@ -17,14 +17,14 @@ use Rattle.cts_model.specs.declared.tree.Show.{Show}
 use Rattle.cts_model.specs.declared.tree.Show.TheVariants as variants
 use Rattle.cts_model.specs.declared.tree.Tree.{Tree}
 use Rattle.cts_model.specs.declared.tree.Wire.{Wire}
-use Rattle.cts_model.specs.Embeddings.{embedding_of}
-use Rattle.cts_model.specs.GreedyMerges.{IsGreedy}
-use Rattle.cts_model.specs.Points.{IsBelow, IsMultipleOf, IsPointBelow, IsUvBelow, IsUvMultipleOf, apart, distance, rotated}
-use Rattle.cts_model.specs.Problems.{scheduled_length, sinks_of}
-use Rattle.cts_model.specs.ReportBounds.{IsMergeShow, IsSmallMerge, IsSmallWire, IsSourceShow, ShowsAmong}
-use Rattle.cts_model.specs.Schedules.{arrival_of}
-use Rattle.cts_model.specs.ShownReaches.{AreShown, AreShownBy, ShowsMerge, ShowsSource}
-use Rattle.cts_model.specs.Topologies.{IsParent, IsTopology, numbers_below, root_of, source_of}
+use Rattle.cts_model.specs.tree.Embeddings.{embedding_of}
+use Rattle.cts_model.specs.tree.GreedyMerges.{IsGreedy}
+use Rattle.cts_model.specs.placement.Points.{IsBelow, IsMultipleOf, IsPointBelow, IsUvBelow, IsUvMultipleOf, apart, distance, rotated}
+use Rattle.cts_model.specs.tree.Problems.{scheduled_length, sinks_of}
+use Rattle.cts_model.specs.report.ReportBounds.{IsMergeShow, IsSmallMerge, IsSmallWire, IsSourceShow, ShowsAmong}
+use Rattle.cts_model.specs.timing.Schedules.{arrival_of}
+use Rattle.cts_model.specs.tree.ShownReaches.{AreShown, AreShownBy, ShowsMerge, ShowsSource}
+use Rattle.cts_model.specs.tree.Topologies.{IsParent, IsTopology, numbers_below, root_of, source_of}
 use Rattle.cts_model.proofs.ParentLemmas.{parent_above, parent_stands}
 use Rattle.cts_model.proofs.PointLemmas.{distance-rotated}
 use Rattle.cts_model.proofs.SkewLemmas.{sink_at}

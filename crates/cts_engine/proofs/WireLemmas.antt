@@ -4,8 +4,8 @@ use Rattle.std.specs.List.{All}
 use Rattle.std.proofs.lemmas.Int.{ints, clamps}
 use Rattle.std.proofs.lemmas.Option.{get_or_from_slice_get}
 use Rattle.cts_model.specs.declared.place.Point.{Point}
-use Rattle.cts_model.specs.DrawnWires.{IsDrawn, pieces, total}
-use Rattle.cts_model.specs.Points.{IsBelow, IsPointBelow, distance}
+use Rattle.cts_model.specs.tree.DrawnWires.{IsDrawn, pieces, total}
+use Rattle.cts_model.specs.placement.Points.{IsBelow, IsPointBelow, distance}
 use Rattle.cts_model.proofs.PointLemmas.{distance_by_way, distance-itself}
 
 -- ---- points of a wire

@@ -4,11 +4,11 @@ use Rattle.std.specs.Prelude.{◌≡◌, ◌≢◌, ◌==◌, ℕ, Bool, List, l
 use Rattle.cts_model.specs.declared.circuit.Circuit.{Circuit}
 use Rattle.cts_model.specs.declared.problem.Problem.{Problem}
 use Rattle.cts_model.specs.declared.tech.Tech.{Tech}
-use Rattle.cts_model.specs.AcceptedTables.{IsDelayTable, AcceptsTable}
-use Rattle.cts_model.specs.Hosts.{IsWithHost}
-use Rattle.cts_model.specs.Netlists.{IsNetlist, AcceptsNetlist, signals_of}
-use Rattle.cts_model.specs.Placements.{IsPlacement, AcceptsPlacement}
-use Rattle.cts_model.specs.UsedKinds.{AreUsedKinds}
+use Rattle.cts_model.specs.table.AcceptedTables.{IsDelayTable, AcceptsTable}
+use Rattle.cts_model.specs.netlist.Hosts.{IsWithHost}
+use Rattle.cts_model.specs.netlist.Netlists.{IsNetlist, AcceptsNetlist, signals_of}
+use Rattle.cts_model.specs.placement.Placements.{IsPlacement, AcceptsPlacement}
+use Rattle.cts_model.specs.netlist.UsedKinds.{AreUsedKinds}
 use Rattle.bench_reader.specs.declared.fault.BenchFault.{BenchFault}
 use Rattle.bench_reader.specs.declared.fault.BenchFault.TheVariants as bench
 use Rattle.bench_reader.specs.Refusals as netlists

@@ -7,10 +7,10 @@ use Rattle.cts_model.specs.declared.circuit.Circuit.{Circuit}
 use Rattle.cts_model.specs.declared.constraint.Constraint.{Constraint}
 use Rattle.cts_model.specs.declared.schedule.Schedule.{Schedule}
 use Rattle.cts_model.specs.declared.tech.Tech.{Tech}
-use Rattle.cts_model.specs.Constraints.{IsConstraintOf}
-use Rattle.cts_model.specs.Delays.{least_delay, greatest_delay}
-use Rattle.cts_model.specs.Paths.{IsPath}
-use Rattle.cts_model.specs.Timing.{MeetsSetup, MeetsHold}
+use Rattle.cts_model.specs.timing.Constraints.{IsConstraintOf}
+use Rattle.cts_model.specs.timing.Delays.{least_delay, greatest_delay}
+use Rattle.cts_model.specs.netlist.Paths.{IsPath}
+use Rattle.cts_model.specs.timing.Timing.{MeetsSetup, MeetsHold}
 use Rattle.critical_cycle.specs.CyclePlaces.{IsFromLowest}
 use Rattle.safety_margin.specs.Margins.{ShowsMargin, SparesNoMore}
 use Rattle.safety_margin.specs.SparingSchedules.{IsSmallSparing, IsSparingSchedule}

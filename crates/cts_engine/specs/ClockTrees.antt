@@ -5,8 +5,8 @@ use Rattle.cts_model.specs.declared.place.Uv.{Uv}
 use Rattle.cts_model.specs.declared.tree.Merge.{Merge}
 use Rattle.cts_model.specs.declared.tree.Show.{Show}
 use Rattle.cts_model.specs.declared.tree.Tree.{Tree}
-use Rattle.cts_model.specs.Points.{IsBelow}
-use Rattle.cts_model.specs.ReportBounds.{IsSmallWire}
+use Rattle.cts_model.specs.placement.Points.{IsBelow}
+use Rattle.cts_model.specs.report.ReportBounds.{IsSmallWire}
 use Rattle.place_down.specs.Trees.{HasTreeNumbers, IsPlacedTree}
 use Rattle.cts_engine.specs.Syntheses.{IsTree}
 use Rattle.cts_engine.specs.declared.clock_tree.ClockTree.{ClockTree}

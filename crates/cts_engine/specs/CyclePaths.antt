@@ -5,7 +5,7 @@ use Rattle.cts_model.specs.declared.constraint.Constraint.{Constraint}
 use Rattle.cts_model.specs.declared.period.PeriodShow.{PeriodShow}
 use Rattle.cts_model.specs.declared.period.PeriodShow.TheVariants.{Cycle, Floor}
 use Rattle.cts_model.specs.declared.tech.Tech.{Tech}
-use Rattle.cts_model.specs.ConstraintPaths.{GivesWeight}
+use Rattle.cts_model.specs.timing.ConstraintPaths.{GivesWeight}
 
 -- the property holds of each constraint that shows the period
 abbrev pub IsShownBy : (Constraint → Type 0) → PeriodShow → Type 0

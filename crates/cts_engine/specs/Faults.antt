@@ -1,6 +1,6 @@
 -- Why a circuit has no outcome.
 use Rattle.cts_model.specs.declared.circuit.Circuit.{Circuit}
-use Rattle.cts_model.specs.PairLists.{JoinsMoreThan}
+use Rattle.cts_model.specs.timing.PairLists.{JoinsMoreThan}
 use Rattle.path_delays.specs.declared.fault.PairFault.{PairFault}
 use Rattle.path_delays.specs.declared.fault.PairFault.TheVariants as pairs
 use Rattle.cts_engine.specs.declared.fault.SynthFault.{SynthFault}

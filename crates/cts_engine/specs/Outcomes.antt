@@ -9,13 +9,13 @@ use Rattle.cts_model.specs.declared.timing.ZeroSkew.{ZeroSkew}
 use Rattle.cts_model.specs.declared.constraint.Constraint.{Constraint}
 use Rattle.cts_model.specs.declared.period.PeriodShow.{PeriodShow}
 use Rattle.cts_model.specs.declared.period.PeriodShow.TheVariants.{Cycle, Floor}
-use Rattle.cts_model.specs.EqualArrivals.{IsZeroSkew}
-use Rattle.cts_model.specs.PairLists.{HasSmallDelays}
-use Rattle.cts_model.specs.Paths.{IsPath}
-use Rattle.cts_model.specs.Timing.{Meets}
-use Rattle.cts_model.specs.Constraints.{AreSmallConstraints, IsConstraintOf, Satisfies}
-use Rattle.cts_model.specs.Schedules.{IsSmallPeriod}
-use Rattle.cts_model.specs.LeastPeriods.{IsLeastFraction, IsPeriodShow, IsForbidding}
+use Rattle.cts_model.specs.timing.EqualArrivals.{IsZeroSkew}
+use Rattle.cts_model.specs.timing.PairLists.{HasSmallDelays}
+use Rattle.cts_model.specs.netlist.Paths.{IsPath}
+use Rattle.cts_model.specs.timing.Timing.{Meets}
+use Rattle.cts_model.specs.timing.Constraints.{AreSmallConstraints, IsConstraintOf, Satisfies}
+use Rattle.cts_model.specs.timing.Schedules.{IsSmallPeriod}
+use Rattle.cts_model.specs.timing.LeastPeriods.{IsLeastFraction, IsPeriodShow, IsForbidding}
 use Rattle.critical_cycle.specs.CyclePlaces.{IsFromLowest}
 use Rattle.path_delays.specs.JoinedPairs.{IsDelayBetween}
 use Rattle.cts_engine.specs.declared.period.Timing.{Timing}

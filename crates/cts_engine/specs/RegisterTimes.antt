@@ -6,13 +6,13 @@ use Rattle.cts_model.specs.declared.circuit.Circuit.{Circuit}
 use Rattle.cts_model.specs.declared.constraint.Constraint.{Constraint}
 use Rattle.cts_model.specs.declared.period.PeriodShow.{PeriodShow}
 use Rattle.cts_model.specs.declared.tech.Tech.{Tech}
-use Rattle.cts_model.specs.ConstraintPaths.{ArePathsOf}
-use Rattle.cts_model.specs.Constraints.{AreSmallConstraints, IsConstraintOf}
-use Rattle.cts_model.specs.Leads.{EachLead, depth_of, lead_at}
-use Rattle.cts_model.specs.LeastPeriods.{IsLeastFraction, IsPeriodShow}
-use Rattle.cts_model.specs.Schedules.{IsLeastSchedule, IsSmallPeriod, arrival_of}
-use Rattle.cts_model.specs.Slacks.{AreSlacks}
-use Rattle.cts_model.specs.Tables.{IsWithin}
+use Rattle.cts_model.specs.timing.ConstraintPaths.{ArePathsOf}
+use Rattle.cts_model.specs.timing.Constraints.{AreSmallConstraints, IsConstraintOf}
+use Rattle.cts_model.specs.timing.Leads.{EachLead, depth_of, lead_at}
+use Rattle.cts_model.specs.timing.LeastPeriods.{IsLeastFraction, IsPeriodShow}
+use Rattle.cts_model.specs.timing.Schedules.{IsLeastSchedule, IsSmallPeriod, arrival_of}
+use Rattle.cts_model.specs.timing.Slacks.{AreSlacks}
+use Rattle.cts_model.specs.table.Tables.{IsWithin}
 use Rattle.cts_engine.specs.Outcomes.{AreConstraintsOf, HasSmallPairs}
 use Rattle.cts_engine.specs.declared.times.Times.{Times}
 

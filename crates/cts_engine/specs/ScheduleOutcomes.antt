@@ -8,11 +8,11 @@ use Rattle.cts_model.specs.declared.timing.ZeroSkew.{ZeroSkew}
 use Rattle.cts_model.specs.declared.period.PeriodShow.{PeriodShow}
 use Rattle.cts_model.specs.declared.schedule.Schedule.{Schedule}
 use Rattle.cts_model.specs.declared.schedule.Slack.{Slack}
-use Rattle.cts_model.specs.LeastPeriods.{IsForbidding}
-use Rattle.cts_model.specs.PairLists.{HasSmallDelays}
-use Rattle.cts_model.specs.Points.{IsBelow}
-use Rattle.cts_model.specs.Schedules.{IsLeastSchedule, IsSmallPeriod}
-use Rattle.cts_model.specs.Slacks.{AreSlacks}
+use Rattle.cts_model.specs.timing.LeastPeriods.{IsForbidding}
+use Rattle.cts_model.specs.timing.PairLists.{HasSmallDelays}
+use Rattle.cts_model.specs.placement.Points.{IsBelow}
+use Rattle.cts_model.specs.timing.Schedules.{IsLeastSchedule, IsSmallPeriod}
+use Rattle.cts_model.specs.timing.Slacks.{AreSlacks}
 use Rattle.cts_engine.specs.declared.period.PeriodOutcome.{PeriodOutcome}
 use Rattle.cts_engine.specs.declared.period.PeriodOutcome.TheVariants as periods
 use Rattle.cts_engine.specs.declared.scheduling.ScheduleOutcome.{ScheduleOutcome}

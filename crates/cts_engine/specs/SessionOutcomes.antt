@@ -8,12 +8,12 @@ use Rattle.cts_model.specs.declared.problem.Problem.{Problem}
 use Rattle.cts_model.specs.declared.schedule.Schedule.{Schedule}
 use Rattle.cts_model.specs.declared.tech.Tech.{Tech}
 use Rattle.cts_model.specs.declared.tree.Merge.{Merge}
-use Rattle.cts_model.specs.GreedyMerges.{IsGreedy}
-use Rattle.cts_model.specs.LeastPeriods.{IsForbidding, IsLeastFraction}
-use Rattle.cts_model.specs.Points.{rotated}
-use Rattle.cts_model.specs.Problems.{grid_of, on_grid, sinks_of}
-use Rattle.cts_model.specs.Schedules.{IsLeastSchedule}
-use Rattle.cts_model.specs.Tables.{IsWithin}
+use Rattle.cts_model.specs.tree.GreedyMerges.{IsGreedy}
+use Rattle.cts_model.specs.timing.LeastPeriods.{IsForbidding, IsLeastFraction}
+use Rattle.cts_model.specs.placement.Points.{rotated}
+use Rattle.cts_model.specs.tree.Problems.{grid_of, on_grid, sinks_of}
+use Rattle.cts_model.specs.timing.Schedules.{IsLeastSchedule}
+use Rattle.cts_model.specs.table.Tables.{IsWithin}
 use Rattle.critical_cycle.specs.CyclePlaces.{IsFromLowest}
 use Rattle.move_session.specs.Sessions.{SessionState, StandsFor}
 use Rattle.cts_engine.specs.declared.session.SessionOutcome.{SessionOutcome}

@@ -3,9 +3,9 @@
 use Rattle.std.specs.Prelude.{◌≡◌, List, length}
 use Rattle.cts_model.specs.declared.constraint.Constraint.{Constraint}
 use Rattle.cts_model.specs.declared.problem.Problem.{Problem}
-use Rattle.cts_model.specs.LeastPeriods.{IsForbidding}
-use Rattle.cts_model.specs.Problems.{sinks_of}
-use Rattle.cts_model.specs.Sinks.{AreTreeSinks}
+use Rattle.cts_model.specs.timing.LeastPeriods.{IsForbidding}
+use Rattle.cts_model.specs.tree.Problems.{sinks_of}
+use Rattle.cts_model.specs.tree.Sinks.{AreTreeSinks}
 use Rattle.critical_cycle.specs.CyclePlaces.{IsFromLowest}
 use Rattle.cts_engine.specs.declared.sink_times.SinkOutcome.{SinkOutcome}
 use Rattle.cts_engine.specs.declared.sink_times.SinkOutcome.TheVariants.{Found, Never}

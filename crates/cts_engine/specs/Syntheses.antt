@@ -14,21 +14,21 @@ use Rattle.cts_model.specs.declared.tree.Show.{Show}
 use Rattle.cts_model.specs.declared.tree.Topology.{Topology}
 use Rattle.cts_model.specs.declared.tree.Tree.{Tree}
 use Rattle.cts_model.specs.declared.tree.Wire.{Wire}
-use Rattle.cts_model.specs.ConstraintPaths.{ArePathsOf}
-use Rattle.cts_model.specs.Constraints.{IsConstraintOf}
-use Rattle.cts_model.specs.DrawnWires.{IsDrawn}
-use Rattle.cts_model.specs.Embeddings.{Embedding, IsLeastWire, embedding_of, total_wire}
-use Rattle.cts_model.specs.GreedyMerges.{IsGreedy}
-use Rattle.cts_model.specs.Leads.{EachLead}
-use Rattle.cts_model.specs.LeastPeriods.{IsLeastFraction, IsPeriodShow}
-use Rattle.cts_model.specs.RealisedSchedules.{RealisesSchedule}
-use Rattle.cts_model.specs.ReportBounds.{IsOfSize, IsWithinBounds}
-use Rattle.cts_model.specs.Schedules.{IsLeastSchedule}
-use Rattle.cts_model.specs.Shown.{sinks_in, source_in}
-use Rattle.cts_model.specs.SkewLaws.{IsLeastForSchedule}
-use Rattle.cts_model.specs.Slacks.{AreSlacks}
-use Rattle.cts_model.specs.Topologies.{IsParent, IsTopology}
-use Rattle.cts_model.specs.WireDelays.{MeetsByWire}
+use Rattle.cts_model.specs.timing.ConstraintPaths.{ArePathsOf}
+use Rattle.cts_model.specs.timing.Constraints.{IsConstraintOf}
+use Rattle.cts_model.specs.tree.DrawnWires.{IsDrawn}
+use Rattle.cts_model.specs.tree.Embeddings.{Embedding, IsLeastWire, embedding_of, total_wire}
+use Rattle.cts_model.specs.tree.GreedyMerges.{IsGreedy}
+use Rattle.cts_model.specs.timing.Leads.{EachLead}
+use Rattle.cts_model.specs.timing.LeastPeriods.{IsLeastFraction, IsPeriodShow}
+use Rattle.cts_model.specs.tree.RealisedSchedules.{RealisesSchedule}
+use Rattle.cts_model.specs.report.ReportBounds.{IsOfSize, IsWithinBounds}
+use Rattle.cts_model.specs.timing.Schedules.{IsLeastSchedule}
+use Rattle.cts_model.specs.report.Shown.{sinks_in, source_in}
+use Rattle.cts_model.specs.tree.SkewLaws.{IsLeastForSchedule}
+use Rattle.cts_model.specs.timing.Slacks.{AreSlacks}
+use Rattle.cts_model.specs.tree.Topologies.{IsParent, IsTopology}
+use Rattle.cts_model.specs.tree.WireDelays.{MeetsByWire}
 pub use Rattle.place_down.specs.Trees.{IsPlacedTree}
 use Rattle.wire_detours.specs.WirePoints.{ArePoints}
 

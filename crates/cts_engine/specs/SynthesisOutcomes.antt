@@ -4,8 +4,8 @@ use Rattle.cts_model.specs.declared.period.PeriodShow.{PeriodShow}
 use Rattle.cts_model.specs.declared.period.PeriodShow.TheVariants.{Cycle, Floor}
 use Rattle.cts_model.specs.declared.problem.Problem.{Problem}
 use Rattle.cts_model.specs.declared.tree.Topology.{Topology}
-use Rattle.cts_model.specs.LeastPeriods.{IsForbidding}
-use Rattle.cts_model.specs.Shown.{IsShown}
+use Rattle.cts_model.specs.timing.LeastPeriods.{IsForbidding}
+use Rattle.cts_model.specs.report.Shown.{IsShown}
 use Rattle.critical_cycle.specs.CyclePlaces.{IsFromLowest}
 use Rattle.cts_engine.specs.declared.synthesis.Outcome.{Outcome}
 use Rattle.cts_engine.specs.declared.synthesis.Outcome.TheVariants.{Done, Never}

@@ -4,11 +4,11 @@ use Rattle.cts_model.specs.declared.place.Point.{Point}
 use Rattle.cts_model.specs.declared.tree.Merge.{Merge}
 use Rattle.cts_model.specs.declared.tree.Tree.{Tree}
 use Rattle.cts_model.specs.declared.tree.Wire.{Wire}
-use Rattle.cts_model.specs.DrawnWires.{IsDrawn}
-use Rattle.cts_model.specs.Embeddings.{Embedding, embedding_of}
-use Rattle.cts_model.specs.Points.{IsMultipleOf, IsPointBelow, distance}
-use Rattle.cts_model.specs.ReportBounds.{IsSmallWire}
-use Rattle.cts_model.specs.Topologies.{IsParent}
+use Rattle.cts_model.specs.tree.DrawnWires.{IsDrawn}
+use Rattle.cts_model.specs.tree.Embeddings.{Embedding, embedding_of}
+use Rattle.cts_model.specs.placement.Points.{IsMultipleOf, IsPointBelow, distance}
+use Rattle.cts_model.specs.report.ReportBounds.{IsSmallWire}
+use Rattle.cts_model.specs.tree.Topologies.{IsParent}
 use Rattle.wire_detours.specs.WirePoints.{ArePoints}
 
 -- an edge that has a drawn wire: its ends and its length are within bounds and whole numbers of 4

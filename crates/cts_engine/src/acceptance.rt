@@ -1,8 +1,8 @@
 ghost use Rattle.std.specs.Prelude.{◌≡◌, ◌≢◌, ◌≤◌, ◌↔◌, ◌⊎◌, IsTrue, [], length, Ok, Err, IfOk, IfErr};
 ghost use Rattle.cts_model.specs.declared.problem.Problem.{Problem};
-ghost use Rattle.cts_model.specs.Circuits.{has_host};
-ghost use Rattle.cts_model.specs.Hosts.{HasNoHost};
-ghost use Rattle.cts_model.specs.Problems.{GivesUsedKinds};
+ghost use Rattle.cts_model.specs.netlist.Circuits.{has_host};
+ghost use Rattle.cts_model.specs.netlist.Hosts.{HasNoHost};
+ghost use Rattle.cts_model.specs.tree.Problems.{GivesUsedKinds};
 ghost use Rattle.cts_engine.specs.Accepted.{IsHostedBy, TellBoth, TellAll, IsCircuitRefusal, IsRefusal};
 
 use crate::Refusal;

@@ -1,7 +1,7 @@
 ghost use Rattle.std.specs.Prelude.{◌≡◌, All, IfOk};
-ghost use Rattle.cts_model.specs.ConstraintPaths.{ArePathsOf, ArePathsWithin, GivesWeight};
-ghost use Rattle.cts_model.specs.Constraints.{IsConstraintOf};
-ghost use Rattle.cts_model.specs.PairLists.{AreJoined};
+ghost use Rattle.cts_model.specs.timing.ConstraintPaths.{ArePathsOf, ArePathsWithin, GivesWeight};
+ghost use Rattle.cts_model.specs.timing.Constraints.{IsConstraintOf};
+ghost use Rattle.cts_model.specs.timing.PairLists.{AreJoined};
 ghost use Rattle.path_delays.specs.ExtremePaths.{IsExtremePath};
 ghost use Rattle.path_delays.specs.LevelParts.{IsLevelsOf};
 ghost use Rattle.cts_engine.specs.CyclePaths.{IsShownBy, FitsRoom, IsPathWithin, path_signals};

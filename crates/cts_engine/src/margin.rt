@@ -1,7 +1,7 @@
 ghost use Rattle.std.specs.Prelude.{◌↔◌, ℕ, List, IfOk, IfErr};
-ghost use Rattle.cts_model.specs.PairLists.{JoinsMoreThan};
-ghost use Rattle.cts_model.specs.Paths.{IsLoop};
-ghost use Rattle.cts_model.specs.Schedules.{IsMarginPeriod};
+ghost use Rattle.cts_model.specs.timing.PairLists.{JoinsMoreThan};
+ghost use Rattle.cts_model.specs.netlist.Paths.{IsLoop};
+ghost use Rattle.cts_model.specs.timing.Schedules.{IsMarginPeriod};
 ghost use Rattle.cts_engine.specs.CircuitMargins.{HasNoPath, IsMarginOutcome, IsSmallOutcome, IsUnboundedOutcome};
 ghost use Rattle.cts_engine.specs.Faults.{IsCaused};
 

@@ -1,9 +1,9 @@
 ghost use Rattle.std.specs.Prelude.{◌≡◌, ◌↔◌, ℕ, List, IfOk, IfErr};
 ghost use Rattle.cts_model.specs.declared.circuit.Circuit.{Circuit};
-ghost use Rattle.cts_model.specs.EqualArrivals.{IsZeroSkew};
-ghost use Rattle.cts_model.specs.LeastPeriods.{HasNoPeriod};
-ghost use Rattle.cts_model.specs.PairLists.{HasSmallDelays, JoinsMoreThan};
-ghost use Rattle.cts_model.specs.Paths.{IsLoop};
+ghost use Rattle.cts_model.specs.timing.EqualArrivals.{IsZeroSkew};
+ghost use Rattle.cts_model.specs.timing.LeastPeriods.{HasNoPeriod};
+ghost use Rattle.cts_model.specs.timing.PairLists.{HasSmallDelays, JoinsMoreThan};
+ghost use Rattle.cts_model.specs.netlist.Paths.{IsLoop};
 ghost use Rattle.critical_cycle.specs.CyclePlaces.{AreWithin, constraints_at};
 ghost use Rattle.critical_cycle.specs.Periods.{HasSmallValue, IsPeriodOf};
 ghost use Rattle.path_delays.specs.LevelParts.{IsLevelsOf};

@@ -1,7 +1,7 @@
 ghost use Rattle.std.specs.Prelude.{◌↔◌, ℕ, List, IfOk, IfErr};
-ghost use Rattle.cts_model.specs.LeastPeriods.{HasNoPeriod};
-ghost use Rattle.cts_model.specs.PairLists.{JoinsMoreThan};
-ghost use Rattle.cts_model.specs.Paths.{IsLoop};
+ghost use Rattle.cts_model.specs.timing.LeastPeriods.{HasNoPeriod};
+ghost use Rattle.cts_model.specs.timing.PairLists.{JoinsMoreThan};
+ghost use Rattle.cts_model.specs.netlist.Paths.{IsLoop};
 ghost use Rattle.cts_engine.specs.Faults.{IsCaused};
 ghost use Rattle.cts_engine.specs.Outcomes.{BeginsLowest, IsNeverOutcome};
 ghost use Rattle.cts_engine.specs.ScheduleOutcomes.{HasSmallTimes, IsScheduleOutcome, period_outcome};

@@ -5,10 +5,10 @@ ghost use Rattle.cts_model.specs.declared.problem.Problem.{Problem};
 ghost use Rattle.cts_model.specs.declared.schedule.Schedule.{Schedule};
 ghost use Rattle.cts_model.specs.declared.tech.Tech.{Tech};
 ghost use Rattle.cts_model.specs.declared.tree.Merge.{Merge};
-ghost use Rattle.cts_model.specs.LeastPeriods.{HasNoPeriod};
-ghost use Rattle.cts_model.specs.PairLists.{JoinsMoreThan};
-ghost use Rattle.cts_model.specs.Points.{IsPointBelow, IsUvBelow, IsUvMultipleOf, rotated};
-ghost use Rattle.cts_model.specs.Problems.{grid_of, on_grid, steps_of_micro};
+ghost use Rattle.cts_model.specs.timing.LeastPeriods.{HasNoPeriod};
+ghost use Rattle.cts_model.specs.timing.PairLists.{JoinsMoreThan};
+ghost use Rattle.cts_model.specs.placement.Points.{IsPointBelow, IsUvBelow, IsUvMultipleOf, rotated};
+ghost use Rattle.cts_model.specs.tree.Problems.{grid_of, on_grid, steps_of_micro};
 ghost use Rattle.cts_engine.specs.Faults.{IsCaused};
 ghost use Rattle.cts_engine.specs.SessionOutcomes.{ForbidsFromLowest, HasSmallGrid, IsGrid, IsNeverSession, IsSessionOutcome, StandsAt};
 

@@ -1,5 +1,5 @@
 ghost use Rattle.std.specs.Prelude.{◌≡◌, IfOk, IfErr};
-ghost use Rattle.cts_model.specs.PairLists.{JoinsMoreThan};
+ghost use Rattle.cts_model.specs.timing.PairLists.{JoinsMoreThan};
 ghost use Rattle.path_delays.specs.LevelParts.{IsLevelsOf};
 ghost use Rattle.cts_engine.specs.Faults.{IsCaused};
 ghost use Rattle.cts_engine.specs.RegisterTimes.{HasLeastPeriod};

@@ -1,7 +1,7 @@
 ghost use Rattle.std.specs.Prelude.{◌≡◌, ◌≤◌, ◌^◌, ◌*ℤ◌, All, IfOk, length, unsigned_abs};
-ghost use Rattle.cts_model.specs.Points.{IsBelow, IsPointBelow, rotated};
-ghost use Rattle.cts_model.specs.Problems.{grid_of, on_grid, scheduled_length, sink_of, sinks_of, steps_of_micro};
-ghost use Rattle.cts_model.specs.Schedules.{IsSmallPeriod};
+ghost use Rattle.cts_model.specs.placement.Points.{IsBelow, IsPointBelow, rotated};
+ghost use Rattle.cts_model.specs.tree.Problems.{grid_of, on_grid, scheduled_length, sink_of, sinks_of, steps_of_micro};
+ghost use Rattle.cts_model.specs.timing.Schedules.{IsSmallPeriod};
 
 use cts_base::{Fraction, Listed, NoMemory};
 use cts_model::{Point, Sink, Tech, Uv};

@@ -1,8 +1,8 @@
 ghost use Rattle.std.specs.Prelude.{◌≡◌, ◌<◌, ◌≤◌, ◌+◌, ◌*◌, ◌^◌, pos, All, IfOk, length, slice_index_or};
-ghost use Rattle.cts_model.specs.Embeddings.{embedding_of, total_length};
-ghost use Rattle.cts_model.specs.Points.{IsBelow};
-ghost use Rattle.cts_model.specs.ReportBounds.{IsSmallWire};
-ghost use Rattle.cts_model.specs.Topologies.{IsTopology};
+ghost use Rattle.cts_model.specs.tree.Embeddings.{embedding_of, total_length};
+ghost use Rattle.cts_model.specs.placement.Points.{IsBelow};
+ghost use Rattle.cts_model.specs.report.ReportBounds.{IsSmallWire};
+ghost use Rattle.cts_model.specs.tree.Topologies.{IsTopology};
 ghost use Rattle.cts_engine.specs.Syntheses.{AreDrawn};
 ghost use Rattle.cts_engine.specs.TreeParts.{CanDraw, CanDrawEdge, IsEdgeDrawn};
 

@@ -1,7 +1,7 @@
 ghost use Rattle.std.specs.Prelude.{ℕ, List, IfOk, IfErr};
-ghost use Rattle.cts_model.specs.EqualArrivals.{IsZeroSkew};
-ghost use Rattle.cts_model.specs.PairLists.{HasSmallDelays, JoinsMoreThan};
-ghost use Rattle.cts_model.specs.Paths.{IsLoop};
+ghost use Rattle.cts_model.specs.timing.EqualArrivals.{IsZeroSkew};
+ghost use Rattle.cts_model.specs.timing.PairLists.{HasSmallDelays, JoinsMoreThan};
+ghost use Rattle.cts_model.specs.netlist.Paths.{IsLoop};
 ghost use Rattle.cts_engine.specs.Faults.{IsCaused};
 
 use crate::SynthFault;

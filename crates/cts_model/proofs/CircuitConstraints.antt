@@ -8,11 +8,11 @@ use Rattle.cts_base.specs.declared.fraction.Fraction.{Fraction}
 use Rattle.cts_model.specs.declared.circuit.Circuit.{Circuit}
 use Rattle.cts_model.specs.declared.tech.Tech.{Tech}
 use Rattle.cts_model.specs.declared.constraint.Constraint.{Constraint}
-use Rattle.cts_model.specs.Delays.{least_delay, greatest_delay}
-use Rattle.cts_model.specs.Timing.{MeetsSetup, MeetsHold, Meets, IsAdmitted}
-use Rattle.cts_model.specs.Constraints.{IsSatisfied, Satisfies, IsSetupConstraint, IsHoldConstraint, IsConstraintOf}
-use Rattle.cts_model.specs.Cycles.{ShowsPeriod}
-use Rattle.cts_model.specs.LeastPeriods.{IsCritical, IsForbidding, HasNoPeriod}
+use Rattle.cts_model.specs.timing.Delays.{least_delay, greatest_delay}
+use Rattle.cts_model.specs.timing.Timing.{MeetsSetup, MeetsHold, Meets, IsAdmitted}
+use Rattle.cts_model.specs.timing.Constraints.{IsSatisfied, Satisfies, IsSetupConstraint, IsHoldConstraint, IsConstraintOf}
+use Rattle.cts_model.specs.timing.Cycles.{ShowsPeriod}
+use Rattle.cts_model.specs.timing.LeastPeriods.{IsCritical, IsForbidding, HasNoPeriod}
 use Rattle.cts_model.proofs.CycleLemmas.{shown_period_is_least, forbidden_at_all}
 use borrow.Author.Differences.{up, down}
 

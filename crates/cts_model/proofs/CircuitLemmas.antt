@@ -4,9 +4,9 @@ use Rattle.std.specs.List.{filter_map, enumerate_from, slice_get}
 use Rattle.std.proofs.lemmas.Option.{slice_get-get_or, get_or_from_slice_get}
 use Rattle.cts_model.specs.declared.signal.Signal.{Signal}
 use Rattle.cts_model.specs.declared.circuit.Circuit.{Circuit}
-use Rattle.cts_model.specs.Kinds.{is_register}
-use Rattle.cts_model.specs.Circuits.{register_number}
-use Rattle.cts_model.specs.Paths.{register_signal}
+use Rattle.cts_model.specs.netlist.Kinds.{is_register}
+use Rattle.cts_model.specs.netlist.Circuits.{register_number}
+use Rattle.cts_model.specs.netlist.Paths.{register_signal}
 
 -- the signal of this number is a register
 pub record IsRegisterAt (signals : List Signal) (number : ℕ) : Type 0 where

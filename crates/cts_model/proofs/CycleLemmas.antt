@@ -6,8 +6,8 @@ use Rattle.std.proofs.lemmas.Int.{ints}
 use Rattle.std.proofs.lemmas.List.Elements.{All-head, All-tail, All-weaker, All-contains}
 use Rattle.std.proofs.lemmas.List.Sums.{sum_by-cons}
 use Rattle.cts_model.specs.declared.constraint.Constraint.{Constraint}
-use Rattle.cts_model.specs.Constraints.{count_of, IsSatisfied, Satisfies}
-use Rattle.cts_model.specs.Cycles.{Leads, IsCycle, total_weight, total_count, ShowsPeriod, ForbidsPeriods}
+use Rattle.cts_model.specs.timing.Constraints.{count_of, IsSatisfied, Satisfies}
+use Rattle.cts_model.specs.timing.Cycles.{Leads, IsCycle, total_weight, total_count, ShowsPeriod, ForbidsPeriods}
 use borrow.Author.Differences.{up, down}
 
 -- what a constraint asks of its tail and its head, and others of its head and of where they lead,

@@ -5,9 +5,9 @@ use Rattle.std.proofs.lemmas.Int.{ints}
 use Rattle.std.proofs.lemmas.Option.{slice_get_cases}
 use Rattle.cts_model.specs.declared.place.Sink.{Sink}
 use Rattle.cts_model.specs.declared.tree.Merge.{Merge}
-use Rattle.cts_model.specs.ShownReaches.{AreReaches}
-use Rattle.cts_model.specs.Topologies.{IsTopology}
-use Rattle.cts_model.specs.WaysDown.{IsReachDown, LeadsDown, wire_along}
+use Rattle.cts_model.specs.tree.ShownReaches.{AreReaches}
+use Rattle.cts_model.specs.tree.Topologies.{IsTopology}
+use Rattle.cts_model.specs.tree.WaysDown.{IsReachDown, LeadsDown, wire_along}
 use Rattle.cts_model.proofs.ParentLemmas.{made_parent, parent_above, parent_stands}
 use Rattle.cts_model.proofs.TopologyLemmas.{of_made}
 

@@ -10,11 +10,11 @@ use Rattle.cts_model.specs.declared.place.Point.{Point}
 use Rattle.cts_model.specs.declared.place.Sink.{Sink}
 use Rattle.cts_model.specs.declared.place.Uv.{Uv}
 use Rattle.cts_model.specs.declared.tree.Merge.{Merge}
-use Rattle.cts_model.specs.Embeddings.{Embedding, IsEmbedding, RealisesOffsets}
-use Rattle.cts_model.specs.Points.{distance, rotated_distance, rotated, scaled}
-use Rattle.cts_model.specs.Regions.{span}
-use Rattle.cts_model.specs.ShownReaches.{AreReaches}
-use Rattle.cts_model.specs.Topologies.{IsTopology, IsParent, numbers_below, root_of, source_of}
+use Rattle.cts_model.specs.tree.Embeddings.{Embedding, IsEmbedding, RealisesOffsets}
+use Rattle.cts_model.specs.placement.Points.{distance, rotated_distance, rotated, scaled}
+use Rattle.cts_model.specs.tree.Regions.{span}
+use Rattle.cts_model.specs.tree.ShownReaches.{AreReaches}
+use Rattle.cts_model.specs.tree.Topologies.{IsTopology, IsParent, numbers_below, root_of, source_of}
 use Rattle.cts_model.proofs.ParentLemmas.{made_parent, has_parent, parent_above, parent_stands}
 use Rattle.cts_model.proofs.PointLemmas.{distance_by_way, distance_either, distance_from_zero, distance-itself, distance-rotated}
 use Rattle.cts_model.proofs.ScaleLemmas.{scale-add, scale-distance}

@@ -7,9 +7,9 @@ use Rattle.std.proofs.lemmas.Nat.{mul-le}
 use Rattle.cts_base.specs.declared.fraction.Fraction.{Fraction}
 use Rattle.cts_model.specs.declared.place.Point.{Point}
 use Rattle.cts_model.specs.declared.tech.Tech.{Tech}
-use Rattle.cts_model.specs.Points.{IsBelow, IsPointBelow}
-use Rattle.cts_model.specs.Problems.{grid_of, on_grid, scheduled_length, sink_of, sinks_of, steps_of_micro}
-use Rattle.cts_model.specs.Schedules.{IsSmallPeriod}
+use Rattle.cts_model.specs.placement.Points.{IsBelow, IsPointBelow}
+use Rattle.cts_model.specs.tree.Problems.{grid_of, on_grid, scheduled_length, sink_of, sinks_of, steps_of_micro}
+use Rattle.cts_model.specs.timing.Schedules.{IsSmallPeriod}
 
 -- a product is no larger than the product of the sizes
 pub product_size : (a b : ℤ) (first second : ℕ) → unsigned_abs a ≤ first

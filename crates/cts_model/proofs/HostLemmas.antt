@@ -12,10 +12,10 @@ use Rattle.std.proofs.lemmas.List.Sums.{sum_by_push}
 use Rattle.std.proofs.lemmas.Option.{slice_get_within, get_or_from_slice_get}
 use Rattle.cts_model.specs.declared.signal.Signal.{Signal}
 use Rattle.cts_model.specs.declared.circuit.Circuit.{Circuit}
-use Rattle.cts_model.specs.Kinds.{is_host, is_valid}
-use Rattle.cts_model.specs.Names.{is_name, is_short}
-use Rattle.cts_model.specs.Circuits.{IsCircuit, IsHost, gate_inputs, has_host, host_name, host_signal, is_named}
-use Rattle.cts_model.specs.Hosts.{HasNoHost}
+use Rattle.cts_model.specs.netlist.Kinds.{is_host, is_valid}
+use Rattle.cts_model.specs.text.Names.{is_name, is_short}
+use Rattle.cts_model.specs.netlist.Circuits.{IsCircuit, IsHost, gate_inputs, has_host, host_name, host_signal, is_named}
+use Rattle.cts_model.specs.netlist.Hosts.{HasNoHost}
 use Rattle.cts_model.proofs.RegisterLists.{registers_push_some}
 
 -- where no signal is the host, none at any place is

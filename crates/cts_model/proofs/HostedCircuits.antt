@@ -3,9 +3,9 @@ use Rattle.std.proofs.Common.{◌≡◌, true, [], ◌∷◌, ap, ◌∙◌}
 use Rattle.std.proofs.Math.Bool.{or-true}
 use Rattle.std.proofs.lemmas.List.Folds.{list_any-append}
 use Rattle.cts_model.specs.declared.circuit.Circuit.{Circuit}
-use Rattle.cts_model.specs.Kinds.{is_host}
-use Rattle.cts_model.specs.Circuits.{has_host, host_signal}
-use Rattle.cts_model.specs.Hosts.{IsWithHost}
+use Rattle.cts_model.specs.netlist.Kinds.{is_host}
+use Rattle.cts_model.specs.netlist.Circuits.{has_host, host_signal}
+use Rattle.cts_model.specs.netlist.Hosts.{IsWithHost}
 
 -- one of its signals is the host
 pub has_host-with_host : (circuit hosted : Circuit) → IsWithHost circuit hosted

@@ -8,10 +8,10 @@ use Rattle.cts_model.specs.declared.circuit.Circuit.{Circuit}
 use Rattle.cts_model.specs.declared.tech.Tech.{Tech}
 use Rattle.cts_model.specs.declared.schedule.Lead.{Lead}
 use Rattle.cts_model.specs.declared.schedule.Lead.TheVariants.{Zero, Tight}
-use Rattle.cts_model.specs.Constraints.{IsConstraintOf, count_of}
-use Rattle.cts_model.specs.Leads.{ShowsEarliest, EachShowsEarliest, depth_of, lead_at}
-use Rattle.cts_model.specs.Schedules.{arrival_of, AreFromZero, AreLeastArrivals}
-use Rattle.cts_model.specs.Timing.{Meets}
+use Rattle.cts_model.specs.timing.Constraints.{IsConstraintOf, count_of}
+use Rattle.cts_model.specs.timing.Leads.{ShowsEarliest, EachShowsEarliest, depth_of, lead_at}
+use Rattle.cts_model.specs.timing.Schedules.{arrival_of, AreFromZero, AreLeastArrivals}
+use Rattle.cts_model.specs.timing.Timing.{Meets}
 use Rattle.cts_model.proofs.CircuitConstraints.{met_constraint}
 use Rattle.cts_model.proofs.PathRegisters.{tail_within}
 use Rattle.cts_model.proofs.ScaleLemmas.{size_same, scale-sub, scale-finer, scale-product}

@@ -7,9 +7,9 @@ use Rattle.cts_model.specs.declared.signal.Signal.{Signal}
 use Rattle.cts_model.specs.declared.circuit.Circuit.{Circuit}
 use Rattle.cts_model.specs.declared.tech.GateDelay.{GateDelay}
 use Rattle.cts_model.specs.declared.tech.Tech.{Tech}
-use Rattle.cts_model.specs.Circuits.{IsCircuit}
-use Rattle.cts_model.specs.Tables.{IsTable}
-use Rattle.cts_model.specs.UsedKinds.{AreUsedKinds}
+use Rattle.cts_model.specs.netlist.Circuits.{IsCircuit}
+use Rattle.cts_model.specs.table.Tables.{IsTable}
+use Rattle.cts_model.specs.netlist.UsedKinds.{AreUsedKinds}
 
 -- ---- circuits
 

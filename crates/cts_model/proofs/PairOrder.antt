@@ -3,8 +3,8 @@ use Rattle.std.proofs.Common.{ℕ, ◌≡◌, ◌<◌, List, length, get_or, sym
 use Rattle.std.proofs.lemmas.Bool.{cases_lt}
 use Rattle.std.proofs.lemmas.List.{get_or_default}
 use Rattle.cts_model.specs.declared.timing.PairDelay.{PairDelay}
-use Rattle.cts_model.specs.EqualArrivals.{ComesBefore}
-use Rattle.cts_model.specs.PairLists.{AreOrdered}
+use Rattle.cts_model.specs.timing.EqualArrivals.{ComesBefore}
+use Rattle.cts_model.specs.timing.PairLists.{AreOrdered}
 
 -- no pair comes before another that comes before it
 no_circle : (from to from' to' : ℕ) → ComesBefore from to from' to' → ComesBefore from' to' from to

@@ -7,8 +7,8 @@ use Rattle.std.proofs.lemmas.Int.{ints}
 use Rattle.std.proofs.lemmas.List.{get_or-take, length-take}
 use Rattle.std.proofs.lemmas.Option.{slice_get_within, get_or_from_slice_get}
 use Rattle.cts_model.specs.declared.tree.Merge.{Merge}
-use Rattle.cts_model.specs.Embeddings.{total_length}
-use Rattle.cts_model.specs.Topologies.{IsTopology, IsLive, IsMerge, IsParent, Joins, root_of, source_of}
+use Rattle.cts_model.specs.tree.Embeddings.{total_length}
+use Rattle.cts_model.specs.tree.Topologies.{IsTopology, IsLive, IsMerge, IsParent, Joins, root_of, source_of}
 use Rattle.cts_model.proofs.TotalLemmas.{all_zero, all_nothing, all_ones, total_from_zero}
 use Rattle.cts_model.proofs.TopologyLemmas.{some_and, merge_at, merge_here, EachMerge, first_made, second_made}
 use Rattle.cts_model.proofs.WithoutLemmas.{without_both, without_both-joined, without_both-nothing, nothing_without_both, without_both-other, without_both-from_zero, total_length-without_both}

@@ -10,10 +10,10 @@ use Rattle.cts_model.specs.declared.circuit.Circuit.{Circuit}
 use Rattle.cts_model.specs.declared.constraint.Constraint.{Constraint}
 use Rattle.cts_model.specs.declared.tech.Tech.{Tech}
 use Rattle.cts_model.specs.declared.timing.PairDelay.{PairDelay}
-use Rattle.cts_model.specs.Paths.{register_signal, IsPath}
-use Rattle.cts_model.specs.Constraints.{IsSetupConstraint, IsHoldConstraint, IsConstraintOf}
-use Rattle.cts_model.specs.EqualArrivals.{IsPairDelay}
-use Rattle.cts_model.specs.PairLists.{ListsPairs}
+use Rattle.cts_model.specs.netlist.Paths.{register_signal, IsPath}
+use Rattle.cts_model.specs.timing.Constraints.{IsSetupConstraint, IsHoldConstraint, IsConstraintOf}
+use Rattle.cts_model.specs.timing.EqualArrivals.{IsPairDelay}
+use Rattle.cts_model.specs.timing.PairLists.{ListsPairs}
 
 -- a register that has a signal is one of the circuit's
 register_within : (circuit : Circuit) (register : ℕ) (Holds : Signal → Type 0)

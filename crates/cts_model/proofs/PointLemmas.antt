@@ -3,7 +3,7 @@ use Rattle.std.proofs.Common.{◌≡◌, ℤ, pos, negsuc, ◌+ℤ◌, ◌-ℤ�
 use Rattle.std.proofs.lemmas.Int.{ints, clamps}
 use Rattle.std.specs.Int.{int_max}
 use Rattle.cts_model.specs.declared.place.Point.{Point}
-use Rattle.cts_model.specs.Points.{IsMultipleOf, apart, distance, rotated, rotated_distance}
+use Rattle.cts_model.specs.placement.Points.{IsMultipleOf, apart, distance, rotated, rotated_distance}
 
 -- the sum of two differences is the greater of the two rotated ones
 pub apart-rotated : (x y x' y' : ℤ)

@@ -8,13 +8,13 @@ use Rattle.std.proofs.lemmas.Option.{slice_get_cases, slice_get_read, IfSome_the
 use Rattle.cts_model.specs.declared.place.Sink.{Sink}
 use Rattle.cts_model.specs.declared.place.Uv.{Uv}
 use Rattle.cts_model.specs.declared.tree.Merge.{Merge}
-use Rattle.cts_model.specs.ChosenPlaces.{IsSourceReach}
-use Rattle.cts_model.specs.Embeddings.{Embedding, IsEmbedding, RealisesOffsets, total_length, total_wire}
-use Rattle.cts_model.specs.Points.{rotated_distance}
-use Rattle.cts_model.specs.Reaches.{HasReaches, AreNoLess, total_offset}
-use Rattle.cts_model.specs.Regions.{IsReach, span}
-use Rattle.cts_model.specs.ShownReaches.{AreReaches}
-use Rattle.cts_model.specs.Topologies.{IsTopology, numbers_below, root_of, sinks_below, source_of}
+use Rattle.cts_model.specs.tree.ChosenPlaces.{IsSourceReach}
+use Rattle.cts_model.specs.tree.Embeddings.{Embedding, IsEmbedding, RealisesOffsets, total_length, total_wire}
+use Rattle.cts_model.specs.placement.Points.{rotated_distance}
+use Rattle.cts_model.specs.tree.Reaches.{HasReaches, AreNoLess, total_offset}
+use Rattle.cts_model.specs.tree.Regions.{IsReach, span}
+use Rattle.cts_model.specs.tree.ShownReaches.{AreReaches}
+use Rattle.cts_model.specs.tree.Topologies.{IsTopology, numbers_below, root_of, sinks_below, source_of}
 use Rattle.cts_model.proofs.EmbeddingLemmas.{realised, realised_reaches, realised_of_sink, span_low, source_low, root_low}
 use Rattle.cts_model.proofs.ScaleLemmas.{scale-add}
 use Rattle.cts_model.proofs.TopologyLemmas.{number_below}

@@ -3,8 +3,8 @@ use Rattle.std.proofs.Common.{◌≡◌, ℕ, suc, ◌+◌, true, false, List, [
 use Rattle.std.specs.List.{filter_map, enumerate_from, cons_option}
 use Rattle.std.proofs.lemmas.List.Elements.{filter_map-append}
 use Rattle.cts_model.specs.declared.signal.Signal.{Signal}
-use Rattle.cts_model.specs.Kinds.{is_register}
-use Rattle.cts_model.specs.Circuits.{register_number, registers_of}
+use Rattle.cts_model.specs.netlist.Kinds.{is_register}
+use Rattle.cts_model.specs.netlist.Circuits.{register_number, registers_of}
 
 module _ {X Y : Type 0} (pick : X → Option Y) (xs : List X) (x : X) where
   -- an item at the end from which nothing is picked

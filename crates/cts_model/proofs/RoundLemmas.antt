@@ -4,8 +4,8 @@ use Rattle.std.specs.Prelude.{◌≢◌, ◌==◌, if◌then◌else◌, AllPairs
 use Rattle.std.proofs.lemmas.Bool.{cases_lt, eq-eqb, ne_eqb}
 use Rattle.std.proofs.lemmas.Option.{slice_get-get_or}
 use Rattle.cts_model.specs.declared.constraint.Constraint.{Constraint}
-use Rattle.cts_model.specs.Cycles.{IsCycle, Leads, total_count}
-use Rattle.cts_model.specs.Judgements.{HoldsTogether, HoldsTogetherHere, next_place}
+use Rattle.cts_model.specs.timing.Cycles.{IsCycle, Leads, total_count}
+use Rattle.cts_model.specs.report.Judgements.{HoldsTogether, HoldsTogetherHere, next_place}
 
 -- the constraint at a place, and one of no weight past the end
 abbrev constraint_at : List Constraint → ℕ → Constraint

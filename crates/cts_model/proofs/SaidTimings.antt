@@ -10,13 +10,13 @@ use Rattle.cts_model.specs.declared.period.PeriodShow.{PeriodShow}
 use Rattle.cts_model.specs.declared.period.PeriodShow.TheVariants.{Cycle, Floor}
 use Rattle.cts_model.specs.declared.report.Report.{Report}
 use Rattle.cts_model.specs.declared.tech.Tech.{Tech}
-use Rattle.cts_model.specs.ConstraintPaths.{GivesWeight}
-use Rattle.cts_model.specs.Constraints.{IsConstraintOf}
-use Rattle.cts_model.specs.Judgements.{GivesPeriod, HoldsTogether, IsOfCircuit}
-use Rattle.cts_model.specs.SaidReports.{ShowsLeads, ShowsTiming, IsPeriodShown}
-use Rattle.cts_model.specs.Schedules.{arrival_of}
-use Rattle.cts_model.specs.Shown.{AtEach, IsShownLeast, IsShownTiming, cycle_of}
-use Rattle.cts_model.specs.Slacks.{IsSlack}
+use Rattle.cts_model.specs.timing.ConstraintPaths.{GivesWeight}
+use Rattle.cts_model.specs.timing.Constraints.{IsConstraintOf}
+use Rattle.cts_model.specs.report.Judgements.{GivesPeriod, HoldsTogether, IsOfCircuit}
+use Rattle.cts_model.specs.report.SaidReports.{ShowsLeads, ShowsTiming, IsPeriodShown}
+use Rattle.cts_model.specs.timing.Schedules.{arrival_of}
+use Rattle.cts_model.specs.report.Shown.{AtEach, IsShownLeast, IsShownTiming, cycle_of}
+use Rattle.cts_model.specs.timing.Slacks.{IsSlack}
 use Rattle.cts_model.proofs.RoundLemmas.{cycle_holds_together, round_is_cycle}
 use Rattle.cts_model.proofs.ShownTimings.{all_of_circuit, shown_meets}
 

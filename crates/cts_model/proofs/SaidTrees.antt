@@ -8,15 +8,15 @@ use Rattle.cts_model.specs.declared.place.Uv.{Uv}
 use Rattle.cts_model.specs.declared.report.Report.{Report}
 use Rattle.cts_model.specs.declared.tech.Tech.{Tech}
 use Rattle.cts_model.specs.declared.tree.Merge.{Merge}
-use Rattle.cts_model.specs.Embeddings.{Embedding, embedding_of}
-use Rattle.cts_model.specs.Judgements.{HasShape, IsDrawnEdge, IsReachShown, IsSkewed}
-use Rattle.cts_model.specs.Points.{rotated}
-use Rattle.cts_model.specs.RealisedSchedules.{RealisesSchedule}
-use Rattle.cts_model.specs.ReportLines.{number_at}
-use Rattle.cts_model.specs.SaidReports.{ShowsTree}
-use Rattle.cts_model.specs.Shown.{IsShownTree}
-use Rattle.cts_model.specs.ShownReaches.{AreReaches, ShowsMerge, ShowsSource}
-use Rattle.cts_model.specs.Topologies.{numbers_below, root_of, source_of}
+use Rattle.cts_model.specs.tree.Embeddings.{Embedding, embedding_of}
+use Rattle.cts_model.specs.report.Judgements.{HasShape, IsDrawnEdge, IsReachShown, IsSkewed}
+use Rattle.cts_model.specs.placement.Points.{rotated}
+use Rattle.cts_model.specs.tree.RealisedSchedules.{RealisesSchedule}
+use Rattle.cts_model.specs.report.ReportLines.{number_at}
+use Rattle.cts_model.specs.report.SaidReports.{ShowsTree}
+use Rattle.cts_model.specs.report.Shown.{IsShownTree}
+use Rattle.cts_model.specs.tree.ShownReaches.{AreReaches, ShowsMerge, ShowsSource}
+use Rattle.cts_model.specs.tree.Topologies.{numbers_below, root_of, source_of}
 use Rattle.cts_model.proofs.DownLemmas.{down_are_reaches, reaches_are_down}
 use Rattle.cts_model.proofs.ParentLemmas.{parent_above, parent_stands}
 use Rattle.cts_model.proofs.SaidTimings.{if_there}

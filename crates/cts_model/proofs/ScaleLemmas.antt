@@ -6,7 +6,7 @@ use Rattle.std.proofs.Math.Nat.{mul-add, mul_comm, mul-le-mul_left}
 use Rattle.std.proofs.lemmas.Int.{ints, clamps, by_lt_z}
 use Rattle.std.specs.Int.{int_max}
 use Rattle.cts_model.specs.declared.place.Uv.{Uv}
-use Rattle.cts_model.specs.Points.{apart, scaled, rotated_distance}
+use Rattle.cts_model.specs.placement.Points.{apart, scaled, rotated_distance}
 use borrow.Author.Differences.{up, down}
 
 -- a number from 0 on is its size

@@ -12,12 +12,12 @@ use Rattle.cts_model.specs.declared.period.PeriodShow.{PeriodShow}
 use Rattle.cts_model.specs.declared.period.PeriodShow.TheVariants.{Cycle, Floor}
 use Rattle.cts_model.specs.declared.report.Report.{Report}
 use Rattle.cts_model.specs.declared.tech.Tech.{Tech}
-use Rattle.cts_model.specs.Constraints.{IsConstraintOf}
-use Rattle.cts_model.specs.Judgements.{GivesPeriod, HoldsTogether, IsOfCircuit}
-use Rattle.cts_model.specs.LeastPeriods.{IsFloorPeriod, IsLeastFraction}
-use Rattle.cts_model.specs.Schedules.{arrival_of, IsLeastSchedule}
-use Rattle.cts_model.specs.Shown.{AtEach, IsShownLeast, IsShownTiming, cycle_of}
-use Rattle.cts_model.specs.Timing.{IsAdmitted, Meets}
+use Rattle.cts_model.specs.timing.Constraints.{IsConstraintOf}
+use Rattle.cts_model.specs.report.Judgements.{GivesPeriod, HoldsTogether, IsOfCircuit}
+use Rattle.cts_model.specs.timing.LeastPeriods.{IsFloorPeriod, IsLeastFraction}
+use Rattle.cts_model.specs.timing.Schedules.{arrival_of, IsLeastSchedule}
+use Rattle.cts_model.specs.report.Shown.{AtEach, IsShownLeast, IsShownTiming, cycle_of}
+use Rattle.cts_model.specs.timing.Timing.{IsAdmitted, Meets}
 use Rattle.cts_model.proofs.CircuitConstraints.{cycle_is_least}
 use Rattle.cts_model.proofs.LeadLemmas.{led_arrivals_are_least}
 use Rattle.cts_model.proofs.PathRegisters.{path_within}

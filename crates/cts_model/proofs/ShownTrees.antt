@@ -8,12 +8,12 @@ use Rattle.cts_model.specs.declared.place.Sink.{Sink}
 use Rattle.cts_model.specs.declared.place.Uv.{Uv}
 use Rattle.cts_model.specs.declared.report.Report.{Report}
 use Rattle.cts_model.specs.declared.tree.Merge.{Merge}
-use Rattle.cts_model.specs.Embeddings.{Embedding, IsEmbedding, IsLeastWire, RealisesOffsets, embedding_of}
-use Rattle.cts_model.specs.Points.{scaled, rotated}
-use Rattle.cts_model.specs.ReportLines.{number_at}
-use Rattle.cts_model.specs.Shown.{IsShownTree}
-use Rattle.cts_model.specs.ShownReaches.{AreReaches, AreShown, ShowsMerge, ShowsSource}
-use Rattle.cts_model.specs.Topologies.{IsTopology, numbers_below, root_of, source_of}
+use Rattle.cts_model.specs.tree.Embeddings.{Embedding, IsEmbedding, IsLeastWire, RealisesOffsets, embedding_of}
+use Rattle.cts_model.specs.placement.Points.{scaled, rotated}
+use Rattle.cts_model.specs.report.ReportLines.{number_at}
+use Rattle.cts_model.specs.report.Shown.{IsShownTree}
+use Rattle.cts_model.specs.tree.ShownReaches.{AreReaches, AreShown, ShowsMerge, ShowsSource}
+use Rattle.cts_model.specs.tree.Topologies.{IsTopology, numbers_below, root_of, source_of}
 use Rattle.cts_model.proofs.ParentLemmas.{parent_above, parent_stands}
 use Rattle.cts_model.proofs.TopologyLemmas.{some_and}
 use Rattle.cts_model.proofs.TreeLemmas.{reaches_realise, shown_reaches_are_least}

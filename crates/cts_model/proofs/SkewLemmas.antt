@@ -13,14 +13,14 @@ use Rattle.cts_model.specs.declared.place.Uv.{Uv}
 use Rattle.cts_model.specs.declared.schedule.Schedule.{Schedule}
 use Rattle.cts_model.specs.declared.tech.Tech.{Tech}
 use Rattle.cts_model.specs.declared.tree.Merge.{Merge}
-use Rattle.cts_model.specs.Delays.{least_delay, greatest_delay}
-use Rattle.cts_model.specs.Embeddings.{AreWiresDown, Embedding, IsLeastWire, RealisesOffsets, total_wire}
-use Rattle.cts_model.specs.Problems.{grid_of, scheduled_length, sink_of, sinks_of}
-use Rattle.cts_model.specs.RealisedSchedules.{IsSkewOf, RealisesSchedule}
-use Rattle.cts_model.specs.Schedules.{arrival_of}
-use Rattle.cts_model.specs.SkewLaws.{IsLeastForSchedule}
-use Rattle.cts_model.specs.Timing.{Meets}
-use Rattle.cts_model.specs.WireDelays.{MeetsByWire, delay_period, delay_scale, wire_delay}
+use Rattle.cts_model.specs.timing.Delays.{least_delay, greatest_delay}
+use Rattle.cts_model.specs.tree.Embeddings.{AreWiresDown, Embedding, IsLeastWire, RealisesOffsets, total_wire}
+use Rattle.cts_model.specs.tree.Problems.{grid_of, scheduled_length, sink_of, sinks_of}
+use Rattle.cts_model.specs.tree.RealisedSchedules.{IsSkewOf, RealisesSchedule}
+use Rattle.cts_model.specs.timing.Schedules.{arrival_of}
+use Rattle.cts_model.specs.tree.SkewLaws.{IsLeastForSchedule}
+use Rattle.cts_model.specs.timing.Timing.{Meets}
+use Rattle.cts_model.specs.tree.WireDelays.{MeetsByWire, delay_period, delay_scale, wire_delay}
 use Rattle.cts_model.proofs.PathRegisters.{path_within}
 use Rattle.cts_model.proofs.ScaleLemmas.{size_same, scale_le, scale-add, scale-sub, scale-finer}
 

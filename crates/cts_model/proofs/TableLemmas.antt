@@ -17,11 +17,11 @@ use Rattle.std.proofs.lemmas.Map.Text.{is_eq-slice_cmp}
 use Rattle.std.proofs.lemmas.Slice.Eq.{bytes_eq-Decides}
 use Rattle.toml.specs.Data.{Data, Members}
 use Rattle.cts_model.specs.declared.kind.Kind.{Kind}
-use Rattle.cts_model.specs.Kinds.{place_of}
-use Rattle.cts_model.specs.TableFlaws.{TableFlaw, Missing, WrongType, OutOfRange, LeastAboveGreatest, MissingKind, UnknownKey, absence_flaw, first_flaw, gate_flaw, is_disordered, is_needed, is_no_table, key_flaw, kind_flaw, least_name, lesser_name, name_flaw, order_flaw, register_flaw, section_flaw, table_flaw, unknown_names, value_flaw, way_flaw}
-use Rattle.cts_model.specs.TableKeys.{Key, Section, gate_kinds, gate_way, sections, word_of}
-use Rattle.cts_model.specs.TableValues.{dotted, has_form, is_in_range, number_at, table_at, value_at}
-use Rattle.cts_model.specs.TableLaws.{IsLeastName, AreRegistersDisordered, IsKindDisordered, IsFirstDisorder, IsFirstKind}
+use Rattle.cts_model.specs.netlist.Kinds.{place_of}
+use Rattle.cts_model.specs.table.TableFlaws.{TableFlaw, Missing, WrongType, OutOfRange, LeastAboveGreatest, MissingKind, UnknownKey, absence_flaw, first_flaw, gate_flaw, is_disordered, is_needed, is_no_table, key_flaw, kind_flaw, least_name, lesser_name, name_flaw, order_flaw, register_flaw, section_flaw, table_flaw, unknown_names, value_flaw, way_flaw}
+use Rattle.cts_model.specs.table.TableKeys.{Key, Section, gate_kinds, gate_way, sections, word_of}
+use Rattle.cts_model.specs.table.TableValues.{dotted, has_form, is_in_range, number_at, table_at, value_at}
+use Rattle.cts_model.specs.table.TableLaws.{IsLeastName, AreRegistersDisordered, IsKindDisordered, IsFirstDisorder, IsFirstKind}
 
 -- ---- the least name
 

@@ -11,7 +11,7 @@ use Rattle.std.proofs.lemmas.List.FromFn.{length-range_with_len, get_or-range_wi
 use Rattle.std.proofs.lemmas.Option.{slice_get_within, slice_get-get_or, slice_get_cases, slice_get_read, get_or_from_slice_get}
 use Rattle.cts_model.specs.declared.place.Sink.{Sink}
 use Rattle.cts_model.specs.declared.tree.Merge.{Merge}
-use Rattle.cts_model.specs.Topologies.{IsMerge, numbers_at, sets_after, sets_of, numbers_below, sinks_below}
+use Rattle.cts_model.specs.tree.Topologies.{IsMerge, numbers_at, sets_after, sets_of, numbers_below, sinks_below}
 
 -- a list is what stands before a place, the item there, and the rest
 split_at : (merges : List Merge) (place : ℕ) (merge : Merge) → slice_get merges place ≡ Some merge

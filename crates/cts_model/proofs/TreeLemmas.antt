@@ -10,12 +10,12 @@ use Rattle.cts_model.specs.declared.place.Uv.{Uv}
 use Rattle.cts_model.specs.declared.tree.Merge.{Merge}
 use Rattle.cts_model.specs.declared.tree.Show.{Show}
 use Rattle.cts_model.specs.declared.tree.Show.TheVariants as shows
-use Rattle.cts_model.specs.Embeddings.{Embedding, IsEmbedding, AreWiresDown, RealisesOffsets, IsLeastWire, total_length, total_wire}
-use Rattle.cts_model.specs.Points.{rotated_distance}
-use Rattle.cts_model.specs.Reaches.{HasReaches}
-use Rattle.cts_model.specs.Regions.{span}
-use Rattle.cts_model.specs.ShownReaches.{AreReaches, AreShown, ShowsMerge, ShowsSource}
-use Rattle.cts_model.specs.Topologies.{IsTopology, numbers_below, root_of, source_of}
+use Rattle.cts_model.specs.tree.Embeddings.{Embedding, IsEmbedding, AreWiresDown, RealisesOffsets, IsLeastWire, total_length, total_wire}
+use Rattle.cts_model.specs.placement.Points.{rotated_distance}
+use Rattle.cts_model.specs.tree.Reaches.{HasReaches}
+use Rattle.cts_model.specs.tree.Regions.{span}
+use Rattle.cts_model.specs.tree.ShownReaches.{AreReaches, AreShown, ShowsMerge, ShowsSource}
+use Rattle.cts_model.specs.tree.Topologies.{IsTopology, numbers_below, root_of, source_of}
 use Rattle.cts_model.proofs.EmbeddingLemmas.{realised, realised_reaches, realised_of_sink, span_low, source_low, root_low}
 use Rattle.cts_model.proofs.ParentLemmas.{both_at, has_parent, made_parent, parent_above, parent_stands, total_by_merges}
 use Rattle.cts_model.proofs.ScaleLemmas.{scale-add}

@@ -4,8 +4,8 @@ use Rattle.std.proofs.lemmas.Bool.{cases_lt}
 use Rattle.std.proofs.lemmas.Bool.Decides.{nat_tests}
 use Rattle.std.proofs.lemmas.Int.{ints}
 use Rattle.cts_model.specs.declared.tree.Merge.{Merge}
-use Rattle.cts_model.specs.Embeddings.{total_length}
-use Rattle.cts_model.specs.Topologies.{Joins}
+use Rattle.cts_model.specs.tree.Embeddings.{total_length}
+use Rattle.cts_model.specs.tree.Topologies.{Joins}
 
 -- the values without that of one node
 abbrev without : (ℕ → ℤ) → ℕ → ℕ → ℤ

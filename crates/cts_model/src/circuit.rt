@@ -1,4 +1,4 @@
-ghost use Rattle.cts_model.specs.Circuits.{IsCircuit};
+ghost use Rattle.cts_model.specs.netlist.Circuits.{IsCircuit};
 
 use crate::Signal;
 use cts_base::Listed;
@@ -18,7 +18,7 @@ pub struct Circuit {
 
 impl Circuit {
     ghost use Rattle.std.specs.Prelude.{◌≡◌, ◌<◌, length, Some};
-    ghost use Rattle.cts_model.specs.Paths.{register_signal, register_name};
+    ghost use Rattle.cts_model.specs.netlist.Paths.{register_signal, register_name};
 
     /// The signal that a register is.
     pub fn register_signal(&self, register: usize) -> &Signal

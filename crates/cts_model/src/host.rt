@@ -1,5 +1,5 @@
 ghost use Rattle.std.specs.Prelude.{IfOk};
-ghost use Rattle.cts_model.specs.Hosts.{HasNoHost, IsWithHost};
+ghost use Rattle.cts_model.specs.netlist.Hosts.{HasNoHost, IsWithHost};
 
 use crate::{Circuit, FanIn, Kind, Signal};
 use cts_base::{Listed, NoMemory};

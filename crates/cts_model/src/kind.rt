@@ -1,5 +1,5 @@
 ghost use Rattle.std.specs.Prelude.{◌≡◌};
-ghost use Rattle.cts_model.specs.Kinds as kinds;
+ghost use Rattle.cts_model.specs.netlist.Kinds as kinds;
 
 /// What defines a signal: one of the eight gates, a primary input, a register or the host.
 #[derive(Clone, Copy, Debug, PartialEq, Eq)]

@@ -1,13 +1,13 @@
 //! What constraints and their cycles say of the period: a function's clauses are laws, and its body
 //! is empty.
 
-ghost use Rattle.cts_model.specs.Laws.{CycleBoundsPeriod, ShownPeriodIsLeast, ForbiddenAtAll, MeetsConstraints, CriticalIsLeast, ForbiddingAtAll};
-ghost use Rattle.cts_model.specs.LeadLaws.{LedArrivalsAreLeast};
-ghost use Rattle.cts_model.specs.SaidReports.{ShownIsWhatItSays};
-ghost use Rattle.cts_model.specs.Shown.{ShownIsLeast};
-ghost use Rattle.cts_model.specs.SkewLaws.{OffsetsAreSkews, SkewsAreOffsets, LeastForSchedule, RealisedMeets};
-ghost use Rattle.cts_model.specs.TableLaws.{UnknownKeyIsLeast, FirstDisorderIsDenoted};
-ghost use Rattle.cts_model.specs.TreeLaws.{ReachesRealise, ShownReachesAreLeast, RealisedHaveReaches, ReachesAreNoLess, WireIsOfReaches};
+ghost use Rattle.cts_model.specs.timing.Laws.{CycleBoundsPeriod, ShownPeriodIsLeast, ForbiddenAtAll, MeetsConstraints, CriticalIsLeast, ForbiddingAtAll};
+ghost use Rattle.cts_model.specs.timing.LeadLaws.{LedArrivalsAreLeast};
+ghost use Rattle.cts_model.specs.report.SaidReports.{ShownIsWhatItSays};
+ghost use Rattle.cts_model.specs.report.Shown.{ShownIsLeast};
+ghost use Rattle.cts_model.specs.tree.SkewLaws.{OffsetsAreSkews, SkewsAreOffsets, LeastForSchedule, RealisedMeets};
+ghost use Rattle.cts_model.specs.table.TableLaws.{UnknownKeyIsLeast, FirstDisorderIsDenoted};
+ghost use Rattle.cts_model.specs.tree.TreeLaws.{ReachesRealise, ShownReachesAreLeast, RealisedHaveReaches, ReachesAreNoLess, WireIsOfReaches};
 
 /// A cycle among constraints bounds the periods at which any arrivals satisfy them.
 pub fn cycles()

@@ -1,5 +1,5 @@
 ghost use Rattle.std.specs.Prelude.{◌≡◌, ◌*◌, ◌^◌, pos, ◌+ℤ◌, ◌≤ℤ◌, ◌<ℤ◌};
-ghost use Rattle.cts_model.specs.Points.{IsBelow, IsMultipleOf, IsPointBelow, apart, distance, rotated, rotated_distance};
+ghost use Rattle.cts_model.specs.placement.Points.{IsBelow, IsMultipleOf, IsPointBelow, apart, distance, rotated, rotated_distance};
 
 use cts_base::Listed;
 

@@ -1,4 +1,4 @@
-ghost use Rattle.cts_model.specs.Problems.{IsProblem};
+ghost use Rattle.cts_model.specs.tree.Problems.{IsProblem};
 
 use crate::{Circuit, Places, Tech};
 

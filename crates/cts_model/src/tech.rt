@@ -1,4 +1,4 @@
-ghost use Rattle.cts_model.specs.Tables.{IsTable};
+ghost use Rattle.cts_model.specs.table.Tables.{IsTable};
 
 use cts_base::{Listed, Name};
 use std::alloc::Global;
@@ -45,7 +45,7 @@ pub struct Tech {
 }
 
 impl Tech {
-    ghost use Rattle.cts_model.specs.PlainTable.{IsPlainTable};
+    ghost use Rattle.cts_model.specs.table.PlainTable.{IsPlainTable};
 
     /// The built-in table: wires of one tick per length unit, registers with setup 2, hold 1 and
     /// delay 3, gates of one tick, no floor, no source and no host. It takes no memory.

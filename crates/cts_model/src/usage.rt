@@ -1,5 +1,5 @@
 ghost use Rattle.std.specs.Prelude.{◌≡◌, ◌↔◌, IsTrue, Any};
-ghost use Rattle.cts_model.specs.UsedKinds.{AreUsedKinds};
+ghost use Rattle.cts_model.specs.netlist.UsedKinds.{AreUsedKinds};
 
 use crate::{Circuit, Kind};
 

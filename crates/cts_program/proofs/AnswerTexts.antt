@@ -10,10 +10,10 @@ use Rattle.cts_model.specs.declared.problem.Problem.{Problem}
 use Rattle.cts_model.specs.declared.report.Version.TheVariants.{First, Second}
 use Rattle.cts_model.specs.declared.tech.Tech.{Tech}
 use Rattle.cts_model.specs.declared.tree.Topology.{Topology}
-use Rattle.cts_model.specs.LeastPeriods.{HasNoPeriod, IsForbidding, IsLeastFraction}
-use Rattle.cts_model.specs.PrintedLines.{Words, text_of, show_lines}
-use Rattle.cts_model.specs.Problems.{grid_of}
-use Rattle.cts_model.specs.ReportLines.{report_lines}
+use Rattle.cts_model.specs.timing.LeastPeriods.{HasNoPeriod, IsForbidding, IsLeastFraction}
+use Rattle.cts_model.specs.text.PrintedLines.{Words, text_of, show_lines}
+use Rattle.cts_model.specs.tree.Problems.{grid_of}
+use Rattle.cts_model.specs.report.ReportLines.{report_lines}
 use Rattle.cts_model.proofs.CircuitConstraints.{forbidding_at_all}
 use Rattle.cts_model.proofs.PathRegisters.{tails_within}
 use Rattle.cts_engine.specs.declared.margin.MarginOutcome.{MarginOutcome}

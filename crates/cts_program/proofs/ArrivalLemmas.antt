@@ -5,7 +5,7 @@ use Rattle.std.proofs.lemmas.List.Elements.{All-replicate, All-weaker}
 use Rattle.cts_base.specs.declared.fraction.Fraction.{Fraction}
 use Rattle.cts_base.specs.Fractions.{HasSizeBelow}
 use Rattle.cts_model.specs.declared.schedule.Schedule.{Schedule}
-use Rattle.cts_model.specs.Points.{IsBelow}
+use Rattle.cts_model.specs.placement.Points.{IsBelow}
 use Rattle.corners.specs.CornerOutcomes.{AreSmallCommonTimes}
 use Rattle.safety_margin.specs.SparingSchedules.{IsSmallSparing}
 use Rattle.cts_program.specs.ArrivalTexts.{CanPrint, all_at_zero}

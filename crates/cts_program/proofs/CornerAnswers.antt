@@ -9,11 +9,11 @@ use Rattle.cts_model.specs.declared.constraint.Constraint.{Constraint}
 use Rattle.cts_model.specs.declared.period.PeriodShow.{PeriodShow}
 use Rattle.cts_model.specs.declared.period.PeriodShow.TheVariants as shows
 use Rattle.cts_model.specs.declared.tech.Tech.{Tech}
-use Rattle.cts_model.specs.AcceptedTables.{AcceptsTable}
-use Rattle.cts_model.specs.Cycles.{IsCycle}
-use Rattle.cts_model.specs.Netlists.{signals_of}
-use Rattle.cts_model.specs.PrintedLines.{Words}
-use Rattle.cts_model.specs.ReportBounds.{IsBetweenRegisters}
+use Rattle.cts_model.specs.table.AcceptedTables.{AcceptsTable}
+use Rattle.cts_model.specs.timing.Cycles.{IsCycle}
+use Rattle.cts_model.specs.netlist.Netlists.{signals_of}
+use Rattle.cts_model.specs.text.PrintedLines.{Words}
+use Rattle.cts_model.specs.report.ReportBounds.{IsBetweenRegisters}
 use Rattle.cts_model.proofs.OneRecord.{one_use}
 use Rattle.cts_model.proofs.ScaleLemmas.{size_same}
 use Rattle.delay_tables.proofs.OneTable.{one_table}

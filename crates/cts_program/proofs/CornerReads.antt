@@ -6,10 +6,10 @@ use Rattle.cts_io.specs.Device.{Rose}
 use Rattle.cts_model.specs.declared.circuit.Circuit.{Circuit}
 use Rattle.cts_model.specs.declared.signal.Signal.{Signal}
 use Rattle.cts_model.specs.declared.tech.Tech.{Tech}
-use Rattle.cts_model.specs.Netlists.{signals_of}
-use Rattle.cts_model.specs.PairLists.{JoinsMoreThan}
-use Rattle.cts_model.specs.Paths.{IsLoop}
-use Rattle.cts_model.specs.UsedKinds.{AreUsedKinds}
+use Rattle.cts_model.specs.netlist.Netlists.{signals_of}
+use Rattle.cts_model.specs.timing.PairLists.{JoinsMoreThan}
+use Rattle.cts_model.specs.netlist.Paths.{IsLoop}
+use Rattle.cts_model.specs.netlist.UsedKinds.{AreUsedKinds}
 use Rattle.delay_tables.specs.declared.fault.TechFault.{TechFault}
 use Rattle.delay_tables.specs.declared.fault.TechFault.TheVariants as tech
 use Rattle.delay_tables.specs.Refusals.{RefusesTable}

@@ -3,7 +3,7 @@ use Rattle.std.proofs.Common.{◌≡◌, ◌≤◌, ◌*◌, ℕ, List, [], ◌�
 use Rattle.std.specs.Str.Parse.{digits_value}
 use Rattle.std.proofs.Math.Seq.{drop-append_seam}
 use Rattle.std.proofs.lemmas.List.{drop-append-le}
-use Rattle.cts_model.specs.PrintedLines.{Words}
+use Rattle.cts_model.specs.text.PrintedLines.{Words}
 
 -- the number that a line has after its first word; a line of one word has 0
 abbrev pub number_in : Words → ℕ

@@ -7,9 +7,9 @@ use Rattle.cts_model.specs.declared.constraint.Constraint.{Constraint}
 use Rattle.cts_model.specs.declared.period.PeriodShow.{PeriodShow}
 use Rattle.cts_model.specs.declared.period.PeriodShow.TheVariants.{Cycle, Floor}
 use Rattle.cts_model.specs.declared.tech.Tech.{Tech}
-use Rattle.cts_model.specs.Constraints.{IsConstraintOf}
-use Rattle.cts_model.specs.LeastPeriods.{IsPeriodShow}
-use Rattle.cts_model.specs.ReportBounds.{IsBetweenRegisters, ShowsPeriodAmong}
+use Rattle.cts_model.specs.timing.Constraints.{IsConstraintOf}
+use Rattle.cts_model.specs.timing.LeastPeriods.{IsPeriodShow}
+use Rattle.cts_model.specs.report.ReportBounds.{IsBetweenRegisters, ShowsPeriodAmong}
 use Rattle.cts_model.proofs.PathRegisters.{tail_within, head_within}
 use Rattle.corners.specs.CornerCycles.{IsConstraintIn, AreOfCorners}
 

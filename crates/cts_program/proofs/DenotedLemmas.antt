@@ -2,10 +2,10 @@
 use Rattle.std.proofs.Common.{◌≡◌, ℕ, List, [], ◌∷◌, Option, Some, None, Result, IfOk, Bor, refl, sym, subst}
 use Rattle.cts_model.specs.declared.circuit.Circuit.{Circuit}
 use Rattle.cts_model.specs.declared.tech.Tech.{Tech}
-use Rattle.cts_model.specs.Paths.{IsLoop}
-use Rattle.cts_model.specs.PairLists.{JoinsMoreThan}
-use Rattle.cts_model.specs.PlainTable.{IsPlainTable}
-use Rattle.cts_model.specs.UsedKinds.{AreUsedKinds}
+use Rattle.cts_model.specs.netlist.Paths.{IsLoop}
+use Rattle.cts_model.specs.timing.PairLists.{JoinsMoreThan}
+use Rattle.cts_model.specs.table.PlainTable.{IsPlainTable}
+use Rattle.cts_model.specs.netlist.UsedKinds.{AreUsedKinds}
 use Rattle.cts_engine.specs.Accepted.{IsHostedBy}
 use Rattle.cts_engine.proofs.HostedLoops.{acyclic, both_acyclic}
 use Rattle.cts_engine.proofs.OneProblem.{table_accepted}

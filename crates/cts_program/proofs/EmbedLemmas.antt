@@ -3,8 +3,8 @@
 use Rattle.std.proofs.Common.{ℕ, List, length, Option, Result, Ok, Err, IfOk, Bor, refl, sym, subst}
 use Rattle.cts_model.specs.declared.problem.Problem.{Problem}
 use Rattle.cts_model.specs.declared.tree.Topology.{Topology}
-use Rattle.cts_model.specs.PairLists.{JoinsMoreThan}
-use Rattle.cts_model.specs.Topologies.{IsTopology}
+use Rattle.cts_model.specs.timing.PairLists.{JoinsMoreThan}
+use Rattle.cts_model.specs.tree.Topologies.{IsTopology}
 use Rattle.topology_file.specs.declared.fault.TopologyFault.{TopologyFault}
 use Rattle.topology_file.specs.declared.fault.TopologyFault.TheVariants as fault
 use Rattle.topology_file.specs.Refusals.{RefusesTopology}

@@ -3,8 +3,8 @@ use Rattle.std.proofs.Common.{◌≡◌, ◌+◌, ◌++◌, ◌∷◌, ◌∙◌
 use Rattle.std.proofs.lemmas.Grind.{flat_map-append}
 use Rattle.std.proofs.lemmas.List.FromFn.{map-range_with_len_more}
 use Rattle.cts_model.specs.declared.circuit.Circuit.{Circuit}
-use Rattle.cts_model.specs.PrintedLines.{Words, line_of, text_of, constraint_line}
-use Rattle.cts_model.specs.ReportLines.{lines_below}
+use Rattle.cts_model.specs.text.PrintedLines.{Words, line_of, text_of, constraint_line}
+use Rattle.cts_model.specs.report.ReportLines.{lines_below}
 
 -- a line was appended, whose weight is this number
 pub weight_line : {T E : Type 0} (result : Result T E) (before now word : List ℕ)

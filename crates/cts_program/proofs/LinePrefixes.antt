@@ -4,7 +4,7 @@ use Rattle.std.specs.List.{AllByRecursion, join_with_byte, position_or_len}
 use Rattle.std.proofs.Math.Seq.{take-append_seam, drop-append_seam}
 use Rattle.std.proofs.lemmas.Bool.Decides.{nat_tests}
 use Rattle.std.proofs.lemmas.List.{length-take, take-append-drop}
-use Rattle.cts_model.specs.PrintedLines.{Words, text_of}
+use Rattle.cts_model.specs.text.PrintedLines.{Words, text_of}
 use Rattle.report_text.proofs.OneLine.{IsWord, IsLine, one_text}
 use Rattle.report_text.proofs.ReportWords.{AreLines}
 use Rattle.cts_program.proofs.CountedLines.{AreCounted, no_more}

@@ -1,7 +1,7 @@
 -- What the command `moves` is left with: moves that are refused, too many pairs, or lines of wire.
 use Rattle.std.proofs.Common.{ℕ, List, Option, Result, Ok, Err, IfOk, Bor, refl, inr}
 use Rattle.cts_model.specs.declared.problem.Problem.{Problem}
-use Rattle.cts_model.specs.PairLists.{JoinsMoreThan}
+use Rattle.cts_model.specs.timing.PairLists.{JoinsMoreThan}
 use Rattle.move_session.specs.declared.fault.MovesFault.{MovesFault}
 use Rattle.move_session.specs.declared.fault.MovesFault.TheVariants as fault
 use Rattle.move_session.specs.declared.moves.Move.{Move}

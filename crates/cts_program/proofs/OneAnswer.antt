@@ -3,9 +3,9 @@ use Rattle.std.proofs.Common.{ℕ, ◌≡◌, ◌≢◌, ◌<◌, ◌⊎◌, inl
 use Rattle.cts_model.specs.declared.circuit.Circuit.{Circuit}
 use Rattle.cts_model.specs.declared.problem.Problem.{Problem}
 use Rattle.cts_model.specs.declared.tech.Tech.{Tech}
-use Rattle.cts_model.specs.PairLists.{JoinsMoreThan}
-use Rattle.cts_model.specs.PlainTable.{IsPlainTable}
-use Rattle.cts_model.specs.PrintedLines.{text_of}
+use Rattle.cts_model.specs.timing.PairLists.{JoinsMoreThan}
+use Rattle.cts_model.specs.table.PlainTable.{IsPlainTable}
+use Rattle.cts_model.specs.text.PrintedLines.{text_of}
 use Rattle.cts_model.proofs.OneRecord.{same_tech}
 use Rattle.move_session.specs.Entries.{entries_of}
 use Rattle.move_session.proofs.EntryLemmas.{length-DenoteEach}

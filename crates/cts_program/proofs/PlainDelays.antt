@@ -6,12 +6,12 @@ use Rattle.cts_model.specs.declared.kind.Kind.{Kind}
 use Rattle.cts_model.specs.declared.kind.Kind.TheVariants.{And, Nand, Or, Nor, Not, Xor, Xnor, Buff, Input, Dff, Host}
 use Rattle.cts_model.specs.declared.tech.GateDelay.{GateDelay}
 use Rattle.cts_model.specs.declared.tech.Tech.{Tech}
-use Rattle.cts_model.specs.Circuits.{has_host}
-use Rattle.cts_model.specs.Delays.{no_delay, delay_of}
-use Rattle.cts_model.specs.Hosts.{HasNoHost}
-use Rattle.cts_model.specs.Kinds.{is_gate, place_of}
-use Rattle.cts_model.specs.PlainTable.{one_tick, IsPlainTable}
-use Rattle.cts_model.specs.Problems.{GivesUsedKinds}
+use Rattle.cts_model.specs.netlist.Circuits.{has_host}
+use Rattle.cts_model.specs.timing.Delays.{no_delay, delay_of}
+use Rattle.cts_model.specs.netlist.Hosts.{HasNoHost}
+use Rattle.cts_model.specs.netlist.Kinds.{is_gate, place_of}
+use Rattle.cts_model.specs.table.PlainTable.{one_tick, IsPlainTable}
+use Rattle.cts_model.specs.tree.Problems.{GivesUsedKinds}
 
 -- they serve every circuit
 pub gives_plain : (circuit : Circuit) (tech : Tech) → IsPlainTable tech

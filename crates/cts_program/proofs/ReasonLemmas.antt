@@ -2,8 +2,8 @@
 use Rattle.std.proofs.Common.{◌≡◌, ◌<◌, ◌⊎◌, ℕ, length, inl, inr, refl, sym, ◌∙◌, subst}
 use Rattle.cts_model.specs.declared.problem.Problem.{Problem}
 use Rattle.cts_model.specs.declared.report.Report.{Report}
-use Rattle.cts_model.specs.ReportBounds.{IsOfSize}
-use Rattle.cts_model.specs.Shown.{sinks_in}
+use Rattle.cts_model.specs.report.ReportBounds.{IsOfSize}
+use Rattle.cts_model.specs.report.Shown.{sinks_in}
 use Rattle.cts_model.proofs.SkewLemmas.{length-sinks_of}
 use Rattle.cert_check.specs.declared.verdict.Reason.{Reason}
 use Rattle.cert_check.specs.declared.verdict.Reason.TheVariants.{BelowFloor, CycleBroken, NotOfCircuit, CycleValue, ScheduleMisses, TreeShape, TooShort, WireSum, SkewDiffers, Unshown, Total, SlackDiffers, PathBroken, NotLeast}

@@ -24,5 +24,6 @@ pub no_error : {T E : Type 0} {value : T} {error : E} → IsErrOf (Ok value) err
 no_error same = cc same
 
 -- a refusal by one error is by no other
-pub same_error : {T E : Type 0} {error other : E} → IsErrOf {T = T} (Err error) other → error ≡ other
+pub same_error : {T E : Type 0} {error other : E}
+    → IsErrOf {T = T} (Err error) other → error ≡ other
 same_error same = cc same

@@ -2,7 +2,7 @@
 use Rattle.std.proofs.Common.{◌≡◌, ℕ, inl, inr}
 use Rattle.cts_model.specs.declared.problem.Problem.{Problem}
 use Rattle.cts_model.specs.declared.report.Report.{Report}
-use Rattle.cts_model.specs.Shown.{AtEach, IsShown, IsShownTiming, IsShownTree, sinks_in, source_in}
+use Rattle.cts_model.specs.report.Shown.{AtEach, IsShown, IsShownTiming, IsShownTree, sinks_in, source_in}
 use Rattle.cert_check.specs.declared.verdict.Reason.{Reason}
 use Rattle.cert_check.specs.declared.verdict.Verdict.{Verdict}
 use Rattle.cert_check.specs.declared.verdict.Verdict.TheVariants.{Shown, Not}

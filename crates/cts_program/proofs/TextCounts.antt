@@ -20,11 +20,11 @@ use Rattle.cts_model.specs.declared.report.Version.TheVariants.{First, Second}
 use Rattle.cts_model.specs.declared.schedule.Schedule.{Schedule}
 use Rattle.cts_model.specs.declared.schedule.Slack.{Slack}
 use Rattle.cts_model.specs.declared.tech.Tech.{Tech}
-use Rattle.cts_model.specs.Cycles.{IsCycle}
-use Rattle.cts_model.specs.LeastPeriods.{IsForbidding, IsPeriodShow}
-use Rattle.cts_model.specs.PrintedLines.{Words, count_line, line_for, cycle_lines}
-use Rattle.cts_model.specs.ReportBounds.{count_in, IsOfSize}
-use Rattle.cts_model.specs.ReportLines.{pathed_lines, period_show_lines, lines_below, register_line_at, lead_line, merge_line_at, source_line, node_line_at, length_text, tree_lines, report_lines}
+use Rattle.cts_model.specs.timing.Cycles.{IsCycle}
+use Rattle.cts_model.specs.timing.LeastPeriods.{IsForbidding, IsPeriodShow}
+use Rattle.cts_model.specs.text.PrintedLines.{Words, count_line, line_for, cycle_lines}
+use Rattle.cts_model.specs.report.ReportBounds.{count_in, IsOfSize}
+use Rattle.cts_model.specs.report.ReportLines.{pathed_lines, period_show_lines, lines_below, register_line_at, lead_line, merge_line_at, source_line, node_line_at, length_text, tree_lines, report_lines}
 use Rattle.cts_model.proofs.PathRegisters.{tails_within}
 use Rattle.cts_program.specs.ArrivalTexts.{arrival_line, arrival_lines}
 use Rattle.cts_program.specs.PeriodTexts.{never_lines}

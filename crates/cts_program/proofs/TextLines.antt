@@ -16,8 +16,8 @@ use Rattle.cts_model.specs.declared.schedule.Slack.{Slack}
 use Rattle.cts_model.specs.declared.tech.Tech.{Tech}
 use Rattle.cts_model.specs.declared.timing.ZeroSkew.{ZeroSkew}
 use Rattle.cts_model.specs.declared.timing.ZeroSkew.TheVariants.{Fails, Floor, Setup}
-use Rattle.cts_model.specs.PrintedLines.{Words, period_line, line_for, cycle_lines, show_lines}
-use Rattle.cts_model.specs.ReportLines.{version_line, tree_lines}
+use Rattle.cts_model.specs.text.PrintedLines.{Words, period_line, line_for, cycle_lines, show_lines}
+use Rattle.cts_model.specs.report.ReportLines.{version_line, tree_lines}
 use Rattle.report_text.specs.WireLines.{wire_line}
 use Rattle.report_text.proofs.OneLine.{IsWord, IsLine}
 use Rattle.report_text.proofs.ReportWords.{AreLines, report_lines_are}

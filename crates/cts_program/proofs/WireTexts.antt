@@ -9,9 +9,9 @@ use Rattle.cts_model.specs.declared.place.Point.{Point}
 use Rattle.cts_model.specs.declared.problem.Problem.{Problem}
 use Rattle.cts_model.specs.declared.schedule.Schedule.{Schedule}
 use Rattle.cts_model.specs.declared.tree.Merge.{Merge}
-use Rattle.cts_model.specs.GreedyMerges.{IsGreedy}
-use Rattle.cts_model.specs.PrintedLines.{line_of, text_of}
-use Rattle.cts_model.specs.Problems.{sinks_of}
+use Rattle.cts_model.specs.tree.GreedyMerges.{IsGreedy}
+use Rattle.cts_model.specs.text.PrintedLines.{line_of, text_of}
+use Rattle.cts_model.specs.tree.Problems.{sinks_of}
 use Rattle.cts_model.proofs.SkewLemmas.{length-sinks_of}
 use Rattle.move_session.specs.declared.moves.Move.{Move}
 use Rattle.move_session.specs.Entries.{Fields, entries_of, fields_of}

@@ -4,10 +4,10 @@ use Rattle.std.specs.Prelude.{◌^◌, ℕ, pos, ◌≤ℤ◌, List, [], ◌∷�
 use Rattle.cts_base.specs.Fractions.{HasSizeBelow, quotient_text}
 use Rattle.cts_model.specs.declared.circuit.Circuit.{Circuit}
 use Rattle.cts_model.specs.declared.schedule.Schedule.{Schedule}
-use Rattle.cts_model.specs.Paths.{register_name}
-use Rattle.cts_model.specs.PrintedLines.{Words, count_line}
-use Rattle.cts_model.specs.ReportLines.{lines_below}
-use Rattle.cts_model.specs.Schedules.{arrival_of}
+use Rattle.cts_model.specs.netlist.Paths.{register_name}
+use Rattle.cts_model.specs.text.PrintedLines.{Words, count_line}
+use Rattle.cts_model.specs.report.ReportLines.{lines_below}
+use Rattle.cts_model.specs.timing.Schedules.{arrival_of}
 
 -- a register and its arrival in ticks, by its number
 abbrev pub arrival_line : Circuit → Schedule → ℕ → Words

@@ -4,10 +4,10 @@ use Rattle.std.specs.Prelude.{◌≡◌, ◌≢◌, ℕ, List, [], ◌∷◌, �
 use Rattle.cts_model.specs.declared.circuit.Circuit.{Circuit}
 use Rattle.cts_model.specs.declared.problem.Problem.{Problem}
 use Rattle.cts_model.specs.declared.report.Report as reports
-use Rattle.cts_model.specs.Paths.{register_name}
-use Rattle.cts_model.specs.PrintedLines.{Words}
-use Rattle.cts_model.specs.ReportBounds.{Spells}
-use Rattle.cts_model.specs.Shown.{IsShown, ShowsLeast}
+use Rattle.cts_model.specs.netlist.Paths.{register_name}
+use Rattle.cts_model.specs.text.PrintedLines.{Words}
+use Rattle.cts_model.specs.report.ReportBounds.{Spells}
+use Rattle.cts_model.specs.report.Shown.{IsShown, ShowsLeast}
 use Rattle.cert_check.specs.declared.verdict.Reason.{Reason}
 use Rattle.cert_check.specs.declared.verdict.Reason.TheVariants.{ScheduleMisses, SkewDiffers, SlackDiffers, NotLeast}
 use Rattle.cert_check.specs.declared.verdict.Verdict.TheVariants.{Not}

@@ -3,10 +3,10 @@
 use Rattle.std.specs.Prelude.{◌≡◌, ◌≢◌, ◌==◌, ◌⊎◌, ℕ, suc, Bool, List, [], ◌∷◌, ◌++◌, All, length, take}
 use Rattle.cts_model.specs.declared.circuit.Circuit.{Circuit}
 use Rattle.cts_model.specs.declared.tech.Tech.{Tech}
-use Rattle.cts_model.specs.AcceptedTables.{AcceptsTable}
-use Rattle.cts_model.specs.Netlists.{signals_of}
-use Rattle.cts_model.specs.PairLists.{JoinsMoreThan}
-use Rattle.cts_model.specs.UsedKinds.{AreUsedKinds}
+use Rattle.cts_model.specs.table.AcceptedTables.{AcceptsTable}
+use Rattle.cts_model.specs.netlist.Netlists.{signals_of}
+use Rattle.cts_model.specs.timing.PairLists.{JoinsMoreThan}
+use Rattle.cts_model.specs.netlist.UsedKinds.{AreUsedKinds}
 use Rattle.corners.specs.CommonPeriods.{HasNoCommonPeriod}
 use Rattle.cts_engine.specs.Accepted.{TellBoth, HasTableFault}
 use Rattle.failure_lines.specs.declared.failure.Failure.{Failure}

@@ -3,8 +3,8 @@
 use Rattle.std.specs.Prelude.{◌≡◌, ℕ, List, [], ◌∷◌, codes}
 use Rattle.cts_model.specs.declared.problem.Problem.{Problem}
 use Rattle.cts_model.specs.declared.report.Report.{Report}
-use Rattle.cts_model.specs.PrintedLines.{Words, text_of, count_line, period_line}
-use Rattle.cts_model.specs.ReportLines.{length_text}
+use Rattle.cts_model.specs.text.PrintedLines.{Words, text_of, count_line, period_line}
+use Rattle.cts_model.specs.report.ReportLines.{length_text}
 use Rattle.cert_check.specs.declared.verdict.Verdict.TheVariants.{Shown}
 use Rattle.cert_check.specs.Verdicts.{IsVerdict}
 use Rattle.cts_io.specs.declared.memory_inputs.HeldFile.{HeldFile}

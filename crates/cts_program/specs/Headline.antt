@@ -6,19 +6,19 @@ use Rattle.cts_model.specs.declared.problem.Problem.{Problem}
 use Rattle.cts_model.specs.declared.report.Report.{Report}
 use Rattle.cts_model.specs.declared.report.Version.TheVariants.{Second}
 use Rattle.cts_model.specs.declared.tree.Topology.{Topology}
-use Rattle.cts_model.specs.ConstraintPaths.{ArePathsOf}
-use Rattle.cts_model.specs.Constraints.{IsConstraintOf}
-use Rattle.cts_model.specs.Embeddings.{embedding_of, total_wire}
-use Rattle.cts_model.specs.GreedyMerges.{IsGreedy}
-use Rattle.cts_model.specs.Leads.{EachLead}
-use Rattle.cts_model.specs.LeastPeriods.{IsLeastFraction, IsPeriodShow}
-use Rattle.cts_model.specs.RealisedSchedules.{RealisesSchedule}
-use Rattle.cts_model.specs.ReportBounds.{Spells}
-use Rattle.cts_model.specs.Schedules.{IsLeastSchedule}
-use Rattle.cts_model.specs.SkewLaws.{IsLeastForSchedule}
-use Rattle.cts_model.specs.Slacks.{AreSlacks}
-use Rattle.cts_model.specs.WireDelays.{MeetsByWire}
-use Rattle.cts_model.specs.Shown.{sinks_in, source_in}
+use Rattle.cts_model.specs.timing.ConstraintPaths.{ArePathsOf}
+use Rattle.cts_model.specs.timing.Constraints.{IsConstraintOf}
+use Rattle.cts_model.specs.tree.Embeddings.{embedding_of, total_wire}
+use Rattle.cts_model.specs.tree.GreedyMerges.{IsGreedy}
+use Rattle.cts_model.specs.timing.Leads.{EachLead}
+use Rattle.cts_model.specs.timing.LeastPeriods.{IsLeastFraction, IsPeriodShow}
+use Rattle.cts_model.specs.tree.RealisedSchedules.{RealisesSchedule}
+use Rattle.cts_model.specs.report.ReportBounds.{Spells}
+use Rattle.cts_model.specs.timing.Schedules.{IsLeastSchedule}
+use Rattle.cts_model.specs.tree.SkewLaws.{IsLeastForSchedule}
+use Rattle.cts_model.specs.timing.Slacks.{AreSlacks}
+use Rattle.cts_model.specs.tree.WireDelays.{MeetsByWire}
+use Rattle.cts_model.specs.report.Shown.{sinks_in, source_in}
 use Rattle.cts_engine.specs.Syntheses.{AreDrawn, IsPlacedTree}
 use Rattle.cts_engine.specs.SynthesisOutcomes.{ShowsFromLowest}
 

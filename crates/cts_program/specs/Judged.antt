@@ -5,9 +5,9 @@ use Rattle.std.specs.Prelude.{◌≡◌, ℕ, List, [], ◌∷◌}
 use Rattle.cts_model.specs.declared.circuit.Circuit.{Circuit}
 use Rattle.cts_model.specs.declared.tech.Tech.{Tech}
 use Rattle.cts_model.specs.declared.problem.Problem.{Problem}
-use Rattle.cts_model.specs.Netlists.{IsNetlist, AcceptsNetlist}
-use Rattle.cts_model.specs.Paths.{register_name}
-use Rattle.cts_model.specs.PlainTable.{IsPlainTable}
+use Rattle.cts_model.specs.netlist.Netlists.{IsNetlist, AcceptsNetlist}
+use Rattle.cts_model.specs.netlist.Paths.{register_name}
+use Rattle.cts_model.specs.table.PlainTable.{IsPlainTable}
 use Rattle.place_reader.specs.declared.fault.PlaceFault.{PlaceFault}
 use Rattle.place_reader.specs.declared.fault.PlaceFault.TheVariants as place
 use Rattle.place_reader.specs.Refusals as placement

@@ -5,7 +5,7 @@ use Rattle.cts_base.specs.declared.fraction.Fraction.{Fraction}
 use Rattle.cts_base.specs.Fractions.{fraction_text}
 use Rattle.cts_model.specs.declared.circuit.Circuit.{Circuit}
 use Rattle.cts_model.specs.declared.tech.Tech.{Tech}
-use Rattle.cts_model.specs.PrintedLines.{Words, text_of, period_line, cycle_lines}
+use Rattle.cts_model.specs.text.PrintedLines.{Words, text_of, period_line, cycle_lines}
 use Rattle.cts_engine.specs.declared.margin.MarginOutcome.{MarginOutcome}
 use Rattle.cts_engine.specs.declared.margin.MarginOutcome.TheVariants.{Found, Unbounded}
 use Rattle.cts_engine.specs.CircuitMargins.{IsMarginOutcome}

@@ -2,7 +2,7 @@
 -- why they are refused.
 use Rattle.std.specs.Prelude.{◌≢◌, ℕ, List}
 use Rattle.cts_model.specs.declared.problem.Problem.{Problem}
-use Rattle.cts_model.specs.PairLists.{JoinsMoreThan}
+use Rattle.cts_model.specs.timing.PairLists.{JoinsMoreThan}
 use Rattle.move_session.specs.declared.fault.MovesFault.TheVariants.{NoMemory}
 use Rattle.move_session.specs.declared.moves.Move.{Move}
 use Rattle.move_session.specs.Moves.{AcceptsMoves}

@@ -10,13 +10,13 @@ use Rattle.cts_model.specs.declared.schedule.Schedule.{Schedule}
 use Rattle.cts_model.specs.declared.tree.Merge.{Merge}
 use Rattle.cts_model.specs.declared.tree.Show.{Show}
 use Rattle.cts_model.specs.declared.tree.Tree.{Tree}
-use Rattle.cts_model.specs.Embeddings.{IsLeastWire, RealisesOffsets, embedding_of, total_wire}
-use Rattle.cts_model.specs.GreedyMerges.{IsGreedy}
-use Rattle.cts_model.specs.LeastPeriods.{IsLeastFraction}
-use Rattle.cts_model.specs.Points.{IsPointBelow, rotated}
-use Rattle.cts_model.specs.PrintedLines.{line_of, text_of}
-use Rattle.cts_model.specs.Problems.{grid_of, on_grid, sinks_of}
-use Rattle.cts_model.specs.Schedules.{IsLeastSchedule}
+use Rattle.cts_model.specs.tree.Embeddings.{IsLeastWire, RealisesOffsets, embedding_of, total_wire}
+use Rattle.cts_model.specs.tree.GreedyMerges.{IsGreedy}
+use Rattle.cts_model.specs.timing.LeastPeriods.{IsLeastFraction}
+use Rattle.cts_model.specs.placement.Points.{IsPointBelow, rotated}
+use Rattle.cts_model.specs.text.PrintedLines.{line_of, text_of}
+use Rattle.cts_model.specs.tree.Problems.{grid_of, on_grid, sinks_of}
+use Rattle.cts_model.specs.timing.Schedules.{IsLeastSchedule}
 use Rattle.move_session.specs.declared.moves.Move.{Move}
 use Rattle.move_session.specs.Sessions.{SessionState}
 use Rattle.cts_engine.specs.Syntheses.{IsPlacedTree}

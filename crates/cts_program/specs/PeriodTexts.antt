@@ -7,7 +7,7 @@ use Rattle.cts_model.specs.declared.tech.Tech.{Tech}
 use Rattle.cts_model.specs.declared.constraint.Constraint.{Constraint}
 use Rattle.cts_model.specs.declared.timing.ZeroSkew.{ZeroSkew}
 use Rattle.cts_model.specs.declared.period.PeriodShow.{PeriodShow}
-use Rattle.cts_model.specs.PrintedLines.{Words, text_of, period_line, cycle_lines, show_lines}
+use Rattle.cts_model.specs.text.PrintedLines.{Words, text_of, period_line, cycle_lines, show_lines}
 use Rattle.cts_engine.specs.declared.period.PeriodOutcome.{PeriodOutcome}
 use Rattle.cts_engine.specs.declared.period.PeriodOutcome.TheVariants.{Found, Never}
 use Rattle.cts_engine.specs.Outcomes.{IsPeriodOutcome, BeginsLowest}

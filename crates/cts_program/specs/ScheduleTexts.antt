@@ -6,10 +6,10 @@ use Rattle.cts_model.specs.declared.circuit.Circuit.{Circuit}
 use Rattle.cts_model.specs.declared.tech.Tech.{Tech}
 use Rattle.cts_model.specs.declared.schedule.Schedule.{Schedule}
 use Rattle.cts_model.specs.declared.schedule.Slack.{Slack}
-use Rattle.cts_model.specs.Points.{IsBelow}
-use Rattle.cts_model.specs.PrintedLines.{Words, text_of, count_line, register_line}
-use Rattle.cts_model.specs.ReportLines.{lines_below}
-use Rattle.cts_model.specs.Schedules.{arrival_of}
+use Rattle.cts_model.specs.placement.Points.{IsBelow}
+use Rattle.cts_model.specs.text.PrintedLines.{Words, text_of, count_line, register_line}
+use Rattle.cts_model.specs.report.ReportLines.{lines_below}
+use Rattle.cts_model.specs.timing.Schedules.{arrival_of}
 use Rattle.cts_engine.specs.declared.scheduling.ScheduleOutcome.{ScheduleOutcome}
 use Rattle.cts_engine.specs.declared.scheduling.ScheduleOutcome.TheVariants.{Found, Never}
 use Rattle.cts_engine.specs.Outcomes.{BeginsLowest}

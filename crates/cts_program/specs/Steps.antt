@@ -8,12 +8,12 @@ use Rattle.cts_model.specs.declared.problem.Problem.{Problem}
 use Rattle.cts_model.specs.declared.report.Report.{Report}
 use Rattle.cts_model.specs.declared.tech.Tech.{Tech}
 use Rattle.cts_model.specs.declared.tree.Topology.{Topology}
-use Rattle.cts_model.specs.AcceptedTables.{AcceptsTable}
-use Rattle.cts_model.specs.Netlists.{AcceptsNetlist}
-use Rattle.cts_model.specs.PairLists.{JoinsMoreThan}
-use Rattle.cts_model.specs.Placements.{AcceptsPlacement}
-use Rattle.cts_model.specs.ReportBounds.{Spells}
-use Rattle.cts_model.specs.UsedKinds.{AreUsedKinds}
+use Rattle.cts_model.specs.table.AcceptedTables.{AcceptsTable}
+use Rattle.cts_model.specs.netlist.Netlists.{AcceptsNetlist}
+use Rattle.cts_model.specs.timing.PairLists.{JoinsMoreThan}
+use Rattle.cts_model.specs.placement.Placements.{AcceptsPlacement}
+use Rattle.cts_model.specs.report.ReportBounds.{Spells}
+use Rattle.cts_model.specs.netlist.UsedKinds.{AreUsedKinds}
 use Rattle.delay_tables.specs.declared.fault.TechFault.{TechFault}
 use Rattle.delay_tables.specs.declared.fault.TechFault.TheVariants as tech
 use Rattle.delay_tables.specs.Refusals.{RefusesTable}

@@ -6,9 +6,9 @@ use Rattle.cts_model.specs.declared.constraint.Constraint.{Constraint}
 use Rattle.cts_model.specs.declared.problem.Problem.{Problem}
 use Rattle.cts_model.specs.declared.tech.Tech.{Tech}
 use Rattle.cts_model.specs.declared.tree.Topology.{Topology}
-use Rattle.cts_model.specs.LeastPeriods.{IsForbidding}
-use Rattle.cts_model.specs.PrintedLines.{text_of}
-use Rattle.cts_model.specs.ReportLines.{report_lines}
+use Rattle.cts_model.specs.timing.LeastPeriods.{IsForbidding}
+use Rattle.cts_model.specs.text.PrintedLines.{text_of}
+use Rattle.cts_model.specs.report.ReportLines.{report_lines}
 use Rattle.cts_engine.specs.declared.synthesis.Outcome.{Outcome}
 use Rattle.cts_engine.specs.declared.synthesis.Outcome.TheVariants.{Done, Never}
 use Rattle.cts_engine.specs.SynthesisOutcomes.{BeginsLowest}

@@ -5,8 +5,8 @@ use Rattle.cts_model.specs.declared.circuit.Circuit.{Circuit}
 use Rattle.cts_model.specs.declared.tech.Tech.{Tech}
 use Rattle.cts_model.specs.declared.timing.ZeroSkew.{ZeroSkew}
 use Rattle.cts_model.specs.declared.timing.ZeroSkew.TheVariants.{Fails, Floor, Setup}
-use Rattle.cts_model.specs.EqualArrivals.{IsZeroSkew}
-use Rattle.cts_model.specs.PrintedLines.{Words, text_of, floor_line, constraint_line}
+use Rattle.cts_model.specs.timing.EqualArrivals.{IsZeroSkew}
+use Rattle.cts_model.specs.text.PrintedLines.{Words, text_of, floor_line, constraint_line}
 
 -- the least period at equal arrivals, in ticks
 abbrev pub zero_line : ZeroSkew → Words

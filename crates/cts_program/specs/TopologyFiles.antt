@@ -3,7 +3,7 @@
 use Rattle.std.specs.Prelude.{◌≢◌, ℕ, List, length}
 use Rattle.cts_model.specs.declared.problem.Problem.{Problem}
 use Rattle.cts_model.specs.declared.tree.Topology as trees
-use Rattle.cts_model.specs.PairLists.{JoinsMoreThan}
+use Rattle.cts_model.specs.timing.PairLists.{JoinsMoreThan}
 use Rattle.topology_file.specs.declared.fault.TopologyFault.TheVariants.{NoMemory}
 use Rattle.topology_file.specs.Refusals.{RefusesTopology}
 use Rattle.topology_file.specs.TopologyTexts.{AcceptsTopology}

@@ -1,9 +1,9 @@
 //! The command `check`: whether a report, whoever made it, shows what it says.
 
 ghost use Rattle.std.specs.Prelude.{◌≡◌, ◌<◌, ℕ, List, [], ◌∷◌, length, IfOk, IfErr};
-ghost use Rattle.cts_model.specs.PrintedLines.{text_of};
-ghost use Rattle.cts_model.specs.ReportBounds.{IsOfSize, IsWithinBounds};
-ghost use Rattle.cts_model.specs.Shown.{IsShown, ShowsLeast};
+ghost use Rattle.cts_model.specs.text.PrintedLines.{text_of};
+ghost use Rattle.cts_model.specs.report.ReportBounds.{IsOfSize, IsWithinBounds};
+ghost use Rattle.cts_model.specs.report.Shown.{IsShown, ShowsLeast};
 ghost use Rattle.cts_program.specs.Answers.{ending_status};
 ghost use Rattle.cts_program.specs.Checks.{shown_line, subject_of};
 ghost use Rattle.cts_program.specs.Steps.{IsRegisterReason, FailsToShow};

@@ -4,10 +4,10 @@ ghost use Rattle.std.specs.Prelude.{◌≡◌, ◌<◌, ◌≤◌, ◌++◌, ◌
 ghost use Rattle.std.specs.Fmt.{signed_decimal};
 ghost use Rattle.cts_base.specs.declared.fraction.Fraction.{Fraction};
 ghost use Rattle.cts_model.specs.declared.tech.Tech.{Tech};
-ghost use Rattle.cts_model.specs.PairLists.{JoinsMoreThan};
-ghost use Rattle.cts_model.specs.Paths.{IsLoop};
-ghost use Rattle.cts_model.specs.PrintedLines.{constraint_line, line_of, text_of};
-ghost use Rattle.cts_model.specs.ReportBounds.{IsBetweenRegisters};
+ghost use Rattle.cts_model.specs.timing.PairLists.{JoinsMoreThan};
+ghost use Rattle.cts_model.specs.netlist.Paths.{IsLoop};
+ghost use Rattle.cts_model.specs.text.PrintedLines.{constraint_line, line_of, text_of};
+ghost use Rattle.cts_model.specs.report.ReportBounds.{IsBetweenRegisters};
 ghost use Rattle.corners.specs.CornerCycles.{IsCommonShow};
 ghost use Rattle.corners.specs.CornerLists.{constraint_at};
 ghost use Rattle.corners.specs.CornerOutcomes.{HasSmallCommonTimes, IsCornersOutcome};

@@ -2,11 +2,11 @@
 //! tree is shown.
 
 ghost use Rattle.std.specs.Prelude.{◌≡◌, ◌≤◌, ◌<◌, ◌↔◌, ℕ, true, IsTrue, IfOk, IfErr};
-ghost use Rattle.cts_model.specs.PairLists.{JoinsMoreThan};
-ghost use Rattle.cts_model.specs.PrintedLines.{text_of};
+ghost use Rattle.cts_model.specs.timing.PairLists.{JoinsMoreThan};
+ghost use Rattle.cts_model.specs.text.PrintedLines.{text_of};
 ghost use Rattle.cts_model.specs.declared.tech.Tech.{Tech};
-ghost use Rattle.cts_model.specs.ReportBounds.{IsOfSize, IsWithinBounds};
-ghost use Rattle.cts_model.specs.Shown.{IsShown};
+ghost use Rattle.cts_model.specs.report.ReportBounds.{IsOfSize, IsWithinBounds};
+ghost use Rattle.cts_model.specs.report.Shown.{IsShown};
 ghost use Rattle.cert_check.specs.Verdicts.{IsVerdict};
 ghost use Rattle.cts_program.specs.Answers.{ending_status, IsDemoAnswer};
 ghost use Rattle.cts_program.specs.Checks.{AreOfProblem};

@@ -2,8 +2,8 @@
 
 ghost use Rattle.std.specs.Prelude.{◌≡◌, IfOk};
 ghost use Rattle.cts_model.specs.declared.tech.Tech.{Tech};
-ghost use Rattle.cts_model.specs.LeastPeriods.{IsForbidding};
-ghost use Rattle.cts_model.specs.PrintedLines.{text_of};
+ghost use Rattle.cts_model.specs.timing.LeastPeriods.{IsForbidding};
+ghost use Rattle.cts_model.specs.text.PrintedLines.{text_of};
 ghost use Rattle.cts_program.specs.Answers.{ending_status};
 ghost use Rattle.cts_program.specs.PeriodTexts.{never_lines};
 

@@ -2,10 +2,10 @@
 
 ghost use Rattle.std.specs.Prelude.{◌≡◌, ◌<◌, ◌^◌, All, IfOk, IfErr, OnOk, length};
 ghost use Rattle.cts_model.specs.declared.problem.Problem.{Problem};
-ghost use Rattle.cts_model.specs.PairLists.{JoinsMoreThan};
-ghost use Rattle.cts_model.specs.Points.{IsPointBelow};
-ghost use Rattle.cts_model.specs.PrintedLines.{line_of};
-ghost use Rattle.cts_model.specs.Tables.{IsWithin};
+ghost use Rattle.cts_model.specs.timing.PairLists.{JoinsMoreThan};
+ghost use Rattle.cts_model.specs.placement.Points.{IsPointBelow};
+ghost use Rattle.cts_model.specs.text.PrintedLines.{line_of};
+ghost use Rattle.cts_model.specs.table.Tables.{IsWithin};
 ghost use Rattle.cts_engine.specs.SessionOutcomes.{IsGrid, IsSessionOf};
 ghost use Rattle.report_text.specs.WireLines.{wire_line};
 ghost use Rattle.cts_program.specs.Answers.{ending_status};
@@ -21,7 +21,8 @@ use move_session::{Move, Session};
 use report_text::push_wire_length;
 use std::alloc::Global;
 
-/// How long the clock tree of a problem is, and how long after each of these moves, in length units.
+/// How long the clock tree of a problem is, and how long it is after each of these moves, in
+/// length units.
 pub fn moves(alloc: Global, problem: &Problem, moves: &Listed<Move>) -> Result<Answer, Failure>
     requires { All (IsNearMove (length problem.now.circuit.registers)) moves.now }
     ensures few { IfOk result (λ _. JoinsMoreThan problem.now.circuit 1048576 → ⊥) }

@@ -3,10 +3,10 @@
 ghost use Rattle.std.specs.Prelude.{◌≡◌, ◌++◌, ℕ, List, OnOk, IfOk, IfErr};
 ghost use Rattle.cts_base.specs.declared.fraction.Fraction.{Fraction};
 ghost use Rattle.cts_model.specs.declared.tech.Tech.{Tech};
-ghost use Rattle.cts_model.specs.LeastPeriods.{IsPeriodShow};
-ghost use Rattle.cts_model.specs.PairLists.{JoinsMoreThan};
-ghost use Rattle.cts_model.specs.Paths.{IsLoop};
-ghost use Rattle.cts_model.specs.PrintedLines.{text_of};
+ghost use Rattle.cts_model.specs.timing.LeastPeriods.{IsPeriodShow};
+ghost use Rattle.cts_model.specs.timing.PairLists.{JoinsMoreThan};
+ghost use Rattle.cts_model.specs.netlist.Paths.{IsLoop};
+ghost use Rattle.cts_model.specs.text.PrintedLines.{text_of};
 ghost use Rattle.cts_engine.specs.Outcomes.{IsPeriodOutcome};
 ghost use Rattle.cts_program.specs.Answers.{ending_status};
 ghost use Rattle.cts_program.specs.PeriodTexts.{found_lines, period_lines, outcome_status, IsPeriodText};

@@ -2,9 +2,9 @@
 
 ghost use Rattle.std.specs.Prelude.{◌≡◌, ◌<◌, ◌++◌, ℕ, List, length, OnOk, IfOk, IfErr};
 ghost use Rattle.cts_model.specs.declared.tech.Tech.{Tech};
-ghost use Rattle.cts_model.specs.PairLists.{JoinsMoreThan};
-ghost use Rattle.cts_model.specs.Paths.{IsLoop};
-ghost use Rattle.cts_model.specs.PrintedLines.{line_of, text_of};
+ghost use Rattle.cts_model.specs.timing.PairLists.{JoinsMoreThan};
+ghost use Rattle.cts_model.specs.netlist.Paths.{IsLoop};
+ghost use Rattle.cts_model.specs.text.PrintedLines.{line_of, text_of};
 ghost use Rattle.cts_engine.specs.ScheduleOutcomes.{period_outcome, HasSmallTimes, IsScheduleOutcome};
 ghost use Rattle.cts_program.specs.Answers.{ending_status};
 ghost use Rattle.cts_program.specs.PeriodTexts.{outcome_status};

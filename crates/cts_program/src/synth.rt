@@ -3,8 +3,8 @@
 
 ghost use Rattle.std.specs.Prelude.{length, IfOk, IfErr};
 ghost use Rattle.cts_model.specs.declared.tree.Topology.{Topology};
-ghost use Rattle.cts_model.specs.PairLists.{JoinsMoreThan};
-ghost use Rattle.cts_model.specs.Topologies.{IsTopology};
+ghost use Rattle.cts_model.specs.timing.PairLists.{JoinsMoreThan};
+ghost use Rattle.cts_model.specs.tree.Topologies.{IsTopology};
 ghost use Rattle.cts_engine.specs.SynthesisOutcomes.{IsOutcomeWith};
 ghost use Rattle.cts_program.specs.Answers.{ending_status};
 ghost use Rattle.cts_program.specs.Steps.{FailsCircuit};

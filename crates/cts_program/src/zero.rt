@@ -1,10 +1,10 @@
 //! The command `zero`: the least period at equal arrivals.
 
 ghost use Rattle.std.specs.Prelude.{◌≡◌, ◌++◌, ℕ, List, OnOk, IfOk, IfErr};
-ghost use Rattle.cts_model.specs.EqualArrivals.{IsZeroSkew};
-ghost use Rattle.cts_model.specs.PairLists.{HasSmallDelays, JoinsMoreThan};
-ghost use Rattle.cts_model.specs.Paths.{IsLoop};
-ghost use Rattle.cts_model.specs.PrintedLines.{line_of, text_of};
+ghost use Rattle.cts_model.specs.timing.EqualArrivals.{IsZeroSkew};
+ghost use Rattle.cts_model.specs.timing.PairLists.{HasSmallDelays, JoinsMoreThan};
+ghost use Rattle.cts_model.specs.netlist.Paths.{IsLoop};
+ghost use Rattle.cts_model.specs.text.PrintedLines.{line_of, text_of};
 ghost use Rattle.cts_program.specs.Answers.{ending_status};
 ghost use Rattle.cts_program.specs.Steps.{FailsCircuit};
 ghost use Rattle.cts_program.specs.Texts.{zero_line, reason_line, zero_lines, IsZeroText};

@@ -4,10 +4,10 @@ use Rattle.std.specs.Option.{option_or}
 use Rattle.toml.specs.Data.{Members}
 use Rattle.cts_base.specs.Fractions.{IsLowest}
 use Rattle.cts_model.specs.declared.tech.GateDelay.{GateDelay}
-use Rattle.cts_model.specs.Tables.{IsWithin, IsTable}
-use Rattle.cts_model.specs.TableKeys.{sections, gate_kinds}
-use Rattle.cts_model.specs.TableValues.{number_at, numerator_of, denominator_of, gate_delay_at}
-use Rattle.cts_model.specs.TableFlaws.{first_flaw, section_flaw, register_flaw, gate_flaw}
+use Rattle.cts_model.specs.table.Tables.{IsWithin, IsTable}
+use Rattle.cts_model.specs.table.TableKeys.{sections, gate_kinds}
+use Rattle.cts_model.specs.table.TableValues.{number_at, numerator_of, denominator_of, gate_delay_at}
+use Rattle.cts_model.specs.table.TableFlaws.{first_flaw, section_flaw, register_flaw, gate_flaw}
 use Rattle.delay_tables.proofs.FlawlessTables.{is_top_within, registers_ordered, gates_within, orders}
 
 -- the numbers of a table are those that a document denotes

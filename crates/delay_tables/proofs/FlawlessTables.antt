@@ -9,14 +9,14 @@ use Rattle.toml.specs.Data.{Data, Members, as_str, as_integer, get_member}
 use Rattle.cts_model.specs.declared.kind.Kind.{Kind}
 use Rattle.cts_model.specs.declared.kind.Kind.TheVariants.{And, Nand, Or, Nor, Not, Xor, Xnor, Buff, Input, Dff, Host}
 use Rattle.cts_model.specs.declared.tech.Tech.{Tech}
-use Rattle.cts_model.specs.Kinds.{is_gate, place_of}
-use Rattle.cts_model.specs.Delays.{no_delay}
-use Rattle.cts_model.specs.AcceptedTables.{GivesKinds}
-use Rattle.cts_model.specs.Tables.{IsWithin, IsGateDelay}
-use Rattle.cts_model.specs.TableKeys.{Fraction, UpTo, Need, Always, InTable, Optional, Key, Section, key, sections, top_sections, gate_section, gate_kinds, gate_way, word_of}
+use Rattle.cts_model.specs.netlist.Kinds.{is_gate, place_of}
+use Rattle.cts_model.specs.timing.Delays.{no_delay}
+use Rattle.cts_model.specs.table.AcceptedTables.{GivesKinds}
+use Rattle.cts_model.specs.table.Tables.{IsWithin, IsGateDelay}
+use Rattle.cts_model.specs.table.TableKeys.{Fraction, UpTo, Need, Always, InTable, Optional, Key, Section, key, sections, top_sections, gate_section, gate_kinds, gate_way, word_of}
 use Rattle.delay_tables.proofs.Judgements.{flaws-sections}
-use Rattle.cts_model.specs.TableValues.{dotted, value_at, table_at, text_at, number_at, is_fraction, is_small_fraction, is_up_to, has_form, is_in_range, gate_delay_at}
-use Rattle.cts_model.specs.TableFlaws.{TableFlaw, Missing, WrongType, OutOfRange, LeastAboveGreatest, MissingKind, first_flaw, value_flaw, absence_flaw, key_flaw, way_flaw, section_flaw, register_flaw, gate_flaw, is_disordered, order_flaw, kind_flaw, name_flaw, table_flaw}
+use Rattle.cts_model.specs.table.TableValues.{dotted, value_at, table_at, text_at, number_at, is_fraction, is_small_fraction, is_up_to, has_form, is_in_range, gate_delay_at}
+use Rattle.cts_model.specs.table.TableFlaws.{TableFlaw, Missing, WrongType, OutOfRange, LeastAboveGreatest, MissingKind, first_flaw, value_flaw, absence_flaw, key_flaw, way_flaw, section_flaw, register_flaw, gate_flaw, is_disordered, order_flaw, kind_flaw, name_flaw, table_flaw}
 
 -- where neither is, the first isn't, and the second isn't
 neither : (first second : Option TableFlaw) → option_or first second ≡ None

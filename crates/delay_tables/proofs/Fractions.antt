@@ -10,8 +10,8 @@ use Rattle.std.specs.Char.{is_ascii_digit}
 use Rattle.std.specs.Int.{IsInRange}
 use Rattle.std.specs.List.{list_all}
 use Rattle.std.specs.Str.Parse.{digits_value}
-use Rattle.cts_model.specs.Tables.{IsWithin}
-use Rattle.cts_model.specs.TableValues.{is_between, is_small_fraction, numerator_of, denominator_of}
+use Rattle.cts_model.specs.table.Tables.{IsWithin}
+use Rattle.cts_model.specs.table.TableValues.{is_between, is_small_fraction, numerator_of, denominator_of}
 use Rattle.cts_base.proofs.OneFraction.{some_factor, other_sign}
 
 -- what the test of a range says

@@ -3,9 +3,9 @@ use Rattle.std.proofs.Common.{◌≡◌, ℕ, ◌+◌, ◌<◌, ◌≤◌, Bool,
 use Rattle.std.proofs.lemmas.List.{drop_more, drop_all, take_more, map-append}
 use Rattle.std.specs.Option.{option_or}
 use Rattle.toml.specs.Data.{Members}
-use Rattle.cts_model.specs.TableValues.{dotted, value_at}
-use Rattle.cts_model.specs.TableFlaws.{TableFlaw, WrongType, first_flaw, section_flaw, way_flaw, is_no_table}
-use Rattle.cts_model.specs.TableKeys.{sections, top_sections, gate_section, gate_kinds}
+use Rattle.cts_model.specs.table.TableValues.{dotted, value_at}
+use Rattle.cts_model.specs.table.TableFlaws.{TableFlaw, WrongType, first_flaw, section_flaw, way_flaw, is_no_table}
+use Rattle.cts_model.specs.table.TableKeys.{sections, top_sections, gate_section, gate_kinds}
 use Rattle.delay_tables.specs.declared.fault.TechFault.{TechFault}
 use Rattle.delay_tables.specs.declared.fault.TechFault.TheVariants as fault
 use Rattle.delay_tables.specs.Keys.{texts}

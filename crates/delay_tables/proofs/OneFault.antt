@@ -2,9 +2,9 @@
 use Rattle.std.proofs.Common.{◌≡◌, ◌≢◌, ◌⊎◌, inl, inr, ℕ, Bool, List, Some, None, Result, Ok, Err, IfOk, IfErr, IsErrAnd, IsOkUnless, IfOk, refl, sym, ap, ◌∙◌}
 use Rattle.toml.specs.Data.{Members}
 use Rattle.cts_model.specs.declared.tech.Tech.{Tech}
-use Rattle.cts_model.specs.TableFlaws.{TableFlaw, table_flaw}
-use Rattle.cts_model.specs.TableFlaws as flaws
-use Rattle.cts_model.specs.AcceptedTables.{IsDocument, IsNotToml, HasFlaw, IsDelayTable, AcceptsTable}
+use Rattle.cts_model.specs.table.TableFlaws.{TableFlaw, table_flaw}
+use Rattle.cts_model.specs.table.TableFlaws as flaws
+use Rattle.cts_model.specs.table.AcceptedTables.{IsDocument, IsNotToml, HasFlaw, IsDelayTable, AcceptsTable}
 use Rattle.delay_tables.specs.declared.fault.TechFault.{TechFault}
 use Rattle.delay_tables.specs.declared.fault.TechFault.TheVariants.{NotToml, Missing, WrongType, OutOfRange, LeastAboveGreatest, MissingKind, UnknownKey, NoMemory}
 use Rattle.delay_tables.specs.Refusals.{RefusesTable, IsFaultOf, DenotesName}

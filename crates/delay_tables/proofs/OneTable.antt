@@ -6,8 +6,8 @@ use Rattle.toml.specs.Data.{Members}
 use Rattle.cts_base.specs.Fractions.{IsLowest}
 use Rattle.cts_base.proofs.OneFraction.{one_fraction}
 use Rattle.cts_model.specs.declared.tech.Tech.{Tech}
-use Rattle.cts_model.specs.TableValues.{text_at, numerator_of, denominator_of}
-use Rattle.cts_model.specs.AcceptedTables.{DenotesTable, AcceptsTable}
+use Rattle.cts_model.specs.table.TableValues.{text_at, numerator_of, denominator_of}
+use Rattle.cts_model.specs.table.AcceptedTables.{DenotesTable, AcceptsTable}
 use Rattle.cts_model.proofs.OneRecord.{same_tech}
 use Rattle.delay_tables.proofs.FlawlessTables.{is_flawless, is_top_within}
 use Rattle.delay_tables.proofs.Fractions.{small_denominator}

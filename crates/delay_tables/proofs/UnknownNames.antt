@@ -9,9 +9,9 @@ use Rattle.std.specs.Str.{bytes_eq}
 use Rattle.toml.specs.Data.{Members}
 use Rattle.toml.specs.View.{members_view}
 use Rattle.toml.specs.declared.value.Value.{Value}
-use Rattle.cts_model.specs.TableValues.{dotted}
-use Rattle.cts_model.specs.TableFlaws.{names_in, unknown_of, unknown_at, unknown_in_section, unknown_names, lesser_name, least_name}
-use Rattle.cts_model.specs.TableKeys as tables
+use Rattle.cts_model.specs.table.TableValues.{dotted}
+use Rattle.cts_model.specs.table.TableFlaws.{names_in, unknown_of, unknown_at, unknown_in_section, unknown_names, lesser_name, least_name}
+use Rattle.cts_model.specs.table.TableKeys as tables
 use Rattle.delay_tables.specs.declared.keys.Key.{Key}
 use Rattle.delay_tables.specs.Keys.{texts, keys_of}
 

@@ -1,7 +1,7 @@
 -- The keys of the code as the definition of delay tables has them.
 use Rattle.std.specs.Prelude.{ℕ, List, [], ◌∷◌, map}
 use Rattle.std.specs.Borrow.{Bor}
-use Rattle.cts_model.specs.TableKeys as tables
+use Rattle.cts_model.specs.table.TableKeys as tables
 use Rattle.delay_tables.specs.declared.keys.Form.{Form}
 use Rattle.delay_tables.specs.declared.keys.Form.TheVariants.{Fraction, Node, UpTo}
 use Rattle.delay_tables.specs.declared.keys.Need.{Need}

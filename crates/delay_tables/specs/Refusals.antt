@@ -2,10 +2,10 @@
 -- which it is judged.
 use Rattle.std.specs.Prelude.{◌≡◌, ℕ, Bool, List, Option, Some, None, Result, MatchResult}
 use Rattle.toml.specs.Data.{Members}
-use Rattle.cts_model.specs.TableFlaws.{TableFlaw, unknown_names}
-use Rattle.cts_model.specs.TableFlaws as flaws
-use Rattle.cts_model.specs.TableLaws.{IsFirstDisorder, IsLeastName}
-use Rattle.cts_model.specs.AcceptedTables.{IsDocument, IsNotToml, HasFlaw}
+use Rattle.cts_model.specs.table.TableFlaws.{TableFlaw, unknown_names}
+use Rattle.cts_model.specs.table.TableFlaws as flaws
+use Rattle.cts_model.specs.table.TableLaws.{IsFirstDisorder, IsLeastName}
+use Rattle.cts_model.specs.table.AcceptedTables.{IsDocument, IsNotToml, HasFlaw}
 use Rattle.delay_tables.specs.declared.fault.TechFault.{TechFault}
 use Rattle.delay_tables.specs.declared.fault.TechFault.TheVariants.{NotToml, Missing, WrongType, OutOfRange, LeastAboveGreatest, MissingKind, UnknownKey, NoMemory}
 

@@ -1,5 +1,5 @@
 ghost use Rattle.std.specs.Prelude.{◌≡◌};
-ghost use Rattle.cts_model.specs.TableKeys.{word_of};
+ghost use Rattle.cts_model.specs.table.TableKeys.{word_of};
 
 use cts_model::Kind;
 

@@ -4,8 +4,8 @@ ghost use Rattle.std.specs.Str.{bytes_eq};
 ghost use Rattle.std.specs.Ordering.{nat_cmp, is_lt};
 ghost use Rattle.std.specs.Cmp.Lexicographic.{slice_cmp};
 ghost use Rattle.toml.specs.View.{table_view};
-ghost use Rattle.cts_model.specs.TableKeys as tables;
-ghost use Rattle.cts_model.specs.TableFlaws as flaws;
+ghost use Rattle.cts_model.specs.table.TableKeys as tables;
+ghost use Rattle.cts_model.specs.table.TableFlaws as flaws;
 ghost use Rattle.delay_tables.specs.Keys.{texts, keys_of, section_of};
 ghost use Rattle.delay_tables.specs.Refusals.{Judges};
 

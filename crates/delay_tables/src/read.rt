@@ -1,7 +1,7 @@
 ghost use Rattle.std.specs.Prelude.{◌≡◌, ◌≢◌, ◌⊎◌, IfOk, IfErr, IsErrAnd, IsOkUnless};
 ghost use Rattle.toml.specs.View.{table_view};
-ghost use Rattle.cts_model.specs.TableFlaws as flaws;
-ghost use Rattle.cts_model.specs.AcceptedTables.{IsDocument, IsDelayTable, AcceptsTable, GivesKinds};
+ghost use Rattle.cts_model.specs.table.TableFlaws as flaws;
+ghost use Rattle.cts_model.specs.table.AcceptedTables.{IsDocument, IsDelayTable, AcceptsTable, GivesKinds};
 ghost use Rattle.delay_tables.specs.declared.fault.TechFault.{TechFault};
 ghost use Rattle.delay_tables.specs.Refusals.{Judges, IsUnread, RefusesTable, DenotesName};
 

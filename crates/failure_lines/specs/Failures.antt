@@ -169,7 +169,7 @@ table_fault_line (tech.OutOfRange name) = line_about (codes "tech 4 ") name
 table_fault_line (tech.LeastAboveGreatest name) = line_about (codes "tech 5 ") name
 table_fault_line (tech.MissingKind kind) = ended (codes "tech 6 " ++ gate_word kind)
 table_fault_line (tech.UnknownKey name) = line_about (codes "tech 7 ") name
-table_fault_line tech.NoMemory = ended (codes "tech 8")
+table_fault_line tech.NoMemory = ended (codes "tech no memory")
 
 -- the line for a fault of a delay table
 abbrev pub tech_line : TechFault → List ℕ

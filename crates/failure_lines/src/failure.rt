@@ -169,7 +169,7 @@ fn write_table_fault<E: Sink>(fault: &TechFault, err: &mut E) -> Result<(), Fail
         TechFault::LeastAboveGreatest(name) => write_shown(b"tech 5 ", name, err),
         TechFault::MissingKind(kind) => write_line(&[b"tech 6 ", gate_word(*kind)], err),
         TechFault::UnknownKey(name) => write_shown(b"tech 7 ", name, err),
-        TechFault::NoMemory => write_line(&[b"tech 8"], err),
+        TechFault::NoMemory => write_line(&[b"tech no memory"], err),
     }
 }
 

@@ -7,8 +7,8 @@ use Rattle.tilted_rect.specs.Corners.{IsRect, IsSide}
 use Rattle.tilted_rect.proofs.CodeNumbers.{kept, below_fits}
 use Rattle.cts_model.specs.declared.place.Sink.{Sink}
 use Rattle.std.proofs.lemmas.Bool.{cases_lt}
-use Rattle.cts_model.specs.Regions.{span, IsReach}
-use Rattle.cts_model.specs.ShownReaches.{ShowsMerge}
+use Rattle.cts_model.specs.tree.Regions.{span, IsReach}
+use Rattle.cts_model.specs.tree.ShownReaches.{ShowsMerge}
 use Rattle.tilted_rect.proofs.SpanLemmas.{sinks_of_u_show, sinks_of_v_show, span_is_symmetric, spread_is_reach}
 use Rattle.cts_model.proofs.TopologyLemmas.{found_among}
 use Rattle.tilted_rect.specs.Extremes.{IsExtremes, IsGreatest, IsLeastOf, spread, u_above, u_below, v_above, v_below}

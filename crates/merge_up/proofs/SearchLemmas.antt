@@ -4,8 +4,8 @@ use Rattle.std.proofs.lemmas.Int.{ints, to_z-of_z}
 use Rattle.std.proofs.lemmas.List.Elements.{All-contains, Contains-append_cases, Contains-append_left, Contains-append_right}
 use Rattle.cts_model.specs.declared.place.Sink.{Sink}
 use Rattle.cts_model.specs.declared.tree.Merge.{Merge}
-use Rattle.cts_model.specs.Sinks.{AreTreeSinks, IsTreeSink}
-use Rattle.cts_model.specs.Topologies.{IsTopology, Joins, numbers_below, sinks_below}
+use Rattle.cts_model.specs.tree.Sinks.{AreTreeSinks, IsTreeSink}
+use Rattle.cts_model.specs.tree.Topologies.{IsTopology, Joins, numbers_below, sinks_below}
 use Rattle.cts_model.proofs.TopologyLemmas.{first_made, second_made, number_below, numbers_below-merge, numbers_below-sink, sinks_below-among}
 use Rattle.tilted_rect.specs.Extremes.{IsGreatest, IsLeastOf, IsRegion, u_below, v_below}
 use Rattle.tilted_rect.specs.declared.rect.Rect.{Rect}

@@ -8,9 +8,9 @@ use Rattle.std.proofs.lemmas.Option.{get_or_from_slice_get, slice_get-get_or, sl
 use Rattle.cts_model.specs.declared.place.Sink.{Sink}
 use Rattle.cts_model.specs.declared.tree.Merge.{Merge}
 use Rattle.cts_model.specs.declared.tree.Show.{Show}
-use Rattle.cts_model.specs.Regions.{IsReach}
-use Rattle.cts_model.specs.ShownReaches.{ShowsMerge}
-use Rattle.cts_model.specs.Topologies.{IsTopology, Joins, numbers_below}
+use Rattle.cts_model.specs.tree.Regions.{IsReach}
+use Rattle.cts_model.specs.tree.ShownReaches.{ShowsMerge}
+use Rattle.cts_model.specs.tree.Topologies.{IsTopology, Joins, numbers_below}
 use Rattle.cts_model.proofs.TopologyLemmas.{first_made, second_made}
 use Rattle.tilted_rect.specs.Extremes.{HasExtremeSides, spread}
 use Rattle.tilted_rect.specs.declared.rect.Rect.{Rect}

@@ -4,12 +4,12 @@ use Rattle.std.specs.Prelude.{◌≡◌, ℕ, ◌+◌, ◌-◌, ◌^◌, ◌<◌
 use Rattle.cts_model.specs.declared.place.Sink.{Sink}
 use Rattle.cts_model.specs.declared.tree.Merge.{Merge}
 use Rattle.cts_model.specs.declared.tree.Show.{Show}
-use Rattle.cts_model.specs.Regions.{IsReach}
-use Rattle.cts_model.specs.ShownReaches.{ShowsMerge}
-use Rattle.cts_model.specs.Topologies.{Joins, numbers_below, sinks_below, source_of}
+use Rattle.cts_model.specs.tree.Regions.{IsReach}
+use Rattle.cts_model.specs.tree.ShownReaches.{ShowsMerge}
+use Rattle.cts_model.specs.tree.Topologies.{Joins, numbers_below, sinks_below, source_of}
 use Rattle.cts_model.specs.declared.place.Point.{Point}
 use Rattle.cts_model.specs.declared.place.Uv.{Uv}
-use Rattle.cts_model.specs.Points.{rotated}
+use Rattle.cts_model.specs.placement.Points.{rotated}
 use Rattle.tilted_rect.specs.Extremes.{IsRegion}
 use Rattle.tilted_rect.specs.Rects.{HasSides}
 use Rattle.tilted_rect.specs.declared.rect.Rect.{Rect}

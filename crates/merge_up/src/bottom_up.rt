@@ -1,6 +1,6 @@
 ghost use Rattle.std.specs.Prelude.{◌≡◌, ◌≤◌, ◌+◌, ◌*◌, ◌-◌, ◌^◌, min, false, length, replicate};
-ghost use Rattle.cts_model.specs.Sinks.{AreTreeSinks};
-ghost use Rattle.cts_model.specs.Topologies.{IsTopology};
+ghost use Rattle.cts_model.specs.tree.Sinks.{AreTreeSinks};
+ghost use Rattle.cts_model.specs.tree.Topologies.{IsTopology};
 ghost use Rattle.merge_up.specs.Merging.{IsMerged, IsUnsettled};
 
 use crate::work::Work;

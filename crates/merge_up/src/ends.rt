@@ -19,9 +19,9 @@ pub struct Ends {
 }
 
 impl Ends {
-    ghost use Rattle.cts_model.specs.Points.{IsMultipleOf};
-    ghost use Rattle.cts_model.specs.ShownReaches.{ShowsMerge};
-    ghost use Rattle.cts_model.specs.Sinks.{IsTreeSink};
+    ghost use Rattle.cts_model.specs.placement.Points.{IsMultipleOf};
+    ghost use Rattle.cts_model.specs.tree.ShownReaches.{ShowsMerge};
+    ghost use Rattle.cts_model.specs.tree.Sinks.{IsTreeSink};
     ghost use Rattle.tilted_rect.specs.Extremes.{HasExtremeSides, spread};
     ghost use Rattle.merge_up.specs.Sides.{AreEnds, extremes_of};
 
@@ -101,7 +101,7 @@ impl Ends {
 }
 
 ghost use Rattle.std.specs.Prelude.{◌*◌, ◌^◌};
-ghost use Rattle.cts_model.specs.Points.{IsBelow, IsMultipleOf};
+ghost use Rattle.cts_model.specs.placement.Points.{IsBelow, IsMultipleOf};
 ghost use Rattle.tilted_rect.specs.Corners.{IsSide};
 ghost use Rattle.merge_up.specs.Distances.{IsStep};
 ghost use Rattle.merge_up.specs.Sides.{IsEnd, pair_of};

@@ -45,9 +45,9 @@ impl Work {
     ghost use Rattle.cts_model.specs.declared.place.Point.{Point};
     ghost use Rattle.cts_model.specs.declared.place.Sink.{Sink};
     ghost use Rattle.cts_model.specs.declared.tree.Merge.{Merge};
-    ghost use Rattle.cts_model.specs.Points.{IsUvBelow, IsUvMultipleOf, rotated};
-    ghost use Rattle.cts_model.specs.Sinks.{AreTreeSinks, IsTreeSink};
-    ghost use Rattle.cts_model.specs.Topologies.{IsTopology, numbers_below};
+    ghost use Rattle.cts_model.specs.placement.Points.{IsUvBelow, IsUvMultipleOf, rotated};
+    ghost use Rattle.cts_model.specs.tree.Sinks.{AreTreeSinks, IsTreeSink};
+    ghost use Rattle.cts_model.specs.tree.Topologies.{IsTopology, numbers_below};
     ghost use Rattle.tilted_rect.specs.Rects.{Holds};
     ghost use Rattle.merge_up.specs.Merging.{HoldsJoined, HoldsMerge, HoldsSinks, KeepsEnds, KeepsJoined, IsFresh, IsRenewed, IsSinkSet, IsNodeSettled, IsSourcePlaced, IsUnsettled};
     ghost use Rattle.merge_up.specs.Sides.{AreEnds, IsEnd, far_to};

@@ -7,9 +7,9 @@ use Rattle.cts_model.specs.declared.place.Sink.{Sink}
 use Rattle.cts_model.specs.declared.tree.Merge.{Merge}
 use Rattle.cts_model.specs.declared.tree.Show.{Show}
 use Rattle.cts_model.specs.declared.tree.Show.TheVariants as shows
-use Rattle.cts_model.specs.Regions.{IsReach, span}
-use Rattle.cts_model.specs.ShownReaches.{ShowsMerge}
-use Rattle.cts_model.specs.Topologies.{numbers_below, sinks_below}
+use Rattle.cts_model.specs.tree.Regions.{IsReach, span}
+use Rattle.cts_model.specs.tree.ShownReaches.{ShowsMerge}
+use Rattle.cts_model.specs.tree.Topologies.{numbers_below, sinks_below}
 use Rattle.merge_up.specs.Merging.{HoldsMerge}
 use Rattle.merge_up.specs.Works.{WorkState}
 use Rattle.tilted_rect.specs.Extremes.{IsRegion}

@@ -8,8 +8,8 @@ use Rattle.std.proofs.lemmas.List.Elements.{All-set}
 use Rattle.std.proofs.lemmas.Option.{get_or_from_slice_get}
 use Rattle.cts_model.specs.declared.place.Sink.{Sink}
 use Rattle.cts_model.specs.declared.tree.Merge.{Merge}
-use Rattle.cts_model.specs.Sinks.{AreTreeSinks, IsTreeSink}
-use Rattle.cts_model.specs.Topologies.{numbers_below}
+use Rattle.cts_model.specs.tree.Sinks.{AreTreeSinks, IsTreeSink}
+use Rattle.cts_model.specs.tree.Topologies.{numbers_below}
 use Rattle.merge_up.specs.Merging.{HoldsMerge, HoldsSink, IsMerged, IsPointOf, IsSinkSet}
 use Rattle.merge_up.specs.Works.{WorkState, IsFit}
 use Rattle.merge_up.proofs.WorkLemmas.{merge_along, set_held, set_kept, sink_along}

@@ -7,7 +7,7 @@ use Rattle.std.proofs.lemmas.Option.{same_Some}
 use Rattle.std.proofs.lemmas.Slice.Eq.{bytes_eq-Decides}
 use Rattle.indexmap.specs.IndexMap.{insert_entry}
 use Rattle.cts_model.specs.declared.circuit.Circuit.{Circuit}
-use Rattle.cts_model.specs.Paths.{register_name}
+use Rattle.cts_model.specs.netlist.Paths.{register_name}
 use Rattle.move_session.specs.Moves.{IsNamed, NamesRegister}
 use Rattle.move_session.specs.Numbers.{Assigns, HasNumbers, number_of}
 

@@ -4,7 +4,7 @@ use Rattle.cts_base.specs.Decimals.{RefusesNumber}
 use Rattle.cts_base.specs.declared.number.NumberFault.{NumberFault}
 use Rattle.cts_base.proofs.ListPlaces.{IsAfter, same_place, same_parts}
 use Rattle.cts_model.specs.declared.circuit.Circuit.{Circuit}
-use Rattle.cts_model.specs.Placements.{IsNumber}
+use Rattle.cts_model.specs.placement.Placements.{IsNumber}
 use Rattle.move_session.specs.declared.fault.MovesFault.{MovesFault}
 use Rattle.move_session.specs.declared.fault.MovesFault.TheVariants as faults
 use Rattle.move_session.specs.declared.moves.Move.{Move}

@@ -5,9 +5,9 @@ use Rattle.cts_model.specs.declared.place.Uv.{Uv}
 use Rattle.cts_model.specs.declared.tree.Merge.{Merge}
 use Rattle.cts_model.specs.declared.tree.Show.{Show}
 use Rattle.cts_model.specs.declared.tree.Tree.{Tree}
-use Rattle.cts_model.specs.Embeddings.{IsLeastWire, RealisesOffsets, embedding_of, total_wire}
-use Rattle.cts_model.specs.ShownReaches.{AreShown}
-use Rattle.cts_model.specs.Topologies.{IsTopology}
+use Rattle.cts_model.specs.tree.Embeddings.{IsLeastWire, RealisesOffsets, embedding_of, total_wire}
+use Rattle.cts_model.specs.tree.ShownReaches.{AreShown}
+use Rattle.cts_model.specs.tree.Topologies.{IsTopology}
 use Rattle.cts_model.proofs.TopologyLemmas.{some_and}
 use Rattle.cts_model.proofs.TreeLemmas.{reaches_realise, shown_reaches_are_least}
 use Rattle.place_down.specs.Trees.{IsPlacedTree, reach_in}

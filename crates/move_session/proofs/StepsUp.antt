@@ -12,7 +12,7 @@ use Rattle.std.proofs.lemmas.Map.Views.{list_any-from_Contains}
 use Rattle.std.proofs.lemmas.Option.{get_or_from_slice_get, slice_get-get_or, slice_get_within}
 use Rattle.cts_model.specs.declared.place.Sink.{Sink}
 use Rattle.cts_model.specs.declared.tree.Merge.{Merge}
-use Rattle.cts_model.specs.Topologies.{IsLive, IsMerge, IsTopology, Joins, numbers_below}
+use Rattle.cts_model.specs.tree.Topologies.{IsLive, IsMerge, IsTopology, Joins, numbers_below}
 use Rattle.cts_model.proofs.TopologyLemmas.{numbers_below-merge, numbers_below-sink, some_and}
 use Rattle.merge_up.specs.Merging.{HoldsMerge, HoldsSinks, IsMerged, IsRenewed}
 use Rattle.merge_up.specs.Works.{WorkState}

@@ -3,7 +3,7 @@ use Rattle.std.specs.Prelude.{◌≡◌, ◌⊎◌, ℕ, IsTrue, List, length, O
 use Rattle.cts_base.specs.Decimals.{RefusesNumber}
 use Rattle.cts_base.specs.declared.number.NumberFault.{NumberFault}
 use Rattle.cts_model.specs.declared.circuit.Circuit.{Circuit}
-use Rattle.cts_model.specs.Placements.{IsNumber}
+use Rattle.cts_model.specs.placement.Placements.{IsNumber}
 use Rattle.move_session.specs.declared.moves.Move.{Move}
 use Rattle.move_session.specs.Entries.{Fields, entries_in, fields_of, has_words, words_in}
 use Rattle.move_session.specs.Moves.{IsMove, NamesRegister}

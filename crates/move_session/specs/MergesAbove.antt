@@ -4,7 +4,7 @@ use Rattle.std.specs.Prelude.{◌≡◌, ◌⊎◌, ◌+◌, ◌<◌, ℕ, Bool,
 use Rattle.std.specs.List.{count_by, list_any, range_with_len}
 use Rattle.cts_model.specs.declared.place.Sink.{Sink}
 use Rattle.cts_model.specs.declared.tree.Merge.{Merge}
-use Rattle.cts_model.specs.Topologies.{Joins, numbers_below}
+use Rattle.cts_model.specs.tree.Topologies.{Joins, numbers_below}
 use Rattle.merge_up.specs.Merging.{HoldsMerge, HoldsSinks, IsRenewed}
 use Rattle.merge_up.specs.Works.{WorkState}
 

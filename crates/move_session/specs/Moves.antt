@@ -2,7 +2,7 @@
 use Rattle.std.specs.Prelude.{◌≡◌, ◌<◌, ◌≤◌, ℕ, List, [], ◌∷◌, length, IsSomeAnd}
 use Rattle.cts_base.specs.Decimals.{IsRead}
 use Rattle.cts_model.specs.declared.circuit.Circuit.{Circuit}
-use Rattle.cts_model.specs.Paths.{register_name}
+use Rattle.cts_model.specs.netlist.Paths.{register_name}
 use Rattle.move_session.specs.declared.moves.Move.{Move}
 use Rattle.move_session.specs.Entries.{Fields, entries_of, fields_of}
 

@@ -3,7 +3,7 @@ use Rattle.std.specs.Prelude.{◌≡◌, ◌≢◌, ◌<◌, ℕ, List, Option, 
 use Rattle.std.specs.Map.{lookup}
 use Rattle.std.specs.Str.{bytes_eq}
 use Rattle.cts_model.specs.declared.circuit.Circuit.{Circuit}
-use Rattle.cts_model.specs.Paths.{register_name}
+use Rattle.cts_model.specs.netlist.Paths.{register_name}
 use Rattle.move_session.specs.Moves.{IsNamed}
 
 -- the number of a name, of names with their numbers

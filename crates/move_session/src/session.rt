@@ -31,10 +31,10 @@ impl Model for Session {
 
 impl Session {
     ghost use Rattle.std.specs.Prelude.{◌≡◌, ◌≤◌, ◌<◌, ◌+◌, ◌*◌, ◌-◌, ◌^◌, IfOk, length};
-    ghost use Rattle.cts_model.specs.Embeddings.{IsLeastWire, RealisesOffsets, embedding_of, total_wire};
-    ghost use Rattle.cts_model.specs.Points.{IsBelow, IsUvBelow, IsUvMultipleOf};
-    ghost use Rattle.cts_model.specs.Sinks.{AreTreeSinks};
-    ghost use Rattle.cts_model.specs.Topologies.{IsTopology};
+    ghost use Rattle.cts_model.specs.tree.Embeddings.{IsLeastWire, RealisesOffsets, embedding_of, total_wire};
+    ghost use Rattle.cts_model.specs.placement.Points.{IsBelow, IsUvBelow, IsUvMultipleOf};
+    ghost use Rattle.cts_model.specs.tree.Sinks.{AreTreeSinks};
+    ghost use Rattle.cts_model.specs.tree.Topologies.{IsTopology};
     ghost use Rattle.move_session.specs.MergesAbove.{merges_above};
     ghost use Rattle.move_session.specs.Sessions.{StandsFor, moved_sinks};
     ghost use Rattle.place_down.specs.Trees.{IsTreeSource, reach_in};
@@ -132,8 +132,8 @@ impl Session {
 }
 
 ghost use Rattle.std.specs.Prelude.{◌≡◌, ◌<◌, ◌^◌, length};
-ghost use Rattle.cts_model.specs.Points.{IsUvBelow, IsUvMultipleOf};
-ghost use Rattle.cts_model.specs.Sinks.{AreTreeSinks, IsTreeSink};
+ghost use Rattle.cts_model.specs.placement.Points.{IsUvBelow, IsUvMultipleOf};
+ghost use Rattle.cts_model.specs.tree.Sinks.{AreTreeSinks, IsTreeSink};
 ghost use Rattle.move_session.specs.Sessions.{moved_sink};
 
 // A register's sink at another place.

@@ -1,6 +1,6 @@
 ghost use Rattle.std.specs.Prelude.{◌≡◌, ◌≤◌, ◌^◌, pos, All, length, slice_index_or};
-ghost use Rattle.cts_model.specs.Embeddings.{total_length};
-ghost use Rattle.cts_model.specs.Points.{IsBelow};
+ghost use Rattle.cts_model.specs.tree.Embeddings.{total_length};
+ghost use Rattle.cts_model.specs.placement.Points.{IsBelow};
 
 /// How long edges are together.
 pub(crate) fn total_of(lengths: &[i128]) -> i128

@@ -11,9 +11,9 @@ use Rattle.cts_model.specs.declared.kind.Kind.{Kind}
 use Rattle.cts_model.specs.declared.kind.Kind.TheVariants.{And, Nand, Or, Nor, Not, Xor, Xnor, Buff, Input, Dff, Host}
 use Rattle.cts_model.specs.declared.signal.Signal.{Signal}
 use Rattle.cts_model.specs.declared.circuit.Circuit.{Circuit}
-use Rattle.cts_model.specs.Kinds.{is_host, is_valid}
-use Rattle.cts_model.specs.Circuits.{has_host}
-use Rattle.cts_model.specs.Paths.{register_signal, Captures}
+use Rattle.cts_model.specs.netlist.Kinds.{is_host, is_valid}
+use Rattle.cts_model.specs.netlist.Circuits.{has_host}
+use Rattle.cts_model.specs.netlist.Paths.{register_signal, Captures}
 use Rattle.path_delays.specs.declared.groups.Groups.{Groups}
 use Rattle.path_delays.specs.GroupParts.{group_of, HasGroups}
 use Rattle.path_delays.specs.NumberSets.{has_number, AreInserted}

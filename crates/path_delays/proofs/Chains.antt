@@ -7,9 +7,9 @@ use Rattle.std.proofs.lemmas.Int.{ints, clamps}
 use Rattle.cts_model.specs.declared.signal.Signal.{Signal}
 use Rattle.cts_model.specs.declared.circuit.Circuit.{Circuit}
 use Rattle.cts_model.specs.declared.tech.Tech.{Tech}
-use Rattle.cts_model.specs.Paths.{Reads, Follows, Launches}
-use Rattle.cts_model.specs.Tables.{IsWithin}
-use Rattle.cts_model.specs.Delays.{least_gate_delay, greatest_gate_delay, least_through, greatest_through, least_delay, greatest_delay}
+use Rattle.cts_model.specs.netlist.Paths.{Reads, Follows, Launches}
+use Rattle.cts_model.specs.table.Tables.{IsWithin}
+use Rattle.cts_model.specs.timing.Delays.{least_gate_delay, greatest_gate_delay, least_through, greatest_through, least_delay, greatest_delay}
 use Rattle.path_delays.specs.declared.sums.Sums.{Sums}
 use Rattle.path_delays.specs.SumParts.{AreWithin, IsAround, AreAround, joined_sums, sums_through}
 use Rattle.path_delays.specs.Reaches.{IsChain, AreShown}

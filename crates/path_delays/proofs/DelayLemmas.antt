@@ -6,11 +6,11 @@ use Rattle.std.proofs.lemmas.Int.{ints}
 use Rattle.std.proofs.Math.IntN.{pos-*ℤ-pos}
 use Rattle.std.proofs.Math.Nat.{mul-le-mul_right}
 use Rattle.cts_model.specs.declared.tech.GateDelay.{GateDelay}
-use Rattle.cts_model.specs.Kinds.{is_gate, place_of}
+use Rattle.cts_model.specs.netlist.Kinds.{is_gate, place_of}
 use Rattle.cts_model.specs.declared.signal.Signal.{Signal}
 use Rattle.cts_model.specs.declared.tech.Tech.{Tech}
-use Rattle.cts_model.specs.Delays.{no_delay, delay_of, least_gate_delay, greatest_gate_delay}
-use Rattle.cts_model.specs.Tables.{IsWithin, IsGateDelay}
+use Rattle.cts_model.specs.timing.Delays.{no_delay, delay_of, least_gate_delay, greatest_gate_delay}
+use Rattle.cts_model.specs.table.Tables.{IsWithin, IsGateDelay}
 use Rattle.path_delays.specs.SumParts.{AreWithin}
 use Rattle.path_delays.specs.Networks.{gate_sums, weight_of}
 

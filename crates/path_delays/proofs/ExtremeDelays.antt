@@ -5,7 +5,7 @@ use Rattle.std.proofs.lemmas.Int.{ints}
 use Rattle.cts_model.specs.declared.signal.Signal.{Signal}
 use Rattle.cts_model.specs.declared.circuit.Circuit.{Circuit}
 use Rattle.cts_model.specs.declared.tech.Tech.{Tech}
-use Rattle.cts_model.specs.Delays.{least_gate_delay, greatest_gate_delay, least_through, greatest_through}
+use Rattle.cts_model.specs.timing.Delays.{least_gate_delay, greatest_gate_delay, least_through, greatest_through}
 use Rattle.path_delays.specs.declared.sums.Sums.{Sums}
 use Rattle.path_delays.specs.Reaches.{IsChain, AreExtreme}
 use Rattle.path_delays.specs.ExtremePaths.{delay_by, extreme_of, IsNoFurther}

@@ -3,7 +3,7 @@ use Rattle.std.proofs.Common.{◌≡◌, ℕ, pos, ◌+ℤ◌, ◌*ℤ◌, ◌�
 use Rattle.std.proofs.lemmas.Int.{ints}
 use Rattle.std.proofs.lemmas.Option.{same_Some}
 use Rattle.std.proofs.lemmas.List.Elements.{Contains-push, Contains-push_cases, Contains-append_left}
-use Rattle.cts_model.specs.Points.{IsBelow}
+use Rattle.cts_model.specs.placement.Points.{IsBelow}
 use Rattle.path_delays.specs.declared.sums.Sums.{Sums}
 use Rattle.path_delays.specs.declared.window.Window.{Window}
 use Rattle.path_delays.specs.Windows.{IsInside, IsHull, IsHullIfAny, IsWindowBelow}

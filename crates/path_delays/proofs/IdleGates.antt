@@ -5,7 +5,7 @@ use Rattle.std.proofs.lemmas.List.{append-nil}
 use Rattle.std.proofs.lemmas.List.Elements.{All-nil, All-push, All-weaker, Contains-push, Contains-append_left}
 use Rattle.std.proofs.lemmas.List.Quantifiers.{all_pairs_push}
 use Rattle.cts_model.specs.declared.signal.Signal.{Signal}
-use Rattle.cts_model.specs.Paths.{IsGate}
+use Rattle.cts_model.specs.netlist.Paths.{IsGate}
 use Rattle.path_delays.specs.GateReads.{is_gate_at}
 use Rattle.path_delays.specs.Sorted.{AreIdleGates}
 use Rattle.path_delays.proofs.ReadLemmas.{IsGate-from_test, test_from_IsGate}

@@ -7,8 +7,8 @@ use Rattle.cts_model.specs.declared.kind.Kind.{Kind}
 use Rattle.cts_model.specs.declared.kind.Kind.TheVariants.{Input, Dff, Host}
 use Rattle.cts_model.specs.declared.signal.Signal.{Signal}
 use Rattle.cts_model.specs.declared.circuit.Circuit.{Circuit}
-use Rattle.cts_model.specs.Kinds.{is_gate, is_host, is_input, is_register}
-use Rattle.cts_model.specs.Paths.{IsInput, Launches, register_signal}
+use Rattle.cts_model.specs.netlist.Kinds.{is_gate, is_host, is_input, is_register}
+use Rattle.cts_model.specs.netlist.Paths.{IsInput, Launches, register_signal}
 use Rattle.cts_model.proofs.CircuitLemmas.{IsRegisterAt, registered}
 use Rattle.path_delays.specs.Networks.{AreRanks}
 

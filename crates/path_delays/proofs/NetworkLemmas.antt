@@ -10,9 +10,9 @@ use Rattle.std.proofs.lemmas.List.Elements.{All-nil, All-map, All-filter, All-ap
 use Rattle.std.proofs.lemmas.Option.{get_or_from_slice_get, slice_get_within, slice_get-get_or, slice_get_past}
 use Rattle.cts_model.specs.declared.signal.Signal.{Signal}
 use Rattle.cts_model.specs.declared.circuit.Circuit.{Circuit}
-use Rattle.cts_model.specs.Kinds.{is_gate}
-use Rattle.cts_model.specs.Circuits.{gate_inputs, has_host}
-use Rattle.cts_model.specs.Paths.{IsGate, Reads}
+use Rattle.cts_model.specs.netlist.Kinds.{is_gate}
+use Rattle.cts_model.specs.netlist.Circuits.{gate_inputs, has_host}
+use Rattle.cts_model.specs.netlist.Paths.{IsGate, Reads}
 use Rattle.path_delays.specs.declared.groups.Groups.{Groups}
 use Rattle.path_delays.specs.Grouped.{values_at}
 use Rattle.path_delays.specs.GroupParts.{group_of, HasGroups}

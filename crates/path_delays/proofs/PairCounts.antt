@@ -5,8 +5,8 @@ use Rattle.std.proofs.lemmas.List.{length_push, length-map, get_or-map}
 use Rattle.cts_model.specs.declared.circuit.Circuit.{Circuit}
 use Rattle.cts_model.specs.declared.tech.Tech.{Tech}
 use Rattle.cts_model.specs.declared.timing.PairDelay.{PairDelay}
-use Rattle.cts_model.specs.EqualArrivals.{ComesBefore}
-use Rattle.cts_model.specs.PairLists.{ListsPairs, JoinsMoreThan}
+use Rattle.cts_model.specs.timing.EqualArrivals.{ComesBefore}
+use Rattle.cts_model.specs.timing.PairLists.{ListsPairs, JoinsMoreThan}
 use Rattle.cts_model.proofs.PairOrder.{earlier_place}
 use Rattle.path_delays.specs.declared.fault.PairFault.{PairFault}
 use Rattle.path_delays.specs.declared.fault.PairFault.TheVariants.{TooManyPairs, NoMemory}

@@ -9,9 +9,9 @@ use Rattle.std.proofs.lemmas.List.Quantifiers.{all_pairs_push, Any-push}
 use Rattle.cts_model.specs.declared.circuit.Circuit.{Circuit}
 use Rattle.cts_model.specs.declared.tech.Tech.{Tech}
 use Rattle.cts_model.specs.declared.timing.PairDelay.{PairDelay}
-use Rattle.cts_model.specs.Paths.{IsPath}
-use Rattle.cts_model.specs.EqualArrivals.{IsPairDelay, ComesBefore}
-use Rattle.cts_model.specs.PairLists.{IsSmallPair}
+use Rattle.cts_model.specs.netlist.Paths.{IsPath}
+use Rattle.cts_model.specs.timing.EqualArrivals.{IsPairDelay, ComesBefore}
+use Rattle.cts_model.specs.timing.PairLists.{IsSmallPair}
 use Rattle.cts_model.proofs.PathRegisters.{path_within}
 use Rattle.path_delays.specs.JoinedPairs.{IsDelayBetween, IsJoinedBy, ListsPairsBefore, pair_limit, ArePairs}
 

@@ -10,8 +10,8 @@ use Rattle.cts_model.specs.declared.kind.Kind.TheVariants.{And, Nand, Or, Nor, N
 use Rattle.cts_model.specs.declared.signal.Signal.{Signal}
 use Rattle.cts_model.specs.declared.circuit.Circuit.{Circuit}
 use Rattle.cts_model.specs.declared.tech.Tech.{Tech}
-use Rattle.cts_model.specs.Kinds.{is_gate, is_host, is_input, is_register}
-use Rattle.cts_model.specs.Paths.{register_signal, Reads, Follows, IsInput, Launches, Captures}
+use Rattle.cts_model.specs.netlist.Kinds.{is_gate, is_host, is_input, is_register}
+use Rattle.cts_model.specs.netlist.Paths.{register_signal, Reads, Follows, IsInput, Launches, Captures}
 use Rattle.cts_model.proofs.CircuitLemmas.{IsRegisterAt, registered}
 use Rattle.path_delays.specs.declared.sums.Sums.{Sums}
 use Rattle.path_delays.specs.declared.walk.Walk.{Walk}

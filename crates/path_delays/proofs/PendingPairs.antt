@@ -5,7 +5,7 @@ use Rattle.std.proofs.lemmas.Bool.{cases_eq, true≢false, and_parts, and_from, 
 use Rattle.cts_model.specs.declared.circuit.Circuit.{Circuit}
 use Rattle.cts_model.specs.declared.tech.Tech.{Tech}
 use Rattle.cts_model.specs.declared.timing.PairDelay.{PairDelay}
-use Rattle.cts_model.specs.Paths.{IsPath}
+use Rattle.cts_model.specs.netlist.Paths.{IsPath}
 use Rattle.path_delays.specs.NumberSets.{has_number, IsLowestTaken}
 use Rattle.path_delays.specs.JoinedPairs.{IsJoinedBy, ListsPairsBefore}
 use Rattle.path_delays.proofs.PairWalk.{pair_next, skip_pairs, register_next}

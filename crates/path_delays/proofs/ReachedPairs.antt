@@ -9,8 +9,8 @@ use Rattle.cts_model.specs.declared.signal.Signal.{Signal}
 use Rattle.cts_model.specs.declared.circuit.Circuit.{Circuit}
 use Rattle.cts_model.specs.declared.tech.Tech.{Tech}
 use Rattle.cts_model.specs.declared.timing.PairDelay.{PairDelay}
-use Rattle.cts_model.specs.Paths.{register_signal, Captures, IsPath}
-use Rattle.cts_model.specs.Delays.{least_delay, greatest_delay}
+use Rattle.cts_model.specs.netlist.Paths.{register_signal, Captures, IsPath}
+use Rattle.cts_model.specs.timing.Delays.{least_delay, greatest_delay}
 use Rattle.path_delays.specs.declared.sums.Sums.{Sums}
 use Rattle.path_delays.specs.declared.walk.Walk.{Walk}
 use Rattle.path_delays.specs.Reaches.{IsChain, AreExtreme, IsReach}

@@ -8,9 +8,9 @@ use Rattle.std.proofs.lemmas.List.Sums.{sum_by_more}
 use Rattle.std.proofs.lemmas.List.Elements.{All-nil, All-cons, All-head, All-tail, All-append, All-contains_itself, Contains-append_left, Contains-append_right, filter_map-append}
 use Rattle.std.proofs.lemmas.Option.{get_or_from_slice_get, slice_get_within}
 use Rattle.cts_model.specs.declared.signal.Signal.{Signal}
-use Rattle.cts_model.specs.Kinds.{is_gate}
-use Rattle.cts_model.specs.Circuits.{gate_inputs}
-use Rattle.cts_model.specs.Paths.{IsGate, Reads}
+use Rattle.cts_model.specs.netlist.Kinds.{is_gate}
+use Rattle.cts_model.specs.netlist.Circuits.{gate_inputs}
+use Rattle.cts_model.specs.netlist.Paths.{IsGate, Reads}
 use Rattle.path_delays.specs.GateReads.{is_gate_at, reads_among, reads_by, IsRead, AreReads}
 
 -- what the test of a number says

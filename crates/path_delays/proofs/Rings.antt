@@ -5,7 +5,7 @@ use Rattle.std.proofs.lemmas.Option.{slice_get_within}
 use Rattle.std.specs.Prelude.{IsSomeAnd, slice_index}
 use Rattle.std.specs.List.{slice_get}
 use Rattle.cts_model.specs.declared.signal.Signal.{Signal}
-use Rattle.cts_model.specs.Paths.{Follows, IsLoop, IsNamedLoop}
+use Rattle.cts_model.specs.netlist.Paths.{Follows, IsLoop, IsNamedLoop}
 use Rattle.path_delays.proofs.Distinct.{AreDistinct, distinct_rotated}
 
 -- a chain of two parts has a gate where they meet

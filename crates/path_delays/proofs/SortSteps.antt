@@ -6,7 +6,7 @@ use Rattle.std.proofs.lemmas.List.{take_more, take-append-le, take_all, length-t
 use Rattle.std.proofs.lemmas.List.Elements.{All-append, All-same, All-weaker, All-contains, Contains-get_or, Contains-append_left, Contains-append_right}
 use Rattle.std.proofs.lemmas.Option.{slice_get_past, slice_get_within, get_or_from_slice_get, slice_get-get_or}
 use Rattle.cts_model.specs.declared.signal.Signal.{Signal}
-use Rattle.cts_model.specs.Paths.{IsGate, Reads}
+use Rattle.cts_model.specs.netlist.Paths.{IsGate, Reads}
 use Rattle.path_delays.specs.Grouped.{values_at}
 use Rattle.path_delays.specs.GateReads.{IsRead, AreReads}
 use Rattle.path_delays.specs.Sorted.{CanRelease, AreReleased, AreIdleGates, IsSorted}

@@ -12,10 +12,10 @@ use Rattle.cts_model.specs.declared.signal.Signal.{Signal}
 use Rattle.cts_model.specs.declared.circuit.Circuit.{Circuit}
 use Rattle.cts_model.specs.declared.schedule.Schedule.{Schedule}
 use Rattle.cts_model.specs.declared.tech.Tech.{Tech}
-use Rattle.cts_model.specs.Delays.{least_gate_delay, greatest_gate_delay}
-use Rattle.cts_model.specs.Kinds.{is_gate, is_host, is_input, is_valid}
-use Rattle.cts_model.specs.Paths.{IsGate, IsInput, Reads, Launches, Captures, register_signal}
-use Rattle.cts_model.specs.Schedules.{arrival_of}
+use Rattle.cts_model.specs.timing.Delays.{least_gate_delay, greatest_gate_delay}
+use Rattle.cts_model.specs.netlist.Kinds.{is_gate, is_host, is_input, is_valid}
+use Rattle.cts_model.specs.netlist.Paths.{IsGate, IsInput, Reads, Launches, Captures, register_signal}
+use Rattle.cts_model.specs.timing.Schedules.{arrival_of}
 use Rattle.path_delays.specs.declared.window.Window.{Window}
 use Rattle.path_delays.specs.Networks.{gate_sums}
 use Rattle.path_delays.specs.Orders.{IsTopologicalOrder}

@@ -5,7 +5,7 @@ use Rattle.std.proofs.lemmas.Bool.{cases_order}
 use Rattle.std.proofs.lemmas.List.{get_or-take, length-take}
 use Rattle.std.proofs.lemmas.Option.{slice_get_within, slice_get-get_or, get_or_from_slice_get}
 use Rattle.cts_model.specs.declared.signal.Signal.{Signal}
-use Rattle.cts_model.specs.Paths.{IsGate, Reads, Follows, IsLoop}
+use Rattle.cts_model.specs.netlist.Paths.{IsGate, Reads, Follows, IsLoop}
 use Rattle.path_delays.specs.Orders.{IsTopologicalOrder}
 use Rattle.path_delays.proofs.ReadLemmas.{IsGate-from_Reads}
 

@@ -5,7 +5,7 @@ use Rattle.std.proofs.lemmas.List.{get_or_past}
 use Rattle.std.proofs.lemmas.Option.{slice_get_read}
 use Rattle.std.proofs.lemmas.Bool.Decides.{nat_tests}
 use Rattle.cts_model.specs.declared.signal.Signal.{Signal}
-use Rattle.cts_model.specs.Paths.{Reads}
+use Rattle.cts_model.specs.netlist.Paths.{Reads}
 use Rattle.path_delays.specs.Orders.{AllWait}
 
 -- the first item that passes is one of the items, and passes

@@ -13,9 +13,9 @@ use Rattle.std.proofs.lemmas.Int.{ints}
 use Rattle.cts_model.specs.declared.signal.Signal.{Signal}
 use Rattle.cts_model.specs.declared.circuit.Circuit.{Circuit}
 use Rattle.cts_model.specs.declared.tech.Tech.{Tech}
-use Rattle.cts_model.specs.Kinds.{is_gate, is_input}
-use Rattle.cts_model.specs.Paths.{IsGate, IsInput, Reads, Follows, Launches}
-use Rattle.cts_model.specs.Delays.{least_gate_delay, greatest_gate_delay, least_through, greatest_through, least_delay, greatest_delay}
+use Rattle.cts_model.specs.netlist.Kinds.{is_gate, is_input}
+use Rattle.cts_model.specs.netlist.Paths.{IsGate, IsInput, Reads, Follows, Launches}
+use Rattle.cts_model.specs.timing.Delays.{least_gate_delay, greatest_gate_delay, least_through, greatest_through, least_delay, greatest_delay}
 use Rattle.path_delays.specs.declared.sums.Sums.{Sums}
 use Rattle.path_delays.specs.declared.network.Network.{Network}
 use Rattle.path_delays.specs.declared.reach.Reach.{Reach}

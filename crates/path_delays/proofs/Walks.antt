@@ -7,7 +7,7 @@ use Rattle.std.proofs.lemmas.List.Elements.{Contains-push, Contains-append_left}
 use Rattle.std.proofs.lemmas.List.Quantifiers.{all_pairs_push}
 use Rattle.std.proofs.lemmas.Bool.{cases_eq, cases_lt}
 use Rattle.cts_model.specs.declared.signal.Signal.{Signal}
-use Rattle.cts_model.specs.Paths.{Reads, Follows, IsNamedLoop}
+use Rattle.cts_model.specs.netlist.Paths.{Reads, Follows, IsNamedLoop}
 use Rattle.path_delays.proofs.Distinct.{AreDistinct, distinct_reverse, distinct_take}
 use Rattle.path_delays.proofs.WaitingInputs.{waits_within}
 use Rattle.path_delays.proofs.Rings.{cut_ring, named_rotated}

@@ -10,13 +10,13 @@ use Rattle.std.proofs.lemmas.List.{length-set, length_push, get_or-set_same, get
 use Rattle.std.proofs.lemmas.Option.{same_Some, slice_get_within, slice_get-get_or, get_or_from_slice_get}
 use Rattle.cts_model.specs.declared.signal.Signal.{Signal}
 use Rattle.cts_model.specs.declared.circuit.Circuit.{Circuit}
-use Rattle.cts_model.specs.Kinds.{is_gate, is_host, is_input, is_valid}
+use Rattle.cts_model.specs.netlist.Kinds.{is_gate, is_host, is_input, is_valid}
 use Rattle.cts_model.specs.declared.kind.Kind.{Kind}
 use Rattle.cts_model.specs.declared.kind.Kind.TheVariants.{Host}
 use Rattle.cts_model.specs.declared.tech.Tech.{Tech}
-use Rattle.cts_model.specs.Circuits.{gate_inputs}
-use Rattle.cts_model.specs.Points.{IsBelow}
-use Rattle.cts_model.specs.Tables.{IsWithin}
+use Rattle.cts_model.specs.netlist.Circuits.{gate_inputs}
+use Rattle.cts_model.specs.placement.Points.{IsBelow}
+use Rattle.cts_model.specs.table.Tables.{IsWithin}
 use Rattle.path_delays.specs.declared.window.Window.{Window}
 use Rattle.path_delays.specs.Windows.{IsHullIfAny, IsWindowBelow}
 use Rattle.path_delays.specs.Networks.{gate_sums, weight_of}

@@ -1,7 +1,7 @@
 -- Which registers capture each signal.
 use Rattle.std.specs.Prelude.{◌≡◌, ◌<◌, ◌≤◌, ◌+◌, ◌*◌, ◌↔◌, ℕ, IsTrue, List, length, All, Contains, vec_len}
 use Rattle.cts_model.specs.declared.circuit.Circuit.{Circuit}
-use Rattle.cts_model.specs.Paths.{Captures}
+use Rattle.cts_model.specs.netlist.Paths.{Captures}
 use Rattle.path_delays.specs.declared.groups.Groups.{Groups}
 use Rattle.path_delays.specs.GroupParts.{group_of}
 use Rattle.path_delays.specs.NumberSets.{has_number}

@@ -2,8 +2,8 @@
 use Rattle.std.specs.Prelude.{◌≡◌, ◌≤ℤ◌, ℤ, ℕ, Bool, true, false, List, Option, Some, None, MatchOption}
 use Rattle.cts_model.specs.declared.circuit.Circuit.{Circuit}
 use Rattle.cts_model.specs.declared.tech.Tech.{Tech}
-use Rattle.cts_model.specs.Paths.{IsPath}
-use Rattle.cts_model.specs.Delays.{least_delay, greatest_delay}
+use Rattle.cts_model.specs.netlist.Paths.{IsPath}
+use Rattle.cts_model.specs.timing.Delays.{least_delay, greatest_delay}
 use Rattle.path_delays.specs.declared.sums.Sums.{Sums}
 use Rattle.path_delays.specs.declared.walk.Walk.{Walk}
 use Rattle.path_delays.specs.WalkParts.{sums_to}

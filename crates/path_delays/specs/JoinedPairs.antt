@@ -3,9 +3,9 @@ use Rattle.std.specs.Prelude.{◌≡◌, ◌≤◌, ℕ, List, length, All, Opti
 use Rattle.cts_model.specs.declared.circuit.Circuit.{Circuit}
 use Rattle.cts_model.specs.declared.tech.Tech.{Tech}
 use Rattle.cts_model.specs.declared.timing.PairDelay.{PairDelay}
-use Rattle.cts_model.specs.Paths.{IsPath}
-use Rattle.cts_model.specs.EqualArrivals.{IsPairDelay, ComesBefore}
-use Rattle.cts_model.specs.PairLists.{AreOrdered, IsListed, ListsPairs, JoinsMoreThan, IsSmallPair}
+use Rattle.cts_model.specs.netlist.Paths.{IsPath}
+use Rattle.cts_model.specs.timing.EqualArrivals.{IsPairDelay, ComesBefore}
+use Rattle.cts_model.specs.timing.PairLists.{AreOrdered, IsListed, ListsPairs, JoinsMoreThan, IsSmallPair}
 use Rattle.path_delays.specs.declared.fault.PairFault.{PairFault}
 use Rattle.path_delays.specs.declared.fault.PairFault.TheVariants.{TooManyPairs, NoMemory}
 

@@ -1,7 +1,7 @@
 -- Why the gates of a circuit have no order.
 use Rattle.std.specs.Prelude.{List}
 use Rattle.cts_model.specs.declared.signal.Signal.{Signal}
-use Rattle.cts_model.specs.Paths.{IsNamedLoop}
+use Rattle.cts_model.specs.netlist.Paths.{IsNamedLoop}
 use Rattle.path_delays.specs.declared.fault.LevelFault.{LevelFault}
 use Rattle.path_delays.specs.declared.fault.LevelFault.TheVariants.{Loop, NoMemory}
 

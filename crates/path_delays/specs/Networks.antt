@@ -6,10 +6,10 @@ use Rattle.std.specs.Option.{option_map_or}
 use Rattle.cts_model.specs.declared.signal.Signal.{Signal}
 use Rattle.cts_model.specs.declared.circuit.Circuit.{Circuit}
 use Rattle.cts_model.specs.declared.tech.Tech.{Tech}
-use Rattle.cts_model.specs.Kinds.{is_gate}
-use Rattle.cts_model.specs.Circuits.{gate_inputs}
-use Rattle.cts_model.specs.Paths.{IsGate, Reads}
-use Rattle.cts_model.specs.Delays.{least_gate_delay, greatest_gate_delay}
+use Rattle.cts_model.specs.netlist.Kinds.{is_gate}
+use Rattle.cts_model.specs.netlist.Circuits.{gate_inputs}
+use Rattle.cts_model.specs.netlist.Paths.{IsGate, Reads}
+use Rattle.cts_model.specs.timing.Delays.{least_gate_delay, greatest_gate_delay}
 use Rattle.path_delays.specs.declared.groups.Groups.{Groups}
 use Rattle.path_delays.specs.declared.sums.Sums.{Sums}
 use Rattle.path_delays.specs.declared.network.Network.{Network}

@@ -2,8 +2,8 @@
 use Rattle.std.specs.Prelude.{◌≡◌, ◌≤ℤ◌, ℕ, List, [], ◌∷◌, Option, Some, None}
 use Rattle.cts_model.specs.declared.circuit.Circuit.{Circuit}
 use Rattle.cts_model.specs.declared.tech.Tech.{Tech}
-use Rattle.cts_model.specs.Paths.{Follows, Launches}
-use Rattle.cts_model.specs.Delays.{least_delay, greatest_delay}
+use Rattle.cts_model.specs.netlist.Paths.{Follows, Launches}
+use Rattle.cts_model.specs.timing.Delays.{least_delay, greatest_delay}
 use Rattle.path_delays.specs.declared.sums.Sums.{Sums}
 use Rattle.path_delays.specs.SumParts.{AreWithin, delay_limit}
 

@@ -1,7 +1,7 @@
 -- The least and the greatest sum of delays: how they grow, and how two of them become one.
 use Rattle.std.specs.Prelude.{◌+ℤ◌, ◌≤ℤ◌, ℕ, Option, Some, None}
 use Rattle.std.specs.Int.{int_min, int_max}
-use Rattle.cts_model.specs.Tables.{IsWithin}
+use Rattle.cts_model.specs.table.Tables.{IsWithin}
 use Rattle.path_delays.specs.declared.sums.Sums.{Sums}
 
 -- the sums after one more gate

@@ -5,9 +5,9 @@ use Rattle.std.specs.Int.{int_min, int_max}
 use Rattle.cts_model.specs.declared.circuit.Circuit.{Circuit}
 use Rattle.cts_model.specs.declared.tech.Tech.{Tech}
 use Rattle.cts_model.specs.declared.schedule.Schedule.{Schedule}
-use Rattle.cts_model.specs.Kinds.{is_input}
-use Rattle.cts_model.specs.Paths.{IsGate, Launches, Captures}
-use Rattle.cts_model.specs.Schedules.{arrival_of}
+use Rattle.cts_model.specs.netlist.Kinds.{is_input}
+use Rattle.cts_model.specs.netlist.Paths.{IsGate, Launches, Captures}
+use Rattle.cts_model.specs.timing.Schedules.{arrival_of}
 use Rattle.path_delays.specs.declared.sums.Sums.{Sums}
 use Rattle.path_delays.specs.declared.window.Window.{Window}
 use Rattle.path_delays.specs.Reaches.{IsChain}

@@ -5,11 +5,11 @@ use Rattle.std.specs.Option.{IfSome}
 use Rattle.cts_model.specs.declared.circuit.Circuit.{Circuit}
 use Rattle.cts_model.specs.declared.tech.Tech.{Tech}
 use Rattle.cts_model.specs.declared.schedule.Schedule.{Schedule}
-use Rattle.cts_model.specs.Delays.{least_delay, greatest_delay}
-use Rattle.cts_model.specs.Paths.{IsPath}
-use Rattle.cts_model.specs.Points.{IsBelow}
-use Rattle.cts_model.specs.Schedules.{arrival_of}
-use Rattle.cts_model.specs.Tables.{IsWithin}
+use Rattle.cts_model.specs.timing.Delays.{least_delay, greatest_delay}
+use Rattle.cts_model.specs.netlist.Paths.{IsPath}
+use Rattle.cts_model.specs.placement.Points.{IsBelow}
+use Rattle.cts_model.specs.timing.Schedules.{arrival_of}
+use Rattle.cts_model.specs.table.Tables.{IsWithin}
 use Rattle.path_delays.specs.declared.window.Window.{Window}
 
 -- when what the register launches comes along a path, at its least and at its greatest delay

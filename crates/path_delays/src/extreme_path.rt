@@ -1,5 +1,5 @@
 ghost use Rattle.std.specs.Prelude.{◌≡◌, ◌<◌, ◌↔◌, length, Contains, IfOk, IsTrue, IsSomeAnd};
-ghost use Rattle.cts_model.specs.Paths.{Reads};
+ghost use Rattle.cts_model.specs.netlist.Paths.{Reads};
 ghost use Rattle.path_delays.specs.WalkParts.{IsRoomFor};
 ghost use Rattle.path_delays.specs.ExtremePaths.{IsExtremeIfAny, IsFurthestIfAny, extreme_of};
 

@@ -1,8 +1,8 @@
 ghost use Rattle.std.specs.Prelude.{◌≡◌, ◌≤◌, ◌<◌, ◌+ℤ◌, ◌*ℤ◌, pos, IsTrue, IfOk, length, map};
-ghost use Rattle.cts_model.specs.Kinds.{is_gate, is_valid};
-ghost use Rattle.cts_model.specs.Kinds as places;
-ghost use Rattle.cts_model.specs.Delays.{delay_of};
-ghost use Rattle.cts_model.specs.Tables.{IsGateDelay, IsWithin};
+ghost use Rattle.cts_model.specs.netlist.Kinds.{is_gate, is_valid};
+ghost use Rattle.cts_model.specs.netlist.Kinds as places;
+ghost use Rattle.cts_model.specs.timing.Delays.{delay_of};
+ghost use Rattle.cts_model.specs.table.Tables.{IsGateDelay, IsWithin};
 ghost use Rattle.path_delays.specs.Networks.{gate_sums};
 
 use crate::sums::Sums;

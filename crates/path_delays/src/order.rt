@@ -1,5 +1,5 @@
 ghost use Rattle.std.specs.Prelude.{◌≡◌, ℕ, List, IfOk, IfErr, nat_lt, position};
-ghost use Rattle.cts_model.specs.Paths.{IsLoop};
+ghost use Rattle.cts_model.specs.netlist.Paths.{IsLoop};
 ghost use Rattle.path_delays.specs.Orders.{IsTopologicalOrder};
 ghost use Rattle.path_delays.specs.Loops.{ShowsLoop};
 

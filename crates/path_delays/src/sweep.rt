@@ -1,7 +1,7 @@
 ghost use Rattle.std.specs.Prelude.{◌≡◌, ◌<◌, ◌≤◌, ◌+◌, ◌*◌, ◌^◌, ℕ, if◌then◌else◌, All, IfOk, IsTrue, Some, length, nat_abs, slice_get, slice_set};
-ghost use Rattle.cts_model.specs.Kinds as kinds;
-ghost use Rattle.cts_model.specs.Kinds.{is_gate, is_valid};
-ghost use Rattle.cts_model.specs.Tables.{IsWithin};
+ghost use Rattle.cts_model.specs.netlist.Kinds as kinds;
+ghost use Rattle.cts_model.specs.netlist.Kinds.{is_gate, is_valid};
+ghost use Rattle.cts_model.specs.table.Tables.{IsWithin};
 ghost use Rattle.path_delays.specs.declared.window.Window.{Window};
 ghost use Rattle.path_delays.specs.LevelParts.{IsLevelsOf};
 ghost use Rattle.path_delays.specs.Networks.{gate_sums};

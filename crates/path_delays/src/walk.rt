@@ -1,6 +1,6 @@
 ghost use Rattle.std.specs.Prelude.{◌≡◌, ◌<◌, ◌≤◌, ◌↔◌, ℕ, IfOk, MatchBool, length};
-ghost use Rattle.cts_model.specs.Kinds as kinds;
-ghost use Rattle.cts_model.specs.Paths.{IsInput, Launches};
+ghost use Rattle.cts_model.specs.netlist.Kinds as kinds;
+ghost use Rattle.cts_model.specs.netlist.Paths.{IsInput, Launches};
 ghost use Rattle.path_delays.specs.SumParts.{AreWithin, delay_limit};
 ghost use Rattle.path_delays.specs.Walking as walking;
 

@@ -11,13 +11,13 @@ use Rattle.cts_model.specs.declared.place.Uv.{Uv}
 use Rattle.cts_model.specs.declared.tree.Merge.{Merge}
 use Rattle.cts_model.specs.declared.tree.Show.{Show}
 use Rattle.cts_model.specs.declared.tree.Show.TheVariants.{Root}
-use Rattle.cts_model.specs.ChosenPlaces.{AreChosen, IsSourceReach}
-use Rattle.cts_model.specs.Embeddings.{IsEmbedding, embedding_of}
-use Rattle.cts_model.specs.Points.{apart, IsBelow, IsMultipleOf, IsUvBelow, IsUvMultipleOf, scaled, rotated, rotated_distance}
-use Rattle.cts_model.specs.Regions.{InRegion, IsReach}
-use Rattle.cts_model.specs.ShownReaches.{AreShownBy, ShowsMerge, ShowsSource}
-use Rattle.cts_model.specs.Sinks.{AreTreeSinks}
-use Rattle.cts_model.specs.Topologies.{IsTopology, IsParent, Joins, numbers_below, root_of, sinks_below, source_of}
+use Rattle.cts_model.specs.tree.ChosenPlaces.{AreChosen, IsSourceReach}
+use Rattle.cts_model.specs.tree.Embeddings.{IsEmbedding, embedding_of}
+use Rattle.cts_model.specs.placement.Points.{apart, IsBelow, IsMultipleOf, IsUvBelow, IsUvMultipleOf, scaled, rotated, rotated_distance}
+use Rattle.cts_model.specs.tree.Regions.{InRegion, IsReach}
+use Rattle.cts_model.specs.tree.ShownReaches.{AreShownBy, ShowsMerge, ShowsSource}
+use Rattle.cts_model.specs.tree.Sinks.{AreTreeSinks}
+use Rattle.cts_model.specs.tree.Topologies.{IsTopology, IsParent, Joins, numbers_below, root_of, sinks_below, source_of}
 use Rattle.cts_model.proofs.ParentLemmas.{has_parent, parent_stands}
 use Rattle.cts_model.proofs.PointLemmas.{distance_from_zero}
 use Rattle.cts_model.proofs.TopologyLemmas.{some_and, sinks_below-sink}

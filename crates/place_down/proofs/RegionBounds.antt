@@ -10,11 +10,11 @@ use Rattle.cts_model.specs.declared.place.Point.{Point}
 use Rattle.cts_model.specs.declared.place.Sink.{Sink}
 use Rattle.cts_model.specs.declared.place.Uv.{Uv}
 use Rattle.cts_model.specs.declared.tree.Merge.{Merge}
-use Rattle.cts_model.specs.ChosenPlaces.{IsChosenPlace, IsSourceReach}
-use Rattle.cts_model.specs.Points.{IsBelow, IsMultipleOf, IsPointBelow, IsUvBelow, apart, scaled, rotated, rotated_distance}
-use Rattle.cts_model.specs.Regions.{InRegion, IsReach}
-use Rattle.cts_model.specs.Sinks.{AreTreeSinks, IsTreeSink}
-use Rattle.cts_model.specs.Topologies.{IsTopology, Joins, sinks_below, source_of}
+use Rattle.cts_model.specs.tree.ChosenPlaces.{IsChosenPlace, IsSourceReach}
+use Rattle.cts_model.specs.placement.Points.{IsBelow, IsMultipleOf, IsPointBelow, IsUvBelow, apart, scaled, rotated, rotated_distance}
+use Rattle.cts_model.specs.tree.Regions.{InRegion, IsReach}
+use Rattle.cts_model.specs.tree.Sinks.{AreTreeSinks, IsTreeSink}
+use Rattle.cts_model.specs.tree.Topologies.{IsTopology, Joins, sinks_below, source_of}
 use Rattle.cts_model.proofs.TopologyLemmas.{some_and, sinks_below-sink, sinks_below-merge, sinks_below-among, some_sink}
 use Rattle.merge_up.specs.Merging.{IsMerged, IsPointOf}
 use Rattle.merge_up.specs.Works.{WorkState}

@@ -8,8 +8,8 @@ use Rattle.cts_model.specs.declared.place.Sink.{Sink}
 use Rattle.cts_model.specs.declared.place.Uv.{Uv}
 use Rattle.cts_model.specs.declared.tree.Show.{Show}
 use Rattle.cts_model.specs.declared.tree.Show.TheVariants as shows
-use Rattle.cts_model.specs.Points.{IsBelow, IsMultipleOf, IsUvBelow, apart, rotated_distance}
-use Rattle.cts_model.specs.Sinks.{IsTreeSink}
+use Rattle.cts_model.specs.placement.Points.{IsBelow, IsMultipleOf, IsUvBelow, apart, rotated_distance}
+use Rattle.cts_model.specs.tree.Sinks.{IsTreeSink}
 use Rattle.tilted_rect.proofs.ExtremeLemmas.{contains_itself, contains_one}
 use Rattle.place_down.specs.Sources.{IsTop}
 use Rattle.place_down.specs.Trees.{IsTreeSource}

@@ -8,12 +8,12 @@ use Rattle.cts_model.specs.declared.place.Point.{Point}
 use Rattle.cts_model.specs.declared.place.Sink.{Sink}
 use Rattle.cts_model.specs.declared.place.Uv.{Uv}
 use Rattle.cts_model.specs.declared.tree.Merge.{Merge}
-use Rattle.cts_model.specs.ChosenPlaces.{IsChosenPlace}
-use Rattle.cts_model.specs.Embeddings.{embedding_of}
-use Rattle.cts_model.specs.Points.{IsBelow, IsMultipleOf, IsUvBelow, IsUvMultipleOf, rotated, rotated_distance}
-use Rattle.cts_model.specs.Regions.{InRegion, IsReach}
-use Rattle.cts_model.specs.Sinks.{AreTreeSinks}
-use Rattle.cts_model.specs.Topologies.{IsTopology, IsParent, Joins, sinks_below, source_of}
+use Rattle.cts_model.specs.tree.ChosenPlaces.{IsChosenPlace}
+use Rattle.cts_model.specs.tree.Embeddings.{embedding_of}
+use Rattle.cts_model.specs.placement.Points.{IsBelow, IsMultipleOf, IsUvBelow, IsUvMultipleOf, rotated, rotated_distance}
+use Rattle.cts_model.specs.tree.Regions.{InRegion, IsReach}
+use Rattle.cts_model.specs.tree.Sinks.{AreTreeSinks}
+use Rattle.cts_model.specs.tree.Topologies.{IsTopology, IsParent, Joins, sinks_below, source_of}
 use Rattle.cts_model.proofs.ParentLemmas.{made_parent, has_parent, parent_above, one_parent}
 use Rattle.cts_model.proofs.PointLemmas.{distance-rotated}
 use Rattle.cts_model.proofs.TopologyLemmas.{first_made, second_made}

@@ -3,10 +3,10 @@ use Rattle.std.specs.Prelude.{◌≡◌, ℕ, ◌+◌, ◌^◌, ◌<◌, ◌≤�
 use Rattle.cts_model.specs.declared.place.Sink.{Sink}
 use Rattle.cts_model.specs.declared.place.Uv.{Uv}
 use Rattle.cts_model.specs.declared.tree.Merge.{Merge}
-use Rattle.cts_model.specs.ChosenPlaces.{IsChosenPlace}
-use Rattle.cts_model.specs.Embeddings.{embedding_of}
-use Rattle.cts_model.specs.Points.{IsBelow, IsUvBelow, IsUvMultipleOf, distance, rotated}
-use Rattle.cts_model.specs.Topologies.{IsParent, sinks_below, source_of}
+use Rattle.cts_model.specs.tree.ChosenPlaces.{IsChosenPlace}
+use Rattle.cts_model.specs.tree.Embeddings.{embedding_of}
+use Rattle.cts_model.specs.placement.Points.{IsBelow, IsUvBelow, IsUvMultipleOf, distance, rotated}
+use Rattle.cts_model.specs.tree.Topologies.{IsParent, sinks_below, source_of}
 use Rattle.merge_up.specs.Merging.{IsMerged, IsNodeSettled}
 use Rattle.merge_up.specs.Works.{WorkState, IsFit}
 use Rattle.tilted_rect.specs.Rects.{IsNearest}

@@ -7,11 +7,11 @@ use Rattle.cts_model.specs.declared.tree.Merge.{Merge}
 use Rattle.cts_model.specs.declared.tree.Show.{Show}
 use Rattle.cts_model.specs.declared.tree.Show.TheVariants.{Root}
 use Rattle.cts_model.specs.declared.tree.Tree.{Tree}
-use Rattle.cts_model.specs.ChosenPlaces.{AreChosen, IsSourceReach}
-use Rattle.cts_model.specs.Embeddings.{IsEmbedding, embedding_of}
-use Rattle.cts_model.specs.Points.{IsBelow, IsMultipleOf, IsUvBelow, IsUvMultipleOf, rotated}
-use Rattle.cts_model.specs.ShownReaches.{AreReaches, AreShownBy}
-use Rattle.cts_model.specs.Topologies.{root_of, source_of}
+use Rattle.cts_model.specs.tree.ChosenPlaces.{AreChosen, IsSourceReach}
+use Rattle.cts_model.specs.tree.Embeddings.{IsEmbedding, embedding_of}
+use Rattle.cts_model.specs.placement.Points.{IsBelow, IsMultipleOf, IsUvBelow, IsUvMultipleOf, rotated}
+use Rattle.cts_model.specs.tree.ShownReaches.{AreReaches, AreShownBy}
+use Rattle.cts_model.specs.tree.Topologies.{root_of, source_of}
 use Rattle.merge_up.specs.Works.{WorkState}
 
 -- the source as sinks are: its place is a whole number of 8 grid steps

@@ -10,9 +10,9 @@ use Rattle.cts_base.specs.Lines.{lines_of}
 use Rattle.cts_model.specs.declared.circuit.Circuit.{Circuit}
 use Rattle.cts_model.specs.declared.place.Point.{Point}
 use Rattle.cts_model.specs.declared.place.Places.{Places}
-use Rattle.cts_model.specs.PlaceLines.{Entry, Blank, Header, Stands, entry_after}
-use Rattle.cts_model.specs.Placements.{Flaw, HasEntryFlaw, HasNodeFlaw, HasFlaw, AreFlawless, AcceptsPlacement, is_among, is_placed, nodes_in, register_nodes, wanted_nodes}
-use Rattle.cts_model.specs.Placements as flaws
+use Rattle.cts_model.specs.placement.PlaceLines.{Entry, Blank, Header, Stands, entry_after}
+use Rattle.cts_model.specs.placement.Placements.{Flaw, HasEntryFlaw, HasNodeFlaw, HasFlaw, AreFlawless, AcceptsPlacement, is_among, is_placed, nodes_in, register_nodes, wanted_nodes}
+use Rattle.cts_model.specs.placement.Placements as flaws
 use Rattle.place_reader.specs.declared.fault.PlaceFault.{PlaceFault}
 use Rattle.place_reader.specs.declared.fault.PlaceFault.TheVariants.{BadLine, BadNumber, PlaceTwice, NoPlace, NoSource, NoMemory}
 use Rattle.place_reader.specs.Known.{AreSameNames, HasPlaces, place_of}

@@ -10,7 +10,7 @@ use Rattle.std.proofs.lemmas.List.Folds.{list_any-append}
 use Rattle.std.proofs.lemmas.Map.Steps.{list_any_congr}
 use Rattle.cts_base.proofs.ListTests.{list_any-map}
 use Rattle.indexmap.specs.IndexSet.{insert_key}
-use Rattle.cts_model.specs.Placements.{is_among}
+use Rattle.cts_model.specs.placement.Placements.{is_among}
 use Rattle.place_reader.specs.Known.{AreSameNames}
 
 -- a name is one of these with one more

@@ -6,8 +6,8 @@ use Rattle.std.specs.Str.{bytes_eq}
 use Rattle.std.proofs.Math.Bool.{or-false, or_assoc}
 use Rattle.std.proofs.lemmas.Bool.Decides.{nat_tests}
 use Rattle.std.proofs.lemmas.List.Folds.{list_any-append}
-use Rattle.cts_model.specs.PlaceLines.{Node, Entry, Blank, Header, Stands, entry_after, entry_of_words, has_begun, is_header, is_not_blank, node_of, place_words}
-use Rattle.cts_model.specs.Placements.{is_placed, nodes_from, nodes_in, placed_by}
+use Rattle.cts_model.specs.placement.PlaceLines.{Node, Entry, Blank, Header, Stands, entry_after, entry_of_words, has_begun, is_header, is_not_blank, node_of, place_words}
+use Rattle.cts_model.specs.placement.Placements.{is_placed, nodes_from, nodes_in, placed_by}
 
 -- an item before a list in two parts
 cons_option-append : {X : Type 0} (o : Option X) (xs ys : List X)

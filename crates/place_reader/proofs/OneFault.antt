@@ -8,9 +8,9 @@ use Rattle.cts_base.specs.declared.number.NumberFault.{NumberFault}
 use Rattle.cts_base.proofs.ListPlaces.{IsAfter, same_place, same_parts}
 use Rattle.cts_model.specs.declared.circuit.Circuit.{Circuit}
 use Rattle.cts_model.specs.declared.place.Places.{Places}
-use Rattle.cts_model.specs.PlaceLines.{Node, Entry, Blank, Header, Stands, entry_after}
-use Rattle.cts_model.specs.Placements.{Flaw, HasNodeFlaw, HasEntryFlaw, HasFlaw, AreFlawless, ArePlaced, IsNumber, IsPlacement, AcceptsPlacement, is_among, is_placed, nodes_in, register_nodes, wanted_nodes}
-use Rattle.cts_model.specs.Placements as flaws
+use Rattle.cts_model.specs.placement.PlaceLines.{Node, Entry, Blank, Header, Stands, entry_after}
+use Rattle.cts_model.specs.placement.Placements.{Flaw, HasNodeFlaw, HasEntryFlaw, HasFlaw, AreFlawless, ArePlaced, IsNumber, IsPlacement, AcceptsPlacement, is_among, is_placed, nodes_in, register_nodes, wanted_nodes}
+use Rattle.cts_model.specs.placement.Placements as flaws
 use Rattle.place_reader.specs.declared.fault.PlaceFault.{PlaceFault}
 use Rattle.place_reader.specs.declared.fault.PlaceFault.TheVariants.{BadLine, BadNumber, PlaceTwice, NoPlace, NoSource, NoMemory}
 use Rattle.place_reader.specs.Refusals.{IsFirstFlawed, IsFirstUnplaced, RefusesPlacement}

@@ -8,8 +8,8 @@ use Rattle.std.proofs.lemmas.List.Elements.{Contains-append_left, Contains-push}
 use Rattle.std.proofs.lemmas.Map.Steps.{list_any_congr}
 use Rattle.cts_base.specs.Decimals.{IsRead}
 use Rattle.cts_model.specs.declared.place.Point.{Point}
-use Rattle.cts_model.specs.PlaceLines.{Node}
-use Rattle.cts_model.specs.Placements.{is_among, is_placed, StandsAt}
+use Rattle.cts_model.specs.placement.PlaceLines.{Node}
+use Rattle.cts_model.specs.placement.Placements.{is_among, is_placed, StandsAt}
 use Rattle.place_reader.specs.Known.{place_of, HasPlaces}
 use Rattle.place_reader.proofs.NodeLemmas.{placed_push}
 use Rattle.place_reader.proofs.PlacedLemmas.{lookup-push, lookup-push_kept}

@@ -3,7 +3,7 @@ use Rattle.std.proofs.Common.{◌≡◌, ℕ, List, [], ◌∷◌, ◌++◌, Non
 use Rattle.cts_base.specs.Lines.{lines_of, numbered_lines, IsLine}
 use Rattle.cts_base.proofs.LineSplits.{IsPassed, none_passed, all_passed, next_line}
 use Rattle.cts_base.proofs.ListPlaces.{nothing_before, split_push}
-use Rattle.cts_model.specs.Placements.{AreFlawless, HasFlaw, nodes_in}
+use Rattle.cts_model.specs.placement.Placements.{AreFlawless, HasFlaw, nodes_in}
 use Rattle.place_reader.specs.declared.placing.Placing.{Placing}
 use Rattle.place_reader.specs.declared.fault.PlaceFault.{PlaceFault}
 use Rattle.place_reader.specs.declared.line_fault.LineFault.{LineFault}

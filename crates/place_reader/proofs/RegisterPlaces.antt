@@ -5,8 +5,8 @@ use Rattle.std.specs.List.{slice_get}
 use Rattle.std.proofs.lemmas.List.{map_push, take_more}
 use Rattle.std.proofs.lemmas.Option.{slice_get-map, slice_get_within, get_or_from_slice_get}
 use Rattle.cts_model.specs.declared.place.Point.{Point}
-use Rattle.cts_model.specs.PlaceLines.{Node}
-use Rattle.cts_model.specs.Placements.{StandAt}
+use Rattle.cts_model.specs.placement.PlaceLines.{Node}
+use Rattle.cts_model.specs.placement.Placements.{StandAt}
 use Rattle.place_reader.specs.Known.{place_of, HasPlaces, IsFirstWithout}
 
 -- one more item

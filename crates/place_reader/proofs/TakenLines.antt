@@ -2,9 +2,9 @@
 use Rattle.std.proofs.Common.{◌≡◌, ℕ, Bool, true, false, ◌||◌, MatchBool, List, [], ◌∷◌, ◌++◌, Option, Some, None, is_some, Result, Ok, Err, MatchResult, refl, sym, ap, ◌∙◌, subst, append-nil}
 use Rattle.std.specs.List.{cons_option}
 use Rattle.std.proofs.Math.Bool.{or-false, or-true}
-use Rattle.cts_model.specs.PlaceLines.{Node, Entry, Blank, Header, Stands, entry_after, entry_of_words, has_begun, is_not_blank, place_words}
-use Rattle.cts_model.specs.Placements.{Flaw, HasEntryFlaw, HasFlaw, HasNodeFlaw, is_among, is_placed, nodes_in, placed_by}
-use Rattle.cts_model.specs.Placements as flaws
+use Rattle.cts_model.specs.placement.PlaceLines.{Node, Entry, Blank, Header, Stands, entry_after, entry_of_words, has_begun, is_not_blank, place_words}
+use Rattle.cts_model.specs.placement.Placements.{Flaw, HasEntryFlaw, HasFlaw, HasNodeFlaw, is_among, is_placed, nodes_in, placed_by}
+use Rattle.cts_model.specs.placement.Placements as flaws
 use Rattle.place_reader.specs.declared.entry.Node as code
 use Rattle.place_reader.specs.declared.placing.Placing.{Placing}
 use Rattle.place_reader.specs.declared.line_fault.LineFault.{LineFault}

@@ -3,7 +3,7 @@ use Rattle.std.specs.Prelude.{◌⊎◌}
 use Rattle.cts_base.specs.Decimals.{IsRead, RefusesNumber}
 use Rattle.cts_base.specs.declared.number.NumberFault.{NumberFault}
 use Rattle.cts_model.specs.declared.place.Point.{Point}
-use Rattle.cts_model.specs.Placements.{IsNumber}
+use Rattle.cts_model.specs.placement.Placements.{IsNumber}
 use Rattle.place_reader.specs.declared.entry.Node.{Node}
 
 -- they are numbers, and these

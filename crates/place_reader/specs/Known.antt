@@ -3,8 +3,8 @@ use Rattle.std.specs.Prelude.{◌≡◌, ◌<◌, ℕ, List, Option, Some, None,
 use Rattle.std.specs.Str.{bytes_eq}
 use Rattle.std.specs.Map.{lookup}
 use Rattle.cts_model.specs.declared.place.Point.{Point}
-use Rattle.cts_model.specs.PlaceLines.{Node}
-use Rattle.cts_model.specs.Placements.{is_among, is_placed, StandsAt}
+use Rattle.cts_model.specs.placement.PlaceLines.{Node}
+use Rattle.cts_model.specs.placement.Placements.{is_among, is_placed, StandsAt}
 
 -- the same names are among these and those
 abbrev pub AreSameNames : (names others : List (List ℕ)) → Type 0

@@ -1,8 +1,8 @@
 -- What the walks over the lines and over the registers refuse.
 use Rattle.std.specs.Prelude.{ℕ, List, Some}
 use Rattle.cts_model.specs.declared.place.Point.{Point}
-use Rattle.cts_model.specs.Placements.{HasFlaw}
-use Rattle.cts_model.specs.Placements as flaws
+use Rattle.cts_model.specs.placement.Placements.{HasFlaw}
+use Rattle.cts_model.specs.placement.Placements as flaws
 use Rattle.place_reader.specs.declared.line_fault.LineFault.{LineFault}
 use Rattle.place_reader.specs.declared.line_fault.LineFault.TheVariants.{BadLine, BadNumber, PlaceTwice, NoMemory}
 use Rattle.place_reader.specs.declared.fault.PlaceFault.{PlaceFault}

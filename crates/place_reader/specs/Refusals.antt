@@ -3,9 +3,9 @@
 use Rattle.std.specs.Prelude.{◌≡◌, ◌<◌, ℕ, List, Some, IsTrue, IsFalse, slice_get}
 use Rattle.cts_base.specs.Lines.{lines_of, IsLine}
 use Rattle.cts_model.specs.declared.circuit.Circuit.{Circuit}
-use Rattle.cts_model.specs.PlaceLines.{Node}
-use Rattle.cts_model.specs.Placements.{Flaw, HasFlaw, AreFlawless, ArePlaced, is_placed, nodes_in, register_nodes, wanted_nodes}
-use Rattle.cts_model.specs.Placements as flaws
+use Rattle.cts_model.specs.placement.PlaceLines.{Node}
+use Rattle.cts_model.specs.placement.Placements.{Flaw, HasFlaw, AreFlawless, ArePlaced, is_placed, nodes_in, register_nodes, wanted_nodes}
+use Rattle.cts_model.specs.placement.Placements as flaws
 use Rattle.place_reader.specs.declared.fault.PlaceFault.{PlaceFault}
 use Rattle.place_reader.specs.declared.fault.PlaceFault.TheVariants.{BadLine, BadNumber, PlaceTwice, NoPlace, NoSource, NoMemory}
 

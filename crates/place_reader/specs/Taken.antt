@@ -1,8 +1,8 @@
 -- What the reader has taken in from the lines so far.
 use Rattle.std.specs.Prelude.{◌≡◌, ℕ, List, [], ◌∷◌, ◌++◌, None, IsTrue, is_some, MatchBool}
 use Rattle.cts_model.specs.declared.place.Point.{Point}
-use Rattle.cts_model.specs.PlaceLines.{has_begun}
-use Rattle.cts_model.specs.Placements.{is_among, nodes_in}
+use Rattle.cts_model.specs.placement.PlaceLines.{has_begun}
+use Rattle.cts_model.specs.placement.Placements.{is_among, nodes_in}
 use Rattle.place_reader.specs.declared.entry.Node.{Node}
 use Rattle.place_reader.specs.declared.placing.Placing.{Placing}
 use Rattle.place_reader.specs.declared.line_fault.LineFault.{LineFault}

@@ -2,7 +2,7 @@
 use Rattle.place_reader.specs.declared.entry.Node.{Node}
 use Rattle.place_reader.specs.declared.entry.Entry.{Entry}
 use Rattle.place_reader.specs.declared.entry.Entry.TheVariants.{Blank, Header, Stands}
-use Rattle.cts_model.specs.PlaceLines as format
+use Rattle.cts_model.specs.placement.PlaceLines as format
 
 -- a node's line, wherever its words lie
 abbrev pub node_said : Node → format.Node

@@ -1,6 +1,6 @@
 ghost use Rattle.std.specs.Prelude.{◌≡◌, ◌≤◌, length};
 ghost use Rattle.std.specs.Option.{option_map};
-ghost use Rattle.cts_model.specs.PlaceLines.{entry_of_words, is_header, place_words, y_len};
+ghost use Rattle.cts_model.specs.placement.PlaceLines.{entry_of_words, is_header, place_words, y_len};
 ghost use Rattle.place_reader.specs.View.{said_by};
 
 use crate::tail::is_tail;

@@ -1,6 +1,6 @@
 ghost use Rattle.std.specs.Prelude.{◌≡◌, List, ℕ};
 ghost use Rattle.cts_base.specs.Lines.{IsLine};
-ghost use Rattle.cts_model.specs.Placements.{AreFlawless};
+ghost use Rattle.cts_model.specs.placement.Placements.{AreFlawless};
 ghost use Rattle.place_reader.specs.LineFaults.{IsLineFault, RefusesLine};
 ghost use Rattle.place_reader.specs.declared.line_fault.LineFault.TheVariants as fault;
 

@@ -1,5 +1,5 @@
 ghost use Rattle.std.specs.Prelude.{◌≡◌, ◌<◌, List, ℕ, [], ◌∷◌, ◌++◌, map, length, Some, slice_get, IfOk, OnOk};
-ghost use Rattle.cts_model.specs.Placements.{is_among, register_nodes, wanted_nodes};
+ghost use Rattle.cts_model.specs.placement.Placements.{is_among, register_nodes, wanted_nodes};
 ghost use Rattle.place_reader.specs.Known.{AreSameNames};
 
 use cts_base::NoMemory;

@@ -1,6 +1,6 @@
 ghost use Rattle.std.specs.Prelude.{◌≡◌, ◌≤◌, List, ℕ, [], ◌∷◌, ◌++◌, length, None, IfOk, IfErr, MatchResult};
 ghost use Rattle.cts_base.specs.Lines.{lines_of};
-ghost use Rattle.cts_model.specs.Placements.{AreFlawless, HasFlaw, nodes_in};
+ghost use Rattle.cts_model.specs.placement.Placements.{AreFlawless, HasFlaw, nodes_in};
 ghost use Rattle.place_reader.specs.LineFaults.{IsLineFault, RefusesLine};
 ghost use Rattle.place_reader.specs.Coordinates.{IsPointOf, IsPointFault};
 ghost use Rattle.place_reader.specs.Known.{HasPlaces};

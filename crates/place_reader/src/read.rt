@@ -1,6 +1,6 @@
 ghost use Rattle.std.specs.Prelude.{◌≡◌, ◌≢◌, ◌≤◌, ◌⊎◌, ◌↔◌, [], length, map, Some, IfOk, IfErr, IsErrAnd, IsOkUnless};
-ghost use Rattle.cts_model.specs.Hosts.{HasNoHost};
-ghost use Rattle.cts_model.specs.Placements.{IsPlacement, AcceptsPlacement, register_nodes};
+ghost use Rattle.cts_model.specs.netlist.Hosts.{HasNoHost};
+ghost use Rattle.cts_model.specs.placement.Placements.{IsPlacement, AcceptsPlacement, register_nodes};
 ghost use Rattle.place_reader.specs.declared.fault.PlaceFault.{PlaceFault};
 ghost use Rattle.place_reader.specs.Refusals.{RefusesPlacement};
 ghost use Rattle.place_reader.specs.LineFaults.{RefusesRegister};

@@ -13,13 +13,13 @@ use Rattle.cts_model.specs.declared.report.Report.{Report}
 use Rattle.cts_model.specs.declared.tech.Tech.{Tech}
 use Rattle.cts_model.specs.declared.tree.Show.TheVariants.{Root}
 use Rattle.cts_model.specs.declared.tree.Wire.{Wire}
-use Rattle.cts_model.specs.Points.{IsBelow, IsPointBelow}
-use Rattle.cts_model.specs.PrintedLines.{count_line, period_line}
-use Rattle.cts_model.specs.Problems.{grid_of, scheduled_length}
-use Rattle.cts_model.specs.ReportBounds.{HasTimingBounds, HasTreeBounds, IsMergeShow, IsOfSize, IsSmallWire, IsSourceShow, IsWithinBounds, ShowsAmong}
-use Rattle.cts_model.specs.ReportLines.{lead_line, lines_below, merge_line_at, no_wire, node_line_at, number_at, origin, period_show_lines, report_lines, show_words, source_line, timing_lines, tree_lines, version_line}
-use Rattle.cts_model.specs.Schedules.{arrival_of}
-use Rattle.cts_model.specs.Topologies.{root_of, source_of}
+use Rattle.cts_model.specs.placement.Points.{IsBelow, IsPointBelow}
+use Rattle.cts_model.specs.text.PrintedLines.{count_line, period_line}
+use Rattle.cts_model.specs.tree.Problems.{grid_of, scheduled_length}
+use Rattle.cts_model.specs.report.ReportBounds.{HasTimingBounds, HasTreeBounds, IsMergeShow, IsOfSize, IsSmallWire, IsSourceShow, IsWithinBounds, ShowsAmong}
+use Rattle.cts_model.specs.report.ReportLines.{lead_line, lines_below, merge_line_at, no_wire, node_line_at, number_at, origin, period_show_lines, report_lines, show_words, source_line, timing_lines, tree_lines, version_line}
+use Rattle.cts_model.specs.timing.Schedules.{arrival_of}
+use Rattle.cts_model.specs.tree.Topologies.{root_of, source_of}
 use Rattle.report_text.specs.declared.sections.Parts.{Parts}
 use Rattle.report_text.specs.Parts.{scale_in}
 use Rattle.report_text.specs.Sections.{merged_line, placed_line, placed_words, timed_line}

@@ -7,8 +7,8 @@ use Rattle.cts_model.specs.declared.circuit.Circuit.{Circuit}
 use Rattle.cts_model.specs.declared.report.Version.{Version}
 use Rattle.cts_model.specs.declared.report.Version.TheVariants as version
 use Rattle.cts_model.specs.declared.schedule.Lead.{Lead}
-use Rattle.cts_model.specs.PrintedLines.{Words, count_line}
-use Rattle.cts_model.specs.ReportLines.{lead_line, lines_below}
+use Rattle.cts_model.specs.text.PrintedLines.{Words, count_line}
+use Rattle.cts_model.specs.report.ReportLines.{lead_line, lines_below}
 use Rattle.report_text.specs.declared.fault.ReportFault.{ReportFault}
 use Rattle.report_text.specs.declared.field.Keyword.TheVariants as word
 use Rattle.report_text.specs.declared.form.Form.{Form}

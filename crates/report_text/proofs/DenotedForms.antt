@@ -18,9 +18,9 @@ use Rattle.cts_model.specs.declared.report.Report.{Report}
 use Rattle.cts_model.specs.declared.report.Version.{Version}
 use Rattle.cts_model.specs.declared.report.Version.TheVariants.{First, Second}
 use Rattle.cts_model.specs.declared.tech.Tech.{Tech}
-use Rattle.cts_model.specs.PrintedLines.{Words, count_line, period_line, text_of}
-use Rattle.cts_model.specs.ReportBounds.{HasSmallWeights, IsWithinBounds, cycle_length}
-use Rattle.cts_model.specs.ReportLines.{lead_line, lines_below, period_show_lines, register_line_at, report_lines, tree_lines, version_line}
+use Rattle.cts_model.specs.text.PrintedLines.{Words, count_line, period_line, text_of}
+use Rattle.cts_model.specs.report.ReportBounds.{HasSmallWeights, IsWithinBounds, cycle_length}
+use Rattle.cts_model.specs.report.ReportLines.{lead_line, lines_below, period_show_lines, register_line_at, report_lines, tree_lines, version_line}
 use Rattle.report_text.specs.ReportFaults.{cycle_denoted, den_denoted, scale_denoted, version_denoted, word_at}
 use Rattle.report_text.proofs.FlawlessReport.{scale_of}
 use Rattle.report_text.proofs.LineReading.{Lacks, after_place, first_place, word_denoted}

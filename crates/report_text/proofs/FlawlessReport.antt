@@ -13,12 +13,12 @@ use Rattle.cts_model.specs.declared.report.Version.TheVariants.{First, Second}
 use Rattle.cts_model.specs.declared.schedule.Lead.{Lead}
 use Rattle.cts_model.specs.declared.tech.Tech.{Tech}
 use Rattle.cts_model.specs.declared.tree.Show.TheVariants.{Root}
-use Rattle.cts_model.specs.Circuits.{has_host}
-use Rattle.cts_model.specs.PrintedLines.{Words, count_line, line_for, period_line, register_line}
-use Rattle.cts_model.specs.ReportBounds.{IsBetweenRegisters, ShowsPeriodAmong, LeadsAmong, HasSmallWeight, HasSmallWeights, IsSmallLead, IsSourceShow, IsMergeShow, IsOfSize, IsWithinBounds, cycle_length, count_in}
-use Rattle.cts_model.specs.ReportLines.{length_text, lead_line, lines_below, merge_line_at, no_wire, node_line_at, number_at, origin, pathed_lines, period_show_lines, register_line_at, report_lines, source_line, version_line}
-use Rattle.cts_model.specs.Schedules.{arrival_of}
-use Rattle.cts_model.specs.Topologies.{source_of}
+use Rattle.cts_model.specs.netlist.Circuits.{has_host}
+use Rattle.cts_model.specs.text.PrintedLines.{Words, count_line, line_for, period_line, register_line}
+use Rattle.cts_model.specs.report.ReportBounds.{IsBetweenRegisters, ShowsPeriodAmong, LeadsAmong, HasSmallWeight, HasSmallWeights, IsSmallLead, IsSourceShow, IsMergeShow, IsOfSize, IsWithinBounds, cycle_length, count_in}
+use Rattle.cts_model.specs.report.ReportLines.{length_text, lead_line, lines_below, merge_line_at, no_wire, node_line_at, number_at, origin, pathed_lines, period_show_lines, register_line_at, report_lines, source_line, version_line}
+use Rattle.cts_model.specs.timing.Schedules.{arrival_of}
+use Rattle.cts_model.specs.tree.Topologies.{source_of}
 use Rattle.report_text.specs.declared.field.Keyword.{Keyword}
 use Rattle.report_text.specs.declared.field.Keyword.TheVariants as word
 use Rattle.report_text.specs.declared.form.Form.{Form}
@@ -29,7 +29,7 @@ use Rattle.report_text.specs.Keywords.{keyword_text}
 use Rattle.report_text.specs.ReportFaults.{HasFirstFault}
 use Rattle.report_text.specs.TimingValues.{IsFlawless}
 use Rattle.report_text.specs.Values.{IsSmallScale}
-use Rattle.cts_model.specs.PrintedLines.{text_of}
+use Rattle.cts_model.specs.text.PrintedLines.{text_of}
 use Rattle.report_text.proofs.GridLemmas.{grid_bounds}
 use Rattle.report_text.proofs.LineReading.{line_passed}
 use Rattle.report_text.proofs.ReportWords.{AreLines}

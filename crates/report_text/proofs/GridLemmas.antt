@@ -6,11 +6,11 @@ use Rattle.std.proofs.lemmas.Int.{ints, unsigned_abs-mul}
 use Rattle.std.proofs.lemmas.Nat.{mul-le}
 use Rattle.cts_model.specs.declared.report.Report.{Report}
 use Rattle.cts_model.specs.declared.tech.Tech.{Tech}
-use Rattle.cts_model.specs.Points.{IsBelow}
-use Rattle.cts_model.specs.Problems.{scheduled_length, steps_of_micro}
+use Rattle.cts_model.specs.placement.Points.{IsBelow}
+use Rattle.cts_model.specs.tree.Problems.{scheduled_length, steps_of_micro}
 use Rattle.cts_base.specs.declared.fraction.Fraction.{Fraction}
-use Rattle.cts_model.specs.ReportBounds.{HasTimingBounds, HasTreeBounds}
-use Rattle.cts_model.specs.Schedules.{IsSmallPeriod}
+use Rattle.cts_model.specs.report.ReportBounds.{HasTimingBounds, HasTreeBounds}
+use Rattle.cts_model.specs.timing.Schedules.{IsSmallPeriod}
 use Rattle.report_text.specs.Parts.{scale_in}
 use Rattle.report_text.specs.Values.{IsSmallScale}
 

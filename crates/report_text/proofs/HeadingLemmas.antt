@@ -3,7 +3,7 @@ use Rattle.std.proofs.Common.{◌≡◌, ℕ, Option, Some, None, List, [], ◌�
 use Rattle.cts_base.specs.declared.fraction.Fraction.{Fraction}
 use Rattle.cts_model.specs.declared.circuit.Circuit.{Circuit}
 use Rattle.cts_model.specs.declared.report.Version.{Version}
-use Rattle.cts_model.specs.PrintedLines.{Words}
+use Rattle.cts_model.specs.text.PrintedLines.{Words}
 use Rattle.report_text.specs.declared.fault.ReportFault.{ReportFault}
 use Rattle.report_text.specs.declared.form.Form.{Form}
 use Rattle.report_text.specs.declared.form.Form.TheVariants as form

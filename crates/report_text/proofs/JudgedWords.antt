@@ -10,7 +10,7 @@ use Rattle.cts_base.specs.NumberTexts.{HaveSmallSizes, SpellsQuotient, SpellsWho
 use Rattle.cts_base.proofs.OneNumberText.{slash_differs}
 use Rattle.cts_base.proofs.OneSpelling.{one_quotient, one_whole, plain_no_minus}
 use Rattle.cts_model.specs.declared.circuit.Circuit.{Circuit}
-use Rattle.cts_model.specs.Paths.{register_name}
+use Rattle.cts_model.specs.netlist.Paths.{register_name}
 use Rattle.report_text.specs.declared.field.Field.{Field}
 use Rattle.report_text.specs.declared.field.Field.TheVariants as field
 use Rattle.report_text.specs.declared.field.Keyword.{Keyword}

@@ -5,8 +5,8 @@ use Rattle.std.specs.List.{join_with_byte, flat_map}
 use Rattle.std.proofs.lemmas.Grind.{flat_map-append}
 use Rattle.std.proofs.lemmas.List.FromFn.{map-range_with_len_more}
 use Rattle.cts_model.specs.declared.circuit.Circuit.{Circuit}
-use Rattle.cts_model.specs.PrintedLines.{Words, line_of, text_of}
-use Rattle.cts_model.specs.ReportLines.{lines_below, path_line, signal_name}
+use Rattle.cts_model.specs.text.PrintedLines.{Words, line_of, text_of}
+use Rattle.cts_model.specs.report.ReportLines.{lines_below, path_line, signal_name}
 use Rattle.report_text.specs.Pieces.{suffix}
 
 -- each word after the first stands after the byte

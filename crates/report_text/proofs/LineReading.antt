@@ -5,7 +5,7 @@ use Rattle.std.proofs.lemmas.List.Elements.{All-from_recursion}
 use Rattle.std.proofs.lemmas.List.Splits.{slice_split_none, slice_split_at}
 use Rattle.std.specs.List.{AllByRecursion, join_with_byte, position, position_or_len, slice_split}
 use Rattle.cts_model.specs.declared.circuit.Circuit.{Circuit}
-use Rattle.cts_model.specs.PrintedLines.{Words, line_of, text_of}
+use Rattle.cts_model.specs.text.PrintedLines.{Words, line_of, text_of}
 use Rattle.report_text.specs.declared.fault.ReportFault.{ReportFault}
 use Rattle.report_text.specs.declared.fault.ReportFault.TheVariants.{BadLine, Missing}
 use Rattle.report_text.specs.declared.field.Flaw.{Flaw}

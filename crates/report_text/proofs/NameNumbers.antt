@@ -13,9 +13,9 @@ use Rattle.std.proofs.lemmas.Slice.Eq.{bytes_eq-Decides}
 use Rattle.cts_base.proofs.ListTests.{list_any-map}
 use Rattle.indexmap.specs.IndexSet.{insert_key}
 use Rattle.cts_model.specs.declared.circuit.Circuit.{Circuit}
-use Rattle.cts_model.specs.Circuits.{has_host}
-use Rattle.cts_model.specs.Paths.{register_name}
-use Rattle.cts_model.specs.ReportLines.{signal_name}
+use Rattle.cts_model.specs.netlist.Circuits.{has_host}
+use Rattle.cts_model.specs.netlist.Paths.{register_name}
+use Rattle.cts_model.specs.report.ReportLines.{signal_name}
 use Rattle.report_text.specs.NamesOf.{register_names, signal_names, DenotesRegister, DenotesSignal}
 use Rattle.report_text.proofs.OneName.{one_register, one_signal}
 

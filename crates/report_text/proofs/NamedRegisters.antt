@@ -8,10 +8,10 @@ use Rattle.std.proofs.lemmas.Option.{slice_get_past, slice_get_within, get_or_fr
 use Rattle.std.proofs.lemmas.Slice.Eq.{bytes_eq-Decides}
 use Rattle.cts_model.specs.declared.circuit.Circuit.{Circuit}
 use Rattle.cts_model.specs.declared.signal.Signal.{Signal}
-use Rattle.cts_model.specs.Circuits.{host_name, is_named}
-use Rattle.cts_model.specs.Kinds.{is_host}
-use Rattle.cts_model.specs.Names.{is_name, is_short}
-use Rattle.cts_model.specs.Paths.{register_name}
+use Rattle.cts_model.specs.netlist.Circuits.{host_name, is_named}
+use Rattle.cts_model.specs.netlist.Kinds.{is_host}
+use Rattle.cts_model.specs.text.Names.{is_name, is_short}
+use Rattle.cts_model.specs.netlist.Paths.{register_name}
 use Rattle.cts_model.proofs.CircuitLemmas.{registered, register_signal_is}
 use Rattle.report_text.proofs.OneName.{one_register}
 

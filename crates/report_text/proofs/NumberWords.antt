@@ -14,7 +14,7 @@ use Rattle.cts_base.proofs.FractionReading.{few_digits, held_same, kept_same}
 use Rattle.cts_base.proofs.GreatestDivisors.{up_to_second, quotient_text_is}
 use Rattle.cts_base.proofs.OneSpelling.{one_quotient, one_whole, whole_text, whole_spelled, quotient_text_spelled, fraction_spelled}
 use Rattle.cts_base.proofs.Quotients.{int_div-le, lowest_quotients, negative, quotient_is, same_value}
-use Rattle.cts_model.specs.Points.{IsBelow}
+use Rattle.cts_model.specs.placement.Points.{IsBelow}
 use Rattle.report_text.proofs.CoprimeFactors.{one_number_of_steps}
 use Rattle.report_text.specs.Fields.{IsFractionForm, AreSteps, IsWholeSteps, AreFewSteps}
 use Rattle.report_text.specs.Values.{SpellsNumber, SpellsSteps}

@@ -16,11 +16,11 @@ use Rattle.cts_model.specs.declared.schedule.Lead.TheVariants.{Zero, Tight}
 use Rattle.cts_model.specs.declared.tree.Show.{Show}
 use Rattle.cts_model.specs.declared.tree.Show.TheVariants.{Pair, Sink, Root}
 use Rattle.cts_model.specs.declared.tree.Wire.{Wire}
-use Rattle.cts_model.specs.Points.{IsBelow, IsPointBelow}
-use Rattle.cts_model.specs.PrintedLines.{Words, constraint_line, line_for, slack_text}
-use Rattle.cts_model.specs.Slacks.{IsSmallSlack}
-use Rattle.cts_model.specs.ReportBounds.{IsBetweenRegisters, LeadsAmong, ShowsAmong, HasSmallWeight, IsSmallLead, IsSmallWire}
-use Rattle.cts_model.specs.ReportLines.{path_line, lead_line, show_words, signal_name}
+use Rattle.cts_model.specs.placement.Points.{IsBelow, IsPointBelow}
+use Rattle.cts_model.specs.text.PrintedLines.{Words, constraint_line, line_for, slack_text}
+use Rattle.cts_model.specs.timing.Slacks.{IsSmallSlack}
+use Rattle.cts_model.specs.report.ReportBounds.{IsBetweenRegisters, LeadsAmong, ShowsAmong, HasSmallWeight, IsSmallLead, IsSmallWire}
+use Rattle.cts_model.specs.report.ReportLines.{path_line, lead_line, show_words, signal_name}
 use Rattle.report_text.proofs.OneName.{one_register, one_signal}
 use Rattle.report_text.proofs.OneRecord.{same_fraction}
 

@@ -1,7 +1,7 @@
 -- Lines are determined by their bytes: no word has a space or a line feed, or any byte below them.
 use Rattle.std.proofs.Common.{◌≡◌, ◌<◌, ◌≤◌, ℕ, List, [], ◌∷◌, ◌++◌, drop, get_or, length, refl, sym, ap, ap₂, ◌∙◌, append_assoc, length-append, arith}
 use Rattle.std.specs.List.{AllByRecursion, join_with_byte}
-use Rattle.cts_model.specs.PrintedLines.{Words, line_of, text_of}
+use Rattle.cts_model.specs.text.PrintedLines.{Words, line_of, text_of}
 use Rattle.report_text.specs.Pieces.{suffix}
 use Rattle.report_text.proofs.LineLemmas.{line_of-suffix}
 

@@ -5,10 +5,10 @@ use Rattle.std.proofs.lemmas.Bool.{cases_lt}
 use Rattle.std.proofs.lemmas.Option.{slice_get_cases, slice_get-get_or, slice_get_within}
 use Rattle.cts_model.specs.declared.signal.Signal.{Signal}
 use Rattle.cts_model.specs.declared.circuit.Circuit.{Circuit}
-use Rattle.cts_model.specs.Circuits.{register_number}
-use Rattle.cts_model.specs.Kinds.{is_register}
-use Rattle.cts_model.specs.Paths.{register_name}
-use Rattle.cts_model.specs.ReportLines.{signal_name}
+use Rattle.cts_model.specs.netlist.Circuits.{register_number}
+use Rattle.cts_model.specs.netlist.Kinds.{is_register}
+use Rattle.cts_model.specs.netlist.Paths.{register_name}
+use Rattle.cts_model.specs.report.ReportLines.{signal_name}
 use Rattle.cts_model.proofs.CircuitLemmas.{registered}
 
 -- the numbers of the registers among signals that are numbered from the first on

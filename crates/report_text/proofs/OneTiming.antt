@@ -14,12 +14,12 @@ use Rattle.cts_model.specs.declared.report.Version.{Version}
 use Rattle.cts_model.specs.declared.report.Version.TheVariants.{First, Second}
 use Rattle.cts_model.specs.declared.schedule.Lead.{Lead}
 use Rattle.cts_model.specs.declared.schedule.Slack.{Slack}
-use Rattle.cts_model.specs.Points.{IsBelow}
-use Rattle.cts_model.specs.PrintedLines.{Words, count_line, line_for, period_line}
-use Rattle.cts_model.specs.Slacks.{AreSmallSlacks}
-use Rattle.cts_model.specs.ReportBounds.{IsBetweenRegisters, ShowsPeriodAmong, LeadsAmong, HasSmallWeight, HasSmallWeights, IsSmallLead, IsOfSize, HasTimingBounds, cycle_length, count_in}
-use Rattle.cts_model.specs.ReportLines.{version_line, pathed_lines, period_show_lines, register_line_at, lead_line, lines_below, tree_lines, report_lines}
-use Rattle.cts_model.specs.Schedules.{IsSmallPeriod}
+use Rattle.cts_model.specs.placement.Points.{IsBelow}
+use Rattle.cts_model.specs.text.PrintedLines.{Words, count_line, line_for, period_line}
+use Rattle.cts_model.specs.timing.Slacks.{AreSmallSlacks}
+use Rattle.cts_model.specs.report.ReportBounds.{IsBetweenRegisters, ShowsPeriodAmong, LeadsAmong, HasSmallWeight, HasSmallWeights, IsSmallLead, IsOfSize, HasTimingBounds, cycle_length, count_in}
+use Rattle.cts_model.specs.report.ReportLines.{version_line, pathed_lines, period_show_lines, register_line_at, lead_line, lines_below, tree_lines, report_lines}
+use Rattle.cts_model.specs.timing.Schedules.{IsSmallPeriod}
 use Rattle.report_text.proofs.OneField.{word, byte, few_digits, one_count, one_length, one_slack, one_constraint, one_lead, one_path}
 use Rattle.report_text.proofs.OneList.{one_append, one_image, same_at, one_map}
 use Rattle.report_text.proofs.OneRecord.{same_fraction}

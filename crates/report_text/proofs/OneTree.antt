@@ -10,13 +10,13 @@ use Rattle.cts_model.specs.declared.report.Report.{Report}
 use Rattle.cts_model.specs.declared.tech.Tech.{Tech}
 use Rattle.cts_model.specs.declared.tree.Merge.{Merge}
 use Rattle.cts_model.specs.declared.tree.Show.TheVariants.{Root}
-use Rattle.cts_model.specs.Points.{IsBelow}
-use Rattle.cts_model.specs.PrintedLines.{Words, count_line}
-use Rattle.cts_model.specs.Problems.{grid_of, scheduled_length}
-use Rattle.cts_model.specs.ReportBounds.{IsOfSize, IsWithinBounds}
-use Rattle.cts_model.specs.ReportLines.{length_text, merge_line_at, source_line, node_line_at, show_words, lines_below, origin, no_wire}
-use Rattle.cts_model.specs.Schedules.{arrival_of}
-use Rattle.cts_model.specs.Topologies.{root_of, source_of}
+use Rattle.cts_model.specs.placement.Points.{IsBelow}
+use Rattle.cts_model.specs.text.PrintedLines.{Words, count_line}
+use Rattle.cts_model.specs.tree.Problems.{grid_of, scheduled_length}
+use Rattle.cts_model.specs.report.ReportBounds.{IsOfSize, IsWithinBounds}
+use Rattle.cts_model.specs.report.ReportLines.{length_text, merge_line_at, source_line, node_line_at, show_words, lines_below, origin, no_wire}
+use Rattle.cts_model.specs.timing.Schedules.{arrival_of}
+use Rattle.cts_model.specs.tree.Topologies.{root_of, source_of}
 use Rattle.report_text.proofs.GridLemmas.{grid_bounds}
 use Rattle.report_text.proofs.OneField.{word, words_from, few_digits, one_count, one_length, one_points, one_show, one_wire}
 use Rattle.report_text.proofs.OneList.{one_append, one_image, same_at}

@@ -8,8 +8,8 @@ use Rattle.cts_model.specs.declared.circuit.Circuit.{Circuit}
 use Rattle.cts_model.specs.declared.report.Version.{Version}
 use Rattle.cts_model.specs.declared.report.Version.TheVariants.{First, Second}
 use Rattle.cts_model.specs.declared.tech.Tech.{Tech}
-use Rattle.cts_model.specs.PrintedLines.{Words, period_line}
-use Rattle.cts_model.specs.ReportLines.{version_line}
+use Rattle.cts_model.specs.text.PrintedLines.{Words, period_line}
+use Rattle.cts_model.specs.report.ReportLines.{version_line}
 use Rattle.report_text.specs.declared.fault.ReportFault.{ReportFault}
 use Rattle.report_text.specs.declared.fault.ReportFault.TheVariants.{NoMemory}
 use Rattle.report_text.specs.declared.form.Form.TheVariants as form

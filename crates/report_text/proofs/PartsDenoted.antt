@@ -2,9 +2,9 @@
 use Rattle.std.proofs.Common.{◌≡◌, ◌-◌, ◌*◌, ℕ, List, [], ◌∷◌, ◌++◌, length, map, codes, drop, sym, ap, ap₂, ◌∙◌, append-nil}
 use Rattle.cts_model.specs.declared.circuit.Circuit.{Circuit}
 use Rattle.cts_model.specs.declared.tech.Tech.{Tech}
-use Rattle.cts_model.specs.PrintedLines.{count_line, period_line, text_of}
-use Rattle.cts_model.specs.ReportBounds.{Spells}
-use Rattle.cts_model.specs.ReportLines.{lead_line, lines_below, period_show_lines, version_line}
+use Rattle.cts_model.specs.text.PrintedLines.{count_line, period_line, text_of}
+use Rattle.cts_model.specs.report.ReportBounds.{Spells}
+use Rattle.cts_model.specs.report.ReportLines.{lead_line, lines_below, period_show_lines, version_line}
 use Rattle.report_text.specs.declared.form.Scale.{Scale}
 use Rattle.report_text.specs.declared.sections.Parts.{Parts}
 use Rattle.report_text.specs.Bodies.{section_forms}

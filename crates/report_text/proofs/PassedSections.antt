@@ -6,7 +6,7 @@ use Rattle.cts_model.specs.declared.constraint.Constraint.{Constraint}
 use Rattle.cts_model.specs.declared.report.Version.{Version}
 use Rattle.cts_model.specs.declared.report.Version.TheVariants as version
 use Rattle.cts_model.specs.declared.schedule.Lead.{Lead}
-use Rattle.cts_model.specs.PrintedLines.{count_line}
+use Rattle.cts_model.specs.text.PrintedLines.{count_line}
 use Rattle.report_text.specs.declared.field.Keyword.{Keyword}
 use Rattle.report_text.specs.declared.field.Keyword.TheVariants as word
 use Rattle.report_text.specs.declared.form.Form.{Form}

@@ -8,10 +8,10 @@ use Rattle.cts_model.specs.declared.report.Report.{Report}
 use Rattle.cts_model.specs.declared.report.Version.{Version}
 use Rattle.cts_model.specs.declared.report.Version.TheVariants.{First, Second}
 use Rattle.cts_model.specs.declared.tech.Tech.{Tech}
-use Rattle.cts_model.specs.Circuits.{has_host}
-use Rattle.cts_model.specs.PrintedLines.{count_line, line_for}
-use Rattle.cts_model.specs.ReportBounds.{Spells}
-use Rattle.cts_model.specs.ReportLines.{pathed_lines}
+use Rattle.cts_model.specs.netlist.Circuits.{has_host}
+use Rattle.cts_model.specs.text.PrintedLines.{count_line, line_for}
+use Rattle.cts_model.specs.report.ReportBounds.{Spells}
+use Rattle.cts_model.specs.report.ReportLines.{pathed_lines}
 use Rattle.report_text.specs.declared.fault.ReportFault.TheVariants.{Extra}
 use Rattle.report_text.specs.declared.form.Form.{Form}
 use Rattle.report_text.specs.declared.form.Form.TheVariants as form

@@ -9,8 +9,8 @@ use Rattle.cts_base.proofs.OneNumberText.{one_number_text, one_quotient_text}
 use Rattle.cts_base.proofs.OneSpelling.{one_whole}
 use Rattle.cts_base.proofs.FractionReading.{few_digits}
 use Rattle.cts_model.specs.declared.circuit.Circuit.{Circuit}
-use Rattle.cts_model.specs.Paths.{register_name}
-use Rattle.cts_model.specs.Points.{IsBelow}
+use Rattle.cts_model.specs.netlist.Paths.{register_name}
+use Rattle.cts_model.specs.placement.Points.{IsBelow}
 use Rattle.report_text.specs.declared.field.Field.{Field}
 use Rattle.report_text.specs.declared.field.Field.TheVariants as field
 use Rattle.report_text.specs.Fields.{EachWord, LineHasFlaw, WordHasFlaw}

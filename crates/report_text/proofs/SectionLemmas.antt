@@ -14,11 +14,11 @@ use Rattle.cts_model.specs.declared.schedule.Lead.{Lead}
 use Rattle.cts_model.specs.declared.schedule.Slack.{Slack}
 use Rattle.cts_model.specs.declared.tree.Merge.{Merge}
 use Rattle.cts_model.specs.declared.tree.Show.TheVariants.{Root}
-use Rattle.cts_model.specs.Points.{IsBelow, IsPointBelow}
-use Rattle.cts_model.specs.PrintedLines.{Words, line_for, register_line}
-use Rattle.cts_model.specs.ReportBounds.{HasSmallWeight, IsBetweenRegisters, IsMergeShow, IsSmallLead, IsSmallMerge, IsSmallWire, LeadsAmong, ShowsAmong}
-use Rattle.cts_model.specs.ReportLines.{lead_line, no_wire, origin, path_line, pathed_lines, show_words}
-use Rattle.cts_model.specs.Slacks.{AreSmallSlacks}
+use Rattle.cts_model.specs.placement.Points.{IsBelow, IsPointBelow}
+use Rattle.cts_model.specs.text.PrintedLines.{Words, line_for, register_line}
+use Rattle.cts_model.specs.report.ReportBounds.{HasSmallWeight, IsBetweenRegisters, IsMergeShow, IsSmallLead, IsSmallMerge, IsSmallWire, LeadsAmong, ShowsAmong}
+use Rattle.cts_model.specs.report.ReportLines.{lead_line, no_wire, origin, path_line, pathed_lines, show_words}
+use Rattle.cts_model.specs.timing.Slacks.{AreSmallSlacks}
 use Rattle.report_text.specs.declared.fault.ReportFault.{ReportFault}
 use Rattle.report_text.specs.declared.form.Form.{Form}
 use Rattle.report_text.specs.declared.form.Form.TheVariants as form

@@ -16,14 +16,14 @@ use Rattle.cts_base.proofs.OneNumberText.{no_fraction_minus, one_number_text, on
 use Rattle.cts_base.proofs.OneSpelling.{quotient_some, quotient_text_spelled}
 use Rattle.cts_model.specs.declared.circuit.Circuit.{Circuit}
 use Rattle.cts_model.specs.declared.constraint.Constraint.{Constraint}
-use Rattle.cts_model.specs.Paths.{register_name}
-use Rattle.cts_model.specs.Points.{IsBelow}
-use Rattle.cts_model.specs.PrintedLines.{Words, count_line, constraint_line, floor_line}
-use Rattle.cts_model.specs.Slacks.{IsSmallSlack}
+use Rattle.cts_model.specs.netlist.Paths.{register_name}
+use Rattle.cts_model.specs.placement.Points.{IsBelow}
+use Rattle.cts_model.specs.text.PrintedLines.{Words, count_line, constraint_line, floor_line}
+use Rattle.cts_model.specs.timing.Slacks.{IsSmallSlack}
 use Rattle.cts_model.specs.declared.schedule.Lead.TheVariants.{Zero, Tight}
 use Rattle.cts_model.specs.declared.schedule.Slack.{Slack}
-use Rattle.cts_model.specs.ReportLines.{signal_name, path_line}
-use Rattle.cts_model.specs.PrintedLines.{slack_text}
+use Rattle.cts_model.specs.report.ReportLines.{signal_name, path_line}
+use Rattle.cts_model.specs.text.PrintedLines.{slack_text}
 use Rattle.report_text.specs.declared.field.Field.{Field}
 use Rattle.report_text.specs.declared.field.Field.TheVariants as field
 use Rattle.report_text.specs.declared.field.Keyword.{Keyword}

@@ -21,12 +21,12 @@ use Rattle.cts_model.specs.declared.report.Version.TheVariants.{First, Second}
 use Rattle.cts_model.specs.declared.schedule.Lead.{Lead}
 use Rattle.cts_model.specs.declared.schedule.Lead.TheVariants.{Zero, Tight}
 use Rattle.cts_model.specs.declared.schedule.Slack.{Slack}
-use Rattle.cts_model.specs.Points.{IsBelow}
-use Rattle.cts_model.specs.PrintedLines.{Words, count_line, period_line, floor_line, constraint_line, line_for, register_line, slack_text}
-use Rattle.cts_model.specs.ReportBounds.{IsBetweenRegisters, HasSmallWeight, LeadsAmong, IsSmallLead}
-use Rattle.cts_model.specs.ReportLines.{version_line, path_line, lead_line, signal_name}
-use Rattle.cts_model.specs.Schedules.{IsSmallPeriod}
-use Rattle.cts_model.specs.Slacks.{AreSmallSlacks, IsSmallSlack}
+use Rattle.cts_model.specs.placement.Points.{IsBelow}
+use Rattle.cts_model.specs.text.PrintedLines.{Words, count_line, period_line, floor_line, constraint_line, line_for, register_line, slack_text}
+use Rattle.cts_model.specs.report.ReportBounds.{IsBetweenRegisters, HasSmallWeight, LeadsAmong, IsSmallLead}
+use Rattle.cts_model.specs.report.ReportLines.{version_line, path_line, lead_line, signal_name}
+use Rattle.cts_model.specs.timing.Schedules.{IsSmallPeriod}
+use Rattle.cts_model.specs.timing.Slacks.{AreSmallSlacks, IsSmallSlack}
 use Rattle.report_text.specs.declared.field.Field.{Field}
 use Rattle.report_text.specs.declared.field.Field.TheVariants as field
 use Rattle.report_text.specs.declared.field.Keyword.{Keyword}

@@ -12,8 +12,8 @@ use Rattle.cts_model.specs.declared.report.Version.{Version}
 use Rattle.cts_model.specs.declared.report.Version.TheVariants.{First, Second}
 use Rattle.cts_model.specs.declared.schedule.Lead.{Lead}
 use Rattle.cts_model.specs.declared.schedule.Lead.TheVariants.{Tight, Zero}
-use Rattle.cts_model.specs.PrintedLines.{Words, slack_text}
-use Rattle.cts_model.specs.Slacks.{IsSmallSlack}
+use Rattle.cts_model.specs.text.PrintedLines.{Words, slack_text}
+use Rattle.cts_model.specs.timing.Slacks.{IsSmallSlack}
 use Rattle.report_text.specs.declared.field.Field.{Field}
 use Rattle.report_text.specs.declared.field.Field.TheVariants as field
 use Rattle.report_text.specs.declared.field.Keyword.TheVariants as word

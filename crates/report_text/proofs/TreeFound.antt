@@ -4,8 +4,8 @@ use Rattle.std.proofs.lemmas.Bool.{cases_lt}
 use Rattle.cts_model.specs.declared.circuit.Circuit.{Circuit}
 use Rattle.cts_model.specs.declared.place.Point.{Point}
 use Rattle.cts_model.specs.declared.tree.Show.TheVariants.{Root, Sink}
-use Rattle.cts_model.specs.PrintedLines.{Words}
-use Rattle.cts_model.specs.ReportLines.{origin}
+use Rattle.cts_model.specs.text.PrintedLines.{Words}
+use Rattle.cts_model.specs.report.ReportLines.{origin}
 use Rattle.report_text.specs.declared.field.Keyword.TheVariants as word
 use Rattle.report_text.specs.declared.form.Form.TheVariants as form
 use Rattle.report_text.specs.declared.form.Scale.{Scale}

@@ -11,11 +11,11 @@ use Rattle.cts_model.specs.declared.place.Point.{Point}
 use Rattle.cts_model.specs.declared.tree.Wire.{Wire}
 use Rattle.cts_model.specs.declared.tree.Show.{Show}
 use Rattle.cts_model.specs.declared.tree.Show.TheVariants.{Pair, Sink, Root}
-use Rattle.cts_model.specs.Paths.{register_name}
-use Rattle.cts_model.specs.Points.{IsBelow, IsPointBelow}
-use Rattle.cts_model.specs.PrintedLines.{Words}
-use Rattle.cts_model.specs.ReportBounds.{IsMergeShow, IsSourceShow, ShowsAmong}
-use Rattle.cts_model.specs.ReportLines.{origin, show_words}
+use Rattle.cts_model.specs.netlist.Paths.{register_name}
+use Rattle.cts_model.specs.placement.Points.{IsBelow, IsPointBelow}
+use Rattle.cts_model.specs.text.PrintedLines.{Words}
+use Rattle.cts_model.specs.report.ReportBounds.{IsMergeShow, IsSourceShow, ShowsAmong}
+use Rattle.cts_model.specs.report.ReportLines.{origin, show_words}
 use Rattle.report_text.specs.declared.form.Form.TheVariants as form
 use Rattle.report_text.specs.declared.form.Scale.{Scale}
 use Rattle.report_text.specs.declared.tree_values.MergeLine.{MergeLine}

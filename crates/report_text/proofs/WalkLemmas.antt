@@ -8,7 +8,7 @@ use Rattle.std.proofs.lemmas.List.{take-append-drop, drop-drop, length-append}
 use Rattle.std.proofs.lemmas.List.Splits.{join_with_byte-slice_split, length-slice_split}
 use Rattle.std.proofs.lemmas.List.Sums.{passes_at_first}
 use Rattle.cts_model.specs.declared.circuit.Circuit.{Circuit}
-use Rattle.cts_model.specs.PrintedLines.{Words, line_of, text_of}
+use Rattle.cts_model.specs.text.PrintedLines.{Words, line_of, text_of}
 use Rattle.report_text.specs.declared.fault.ReportFault.{ReportFault}
 use Rattle.report_text.specs.declared.fault.ReportFault.TheVariants.{BadLine, Missing}
 use Rattle.report_text.specs.declared.field.Flaw.{Flaw}

@@ -6,9 +6,9 @@ use Rattle.cts_model.specs.declared.circuit.Circuit.{Circuit}
 use Rattle.cts_model.specs.declared.report.Report.{Report}
 use Rattle.cts_model.specs.declared.report.Version.{Version}
 use Rattle.cts_model.specs.declared.tech.Tech.{Tech}
-use Rattle.cts_model.specs.PrintedLines.{text_of}
-use Rattle.cts_model.specs.ReportBounds.{Spells, cycle_length}
-use Rattle.cts_model.specs.ReportLines.{report_lines}
+use Rattle.cts_model.specs.text.PrintedLines.{text_of}
+use Rattle.cts_model.specs.report.ReportBounds.{Spells, cycle_length}
+use Rattle.cts_model.specs.report.ReportLines.{report_lines}
 use Rattle.report_text.specs.declared.fault.ReportFault.{ReportFault}
 use Rattle.report_text.specs.declared.fault.ReportFault.TheVariants.{BadLine, UnknownRegister, Missing, Extra, TooLarge, NoMemory, UnknownSignal}
 use Rattle.report_text.specs.declared.form.Scale.{Scale}

@@ -13,12 +13,12 @@ use Rattle.cts_base.specs.declared.fraction.Fraction.{Fraction}
 use Rattle.cts_base.specs.Fractions.{divisor_up_to, fraction_text, quotient_text}
 use Rattle.cts_model.specs.declared.signal.Signal.{Signal}
 use Rattle.cts_model.specs.declared.circuit.Circuit.{Circuit}
-use Rattle.cts_model.specs.Circuits.{host_name, is_named}
-use Rattle.cts_model.specs.Kinds.{is_host}
-use Rattle.cts_model.specs.Names.{is_mark, is_name_byte, is_name, is_short}
-use Rattle.cts_model.specs.Paths.{register_name}
-use Rattle.cts_model.specs.PrintedLines.{slack_text}
-use Rattle.cts_model.specs.ReportLines.{signal_name}
+use Rattle.cts_model.specs.netlist.Circuits.{host_name, is_named}
+use Rattle.cts_model.specs.netlist.Kinds.{is_host}
+use Rattle.cts_model.specs.text.Names.{is_mark, is_name_byte, is_name, is_short}
+use Rattle.cts_model.specs.netlist.Paths.{register_name}
+use Rattle.cts_model.specs.text.PrintedLines.{slack_text}
+use Rattle.cts_model.specs.report.ReportLines.{signal_name}
 use Rattle.report_text.proofs.OneLine.{IsWord}
 
 -- both of two tests pass

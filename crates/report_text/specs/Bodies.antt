@@ -4,9 +4,9 @@ use Rattle.std.specs.List.{range_with_len}
 use Rattle.cts_model.specs.declared.circuit.Circuit.{Circuit}
 use Rattle.cts_model.specs.declared.report.Version.{Version}
 use Rattle.cts_model.specs.declared.schedule.Lead.{Lead}
-use Rattle.cts_model.specs.PrintedLines.{count_line}
-use Rattle.cts_model.specs.ReportBounds.{IsSmallLead, LeadsAmong, count_in}
-use Rattle.cts_model.specs.ReportLines.{lead_line}
+use Rattle.cts_model.specs.text.PrintedLines.{count_line}
+use Rattle.cts_model.specs.report.ReportBounds.{IsSmallLead, LeadsAmong, count_in}
+use Rattle.cts_model.specs.report.ReportLines.{lead_line}
 use Rattle.report_text.specs.declared.field.Keyword.{Keyword}
 use Rattle.report_text.specs.declared.field.Keyword.TheVariants as word
 use Rattle.report_text.specs.declared.form.Form.{Form}

@@ -6,13 +6,13 @@ use Rattle.cts_model.specs.declared.place.Point.{Point}
 use Rattle.cts_model.specs.declared.report.Report.{Report}
 use Rattle.cts_model.specs.declared.tech.Tech.{Tech}
 use Rattle.cts_model.specs.declared.tree.Wire.{Wire}
-use Rattle.cts_model.specs.Points.{IsBelow, IsPointBelow}
-use Rattle.cts_model.specs.PrintedLines.{Words, count_line, period_line}
-use Rattle.cts_model.specs.Problems.{grid_of, scheduled_length}
-use Rattle.cts_model.specs.ReportBounds.{HasSmallWeights, IsMergeShow, IsSmallLead, IsSmallMerge, IsSmallWire, IsSourceShow, LeadsAmong, ShowsAmong, ShowsPeriodAmong, count_in, cycle_length}
-use Rattle.cts_model.specs.ReportLines.{lead_line, lines_below, no_wire, origin, period_show_lines, show_words, version_line}
-use Rattle.cts_model.specs.Schedules.{IsSmallPeriod}
-use Rattle.cts_model.specs.Slacks.{AreSmallSlacks}
+use Rattle.cts_model.specs.placement.Points.{IsBelow, IsPointBelow}
+use Rattle.cts_model.specs.text.PrintedLines.{Words, count_line, period_line}
+use Rattle.cts_model.specs.tree.Problems.{grid_of, scheduled_length}
+use Rattle.cts_model.specs.report.ReportBounds.{HasSmallWeights, IsMergeShow, IsSmallLead, IsSmallMerge, IsSmallWire, IsSourceShow, LeadsAmong, ShowsAmong, ShowsPeriodAmong, count_in, cycle_length}
+use Rattle.cts_model.specs.report.ReportLines.{lead_line, lines_below, no_wire, origin, period_show_lines, show_words, version_line}
+use Rattle.cts_model.specs.timing.Schedules.{IsSmallPeriod}
+use Rattle.cts_model.specs.timing.Slacks.{AreSmallSlacks}
 use Rattle.report_text.specs.declared.sections.Parts.{Parts}
 use Rattle.report_text.specs.declared.form.Scale.{Scale}
 use Rattle.report_text.specs.declared.tree_values.SourceLine.{SourceLine}

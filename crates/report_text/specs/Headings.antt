@@ -2,10 +2,10 @@
 use Rattle.std.specs.Prelude.{◌≡◌, ◌<◌, ◌≤◌, ℕ, Option, Some, None, List, [], ◌∷◌, All, codes, drop, length}
 use Rattle.cts_model.specs.declared.circuit.Circuit.{Circuit}
 use Rattle.cts_model.specs.declared.report.Version.{Version}
-use Rattle.cts_model.specs.PrintedLines.{Words, count_line, floor_line, period_line}
-use Rattle.cts_model.specs.ReportBounds.{HasSmallWeights, ShowsPeriodAmong, count_in, cycle_length}
-use Rattle.cts_model.specs.ReportLines.{period_show_lines, version_line}
-use Rattle.cts_model.specs.Schedules.{IsSmallPeriod}
+use Rattle.cts_model.specs.text.PrintedLines.{Words, count_line, floor_line, period_line}
+use Rattle.cts_model.specs.report.ReportBounds.{HasSmallWeights, ShowsPeriodAmong, count_in, cycle_length}
+use Rattle.cts_model.specs.report.ReportLines.{period_show_lines, version_line}
+use Rattle.cts_model.specs.timing.Schedules.{IsSmallPeriod}
 use Rattle.report_text.specs.declared.form.Form.{Form}
 use Rattle.report_text.specs.declared.form.Form.TheVariants as form
 use Rattle.report_text.specs.declared.form.Scale.{Scale}

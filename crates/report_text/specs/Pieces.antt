@@ -2,9 +2,9 @@
 use Rattle.std.specs.Prelude.{ℕ, pos, ◌≤ℤ◌, ◌<ℤ◌, ◌^◌, List, ◌∷◌, All}
 use Rattle.std.specs.List.{flat_map}
 use Rattle.cts_model.specs.declared.report.Report.{Report}
-use Rattle.cts_model.specs.Points.{IsBelow, IsPointBelow}
-use Rattle.cts_model.specs.PrintedLines.{Words}
-use Rattle.cts_model.specs.ReportBounds.{IsSmallWire}
+use Rattle.cts_model.specs.placement.Points.{IsBelow, IsPointBelow}
+use Rattle.cts_model.specs.text.PrintedLines.{Words}
+use Rattle.cts_model.specs.report.ReportBounds.{IsSmallWire}
 
 -- words that stand after others on a line: each after a space
 abbrev pub suffix : Words → List ℕ

@@ -10,12 +10,12 @@ use Rattle.cts_model.specs.declared.report.Version.TheVariants as version
 use Rattle.cts_model.specs.declared.schedule.Lead.{Lead}
 use Rattle.cts_model.specs.declared.tree.Show.TheVariants.{Root}
 use Rattle.cts_model.specs.declared.tree.Wire.{Wire}
-use Rattle.cts_model.specs.Points.{IsBelow, IsPointBelow}
-use Rattle.cts_model.specs.PrintedLines.{Words, line_for, register_line}
-use Rattle.cts_model.specs.ReportBounds.{HasSmallWeight, IsBetweenRegisters, IsMergeShow, IsSmallLead, IsSmallMerge, IsSmallWire, LeadsAmong, ShowsAmong}
-use Rattle.cts_model.specs.ReportLines.{lead_line, lines_below, no_wire, number_at, origin, pathed_lines, show_words}
-use Rattle.cts_model.specs.Schedules.{arrival_of}
-use Rattle.cts_model.specs.Slacks.{AreSmallSlacks}
+use Rattle.cts_model.specs.placement.Points.{IsBelow, IsPointBelow}
+use Rattle.cts_model.specs.text.PrintedLines.{Words, line_for, register_line}
+use Rattle.cts_model.specs.report.ReportBounds.{HasSmallWeight, IsBetweenRegisters, IsMergeShow, IsSmallLead, IsSmallMerge, IsSmallWire, LeadsAmong, ShowsAmong}
+use Rattle.cts_model.specs.report.ReportLines.{lead_line, lines_below, no_wire, number_at, origin, pathed_lines, show_words}
+use Rattle.cts_model.specs.timing.Schedules.{arrival_of}
+use Rattle.cts_model.specs.timing.Slacks.{AreSmallSlacks}
 use Rattle.report_text.specs.declared.form.Form.TheVariants as form
 use Rattle.report_text.specs.declared.form.Scale.{Scale}
 use Rattle.report_text.specs.declared.sections.Merged.{Merged}

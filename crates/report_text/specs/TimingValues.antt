@@ -6,12 +6,12 @@ use Rattle.cts_model.specs.declared.circuit.Circuit.{Circuit}
 use Rattle.cts_model.specs.declared.constraint.Constraint.{Constraint}
 use Rattle.cts_model.specs.declared.schedule.Lead.{Lead}
 use Rattle.cts_model.specs.declared.schedule.Slack.{Slack}
-use Rattle.cts_model.specs.Points.{IsBelow}
-use Rattle.cts_model.specs.PrintedLines.{Words, count_line, floor_line, line_for, period_line, register_line}
-use Rattle.cts_model.specs.ReportBounds.{IsBetweenRegisters, HasSmallWeight, LeadsAmong, IsSmallLead}
-use Rattle.cts_model.specs.ReportLines.{path_line, lead_line, signal_name}
-use Rattle.cts_model.specs.Schedules.{IsSmallPeriod}
-use Rattle.cts_model.specs.Slacks.{AreSmallSlacks}
+use Rattle.cts_model.specs.placement.Points.{IsBelow}
+use Rattle.cts_model.specs.text.PrintedLines.{Words, count_line, floor_line, line_for, period_line, register_line}
+use Rattle.cts_model.specs.report.ReportBounds.{IsBetweenRegisters, HasSmallWeight, LeadsAmong, IsSmallLead}
+use Rattle.cts_model.specs.report.ReportLines.{path_line, lead_line, signal_name}
+use Rattle.cts_model.specs.timing.Schedules.{IsSmallPeriod}
+use Rattle.cts_model.specs.timing.Slacks.{AreSmallSlacks}
 use Rattle.report_text.specs.declared.form.Form.{Form}
 use Rattle.report_text.specs.declared.form.Scale.{Scale}
 use Rattle.report_text.specs.declared.field.Field.TheVariants as field

@@ -2,7 +2,7 @@
 use Rattle.std.specs.Prelude.{◌≡◌, ◌≢◌, ◌<◌, ◌+◌, ◌==◌, false, ℕ, List, [], ◌∷◌, ◌++◌, Option, Some, None, length, map, take, drop, position, MatchBool, MatchOption}
 use Rattle.std.specs.List.{slice_split}
 use Rattle.cts_model.specs.declared.circuit.Circuit.{Circuit}
-use Rattle.cts_model.specs.PrintedLines.{Words, text_of}
+use Rattle.cts_model.specs.text.PrintedLines.{Words, text_of}
 use Rattle.report_text.specs.declared.fault.ReportFault.{ReportFault}
 use Rattle.report_text.specs.declared.fault.ReportFault.TheVariants.{BadLine, Missing, NoMemory}
 use Rattle.report_text.specs.declared.form.Form.{Form}
@@ -13,7 +13,7 @@ use Rattle.report_text.specs.Forms.{fields_of}
 use Rattle.report_text.specs.ReportFaults.{HasFirstFault, fault_of, is_line_feed, words_of}
 use Rattle.report_text.specs.declared.timing_values.Timed.{Timed}
 use Rattle.cts_model.specs.declared.report.Version.{Version}
-use Rattle.cts_model.specs.ReportLines.{version_line}
+use Rattle.cts_model.specs.report.ReportLines.{version_line}
 use Rattle.report_text.specs.TimingValues.{IsFlawless, DenotesArrival}
 
 -- what is left of a text, and the number of its first line

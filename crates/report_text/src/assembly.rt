@@ -2,9 +2,9 @@
 
 ghost use Rattle.std.specs.Prelude.{◌≡◌, ◌^◌, ◌++◌, ◌∷◌, ℕ, List, [], All, IfOk};
 ghost use Rattle.cts_model.specs.declared.circuit.Circuit as model;
-ghost use Rattle.cts_model.specs.Points.{IsBelow};
-ghost use Rattle.cts_model.specs.ReportBounds.{Spells};
-ghost use Rattle.cts_model.specs.Schedules.{IsSmallPeriod};
+ghost use Rattle.cts_model.specs.placement.Points.{IsBelow};
+ghost use Rattle.cts_model.specs.report.ReportBounds.{Spells};
+ghost use Rattle.cts_model.specs.timing.Schedules.{IsSmallPeriod};
 ghost use Rattle.report_text.specs.Parts.{HasParts};
 ghost use Rattle.report_text.specs.DenotedReports.{begin_of, report_denoted, sink_reach, sink_reaches};
 

@@ -1,9 +1,9 @@
 //! How fine the numbers of a report are.
 
 ghost use Rattle.std.specs.Prelude.{◌≡◌, ◌≤◌, ◌^◌, ◌*ℤ◌, unsigned_abs};
-ghost use Rattle.cts_model.specs.Points.{IsBelow};
-ghost use Rattle.cts_model.specs.Problems.{grid_of, scheduled_length, steps_of_micro};
-ghost use Rattle.cts_model.specs.Schedules.{IsSmallPeriod};
+ghost use Rattle.cts_model.specs.placement.Points.{IsBelow};
+ghost use Rattle.cts_model.specs.tree.Problems.{grid_of, scheduled_length, steps_of_micro};
+ghost use Rattle.cts_model.specs.timing.Schedules.{IsSmallPeriod};
 ghost use Rattle.report_text.specs.Parts.{scale_in};
 ghost use Rattle.report_text.specs.Values.{IsSmallScale};
 

@@ -2,8 +2,8 @@
 
 ghost use Rattle.std.specs.Prelude.{◌≡◌, ◌<◌, length};
 ghost use Rattle.cts_model.specs.declared.circuit.Circuit as model;
-ghost use Rattle.cts_model.specs.Paths.{register_name};
-ghost use Rattle.cts_model.specs.ReportLines.{signal_name};
+ghost use Rattle.cts_model.specs.netlist.Paths.{register_name};
+ghost use Rattle.cts_model.specs.report.ReportLines.{signal_name};
 ghost use Rattle.report_text.specs.Fields.{NamesRegister, NamesSignal};
 ghost use Rattle.report_text.specs.NamesOf.{AreNamesOf};
 

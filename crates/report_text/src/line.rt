@@ -2,7 +2,7 @@
 
 ghost use Rattle.std.specs.Prelude.{◌≡◌, ◌<◌, pos, ◌++◌, ◌∷◌, [], length, map, OnOk};
 ghost use Rattle.std.specs.Fmt.{signed_decimal};
-ghost use Rattle.cts_model.specs.PrintedLines.{line_of, count_line, constraint_line, line_for};
+ghost use Rattle.cts_model.specs.text.PrintedLines.{line_of, count_line, constraint_line, line_for};
 ghost use Rattle.report_text.specs.Pieces.{suffix};
 
 use cts_base::NoMemory;

@@ -2,7 +2,7 @@
 
 ghost use Rattle.std.specs.Prelude.{◌≡◌, ◌≢◌, ◌⊎◌, Some, Ok, Err, IfOk, IfErr};
 ghost use Rattle.cts_model.specs.declared.report.Report as model;
-ghost use Rattle.cts_model.specs.ReportBounds.{Spells};
+ghost use Rattle.cts_model.specs.report.ReportBounds.{Spells};
 ghost use Rattle.report_text.specs.declared.fault.ReportFault as faults;
 ghost use Rattle.report_text.specs.declared.fault.ReportFault.TheVariants as fault;
 ghost use Rattle.report_text.specs.Laws.{HasFaultOrReport};

@@ -1,8 +1,8 @@
 ghost use Rattle.std.specs.Prelude.{◌≡◌, IfOk};
 ghost use Rattle.cts_model.specs.declared.tech.Tech.{Tech};
-ghost use Rattle.cts_model.specs.PrintedLines.{text_of};
-ghost use Rattle.cts_model.specs.ReportBounds.{IsOfSize, IsWithinBounds};
-ghost use Rattle.cts_model.specs.ReportLines.{report_lines};
+ghost use Rattle.cts_model.specs.text.PrintedLines.{text_of};
+ghost use Rattle.cts_model.specs.report.ReportBounds.{IsOfSize, IsWithinBounds};
+ghost use Rattle.cts_model.specs.report.ReportLines.{report_lines};
 
 use crate::timing::push_timing;
 use crate::tree::push_tree;

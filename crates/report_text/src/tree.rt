@@ -3,10 +3,10 @@
 ghost use Rattle.std.specs.Prelude.{◌≡◌, ◌<◌, ◌^◌, ◌++◌, ◌∷◌, ◌≤ℤ◌, ◌<ℤ◌, [], pos, length, All, OnOk, slice_index_or};
 ghost use Rattle.cts_model.specs.declared.tree.Show.TheVariants.{Root};
 ghost use Rattle.std.specs.List.{flat_map};
-ghost use Rattle.cts_model.specs.Points.{IsBelow, IsPointBelow};
-ghost use Rattle.cts_model.specs.PrintedLines.{line_of, text_of};
-ghost use Rattle.cts_model.specs.ReportBounds.{IsOfSize, IsSmallWire, ShowsAmong};
-ghost use Rattle.cts_model.specs.ReportLines.{length_text, lines_below, merge_line_at, merge_words, no_wire, node_line_at, number_at, point_words, show_words, source_line, tree_lines, wire_words};
+ghost use Rattle.cts_model.specs.placement.Points.{IsBelow, IsPointBelow};
+ghost use Rattle.cts_model.specs.text.PrintedLines.{line_of, text_of};
+ghost use Rattle.cts_model.specs.report.ReportBounds.{IsOfSize, IsSmallWire, ShowsAmong};
+ghost use Rattle.cts_model.specs.report.ReportLines.{length_text, lines_below, merge_line_at, merge_words, no_wire, node_line_at, number_at, point_words, show_words, source_line, tree_lines, wire_words};
 ghost use Rattle.report_text.specs.Pieces.{suffix, HasSmallLengths};
 ghost use Rattle.report_text.specs.WireLines.{wire_line};
 

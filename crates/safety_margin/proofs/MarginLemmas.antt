@@ -7,14 +7,14 @@ use Rattle.std.proofs.lemmas.Int.{ints}
 use Rattle.std.proofs.lemmas.Nat.{mul-le}
 use Rattle.cts_base.specs.declared.fraction.Fraction.{Fraction}
 use Rattle.cts_model.specs.declared.constraint.Constraint.{Constraint}
-use Rattle.cts_model.specs.Constraints.{count_of}
-use Rattle.cts_model.specs.Cycles.{total_count, total_weight}
+use Rattle.cts_model.specs.timing.Constraints.{count_of}
+use Rattle.cts_model.specs.timing.Cycles.{total_count, total_weight}
 use Rattle.cts_model.proofs.ScaleLemmas.{size_same}
 use Rattle.critical_cycle.specs.declared.measure.Measure.{Measure}
 use Rattle.critical_cycle.specs.Measures.{SatisfiesRatio, ShowsRatio}
 use Rattle.critical_cycle.specs.RatioSizes.{IsSmallRatio}
 use Rattle.safety_margin.specs.Margins.{ShowsMargin, Spares, SparesNoMore}
-use Rattle.cts_model.specs.Schedules.{IsMarginPeriod}
+use Rattle.cts_model.specs.timing.Schedules.{IsMarginPeriod}
 use Rattle.safety_margin.specs.RatioMargins.{IsMarginAt, IsMeasureAt}
 use Rattle.safety_margin.specs.Sharing.{CanSpare, IsSmallMargin}
 use Rattle.safety_margin.proofs.SparedCycles.{cycle_among_spares, no_more_margin, no_more_spared, ratio_spares}

@@ -4,14 +4,14 @@ use Rattle.std.proofs.Math.Nat.{mul-le-mul_left}
 use Rattle.std.proofs.lemmas.Int.{ints}
 use Rattle.cts_base.specs.declared.fraction.Fraction.{Fraction}
 use Rattle.cts_model.specs.declared.constraint.Constraint.{Constraint}
-use Rattle.cts_model.specs.Constraints.{AreSmallConstraints, count_of}
-use Rattle.cts_model.specs.Points.{IsBelow}
+use Rattle.cts_model.specs.timing.Constraints.{AreSmallConstraints, count_of}
+use Rattle.cts_model.specs.placement.Points.{IsBelow}
 use Rattle.critical_cycle.specs.declared.measure.Measure.{Measure}
-use Rattle.cts_model.specs.Cycles.{IsCycle, total_count, total_weight}
+use Rattle.cts_model.specs.timing.Cycles.{IsCycle, total_count, total_weight}
 use Rattle.critical_cycle.specs.Measures.{CanTry, ForbidsRatios, SatisfiesRatio}
 use Rattle.critical_cycle.specs.RatioSizes.{IsSmallRatio}
 use Rattle.safety_margin.specs.Margins.{HasNoCycle, Spares}
-use Rattle.cts_model.specs.Schedules.{IsMarginPeriod}
+use Rattle.cts_model.specs.timing.Schedules.{IsMarginPeriod}
 use Rattle.safety_margin.specs.RatioMargins.{IsBelowAll, IsMeasureAt}
 use Rattle.safety_margin.proofs.SparedCycles.{cycle_among_spares}
 use borrow.Author.Differences.{up, down}

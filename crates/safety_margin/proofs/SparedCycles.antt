@@ -6,8 +6,8 @@ use Rattle.std.proofs.lemmas.Int.{ints, by_lt_z}
 use Rattle.std.proofs.lemmas.List.Elements.{All-head, All-tail, All-weaker, All-contains}
 use Rattle.std.proofs.lemmas.List.Sums.{sum_by-cons}
 use Rattle.cts_model.specs.declared.constraint.Constraint.{Constraint}
-use Rattle.cts_model.specs.Constraints.{count_of}
-use Rattle.cts_model.specs.Cycles.{Leads, IsCycle, total_weight, total_count}
+use Rattle.cts_model.specs.timing.Constraints.{count_of}
+use Rattle.cts_model.specs.timing.Cycles.{Leads, IsCycle, total_weight, total_count}
 use Rattle.safety_margin.specs.Margins.{Spares, SparesOne}
 use borrow.Author.Differences.{up, down}
 

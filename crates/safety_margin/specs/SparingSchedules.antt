@@ -3,8 +3,8 @@ use Rattle.std.specs.Prelude.{◌≡◌, ◌<◌, ◌≤◌, ◌*◌, ◌^◌, �
 use Rattle.std.specs.Int.{IsGcd}
 use Rattle.cts_base.specs.declared.fraction.Fraction.{Fraction}
 use Rattle.cts_model.specs.declared.schedule.Schedule.{Schedule}
-use Rattle.cts_model.specs.Points.{IsBelow}
-use Rattle.cts_model.specs.Schedules.{arrival_of, AreFromZero}
+use Rattle.cts_model.specs.placement.Points.{IsBelow}
+use Rattle.cts_model.specs.timing.Schedules.{arrival_of, AreFromZero}
 use Rattle.safety_margin.specs.Margins.{IsOver, Sparing}
 
 -- a multiple of both numbers, by factors that no number above 1 divides: Knuth, "The Art of

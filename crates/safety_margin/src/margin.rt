@@ -1,8 +1,8 @@
 ghost use Rattle.std.specs.Prelude.{◌≡◌, ◌↔◌, IfOk, length};
-ghost use Rattle.cts_model.specs.Constraints.{AreSmallConstraints};
+ghost use Rattle.cts_model.specs.timing.Constraints.{AreSmallConstraints};
 ghost use Rattle.safety_margin.specs.Answers.{HasSmallSparing, IsMarginOf, IsUnbounded};
 ghost use Rattle.safety_margin.specs.Margins.{HasNoCycle};
-ghost use Rattle.cts_model.specs.Schedules.{IsMarginPeriod};
+ghost use Rattle.cts_model.specs.timing.Schedules.{IsMarginPeriod};
 
 use crate::ratio::{below_all, margin_at, measure_at};
 use crate::sparing::sparing_schedule;

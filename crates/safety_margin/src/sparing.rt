@@ -1,8 +1,8 @@
 ghost use Rattle.std.specs.Prelude.{◌≡◌, ◌^◌, ◌*ℤ◌, length};
-ghost use Rattle.cts_model.specs.Constraints.{AreSmallConstraints};
-ghost use Rattle.cts_model.specs.Points.{IsBelow};
+ghost use Rattle.cts_model.specs.timing.Constraints.{AreSmallConstraints};
+ghost use Rattle.cts_model.specs.placement.Points.{IsBelow};
 ghost use Rattle.safety_margin.specs.Margins.{Spares};
-ghost use Rattle.cts_model.specs.Schedules.{IsMarginPeriod};
+ghost use Rattle.cts_model.specs.timing.Schedules.{IsMarginPeriod};
 ghost use Rattle.safety_margin.specs.Sharing.{AreGainsAt, CanSpare, IsShare, IsSmallMargin};
 ghost use Rattle.safety_margin.specs.SparingSchedules.{IsSmallSparing, IsSparingSchedule};
 

@@ -9,9 +9,9 @@ use Rattle.std.proofs.Math.Nat.{mul-add, mul-le-mul_left}
 use borrow.Author.Differences.{up, down}
 use Rattle.cts_base.specs.declared.fraction.Fraction.{Fraction}
 use Rattle.cts_model.specs.declared.constraint.Constraint.{Constraint}
-use Rattle.cts_model.specs.Points.{IsBelow}
-use Rattle.cts_model.specs.Constraints.{AreSmallConstraints, IsSmallConstraint}
-use Rattle.cts_model.specs.Schedules.{arrival_of, AreFromZero, IsSmallPeriod}
+use Rattle.cts_model.specs.placement.Points.{IsBelow}
+use Rattle.cts_model.specs.timing.Constraints.{AreSmallConstraints, IsSmallConstraint}
+use Rattle.cts_model.specs.timing.Schedules.{arrival_of, AreFromZero, IsSmallPeriod}
 use Rattle.schedule.specs.declared.gain.Gains.{Gains}
 use Rattle.schedule.specs.Gains.{AreGainsOf, AreLeastBy, SatisfiesGains, gain_of}
 use Rattle.schedule.specs.Schedules.{AreWithinWeights, CanSchedule}

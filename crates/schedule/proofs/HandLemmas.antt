@@ -8,8 +8,8 @@ use Rattle.cts_base.specs.declared.fraction.Fraction.{Fraction}
 use Rattle.cts_model.specs.declared.constraint.Constraint.{Constraint}
 use Rattle.schedule.specs.declared.reach.Reach.{Reach}
 use Rattle.cts_model.specs.declared.schedule.Lead.TheVariants.{Tight}
-use Rattle.cts_model.specs.Schedules.{arrival_of}
-use Rattle.cts_model.specs.Leads.{IsTight, IsTightLead, depth_of, lead_at}
+use Rattle.cts_model.specs.timing.Schedules.{arrival_of}
+use Rattle.cts_model.specs.timing.Leads.{IsTight, IsTightLead, depth_of, lead_at}
 use Rattle.schedule.specs.Tails.{IsLastBefore}
 use Rattle.schedule.specs.Reaching.{IsAdded, IsGiven, IsGrown, IsHanded, IsHandedBy, IsReachKept, IsReached, IsReaching}
 use Rattle.schedule.proofs.SweepLemmas.{nowhere}

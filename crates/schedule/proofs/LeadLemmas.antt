@@ -5,11 +5,11 @@ use Rattle.std.specs.Prelude.{nat_abs}
 use Rattle.std.proofs.lemmas.Int.{ints}
 use Rattle.cts_base.specs.declared.fraction.Fraction.{Fraction}
 use Rattle.cts_model.specs.declared.constraint.Constraint.{Constraint}
-use Rattle.cts_model.specs.Constraints.{Satisfies, count_of}
+use Rattle.cts_model.specs.timing.Constraints.{Satisfies, count_of}
 use Rattle.schedule.specs.declared.reach.Reach.{Reach}
-use Rattle.cts_model.specs.Schedules.{arrival_of, AreFromZero}
+use Rattle.cts_model.specs.timing.Schedules.{arrival_of, AreFromZero}
 use Rattle.schedule.specs.Schedules.{IsLeastScheduleOf}
-use Rattle.cts_model.specs.Leads.{EachLead, depth_of, lead_at}
+use Rattle.cts_model.specs.timing.Leads.{EachLead, depth_of, lead_at}
 use Rattle.schedule.specs.Reaching.{IsReached, IsWhole}
 use Rattle.schedule.proofs.BoundLemmas.{once_is, size_same}
 

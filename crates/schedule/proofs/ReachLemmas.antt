@@ -9,7 +9,7 @@ use Rattle.cts_model.specs.declared.constraint.Constraint.{Constraint}
 use Rattle.cts_model.specs.declared.schedule.Lead.{Lead}
 use Rattle.cts_model.specs.declared.schedule.Lead.TheVariants.{Zero, Tight}
 use Rattle.schedule.specs.declared.reach.Reach.{Reach}
-use Rattle.cts_model.specs.Leads.{IsLead, depth_of, lead_at}
+use Rattle.cts_model.specs.timing.Leads.{IsLead, depth_of, lead_at}
 use Rattle.schedule.specs.Reaching.{IsAdded, IsFromReached, IsReachKept, IsReached, IsReaching, unreached}
 
 module _ {constraints : List Constraint} {period : Fraction} {at : List ℤ} {looked : ℕ}

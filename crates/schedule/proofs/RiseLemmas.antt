@@ -8,9 +8,9 @@ use Rattle.std.proofs.lemmas.List.Elements.{All-contains}
 use Rattle.std.proofs.lemmas.Int.{ints}
 use Rattle.cts_model.proofs.ScaleLemmas.{scale-add}
 use Rattle.cts_model.specs.declared.constraint.Constraint.{Constraint}
-use Rattle.cts_model.specs.Constraints.{IsSmallConstraint}
-use Rattle.cts_model.specs.Points.{IsBelow}
-use Rattle.cts_model.specs.Schedules.{arrival_of, AreFromZero}
+use Rattle.cts_model.specs.timing.Constraints.{IsSmallConstraint}
+use Rattle.cts_model.specs.placement.Points.{IsBelow}
+use Rattle.cts_model.specs.timing.Schedules.{arrival_of, AreFromZero}
 use Rattle.schedule.specs.declared.gain.Gains.{Gains}
 use Rattle.schedule.specs.Gains.{AreLeastBy, gain_of}
 use Rattle.schedule.specs.Rises.{offer_of, IsRaised, IsRising, room_of}

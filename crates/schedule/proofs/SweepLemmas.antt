@@ -4,9 +4,9 @@ use Rattle.std.specs.Prelude.{MatchBool}
 use Rattle.std.proofs.lemmas.List.{get_or_default}
 use Rattle.std.proofs.lemmas.Int.{ints}
 use Rattle.cts_model.specs.declared.constraint.Constraint.{Constraint}
-use Rattle.cts_model.specs.Constraints.{IsSmallConstraint}
-use Rattle.cts_model.specs.Points.{IsBelow}
-use Rattle.cts_model.specs.Schedules.{arrival_of}
+use Rattle.cts_model.specs.timing.Constraints.{IsSmallConstraint}
+use Rattle.cts_model.specs.placement.Points.{IsBelow}
+use Rattle.cts_model.specs.timing.Schedules.{arrival_of}
 use Rattle.schedule.specs.declared.gain.Gains.{Gains}
 use Rattle.schedule.specs.declared.raising.Raising.{Raising}
 use Rattle.schedule.specs.Gains.{SatisfiesGains, gain_of}

@@ -2,7 +2,7 @@
 use Rattle.std.proofs.Common.{◌≡◌, ◌↔◌, ◌^◌, ◌∙◌, ℤ, pos, ◌-ℤ◌, ◌*ℤ◌, ◌≤ℤ◌, Bool, true, false, cond, nat_eq, FitsSigned, IsTrue, sym, arith}
 use Rattle.std.proofs.lemmas.Int.{ints}
 use Rattle.std.specs.Int.{w128}
-use Rattle.cts_model.specs.Points.{IsBelow}
+use Rattle.cts_model.specs.placement.Points.{IsBelow}
 use Rattle.schedule.proofs.GainLemmas.{kept}
 use mir.Val.{of_z}
 

@@ -3,7 +3,7 @@
 use Rattle.std.specs.Prelude.{◌≡◌, ◌<◌, ◌≤◌, ℕ, ℤ, pos, ◌+ℤ◌, ◌-ℤ◌, ◌*ℤ◌, ◌≤ℤ◌, if◌then◌else◌, List, All, length}
 use Rattle.cts_base.specs.declared.fraction.Fraction.{Fraction}
 use Rattle.cts_model.specs.declared.constraint.Constraint.{Constraint}
-use Rattle.cts_model.specs.Schedules.{arrival_of, AreFromZero}
+use Rattle.cts_model.specs.timing.Schedules.{arrival_of, AreFromZero}
 use Rattle.schedule.specs.declared.gain.Gains.{Gains}
 
 -- what a constraint asks of the head beyond the tail

@@ -2,7 +2,7 @@
 -- detection algorithms", 1999.
 use Rattle.std.specs.Prelude.{◌≡◌, ◌<◌, ◌≤◌, ◌+◌, ◌-◌, ◌^◌, ℕ, ℤ, ◌+ℤ◌, ◌≤ℤ◌, ◌<ℤ◌, Bool, MatchBool, List, [], ◌∷◌, length, nat_abs, slice_set}
 use Rattle.cts_model.specs.declared.constraint.Constraint.{Constraint}
-use Rattle.cts_model.specs.Schedules.{arrival_of, AreFromZero}
+use Rattle.cts_model.specs.timing.Schedules.{arrival_of, AreFromZero}
 use Rattle.schedule.specs.declared.gain.Gains.{Gains}
 use Rattle.schedule.specs.declared.raising.Raising.{Raising}
 use Rattle.schedule.specs.Rooms.{AreAsLong}

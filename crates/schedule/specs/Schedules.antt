@@ -3,8 +3,8 @@
 use Rattle.std.specs.Prelude.{◌<◌, ◌≤◌, ◌*◌, ◌-◌, ℕ, ℤ, pos, ◌*ℤ◌, ◌≤ℤ◌, List, All, length, nat_abs}
 use Rattle.cts_base.specs.declared.fraction.Fraction.{Fraction}
 use Rattle.cts_model.specs.declared.constraint.Constraint.{Constraint}
-use Rattle.cts_model.specs.Constraints.{AreSmallConstraints, Satisfies}
-use Rattle.cts_model.specs.Schedules.{arrival_of, AreFromZero}
+use Rattle.cts_model.specs.timing.Constraints.{AreSmallConstraints, Satisfies}
+use Rattle.cts_model.specs.timing.Schedules.{arrival_of, AreFromZero}
 use Rattle.schedule.specs.Gains.{AdmitsGains}
 use Rattle.schedule.specs.declared.gain.Gains.{Gains}
 

@@ -19,8 +19,8 @@ pub struct Gains {
 
 impl Gains {
     ghost use Rattle.std.specs.Prelude.{◌≡◌, ◌^◌};
-    ghost use Rattle.cts_model.specs.Points.{IsBelow};
-    ghost use Rattle.cts_model.specs.Schedules.{IsSmallPeriod};
+    ghost use Rattle.cts_model.specs.placement.Points.{IsBelow};
+    ghost use Rattle.cts_model.specs.timing.Schedules.{IsSmallPeriod};
     ghost use Rattle.schedule.specs.Gains.{AreGainsOf, gain_of};
 
     /// Those at a period, over its denominator.

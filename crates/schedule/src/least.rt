@@ -1,9 +1,9 @@
 ghost use Rattle.std.specs.Prelude.{◌≡◌, ◌^◌, All, IfOk, length, nat_abs};
-ghost use Rattle.cts_model.specs.Constraints.{AreSmallConstraints};
-ghost use Rattle.cts_model.specs.Points.{IsBelow};
+ghost use Rattle.cts_model.specs.timing.Constraints.{AreSmallConstraints};
+ghost use Rattle.cts_model.specs.placement.Points.{IsBelow};
 ghost use Rattle.schedule.specs.Gains.{AdmitsGains, AreLeastArrivalsBy};
 ghost use Rattle.schedule.specs.Schedules.{AreWithinWeights, IsAdmittedBy, IsLeastScheduleOf};
-ghost use Rattle.cts_model.specs.Schedules.{IsSmallPeriod};
+ghost use Rattle.cts_model.specs.timing.Schedules.{IsSmallPeriod};
 
 use crate::gain::Gains;
 use crate::raising::{NO_PARENT, Raising};

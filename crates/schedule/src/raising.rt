@@ -1,7 +1,7 @@
 ghost use Rattle.std.specs.Prelude.{◌≡◌, ◌<◌, ◌^◌, ℕ, All, IfSome, length, slice_index_or};
 ghost use Rattle.cts_model.specs.declared.constraint.Constraint.{Constraint};
-ghost use Rattle.cts_model.specs.Constraints.{IsSmallConstraint};
-ghost use Rattle.cts_model.specs.Points.{IsBelow};
+ghost use Rattle.cts_model.specs.timing.Constraints.{IsSmallConstraint};
+ghost use Rattle.cts_model.specs.placement.Points.{IsBelow};
 ghost use Rattle.schedule.specs.Rises.{CanRaise, IsLeastAt, IsRelaxed, IsRisen, IsSweep};
 ghost use Rattle.schedule.specs.Rooms.{AreAsLong};
 

@@ -1,9 +1,9 @@
 ghost use Rattle.std.specs.Prelude.{◌≡◌, ◌≤◌, ◌↔◌, ℕ, Contains, IfOk, IsTrue, length, nat_abs};
-ghost use Rattle.cts_model.specs.Constraints.{AreSmallConstraints, IsSmallConstraint};
-ghost use Rattle.cts_model.specs.Schedules.{AreFromZero};
+ghost use Rattle.cts_model.specs.timing.Constraints.{AreSmallConstraints, IsSmallConstraint};
+ghost use Rattle.cts_model.specs.timing.Schedules.{AreFromZero};
 ghost use Rattle.schedule.specs.Schedules.{IsAdmittedBy, IsLeastScheduleOf};
-ghost use Rattle.cts_model.specs.Schedules.{IsSmallPeriod, arrival_of};
-ghost use Rattle.cts_model.specs.Leads.{EachLead, IsTight, depth_of, lead_at};
+ghost use Rattle.cts_model.specs.timing.Schedules.{IsSmallPeriod, arrival_of};
+ghost use Rattle.cts_model.specs.timing.Leads.{EachLead, IsTight, depth_of, lead_at};
 
 use crate::gain::Gains;
 use crate::reach::Reach;

@@ -8,9 +8,9 @@ use Rattle.std.proofs.Math.Logic.{∥∥₁_elim, ∥∥₁_map, ∥∥₁_prop}
 use Rattle.std.proofs.Props.{props}
 use Rattle.std.specs.Int.{w128, int_max}
 use Rattle.cts_model.specs.declared.place.Sink.{Sink}
-use Rattle.cts_model.specs.Points.{IsBelow, IsMultipleOf}
-use Rattle.cts_model.specs.Regions.{IsReach, IsUnion}
-use Rattle.cts_model.specs.Sinks.{IsTreeSink}
+use Rattle.cts_model.specs.placement.Points.{IsBelow, IsMultipleOf}
+use Rattle.cts_model.specs.tree.Regions.{IsReach, IsUnion}
+use Rattle.cts_model.specs.tree.Sinks.{IsTreeSink}
 use Rattle.tilted_rect.specs.Clusters.{IsReachAndRegion, HasTreeSinks}
 use Rattle.tilted_rect.specs.ClusterSets.{IsCluster}
 use Rattle.tilted_rect.specs.Corners.{bound}

@@ -5,7 +5,7 @@ use Rattle.std.proofs.lemmas.Int.{ints, clamps, by_lt_z}
 use Rattle.std.proofs.lemmas.List.Elements.{Contains-append_left, Contains-append_right, Contains-append_cases}
 use Rattle.std.specs.Int.{int_max, int_min}
 use Rattle.cts_model.specs.declared.place.Sink.{Sink}
-use Rattle.cts_model.specs.Regions.{IsUnion}
+use Rattle.cts_model.specs.tree.Regions.{IsUnion}
 use Rattle.tilted_rect.specs.Extremes.{IsGreatest, IsLeastOf, u_above, u_below, v_above, v_below, Extremes, IsExtremes, joined}
 
 -- ---- sets of sinks

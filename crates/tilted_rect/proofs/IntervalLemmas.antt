@@ -2,7 +2,7 @@
 use Rattle.std.proofs.Common.{◌≡◌, ℤ, pos, ◌+ℤ◌, ◌-ℤ◌, ◌≤ℤ◌, ◌<ℤ◌, arith}
 use Rattle.std.proofs.lemmas.Int.{ints, clamps}
 use Rattle.std.specs.Int.{int_max, int_min}
-use Rattle.cts_model.specs.Points.{apart}
+use Rattle.cts_model.specs.placement.Points.{apart}
 use Rattle.tilted_rect.specs.Intervals.{between, clamped}
 
 -- a number clamped into an interval is in it

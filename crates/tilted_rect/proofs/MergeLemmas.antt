@@ -4,8 +4,8 @@ use Rattle.std.specs.List.{Contains}
 use Rattle.std.proofs.lemmas.Int.{ints, clamps, by_lt_z}
 use Rattle.std.specs.Int.{int_max, int_min}
 use Rattle.cts_model.specs.declared.place.Sink.{Sink}
-use Rattle.cts_model.specs.Points.{apart}
-use Rattle.cts_model.specs.Regions.{span, IsGreatestSpan, IsReach, IsUnion}
+use Rattle.cts_model.specs.placement.Points.{apart}
+use Rattle.cts_model.specs.tree.Regions.{span, IsGreatestSpan, IsReach, IsUnion}
 use Rattle.tilted_rect.specs.Extremes.{u_above, u_below, v_above, v_below, Extremes, IsExtremes, spread, joined, joined_twice, HasExtremeSides, IsRegion, IsGrown, IsMeeting}
 use Rattle.tilted_rect.specs.Intervals.{between}
 use Rattle.tilted_rect.specs.Rects.{HasSides, gap_of}

@@ -3,7 +3,7 @@ use Rattle.std.proofs.Common.{◌≡◌, ℕ, true, false, cond, int_lt, ℤ, po
 use Rattle.std.proofs.lemmas.Int.{ints}
 use Rattle.std.specs.Int.{int_max, int_min}
 use Rattle.cts_model.specs.declared.place.Uv.{Uv}
-use Rattle.cts_model.specs.Points.{IsMultipleOf, apart, rotated_distance, scaled}
+use Rattle.cts_model.specs.placement.Points.{IsMultipleOf, apart, rotated_distance, scaled}
 use Rattle.tilted_rect.specs.declared.rect.Rect.{Rect}
 use Rattle.tilted_rect.specs.Corners.{IsSide, IsRect}
 use Rattle.tilted_rect.specs.Intervals.{between, clamped}

@@ -6,8 +6,8 @@ use Rattle.std.proofs.lemmas.List.Elements.{Contains-append_right}
 use Rattle.std.specs.Int.{int_max}
 use Rattle.cts_model.specs.declared.place.Sink.{Sink}
 use Rattle.cts_model.specs.declared.place.Uv.{Uv}
-use Rattle.cts_model.specs.Points.{apart, scaled, rotated_distance}
-use Rattle.cts_model.specs.Regions.{span, IsReach, InRegion, MeetTwoByTwo}
+use Rattle.cts_model.specs.placement.Points.{apart, scaled, rotated_distance}
+use Rattle.cts_model.specs.tree.Regions.{span, IsReach, InRegion, MeetTwoByTwo}
 use Rattle.tilted_rect.specs.Extremes.{Extremes, IsExtremes, spread, IsBetween, HasExtremeSides, IsRegion}
 use Rattle.tilted_rect.specs.Intervals.{clamped}
 use Rattle.tilted_rect.specs.Rects.{Holds, IsNear}

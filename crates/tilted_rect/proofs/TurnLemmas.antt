@@ -2,7 +2,7 @@
 use Rattle.std.proofs.Common.{◌≡◌, ◌+ℤ◌, ◌-ℤ◌}
 use Rattle.cts_model.specs.declared.place.Point.{Point}
 use Rattle.cts_model.specs.declared.place.Uv.{Uv}
-use Rattle.cts_model.specs.Points.{rotated}
+use Rattle.cts_model.specs.placement.Points.{rotated}
 
 pub same_uv : {a b : Uv} → a.u ≡ b.u → a.v ≡ b.v → a ≡ b
 same_uv u v = λ i. record { u = u i; v = v i }

@@ -2,8 +2,8 @@
 -- reach. Boese and Kahng 1992; Chao and others 1992.
 use Rattle.std.specs.Prelude.{List, All, ℤ, ◌+ℤ◌}
 use Rattle.cts_model.specs.declared.place.Sink.{Sink}
-use Rattle.cts_model.specs.Regions.{IsReach}
-use Rattle.cts_model.specs.Sinks.{IsTreeSink}
+use Rattle.cts_model.specs.tree.Regions.{IsReach}
+use Rattle.cts_model.specs.tree.Sinks.{IsTreeSink}
 use Rattle.tilted_rect.specs.Extremes.{IsRegion}
 use Rattle.tilted_rect.specs.declared.rect.Rect.{Rect}
 

@@ -4,8 +4,8 @@ use Rattle.std.specs.Prelude.{◌≡◌, ◌↔◌, ℕ, List, Contains, ℤ, po
 use Rattle.std.specs.Int.{int_max, int_min}
 use Rattle.cts_model.specs.declared.place.Sink.{Sink}
 use Rattle.cts_model.specs.declared.place.Uv.{Uv}
-use Rattle.cts_model.specs.Points.{IsMultipleOf, IsUvMultipleOf}
-use Rattle.cts_model.specs.Regions.{InRegion}
+use Rattle.cts_model.specs.placement.Points.{IsMultipleOf, IsUvMultipleOf}
+use Rattle.cts_model.specs.tree.Regions.{InRegion}
 use Rattle.tilted_rect.specs.Rects.{Holds, HasSides}
 use Rattle.tilted_rect.specs.declared.rect.Rect.{Rect}
 

@@ -3,8 +3,8 @@
 use Rattle.std.specs.Prelude.{◌≡◌, ◌↔◌, ℕ, List, [], ◌∷◌, ◌++◌, Contains, ℤ, pos, ◌+ℤ◌, ◌-ℤ◌, ◌*ℤ◌, ◌≤ℤ◌, ◌<ℤ◌}
 use Rattle.cts_model.specs.declared.place.Sink.{Sink}
 use Rattle.cts_model.specs.declared.place.Uv.{Uv}
-use Rattle.cts_model.specs.Points.{IsMultipleOf}
-use Rattle.cts_model.specs.Regions.{span, IsGreatestSpan, IsReach, InRegion, MeetTwoByTwo, IsUnion}
+use Rattle.cts_model.specs.placement.Points.{IsMultipleOf}
+use Rattle.cts_model.specs.tree.Regions.{span, IsGreatestSpan, IsReach, InRegion, MeetTwoByTwo, IsUnion}
 use Rattle.tilted_rect.specs.Rects.{IsNear, HasSides, gap_of}
 use Rattle.tilted_rect.specs.Extremes.{u_above, u_below, v_above, v_below, Extremes, IsExtremes, spread, joined, joined_twice, IsBetween, HasExtremeSides, IsRegion, IsGrown, IsMeeting, AreMultiplesOf, AreSidesMultiples}
 use Rattle.tilted_rect.specs.declared.rect.Rect.{Rect}

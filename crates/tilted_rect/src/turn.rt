@@ -1,5 +1,5 @@
 ghost use Rattle.std.specs.Prelude.{◌≡◌, ◌^◌, pos, ◌+ℤ◌};
-ghost use Rattle.cts_model.specs.Points.{IsMultipleOf, IsPointBelow, IsUvBelow, IsUvMultipleOf, IsPointMultipleOf, distance, rotated, rotated_distance};
+ghost use Rattle.cts_model.specs.placement.Points.{IsMultipleOf, IsPointBelow, IsUvBelow, IsUvMultipleOf, IsPointMultipleOf, distance, rotated, rotated_distance};
 ghost use Rattle.cts_model.specs.declared.place.Point.{Point};
 
 use cts_model::{Point, Uv, half};

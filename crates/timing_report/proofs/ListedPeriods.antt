@@ -3,7 +3,7 @@ use Rattle.std.proofs.Common.{ℕ, ◌≡◌, ◌<◌, List, length, get_or, All
 use Rattle.std.proofs.lemmas.Int.{ints}
 use Rattle.cts_model.specs.declared.tech.Tech.{Tech}
 use Rattle.cts_model.specs.declared.timing.PairDelay.{PairDelay}
-use Rattle.cts_model.specs.PairLists.{IsSmallPair}
+use Rattle.cts_model.specs.timing.PairLists.{IsSmallPair}
 use Rattle.timing_report.specs.ListedPairs.{IsMostDelayed, IsEnoughForAll, IsFloorForAll, IsMostNeeded}
 
 -- a listed pair has small delays where all have

@@ -6,10 +6,10 @@ use Rattle.cts_model.specs.declared.tech.Tech.{Tech}
 use Rattle.cts_model.specs.declared.timing.PairDelay.{PairDelay}
 use Rattle.cts_model.specs.declared.timing.ZeroSkew.{ZeroSkew}
 use Rattle.cts_model.specs.declared.timing.ZeroSkew.TheVariants.{Fails, Floor, Setup}
-use Rattle.cts_model.specs.Paths.{IsPath}
-use Rattle.cts_model.specs.Delays.{least_delay, greatest_delay}
-use Rattle.cts_model.specs.EqualArrivals.{IsPairDelay, ComesBefore, IsFirstPair, FailsHold, NeedsPeriod, IsEnough, IsZeroSkew}
-use Rattle.cts_model.specs.PairLists.{ListsPairs, IsSmallPair, HasSmallDelays}
+use Rattle.cts_model.specs.netlist.Paths.{IsPath}
+use Rattle.cts_model.specs.timing.Delays.{least_delay, greatest_delay}
+use Rattle.cts_model.specs.timing.EqualArrivals.{IsPairDelay, ComesBefore, IsFirstPair, FailsHold, NeedsPeriod, IsEnough, IsZeroSkew}
+use Rattle.cts_model.specs.timing.PairLists.{ListsPairs, IsSmallPair, HasSmallDelays}
 use Rattle.cts_model.proofs.PairOrder.{earlier_place}
 use Rattle.timing_report.specs.ListedPairs.{IsFirstOf, IsTooQuick, Needs, IsEnoughForAll, IsZeroSkewOf}
 use Rattle.timing_report.proofs.ListedPeriods.{small_at}

@@ -4,8 +4,8 @@ use Rattle.std.specs.Prelude.{◌≡◌, ℕ, ℤ, ◌+ℤ◌, ◌-ℤ◌, ◌*�
 use Rattle.cts_base.specs.declared.fraction.Fraction.{Fraction}
 use Rattle.cts_model.specs.declared.tech.Tech.{Tech}
 use Rattle.cts_model.specs.declared.schedule.Slack.{Slack}
-use Rattle.cts_model.specs.Schedules.{arrival_of}
-use Rattle.cts_model.specs.Slacks.{AreSmallSlacks}
+use Rattle.cts_model.specs.timing.Schedules.{arrival_of}
+use Rattle.cts_model.specs.timing.Slacks.{AreSmallSlacks}
 use Rattle.path_delays.specs.declared.window.Window.{Window}
 
 -- from the latest time on to the next edge, less the setup time

@@ -1,7 +1,7 @@
 ghost use Rattle.std.specs.Prelude.{◌≡◌, int_lt, if◌then◌else◌, length, All, MatchOption, find};
 ghost use Rattle.cts_model.specs.declared.circuit.Circuit.{Circuit};
-ghost use Rattle.cts_model.specs.EqualArrivals.{IsZeroSkew};
-ghost use Rattle.cts_model.specs.PairLists.{ListsPairs, IsSmallPair, HasSmallDelays};
+ghost use Rattle.cts_model.specs.timing.EqualArrivals.{IsZeroSkew};
+ghost use Rattle.cts_model.specs.timing.PairLists.{ListsPairs, IsSmallPair, HasSmallDelays};
 ghost use Rattle.timing_report.specs.ListedPairs.{IsMostDelayed, IsZeroSkewOf};
 
 use cts_base::Listed;

@@ -1,5 +1,5 @@
 ghost use Rattle.std.specs.Prelude.{All, IfOk};
-ghost use Rattle.cts_model.specs.PairLists.{IsSmallPair};
+ghost use Rattle.cts_model.specs.timing.PairLists.{IsSmallPair};
 
 use crate::same::expect_same;
 use constraints::constraints_of;

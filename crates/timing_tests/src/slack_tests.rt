@@ -1,6 +1,6 @@
 ghost use Rattle.std.specs.Prelude.{◌≡◌, ◌^◌, All, IfOk, length};
-ghost use Rattle.cts_model.specs.Points.{IsBelow};
-ghost use Rattle.cts_model.specs.Schedules.{IsSmallPeriod};
+ghost use Rattle.cts_model.specs.placement.Points.{IsBelow};
+ghost use Rattle.cts_model.specs.timing.Schedules.{IsSmallPeriod};
 
 use crate::circuits::{RING, Registers, S27, S27_GATES, TO_OUTPUT, circuit_of, table_of};
 use crate::same::expect_same;

@@ -11,8 +11,8 @@ use Rattle.std.proofs.Math.ListN.{get_or-append}
 use Rattle.std.proofs.Math.Seq.{get_or-append_seam, take-append_seam}
 use Rattle.cts_model.specs.declared.place.Sink.{Sink}
 use Rattle.cts_model.specs.declared.tree.Merge.{Merge}
-use Rattle.cts_model.specs.GreedyMerges.{IsCheaper, IsDoubleCost, IsCheapest, IsGreedy}
-use Rattle.cts_model.specs.Topologies.{IsLive, IsMerge, sinks_below}
+use Rattle.cts_model.specs.tree.GreedyMerges.{IsCheaper, IsDoubleCost, IsCheapest, IsGreedy}
+use Rattle.cts_model.specs.tree.Topologies.{IsLive, IsMerge, sinks_below}
 use Rattle.cts_model.proofs.TopologyLemmas.{sinks_below-sink}
 use Rattle.slab.specs.Slab.{Slab, slab_len}
 use Rattle.tilted_rect.specs.declared.cluster.Cluster.{Cluster}

@@ -9,8 +9,8 @@ use Rattle.std.proofs.lemmas.List.Elements.{All-append, All-cons, All-nil}
 use Rattle.std.proofs.lemmas.Option.{slice_get-get_or}
 use Rattle.cts_model.specs.declared.place.Sink.{Sink}
 use Rattle.cts_model.specs.declared.tree.Merge.{Merge}
-use Rattle.cts_model.specs.Regions.{IsUnion}
-use Rattle.cts_model.specs.Topologies.{IsLive, sinks_below}
+use Rattle.cts_model.specs.tree.Regions.{IsUnion}
+use Rattle.cts_model.specs.tree.Topologies.{IsLive, sinks_below}
 use Rattle.cts_model.proofs.TopologyLemmas.{EachMerge, first_made, second_made, sinks_below-append, sinks_below-push}
 use Rattle.slab.specs.Slab.{Slab, get, Updates}
 use Rattle.tilted_rect.specs.declared.cluster.Cluster.{Cluster}

@@ -3,8 +3,8 @@ use Rattle.std.specs.Prelude.{◌≡◌, ◌↔◌, ◌≢◌, ℕ, ◌<◌, Boo
 use Rattle.std.specs.Option.{option_map_or}
 use Rattle.cts_model.specs.declared.place.Sink.{Sink}
 use Rattle.cts_model.specs.declared.tree.Merge.{Merge}
-use Rattle.cts_model.specs.GreedyMerges.{IsCheapest}
-use Rattle.cts_model.specs.Topologies.{IsLive, sinks_below}
+use Rattle.cts_model.specs.tree.GreedyMerges.{IsCheapest}
+use Rattle.cts_model.specs.tree.Topologies.{IsLive, sinks_below}
 use Rattle.slab.specs.Slab.{Slab, get, slab_len, with_value}
 use Rattle.tilted_rect.specs.declared.cluster.Cluster.{Cluster}
 use Rattle.tilted_rect.specs.ClusterSets.{IsCluster, cost_of}

@@ -1,6 +1,6 @@
 -- Pairs of clusters by how cheap their merging is.
 use Rattle.std.specs.Prelude.{◌≡◌, ◌⊎◌, Option, Some, IsSomeAnd}
-use Rattle.cts_model.specs.GreedyMerges.{IsCheaper}
+use Rattle.cts_model.specs.tree.GreedyMerges.{IsCheaper}
 use Rattle.topology.specs.declared.pair.Pair.{Pair}
 
 -- the one pair is to be merged before the other

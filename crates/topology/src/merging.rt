@@ -1,6 +1,6 @@
 ghost use Rattle.std.specs.Prelude.{◌≡◌, [], length, IfOk};
-ghost use Rattle.cts_model.specs.GreedyMerges.{IsGreedy};
-ghost use Rattle.cts_model.specs.Sinks.{AreTreeSinks};
+ghost use Rattle.cts_model.specs.tree.GreedyMerges.{IsGreedy};
+ghost use Rattle.cts_model.specs.tree.Sinks.{AreTreeSinks};
 ghost use Rattle.slab.specs.Slab.{slab_len};
 ghost use Rattle.topology.specs.LiveClusters.{AreBelow, AreLive, KeepPairs};
 

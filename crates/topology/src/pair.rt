@@ -1,5 +1,5 @@
 ghost use Rattle.std.specs.Prelude.{◌↔◌, IsTrue};
-ghost use Rattle.cts_model.specs.GreedyMerges.{IsCheaper, IsLower};
+ghost use Rattle.cts_model.specs.tree.GreedyMerges.{IsCheaper, IsLower};
 ghost use Rattle.topology.specs.Pairs.{ComesFirst, IsCheaperOf};
 
 use cts_model::Merge;

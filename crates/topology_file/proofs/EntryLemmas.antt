@@ -5,7 +5,7 @@ use Rattle.std.proofs.lemmas.Bool.Decides.{nat_tests}
 use Rattle.std.proofs.lemmas.List.{map-append, map_push}
 use Rattle.std.proofs.lemmas.List.Elements.{filter-append}
 use Rattle.std.proofs.lemmas.Option.{same_Some}
-use Rattle.cts_model.specs.Topologies.{IsMerge}
+use Rattle.cts_model.specs.tree.Topologies.{IsMerge}
 use Rattle.cts_model.proofs.TopologyLemmas.{EachMerge, EachMerge-push}
 use Rattle.topology_file.specs.Entries.{AreEntries, IsEntry, entries_in, has_words, merge_of, merges_of, words_in}
 use Rattle.topology_file.specs.Flaws.{AreFlawless}

@@ -1,7 +1,7 @@
 -- What is wrong with a line of a topology file, after lines in which nothing is.
 use Rattle.std.specs.Prelude.{◌≡◌, ◌<◌, ◌≤◌, ◌+◌, ◌-◌, ℕ, IsTrue, List, length, take, Some, slice_get}
 use Rattle.cts_model.specs.declared.tree.Merge.{Merge}
-use Rattle.cts_model.specs.Topologies.{IsMerge}
+use Rattle.cts_model.specs.tree.Topologies.{IsMerge}
 use Rattle.topology_file.specs.Entries.{AreEntries, IsEntry, entries_in, has_words, merge_of, merges_of, words_in}
 
 -- each entry makes the node that is due of two open ones, and no entry is too many

@@ -1,7 +1,7 @@
 -- Accepted topology files, and the topology that each denotes.
 use Rattle.std.specs.Prelude.{◌≡◌, ℕ, List}
 use Rattle.cts_model.specs.declared.tree.Topology.{Topology}
-use Rattle.cts_model.specs.Topologies.{IsTopology}
+use Rattle.cts_model.specs.tree.Topologies.{IsTopology}
 use Rattle.topology_file.specs.Entries.{AreEntries, entries_of, merges_of}
 
 -- a text whose entries join so many sinks

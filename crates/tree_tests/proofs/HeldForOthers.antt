@@ -7,10 +7,10 @@ use Rattle.cts_model.specs.declared.place.Sink.{Sink}
 use Rattle.cts_model.specs.declared.tree.Merge.{Merge}
 use Rattle.cts_model.specs.declared.tree.Show.{Show}
 use Rattle.cts_model.specs.declared.tree.Show.TheVariants as shows
-use Rattle.cts_model.specs.Regions.{IsReach}
-use Rattle.cts_model.specs.ShownReaches.{ShowsMerge}
-use Rattle.cts_model.specs.Sinks.{AreTreeSinks, IsTreeSink}
-use Rattle.cts_model.specs.Topologies.{IsTopology, numbers_below, sinks_below}
+use Rattle.cts_model.specs.tree.Regions.{IsReach}
+use Rattle.cts_model.specs.tree.ShownReaches.{ShowsMerge}
+use Rattle.cts_model.specs.tree.Sinks.{AreTreeSinks, IsTreeSink}
+use Rattle.cts_model.specs.tree.Topologies.{IsTopology, numbers_below, sinks_below}
 use Rattle.cts_model.proofs.TopologyLemmas.{numbers_below-merge, numbers_below-sink, some_and}
 use Rattle.tilted_rect.specs.Extremes.{IsRegion}
 use Rattle.merge_up.specs.Merging.{HoldsMerge, IsRenewed, IsSinkSet}

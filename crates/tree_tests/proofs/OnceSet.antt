@@ -7,11 +7,11 @@ use Rattle.cts_model.specs.declared.place.Sink.{Sink}
 use Rattle.cts_model.specs.declared.tree.Merge.{Merge}
 use Rattle.cts_model.specs.declared.tree.Show.{Show}
 use Rattle.cts_model.specs.declared.tree.Show.TheVariants as shows
-use Rattle.cts_model.specs.Points.{IsBelow, IsMultipleOf}
-use Rattle.cts_model.specs.Regions.{IsReach, span}
-use Rattle.cts_model.specs.ShownReaches.{ShowsMerge}
-use Rattle.cts_model.specs.Sinks.{AreTreeSinks, IsTreeSink}
-use Rattle.cts_model.specs.Topologies.{IsTopology, numbers_below}
+use Rattle.cts_model.specs.placement.Points.{IsBelow, IsMultipleOf}
+use Rattle.cts_model.specs.tree.Regions.{IsReach, span}
+use Rattle.cts_model.specs.tree.ShownReaches.{ShowsMerge}
+use Rattle.cts_model.specs.tree.Sinks.{AreTreeSinks, IsTreeSink}
+use Rattle.cts_model.specs.tree.Topologies.{IsTopology, numbers_below}
 use Rattle.cts_model.proofs.TopologyLemmas.{numbers_below-sink}
 use Rattle.tilted_rect.specs.Extremes.{Extremes, IsExtremes, IsRegion, u_above, u_below, v_above, v_below}
 use Rattle.tilted_rect.proofs.RegionLemmas.{region_from_sides, sides_from_region}

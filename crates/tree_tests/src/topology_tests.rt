@@ -1,4 +1,4 @@
-ghost use Rattle.cts_model.specs.Sinks.{IsTreeSink};
+ghost use Rattle.cts_model.specs.tree.Sinks.{IsTreeSink};
 
 use crate::same::expect_same;
 use cts_model::{Merge, Sink, Uv};

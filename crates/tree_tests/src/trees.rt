@@ -1,7 +1,7 @@
 ghost use Rattle.std.specs.Prelude.{◌≡◌, ◌+◌, ◌<◌, ◌^◌, length, IfOk, IsTrue};
-ghost use Rattle.cts_model.specs.Points.{IsBelow, IsMultipleOf};
-ghost use Rattle.cts_model.specs.Sinks.{AreTreeSinks, IsTreeSink};
-ghost use Rattle.cts_model.specs.Topologies.{IsLive, IsMerge, IsTopology};
+ghost use Rattle.cts_model.specs.placement.Points.{IsBelow, IsMultipleOf};
+ghost use Rattle.cts_model.specs.tree.Sinks.{AreTreeSinks, IsTreeSink};
+ghost use Rattle.cts_model.specs.tree.Topologies.{IsLive, IsMerge, IsTopology};
 
 use cts_base::Listed;
 use cts_model::{Merge, Sink, Topology, Uv};

@@ -2,7 +2,7 @@
 use Rattle.std.proofs.Common.{◌≡◌, ◌^◌, ℤ, pos, ◌+ℤ◌, ◌-ℤ◌, ◌≤ℤ◌, ◌<ℤ◌, FitsSigned, sym, subst, arith}
 use Rattle.std.proofs.lemmas.Int.{ints}
 use Rattle.std.specs.Int.{w128}
-use Rattle.cts_model.specs.Points.{IsBelow, IsMultipleOf, distance}
+use Rattle.cts_model.specs.placement.Points.{IsBelow, IsMultipleOf, distance}
 use Rattle.cts_model.specs.declared.place.Point.{Point}
 use Rattle.wire_detours.proofs.PieceLemmas.{apart_least}
 use mir.Val.{to_z, of_z}

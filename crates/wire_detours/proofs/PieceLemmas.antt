@@ -3,8 +3,8 @@ use Rattle.std.proofs.Common.{◌≡◌, ◌≢◌, ℕ, ◌+◌, ◌<◌, ◌�
 use Rattle.std.proofs.Math.Nat.{mul-add, mul-one, mul-le-mul_left}
 use Rattle.std.proofs.lemmas.Int.{ints, clamps, by_lt_z}
 use Rattle.cts_model.specs.declared.place.Point.{Point}
-use Rattle.cts_model.specs.Points.{apart}
-use Rattle.cts_model.specs.DrawnWires.{Piece, IsBetween, IsOn, AreApart}
+use Rattle.cts_model.specs.placement.Points.{apart}
+use Rattle.cts_model.specs.tree.DrawnWires.{Piece, IsBetween, IsOn, AreApart}
 use borrow.Author.Differences.{up, down}
 
 -- points are the same where their coordinates are

@@ -3,9 +3,9 @@ use Rattle.std.proofs.Common.{◌≡◌, ◌≢◌, ◌⊎◌, ℕ, zero, suc, �
 use Rattle.std.proofs.lemmas.Int.{ints, by_lt_z}
 use Rattle.std.proofs.lemmas.List.Elements.{All-nil, All-cons}
 use Rattle.cts_model.specs.declared.place.Point.{Point}
-use Rattle.cts_model.specs.Points.{distance}
+use Rattle.cts_model.specs.placement.Points.{distance}
 use Rattle.cts_model.specs.declared.tree.Wire.{Wire}
-use Rattle.cts_model.specs.DrawnWires.{ArePadded, IsDrawn}
+use Rattle.cts_model.specs.tree.DrawnWires.{ArePadded, IsDrawn}
 use Rattle.wire_detours.specs.WirePoints.{ArePoints, HasDetour, origin, shown, bent, under, over, beside, round}
 use Rattle.wire_detours.proofs.PieceLemmas.{apart_least, apart_more, apart_same}
 use Rattle.wire_detours.proofs.DetourLemmas.{distance_least}

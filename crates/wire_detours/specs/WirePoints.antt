@@ -3,7 +3,7 @@
 -- and others 1992.
 use Rattle.std.specs.Prelude.{◌≡◌, ◌≢◌, ◌⊎◌, ℕ, ◌-◌, List, [], ◌∷◌, ◌++◌, replicate, ℤ, pos, ◌+ℤ◌, ◌-ℤ◌, ◌<ℤ◌, ◌≤ℤ◌}
 use Rattle.cts_model.specs.declared.place.Point.{Point}
-use Rattle.cts_model.specs.Points.{distance}
+use Rattle.cts_model.specs.placement.Points.{distance}
 use Rattle.cts_model.specs.declared.tree.Wire.{Wire}
 
 -- the point with these coordinates

@@ -1,9 +1,9 @@
 //! What the files of a command tell: a circuit and its delays.
 
 ghost use Rattle.std.specs.Prelude.{◌≡◌, ◌≢◌, ◌↔◌, ℕ, IsTrue, List, [], Some, IfOk, IfErr};
-ghost use Rattle.cts_model.specs.Circuits.{has_host};
-ghost use Rattle.cts_model.specs.Paths.{IsLoop};
-ghost use Rattle.cts_model.specs.Problems.{GivesUsedKinds};
+ghost use Rattle.cts_model.specs.netlist.Circuits.{has_host};
+ghost use Rattle.cts_model.specs.netlist.Paths.{IsLoop};
+ghost use Rattle.cts_model.specs.tree.Problems.{GivesUsedKinds};
 ghost use Rattle.command_line.specs.declared.command.Command.{Command};
 ghost use Rattle.cts_program.specs.Files.{circuit_files};
 ghost use Rattle.cts_program.specs.Run.{Stops};

@@ -1,9 +1,9 @@
 //! Reading a command's files.
 
 ghost use Rattle.std.specs.Prelude.{◌≡◌, ◌≢◌, ◌≤◌, ◌↔◌, ℕ, IsTrue, List, [], IfOk, IfErr};
-ghost use Rattle.cts_model.specs.Circuits.{has_host};
-ghost use Rattle.cts_model.specs.Problems.{GivesUsedKinds};
-ghost use Rattle.cts_model.specs.Hosts.{HasNoHost};
+ghost use Rattle.cts_model.specs.netlist.Circuits.{has_host};
+ghost use Rattle.cts_model.specs.tree.Problems.{GivesUsedKinds};
+ghost use Rattle.cts_model.specs.netlist.Hosts.{HasNoHost};
 ghost use Rattle.cts_program.specs.Checks.{RefusesReport};
 ghost use Rattle.cts_program.specs.Files.{IsShortFile};
 ghost use Rattle.cts_program.specs.MoveFiles.{RefusesMovesFile};

@@ -1,5 +1,5 @@
 ghost use Rattle.std.specs.Prelude.{◌≡◌, ◌<◌, ◌↔◌, IsTrue, length};
-ghost use Rattle.cts_model.specs.Paths.{register_name};
+ghost use Rattle.cts_model.specs.netlist.Paths.{register_name};
 ghost use Rattle.report_text.specs.declared.field.Field.TheVariants.{From, Named, Register, Signal};
 ghost use Rattle.report_text.specs.Fields.{WordHasFlaw};
 ghost use Rattle.report_text.specs.NamesOf.{AreNamesOf};

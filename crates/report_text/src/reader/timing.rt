@@ -1,7 +1,7 @@
 //! The lines of a report's timing, read by the forms that are due.
 
 ghost use Rattle.std.specs.Prelude.{◌<◌, IfOk, IfErr};
-ghost use Rattle.cts_model.specs.PrintedLines.{count_line};
+ghost use Rattle.cts_model.specs.text.PrintedLines.{count_line};
 ghost use Rattle.report_text.specs.Keywords.{keyword_text};
 ghost use Rattle.report_text.specs.declared.form.Form.TheVariants as form;
 ghost use Rattle.report_text.specs.NamesOf.{AreNamesOf};

@@ -1,5 +1,5 @@
 use Rattle.std.proofs.Common.{◌≡◌, is_some, length}
-use Rattle.cts_model.specs.Statements.{more_inputs_of}
+use Rattle.cts_model.specs.netlist.Statements.{more_inputs_of}
 use Rattle.bench_reader.proofs.input_list.goes_on.Given as goal
 
 abbrev pub invariant-loop-tokens : goal.invariant-loop-tokens

@@ -1,7 +1,7 @@
 -- The starts are wires down over the steps.
 use Rattle.std.proofs.Common.{subst, arith}
-use Rattle.cts_model.specs.Embeddings.{AreWiresDown}
-use Rattle.cts_model.specs.ReportLines.{number_at}
+use Rattle.cts_model.specs.tree.Embeddings.{AreWiresDown}
+use Rattle.cts_model.specs.report.ReportLines.{number_at}
 use Rattle.cert_check.specs.SinkOrders.{AreSteps}
 use Rattle.cert_check.proofs.OrderLemmas.{placed_below}
 use Rattle.cert_check.proofs.below.sink_order.Goals as goal

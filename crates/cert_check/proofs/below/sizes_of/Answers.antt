@@ -2,8 +2,8 @@
 use Rattle.std.proofs.Common.{◌≡◌, ◌^◌, ◌+◌, ◌++◌, ◌∷◌, [], FitsSigned, to_z, of_z, sym, subst, ◌∙◌, ap, arith}
 use mir.Syntax.{w128}
 use Rattle.std.proofs.lemmas.Int.{ints, to_z-of_z}
-use Rattle.cts_model.specs.Points.{IsBelow}
-use Rattle.cts_model.specs.ReportLines.{number_at}
+use Rattle.cts_model.specs.placement.Points.{IsBelow}
+use Rattle.cts_model.specs.report.ReportLines.{number_at}
 use Rattle.cts_model.proofs.TopologyLemmas.{merge_at}
 use Rattle.cert_check.proofs.CountLemmas.{CountedTo, counted_all, counted_turn, first_count, first_read, kept_count, kept_sum, second_count, second_read}
 use Rattle.cert_check.proofs.below.sizes_of.Goals as goal

@@ -3,7 +3,7 @@ use Rattle.std.proofs.Common.{◌+◌, pos, sym, subst, arith}
 use Rattle.std.specs.Prelude.{slice_set}
 use mir.Syntax.{w128}
 use Rattle.std.proofs.lemmas.Int.{ints, to_z-of_z}
-use Rattle.cts_model.specs.ReportLines.{number_at}
+use Rattle.cts_model.specs.report.ReportLines.{number_at}
 use Rattle.cts_model.proofs.TopologyLemmas.{first_made, merge_at, merge_here}
 use Rattle.cert_check.proofs.CountLemmas.{SteppedTo, stepped_all, stepped_turn}
 use Rattle.cert_check.proofs.below.steps_of.Goals as goal

@@ -1,8 +1,8 @@
 use Rattle.std.proofs.Common.{length, refl, subst, sym, ◌∙◌, arith}
 use Rattle.std.proofs.lemmas.Result.{IfOk-weaker}
-use Rattle.cts_model.specs.Embeddings.{embedding_of}
-use Rattle.cts_model.specs.Shown.{sinks_in, source_in}
-use Rattle.cts_model.specs.Topologies.{IsTopology}
+use Rattle.cts_model.specs.tree.Embeddings.{embedding_of}
+use Rattle.cts_model.specs.report.Shown.{sinks_in, source_in}
+use Rattle.cts_model.specs.tree.Topologies.{IsTopology}
 use Rattle.cert_check.specs.Verdicts.{ReachesFound, TreeFound}
 use Rattle.cert_check.proofs.EmbeddingSteps.{length-sinks_in, shape_topology}
 use Rattle.cert_check.proofs.JudgedLemmas.{embedding_shape, tree_by_embedding, tree_by_reaches}

@@ -1,7 +1,7 @@
 -- One merge more.
 use Rattle.std.proofs.Common.{◌+◌, ◌-◌, length, sym, subst, arith}
-use Rattle.cts_model.specs.Embeddings.{AreWiresDown}
-use Rattle.cts_model.specs.ReportLines.{number_at}
+use Rattle.cts_model.specs.tree.Embeddings.{AreWiresDown}
+use Rattle.cts_model.specs.report.ReportLines.{number_at}
 use Rattle.cert_check.proofs.DownLemmas.{Handed, handed_all, handed_turn}
 use Rattle.cert_check.proofs.down.wires_down.Goals as goal
 

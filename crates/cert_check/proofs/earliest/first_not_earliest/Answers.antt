@@ -1,6 +1,6 @@
 -- The test of a register's lead says whether its constraint is one of the circuit.
 use Rattle.std.proofs.Common.{◌≡◌, false, true, rules, arith}
-use Rattle.cts_model.specs.Judgements.{IsEarliest}
+use Rattle.cts_model.specs.report.Judgements.{IsEarliest}
 use Rattle.cert_check.proofs.FirstPlaces.{denied, each_more}
 use Rattle.cert_check.proofs.LeadTests.{lead_given}
 use Rattle.cert_check.proofs.earliest.first_not_earliest.Goals as goal

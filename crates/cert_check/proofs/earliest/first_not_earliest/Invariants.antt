@@ -2,8 +2,8 @@
 use Rattle.std.proofs.Common.{map}
 use Rattle.cts_model.specs.declared.circuit.Circuit.{Circuit}
 use Rattle.cts_model.specs.declared.tech.Tech.{Tech}
-use Rattle.cts_model.specs.Judgements.{IsEarliest}
-use Rattle.cts_model.specs.Shown.{AtEach}
+use Rattle.cts_model.specs.report.Judgements.{IsEarliest}
+use Rattle.cts_model.specs.report.Shown.{AtEach}
 use Rattle.cert_check.specs.Earliest.{constraint_of}
 use Rattle.cert_check.specs.GivenConstraints.{AreOfCircuit}
 use Rattle.cert_check.proofs.earliest.first_not_earliest.Given as goal

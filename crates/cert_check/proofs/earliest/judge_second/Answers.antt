@@ -1,8 +1,8 @@
 -- What was found of the paths, and then of the leads.
 use Rattle.std.proofs.Common.{All, Some, None, length, map, subst, sym, ap, ◌∙◌}
-use Rattle.cts_model.specs.Judgements.{IsGivenPath}
-use Rattle.cts_model.specs.ReportBounds.{HasSmallWeight, IsBetweenRegisters}
-use Rattle.cts_model.specs.Shown.{cycle_of}
+use Rattle.cts_model.specs.report.Judgements.{IsGivenPath}
+use Rattle.cts_model.specs.report.ReportBounds.{HasSmallWeight, IsBetweenRegisters}
+use Rattle.cts_model.specs.report.Shown.{cycle_of}
 use Rattle.cert_check.specs.Earliest.{constraint_of}
 use Rattle.cert_check.specs.GivenConstraints.{AreOfCircuit}
 use Rattle.cert_check.specs.Judged.{FindsFirst}

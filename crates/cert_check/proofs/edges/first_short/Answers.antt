@@ -1,5 +1,5 @@
 use Rattle.std.proofs.Common.{◌≡◌, true, rules}
-use Rattle.cts_model.specs.Embeddings.{embedding_of}
+use Rattle.cts_model.specs.tree.Embeddings.{embedding_of}
 use Rattle.cert_check.specs.EmbeddingParts.{ReachesAt}
 use Rattle.cert_check.proofs.FirstPlaces.{each_more}
 use Rattle.cert_check.proofs.edges.first_short.Goals as goal

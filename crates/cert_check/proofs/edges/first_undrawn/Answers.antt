@@ -3,7 +3,7 @@ use mir.Syntax.{w128}
 use Rattle.std.proofs.lemmas.Bool.{false≢true}
 use Rattle.std.proofs.lemmas.Int.{ints}
 use Rattle.cts_model.specs.declared.tree.Wire.{Wire}
-use Rattle.cts_model.specs.Embeddings.{embedding_of}
+use Rattle.cts_model.specs.tree.Embeddings.{embedding_of}
 use Rattle.cert_check.specs.EmbeddingParts.{DrawnAt}
 use Rattle.cert_check.proofs.EdgeLemmas.{drawn_at}
 use Rattle.cert_check.proofs.FirstPlaces.{each_more}

@@ -1,5 +1,5 @@
-use Rattle.cts_model.specs.Embeddings.{embedding_of}
-use Rattle.cts_model.specs.Shown.{AtEach}
+use Rattle.cts_model.specs.tree.Embeddings.{embedding_of}
+use Rattle.cts_model.specs.report.Shown.{AtEach}
 use Rattle.cert_check.specs.EmbeddingParts.{DrawnAt}
 use Rattle.cert_check.proofs.edges.first_undrawn.Given as goal
 

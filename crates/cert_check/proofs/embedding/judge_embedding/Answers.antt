@@ -1,5 +1,5 @@
 use Rattle.std.proofs.Common.{◌≡◌, ◌+◌, length, subst, sym, ap, arith}
-use Rattle.cts_model.specs.Embeddings.{embedding_of}
+use Rattle.cts_model.specs.tree.Embeddings.{embedding_of}
 use Rattle.cert_check.specs.EmbeddingParts.{HasEdges}
 use Rattle.cert_check.proofs.EdgeLemmas.{has_edges}
 use Rattle.cert_check.proofs.EmbeddingSteps.{embedding_holds, length-sinks_in, shape_topology, too_short, tree_shape, wire_sum}

@@ -1,6 +1,6 @@
 -- The arrival isn't below 0.
 use Rattle.std.proofs.Common.{rules, pos, ◌≤ℤ◌}
-use Rattle.cts_model.specs.Schedules.{arrival_of}
+use Rattle.cts_model.specs.timing.Schedules.{arrival_of}
 use Rattle.cert_check.proofs.least.is_earliest.Goals as goal
 
 pub returns-then-arrival-ge0 : goal.returns-then-arrival-ge0

@@ -1,7 +1,7 @@
 -- The delays at a place are those of the constraint's pair.
 use Rattle.std.proofs.Common.{◌≡◌, ◌<◌, ◌∙◌, ℕ, All, Some, length, subst, sym}
 use Rattle.std.specs.Prelude.{slice_get}
-use Rattle.cts_model.specs.ReportBounds.{HasSmallWeight}
+use Rattle.cts_model.specs.report.ReportBounds.{HasSmallWeight}
 use Rattle.path_delays.specs.JoinedPairs.{AreDelaysBetween}
 use Rattle.cert_check.specs.GivenConstraints.{pair_of}
 use Rattle.cert_check.proofs.ConstraintTests.{joined_here, joined_small, pairs_among, tested_all, tested_next}

@@ -1,7 +1,7 @@
 -- What was found of the parts, one after the other.
 use Rattle.std.proofs.Common.{Some, None, length, subst}
-use Rattle.cts_model.specs.Judgements.{GivesPeriod, HoldsTogether, IsOfCircuit}
-use Rattle.cts_model.specs.Shown.{cycle_of}
+use Rattle.cts_model.specs.report.Judgements.{GivesPeriod, HoldsTogether, IsOfCircuit}
+use Rattle.cts_model.specs.report.Shown.{cycle_of}
 use Rattle.cert_check.specs.ComparedSlacks.{SparesTime}
 use Rattle.cert_check.specs.Judged.{FindsFirst}
 use Rattle.cert_check.proofs.FirstPlaces.{denied}

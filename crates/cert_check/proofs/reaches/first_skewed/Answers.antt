@@ -1,8 +1,8 @@
 -- Wires down are one.
 use Rattle.std.proofs.Common.{length, subst}
-use Rattle.cts_model.specs.Embeddings.{AreWiresDown, embedding_of}
-use Rattle.cts_model.specs.Judgements.{IsSkewed}
-use Rattle.cts_model.specs.ReportLines.{number_at}
+use Rattle.cts_model.specs.tree.Embeddings.{AreWiresDown, embedding_of}
+use Rattle.cts_model.specs.report.Judgements.{IsSkewed}
+use Rattle.cts_model.specs.report.ReportLines.{number_at}
 use Rattle.cert_check.specs.Judged.{FindsFirst}
 use Rattle.cert_check.specs.ReachParts.{IsLevel}
 use Rattle.cert_check.proofs.FirstPlaces.{finds_same}

@@ -1,6 +1,6 @@
 -- The registers so far are level with the first one.
-use Rattle.cts_model.specs.ReportLines.{number_at}
-use Rattle.cts_model.specs.Shown.{AtEach}
+use Rattle.cts_model.specs.report.ReportLines.{number_at}
+use Rattle.cts_model.specs.report.Shown.{AtEach}
 use Rattle.cert_check.specs.ReachParts.{IsLevel}
 use Rattle.cert_check.proofs.reaches.first_unlevel.Given as goal
 

@@ -1,8 +1,8 @@
 -- The reaches of the nodes so far are shown.
-use Rattle.cts_model.specs.Embeddings.{embedding_of}
-use Rattle.cts_model.specs.Judgements.{IsReachShown}
-use Rattle.cts_model.specs.ReportLines.{number_at}
-use Rattle.cts_model.specs.Shown.{AtEach}
+use Rattle.cts_model.specs.tree.Embeddings.{embedding_of}
+use Rattle.cts_model.specs.report.Judgements.{IsReachShown}
+use Rattle.cts_model.specs.report.ReportLines.{number_at}
+use Rattle.cts_model.specs.report.Shown.{AtEach}
 use Rattle.cert_check.proofs.reaches.first_unshown.Given as goal
 
 abbrev pub invariant-loop-node : goal.invariant-loop-node

@@ -1,8 +1,8 @@
 -- The three judgements in their order.
 use Rattle.std.proofs.Common.{◌^◌, ◌*◌, length, sym, subst}
 use Rattle.std.specs.List.{All}
-use Rattle.cts_model.specs.Points.{IsBelow, IsUvBelow}
-use Rattle.cts_model.specs.Shown.{source_in}
+use Rattle.cts_model.specs.placement.Points.{IsBelow, IsUvBelow}
+use Rattle.cts_model.specs.report.Shown.{source_in}
 use Rattle.cert_check.specs.Judged.{FindsFirst}
 use Rattle.cert_check.proofs.ReachLemmas.{Reached, Skewed, none_found, reach_found, parts_of, source_small, total_found, total_denoted}
 use Rattle.cert_check.proofs.reaches.judge_reaches.Goals as goal

@@ -1,8 +1,8 @@
 use Rattle.std.proofs.Common.{◌≡◌, refl}
-use Rattle.cts_model.specs.Embeddings.{embedding_of}
+use Rattle.cts_model.specs.tree.Embeddings.{embedding_of}
 use Rattle.cert_check.proofs.FirstPlaces.{denied}
-use Rattle.cts_model.specs.Points.{rotated}
-use Rattle.cts_model.specs.Topologies.{source_of}
+use Rattle.cts_model.specs.placement.Points.{rotated}
+use Rattle.cts_model.specs.tree.Topologies.{source_of}
 use Rattle.std.specs.Prelude.{length}
 use Rattle.cert_check.proofs.ShapeLemmas.{all_shaped, moved, source_moved, unjoined}
 use Rattle.cert_check.proofs.shape.first_misshapen.Goals as goal

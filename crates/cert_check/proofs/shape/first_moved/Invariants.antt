@@ -1,5 +1,5 @@
-use Rattle.cts_model.specs.Embeddings.{embedding_of}
-use Rattle.cts_model.specs.Shown.{AtEach}
+use Rattle.cts_model.specs.tree.Embeddings.{embedding_of}
+use Rattle.cts_model.specs.report.Shown.{AtEach}
 use Rattle.cert_check.specs.EmbeddingParts.{StandsAt}
 use Rattle.cert_check.proofs.shape.first_moved.Given as goal
 

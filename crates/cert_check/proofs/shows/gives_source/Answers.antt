@@ -4,7 +4,7 @@ use mir.Syntax.{w128}
 use Rattle.std.proofs.lemmas.Bool.{false≢true}
 use Rattle.std.proofs.lemmas.Int.{to_z-of_z}
 use Rattle.cts_model.specs.declared.place.Sink.{Sink}
-use Rattle.cts_model.specs.Points.{rotated_distance}
+use Rattle.cts_model.specs.placement.Points.{rotated_distance}
 use Rattle.cert_check.proofs.ShowLemmas.{denotes_found}
 use Rattle.cert_check.proofs.shows.gives_source.Goals as goal
 

@@ -3,7 +3,7 @@ use Rattle.std.proofs.Common.{◌≡◌, ◌↔◌, ◌+ℤ◌, IsTrue, pos, get
 use mir.Syntax.{w128}
 use Rattle.std.proofs.lemmas.Int.{to_z-of_z}
 use Rattle.cts_model.specs.declared.place.Sink.{Sink}
-use Rattle.cts_model.specs.Regions.{span}
+use Rattle.cts_model.specs.tree.Regions.{span}
 use Rattle.cert_check.proofs.ShowLemmas.{denotes_span}
 use Rattle.cert_check.proofs.shows.is_pair_placed.Goals as goal
 

@@ -1,6 +1,6 @@
 -- The show and the reach of the merge, as they are read.
 use Rattle.std.proofs.Common.{◌+◌, length, arith}
-use Rattle.cts_model.specs.ReportLines.{number_at}
+use Rattle.cts_model.specs.report.ReportLines.{number_at}
 use Rattle.cert_check.proofs.ShowLemmas.{kept_at, denotes_merge}
 use Rattle.cert_check.proofs.shows.shows_merge.Goals as goal
 

@@ -1,9 +1,9 @@
 -- The show and the reach of the source, as they are read.
 use Rattle.std.proofs.Common.{◌↔◌, IsTrue, length, subst, arith}
 use Rattle.std.specs.Prelude.{IsSomeAnd, slice_get}
-use Rattle.cts_model.specs.ReportLines.{number_at}
-use Rattle.cts_model.specs.ShownReaches.{ShowsSource}
-use Rattle.cts_model.specs.Topologies.{root_of, source_of}
+use Rattle.cts_model.specs.report.ReportLines.{number_at}
+use Rattle.cts_model.specs.tree.ShownReaches.{ShowsSource}
+use Rattle.cts_model.specs.tree.Topologies.{root_of, source_of}
 use Rattle.cert_check.proofs.ShowLemmas.{kept_at, denotes_source}
 use Rattle.cert_check.proofs.shows.shows_source.Goals as goal
 

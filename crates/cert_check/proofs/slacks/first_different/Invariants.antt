@@ -1,5 +1,5 @@
 -- The slacks of the registers so far are the same.
-use Rattle.cts_model.specs.Shown.{AtEach}
+use Rattle.cts_model.specs.report.Shown.{AtEach}
 use Rattle.cert_check.specs.ComparedSlacks.{HasOneSlack}
 use Rattle.cert_check.proofs.slacks.first_different.Given as goal
 

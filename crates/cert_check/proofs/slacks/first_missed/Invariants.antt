@@ -1,5 +1,5 @@
 -- The registers so far spare time.
-use Rattle.cts_model.specs.Shown.{AtEach}
+use Rattle.cts_model.specs.report.Shown.{AtEach}
 use Rattle.cert_check.specs.ComparedSlacks.{SparesTime}
 use Rattle.cert_check.proofs.slacks.first_missed.Given as goal
 

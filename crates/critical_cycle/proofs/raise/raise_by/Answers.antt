@@ -3,8 +3,8 @@ use Rattle.std.proofs.Common.{◌≡◌, ℕ, ℤ, pos, List, arith, to_z, of_z,
 use Rattle.std.proofs.lemmas.Int.{ints}
 use mir.Syntax.{w128}
 use Rattle.cts_model.specs.declared.constraint.Constraint.{Constraint}
-use Rattle.cts_model.specs.Cycles.{total_count, total_weight}
-use Rattle.cts_model.specs.Points.{IsBelow}
+use Rattle.cts_model.specs.timing.Cycles.{total_count, total_weight}
+use Rattle.cts_model.specs.placement.Points.{IsBelow}
 use Rattle.critical_cycle.specs.declared.measure.Measure.{Measure}
 use Rattle.critical_cycle.specs.CyclePlaces.{AreWithin, constraints_at}
 use Rattle.critical_cycle.specs.Measures.{cycle_count, cycle_weight}

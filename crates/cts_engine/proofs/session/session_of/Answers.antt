@@ -1,7 +1,7 @@
 use Rattle.std.proofs.Common.{◌≤◌, ◌^◌, ◌∙◌, ap, sym, subst, arith}
 use Rattle.std.specs.Prelude.{nat_abs, unsigned_abs}
 use Rattle.std.proofs.lemmas.Int.{ints}
-use Rattle.cts_model.specs.Tables.{IsWithin}
+use Rattle.cts_model.specs.table.Tables.{IsWithin}
 use Rattle.cts_model.proofs.GridLemmas.{grid_size, number_read}
 use Rattle.cts_engine.specs.SinkOutcomes.{AreTimedSinks}
 use Rattle.cts_engine.specs.declared.period.PeriodOutcome.TheVariants.{Never}

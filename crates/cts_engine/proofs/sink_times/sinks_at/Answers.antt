@@ -1,8 +1,8 @@
 use Rattle.std.proofs.Common.{◌≡◌, ◌^◌, ◌∙◌, length, refl, sym, subst, arith}
 use Rattle.std.specs.List.{All}
-use Rattle.cts_model.specs.Points.{IsBelow}
-use Rattle.cts_model.specs.Problems.{sinks_of}
-use Rattle.cts_model.specs.Sinks.{AreTreeSinks}
+use Rattle.cts_model.specs.placement.Points.{IsBelow}
+use Rattle.cts_model.specs.tree.Problems.{sinks_of}
+use Rattle.cts_model.specs.tree.Sinks.{AreTreeSinks}
 use Rattle.cts_model.proofs.SkewLemmas.{length-sinks_of}
 use Rattle.cts_engine.proofs.CycleLengths.{few_registers}
 use Rattle.cts_engine.proofs.SinkLemmas.{tree_sinks}

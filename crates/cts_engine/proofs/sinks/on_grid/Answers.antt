@@ -1,6 +1,6 @@
 use Rattle.std.proofs.Common.{◌^◌, rules, sym, subst, arith}
 use Rattle.std.proofs.lemmas.Int.{ints}
-use Rattle.cts_model.specs.Points.{IsPointBelow}
+use Rattle.cts_model.specs.placement.Points.{IsPointBelow}
 use Rattle.cts_model.proofs.GridLemmas.{on_grid_below}
 use Rattle.cts_engine.proofs.sinks.on_grid.Goals as goal
 

@@ -1,5 +1,5 @@
 use Rattle.std.proofs.Common.{◌≡◌, take}
-use Rattle.cts_model.specs.Problems.{sinks_of}
+use Rattle.cts_model.specs.tree.Problems.{sinks_of}
 use Rattle.cts_engine.proofs.sinks.sinks_of.Given as goal
 
 abbrev pub invariant-loop-register : goal.invariant-loop-register

@@ -1,7 +1,7 @@
 use Rattle.std.proofs.Common.{◌≡◌, to_z, of_z, take, arith}
 use mir.Syntax.{w128}
 use Rattle.std.proofs.lemmas.Int.{ints}
-use Rattle.cts_model.specs.Embeddings.{Embedding, embedding_of}
+use Rattle.cts_model.specs.tree.Embeddings.{Embedding, embedding_of}
 use Rattle.cts_model.proofs.PointLemmas.{distance_from_zero}
 use Rattle.cts_engine.specs.TreeParts.{IsWireOf}
 use Rattle.cts_engine.proofs.WireLemmas.{drawn_below}

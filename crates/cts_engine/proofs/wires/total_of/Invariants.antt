@@ -1,5 +1,5 @@
 use Rattle.std.proofs.Common.{◌≡◌, pos, slice_index_or}
-use Rattle.cts_model.specs.Embeddings.{total_length}
+use Rattle.cts_model.specs.tree.Embeddings.{total_length}
 use Rattle.cts_engine.proofs.wires.total_of.Given as goal
 
 abbrev pub invariant-loop-length : goal.invariant-loop-length

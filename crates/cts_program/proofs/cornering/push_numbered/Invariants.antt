@@ -1,6 +1,6 @@
 use Rattle.std.proofs.Common.{◌≡◌, ◌++◌, codes, length}
-use Rattle.cts_model.specs.PrintedLines.{line_of, text_of, count_line}
-use Rattle.cts_model.specs.ReportLines.{lines_below}
+use Rattle.cts_model.specs.text.PrintedLines.{line_of, text_of, count_line}
+use Rattle.cts_model.specs.report.ReportLines.{lines_below}
 use Rattle.cts_program.specs.CornerTexts.{numbered_line_at}
 use Rattle.cts_program.proofs.cornering.push_numbered.Given as goal
 

@@ -1,5 +1,5 @@
 use Rattle.std.proofs.Common.{◌≡◌, ◌∙◌, ◌++◌, OnOk, ap, append_assoc, length, subst}
-use Rattle.cts_model.specs.PrintedLines.{line_of, text_of}
+use Rattle.cts_model.specs.text.PrintedLines.{line_of, text_of}
 use Rattle.cts_program.specs.ArrivalTexts.{all_at_zero, arrival_lines}
 use Rattle.cts_program.specs.MarginTexts.{unbounded_line}
 use Rattle.cts_program.proofs.ArrivalLemmas.{small_can_print}

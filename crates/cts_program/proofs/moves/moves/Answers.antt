@@ -2,7 +2,7 @@ use Rattle.std.proofs.Common.{◌≡◌, ◌^◌, length, to_z, of_z, sym, subst
 use mir.Syntax.{w128}
 use Rattle.std.specs.List.{All}
 use Rattle.std.proofs.lemmas.Int.{ints}
-use Rattle.cts_model.specs.Tables.{IsWithin}
+use Rattle.cts_model.specs.table.Tables.{IsWithin}
 use Rattle.cts_engine.specs.SessionOutcomes.{IsGrid, IsSessionOf}
 use Rattle.cts_program.specs.MoveTexts.{IsNearMove, IsWiresText}
 use Rattle.cts_program.proofs.WireTexts.{as_many_sinks}

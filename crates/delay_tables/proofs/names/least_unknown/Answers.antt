@@ -2,8 +2,8 @@ use Rattle.std.proofs.Common.{◌≡◌, [], ◌∷◌, ◌∙◌, map, codes, a
 use Rattle.std.proofs.lemmas.Result.{IfOk-weaker}
 use Rattle.std.specs.List.{fold, flat_map}
 use Rattle.toml.specs.View.{table_view}
-use Rattle.cts_model.specs.TableKeys.{top_sections, gate_section, gate_kinds}
-use Rattle.cts_model.specs.TableFlaws as flaws
+use Rattle.cts_model.specs.table.TableKeys.{top_sections, gate_section, gate_kinds}
+use Rattle.cts_model.specs.table.TableFlaws as flaws
 use Rattle.delay_tables.specs.Keys.{texts}
 use Rattle.delay_tables.proofs.UnknownNames.{least_of_all}
 use Rattle.delay_tables.proofs.names.least_unknown.Goals as goal

@@ -1,8 +1,8 @@
 use Rattle.std.proofs.Common.{IfOk, ◌≡◌, subst, [], ◌∷◌, codes}
 use Rattle.std.specs.List.{fold}
 use Rattle.toml.specs.View.{table_view}
-use Rattle.cts_model.specs.TableKeys as tables
-use Rattle.cts_model.specs.TableFlaws as flaws
+use Rattle.cts_model.specs.table.TableKeys as tables
+use Rattle.cts_model.specs.table.TableFlaws as flaws
 use Rattle.delay_tables.proofs.names.with_gate.Goals as goal
 
 pub returns : goal.returns

@@ -1,7 +1,7 @@
 use Rattle.std.proofs.Common.{◌∙◌, ap, sym, map, ◌+◌, drop, arith}
 use Rattle.std.specs.List.{fold, flat_map}
 use Rattle.toml.specs.View.{table_view}
-use Rattle.cts_model.specs.TableFlaws as flaws
+use Rattle.cts_model.specs.table.TableFlaws as flaws
 use Rattle.delay_tables.specs.Keys.{section_of}
 use Rattle.delay_tables.proofs.UnknownNames.{least_more}
 use Rattle.delay_tables.proofs.names.with_sections.Goals as goal

@@ -1,7 +1,7 @@
 use Rattle.std.proofs.Common.{◌≡◌, drop, map}
 use Rattle.std.specs.List.{fold, flat_map}
 use Rattle.toml.specs.View.{table_view}
-use Rattle.cts_model.specs.TableFlaws as flaws
+use Rattle.cts_model.specs.table.TableFlaws as flaws
 use Rattle.delay_tables.specs.Keys.{section_of}
 use Rattle.delay_tables.proofs.names.with_sections.Given as goal
 

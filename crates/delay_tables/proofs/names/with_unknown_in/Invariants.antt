@@ -1,6 +1,6 @@
 use Rattle.std.proofs.Common.{◌≡◌, map, string_bytes}
 use Rattle.std.specs.List.{fold}
-use Rattle.cts_model.specs.TableFlaws as flaws
+use Rattle.cts_model.specs.table.TableFlaws as flaws
 use Rattle.delay_tables.specs.Keys.{texts}
 use Rattle.delay_tables.proofs.names.with_unknown_in.Given as goal
 

@@ -1,6 +1,6 @@
 use Rattle.std.proofs.Common.{refl}
 use Rattle.std.proofs.lemmas.Result.{err_from_is_err_and}
-use Rattle.cts_model.specs.TableFlaws.{table_flaw}
+use Rattle.cts_model.specs.table.TableFlaws.{table_flaw}
 use Rattle.delay_tables.proofs.Judgements.{fault_first, fault_next, judges_next}
 use Rattle.delay_tables.proofs.read.judge.Goals as goal
 

@@ -1,5 +1,5 @@
 use Rattle.std.proofs.lemmas.Result.{IfErr-weaker, IfOk-weaker}
-use Rattle.cts_model.specs.AcceptedTables.{AcceptsTable, GivesKinds}
+use Rattle.cts_model.specs.table.AcceptedTables.{AcceptsTable, GivesKinds}
 use Rattle.delay_tables.specs.Refusals.{RefusesTable, DenotesName}
 use Rattle.delay_tables.proofs.FlawlessTables.{gives_kinds}
 use Rattle.delay_tables.proofs.OneFault.{accepts_each, names_each, names_denoted}

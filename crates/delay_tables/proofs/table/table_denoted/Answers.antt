@@ -1,6 +1,6 @@
 use Rattle.std.proofs.Common.{◌≡◌, [], ◌∷◌, codes, true, arith}
 use Rattle.std.proofs.lemmas.Int.{ints}
-use Rattle.cts_model.specs.TableValues.{text_at, is_small_fraction}
+use Rattle.cts_model.specs.table.TableValues.{text_at, is_small_fraction}
 use Rattle.delay_tables.proofs.Fractions.{numerator_within, denominator_within}
 use Rattle.delay_tables.proofs.DenotedTables.{is_table, fraction_denoted}
 use Rattle.toml.specs.View.{table_view}

@@ -2,8 +2,8 @@ use Rattle.std.proofs.Common.{◌∙◌, get_or, sym, arith}
 use Rattle.std.proofs.lemmas.Result.{err_from_is_err_and}
 use Rattle.toml.specs.View.{table_view}
 use Rattle.cts_model.specs.declared.kind.Kind.TheVariants.{And}
-use Rattle.cts_model.specs.TableKeys as tables
-use Rattle.cts_model.specs.TableFlaws as flaws
+use Rattle.cts_model.specs.table.TableKeys as tables
+use Rattle.cts_model.specs.table.TableFlaws as flaws
 use Rattle.delay_tables.proofs.Judgements.{fault_here, flaws_more}
 use Rattle.delay_tables.proofs.walk.judge_gates.Goals as goal
 

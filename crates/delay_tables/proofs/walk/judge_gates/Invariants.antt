@@ -1,7 +1,7 @@
 use Rattle.std.proofs.Common.{◌≡◌, drop, map}
 use Rattle.toml.specs.View.{table_view}
-use Rattle.cts_model.specs.TableFlaws as flaws
-use Rattle.cts_model.specs.TableKeys as tables
+use Rattle.cts_model.specs.table.TableFlaws as flaws
+use Rattle.cts_model.specs.table.TableKeys as tables
 use Rattle.delay_tables.proofs.walk.judge_gates.Given as goal
 
 abbrev pub invariant-loop-kind : goal.invariant-loop-kind

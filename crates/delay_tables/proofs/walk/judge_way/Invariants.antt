@@ -1,6 +1,6 @@
 use Rattle.std.proofs.Common.{◌≡◌, [], take, drop}
 use Rattle.toml.specs.View.{table_view}
-use Rattle.cts_model.specs.TableFlaws as flaws
+use Rattle.cts_model.specs.table.TableFlaws as flaws
 use Rattle.delay_tables.specs.Keys.{texts}
 use Rattle.delay_tables.proofs.walk.judge_way.Given as goal
 

@@ -5,7 +5,7 @@ use Rattle.std.specs.Int.{w128}
 use Rattle.std.specs.Prelude.{ℕ, List}
 use Rattle.cts_model.specs.declared.place.Sink.{Sink}
 use Rattle.cts_model.specs.declared.tree.Merge.{Merge}
-use Rattle.cts_model.specs.Topologies.{numbers_below}
+use Rattle.cts_model.specs.tree.Topologies.{numbers_below}
 use Rattle.merge_up.specs.Sides.{IsSoFar}
 use Rattle.merge_up.proofs.SearchLemmas.{alone_so_far, below_neither, if_found, joined_low, order_joins, so_far_above, so_far_alone}
 use Rattle.merge_up.proofs.search.+find.Goals as goal

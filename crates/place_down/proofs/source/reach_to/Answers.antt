@@ -1,7 +1,7 @@
 use Rattle.std.proofs.Common.{◌*◌, ◌^◌, ◌+ℤ◌, FitsSigned, ap, sym, subst, ◌∙◌, arith}
 use Rattle.std.proofs.lemmas.Int.{ints, to_z-of_z}
 use Rattle.std.specs.Int.{w128}
-use Rattle.cts_model.specs.Points.{IsBelow, IsMultipleOf, rotated, rotated_distance}
+use Rattle.cts_model.specs.placement.Points.{IsBelow, IsMultipleOf, rotated, rotated_distance}
 use Rattle.tilted_rect.proofs.CodeNumbers.{kept, sum_read}
 use Rattle.place_down.proofs.SourceLemmas.{far_below, far_multiple}
 use Rattle.place_down.proofs.source.reach_to.Goals as goal

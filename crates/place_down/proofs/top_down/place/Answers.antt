@@ -1,8 +1,8 @@
 use Rattle.std.proofs.Common.{◌*◌, ◌^◌, refl, length, sym, subst, arith}
 use Rattle.std.proofs.lemmas.Int.{ints, to_z-of_z}
 use Rattle.std.specs.Int.{w128}
-use Rattle.cts_model.specs.Points.{IsBelow, IsMultipleOf}
-use Rattle.cts_model.specs.Topologies.{root_of}
+use Rattle.cts_model.specs.placement.Points.{IsBelow, IsMultipleOf}
+use Rattle.cts_model.specs.tree.Topologies.{root_of}
 use Rattle.merge_up.specs.Merging.{IsSourcePlaced}
 use Rattle.merge_up.specs.Works.{IsSettled}
 use Rattle.place_down.specs.Sources.{IsTop}

@@ -1,5 +1,5 @@
 use Rattle.std.proofs.Common.{sym}
-use Rattle.cts_model.specs.Placements.{register_nodes}
+use Rattle.cts_model.specs.placement.Placements.{register_nodes}
 use Rattle.place_reader.proofs.RegisterPlaces.{points_next, first_without}
 use Rattle.place_reader.proofs.read.register_places.Goals as goal
 

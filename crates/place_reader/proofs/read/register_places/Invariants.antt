@@ -1,5 +1,5 @@
 use Rattle.std.proofs.Common.{◌≡◌, map, take, Some}
-use Rattle.cts_model.specs.Placements.{register_nodes}
+use Rattle.cts_model.specs.placement.Placements.{register_nodes}
 use Rattle.place_reader.specs.Known.{place_of}
 use Rattle.place_reader.proofs.read.register_places.Given as goal
 

@@ -1,5 +1,5 @@
 use Rattle.std.proofs.Common.{subst, sym}
-use Rattle.cts_model.specs.ReportBounds.{Spells}
+use Rattle.cts_model.specs.report.ReportBounds.{Spells}
 use Rattle.report_text.proofs.PartsDenoted.{are_denoted, parts_spelled}
 use Rattle.report_text.proofs.assembly.report_of.Goals as goal
 

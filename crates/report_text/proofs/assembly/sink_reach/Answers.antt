@@ -2,7 +2,7 @@ use Rattle.std.proofs.Common.{◌≤◌, ◌^◌, ◌∙◌, neg_ℤ, ap, arith}
 use Rattle.std.specs.Prelude.{unsigned_abs}
 use Rattle.std.proofs.lemmas.Int.{to_z-of_z}
 use mir.Syntax.{w128}
-use Rattle.cts_model.specs.Problems.{scheduled_length}
+use Rattle.cts_model.specs.tree.Problems.{scheduled_length}
 use Rattle.report_text.proofs.AssemblyLemmas.{neg_read}
 use Rattle.report_text.proofs.GridLemmas.{scheduled_size}
 use Rattle.report_text.proofs.assembly.sink_reach.Goals as goal

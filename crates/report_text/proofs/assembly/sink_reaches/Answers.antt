@@ -2,7 +2,7 @@ use Rattle.std.proofs.Common.{◌≡◌, ◌^◌, ◌∷◌, ◌++◌, ◌∙◌
 use mir.Syntax.{w128}
 use Rattle.std.proofs.lemmas.Int.{ints}
 use Rattle.std.proofs.lemmas.List.{map_more}
-use Rattle.cts_model.specs.Points.{IsBelow}
+use Rattle.cts_model.specs.placement.Points.{IsBelow}
 use Rattle.report_text.specs.DenotedReports.{sink_reach, sink_reaches}
 use Rattle.report_text.proofs.AssemblyLemmas.{sink_below, small_read}
 use Rattle.report_text.proofs.assembly.sink_reaches.Goals as goal

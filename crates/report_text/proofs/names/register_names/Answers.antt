@@ -1,6 +1,6 @@
 use Rattle.std.proofs.Common.{◌<◌, ◌++◌, ◌∷◌, [], length, sym, ap, ◌∙◌, rules, arith}
 use Rattle.std.proofs.lemmas.List.FromFn.{map-range_with_len_more}
-use Rattle.cts_model.specs.Paths.{register_name}
+use Rattle.cts_model.specs.netlist.Paths.{register_name}
 use Rattle.report_text.proofs.NameNumbers.{register_new, registers_few}
 use Rattle.report_text.proofs.names.register_names.Goals as goal
 

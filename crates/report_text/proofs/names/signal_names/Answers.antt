@@ -1,6 +1,6 @@
 use Rattle.std.proofs.Common.{◌<◌, ◌++◌, ◌∷◌, [], length, sym, ap, ◌∙◌, rules, arith}
 use Rattle.std.proofs.lemmas.List.FromFn.{map-range_with_len_more}
-use Rattle.cts_model.specs.ReportLines.{signal_name}
+use Rattle.cts_model.specs.report.ReportLines.{signal_name}
 use Rattle.report_text.proofs.NameNumbers.{signal_new, signals_few}
 use Rattle.report_text.proofs.names.signal_names.Goals as goal
 

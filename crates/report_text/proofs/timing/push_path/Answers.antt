@@ -1,6 +1,6 @@
 use Rattle.std.proofs.Common.{pos, codes, ◌∷◌, length, map, rules, append_assoc}
 use Rattle.std.specs.Fmt.{signed_decimal}
-use Rattle.cts_model.specs.ReportLines.{signal_name}
+use Rattle.cts_model.specs.report.ReportLines.{signal_name}
 use Rattle.report_text.proofs.LineLemmas.{line_of-suffix, path_line-some}
 use Rattle.report_text.proofs.timing.push_path.Goals as goal
 

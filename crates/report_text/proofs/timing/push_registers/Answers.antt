@@ -1,4 +1,4 @@
-use Rattle.cts_model.specs.ReportLines.{register_line_at}
+use Rattle.cts_model.specs.report.ReportLines.{register_line_at}
 use Rattle.report_text.proofs.LineLemmas.{more_lines}
 use Rattle.report_text.proofs.timing.push_registers.Goals as goal
 

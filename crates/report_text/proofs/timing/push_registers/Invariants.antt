@@ -1,6 +1,6 @@
 use Rattle.std.proofs.Common.{◌≡◌, ◌++◌}
-use Rattle.cts_model.specs.PrintedLines.{text_of}
-use Rattle.cts_model.specs.ReportLines.{lines_below, register_line_at}
+use Rattle.cts_model.specs.text.PrintedLines.{text_of}
+use Rattle.cts_model.specs.report.ReportLines.{lines_below, register_line_at}
 use Rattle.report_text.proofs.timing.push_registers.Given as goal
 
 -- the registers so far

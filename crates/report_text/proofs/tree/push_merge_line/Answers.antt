@@ -1,6 +1,6 @@
 use Rattle.std.proofs.Common.{◌∷◌, [], pos}
 use Rattle.std.specs.Fmt.{signed_decimal}
-use Rattle.cts_model.specs.ReportLines.{length_text, number_at, show_words}
+use Rattle.cts_model.specs.report.ReportLines.{length_text, number_at, show_words}
 use Rattle.report_text.proofs.LineLemmas.{after_more, whole_line}
 use Rattle.report_text.proofs.tree.push_merge_line.Goals as goal
 

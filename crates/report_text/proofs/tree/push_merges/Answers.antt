@@ -1,4 +1,4 @@
-use Rattle.cts_model.specs.ReportLines.{merge_line_at}
+use Rattle.cts_model.specs.report.ReportLines.{merge_line_at}
 use Rattle.report_text.proofs.LineLemmas.{more_lines}
 use Rattle.report_text.proofs.tree.push_merges.Goals as goal
 

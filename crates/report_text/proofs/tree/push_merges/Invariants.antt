@@ -1,6 +1,6 @@
 use Rattle.std.proofs.Common.{◌≡◌, ◌++◌}
-use Rattle.cts_model.specs.PrintedLines.{text_of}
-use Rattle.cts_model.specs.ReportLines.{lines_below, merge_line_at}
+use Rattle.cts_model.specs.text.PrintedLines.{text_of}
+use Rattle.cts_model.specs.report.ReportLines.{lines_below, merge_line_at}
 use Rattle.report_text.proofs.tree.push_merges.Given as goal
 
 -- the merges so far

@@ -1,4 +1,4 @@
-use Rattle.cts_model.specs.ReportLines.{node_line_at}
+use Rattle.cts_model.specs.report.ReportLines.{node_line_at}
 use Rattle.report_text.proofs.LineLemmas.{more_lines}
 use Rattle.report_text.proofs.tree.push_nodes.Goals as goal
 

@@ -1,6 +1,6 @@
 use Rattle.std.proofs.Common.{◌≡◌, ◌++◌, take}
 use Rattle.std.specs.List.{flat_map}
-use Rattle.cts_model.specs.ReportLines.{point_words}
+use Rattle.cts_model.specs.report.ReportLines.{point_words}
 use Rattle.report_text.specs.Pieces.{suffix}
 use Rattle.report_text.proofs.tree.push_points.Given as goal
 

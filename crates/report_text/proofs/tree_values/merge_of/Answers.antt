@@ -2,7 +2,7 @@ use Rattle.std.proofs.Common.{◌≡◌, ◌<◌, length, ℕ, List, [], map, Bo
 use mir.Syntax.{w128}
 use Rattle.report_text.proofs.NumberWords.{kept_spelled}
 use Rattle.cts_model.specs.declared.circuit.Circuit.{Circuit}
-use Rattle.cts_model.specs.Paths.{register_name}
+use Rattle.cts_model.specs.netlist.Paths.{register_name}
 use Rattle.report_text.specs.NamesOf.{AreNamesOf}
 use Rattle.report_text.specs.Fields.{NamesRegister}
 use Rattle.report_text.specs.Values.{SpellsNumber, SpellsRegister, SpellsSteps}

@@ -5,7 +5,7 @@ use Rattle.std.proofs.lemmas.Int.{ints}
 use Rattle.std.proofs.lemmas.Nat.{mul-le}
 use Rattle.cts_base.specs.declared.fraction.Fraction.{Fraction}
 use Rattle.critical_cycle.specs.RatioSizes.{IsSmallRatio}
-use Rattle.cts_model.specs.Schedules.{IsMarginPeriod}
+use Rattle.cts_model.specs.timing.Schedules.{IsMarginPeriod}
 use Rattle.safety_margin.proofs.CodeLemmas.{kept}
 use Rattle.safety_margin.proofs.ratio.margin_at.Goals as goal
 

@@ -1,6 +1,6 @@
 -- The least arrivals are rising, so they are small.
 use Rattle.std.proofs.Common.{◌≡◌, ◌^◌, All, length, subst, sym, arith, rules}
-use Rattle.cts_model.specs.Points.{IsBelow}
+use Rattle.cts_model.specs.placement.Points.{IsBelow}
 use Rattle.schedule.specs.Schedules.{CanSchedule}
 use Rattle.schedule.proofs.BoundLemmas.{small_rising}
 use Rattle.schedule.proofs.least.least_arrivals_in.Goals as goal

@@ -1,6 +1,6 @@
 -- The gains at the period give the least schedule, whose arrivals are low and small.
 use Rattle.std.proofs.Common.{◌^◌, subst, sym, arith}
-use Rattle.cts_model.specs.Constraints.{AreSmallConstraints}
+use Rattle.cts_model.specs.timing.Constraints.{AreSmallConstraints}
 use Rattle.schedule.specs.Schedules.{CanSchedule}
 use Rattle.schedule.proofs.BoundLemmas.{AreWithinWeights-least, small_within}
 use Rattle.schedule.proofs.PeriodLemmas.{admits_gains, least_at_period}

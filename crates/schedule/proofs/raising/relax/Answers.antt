@@ -1,7 +1,7 @@
 -- The code's numbers are small, so they are what the definitions say.
 use Rattle.std.proofs.Common.{◌^◌, subst, sym, refl, ap}
 use Rattle.std.proofs.Math.ListN.{set}
-use Rattle.cts_model.specs.Points.{IsBelow}
+use Rattle.cts_model.specs.placement.Points.{IsBelow}
 use Rattle.schedule.specs.Gains.{gain_of}
 use Rattle.schedule.proofs.RiseLemmas.{IsRead, sum_fits, offer_read, left_read, more_read}
 use Rattle.schedule.proofs.raising.relax.Goals as goal

@@ -1,5 +1,5 @@
 use Rattle.std.proofs.Common.{Contains, rules, sym, subst}
-use Rattle.cts_model.specs.Leads.{EachLead}
+use Rattle.cts_model.specs.timing.Leads.{EachLead}
 use Rattle.schedule.specs.Reaching.{IsWhole}
 use Rattle.schedule.proofs.LeadLemmas.{EachLead-whole, low_depth}
 use Rattle.schedule.proofs.tight.leads.Goals as goal

@@ -1,6 +1,6 @@
 use Rattle.std.proofs.Common.{◌≡◌, sym, subst, arith}
 use Rattle.std.proofs.lemmas.Int.{ints}
-use Rattle.cts_model.specs.Points.{distance, rotated, rotated_distance}
+use Rattle.cts_model.specs.placement.Points.{distance, rotated, rotated_distance}
 use Rattle.cts_model.proofs.PointLemmas.{apart-rotated}
 use Rattle.tilted_rect.proofs.TurnLemmas.{same_uv}
 use Rattle.tilted_rect.proofs.turn.to_uv.Goals as goal

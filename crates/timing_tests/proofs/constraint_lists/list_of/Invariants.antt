@@ -1,6 +1,6 @@
 use Rattle.std.proofs.Common.{◌≡◌, length}
 use Rattle.std.specs.Prelude.{All}
-use Rattle.cts_model.specs.Constraints.{IsSmallConstraint}
+use Rattle.cts_model.specs.timing.Constraints.{IsSmallConstraint}
 use Rattle.timing_tests.proofs.constraint_lists.list_of.Given as goal
 
 abbrev pub invariant-loop-constraint : goal.invariant-loop-constraint

@@ -1,7 +1,7 @@
 -- The arrivals passed so far, each below 10^19 in size.
 use Rattle.std.proofs.Common.{◌≡◌, ◌^◌, length}
 use Rattle.std.specs.Prelude.{All}
-use Rattle.cts_model.specs.Points.{IsBelow}
+use Rattle.cts_model.specs.placement.Points.{IsBelow}
 use Rattle.timing_tests.proofs.slack_tests.schedule_of.Given as goal
 
 abbrev pub invariant-loop-arrival : goal.invariant-loop-arrival

@@ -1,6 +1,6 @@
 use Rattle.std.proofs.Common.{◌≡◌, ◌-◌, ◌∙◌, length, sym, ap, subst, arith}
 use Rattle.std.proofs.lemmas.List.{length-set}
-use Rattle.cts_model.specs.Topologies.{IsTopology}
+use Rattle.cts_model.specs.tree.Topologies.{IsTopology}
 use Rattle.merge_up.specs.Merging.{IsMerged, IsRenewed}
 use Rattle.merge_up.proofs.WorkLemmas.{joined_held}
 use Rattle.tree_tests.proofs.HeldForOthers.{JoinsAt, held_lower, tree_sinks_set}

@@ -1,5 +1,5 @@
 use Rattle.std.proofs.Common.{◌≡◌, ◌-◌, ◌∙◌, length, sym, subst, arith}
-use Rattle.cts_model.specs.Topologies.{IsTopology}
+use Rattle.cts_model.specs.tree.Topologies.{IsTopology}
 use Rattle.merge_up.specs.Merging.{HoldsMerge}
 use Rattle.merge_up.proofs.WorkLemmas.{joined_held}
 use Rattle.tree_tests.proofs.merge_tests.renews_what_is_above_a_moved_sink.Goals as goal

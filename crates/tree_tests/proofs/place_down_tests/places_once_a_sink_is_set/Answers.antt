@@ -1,5 +1,5 @@
 use Rattle.std.proofs.Common.{sym, subst}
-use Rattle.cts_model.specs.Sinks.{AreTreeSinks}
+use Rattle.cts_model.specs.tree.Sinks.{AreTreeSinks}
 use Rattle.merge_up.specs.Merging.{IsMerged, IsSinkSet}
 use Rattle.tree_tests.proofs.HeldForOthers.{JoinsAt}
 use Rattle.tree_tests.proofs.OnceSet.{far, merged_once_set, near, these, tree_sinks_far, tree_sinks_near}

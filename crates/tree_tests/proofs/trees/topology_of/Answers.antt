@@ -1,5 +1,5 @@
 use Rattle.std.proofs.Common.{◌≡◌, ◌+◌, ◌++◌, ◌∷◌, [], length, ap, sym, subst, length-append, arith}
-use Rattle.cts_model.specs.Topologies.{IsMerge}
+use Rattle.cts_model.specs.tree.Topologies.{IsMerge}
 use Rattle.cts_model.proofs.TopologyLemmas.{EachMerge, EachMerge-push}
 use Rattle.tree_tests.proofs.trees.topology_of.Goals as goal
 

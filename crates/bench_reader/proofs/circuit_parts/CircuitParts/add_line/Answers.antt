@@ -1,7 +1,7 @@
 use Rattle.std.proofs.Common.{[], refl, sym}
 use Rattle.std.proofs.lemmas.List.Elements.{All-nil}
 use Rattle.cts_model.specs.declared.kind.Kind.TheVariants as kinds
-use Rattle.cts_model.specs.Statements.{Input, Assign}
+use Rattle.cts_model.specs.netlist.Statements.{Input, Assign}
 use Rattle.bench_reader.proofs.AddedParts.{blank_denoted, defining_denoted, output_denoted}
 use Rattle.bench_reader.proofs.circuit_parts.CircuitParts.add_line.Goals as goal
 

@@ -2,7 +2,7 @@ use Rattle.std.proofs.Common.{◌≡◌, true, List, ℕ, rules, tests}
 use Rattle.std.specs.List.{list_all}
 use Rattle.std.proofs.lemmas.Iterator.Consumers.{YieldsList-from_first}
 use Rattle.std.proofs.lemmas.Iterator.Search.{all_from_yields_List}
-use Rattle.cts_model.specs.Names.{is_short}
+use Rattle.cts_model.specs.text.Names.{is_short}
 use Rattle.bench_reader.proofs.statement.Statement.has_short_names.Goals as goal
 
 pub returns-then-is_short : goal.returns-then-is_short

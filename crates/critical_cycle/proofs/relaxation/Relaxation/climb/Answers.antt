@@ -2,7 +2,7 @@
 use Rattle.std.proofs.Common.{◌≡◌, ◌<◌, Some, None, MatchOption, length, refl, sym, subst, ◌∙◌, arith, ℕ, Option}
 use Rattle.std.proofs.lemmas.Option.{slice_get_read, slice_get_past}
 use Rattle.cts_model.specs.declared.constraint.Constraint.{Constraint}
-use Rattle.cts_model.specs.Constraints.{IsSmallConstraint}
+use Rattle.cts_model.specs.timing.Constraints.{IsSmallConstraint}
 use Rattle.critical_cycle.specs.Trials.{parent_of}
 use Rattle.critical_cycle.specs.Relaxing.{ReachesUp}
 use Rattle.critical_cycle.proofs.ClimbLemmas.{parent_read, IsClimbing-more, no_climb}

@@ -3,7 +3,7 @@ use Rattle.std.proofs.Common.{◌^◌, get_or, refl, sym, subst, ap, arith}
 use Rattle.std.proofs.Math.ListN.{set}
 use Rattle.std.proofs.lemmas.Option.{slice_get-get_or}
 use Rattle.cts_model.specs.declared.constraint.Constraint.{Constraint}
-use Rattle.cts_model.specs.Points.{IsBelow}
+use Rattle.cts_model.specs.placement.Points.{IsBelow}
 use Rattle.critical_cycle.proofs.RelaxLemmas.{nowhere, IsRead-at, sum_fits, offer_read, left_read, more_read, relaxed_left, relaxed_raised}
 use Rattle.critical_cycle.proofs.relaxation.Relaxation.relax.Goals as goal
 

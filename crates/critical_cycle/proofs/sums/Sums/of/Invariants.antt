@@ -1,5 +1,5 @@
 use Rattle.std.proofs.Common.{◌≡◌, pos, take}
-use Rattle.cts_model.specs.Cycles.{total_count, total_weight}
+use Rattle.cts_model.specs.timing.Cycles.{total_count, total_weight}
 use Rattle.critical_cycle.specs.CyclePlaces.{constraints_at}
 use Rattle.critical_cycle.proofs.sums.Sums.of.Given as goal
 

@@ -1,7 +1,7 @@
 use Rattle.std.proofs.Common.{IfSome, length, sym, subst, refl}
 use Rattle.std.proofs.lemmas.Int.{to_z-of_z}
 use Rattle.std.specs.Int.{w128}
-use Rattle.cts_model.specs.Topologies.{numbers_below}
+use Rattle.cts_model.specs.tree.Topologies.{numbers_below}
 use Rattle.tilted_rect.proofs.CodeNumbers.{kept}
 use Rattle.merge_up.specs.Sides.{IsSoFar, furthest_to}
 use Rattle.merge_up.proofs.SearchLemmas.{end_so_far, far_below, greatest_held, greatest_read, some_so_far, some_unless}

@@ -2,7 +2,7 @@ use Rattle.std.proofs.Common.{◌≡◌, ◌∙◌, ◌+◌, ◌-◌, ◌*◌, �
 use Rattle.std.proofs.lemmas.Int.{to_z-of_z}
 use Rattle.std.proofs.lemmas.List.{length-set}
 use Rattle.std.specs.Int.{w128}
-use Rattle.cts_model.specs.Topologies.{numbers_below}
+use Rattle.cts_model.specs.tree.Topologies.{numbers_below}
 use Rattle.tilted_rect.specs.Extremes.{HasExtremeSides}
 use Rattle.merge_up.specs.Sides.{extremes_of}
 use Rattle.merge_up.specs.Views.{state_of}

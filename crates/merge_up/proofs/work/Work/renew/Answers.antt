@@ -1,5 +1,5 @@
 use Rattle.std.proofs.Common.{◌-◌, get_or, length, inl, inr, sym, subst, arith}
-use Rattle.cts_model.specs.Topologies.{numbers_below}
+use Rattle.cts_model.specs.tree.Topologies.{numbers_below}
 use Rattle.cts_model.proofs.TopologyLemmas.{numbers_below-merge, second_made}
 use Rattle.merge_up.specs.Sides.{AreEnds}
 use Rattle.merge_up.proofs.WorkLemmas.{merge_read, no_merge}

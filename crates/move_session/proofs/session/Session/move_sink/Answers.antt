@@ -1,7 +1,7 @@
 use Rattle.std.proofs.Common.{◌≡◌, ◌≤◌, ◌+◌, length, sym, ap, subst, ◌∙◌}
 use Rattle.std.proofs.lemmas.List.{length-set}
-use Rattle.cts_model.specs.Sinks.{AreTreeSinks}
-use Rattle.cts_model.specs.Topologies.{IsTopology}
+use Rattle.cts_model.specs.tree.Sinks.{AreTreeSinks}
+use Rattle.cts_model.specs.tree.Topologies.{IsTopology}
 use Rattle.merge_up.specs.Merging.{IsMerged}
 use Rattle.merge_up.specs.Works.{WorkState}
 use Rattle.place_down.specs.Trees.{IsPlacedTree}

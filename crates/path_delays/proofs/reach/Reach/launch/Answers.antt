@@ -1,7 +1,7 @@
 -- A register launches its own signal, and the host each input.
 use Rattle.std.proofs.Common.{◌≡◌, ◌∙◌, false, sym}
 use Rattle.std.proofs.lemmas.Option.{slice_get-get_or}
-use Rattle.cts_model.specs.Kinds.{is_host}
+use Rattle.cts_model.specs.netlist.Kinds.{is_host}
 use Rattle.path_delays.proofs.Launching.{host_launches, register_launches}
 use Rattle.path_delays.proofs.WalkSteps.{IsReaching-register}
 use Rattle.path_delays.proofs.reach.Reach.launch.Goals as goal

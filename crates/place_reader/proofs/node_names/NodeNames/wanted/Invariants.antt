@@ -1,5 +1,5 @@
 use Rattle.std.proofs.Common.{take}
-use Rattle.cts_model.specs.Placements.{register_nodes}
+use Rattle.cts_model.specs.placement.Placements.{register_nodes}
 use Rattle.place_reader.specs.Known.{AreSameNames}
 use Rattle.place_reader.proofs.node_names.NodeNames.wanted.Given as goal
 

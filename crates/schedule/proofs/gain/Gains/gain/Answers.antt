@@ -1,6 +1,6 @@
 -- Products are small, so the code's numbers are the same.
 use Rattle.std.proofs.Common.{subst, sym, ◌^◌}
-use Rattle.cts_model.specs.Points.{IsBelow}
+use Rattle.cts_model.specs.placement.Points.{IsBelow}
 use Rattle.schedule.proofs.GainLemmas.{asked_fits, less_fits, setup_gain, hold_gain, gain_small}
 use Rattle.schedule.proofs.gain.Gains.gain.Goals as goal
 

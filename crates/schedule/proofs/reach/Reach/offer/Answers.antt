@@ -3,7 +3,7 @@ use Rattle.std.proofs.lemmas.Result.{on_ok_weaker}
 use Rattle.std.proofs.lemmas.List.{get_or_read}
 use Rattle.cts_model.specs.declared.constraint.Constraint.{Constraint}
 use Rattle.cts_model.specs.declared.schedule.Lead.TheVariants.{Zero}
-use Rattle.cts_model.specs.Leads.{IsTight, depth_of, lead_at}
+use Rattle.cts_model.specs.timing.Leads.{IsTight, depth_of, lead_at}
 use Rattle.schedule.proofs.SweepLemmas.{nowhere}
 use Rattle.schedule.proofs.HandLemmas.{IsGrown-offered}
 use Rattle.schedule.proofs.reach.Reach.offer.Goals as goal

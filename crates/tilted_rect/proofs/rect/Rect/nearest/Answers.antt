@@ -1,5 +1,5 @@
 use Rattle.std.proofs.Common.{sym, subst, rules}
-use Rattle.cts_model.specs.Points.{IsUvMultipleOf}
+use Rattle.cts_model.specs.placement.Points.{IsUvMultipleOf}
 use Rattle.tilted_rect.specs.Rects.{IsNearest}
 use Rattle.tilted_rect.proofs.CodeNumbers.{clamp_read}
 use Rattle.tilted_rect.proofs.RectLemmas.{clamped_nearest, clamped_multiple}

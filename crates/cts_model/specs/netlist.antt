@@ -1,0 +1,8 @@
+pub mod Kinds
+pub mod Statements
+pub mod Circuits
+pub mod Hosts
+pub mod UsedKinds
+pub mod Flaws
+pub mod Netlists
+pub mod Paths

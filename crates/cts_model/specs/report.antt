@@ -1,0 +1,5 @@
+pub mod ReportLines
+pub mod ReportBounds
+pub mod Judgements
+pub mod Shown
+pub mod SaidReports

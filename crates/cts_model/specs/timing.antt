@@ -1,0 +1,13 @@
+pub mod Delays
+pub mod PairLists
+pub mod EqualArrivals
+pub mod Timing
+pub mod Constraints
+pub mod ConstraintPaths
+pub mod Cycles
+pub mod LeastPeriods
+pub mod Laws
+pub mod Schedules
+pub mod Leads
+pub mod LeadLaws
+pub mod Slacks

@@ -1,0 +1,15 @@
+pub mod Problems
+pub mod Sinks
+pub mod Topologies
+pub mod Regions
+pub mod GreedyMerges
+pub mod ChosenPlaces
+pub mod Embeddings
+pub mod WaysDown
+pub mod Reaches
+pub mod ShownReaches
+pub mod TreeLaws
+pub mod DrawnWires
+pub mod WireDelays
+pub mod RealisedSchedules
+pub mod SkewLaws
