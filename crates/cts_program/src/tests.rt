@@ -1,3 +1,20 @@
+// The start of a delay table, with the setup, hold, least and greatest delay of registers.
+macro_rules! registers {
+    ($setup:literal, $hold:literal, $least:literal, $greatest:literal) => {
+        concat!(
+            "[wire]\ndelay = \"1/1\"\n[source]\nplace = \"CLK\"\n[register]\nsetup = ",
+            $setup,
+            "\nhold = ",
+            $hold,
+            "\nleast = ",
+            $least,
+            "\ngreatest = ",
+            $greatest,
+            "\n",
+        )
+    };
+}
+
 mod check;
 mod cornering;
 mod demo;
@@ -40,7 +57,21 @@ const LOPSIDED: &str = "A = DFF(m)\nB = DFF(n)\nn = NOT(A)\nm = BUFF(B)\n";
 
 const SLOW: &str = "[gate.NOT]\nleast = 7\ngreatest = 7\n[gate.BUFF]\nleast = 4\ngreatest = 4\n";
 
-const WIRE: &str = "[wire]\ndelay = \"1/1\"\n[source]\nplace = \"CLK\"\n[register]\n";
+const BUFF: &str = "[gate.BUFF]\nleast = 2\ngreatest = 5\n";
+
+const NOT: &str = "[gate.NOT]\nleast = 1\ngreatest = 3\n";
+
+const HOST: &str = "[host]\nplace = \"CLK\"\n";
+
+const ZEROS: &str = registers!(0, 0, 0, 0);
+
+const FLOOR_5: &str = "[period]\nfloor = 5\n";
+
+// A register on the way from an input to an output.
+const OUTPUT: &str = "INPUT(x)\nOUTPUT(g)\nA = DFF(x)\ng = NOT(A)\n";
+
+// Two registers that no path joins.
+const APART: &str = "INPUT(x)\nA = DFF(x)\nB = DFF(x)\n";
 
 const S27: &str = "# s27
 INPUT(G0)
@@ -170,6 +201,28 @@ fn sink(rt: &impl Abort, alloc: Global, room: usize, fails: &[u64]) -> MemorySin
     MemorySink::new(alloc, room, fails, 4).expect(rt, "memory")
 }
 
+// The bytes of a text that is given in parts.
+fn joined(rt: &impl Abort, alloc: Global, parts: &[&str]) -> Name {
+    let mut bytes = Vec::new(alloc);
+    for part in parts {
+        bytes
+            .extend_from_slice(part.as_bytes())
+            .expect(rt, "memory");
+    }
+    Listed::from_vec(bytes)
+}
+
+// The same as `whole_files` of texts in parts.
+fn files_in_parts(rt: &impl Abort, alloc: Global, texts: &[&[&str]]) -> MemoryInputs {
+    let mut files = Listed::new(alloc);
+    for (name, parts) in ["F", "T", "P", "R"].iter().zip(texts) {
+        let name = bytes_of(rt, alloc, name.as_bytes());
+        let bytes = joined(rt, alloc, parts);
+        files.push(HeldFile { name, bytes }).expect(rt, "memory");
+    }
+    MemoryInputs::new(files, Vec::new(alloc), 100_000)
+}
+
 // What the words leave over these devices.
 fn run_over(
     rt: &impl Abort,
@@ -205,37 +258,29 @@ fn zero_of(rt: &impl Abort, alloc: Global, bench: &[u8]) -> Seen {
     run_on(rt, alloc, &["zero", "--bench", "F"], inputs)
 }
 
-// What `zero --bench F --tech T` leaves over this netlist and this table.
-fn zero_with(rt: &impl Abort, alloc: Global, bench: &[u8], tech: &[u8]) -> Seen {
-    let inputs = whole_files(rt, alloc, &[bench, tech]);
-    run_on(rt, alloc, &["zero", "--bench", "F", "--tech", "T"], inputs)
-}
-
-// What a command with `--bench F --tech T` must leave over this netlist and this table.
-fn expect_answer(
-    rt: &impl Abort,
-    alloc: Global,
-    command: &str,
-    bench: &str,
-    tech: &str,
-    status: u8,
-    text: &str,
-) {
-    let inputs = whole_files(rt, alloc, &[bench.as_bytes(), tech.as_bytes()]);
-    let command = [command, "--bench", "F", "--tech", "T"];
-    run_on(rt, alloc, &command, inputs).expect(rt, status, text, "", bench);
-}
-
-// A table with a wire, a source, the setup, hold, least and greatest delay of registers, and more.
-fn table(rt: &impl Abort, alloc: Global, registers: [u32; 4], more: &str) -> String {
-    let [setup, hold, least, greatest] = registers;
-    format!(in alloc;
-        "{WIRE}setup = {setup}\nhold = {hold}\nleast = {least}\ngreatest = {greatest}\n{more}"
-    ).expect(rt, "memory")
-}
-
 // A text with another in the place of the first such part.
 fn changed(rt: &impl Abort, alloc: Global, text: &str, old: &str, new: &str) -> String {
     let (prefix, suffix) = text.split_once(old).expect(rt, "in the text");
     format!(in alloc; "{prefix}{new}{suffix}").expect(rt, "memory")
+}
+
+// The files of a run, each in parts, its status, and the text that it must print, or the line where
+// the status is above 1.
+type Row<'a> = (&'a [&'a [&'a str]], u8, &'a str);
+
+fn expect_row(rt: &impl Abort, alloc: Global, command: &[&str], row: &Row<'_>) {
+    let (texts, status, answer) = row;
+    let seen = run_on(rt, alloc, command, files_in_parts(rt, alloc, texts));
+    if *status > 1 {
+        seen.expect(rt, *status, "", answer, answer);
+    } else {
+        seen.expect(rt, *status, answer, "", answer);
+    }
+}
+
+// What a command must leave over the files of each row.
+fn expect_rows(rt: &impl Abort, alloc: Global, command: &[&str], rows: &[Row<'_>]) {
+    for row in rows {
+        expect_row(rt, alloc, command, row);
+    }
 }

@@ -1,175 +1,139 @@
-use crate::tests::{LOPSIDED, NO_PATH, RING, SLOW, Seen, USAGE, run_on, table, whole_files};
+use crate::tests::{
+    BUFF, FLOOR_5, HOST, LOPSIDED, NO_PATH, RING, Row, SLOW, USAGE, ZEROS, expect_row, joined,
+    run_on, whole_files,
+};
 use std::alloc::Global;
 use std::process::Abort;
-
-// The delays of registers in a table, and the rest of it.
-type Corner<'a> = ([u32; 4], &'a str);
-
-const BUFF: &str = "[gate.BUFF]\nleast = 2\ngreatest = 5\n";
 
 const NO_BUFF: &str = "[gate.BUFF]\nleast = 0\ngreatest = 0\n";
 
 const FAST: &str = "[gate.NOT]\nleast = 2\ngreatest = 2\n[gate.BUFF]\nleast = 8\ngreatest = 8\n";
 
-const HOST: &str = "[gate.BUFF]\nleast = 2\ngreatest = 5\n[host]\nplace = \"CLK\"\n";
+const BUFF_TABLE: &[&str] = &[registers!(0, 2, 1, 1), BUFF];
+
+const HOST_TABLE: &[&str] = &[registers!(0, 2, 1, 1), BUFF, HOST];
 
 const RING_TEXT: &str = "period 5\ncycle 2\nhold B A -1 1\nsetup B A 6 1\nregisters 2\nA 1\nB 0\n";
 
-// What `corners` leaves over this netlist and these tables, whose names in the words are these.
-fn corners_on(
-    rt: &impl Abort,
-    alloc: Global,
-    bench: &str,
-    tables: &[Corner<'_>],
-    names: &[&str],
-) -> Seen {
-    let mut made = Vec::new(alloc);
-    for (registers, more) in tables {
-        made.push(table(rt, alloc, *registers, more))
-            .expect(rt, "memory");
-    }
-    let mut texts = Vec::new(alloc);
-    texts.push(bench.as_bytes()).expect(rt, "memory");
-    for text in made.as_slice() {
-        texts.push(text.as_bytes()).expect(rt, "memory");
-    }
+// The names of the tables, and what `corners` must leave over the files.
+type Corners<'a> = (&'a [&'a str], Row<'a>);
+
+fn expect_corners(rt: &impl Abort, alloc: Global, corners: &Corners<'_>) {
+    let (tables, row) = corners;
     let mut command = Vec::new(alloc);
     command
         .extend_from_slice(&["corners", "--bench", "F"])
         .expect(rt, "memory");
-    command.extend_from_slice(names).expect(rt, "memory");
-    run_on(rt, alloc, &command, whole_files(rt, alloc, &texts))
+    command.extend_from_slice(tables).expect(rt, "memory");
+    expect_row(rt, alloc, &command, row);
 }
 
-// A netlist, its tables and the names of these, and the status, the text and the line.
-type Row<'a> = (
-    &'a str,
-    &'a [Corner<'a>],
-    &'a [&'a str],
-    u8,
-    &'a str,
-    &'a str,
-);
-
-const ROWS: [Row<'_>; 14] = [
+const CORNERS: [Corners<'_>; 14] = [
     // Alone the corners have the periods 11/2 and 5.
     (
-        LOPSIDED,
-        &[([0, 0, 0, 0], SLOW), ([0, 0, 0, 0], FAST)],
         &["T", "P"],
-        0,
-        "period 15/2\ncycle 2\nsetup A B 7 1\nsetup B A 8 2\nregisters 2\nA 1/2\nB 0\n",
-        "",
+        (
+            &[&[LOPSIDED], &[ZEROS, SLOW], &[ZEROS, FAST]],
+            0,
+            "period 15/2\ncycle 2\nsetup A B 7 1\nsetup B A 8 2\nregisters 2\nA 1/2\nB 0\n",
+        ),
     ),
     // Each of the two admits a period.
     (
-        RING,
-        &[([0, 2, 1, 1], BUFF), ([0, 2, 2, 2], NO_BUFF)],
         &["T", "P"],
-        1,
-        "never\ncycle 2\nhold B A 0 2\nhold A B 1 1\n",
-        "",
+        (
+            &[&[RING], BUFF_TABLE, &[registers!(0, 2, 2, 2), NO_BUFF]],
+            1,
+            "never\ncycle 2\nhold B A 0 2\nhold A B 1 1\n",
+        ),
     ),
-    (RING, &[([0, 2, 1, 1], BUFF)], &["T"], 0, RING_TEXT, ""),
+    (&["T"], (&[&[RING], BUFF_TABLE], 0, RING_TEXT)),
     // The first of the corners with the greatest weight is named.
-    (RING, &[([0, 2, 1, 1], BUFF)], &["T", "T"], 0, RING_TEXT, ""),
+    (&["T", "T"], (&[&[RING], BUFF_TABLE], 0, RING_TEXT)),
     (
-        RING,
-        &[([0, 2, 1, 1], BUFF)],
         &[
             "T", "T", "T", "T", "T", "T", "T", "T", "T", "T", "T", "T", "T", "T", "T", "T",
         ],
-        0,
-        RING_TEXT,
-        "",
+        (&[&[RING], BUFF_TABLE], 0, RING_TEXT),
     ),
     // The second table alone has a floor.
     (
-        NO_PATH,
-        &[([0, 0, 0, 0], ""), ([0, 0, 0, 0], "[period]\nfloor = 5\n")],
         &["T", "P"],
-        0,
-        "period 5\nfloor\nregisters 1\na 0\n",
-        "",
+        (
+            &[&[NO_PATH], &[ZEROS], &[ZEROS, FLOOR_5]],
+            0,
+            "period 5\nfloor\nregisters 1\na 0\n",
+        ),
     ),
     // The netlist is judged before all tables.
     (
-        "a = DFF(y)\n",
-        &[],
         &["none"],
-        3,
-        "",
-        "refused bench 6 line 1\n",
+        (&[&["a = DFF(y)\n"]], 3, "refused bench 6 line 1\n"),
     ),
     (
-        RING,
-        &[([0, 2, 1, 1], BUFF), ([0, 2, 1, 1], "")],
         &["T", "T", "P"],
-        3,
-        "",
-        "refused corner 3 tech 6 BUFF\n",
+        (
+            &[&[RING], BUFF_TABLE, &[registers!(0, 2, 1, 1)]],
+            3,
+            "refused corner 3 tech 6 BUFF\n",
+        ),
     ),
     (
-        RING,
-        &[([0, 2, 2, 1], BUFF), ([0, 2, 1, 1], "")],
         &["T", "P"],
-        3,
-        "",
-        "refused corner 1 tech 5 register\n",
+        (
+            &[
+                &[RING],
+                &[registers!(0, 2, 2, 1), BUFF],
+                &[registers!(0, 2, 1, 1)],
+            ],
+            3,
+            "refused corner 1 tech 5 register\n",
+        ),
     ),
     (
-        RING,
-        &[([0, 2, 1, 1], BUFF), ([0, 2, 1, 1], HOST)],
         &["T", "P"],
-        3,
-        "",
-        "refused corner 2 host\n",
+        (
+            &[&[RING], BUFF_TABLE, HOST_TABLE],
+            3,
+            "refused corner 2 host\n",
+        ),
     ),
     (
-        RING,
-        &[([0, 2, 1, 1], HOST), ([0, 2, 1, 1], BUFF)],
         &["T", "T", "P"],
-        3,
-        "",
-        "refused corner 3 host\n",
+        (
+            &[&[RING], HOST_TABLE, BUFF_TABLE],
+            3,
+            "refused corner 3 host\n",
+        ),
     ),
     // A table is judged for its own faults first.
     (
-        RING,
-        &[
-            ([0, 2, 1, 1], BUFF),
-            ([0, 2, 1, 1], "[host]\nplace = \"CLK\"\n"),
-        ],
         &["T", "P"],
-        3,
-        "",
-        "refused corner 2 tech 6 BUFF\n",
+        (
+            &[&[RING], BUFF_TABLE, &[registers!(0, 2, 1, 1), HOST]],
+            3,
+            "refused corner 2 tech 6 BUFF\n",
+        ),
     ),
     (
-        RING,
-        &[([0, 2, 1, 1], BUFF)],
         &["T", "none"],
-        4,
-        "",
-        "read fault corner 2\n",
+        (&[&[RING], BUFF_TABLE], 4, "read fault corner 2\n"),
     ),
     // The second table isn't read.
     (
-        RING,
-        &[([0, 2, 1, 1], "")],
         &["T", "none"],
-        3,
-        "",
-        "refused corner 1 tech 6 BUFF\n",
+        (
+            &[&[RING], &[registers!(0, 2, 1, 1)]],
+            3,
+            "refused corner 1 tech 6 BUFF\n",
+        ),
     ),
 ];
 
 #[test]
 fn serves_all_corners_or_says_why_not(rt: HostRuntime) {
-    for (bench, tables, names, status, text, line) in &ROWS {
-        let seen = corners_on(&rt, rt.alloc(), bench, tables, names);
-        let row = if line.is_empty() { text } else { line };
-        seen.expect(&rt, *status, text, line, row);
+    for corners in &CORNERS {
+        expect_corners(&rt, rt.alloc(), corners);
     }
 }
 
@@ -188,10 +152,8 @@ const NO_COMMANDS: [&[&str]; 6] = [
 
 #[test]
 fn takes_1_to_16_tables(rt: HostRuntime) {
-    let alloc = rt.alloc();
     for words in &NO_COMMANDS {
-        let inputs = whole_files(&rt, alloc, &[RING.as_bytes()]);
-        run_on(&rt, alloc, words, inputs).expect(&rt, 2, "", USAGE, "words");
+        expect_row(&rt, rt.alloc(), words, &(&[&[RING]], 2, USAGE));
     }
 }
 
@@ -199,8 +161,8 @@ fn takes_1_to_16_tables(rt: HostRuntime) {
 fn refuses_a_table_that_is_too_long(rt: HostRuntime) {
     let alloc = rt.alloc();
     let long = vec![in alloc; b'#'; 16_777_217].expect(&rt, "memory");
-    let tech = table(&rt, alloc, [0, 2, 1, 1], BUFF);
-    let inputs = whole_files(&rt, alloc, &[RING.as_bytes(), tech.as_bytes(), &long]);
+    let tech = joined(&rt, alloc, BUFF_TABLE);
+    let inputs = whole_files(&rt, alloc, &[RING.as_bytes(), tech.as_slice(), &long]);
     let seen = run_on(&rt, alloc, &["corners", "--bench", "F", "T", "P"], inputs);
     seen.expect(&rt, 3, "", "refused corner 2 tech long\n", "a byte more");
 }

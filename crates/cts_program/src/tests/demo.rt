@@ -1,4 +1,4 @@
-use crate::tests::{Seen, expect_same, run_on, whole_files};
+use crate::tests::{Row, Seen, expect_rows, expect_same, run_on, whole_files};
 use std::alloc::Global;
 use std::process::Abort;
 
@@ -8,11 +8,16 @@ fn demo_of(rt: &impl Abort, alloc: Global, registers: &str, seed: &str) -> Seen 
     run_on(rt, alloc, &command, whole_files(rt, alloc, &[]))
 }
 
+const TWO: [Row<'_>; 1] = [(&[], 0, "registers 2\nperiod 25/2\nwire 2163/2\nshown\n")];
+
+// However the two numbers are spelled.
 #[test]
 fn shows_the_tree_of_two_registers(rt: HostRuntime) {
-    let text = "registers 2\nperiod 25/2\nwire 2163/2\nshown\n";
-    demo_of(&rt, rt.alloc(), "2", "0").expect(&rt, 0, text, "", "2");
-    demo_of(&rt, rt.alloc(), "0002", "000").expect(&rt, 0, text, "", "0002");
+    let alloc = rt.alloc();
+    let short = ["demo", "--registers", "2", "--seed", "0"];
+    expect_rows(&rt, alloc, &short, &TWO);
+    let long = ["demo", "--registers", "0002", "--seed", "000"];
+    expect_rows(&rt, alloc, &long, &TWO);
 }
 
 #[test]

@@ -1,14 +1,16 @@
 use crate::tests::problems::{
     EMBED, LONE, LONE_PLACES, LONE_TREE, S27_PLACES, S27_PROBLEM, S27_TREE, files_with,
 };
-use crate::tests::{S27, S27_TABLE, Seen, changed, run_on, table};
+use crate::tests::{
+    FLOOR_5, Row, S27, S27_TABLE, ZEROS, expect_row, expect_rows, expect_same, run_on,
+};
 use std::alloc::{AllocError, Global};
 use std::process::Abort;
 
-// What `embed` leaves over a problem and this topology.
-fn embed_of(rt: &impl Abort, alloc: Global, problem: [&str; 3], topology: &str) -> Seen {
-    let inputs = files_with(rt, alloc, problem, topology.as_bytes());
-    run_on(rt, alloc, &EMBED, inputs)
+// What `embed` must leave over s27 and this topology.
+fn expect_s27(rt: &impl Abort, alloc: Global, topology: &str, status: u8, answer: &str) {
+    let texts: [&[&str]; 4] = [&[S27], &[S27_TABLE], &[S27_PLACES], &[topology]];
+    expect_row(rt, alloc, &EMBED, &(&texts, status, answer));
 }
 
 // Topologies that denote the greedy one of s27.
@@ -16,28 +18,30 @@ const S27_TOPOLOGIES: [&str; 2] = ["3 1 0\n4 2 3\n", "# two merges\n\n3 0 1 # fi
 
 #[test]
 fn makes_the_tree_of_a_given_topology(rt: HostRuntime) {
-    for topology in S27_TOPOLOGIES.as_slice() {
-        embed_of(&rt, rt.alloc(), S27_PROBLEM, topology).expect(&rt, 0, S27_TREE, "", topology);
+    for topology in &S27_TOPOLOGIES {
+        expect_s27(&rt, rt.alloc(), topology, 0, S27_TREE);
     }
+}
+
+// What `embed` must leave over one register and this topology.
+fn expect_lone(rt: &impl Abort, alloc: Global, topology: &str, status: u8, answer: &str) {
+    let texts: [&[&str]; 4] = [&[LONE], &[ZEROS, FLOOR_5], &[LONE_PLACES], &[topology]];
+    expect_row(rt, alloc, &EMBED, &(&texts, status, answer));
 }
 
 // Topologies of one register: nothing is to be joined.
 const LONE_TOPOLOGIES: [(&str, u8, &str); 5] = [
-    ("", 0, ""),
-    ("\n", 0, ""),
-    ("# none\r\n", 0, ""),
+    ("", 0, LONE_TREE),
+    ("\n", 0, LONE_TREE),
+    ("# none\r\n", 0, LONE_TREE),
     ("1 0 0\n", 3, "refused topology 4 line 1\n"),
     ("\nx", 3, "refused topology 4 line 2\n"),
 ];
 
 #[test]
 fn joins_nothing_to_one_register(rt: HostRuntime) {
-    let alloc = rt.alloc();
-    let tech = table(&rt, alloc, [0, 0, 0, 0], "[period]\nfloor = 5\n");
-    for (topology, status, line) in &LONE_TOPOLOGIES {
-        let text = if *status == 0 { LONE_TREE } else { "" };
-        let seen = embed_of(&rt, alloc, [LONE, &tech, LONE_PLACES], topology);
-        seen.expect(&rt, *status, text, line, topology);
+    for (topology, status, answer) in &LONE_TOPOLOGIES {
+        expect_lone(&rt, rt.alloc(), topology, *status, answer);
     }
 }
 
@@ -61,27 +65,30 @@ const REFUSED: [(&str, &str); 10] = [
 #[test]
 fn refuses_other_topologies(rt: HostRuntime) {
     for (topology, line) in &REFUSED {
-        embed_of(&rt, rt.alloc(), S27_PROBLEM, topology).expect(&rt, 3, "", line, topology);
+        expect_s27(&rt, rt.alloc(), topology, 3, line);
     }
 }
+
+const NO_PLACE: [Row<'_>; 1] = [(
+    &[
+        &[S27],
+        &[S27_TABLE],
+        &["UCLA pl 1.0\nG5 0 0 : N\nG6 4 2 : N\nCLK 5 10 : N /FIXED\n"],
+        &["x"],
+    ],
+    3,
+    "refused pl 4 G7\n",
+)];
 
 // The files before it are judged first, then its length.
 #[test]
 fn judges_the_topology_last(rt: HostRuntime) {
     let alloc = rt.alloc();
+    expect_rows(&rt, alloc, &EMBED, &NO_PLACE);
     let long = vec![in alloc; b'#'; 16_777_217].expect(&rt, "memory");
     let inputs = files_with(&rt, alloc, S27_PROBLEM, &long);
     let seen = run_on(&rt, alloc, &EMBED, inputs);
     seen.expect(&rt, 3, "", "refused topology long\n", "a byte more");
-    let places = changed(&rt, alloc, S27_PLACES, "G7 10 0 : N\n", "");
-    let seen = embed_of(&rt, alloc, [S27, S27_TABLE, &places], "x");
-    seen.expect(
-        &rt,
-        3,
-        "",
-        "refused pl 4 G7\n",
-        "a placement that is refused",
-    );
 }
 
 // This many registers in a row, with their places from the source on.
@@ -106,25 +113,29 @@ fn chain(alloc: Global) -> Result<String, AllocError> {
     Ok(topology)
 }
 
+const WANTED: [&str; 3] = [
+    "78 39 77 39/2 pair r0 r39",
+    "source 39 sink r39",
+    "wire 429",
+];
+
+fn expect_line(rt: &impl Abort, text: &str, wanted: &str) {
+    assert!(rt;
+        text.lines().any(|line| line == wanted),
+        "no line {wanted:?}"
+    );
+}
+
 #[test]
 fn makes_the_tree_of_a_chain(rt: HostRuntime) {
     let alloc = rt.alloc();
     let (bench, places) = row_of_registers(alloc, 40).expect(&rt, "memory");
     let topology = chain(alloc).expect(&rt, "memory");
-    let tech = table(&rt, alloc, [0, 0, 0, 0], "");
-    let seen = embed_of(&rt, alloc, [&bench, &tech, &places], &topology);
-    assert_eq!(&rt; seen.status, 0);
+    let inputs = files_with(&rt, alloc, [&bench, ZEROS, &places], topology.as_bytes());
+    let seen = run_on(&rt, alloc, &EMBED, inputs);
+    expect_same(&rt, seen.status, 0, &"a chain");
     let text = str::from_utf8(seen.out.bytes()).expect(&rt, "a report");
-    for wanted in [
-        "78 39 77 39/2 pair r0 r39",
-        "source 39 sink r39",
-        "wire 429",
-    ]
-    .as_slice()
-    {
-        assert!(&rt;
-            text.lines().any(|line| line == *wanted),
-            "no line {wanted:?}"
-        );
+    for wanted in &WANTED {
+        expect_line(&rt, text, wanted);
     }
 }

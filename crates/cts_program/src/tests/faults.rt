@@ -1,6 +1,4 @@
-use crate::tests::{
-    FLOOR, NO_PATH, Seen, expect_same, held_files, run_on, run_over, sink, table, whole_files,
-};
+use crate::tests::{FLOOR, NO_PATH, Seen, ZEROS, held_files, run_on, run_over, sink, whole_files};
 use std::alloc::Global;
 use std::process::Abort;
 
@@ -63,14 +61,10 @@ fn keeps_its_status_where_err_fails(rt: HostRuntime) {
 const TABLED: [&str; 5] = ["zero", "--bench", "F", "--tech", "T"];
 
 // What a command leaves over a netlist and a table where this call fails.
-fn table_failing(rt: &impl Abort, alloc: Global, tech: &str, call: u64) -> Seen {
-    let texts = [NO_PATH.as_bytes(), tech.as_bytes()];
-    run_on(
-        rt,
-        alloc,
-        &TABLED,
-        held_files(rt, alloc, &texts, &[call], 16),
-    )
+fn table_failing(rt: &impl Abort, alloc: Global, call: u64) -> Seen {
+    let texts = [NO_PATH.as_bytes(), ZEROS.as_bytes()];
+    let files = held_files(rt, alloc, &texts, &[call], 16);
+    run_on(rt, alloc, &TABLED, files)
 }
 
 // In pieces of 16 the 20 bytes of the netlist take a start, two takes, and one that finds its end.
@@ -78,17 +72,16 @@ fn table_failing(rt: &impl Abort, alloc: Global, tech: &str, call: u64) -> Seen 
 #[test]
 fn blames_the_table_that_fails(rt: HostRuntime) {
     let alloc = rt.alloc();
-    let tech = table(&rt, alloc, [0, 0, 0, 0], "");
-    expect_same(&rt, tech.len(), 97, &"the table");
+    assert!(&rt; ZEROS.len() == 97);
     for call in 1..5 {
-        let seen = table_failing(&rt, alloc, &tech, call);
+        let seen = table_failing(&rt, alloc, call);
         seen.expect(&rt, 4, "", "read fault bench\n", "a failing call");
     }
     for call in 5..14 {
-        let seen = table_failing(&rt, alloc, &tech, call);
+        let seen = table_failing(&rt, alloc, call);
         seen.expect(&rt, 4, "", "read fault tech\n", "a failing call");
     }
-    let seen = table_failing(&rt, alloc, &tech, 14);
+    let seen = table_failing(&rt, alloc, 14);
     seen.expect(&rt, 0, FLOOR, "", "no call that fails");
     let missing = whole_files(&rt, alloc, &[NO_PATH.as_bytes()]);
     let seen = run_on(&rt, alloc, &TABLED, missing);

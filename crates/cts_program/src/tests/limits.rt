@@ -1,4 +1,4 @@
-use crate::tests::{FLOOR, NO_PATH, zero_of, zero_with};
+use crate::tests::{FLOOR, NO_PATH, run_on, whole_files, zero_of};
 use std::alloc::{AllocError, Global};
 use std::process::Abort;
 
@@ -150,8 +150,10 @@ fn counts_the_bytes_of_a_file(rt: HostRuntime) {
 
 #[test]
 fn counts_the_bytes_of_a_table(rt: HostRuntime) {
-    let long = vec![in rt.alloc(); b'#'; 16_777_217].expect(&rt, "memory");
-    let seen = zero_with(&rt, rt.alloc(), NO_PATH.as_bytes(), &long);
+    let alloc = rt.alloc();
+    let long = vec![in alloc; b'#'; 16_777_217].expect(&rt, "memory");
+    let inputs = whole_files(&rt, alloc, &[NO_PATH.as_bytes(), &long]);
+    let seen = run_on(&rt, alloc, &["zero", "--bench", "F", "--tech", "T"], inputs);
     seen.expect(&rt, 3, "", "refused tech long\n", "a byte more");
 }
 

@@ -1,7 +1,10 @@
 use crate::tests::problems::{
-    LONE, LONE_PLACES, LOPSIDED_PLACES, PAIR, PAIR_PLACES, files_with, texts_with,
+    LONE, LONE_PLACES, LOPSIDED_PLACES, PAIR_PLACES, files_with, texts_with,
 };
-use crate::tests::{LOPSIDED, SLOW, Seen, held_files, run_on, table};
+use crate::tests::{
+    APART, HOST, LOPSIDED, NOT, OUTPUT, Row, SLOW, ZEROS, expect_row, expect_rows, held_files,
+    run_on,
+};
 use std::alloc::Global;
 use std::process::Abort;
 
@@ -9,17 +12,10 @@ const MOVES: [&str; 9] = [
     "moves", "--moves", "R", "--pl", "P", "--bench", "F", "--tech", "T",
 ];
 
-// What `moves` leaves over a problem and these moves.
-fn moves_of(rt: &impl Abort, alloc: Global, problem: [&str; 3], moves: &str) -> Seen {
-    let inputs = files_with(rt, alloc, problem, moves.as_bytes());
-    run_on(rt, alloc, &MOVES, inputs)
-}
-
-// What it must leave over two registers that no path joins, of which A stands at the source.
-fn expect_pair(rt: &impl Abort, alloc: Global, moves: &str, status: u8, text: &str, line: &str) {
-    let tech = table(rt, alloc, [0, 0, 0, 0], "");
-    let seen = moves_of(rt, alloc, [PAIR, &tech, PAIR_PLACES], moves);
-    seen.expect(rt, status, text, line, moves);
+// What `moves` must leave over two registers that no path joins, of which A stands at the source.
+fn expect_pair(rt: &impl Abort, alloc: Global, moves: &str, status: u8, answer: &str) {
+    let texts: [&[&str]; 4] = [&[APART], &[ZEROS], &[PAIR_PLACES], &[moves]];
+    expect_row(rt, alloc, &MOVES, &(&texts, status, answer));
 }
 
 // Moves of the two registers, and what is printed.
@@ -48,7 +44,7 @@ const PAIR_MOVES: [(&str, &str); 8] = [
 #[test]
 fn tells_the_wire_after_each_move(rt: HostRuntime) {
     for (moves, text) in &PAIR_MOVES {
-        expect_pair(&rt, rt.alloc(), moves, 0, text, "");
+        expect_pair(&rt, rt.alloc(), moves, 0, text);
     }
 }
 
@@ -68,84 +64,68 @@ const REFUSED: [(&str, &str); 9] = [
 #[test]
 fn refuses_other_moves(rt: HostRuntime) {
     for (moves, line) in &REFUSED {
-        expect_pair(&rt, rt.alloc(), moves, 3, "", line);
+        expect_pair(&rt, rt.alloc(), moves, 3, line);
     }
 }
 
-// A netlist, the delays of registers and more of its table, a placement, and moves; the status and
-// what is printed.
-type Row = (
-    &'static str,
-    [u32; 4],
-    &'static str,
-    &'static str,
-    &'static str,
-    u8,
-    &'static str,
-);
-
-const PROBLEMS: [Row; 4] = [
+const PROBLEMS: [Row<'_>; 5] = [
     // One register alone.
     (
-        LONE,
-        [0, 0, 0, 0],
-        "",
-        LONE_PLACES,
-        "A 0 0\nA -1 2.5\n",
+        &[&[LONE], &[ZEROS], &[LONE_PLACES], &["A 0 0\nA -1 2.5\n"]],
         0,
         "wire 7\nwire 0\nwire 7/2\n",
     ),
     // A register that is reached later is so wherever it goes.
     (
-        LOPSIDED,
-        [0, 0, 0, 0],
-        SLOW,
-        LOPSIDED_PLACES,
-        "B 0 0\nB 5 0\n",
+        &[
+            &[LOPSIDED],
+            &[ZEROS, SLOW],
+            &[LOPSIDED_PLACES],
+            &["B 0 0\nB 5 0\n"],
+        ],
         0,
         "wire 3/2\nwire 3/2\nwire 27/4\n",
     ),
     // The host moves as registers do.
     (
-        "INPUT(x)\nOUTPUT(g)\nA = DFF(x)\ng = NOT(A)\n",
-        [1, 1, 1, 2],
-        "[gate.NOT]\nleast = 1\ngreatest = 3\n[host]\nplace = \"CLK\"\n",
-        "A 0 0\nCLK 4 0\n",
-        "(host) 4 0\n(host) 0 0\n",
+        &[
+            &[OUTPUT],
+            &[registers!(1, 1, 1, 2), NOT, HOST],
+            &["A 0 0\nCLK 4 0\n"],
+            &["(host) 4 0\n(host) 0 0\n"],
+        ],
         0,
         "wire 13/2\nwire 13/2\nwire 5\n",
     ),
     // No period will do, wherever the register goes.
     (
-        "A = DFF(A)\n",
-        [0, 2, 1, 1],
-        "",
-        LOPSIDED_PLACES,
-        "A 1 1\n",
+        &[
+            &["A = DFF(A)\n"],
+            &[registers!(0, 2, 1, 1)],
+            &[LOPSIDED_PLACES],
+            &["A 1 1\n"],
+        ],
         1,
         "never\ncycle 1\nhold A A 1\n",
     ),
+    // The files before the moves are judged first.
+    (
+        &[&[APART], &[ZEROS], &["A 0 0\nCLK 0 0\n"], &["x"]],
+        3,
+        "refused pl 4 B\n",
+    ),
 ];
-
-fn expect_row(rt: &impl Abort, alloc: Global, row: &Row) {
-    let (bench, registers, more, pl, moves, status, text) = row;
-    let tech = table(rt, alloc, *registers, more);
-    moves_of(rt, alloc, [bench, &tech, pl], moves).expect(rt, *status, text, "", bench);
-}
 
 #[test]
 fn keeps_the_schedule_of_each_problem(rt: HostRuntime) {
-    for row in &PROBLEMS {
-        expect_row(&rt, rt.alloc(), row);
-    }
+    expect_rows(&rt, rt.alloc(), &MOVES, &PROBLEMS);
 }
 
 // In one piece each file takes three calls, and the moves come last.
 #[test]
 fn blames_moves_that_are_not_read(rt: HostRuntime) {
     let alloc = rt.alloc();
-    let tech = table(&rt, alloc, [0, 0, 0, 0], "");
-    let texts = texts_with([PAIR, &tech, PAIR_PLACES], b"B 2 1\n");
+    let texts = texts_with([APART, ZEROS, PAIR_PLACES], b"B 2 1\n");
     for call in 10..13 {
         let files = held_files(&rt, alloc, &texts, &[call], 100_000);
         let seen = run_on(&rt, alloc, &MOVES, files);
@@ -156,18 +136,11 @@ fn blames_moves_that_are_not_read(rt: HostRuntime) {
     seen.expect(&rt, 0, "wire 9/2\nwire 9/2\n", "", "no call that fails");
 }
 
-// What is refused of two registers at these places and these moves.
-fn expect_refused(rt: &impl Abort, alloc: Global, pl: &str, moves: &[u8], line: &str) {
-    let tech = table(rt, alloc, [0, 0, 0, 0], "");
-    let inputs = files_with(rt, alloc, [PAIR, &tech, pl], moves);
-    run_on(rt, alloc, &MOVES, inputs).expect(rt, 3, "", line, line);
-}
-
-// The files before it are judged first, then its length.
 #[test]
-fn judges_the_moves_last(rt: HostRuntime) {
+fn refuses_moves_that_are_too_long(rt: HostRuntime) {
     let alloc = rt.alloc();
     let long = vec![in alloc; b'#'; 16_777_217].expect(&rt, "memory");
-    expect_refused(&rt, alloc, PAIR_PLACES, &long, "refused moves long\n");
-    expect_refused(&rt, alloc, "A 0 0\nCLK 0 0\n", b"x", "refused pl 4 B\n");
+    let inputs = files_with(&rt, alloc, [APART, ZEROS, PAIR_PLACES], &long);
+    let seen = run_on(&rt, alloc, &MOVES, inputs);
+    seen.expect(&rt, 3, "", "refused moves long\n", "a byte more");
 }

@@ -83,9 +83,6 @@ nodes 3
 wire 3/2
 ";
 
-// Two registers that no path joins.
-pub const PAIR: &str = "INPUT(x)\nA = DFF(x)\nB = DFF(x)\n";
-
 pub const PAIR_PLACES: &str = "A 0 0\nB 2 1\nCLK 0 0\n";
 
 pub const PAIR_TREE: &str = "cts 2

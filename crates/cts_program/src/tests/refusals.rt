@@ -1,44 +1,59 @@
 use crate::tests::{
-    NO_PATH, S27, S27_TABLE, USAGE, changed, held_files, run_on, table, zero_of, zero_with,
+    NO_PATH, Row, S27, S27_TABLE, USAGE, ZEROS, changed, expect_row, expect_rows, held_files,
+    run_on,
 };
 use cts_io::Inputs;
 use std::alloc::Global;
 use std::process::Abort;
 
-fn expect_refused(rt: &impl Abort, alloc: Global, netlist: &str, line: &str) {
-    zero_of(rt, alloc, netlist.as_bytes()).expect(rt, 3, "", line, netlist);
-}
+const ZERO: [&str; 3] = ["zero", "--bench", "F"];
+
+const NETLISTS: [Row<'_>; 15] = [
+    (&[&["INPUT(x)\na = DFF(x"]], 3, "refused bench 1 line 2\n"),
+    (&[&["x = FOO(a,)\n"]], 3, "refused bench 1 line 1\n"),
+    (&[&["g = BUF(x) y\n"]], 3, "refused bench 1 line 1\n"),
+    (&[&["x = FOO()\n"]], 3, "refused bench 2 line 1\n"),
+    (&[&["x = INPUT(y)\n"]], 3, "refused bench 2 line 1\n"),
+    (
+        &[&["a = DFF(a)\nb = FOO(a)\n"]],
+        3,
+        "refused bench 2 line 2\n",
+    ),
+    (
+        &[&["a = DFF(a)\na = NOT(a, a)\n"]],
+        3,
+        "refused bench 3 line 2\n",
+    ),
+    (
+        &[&["a = DFF(a)\na = NOT(a)\n"]],
+        3,
+        "refused bench 4 line 2\n",
+    ),
+    (&[&["INPUT(x)\nINPUT(x)\n"]], 3, "refused bench 4 line 2\n"),
+    // A ring of gates is judged last, and an undefined name before that there is no register.
+    (
+        &[&["a = DFF(a)\ng = NOT(y)\nh = NOT(h)\n"]],
+        3,
+        "refused bench 6 line 2\n",
+    ),
+    (
+        &[&["a = DFF(a)\nOUTPUT(q)\n"]],
+        3,
+        "refused bench 6 line 2\n",
+    ),
+    (
+        &[&["INPUT(x)\na = DFF(x)\ng = AND(x, h)\nh = NOT(g)\n"]],
+        3,
+        "refused bench 7 g h\n",
+    ),
+    (&[&[""]], 3, "refused bench 8\n"),
+    (&[&["INPUT(x)\nINPUT(y)\n"]], 3, "refused bench 8\n"),
+    (&[&["INPUT(x)\nh = NOT(h)\n"]], 3, "refused bench 8\n"),
+];
 
 #[test]
 fn refuses_netlists(rt: HostRuntime) {
-    for (netlist, line) in [
-        ("INPUT(x)\na = DFF(x", "refused bench 1 line 2\n"),
-        ("x = FOO(a,)\n", "refused bench 1 line 1\n"),
-        ("g = BUF(x) y\n", "refused bench 1 line 1\n"),
-        ("x = FOO()\n", "refused bench 2 line 1\n"),
-        ("x = INPUT(y)\n", "refused bench 2 line 1\n"),
-        ("a = DFF(a)\nb = FOO(a)\n", "refused bench 2 line 2\n"),
-        ("a = DFF(a)\na = NOT(a, a)\n", "refused bench 3 line 2\n"),
-        ("a = DFF(a)\na = NOT(a)\n", "refused bench 4 line 2\n"),
-        ("INPUT(x)\nINPUT(x)\n", "refused bench 4 line 2\n"),
-        // A ring of gates is judged last, and an undefined name before that there is no register.
-        (
-            "a = DFF(a)\ng = NOT(y)\nh = NOT(h)\n",
-            "refused bench 6 line 2\n",
-        ),
-        ("a = DFF(a)\nOUTPUT(q)\n", "refused bench 6 line 2\n"),
-        (
-            "INPUT(x)\na = DFF(x)\ng = AND(x, h)\nh = NOT(g)\n",
-            "refused bench 7 g h\n",
-        ),
-        ("", "refused bench 8\n"),
-        ("INPUT(x)\nINPUT(y)\n", "refused bench 8\n"),
-        ("INPUT(x)\nh = NOT(h)\n", "refused bench 8\n"),
-    ]
-    .as_slice()
-    {
-        expect_refused(&rt, rt.alloc(), netlist, line);
-    }
+    expect_rows(&rt, rt.alloc(), &ZERO, &NETLISTS);
 }
 
 // The first call on the inputs fails, and it is still to come: no file was started.
@@ -84,92 +99,102 @@ fn refuses_words(rt: HostRuntime) {
     }
 }
 
-// What is left over s27 and its table with one part changed: a text, or a line of why not.
-fn expect_change(rt: &impl Abort, alloc: Global, change: [&str; 2], text: &str, line: &str) {
-    let [old, new] = change;
+const TABLED: [&str; 5] = ["zero", "--bench", "F", "--tech", "T"];
+
+// What `zero` must leave over s27 and its table with one part changed.
+fn expect_change(rt: &impl Abort, alloc: Global, old: &str, new: &str, status: u8, answer: &str) {
     let tech = changed(rt, alloc, S27_TABLE, old, new);
-    let seen = zero_with(rt, alloc, S27.as_bytes(), tech.as_bytes());
-    seen.expect(rt, if text.is_empty() { 3 } else { 0 }, text, line, new);
+    let texts: [&[&str]; 2] = [&[S27], &[&tech]];
+    expect_row(rt, alloc, &TABLED, &(&texts, status, answer));
 }
+
+// A part of the table, what stands in its place, the status, and the text or the line.
+const CHANGES: [(&str, &str, u8, &str); 12] = [
+    ("[wire]", "[wire]", 0, "zero 15\nsetup G6 G5 15\n"),
+    ("\"1/1\"", "\"01/02\"", 0, "zero 15\nsetup G6 G5 15\n"),
+    ("\"1/1\"", "\"1/0\"", 3, "refused tech 4 wire.delay\n"),
+    ("\"1/1\"", "1.5", 3, "refused tech 3 wire.delay\n"),
+    (
+        "setup = 1",
+        "setup = -1",
+        3,
+        "refused tech 4 register.setup\n",
+    ),
+    (
+        "setup = 1",
+        "setup = true",
+        3,
+        "refused tech 3 register.setup\n",
+    ),
+    (
+        "\nleast = 1\n",
+        "\nleast = 3\n",
+        3,
+        "refused tech 5 register\n",
+    ),
+    ("[gate.OR]", "[gate.XOR]", 3, "refused tech 6 OR\n"),
+    (
+        "[source]",
+        "width = 3\n[source]",
+        3,
+        "refused tech 7 wire.width\n",
+    ),
+    ("[wire]", "[\"a é\"]\n[wire]", 3, "refused tech 7 a???\n"),
+    ("[wire]", "[host]\n[wire]", 3, "refused tech 2 host.place\n"),
+    (
+        "[wire]",
+        "[host]\nplace = \"\"\n[wire]",
+        3,
+        "refused tech 4 host.place\n",
+    ),
+];
 
 #[test]
 fn answers_each_change_of_a_table(rt: HostRuntime) {
-    let wanted = "zero 15\nsetup G6 G5 15\n";
-    for (change, text, line) in [
-        (["[wire]", "[wire]"], wanted, ""),
-        (["\"1/1\"", "\"01/02\""], wanted, ""),
-        (["\"1/1\"", "\"1/0\""], "", "refused tech 4 wire.delay\n"),
-        (["\"1/1\"", "1.5"], "", "refused tech 3 wire.delay\n"),
-        (
-            ["setup = 1", "setup = -1"],
-            "",
-            "refused tech 4 register.setup\n",
-        ),
-        (
-            ["setup = 1", "setup = true"],
-            "",
-            "refused tech 3 register.setup\n",
-        ),
-        (
-            ["\nleast = 1\n", "\nleast = 3\n"],
-            "",
-            "refused tech 5 register\n",
-        ),
-        (["[gate.OR]", "[gate.XOR]"], "", "refused tech 6 OR\n"),
-        (
-            ["[source]", "width = 3\n[source]"],
-            "",
-            "refused tech 7 wire.width\n",
-        ),
-        (["[wire]", "[\"a é\"]\n[wire]"], "", "refused tech 7 a???\n"),
-        (
-            ["[wire]", "[host]\n[wire]"],
-            "",
-            "refused tech 2 host.place\n",
-        ),
-        (
-            ["[wire]", "[host]\nplace = \"\"\n[wire]"],
-            "",
-            "refused tech 4 host.place\n",
-        ),
-    ]
-    .as_slice()
-    {
-        expect_change(&rt, rt.alloc(), *change, text, line);
+    for (old, new, status, answer) in &CHANGES {
+        expect_change(&rt, rt.alloc(), old, new, *status, answer);
     }
 }
 
-fn expect_refused_table(rt: &impl Abort, alloc: Global, tech: &str, line: &str) {
-    let seen = zero_with(rt, alloc, NO_PATH.as_bytes(), tech.as_bytes());
-    seen.expect(rt, 3, "", line, tech);
-}
+// Of two unknown names the first in the order of bytes is given.
+const TWO_UNKNOWN: &str = "[wire]\ndelay = \"1/1\"\nzz = 1\n[source]\nplace = \"CLK\"\n[register]\n\
+    setup = 1\nhold = 1\nleast = 1\ngreatest = 2\n[gate.AND]\nleast = 2\ngreatest = 3\na = 1\n";
+
+const TABLES: [Row<'_>; 6] = [
+    (&[&[NO_PATH], &[""]], 3, "refused tech 2 wire.delay\n"),
+    (&[&[NO_PATH], &["[wire"]], 3, "refused tech 1\n"),
+    (&[&[NO_PATH], &["wire = 3\n"]], 3, "refused tech 3 wire\n"),
+    (
+        &[&[NO_PATH], &[ZEROS, "[gate]\nAND = 1\n"]],
+        3,
+        "refused tech 3 gate.AND\n",
+    ),
+    // A kind that no gate of the netlist has.
+    (
+        &[
+            &[NO_PATH],
+            &[ZEROS, "[gate.AND]\nleast = 2\ngreatest = 1\n"],
+        ],
+        3,
+        "refused tech 5 AND\n",
+    ),
+    (
+        &[&[NO_PATH], &[TWO_UNKNOWN]],
+        3,
+        "refused tech 7 gate.AND.a\n",
+    ),
+];
 
 #[test]
 fn refuses_whole_tables(rt: HostRuntime) {
-    let alloc = rt.alloc();
-    expect_refused_table(&rt, alloc, "", "refused tech 2 wire.delay\n");
-    expect_refused_table(&rt, alloc, "[wire", "refused tech 1\n");
-    expect_refused_table(&rt, alloc, "wire = 3\n", "refused tech 3 wire\n");
-    let no_table = table(&rt, alloc, [0, 0, 0, 0], "[gate]\nAND = 1\n");
-    expect_refused_table(&rt, alloc, &no_table, "refused tech 3 gate.AND\n");
-    // A kind that no gate of the netlist has.
-    let unused = "[gate.AND]\nleast = 2\ngreatest = 1\n";
-    let unused = table(&rt, alloc, [0, 0, 0, 0], unused);
-    expect_refused_table(&rt, alloc, &unused, "refused tech 5 AND\n");
-    // Of two unknown names the first in the order of bytes is given.
-    let one = changed(&rt, alloc, S27_TABLE, "[source]", "zz = 1\n[source]");
-    let two = changed(&rt, alloc, &one, "[gate.OR]", "a = 1\n[gate.OR]");
-    let seen = zero_with(&rt, alloc, S27.as_bytes(), two.as_bytes());
-    let line = "refused tech 7 gate.AND.a\n";
-    seen.expect(&rt, 3, "", line, "two unknown names");
+    expect_rows(&rt, rt.alloc(), &TABLED, &TABLES);
 }
 
 // In one piece a netlist takes a start, a take, and one that finds its end: the fourth call is the
 // start of the table.
 fn expect_no_table(rt: &impl Abort, alloc: Global, bench: &str, line: &str) {
     let files = held_files(rt, alloc, &[bench.as_bytes(), b"[wire"], &[4], 100);
-    let command = ["zero", "--bench", "F", "--tech", "T"];
-    let mut seen = run_on(rt, alloc, &command, files);
+    let mut seen = run_on(rt, alloc, &TABLED, files);
     seen.expect(rt, 3, "", line, bench);
     assert!(rt; seen.inputs.start("T").is_err(), "the table was started");
 }

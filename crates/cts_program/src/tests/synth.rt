@@ -1,9 +1,10 @@
 use crate::tests::problems::{
-    LONE, LONE_PLACES, LONE_TREE, LOPSIDED_PLACES, LOPSIDED_TREE, PAIR, PAIR_PLACES, PAIR_TREE,
-    S27_PLACES, S27_TREE, SYNTH, texts_of,
+    LONE, LONE_PLACES, LONE_TREE, LOPSIDED_PLACES, LOPSIDED_TREE, PAIR_PLACES, PAIR_TREE,
+    S27_PLACES, S27_TREE, SYNTH,
 };
 use crate::tests::{
-    LOPSIDED, NO_PATH, S27, S27_TABLE, SLOW, Seen, changed, run_on, table, whole_files,
+    APART, FLOOR_5, HOST, LOPSIDED, NO_PATH, NOT, OUTPUT, Row, S27, S27_TABLE, SLOW, ZEROS,
+    expect_row, expect_rows,
 };
 use std::alloc::Global;
 use std::process::Abort;
@@ -18,146 +19,135 @@ G7 1e+01 0.0
 CLK 5 10 :N /FIXED_NI
 ";
 
-// What `synth` leaves over these files.
-fn synth_of(rt: &impl Abort, alloc: Global, bench: &str, tech: &str, pl: &str) -> Seen {
-    let inputs = whole_files(rt, alloc, &texts_of([bench, tech, pl]));
-    run_on(rt, alloc, &SYNTH, inputs)
-}
-
-#[test]
-fn makes_the_tree_of_s27(rt: HostRuntime) {
-    for pl in [S27_PLACES, LOOSE].as_slice() {
-        synth_of(&rt, rt.alloc(), S27, S27_TABLE, pl).expect(&rt, 0, S27_TREE, "", pl);
-    }
-}
-
-#[test]
-fn makes_trees_with_detours(rt: HostRuntime) {
-    let alloc = rt.alloc();
-    let tech = table(&rt, alloc, [0, 0, 0, 0], SLOW);
-    let seen = synth_of(&rt, alloc, LOPSIDED, &tech, LOPSIDED_PLACES);
-    seen.expect(&rt, 0, LOPSIDED_TREE, "", "a detour");
+const TREES: [Row<'_>; 10] = [
+    (&[&[S27], &[S27_TABLE], &[S27_PLACES]], 0, S27_TREE),
+    (&[&[S27], &[S27_TABLE], &[LOOSE]], 0, S27_TREE),
+    // A wire with a detour.
+    (
+        &[&[LOPSIDED], &[ZEROS, SLOW], &[LOPSIDED_PLACES]],
+        0,
+        LOPSIDED_TREE,
+    ),
     // Both registers stand at one place.
-    let node = "1 1 0 3/2 4 0 0 0 1/4 1 1/4 1 0\n";
-    let loop_node = "1 0 0 3/2 5 0 0 3/8 0 3/8 3/8 0 3/8 0 0\n";
-    let tree = changed(&rt, alloc, LOPSIDED_TREE, node, loop_node);
-    let seen = synth_of(&rt, alloc, LOPSIDED, &tech, "A 0 0\nB 0 0\nCLK 0 0\n");
-    seen.expect(&rt, 0, &tree, "", "one place");
-}
-
-// The tree of registers whose delays and times are 0.
-fn expect_tree(rt: &impl Abort, alloc: Global, bench: &str, more: &str, pl: &str, text: &str) {
-    let tech = table(rt, alloc, [0, 0, 0, 0], more);
-    synth_of(rt, alloc, bench, &tech, pl).expect(rt, 0, text, "", bench);
-}
-
-// No path joins registers, so the floor shows the period.
-#[test]
-fn makes_trees_without_skew(rt: HostRuntime) {
-    for (bench, more, pl, text) in [
-        (PAIR, "", PAIR_PLACES, PAIR_TREE),
-        (LONE, "[period]\nfloor = 5\n", LONE_PLACES, LONE_TREE),
-        // As far apart as places may be.
-        (
-            PAIR,
-            "",
-            "A -1e9 -1e9\nB 1e9 1e9\nCLK 0 0\n",
-            "cts 2\nperiod 0\nfloor\nregisters 2\nA 0 - -\nB 0 - -\nlead 0\nlead 0\n\
-             merges 1\n2 0 1 2000000000 pair A B\nsource 2000000000 root\nnodes 3\n\
-             0 -1000000000 -1000000000 2000000000 3 0 0 -1000000000 0 -1000000000 -1000000000\n\
-             1 1000000000 1000000000 2000000000 3 0 0 1000000000 0 1000000000 1000000000\n\
-             2 0 0 0 1 0 0\nwire 4000000000\n",
-        ),
-        // Merges of equal costs.
-        (
-            "INPUT(x)\nA = DFF(x)\nB = DFF(x)\nC = DFF(x)\n",
-            "",
-            "A 0 0\nB 2 0\nC 4 0\nCLK 2 0\n",
-            "cts 2\nperiod 0\nfloor\nregisters 3\nA 0 - -\nB 0 - -\nC 0 - -\n\
-             lead 0\nlead 0\nlead 0\nmerges 2\n3 0 1 1 pair A B\n4 2 3 2 pair A C\n\
-             source 2 root\nnodes 5\n0 0 0 1 2 1 0 0 0\n1 2 0 1 2 1 0 2 0\n2 4 0 2 2 2 0 4 0\n\
-             3 1 0 1 2 2 0 1 0\n4 2 0 0 1 2 0\nwire 5\n",
-        ),
-    ]
-    .as_slice()
-    {
-        expect_tree(&rt, rt.alloc(), bench, more, pl, text);
-    }
-}
-
-// The host stands at this node of the table.
-fn expect_host(rt: &impl Abort, alloc: Global, place: &str, status: u8, text: &str, line: &str) {
-    let more = format!(in alloc;
-        "[gate.NOT]\nleast = 1\ngreatest = 3\n[host]\nplace = \"{place}\"\n"
-    ).expect(rt, "memory");
-    let tech = table(rt, alloc, [1, 1, 1, 2], &more);
-    let bench = "INPUT(x)\nOUTPUT(g)\nA = DFF(x)\ng = NOT(A)\n";
-    let seen = synth_of(rt, alloc, bench, &tech, "A 0 0\nCLK 4 0\n");
-    seen.expect(rt, status, text, line, place);
-}
-
-// The host is a sink where the table gives it a place.
-#[test]
-fn makes_a_tree_with_the_host(rt: HostRuntime) {
-    for (place, status, text, line) in [
-        (
-            "CLK",
-            0,
-            "cts 2\nperiod 5\ncycle 2\nsetup A (host) 6\npath 2 A g\nhold A (host) -1\n\
-             path 2 A g\nregisters 2\nA 0 1 1\n(host) 1 0 0\nlead 0\nlead 1 setup A (host) 6\n\
-             merges 1\n2 0 1 3/2 pair A (host)\nsource 4 sink A\nnodes 3\n\
-             0 0 0 3/2 2 3/2 0 0 0\n1 4 0 5/2 2 3/2 0 4 0\n2 3/2 0 5/2 2 4 0 3/2 0\n\
-             wire 13/2\n",
-            "",
-        ),
-        ("PAD", 3, "", "refused pl 4 (host)\n"),
-    ]
-    .as_slice()
-    {
-        expect_host(&rt, rt.alloc(), place, *status, text, line);
-    }
-}
+    (
+        &[&[LOPSIDED], &[ZEROS, SLOW], &["A 0 0\nB 0 0\nCLK 0 0\n"]],
+        0,
+        "cts 2\nperiod 11/2\ncycle 2\nsetup A B 7\npath 2 A n\nsetup B A 4\npath 2 B m\n\
+         registers 2\nA 0 0 11/2\nB 3/2 0 11/2\nlead 0\nlead 1 setup A B 7\nmerges 1\n\
+         2 0 1 0 pair A A\nsource 0 root\nnodes 3\n0 0 0 0 1 0 0\n\
+         1 0 0 3/2 5 0 0 3/8 0 3/8 3/8 0 3/8 0 0\n2 0 0 0 1 0 0\nwire 3/2\n",
+    ),
+    // No path joins registers, so the floor shows the period.
+    (&[&[APART], &[ZEROS], &[PAIR_PLACES]], 0, PAIR_TREE),
+    (&[&[LONE], &[ZEROS, FLOOR_5], &[LONE_PLACES]], 0, LONE_TREE),
+    // As far apart as places may be.
+    (
+        &[&[APART], &[ZEROS], &["A -1e9 -1e9\nB 1e9 1e9\nCLK 0 0\n"]],
+        0,
+        "cts 2\nperiod 0\nfloor\nregisters 2\nA 0 - -\nB 0 - -\nlead 0\nlead 0\n\
+         merges 1\n2 0 1 2000000000 pair A B\nsource 2000000000 root\nnodes 3\n\
+         0 -1000000000 -1000000000 2000000000 3 0 0 -1000000000 0 -1000000000 -1000000000\n\
+         1 1000000000 1000000000 2000000000 3 0 0 1000000000 0 1000000000 1000000000\n\
+         2 0 0 0 1 0 0\nwire 4000000000\n",
+    ),
+    // Merges of equal costs.
+    (
+        &[
+            &["INPUT(x)\nA = DFF(x)\nB = DFF(x)\nC = DFF(x)\n"],
+            &[ZEROS],
+            &["A 0 0\nB 2 0\nC 4 0\nCLK 2 0\n"],
+        ],
+        0,
+        "cts 2\nperiod 0\nfloor\nregisters 3\nA 0 - -\nB 0 - -\nC 0 - -\n\
+         lead 0\nlead 0\nlead 0\nmerges 2\n3 0 1 1 pair A B\n4 2 3 2 pair A C\n\
+         source 2 root\nnodes 5\n0 0 0 1 2 1 0 0 0\n1 2 0 1 2 1 0 2 0\n2 4 0 2 2 2 0 4 0\n\
+         3 1 0 1 2 2 0 1 0\n4 2 0 0 1 2 0\nwire 5\n",
+    ),
+    // The host is a sink where the table gives it a place.
+    (
+        &[
+            &[OUTPUT],
+            &[registers!(1, 1, 1, 2), NOT, HOST],
+            &["A 0 0\nCLK 4 0\n"],
+        ],
+        0,
+        "cts 2\nperiod 5\ncycle 2\nsetup A (host) 6\npath 2 A g\nhold A (host) -1\n\
+         path 2 A g\nregisters 2\nA 0 1 1\n(host) 1 0 0\nlead 0\nlead 1 setup A (host) 6\n\
+         merges 1\n2 0 1 3/2 pair A (host)\nsource 4 sink A\nnodes 3\n\
+         0 0 0 3/2 2 3/2 0 0 0\n1 4 0 5/2 2 3/2 0 4 0\n2 3/2 0 5/2 2 4 0 3/2 0\n\
+         wire 13/2\n",
+    ),
+    (
+        &[
+            &["A = DFF(A)\n"],
+            &[registers!(0, 2, 1, 1)],
+            &["A 0 0\nCLK 0 0\n"],
+        ],
+        1,
+        "never\ncycle 1\nhold A A 1\n",
+    ),
+];
 
 #[test]
-fn makes_no_tree_without_a_period(rt: HostRuntime) {
-    let tech = table(&rt, rt.alloc(), [0, 2, 1, 1], "");
-    let seen = synth_of(&rt, rt.alloc(), "A = DFF(A)\n", &tech, "A 0 0\nCLK 0 0\n");
-    seen.expect(&rt, 1, "never\ncycle 1\nhold A A 1\n", "", "no period");
+fn makes_trees(rt: HostRuntime) {
+    expect_rows(&rt, rt.alloc(), &SYNTH, &TREES);
 }
 
-fn expect_refused_places(rt: &impl Abort, alloc: Global, pl: &str, line: &str) {
-    let tech = table(rt, alloc, [0, 0, 0, 0], "");
-    synth_of(rt, alloc, NO_PATH, &tech, pl).expect(rt, 3, "", line, pl);
+// What `synth` must leave over one register and this placement.
+fn expect_refused(rt: &impl Abort, alloc: Global, pl: &str, line: &str) {
+    let texts: [&[&str]; 3] = [&[NO_PATH], &[ZEROS], &[pl]];
+    expect_row(rt, alloc, &SYNTH, &(&texts, 3, line));
 }
+
+const REFUSED: [(&str, &str); 6] = [
+    ("a 0\n", "refused pl 1 line 1\n"),
+    ("UCLA pl 1.0\na 0 y\n", "refused pl 2 line 2 1\n"),
+    ("a 0 2e9\n", "refused pl 2 line 1 3\n"),
+    ("a 0 0\na 0 0\n", "refused pl 3 line 2\n"),
+    ("CLK 0 0\n", "refused pl 4 a\n"),
+    ("a 0 0\n", "refused pl 5\n"),
+];
 
 #[test]
 fn refuses_placements(rt: HostRuntime) {
-    for (pl, line) in [
-        ("a 0\n", "refused pl 1 line 1\n"),
-        ("UCLA pl 1.0\na 0 y\n", "refused pl 2 line 2 1\n"),
-        ("a 0 2e9\n", "refused pl 2 line 1 3\n"),
-        ("a 0 0\na 0 0\n", "refused pl 3 line 2\n"),
-        ("CLK 0 0\n", "refused pl 4 a\n"),
-        ("a 0 0\n", "refused pl 5\n"),
-    ]
-    .as_slice()
-    {
-        expect_refused_places(&rt, rt.alloc(), pl, line);
+    for (pl, line) in &REFUSED {
+        expect_refused(&rt, rt.alloc(), pl, line);
     }
 }
 
-fn expect_refused_number(rt: &impl Abort, alloc: Global, pl: &str, change: [&str; 2], line: &str) {
-    let [old, new] = change;
-    let pl = changed(rt, alloc, pl, old, new);
-    synth_of(rt, alloc, S27, S27_TABLE, &pl).expect(rt, 3, "", line, new);
-}
+const REFUSED_AMONG_GOOD: [Row<'_>; 3] = [
+    // Too fine, and too large by a millionth.
+    (
+        &[
+            &[S27],
+            &[S27_TABLE],
+            &["UCLA pl 1.0\n# one\nG5 0.0000001 0 : N\nG6 4 2 : N\nG7 10 0 : N\nCLK 5 10\n"],
+        ],
+        3,
+        "refused pl 2 line 3 2\n",
+    ),
+    (
+        &[
+            &[S27],
+            &[S27_TABLE],
+            &["UCLA pl 1.0\nG5 1000000000.000001 0 : N\nG6 4 2 : N\nG7 10 0 : N\nCLK 5 10\n"],
+        ],
+        3,
+        "refused pl 2 line 2 3\n",
+    ),
+    // The host's node has no place.
+    (
+        &[
+            &[OUTPUT],
+            &[registers!(1, 1, 1, 2), NOT, "[host]\nplace = \"PAD\"\n"],
+            &["A 0 0\nCLK 4 0\n"],
+        ],
+        3,
+        "refused pl 4 (host)\n",
+    ),
+];
 
-// Too fine, and too large by a millionth.
 #[test]
-fn refuses_numbers_among_good_places(rt: HostRuntime) {
-    let alloc = rt.alloc();
-    let fine = ["G5 0.000000 0", "G5 0.0000001 0"];
-    expect_refused_number(&rt, alloc, LOOSE, fine, "refused pl 2 line 3 2\n");
-    let large = ["G5 0 0", "G5 1000000000.000001 0"];
-    expect_refused_number(&rt, alloc, S27_PLACES, large, "refused pl 2 line 2 3\n");
+fn refuses_one_place_among_good_ones(rt: HostRuntime) {
+    expect_rows(&rt, rt.alloc(), &SYNTH, &REFUSED_AMONG_GOOD);
 }
