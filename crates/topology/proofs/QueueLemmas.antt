@@ -1,5 +1,5 @@
 -- The pair on top of a queue.
-use Rattle.std.proofs.Common.{◌≡◌, ℕ, false, ◌<◌, List, [], ◌∷◌, ◌++◌, map, length, get_or, Option, Some, None, refl, sym, ap, subst, ◌∙◌, arith}
+use Rattle.std.proofs.Common.{◌≡◌, ℕ, false, ◌<◌, List, [], ◌∷◌, ◌++◌, map, length, drop, get_or, Option, Some, None, refl, sym, ap, subst, ◌∙◌, arith}
 use Rattle.std.specs.BinaryHeap.{IsUpperBound}
 use Rattle.std.specs.Bool.{IsTrue}
 use Rattle.std.specs.List.{All, slice_get}
@@ -11,7 +11,7 @@ use Rattle.std.proofs.lemmas.Grind.{common_steps}
 use Rattle.std.proofs.lemmas.Int.{ints}
 use Rattle.std.proofs.lemmas.List.{length-map}
 use Rattle.std.proofs.lemmas.List.Elements.{All-cons, All-nil}
-use Rattle.std.proofs.lemmas.List.Sorted.{IsPermutation-map, IsPermutation-refl, length_permutation}
+use Rattle.std.proofs.lemmas.List.Sorted.{IsPermutation-cons, IsPermutation-map, IsPermutation-refl, IsPermutation-trans, length_permutation}
 use Rattle.topology.specs.declared.pair.Pair.{Pair}
 use Rattle.topology.specs.Pairs.{IsBefore, IsReplaced, by_turn}
 
@@ -61,7 +61,7 @@ taken_from now old new found view some there is moved = subst
     at None some is moved = absurd (cc)
     at (Some top) some is moved = popped old new top is moved
 
--- and what was put in its place
+-- and nothing was put in its place
 pub put_none : (old new : List Pair) → IsPopped old new → IsReplaced old new None
 put_none old new taken = record {
   top = taken.top;
@@ -71,12 +71,18 @@ put_none old new taken = record {
   after = IsPermutation-refl new;
 }
 
-pub put_pair : (old rest new : List Pair) (pair : Pair) → IsPopped old rest
-    → IsPermutation (pair ∷ rest) new → IsReplaced old new (Some pair)
-put_pair old rest new pair taken moved = record {
-  top = taken.top;
-  rest = rest;
-  on_top = taken.on_top;
-  before = taken.before;
-  after = moved;
-}
+-- or another pair was
+pub put_pair : (now : List Pair) (old rest new : List (Reverse Pair)) (item : Reverse Pair)
+    → map pair_in old ≡ now → 0 < length now → IsPermutation (drop 1 old) rest
+    → IsPermutation (item ∷ rest) new → IsReplaced now (map pair_in new) (Some item.0)
+put_pair now [] rest new item view some left moved = absurd (omega (arith, some, ap length view))
+put_pair now (top ∷ old) rest new item view some left moved = subst
+    (λ xs. IsReplaced xs (map pair_in new) (Some item.0)) view (record {
+      top = top.0;
+      rest = map pair_in old;
+      on_top = refl;
+      before = IsPermutation-refl (top.0 ∷ map pair_in old);
+      after = IsPermutation-map pair_in (item ∷ old) new
+          (IsPermutation-trans (item ∷ old) (item ∷ rest) new
+          (IsPermutation-cons item old rest left) moved);
+    })

@@ -1,4 +1,4 @@
-ghost use Rattle.std.specs.Prelude.{◌≡◌, ◌≤◌, [], length, pos, IfOk, IfSome, IsNone, OnOk};
+ghost use Rattle.std.specs.Prelude.{◌≡◌, ◌≤◌, [], length, pos, IfOk, IfSome, IsNone};
 ghost use Rattle.cts_model.specs.tree.GreedyMerges.{IsGreedy};
 ghost use Rattle.cts_model.specs.tree.Sinks.{AreTreeSinks};
 ghost use Rattle.topology.specs.declared.pair.Pair.{Pair};
@@ -22,7 +22,7 @@ pub fn greedy(alloc: Global, sinks: &[Sink]) -> Result<Topology, NoMemory>
     let mut queue = first_bounds(alloc, sinks.len() as u32)?;
     let mut merges = Listed::new(alloc);
     for node in sinks.len()..2 * sinks.len() - 1 {
-        let pair = cheapest(&live, &mut queue)?.unwrap();
+        let pair = cheapest(&live, &mut queue).unwrap();
         merges.push(pair.merge())?;
         live.join(&pair)?;
         queue.push(bound(0, node as u32))?;
@@ -67,18 +67,18 @@ fn first_bounds(alloc: Global, sinks: u32) -> Result<Queue, NoMemory>
 
 // The pair that is to be merged next. Pairs that were broken up by a merge are renewed where they
 // come first.
-fn cheapest(live: &Live, queue: &mut Queue) -> Result<Option<Pair>, NoMemory>
+fn cheapest(live: &Live, queue: &mut Queue) -> Option<Pair>
     requires ordered { IsOrdered live.now }
     requires covered { AreCovered live.now queue.old }
-    ensures found { IfOk result (λ found. IfSome found (IsCheapestPair live.now)) }
-    ensures none { IfOk result (λ found. IsNone found → (pair : Pair) → ¬ IsPair live.now pair) }
-    ensures covered { OnOk result (AreCovered live.now queue.new) }
+    ensures found { IfSome result (IsCheapestPair live.now) }
+    ensures none { IsNone result → (pair : Pair) → ¬ IsPair live.now pair }
+    ensures covered { AreCovered live.now queue.new }
 {
     while let Some(pair) = queue.first() {
         if live.has(&pair) {
-            return Ok(Some(pair));
+            return Some(pair);
         }
-        queue.replace_first(live.renewed(&pair))?;
+        queue.replace_first(live.renewed(&pair));
     }
-    Ok(None)
+    None
 }

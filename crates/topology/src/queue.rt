@@ -1,4 +1,4 @@
-ghost use Rattle.std.specs.Prelude.{◌≡◌, ◌++◌, ◌∷◌, ◌<◌, [], All, IfSome, OnOk, length, slice_get, List, map};
+ghost use Rattle.std.specs.Prelude.{◌≡◌, ◌++◌, ◌∷◌, ◌<◌, [], All, IfSome, OnOk, length, slice_get, List, map, None, Some};
 ghost use Rattle.std.specs.List.Sorted.{IsPermutation};
 ghost use Rattle.std.specs.BinaryHeap.{IsHeap, heap_items};
 ghost use Rattle.std.proofs.Props.{props};
@@ -54,15 +54,32 @@ impl Queue {
         }
     }
 
-    /// Keeps another pair, if there is one, instead of the one that is to be merged first.
-    pub(crate) fn replace_first(&mut self, pair: Option<Pair>) -> Result<(), NoMemory>
+    /// Keeps another pair, if there is one, instead of the one that is to be merged first. It takes
+    /// no memory.
+    pub(crate) fn replace_first(&mut self, pair: Option<Pair>)
         requires { 0 < length self.old }
-        ensures { OnOk result (IsReplaced self.old self.new pair) }
+        ensures { IsReplaced self.old self.new pair }
+    {
+        match pair {
+            Some(pair) => self.set_first(pair),
+            None => self.drop_first(),
+        }
+    }
+
+    // Keeps another pair instead of the one that is to be merged first.
+    fn set_first(&mut self, pair: Pair)
+        requires { 0 < length self.old }
+        ensures { IsReplaced self.old self.new (Some pair) }
+    {
+        let mut top = self.heap.peek_mut().unwrap();
+        *top = Reverse(pair);
+    }
+
+    // Drops the pair that is to be merged first.
+    fn drop_first(&mut self)
+        requires { 0 < length self.old }
+        ensures { IsReplaced self.old self.new None }
     {
         self.heap.pop();
-        if let Some(pair) = pair {
-            self.heap.push(Reverse(pair))?;
-        }
-        Ok(())
     }
 }

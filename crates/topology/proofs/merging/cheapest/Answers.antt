@@ -16,13 +16,13 @@ renewed-requires-clause-least c = top_least c.args.live.now c.loop-pair.queue c.
 pub loop-pair-smaller : goal.loop-pair-smaller
 loop-pair-smaller c = replaced_fewer c.args.live.now c.loop-pair.queue c.replace_first.new.self
     c.in-Some.pair c.renewed.result (sym c.in-Some.ensures.value)
-    (λ is. true≢false (sym (c.has.ensures.1 is) ∙ c.if-has.false)) c.in_ok-replace_first.ensures
+    (λ is. true≢false (sym (c.has.ensures.1 is) ∙ c.if-has.false)) c.replace_first.ensures
     c.renewed.ensures
 
 pub loop-pair-preserved : goal.loop-pair-preserved
 loop-pair-preserved c = replaced_covers c.args.live.now c.loop-pair.queue c.replace_first.new.self
     c.in-Some.pair c.renewed.result (sym c.in-Some.ensures.value) c.loop-pair.invariant
-    c.in_ok-replace_first.ensures c.renewed.ensures
+    c.replace_first.ensures c.renewed.ensures
 
 pub returns-clause-none : goal.returns-clause-none
 returns-clause-none c = λ none pair is. none_covered c.args.live.now c.loop-pair.queue pair

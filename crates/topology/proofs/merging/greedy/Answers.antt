@@ -21,8 +21,8 @@ loop-node-init c =
     )
 
 pub unwrap-pair-requires : goal.unwrap-pair-requires
-unwrap-pair-requires c = some_found c.loop-node.live c.in_ok-cheapest.field-0
-    c.in_ok-cheapest.ensures.none
+unwrap-pair-requires c = some_found c.loop-node.live c.cheapest.result
+    c.cheapest.ensures.none
     (pair_there c.args.sinks.now c.loop-node.merges c.loop-node.live c.loop-node.invariant.0.live
     (omega (arith, c.loop-node-test.true, c.loop-node.invariant.1)))
 
@@ -33,9 +33,9 @@ loop-node-preserved c =
     let pair = c.unwrap-pair.result in
     let next = merging_next sinks merges c.loop-node.live c.join.new.self c.loop-node.queue
     c.cheapest.new.queue c.push-in-loop-node.new.self pair c.bound.result c.loop-node.invariant.0
-    c.in_ok-cheapest.ensures.covered
+    c.cheapest.ensures.covered
     (subst (λ o. IfSome o (IsCheapestPair c.loop-node.live)) c.unwrap-pair.ensures
-    c.in_ok-cheapest.ensures.found)
+    c.cheapest.ensures.found)
     c.in_ok-join.ensures
     (c.bound.ensures ∙ λ i. record
     { cost = pos 0; first = 0; second = c.loop-node.invariant.1 i })
