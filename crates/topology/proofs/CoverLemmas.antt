@@ -1,5 +1,5 @@
 -- The pairs that are kept, while the one on top is renewed.
-use Rattle.std.proofs.Common.{◌≡◌, ◌⊎◌, ℕ, zero, suc, ◌<◌, ◌≤◌, ◌+◌, Bool, true, false, cond, Option, Some, None, List, [], ◌∷◌, ◌++◌, length, get_or, ℤ, ◌<ℤ◌, inl, inr, refl, sym, ap, subst, ◌∙◌, arith}
+use Rattle.std.proofs.Common.{◌≡◌, ◌⊎◌, ℕ, zero, suc, ◌<◌, ◌≤◌, Bool, true, false, cond, Option, Some, None, List, [], ◌∷◌, ◌++◌, ℤ, ◌<ℤ◌, inl, inr, refl, sym, ap, subst, ◌∙◌, arith}
 use Rattle.std.specs.List.{All, Contains, slice_get, sum_by}
 use Rattle.std.specs.List.Sorted.{IsPermutation}
 use Rattle.std.specs.Option.{option_to_list, option_and_then, option_map_or}
@@ -7,7 +7,6 @@ use Rattle.std.specs.Ordering.{int_eq}
 use Rattle.std.specs.Bool.{nat_lt}
 use Rattle.std.proofs.lemmas.Bool.{cases_lt, lt-ltb, le-ltb, ltb-true}
 use Rattle.std.proofs.lemmas.Bool.Decides.{Decides-int_eq}
-use Rattle.std.proofs.lemmas.Int.{ints}
 use Rattle.std.proofs.lemmas.List.Elements.{All-contains, Contains-append_right}
 use Rattle.std.proofs.lemmas.List.Sorted.{Contains-permutation, sum_by-IsPermutation}
 use Rattle.std.proofs.lemmas.List.Sums.{sum_by-cons}
@@ -16,7 +15,7 @@ use Rattle.tilted_rect.specs.ClusterSets.{cost_of}
 use Rattle.topology.specs.declared.live.Live.{Live}
 use Rattle.topology.specs.declared.pair.Pair.{Pair}
 use Rattle.topology.specs.Pairs.{IsBefore, IsAtMost, IsReplaced}
-use Rattle.topology.specs.LiveClusters.{HasCluster, IsPair, IsKept, IsKeptWith, IsNearest, IsCovered, AreCovered, IsCheapestPair, owner_of, other_of}
+use Rattle.topology.specs.LiveClusters.{HasCluster, IsPair, IsKept, IsKeptWith, IsNearest, IsCovered, AreCovered, owner_of, other_of}
 use Rattle.topology.proofs.NearLemmas.{before_along, sides}
 
 -- ---- the next number
@@ -72,7 +71,7 @@ lower_from s p q e f ordered other_ordered = elim (cases_lt q s) [
   ])
 ]
 
--- where no pair is before the one on top, that with the next number at the same cost is the cheapest
+-- where no pair is before the one on top, that with the next number at its cost is the cheapest
 pub next_nearest : (live : Live) (top next : Pair) (node : ℕ)
     → ((other : Pair) → IsPair live other → ¬ IsBefore other top)
     → ((other : ℕ) → slice_get live.unjoined other ≡ Some true → other_of live.sinks top ≤ other

@@ -1,7 +1,7 @@
 -- Which clusters there are, as sinks are added and pairs are merged.
-use Rattle.std.proofs.Common.{◌≡◌, ◌≢◌, ◌⊎◌, ◌↔◌, ℕ, ◌<◌, ◌≤◌, ◌+◌, Bool, true, false, List, [], ◌∷◌, ◌++◌, length, length-append, length-set, add-zero, get_or, set, take, Option, Some, None, ℤ, pos, ◌≤ℤ◌, inl, inr, refl, sym, ap, subst, ◌∙◌, arith}
+use Rattle.std.proofs.Common.{◌≡◌, ◌≢◌, ◌⊎◌, ℕ, ◌<◌, ◌≤◌, ◌+◌, true, false, List, [], ◌∷◌, ◌++◌, length, length-append, length-set, add-zero, get_or, set, take, Option, Some, None, pos, ◌≤ℤ◌, inl, inr, refl, sym, ap, subst, ◌∙◌, arith}
 use Rattle.std.specs.Option.{IsNone, IsSome}
-use Rattle.std.specs.List.{All, Contains, slice_get, sum_by}
+use Rattle.std.specs.List.{All, slice_get, sum_by}
 use Rattle.std.specs.List.Sorted.{IsPermutation}
 use Rattle.std.proofs.lemmas.Bool.{cases_eq, cases_lt, lt-ltb, le-ltb}
 use Rattle.std.proofs.lemmas.Int.{ints}
@@ -14,7 +14,7 @@ use Rattle.std.proofs.Math.ListN.{get_or-append}
 use Rattle.std.proofs.Math.Seq.{get_or-append_seam, take-append_seam}
 use Rattle.cts_model.specs.declared.place.Sink.{Sink}
 use Rattle.cts_model.specs.declared.tree.Merge.{Merge}
-use Rattle.cts_model.specs.tree.GreedyMerges.{IsCheapest, IsGreedy}
+use Rattle.cts_model.specs.tree.GreedyMerges.{IsCheapest}
 use Rattle.cts_model.specs.tree.Topologies.{IsLive, sinks_below}
 use Rattle.cts_model.proofs.TopologyLemmas.{EachMerge, first_made, second_made, sinks_below-append, sinks_below-push, sinks_below-sink}
 use Rattle.tilted_rect.specs.declared.cluster.Cluster.{Cluster}
@@ -73,7 +73,8 @@ sink_added sinks register sink old new cluster here alone held added = record {
 
     at : (node : ℕ) → (node < register) ⊎ (register ≤ node) → node < register + 1
         → slice_get (old.unjoined ++ true ∷ []) node ≡ Some true
-    at node (inl before) below = pushed_before old.unjoined true node true (held.unjoined node before)
+    at node (inl before) below =
+        pushed_before old.unjoined true node true (held.unjoined node before)
     at node (inr from) below =
         let is : length old.unjoined ≡ node = omega (arith, len, from, below) in
         ap (slice_get (old.unjoined ++ true ∷ [])) (sym is) ∙ pushed_last old.unjoined true

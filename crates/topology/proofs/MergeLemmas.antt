@@ -1,19 +1,14 @@
 -- Each merge of the cheapest pair keeps the clusters and the merges so far right.
-use Rattle.std.proofs.Common.{◌≡◌, ◌≢◌, ◌⊎◌, ◌↔◌, ℕ, zero, suc, ◌<◌, ◌≤◌, ◌+◌, Bool, true, false, cond, count_by, List, [], ◌∷◌, ◌++◌, length, length-append, length-set, add-zero, get_or, set, take, Option, Some, None, ℤ, ◌+ℤ◌, ◌-ℤ◌, ◌≤ℤ◌, inl, inr, refl, sym, ap, subst, ◌∙◌, arith}
-use Rattle.std.specs.List.{All, slice_get, sum_by}
-use Rattle.std.proofs.lemmas.Bool.{cases_eq, cases_lt}
+use Rattle.std.proofs.Common.{◌≡◌, ◌⊎◌, ℕ, suc, ◌<◌, ◌≤◌, ◌+◌, Bool, true, false, cond, List, [], ◌∷◌, length, Option, Some, None, ℤ, ◌+ℤ◌, ◌-ℤ◌, ◌≤ℤ◌, inl, inr, refl, sym, ap, subst, arith}
+use Rattle.std.specs.List.{slice_get, sum_by}
+use Rattle.std.proofs.lemmas.Bool.{cases_lt}
 use Rattle.std.proofs.lemmas.Int.{ints, by_lt_z}
-use Rattle.std.proofs.lemmas.List.{take-append-le, get_or-set_same, get_or-set_other}
-use Rattle.std.proofs.lemmas.List.Elements.{All-append, All-cons, All-nil}
-use Rattle.std.proofs.lemmas.List.Sums.{sum_by-cons, sum_by-append, sum_by-set}
-use Rattle.std.proofs.lemmas.Option.{slice_get-get_or, slice_get_within, get_or_from_slice_get}
-use Rattle.std.proofs.Math.ListN.{get_or-append}
-use Rattle.std.proofs.Math.Seq.{get_or-append_seam, take-append_seam}
+use Rattle.std.proofs.lemmas.List.Sums.{sum_by-cons}
+use Rattle.std.proofs.lemmas.Option.{slice_get-get_or, slice_get_within}
 use Rattle.cts_model.specs.declared.place.Sink.{Sink}
 use Rattle.cts_model.specs.declared.tree.Merge.{Merge}
-use Rattle.cts_model.specs.tree.GreedyMerges.{IsCheaper, IsDoubleCost, IsCheapest, IsGreedy}
+use Rattle.cts_model.specs.tree.GreedyMerges.{IsCheaper, IsDoubleCost, IsCheapest}
 use Rattle.cts_model.specs.tree.Topologies.{IsLive, IsMerge, sinks_below}
-use Rattle.cts_model.proofs.TopologyLemmas.{EachMerge, first_made, second_made, sinks_below-append, sinks_below-push, sinks_below-sink}
 use Rattle.tilted_rect.specs.declared.cluster.Cluster.{Cluster}
 use Rattle.tilted_rect.specs.ClusterSets.{IsCluster, cost_of}
 use Rattle.tilted_rect.proofs.ExtremeLemmas.{append_is_union}
@@ -22,8 +17,7 @@ use Rattle.tilted_rect.proofs.SpanLemmas.{one_greatest_span}
 use Rattle.topology.specs.declared.live.Live.{Live}
 use Rattle.topology.specs.declared.pair.Pair.{Pair}
 use Rattle.topology.specs.Pairs.{merge_of}
-use Rattle.topology.specs.LiveClusters.{HasCluster, IsPair, IsCheapestPair, IsJoined, IsOrdered, AreLive, WereCheapest}
-use Rattle.topology.proofs.ListLemmas.{pushed_before, pushed_last, pushed_cases}
+use Rattle.topology.specs.LiveClusters.{HasCluster, IsPair, IsCheapestPair, AreLive}
 
 -- ---- the cheapest pair is the cheapest merge
 
@@ -122,7 +116,8 @@ module _ {sinks : List Sink} {merges : List Merge} {live : Live}
           some_there (x ∷ xs) k below none =
               absurd (cc (slice_get-get_or (x ∷ xs) k x below))
 
-  pub cheapest_is : (pair : Pair) → IsCheapestPair live pair → IsCheapest sinks merges (merge_of pair)
+  pub cheapest_is : (pair : Pair) → IsCheapestPair live pair
+      → IsCheapest sinks merges (merge_of pair)
   cheapest_is pair cheapest = record {
     merges = record {
       ordered = cheapest.pair.ordered;

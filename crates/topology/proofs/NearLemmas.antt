@@ -1,7 +1,7 @@
 -- A search for the cheapest pair that a node keeps.
-use Rattle.std.proofs.Common.{◌≡◌, ◌↔◌, ◌⊎◌, ℕ, ◌<◌, ◌≤◌, Bool, true, false, cond, Option, Some, None, List, length, get_or, ℤ, pos, ◌+ℤ◌, ◌-ℤ◌, ◌≤ℤ◌, ◌<ℤ◌, inl, inr, refl, sym, ap, subst, ◌∙◌, ◌^◌, FitsSigned, arith}
+use Rattle.std.proofs.Common.{◌≡◌, ◌↔◌, ◌⊎◌, ℕ, ◌<◌, ◌≤◌, Bool, true, false, cond, Option, Some, None, List, length, get_or, ℤ, pos, ◌-ℤ◌, ◌≤ℤ◌, ◌<ℤ◌, inl, inr, refl, sym, ap, subst, ◌∙◌, ◌^◌, FitsSigned, arith}
 use Rattle.std.specs.Int.{int_max, w128}
-use Rattle.std.specs.List.{Contains, slice_get, slice_index_or}
+use Rattle.std.specs.List.{slice_get, slice_index_or}
 use Rattle.std.specs.Bool.{nat_lt}
 use Rattle.std.proofs.lemmas.List.{get_or_default}
 use Rattle.std.specs.Option.{IsSomeAnd, option_map_or}
@@ -230,7 +230,8 @@ module _ {live : Live} {owner : ℕ} where
     there = held.there;
   }
 
-  module _ {cluster : Cluster} (ordered : IsOrdered live) (has : HasCluster live owner cluster) where
+  module _ {cluster : Cluster} (ordered : IsOrdered live)
+      (has : HasCluster live owner cluster) where
     -- from a place upwards all are as far
     pub far_above : (place other : ℕ) (pair : Pair) → place ≤ other
         → other < length live.order.items

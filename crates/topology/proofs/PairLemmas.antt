@@ -1,11 +1,11 @@
 -- Which pair two nodes have, and which of them keeps it.
-use Rattle.std.proofs.Common.{◌≡◌, ◌↔◌, ◌⊎◌, ℕ, ◌<◌, ◌≤◌, true, Option, Some, None, ℤ, inl, inr, refl, sym, ap, subst, ◌∙◌, arith}
+use Rattle.std.proofs.Common.{◌≡◌, ◌↔◌, ℕ, ◌<◌, ◌≤◌, Option, Some, None, ℤ, inl, inr, refl, sym, ap, subst, ◌∙◌, arith}
 use Rattle.std.proofs.lemmas.Bool.{cases_lt, lt-ltb, le-ltb}
 use Rattle.tilted_rect.specs.declared.cluster.Cluster.{Cluster}
 use Rattle.tilted_rect.specs.ClusterSets.{cost_of}
 use Rattle.topology.specs.declared.live.Live.{Live}
 use Rattle.topology.specs.declared.pair.Pair.{Pair}
-use Rattle.topology.specs.LiveClusters.{HasCluster, IsPair, IsKept, IsKeptWith, owner_of, other_of}
+use Rattle.topology.specs.LiveClusters.{HasCluster, IsPair, IsKeptWith, owner_of, other_of}
 use Rattle.topology.proofs.NearLemmas.{one_cluster}
 
 -- the pair is of those two nodes

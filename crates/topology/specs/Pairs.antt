@@ -1,5 +1,5 @@
 -- Pairs of clusters by how cheap their merging is.
-use Rattle.std.specs.Prelude.{◌≡◌, ◌⊎◌, Option, Some, IsSomeAnd, List, [], ◌∷◌, ◌++◌, slice_get}
+use Rattle.std.specs.Prelude.{◌≡◌, ◌⊎◌, Option, Some, IsSomeAnd, List, ◌∷◌, ◌++◌, slice_get}
 use Rattle.std.specs.List.Sorted.{IsPermutation}
 use Rattle.std.specs.Option.{option_to_list}
 use Rattle.std.specs.declared.cmp.Ordering.{Ordering}

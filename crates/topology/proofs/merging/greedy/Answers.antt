@@ -1,7 +1,6 @@
 use Rattle.std.proofs.Common.{◌≡◌, ◌+◌, ◌++◌, ◌∷◌, [], length, length-append, pos, ap, sym, subst, ◌∙◌, arith}
 use Rattle.std.specs.Option.{IfSome}
 use Rattle.topology.specs.LiveClusters.{IsCheapestPair}
-use Rattle.topology.specs.declared.pair.Pair.{Pair}
 use Rattle.topology.proofs.JoinLemmas.{IsMerging, all_covered, merging_next, some_found}
 use Rattle.topology.proofs.MergeLemmas.{pair_there}
 use Rattle.topology.proofs.merging.greedy.Goals as goal

@@ -1,4 +1,4 @@
-use Rattle.std.proofs.Common.{◌≡◌, ℕ, ◌<◌, ◌≤◌, true, Some}
+use Rattle.std.proofs.Common.{◌≡◌, ℕ, ◌≤◌, true, Some}
 use Rattle.std.specs.List.{slice_get}
 use Rattle.topology.proofs.live.Live.next_unjoined.Given as goal
 

@@ -1,8 +1,7 @@
 use Rattle.std.specs.BinaryHeap.{heap_items}
-use Rattle.std.proofs.Common.{length, map, rules, ap, arith}
-use Rattle.std.proofs.lemmas.List.{length-map}
+use Rattle.std.proofs.Common.{rules}
 use Rattle.std.proofs.lemmas.Option.{MatchOption-at_some}
-use Rattle.topology.proofs.QueueLemmas.{pair_in, put_pair}
+use Rattle.topology.proofs.QueueLemmas.{put_pair}
 use Rattle.topology.proofs.queue.Queue.set_first.Goals as goal
 
 pub returns : goal.returns
