@@ -1,228 +1,107 @@
--- For which nodes the clusters stand, as some are removed and others added.
-use Rattle.std.proofs.Common.{◌≡◌, ◌≢◌, ◌⊎◌, ℕ, ◌<◌, ◌+◌, List, [], ◌∷◌, ◌++◌, length, get_or, length-append, Option, Some, None, inl, inr, refl, sym, ap, subst, ◌∙◌, arith}
-use Rattle.std.specs.Option.{option_map}
-use Rattle.std.specs.List.{All}
-use Rattle.std.proofs.lemmas.Bool.{cases_eq}
+-- Which clusters there are, as sinks are added and pairs are merged.
+use Rattle.std.proofs.Common.{◌≡◌, ◌≢◌, ◌⊎◌, ℕ, ◌<◌, ◌≤◌, ◌+◌, true, false, List, [], ◌∷◌, ◌++◌, length, length-append, length-set, add-zero, get_or, set, take, Option, Some, None, pos, ◌≤ℤ◌, inl, inr, refl, sym, ap, subst, ◌∙◌, arith}
+use Rattle.std.specs.Option.{IsNone, IsSome}
+use Rattle.std.specs.List.{All, slice_get, sum_by}
+use Rattle.std.specs.List.Sorted.{IsPermutation}
+use Rattle.std.proofs.lemmas.Bool.{cases_eq, cases_lt, lt-ltb, le-ltb}
+use Rattle.std.proofs.lemmas.Int.{ints}
+use Rattle.std.proofs.lemmas.List.{take-append-le}
+use Rattle.std.proofs.lemmas.List.Elements.{All-append, All-cons, All-nil, Contains-append_right}
+use Rattle.std.proofs.lemmas.List.Sorted.{Contains-permutation}
+use Rattle.std.proofs.lemmas.List.Sums.{sum_by-append, sum_by-set}
+use Rattle.std.proofs.lemmas.Option.{slice_get-get_or, slice_get_within, get_or_from_slice_get}
 use Rattle.std.proofs.Math.ListN.{get_or-append}
-use Rattle.std.proofs.Math.Seq.{get_or-append_seam}
-use Rattle.std.proofs.lemmas.List.Elements.{All-append, All-cons, All-nil}
-use Rattle.std.proofs.lemmas.Option.{slice_get-get_or}
+use Rattle.std.proofs.Math.Seq.{get_or-append_seam, take-append_seam}
 use Rattle.cts_model.specs.declared.place.Sink.{Sink}
 use Rattle.cts_model.specs.declared.tree.Merge.{Merge}
-use Rattle.cts_model.specs.tree.Regions.{IsUnion}
+use Rattle.cts_model.specs.tree.GreedyMerges.{IsCheapest}
 use Rattle.cts_model.specs.tree.Topologies.{IsLive, sinks_below}
-use Rattle.cts_model.proofs.TopologyLemmas.{EachMerge, first_made, second_made, sinks_below-append, sinks_below-push}
-use Rattle.slab.specs.Slab.{Slab, get, Updates}
+use Rattle.cts_model.proofs.TopologyLemmas.{EachMerge, first_made, second_made, sinks_below-append, sinks_below-push, sinks_below-sink}
 use Rattle.tilted_rect.specs.declared.cluster.Cluster.{Cluster}
 use Rattle.tilted_rect.specs.ClusterSets.{IsCluster}
 use Rattle.tilted_rect.proofs.ExtremeLemmas.{append_is_union}
 use Rattle.topology.specs.declared.live.Live.{Live}
 use Rattle.topology.specs.declared.pair.Pair.{Pair}
-use Rattle.topology.specs.LiveClusters.{unpaired, HasNode, StandsFor, StandFor, IsBelowNode, AreLive, WereCheapest, HaveSameClusters, IsAdded, IsPair, KeepPairs, AreBelow}
-use Rattle.topology.proofs.KeepLemmas.{WasThere, was_there, same_there, some_same}
+use Rattle.topology.specs.Pairs.{IsBefore, merge_of}
+use Rattle.topology.specs.LiveClusters.{HasCluster, IsPair, IsCheapestPair, IsOrdered, IsAdded, IsJoined, IsCovered, AreCovered, AreLive, WereCheapest, AreFirstSinks, AreFirstCovered, owner_of}
+use Rattle.topology.proofs.ListLemmas.{pushed_before, pushed_last, pushed_cases, set_other, was_set}
+use Rattle.topology.proofs.MergeLemmas.{as_one, cheapest_is, node_live}
+use Rattle.topology.proofs.NearLemmas.{cost_least}
 
--- ---- the clusters are the same
+-- ---- the sinks one by one
 
-pub same_stand : {IsNode : ℕ → Type 0} {IsOf : ℕ → Cluster → Type 0} (old new : Slab Live)
-    → HaveSameClusters old new → StandFor IsNode IsOf old → StandFor IsNode IsOf new
-same_stand {IsNode} {IsOf} old new same held = record {
-  each = λ key live here.
-      let was = same_there old new same key live here in
-      let before = held.each key was.old was.at in
-      let node_same = ap (λ (x : Live). x.node) (sym was.same) in
-      record {
-        node = subst IsNode node_same before.node;
-        cluster = subst (λ n. IsOf n live.cluster) node_same
-            (subst (IsOf was.old.node)
-            (ap (λ (x : Live). x.cluster) (sym was.same)) before.cluster);
-      };
-  all = λ node is.
-      let has = held.all node is in
-      let now = same_there new old (λ key. sym (same key)) has.key has.live has.at in
-      record {
-        key = has.key;
-        live = now.old;
-        at = now.at;
-        is = sym
-            (ap (λ (x : Live). x.node) now.same) ∙ has.is;
-      };
-  one = λ key other_key live other here there nodes.
-      let was = same_there old new same key live here in
-      let other_was = same_there old new same other_key other there in
-      held.one key other_key was.old other_was.old was.at other_was.at
-      (sym (ap (λ (x : Live). x.node) was.same) ∙ nodes
-      ∙ ap (λ (x : Live). x.node) other_was.same);
+pub no_sinks : (sinks : List Sink) (live : Live) → live.sinks ≡ length sinks → live.clusters ≡ []
+    → live.unjoined ≡ [] → IsOrdered live → AreFirstSinks sinks 0 live
+no_sinks sinks live sinks_is clusters unjoined ordered = record {
+  sinks_is = sinks_is;
+  ordered = ordered;
+  count = ap length clusters;
+  clusters = λ node cluster here. absurd (omega (
+    arith,
+    slice_get_within live.clusters node cluster here,
+    ap length clusters,
+  ));
+  unjoined = λ node below. absurd (omega (arith, below));
+  left = ap (sum_by as_one) unjoined;
 }
 
--- ---- a cluster is removed
-
-module _ {old new : Slab Live} {key : ℕ} (gone : Updates old new key None) where
-  -- what is left was there, at another key
-  pub left_differs : (other : ℕ) (live : Live) → get new other ≡ Some live → other ≢ key
-  left_differs other live here is = none_there (sym gone.changed ∙ sym (ap (get new) is) ∙ here)
-    where
-      none_there : None ≡ Some live → ⊥
-      none_there none = absurd (cc)
-
-  pub left_was : (other : ℕ) (live : Live) → get new other ≡ Some live → get old other ≡ Some live
-  left_was other live here = sym (gone.others other (left_differs other live here)) ∙ here
-
-  -- what was kept stays right
-  pub left_keeps : KeepPairs old → KeepPairs new
-  left_keeps held = record {
-    bound = λ at live here other_at other pair there pairs. held.bound at live
-        (left_was at live here) other_at other pair (left_was other_at other there) pairs;
-    kept = λ at live pair here keeps.
-        let was = held.kept at live pair (left_was at live here) keeps in
-        record {
-          first = was.first;
-          node = was.node;
-          later = was.later;
-          is = λ other there second. was.is other (left_was pair.second other there) second;
-        };
-  }
-
-  pub left_below : (number : ℕ) → AreBelow number old → AreBelow number new
-  left_below number held = record {
-    nodes = λ at live here. held.nodes at live (left_was at live here);
-    seconds = λ at live pair here keeps. held.seconds at live pair (left_was at live here) keeps;
-  }
-
-  -- the clusters stand for all nodes but that one's
-  pub left_stand : {IsNode : ℕ → Type 0} {IsOf : ℕ → Cluster → Type 0} (live : Live)
-      → get old key ≡ Some live → StandFor IsNode IsOf old
-      → StandFor (λ node. IsNode node × (node ≢ live.node)) IsOf new
-  left_stand live here held = record {
-    each = λ at other there.
-        let was = held.each at other (left_was at other there) in
-        record {
-          node = (
-            was.node,
-            λ same. left_differs at other there
-                (held.one at key other live (left_was at other there) here same),
-          );
-          cluster = was.cluster;
-        };
-    all = λ node (is_node, differs).
-        let has = held.all node is_node in
-        record {
-          key = has.key;
-          live = has.live;
-          at = gone.others has.key
-              (λ same. differs (sym has.is ∙ ap (λ (x : Live). x.node)
-              (some_same has.live live (sym has.at ∙ ap (get old) same ∙ here)))) ∙ has.at;
-          is = has.is;
-        };
-    one = λ at other_at one other there other_there same. held.one at other_at one other
-        (left_was at one there) (left_was other_at other other_there) same;
-  }
-
--- ---- a cluster is added
-
-module _ {old new : Slab Live} {node : ℕ} {cluster : Cluster}
-    (added : IsAdded old new node cluster) where
-  -- each cluster is the newest, or it was there
-  added_was : (key : ℕ) (live : Live) → get new key ≡ Some live
-      → ((key ≡ added.key) × (live ≡ added.newest)) ⊎ WasThere old key live
-  added_was key live here = elim (cases_eq key added.key) [
-    | inl is ↦ inl (is, some_same live added.newest (sym here ∙ ap (get new) is ∙ added.at))
-    | inr differs ↦ inr (was_there old key live
-        (subst (λ o. option_map unpaired o ≡ option_map unpaired (get old key)) here
-        (added.others key differs)))
-  ]
-
-  -- and what was there is there
-  still_there : (key : ℕ) (live : Live) → get old key ≡ Some live → HasNode new live.node
-  still_there key live here = at (get new key) refl
-      (subst (λ o. option_map unpaired (get new key) ≡ option_map unpaired o) here
-      (added.others key differs))
-    where
-      none_there : None ≡ Some live → ⊥
-      none_there none = absurd (cc)
-
-      some_is : (a b : Live) → Some a ≡ Some b → a ≡ b
-      some_is a b is = cc
-
-      differs : key ≢ added.key
-      differs is = none_there (sym added.vacant ∙ ap (get old) (sym is) ∙ here)
-
-      at : (o : Option Live) → get new key ≡ o → option_map unpaired o ≡ Some (unpaired live)
-          → HasNode new live.node
-      at None there same = absurd (cc)
-      at (Some now) there same = record {
-        key = key;
-        live = now;
-        at = there;
-        is = ap (λ (x : Live). x.node)
-            (some_is (unpaired now) (unpaired live) same);
-      }
-
-  module _ {IsNode Next : ℕ → Type 0} {IsOf IsOfNext : ℕ → Cluster → Type 0}
-      (held : StandFor IsNode IsOf old)
-      (others : (other : ℕ) → IsNode other → other ≢ node)
-      (nodes_stay : (other : ℕ) → IsNode other → Next other)
-      (clusters_stay : (other : ℕ) (is : Cluster) → IsNode other → IsOf other is
-      → IsOfNext other is)
-      (no_more : (other : ℕ) → Next other → (other ≡ node) ⊎ IsNode other)
-      (node_is : Next node) (cluster_is : IsOfNext node cluster) where
-    each_stands : (key : ℕ) (live : Live) → get new key ≡ Some live → StandsFor Next IsOfNext live
-    each_stands key live here = elim (added_was key live here) [
-      | inl (_, is) ↦ subst (StandsFor Next IsOfNext) (sym is) (record {
-        node = subst Next (sym added.node_is) node_is;
-        cluster = subst (λ n. IsOfNext n added.newest.cluster) (sym added.node_is)
-            (subst (IsOfNext node) (sym added.cluster_is) cluster_is);
-      })
-      | inr was ↦
-          let before = held.each key was.old was.at in
-          let node_same = ap (λ (x : Live). x.node) was.same in
-          record {
-            node = subst Next (sym node_same) (nodes_stay was.old.node before.node);
-            cluster = subst (λ n. IsOfNext n live.cluster) (sym node_same)
-                (subst (IsOfNext was.old.node) (sym (ap (λ (x : Live). x.cluster) was.same))
-                (clusters_stay was.old.node was.old.cluster before.node before.cluster));
-          }
-    ]
-
-    -- the newest has the new node, and the others have none such
-    old_differs : (key : ℕ) (live : Live) (was : WasThere old key live)
-        → live.node ≢ added.newest.node
-    old_differs key live was same = others was.old.node (held.each key was.old was.at).node
-        (sym (ap (λ (x : Live). x.node) was.same) ∙ same ∙ added.node_is)
-
-    one_stands : (key other_key : ℕ) (live other : Live) → get new key ≡ Some live
-        → get new other_key ≡ Some other → live.node ≡ other.node → key ≡ other_key
-    one_stands key other_key live other here there same = elim (added_was key live here) [
-      | inl (at, is) ↦ elim (added_was other_key other there) [
-        | inl (other_at, _) ↦ at ∙ sym other_at
-        | inr other_was ↦ absurd
-            (old_differs other_key other other_was (sym same ∙ ap (λ (x : Live). x.node) is))
-      ]
-      | inr was ↦ elim (added_was other_key other there) [
-        | inl (_, is) ↦ absurd (old_differs key live was (same ∙ ap (λ (x : Live). x.node) is))
-        | inr other_was ↦ held.one key other_key was.old other_was.old was.at other_was.at
-            (sym (ap (λ (x : Live). x.node) was.same) ∙ same
-            ∙ ap (λ (x : Live). x.node) other_was.same)
-      ]
-    ]
-
-    -- the clusters stand for that node too
-    pub added_stand : StandFor Next IsOfNext new
-    added_stand = record {
-      each = each_stands;
-      all = λ other is. elim (no_more other is) [
-        | inl same ↦ record {
-          key = added.key;
-          live = added.newest;
-          at = added.at;
-          is =
-              added.node_is ∙ sym same;
-        }
-        | inr before ↦
-            let has = held.all other before in
-            subst (HasNode new) has.is (still_there has.key has.live has.at)
+pub sink_added : (sinks : List Sink) (register : ℕ) (sink : Sink) (old new : Live)
+    (cluster : Cluster) → slice_get sinks register ≡ Some sink → IsCluster (sink ∷ []) cluster
+    → AreFirstSinks sinks register old → IsAdded old new cluster
+    → AreFirstSinks sinks (register + 1) new
+sink_added sinks register sink old new cluster here alone held added = record {
+  sinks_is = added.sinks ∙ held.sinks_is;
+  ordered = added.ordered;
+  count = ap length added.clusters ∙ omega
+      (arith, length-append old.clusters (cluster ∷ []), held.count);
+  clusters = λ node found there. elim (pushed_cases old.clusters cluster node found
+      (ap (λ xs. slice_get xs node) (sym added.clusters) ∙ there)) [
+        | inl (_, before) ↦ held.clusters node found before
+        | inr (last, is) ↦ subst (λ c. IsCluster (sinks_below sinks [] node) c) is
+            (subst (λ xs. IsCluster xs cluster)
+            (sym (ap (sinks_below sinks []) (last ∙ held.count)
+            ∙ sinks_below-sink sinks [] register sink here)) alone)
       ];
-      one = one_stands;
-    }
+  unjoined = λ node below. ap (λ xs. slice_get xs node) added.unjoined
+      ∙ at node (cases_lt node register) below;
+  left = ap (sum_by as_one) added.unjoined
+      ∙ omega (arith, sum_by-append as_one old.unjoined (true ∷ []), held.left);
+}
+  where
+    len : length old.unjoined ≡ register
+    len = held.ordered.lens ∙ held.count
+
+    at : (node : ℕ) → (node < register) ⊎ (register ≤ node) → node < register + 1
+        → slice_get (old.unjoined ++ true ∷ []) node ≡ Some true
+    at node (inl before) below =
+        pushed_before old.unjoined true node true (held.unjoined node before)
+    at node (inr from) below =
+        let is : length old.unjoined ≡ node = omega (arith, len, from, below) in
+        ap (slice_get (old.unjoined ++ true ∷ [])) (sym is) ∙ pushed_last old.unjoined true
+
+-- all sinks are live before the first merge
+pub sinks_live : (sinks : List Sink) (register : ℕ) (live : Live) → register ≡ length sinks
+    → AreFirstSinks sinks register live → AreLive sinks [] live
+sinks_live sinks register live all held = record {
+  sinks_is = held.sinks_is;
+  ordered = held.ordered;
+  count = held.count ∙ all ∙ sym (add-zero (length sinks));
+  clusters = held.clusters;
+  unjoined = λ node. (
+    λ is. record {
+      made = omega (
+        arith,
+        slice_get_within live.unjoined node true is,
+        held.ordered.lens,
+        held.count,
+        all,
+      );
+      unjoined = All-nil (λ (merge : Merge). (merge.first ≢ node) × (merge.second ≢ node));
+    },
+    λ is. held.unjoined node (omega (arith, is.made, all)),
+  );
+  left = omega (arith, held.left, all);
+}
 
 -- ---- two clusters are merged
 
@@ -279,49 +158,316 @@ live_made sinks merges merge each first second = record {
               (omega (arith, within, second_made sinks merges each k (get_or merges k d) here)),
         )
 
--- the merge of a pair joins the nodes of its clusters
-pub pair_merge : (slab : Slab Live) (pair : Pair) (held : IsPair slab pair)
-    → pair.merge ≡ record { first = held.first.node; second = held.second.node }
-pair_merge slab pair held = ap (λ (p : Pair). p.merge) held.pairs.1
+false_true : false ≢ true
+false_true is = absurd (cc)
 
--- after a merge the slab has one cluster for each live node again
-pub merged_live : (sinks : List Sink) (merges : List Merge) (first second : Live)
-    (old left rest new : Slab Live) (first_key second_key : ℕ) (cluster : Cluster)
-    → WereCheapest sinks merges → AreLive sinks merges old
-    → get old first_key ≡ Some first → Updates old left first_key None
-    → get left second_key ≡ Some second → Updates left rest second_key None
-    → IsAdded rest new (length sinks + length merges) cluster
-    → ((one other both : List Sink) → IsUnion one other both → IsCluster one first.cluster
-    → IsCluster other second.cluster → IsCluster both cluster)
-    → AreLive sinks (merges ++ record { first = first.node; second = second.node } ∷ []) new
-merged_live sinks merges first second old left rest new first_key second_key cluster cheapest held
-    first_at gone second_at gone_too added joined =
-    added_stand added (left_stand gone_too second second_at (left_stand gone first first_at held))
-    (λ other (is, _) same. omega (arith, is.0.made, same))
-    (λ other (is, second_differs). live_after (length sinks) merges merge other is.0
-    (λ same. is.1 (sym same), λ same. second_differs (sym same)))
-    (λ other found (is, _) below. subst (λ xs. IsCluster xs found)
-    (sym (sinks_below-append sinks merges (merge ∷ []) other is.0.made)) below)
-    (λ other is. more other (live_before (length sinks) merges merge other is))
-    (live_made (length sinks) merges merge (λ place next here. (cheapest place next here).merges)
-    first_stands.node.made second_stands.node.made)
-    (subst (λ xs. IsCluster xs cluster) (sym (sinks_below-push sinks merges merge))
-    (joined (sinks_below sinks merges first.node) (sinks_below sinks merges second.node) _
-    (append_is_union _ _) first_stands.cluster second_stands.cluster))
+module _ {sinks : List Sink} {merges : List Merge} {old new : Live} {pair : Pair}
+    (held : AreLive sinks merges old) (joined : IsJoined old new pair) where
+  made : length old.clusters ≡ length sinks + length merges
+  made = held.count
+
+  -- what isn't joined now is the node made, or wasn't joined and isn't one of the two
+  still_cases : (node : ℕ) → slice_get new.unjoined node ≡ Some true
+      → (node ≡ length old.clusters)
+      ⊎ ((slice_get old.unjoined node ≡ Some true) × (node ≢ pair.first) × (node ≢ pair.second))
+  still_cases node is = elim (pushed_cases
+      (set (set old.unjoined pair.first false) pair.second false) true node true
+      (ap (λ xs. slice_get xs node) (sym joined.unjoined) ∙ is)) [
+        | inl (_, before) ↦
+            let (second, left) = was_set (set old.unjoined pair.first false) pair.second false node
+            true false_true before in
+            let (first, was) = was_set old.unjoined pair.first false node true false_true left in
+            inr (was, first, second)
+        | inr (last, _) ↦ inl (omega (
+          arith,
+          last,
+          held.ordered.lens,
+          length-set (set old.unjoined pair.first false) pair.second false,
+          length-set old.unjoined pair.first false,
+        ))
+      ]
+
+  still : (node : ℕ) → slice_get old.unjoined node ≡ Some true → node ≢ pair.first
+      → node ≢ pair.second → slice_get new.unjoined node ≡ Some true
+  still node was first second = ap (λ xs. slice_get xs node) joined.unjoined
+      ∙ pushed_before (set (set old.unjoined pair.first false) pair.second false) true node true
+      (set_other (set old.unjoined pair.first false) pair.second false node true second
+      (set_other old.unjoined pair.first false node true first was))
+
+  made_unjoined : (node : ℕ) → node ≡ length sinks + length merges
+      → slice_get new.unjoined node ≡ Some true
+  made_unjoined node is =
+      let last : length (set (set old.unjoined pair.first false) pair.second false) ≡ node = omega (
+        arith,
+        is,
+        made,
+        held.ordered.lens,
+        length-set (set old.unjoined pair.first false) pair.second false,
+        length-set old.unjoined pair.first false,
+      ) in
+      ap (λ xs. slice_get xs node) joined.unjoined
+      ∙ ap (slice_get (set (set old.unjoined pair.first false) pair.second false ++ true ∷ []))
+      (sym last)
+      ∙ pushed_last (set (set old.unjoined pair.first false) pair.second false) true
+
+  module _ (is_pair : IsPair old pair) where
+    -- a pair that is there after the merge was there, or has the node made
+    pub pair_was : (other : Pair) → IsPair new other
+        → (other.second ≡ length old.clusters) ⊎ IsPair old other
+    pair_was other is = elim (cluster_was other.second is.other is.second) [
+      | inl last ↦ inl last
+      | inr second ↦ elim (cluster_was other.first is.one is.first) [
+        | inl first ↦ absurd (omega (
+          arith,
+          first,
+          is.ordered,
+          slice_get_within old.clusters other.second is.other second.cluster,
+        ))
+        | inr first ↦ inr (record {
+          one = is.one;
+          other = is.other;
+          ordered = is.ordered;
+          first = first;
+          second = second;
+          cost = is.cost;
+        })
+      ]
+    ]
+      where
+        cluster_was : (node : ℕ) (cluster : Cluster) → HasCluster new node cluster
+            → (node ≡ length old.clusters) ⊎ HasCluster old node cluster
+        cluster_was node cluster has = elim (still_cases node has.unjoined) [
+          | inl last ↦ inl last
+          | inr (was, _, _) ↦ elim (pushed_cases old.clusters joined.both node cluster
+              (ap (λ xs. slice_get xs node) (sym joined.clusters) ∙ has.cluster)) [
+                | inl (_, before) ↦ inr (record { unjoined = was; cluster = before })
+                | inr (last, _) ↦ inl last
+              ]
+        ]
+
+    one_cluster : (one other : Cluster) → Some one ≡ Some other → one ≡ other
+    one_cluster one other is = cc
+
+    -- after a merge there is a cluster for each live node again
+    pub merged_live : EachMerge (length sinks) merges
+        → AreLive sinks (merges ++ merge_of pair ∷ []) new
+    merged_live each = record {
+      sinks_is = joined.sinks ∙ held.sinks_is;
+      ordered = joined.ordered;
+      count = ap length joined.clusters ∙ omega (
+        arith,
+        made,
+        length-append old.clusters (joined.both ∷ []),
+        length-append merges (merge_of pair ∷ []),
+      );
+      clusters = λ node cluster here. elim (pushed_cases old.clusters joined.both node cluster
+          (ap (λ xs. slice_get xs node) (sym joined.clusters) ∙ here)) [
+            | inl (before, was) ↦ subst (λ xs. IsCluster xs cluster)
+                (sym (sinks_below-append sinks merges (merge_of pair ∷ []) node
+                (omega (arith, before, made)))) (held.clusters node cluster was)
+            | inr (last, is) ↦ subst (λ c. IsCluster
+                (sinks_below sinks (merges ++ merge_of pair ∷ []) node) c) is
+                (subst (λ xs. IsCluster xs joined.both)
+                (sym (ap (sinks_below sinks (merges ++ merge_of pair ∷ [])) (last ∙ made)
+                ∙ sinks_below-push sinks merges (merge_of pair)))
+                (joined.joined (sinks_below sinks merges pair.first)
+                (sinks_below sinks merges pair.second) _ (append_is_union _ _)
+                (held.clusters pair.first joined.one joined.first)
+                (held.clusters pair.second joined.other joined.second)))
+          ];
+      unjoined = λ node. (
+        λ is. elim (still_cases node is) [
+          | inl last ↦ subst (IsLive (length sinks) (merges ++ merge_of pair ∷ []))
+              (sym (last ∙ made)) (live_made (length sinks) merges (merge_of pair) each
+              (node_live held pair.first is_pair.one is_pair.first).made
+              (node_live held pair.second is_pair.other is_pair.second).made)
+          | inr (was, first, second) ↦ live_after (length sinks) merges (merge_of pair) node
+              ((held.unjoined node).0 was) (λ same. first (sym same), λ same. second (sym same))
+        ],
+        λ is. elim (live_before (length sinks) merges (merge_of pair) node is) [
+          | inl last ↦ made_unjoined node last
+          | inr (was, (first, second)) ↦ still node ((held.unjoined node).1 was)
+              (λ same. first (sym same)) (λ same. second (sym same))
+        ],
+      );
+      left = count;
+    }
+      where
+        first_set : sum_by as_one (set old.unjoined pair.first false) + 1
+            ≡ sum_by as_one old.unjoined
+        first_set = omega (
+          arith,
+          sum_by-set as_one old.unjoined pair.first false false
+              (slice_get_within old.unjoined pair.first true is_pair.first.unjoined),
+          ap as_one (get_or_from_slice_get old.unjoined pair.first true false
+              is_pair.first.unjoined),
+        )
+
+        differs : pair.second ≢ pair.first
+        differs is = omega (arith, is, is_pair.ordered)
+
+        second_left : slice_get (set old.unjoined pair.first false) pair.second ≡ Some true
+        second_left = set_other old.unjoined pair.first false pair.second true differs
+            is_pair.second.unjoined
+
+        second_set : sum_by as_one (set (set old.unjoined pair.first false) pair.second false) + 1
+            ≡ sum_by as_one (set old.unjoined pair.first false)
+        second_set = omega (
+          arith,
+          sum_by-set as_one (set old.unjoined pair.first false) pair.second
+              false false (slice_get_within (set old.unjoined pair.first false) pair.second true
+              second_left),
+          ap as_one (get_or_from_slice_get (set old.unjoined pair.first false) pair.second true
+              false second_left),
+        )
+
+        count : sum_by as_one new.unjoined + length (merges ++ merge_of pair ∷ []) ≡ length sinks
+        count = omega (
+          arith,
+          ap (sum_by as_one) joined.unjoined,
+          held.left,
+          first_set,
+          second_set,
+          length-append merges (merge_of pair ∷ []),
+          sum_by-append as_one (set (set old.unjoined pair.first false) pair.second false)
+              (true ∷ []),
+        )
+
+    -- the pairs with the node made are covered by a lower bound of them
+    pub joined_covers : (kept next : List Pair) (bound : Pair) → bound.cost ≡ pos 0
+        → bound.first ≡ 0 → bound.second ≡ length sinks + length merges
+        → IsPermutation (bound ∷ kept) next → AreCovered old kept → AreCovered new next
+    joined_covers kept next bound cost first second moved covered = λ other is.
+        elim (pair_was other is) [
+          | inl last ↦ record {
+            least = bound;
+            among = Contains-permutation (bound ∷ kept) next bound moved (0, omega arith, refl);
+            owner = behind new.sinks bound (omega (arith, second, joined.sinks, held.sinks_is))
+                ∙ second ∙ sym (last ∙ made)
+                ∙ sym (behind new.sinks other
+                (omega (arith, last, made, joined.sinks, held.sinks_is)));
+            at_most = λ before. not_before other before (sym cost) (sym first)
+                (last ∙ made ∙ sym second)
+                (subst (λ z. pos 0 ≤ℤ z) (sym is.cost) (cost_least is.one is.other));
+          }
+          | inr was ↦
+              let found = covered other was in
+              record {
+                least = found.least;
+                among = Contains-permutation (bound ∷ kept) next found.least moved
+                    (Contains-append_right (bound ∷ []) kept found.least found.among);
+                owner = subst (λ n. owner_of n found.least ≡ owner_of n other) (sym joined.sinks)
+                    found.owner;
+                at_most = found.at_most;
+              }
+        ]
+      where
+        behind : (sinks : ℕ) (pair : Pair) → sinks ≤ pair.second → owner_of sinks pair ≡ pair.second
+        behind sinks pair from = rw (le-ltb pair.second sinks from) refl
+
+        not_before : (other : Pair) → IsBefore other bound → pos 0 ≡ bound.cost → 0 ≡ bound.first
+            → other.second ≡ bound.second → pos 0 ≤ℤ other.cost → ⊥
+        not_before other before cost first second least = elim before [
+          | inl less ↦ omega (arith, ints, less, cost, least)
+          | inr (_, lower) ↦ elim lower [
+            | inl below ↦ omega (arith, below, first)
+            | inr (_, below) ↦ omega (arith, below, second)
+          ]
+        ]
+
+-- ---- before the first merge
+
+-- the pairs of so many of the first sinks are covered by a lower bound
+pub first_covered : (sinks register : ℕ) (kept next : List Pair) (bound : Pair)
+    → bound.cost ≡ pos 0 → bound.first + 1 ≡ register → bound.second ≡ register
+    → IsPermutation (bound ∷ kept) next → AreFirstCovered sinks register kept
+    → AreFirstCovered sinks (register + 1) next
+first_covered sinks register kept next bound cost first second moved covered = λ pair below ordered
+    within least. elim (cases_lt (pair.first + 1) register) [
+      | inl before ↦
+          let found = covered pair before ordered within least in
+          record {
+            least = found.least;
+            among = Contains-permutation (bound ∷ kept) next found.least moved
+                (Contains-append_right (bound ∷ []) kept found.least found.among);
+            owner = found.owner;
+            at_most = found.at_most;
+          }
+      | inr from ↦ record {
+        least = bound;
+        among = Contains-permutation (bound ∷ kept) next bound moved (0, omega arith, refl);
+        owner = ahead bound (omega (arith, first, second, below, ordered, within, from))
+            ∙ omega (arith, first, below, from) ∙ sym (ahead pair within);
+        at_most = λ before. not_before pair before (omega (arith, first, below, from))
+            (omega (arith, first, second, below, from, ordered)) (sym cost) least;
+      }
+    ]
   where
-    merge : Merge
-    merge = record { first = first.node; second = second.node }
+    ahead : (pair : Pair) → pair.second < sinks → owner_of sinks pair ≡ pair.first
+    ahead pair within = rw (lt-ltb pair.second sinks within) refl
 
-    first_stands : StandsFor (IsLive (length sinks) merges) (IsBelowNode sinks merges) first
-    first_stands = held.each first_key first first_at
+    not_before : (pair : Pair) → IsBefore pair bound → bound.first ≡ pair.first
+        → bound.second ≤ pair.second → pos 0 ≡ bound.cost → pos 0 ≤ℤ pair.cost → ⊥
+    not_before pair before first second cost least = elim before [
+      | inl less ↦ omega (arith, ints, less, cost, least)
+      | inr (_, lower) ↦ elim lower [
+        | inl below ↦ omega (arith, below, first)
+        | inr (_, below) ↦ omega (arith, below, second)
+      ]
+    ]
 
-    second_stands : StandsFor (IsLive (length sinks) merges) (IsBelowNode sinks merges) second
-    second_stands = held.each second_key second (left_was gone second_key second second_at)
+pub all_covered : (sinks : List Sink) (live : Live) (kept : List Pair) → AreLive sinks [] live
+    → AreFirstCovered (length sinks) (length sinks) kept → AreCovered live kept
+all_covered sinks live kept held covered = λ pair is.
+    let within : pair.second < length sinks = omega
+    (arith, (node_live held pair.second is.other is.second).made) in
+    subst (λ n. IsCovered n kept pair) (sym held.sinks_is)
+    (covered pair (omega (arith, is.ordered, within)) is.ordered within
+    (subst (λ z. pos 0 ≤ℤ z) (sym is.cost) (cost_least is.one is.other)))
 
-    more : (other : ℕ) → (other ≡ length sinks + length merges)
-        ⊎ (IsLive (length sinks) merges other × Spares other merge)
-        → (other ≡ length sinks + length merges)
-        ⊎ ((IsLive (length sinks) merges other × (other ≢ first.node)) × (other ≢ second.node))
-    more other (inl is) = inl is
-    more other (inr (live, spares)) = inr
-        ((live, λ same. spares.0 (sym same)), λ same. spares.1 (sym same))
+-- ---- the merges one by one
+
+-- all is right after so many merges
+pub record IsMerging (sinks : List Sink) (merges : List Merge) (clusters : Live)
+    (kept : List Pair) : Type 0 where
+  pub live : AreLive sinks merges clusters
+  pub cheapest : WereCheapest sinks merges
+  pub covered : AreCovered clusters kept
+
+-- one merge more
+pub were_cheapest : (sinks : List Sink) (merges : List Merge) (merge : Merge)
+    → WereCheapest sinks merges → IsCheapest sinks merges merge
+    → WereCheapest sinks (merges ++ merge ∷ [])
+were_cheapest sinks merges merge held cheapest = λ place next here.
+    elim (pushed_cases merges merge place next here) [
+      | inl (before, was) ↦ subst (λ earlier. IsCheapest sinks earlier next)
+          (sym (take-append-le place merges (merge ∷ []) (omega (arith, before))))
+          (held place next was)
+      | inr (last, is) ↦ subst (IsCheapest sinks (take place (merges ++ merge ∷ []))) is
+          (subst (λ earlier. IsCheapest sinks earlier merge)
+          (sym (ap (λ k. take k (merges ++ merge ∷ [])) last ∙ take-append_seam merges
+          (merge ∷ []))) cheapest)
+    ]
+
+pub merging_next : (sinks : List Sink) (merges : List Merge) (old new : Live)
+    (kept chosen next : List Pair) (pair bound : Pair) → IsMerging sinks merges old kept
+    → AreCovered old chosen → IsCheapestPair old pair → IsJoined old new pair
+    → bound ≡ record { cost = pos 0; first = 0; second = length sinks + length merges }
+    → IsPermutation (bound ∷ chosen) next → IsMerging sinks (merges ++ merge_of pair ∷ []) new next
+merging_next sinks merges old new kept chosen next pair bound held covered cheapest joined made
+    moved = record {
+      live = merged_live held.live joined cheapest.pair
+          (λ place merge here. (held.cheapest place merge here).merges);
+      cheapest = were_cheapest sinks merges (merge_of pair) held.cheapest
+          (cheapest_is held.live pair cheapest);
+      covered = joined_covers held.live joined cheapest.pair chosen next bound
+          (ap (λ (p : Pair). p.cost) made) (ap (λ (p : Pair). p.first) made)
+          (ap (λ (p : Pair). p.second) made) moved covered;
+    }
+
+-- while more than one cluster is left a pair is found
+pub some_found : (live : Live) (found : Option Pair)
+    → (IsNone found → (pair : Pair) → ¬ IsPair live pair)
+    → (pair : Pair) × IsPair live pair → IsSome found
+some_found live None none there = absurd (none refl there.0 there.1)
+some_found live (Some pair) none there = refl

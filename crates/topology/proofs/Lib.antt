@@ -1,6 +1,8 @@
-mod AddLemmas
-mod GreedyLemmas
+mod CoverLemmas
 mod JoinLemmas
-mod KeepLemmas
-mod OfferLemmas
-mod SearchLemmas
+mod ListLemmas
+mod MergeLemmas
+mod NearLemmas
+mod OrderLemmas
+mod PairLemmas
+mod QueueLemmas

@@ -1,196 +1,163 @@
--- The live clusters, as a slab keeps them, each with a pair that it may be the first of.
-use Rattle.std.specs.Prelude.{◌≡◌, ◌↔◌, ◌≢◌, ℕ, ◌<◌, Bool, false, ◌==◌, Option, Some, None, IsSomeAnd, option_map, List, length, take, slice_get, ◌≤ℤ◌}
+-- The clusters that no merge joins yet, and which pairs of them are kept.
+use Rattle.std.specs.Prelude.{◌≡◌, ◌↔◌, ◌⊎◌, ℕ, ◌<◌, ◌≤◌, ◌+◌, true, false, Option, Some, List, [], ◌∷◌, ◌++◌, Contains, count_by, length, take, slice_get, slice_set, slice_index_or, ℤ, pos, ◌+ℤ◌, ◌≤ℤ◌, nat_lt, if◌then◌else◌, ◌^◌}
 use Rattle.std.specs.Option.{option_map_or}
+use Rattle.cts_model.specs.placement.Points.{IsBelow}
+use Rattle.tilted_rect.specs.declared.cluster.Cluster.{Cluster}
 use Rattle.cts_model.specs.declared.place.Sink.{Sink}
 use Rattle.cts_model.specs.declared.tree.Merge.{Merge}
 use Rattle.cts_model.specs.tree.GreedyMerges.{IsCheapest}
 use Rattle.cts_model.specs.tree.Topologies.{IsLive, sinks_below}
-use Rattle.slab.specs.Slab.{Slab, get, slab_len, with_value}
-use Rattle.tilted_rect.specs.declared.cluster.Cluster.{Cluster}
+use Rattle.cts_model.specs.tree.Regions.{IsUnion}
 use Rattle.tilted_rect.specs.ClusterSets.{IsCluster, cost_of}
 use Rattle.topology.specs.declared.live.Live.{Live}
 use Rattle.topology.specs.declared.pair.Pair.{Pair}
-use Rattle.topology.specs.Pairs.{IsAtMost, IsCheaperOf}
+use Rattle.topology.specs.Pairs.{IsAtMost, IsBefore}
 
--- ---- which clusters there are
+-- ---- pairs
 
--- the node has a cluster in the slab
-pub record HasNode (slab : Slab Live) (node : ℕ) : Type 0 where
-  pub key : ℕ
-  pub live : Live
-  pub at : get slab key ≡ Some live
-  pub is : live.node ≡ node
+-- the node has that cluster, and no merge joins it yet
+pub record HasCluster (live : Live) (node : ℕ) (is : Cluster) : Type 0 where
+  pub unjoined : slice_get live.unjoined node ≡ Some true
+  pub cluster : slice_get live.clusters node ≡ Some is
 
--- the cluster stands for such a node, and is of what is below it
-pub record StandsFor (IsNode : ℕ → Type 0) (IsOf : ℕ → Cluster → Type 0)
-    (live : Live) : Type 0 where
-  pub node : IsNode live.node
-  pub cluster : IsOf live.node live.cluster
+-- the pair is of two clusters that no merge joins yet
+pub record IsPair (live : Live) (pair : Pair) : Type 0 where
+  pub one : Cluster
+  pub other : Cluster
+  pub ordered : pair.first < pair.second
+  pub first : HasCluster live pair.first one
+  pub second : HasCluster live pair.second other
+  pub cost : pair.cost ≡ cost_of one other
 
--- the slab has one cluster for each such node
-pub record StandFor (IsNode : ℕ → Type 0) (IsOf : ℕ → Cluster → Type 0)
-    (slab : Slab Live) : Type 0 where
-  pub each : (key : ℕ) (live : Live) → get slab key ≡ Some live → StandsFor IsNode IsOf live
-  pub all : (node : ℕ) → IsNode node → HasNode slab node
-  pub one : (key other_key : ℕ) (live other : Live) → get slab key ≡ Some live
-      → get slab other_key ≡ Some other → live.node ≡ other.node → key ≡ other_key
+-- a pair is kept at the node made later, and that of two sinks at the first
+abbrev pub owner_of : (sinks : ℕ) → Pair → ℕ
+owner_of sinks pair = if nat_lt pair.second sinks then pair.first else pair.second
 
--- the cluster is that of the sinks below the node
-abbrev pub IsBelowNode : List Sink → List Merge → ℕ → Cluster → Type 0
-IsBelowNode sinks merges node cluster = IsCluster (sinks_below sinks merges node) cluster
+-- the other cluster of a pair
+abbrev pub other_of : (sinks : ℕ) → Pair → ℕ
+other_of sinks pair = if nat_lt pair.second sinks then pair.second else pair.first
 
--- the slab has one cluster for each live node
-abbrev pub AreLive : List Sink → List Merge → Slab Live → Type 0
-AreLive sinks merges slab =
-    StandFor (IsLive (length sinks) merges) (IsBelowNode sinks merges) slab
+-- the pair is kept at that node
+pub record IsKept (live : Live) (node : ℕ) (kept : Pair) : Type 0 where
+  pub pair : IsPair live kept
+  pub owner : owner_of live.sinks kept ≡ node
+
+-- the pair is kept at that node, with that other
+pub record IsKeptWith (live : Live) (owner node : ℕ) (pair : Pair) : Type 0 where
+  pub kept : IsKept live owner pair
+  pub other : other_of live.sinks pair ≡ node
+
+-- no pair that is kept at the node is to be merged before the one that is found
+pub record IsNearest (live : Live) (owner : ℕ) (found : Option Pair) : Type 0 where
+  pub bound : (pair : Pair) → IsKept live owner pair → IsAtMost found pair
+  pub there : (pair : Pair) → found ≡ Some pair → IsKept live owner pair
+
+-- ---- the order of the clusters
+
+-- the least u of a node's region
+abbrev pub low_of : List Cluster → (node : ℕ) → ℤ
+low_of clusters node = option_map_or (λ cluster. cluster.region.ulo) (slice_get clusters node)
+    (pos 0)
+
+-- the least u of the region at a place of an order
+abbrev pub low_at : List Cluster → List ℕ → (place : ℕ) → ℤ
+low_at clusters order place = low_of clusters (slice_index_or order place 0)
+
+-- each node is in the order, by the least u of its region, and no region is wider than that
+pub record IsOrdered (live : Live) : Type 0 where
+  pub lens : length live.unjoined ≡ length live.clusters
+  pub few : length live.clusters < 2 ^ 32
+  pub within : (place : ℕ) → place < length live.order.items
+      → slice_index_or live.order.items place 0 < length live.clusters
+  pub all : (node : ℕ) → node < length live.clusters → Contains live.order.items node
+  pub ascending : (place later : ℕ) → place ≤ later → later < length live.order.items
+      → low_at live.clusters live.order.items place
+      ≤ℤ low_at live.clusters live.order.items later
+  pub below : IsBelow (10 ^ 34) live.widest
+  pub wide : (node : ℕ) (cluster : Cluster) → slice_get live.clusters node ≡ Some cluster
+      → cluster.region.uhi ≤ℤ (cluster.region.ulo +ℤ live.widest)
+
+-- of the pairs that are kept at a node, with others at places passed, none is to be merged before
+-- the one that is found
+pub record IsLooked (live : Live) (owner : ℕ) (IsPassed : ℕ → Type 0)
+    (old new : Option Pair) : Type 0 where
+  pub stays : (pair : Pair) → IsAtMost old pair → IsAtMost new pair
+  pub bound : (place : ℕ) (pair : Pair) → IsPassed place → place < length live.order.items
+      → IsKeptWith live owner (slice_index_or live.order.items place 0) pair → IsAtMost new pair
+  pub there : (pair : Pair) → new ≡ Some pair → (old ≡ Some pair) ⊎ IsKept live owner pair
+
+-- ---- kept pairs
+
+-- a pair is kept that isn't to be merged after it, at the same node
+pub record IsCovered (sinks : ℕ) (kept : List Pair) (pair : Pair) : Type 0 where
+  pub least : Pair
+  pub among : Contains kept least
+  pub owner : owner_of sinks least ≡ owner_of sinks pair
+  pub at_most : ¬ IsBefore pair least
+
+-- so it is for each pair of two clusters
+abbrev pub AreCovered : Live → (kept : List Pair) → Type 0
+AreCovered live kept = (pair : Pair) → IsPair live pair → IsCovered live.sinks kept pair
+
+-- the pair is of two clusters, and none is to be merged before it
+pub record IsCheapestPair (live : Live) (cheapest : Pair) : Type 0 where
+  pub pair : IsPair live cheapest
+  pub least : (other : Pair) → IsPair live other → ¬ IsBefore other cheapest
+
+-- ---- how they change
+
+-- the cluster of one node more
+pub record IsAdded (old new : Live) (cluster : Cluster) : Type 0 where
+  pub sinks : new.sinks ≡ old.sinks
+  pub clusters : new.clusters ≡ old.clusters ++ cluster ∷ []
+  pub unjoined : new.unjoined ≡ old.unjoined ++ true ∷ []
+  pub ordered : IsOrdered new
+
+-- the two clusters of a pair are merged into one of a node more
+pub record IsJoined (old new : Live) (pair : Pair) : Type 0 where
+  pub one : Cluster
+  pub other : Cluster
+  pub both : Cluster
+  pub first : slice_get old.clusters pair.first ≡ Some one
+  pub second : slice_get old.clusters pair.second ≡ Some other
+  pub joined : (first second sinks : List Sink) → IsUnion first second sinks
+      → IsCluster first one → IsCluster second other → IsCluster sinks both
+  pub sinks : new.sinks ≡ old.sinks
+  pub clusters : new.clusters ≡ old.clusters ++ both ∷ []
+  pub unjoined : new.unjoined
+      ≡ slice_set (slice_set old.unjoined pair.first false) pair.second false ++ true ∷ []
+  pub ordered : IsOrdered new
+
+-- ---- the clusters of the nodes
+
+-- each node has the cluster of the sinks below it, and those that no merge joins are live
+pub record AreLive (sinks : List Sink) (merges : List Merge) (live : Live) : Type 0 where
+  pub sinks_is : live.sinks ≡ length sinks
+  pub ordered : IsOrdered live
+  pub count : length live.clusters ≡ length sinks + length merges
+  pub clusters : (node : ℕ) (cluster : Cluster) → slice_get live.clusters node ≡ Some cluster
+      → IsCluster (sinks_below sinks merges node) cluster
+  pub unjoined : (node : ℕ) → (slice_get live.unjoined node ≡ Some true)
+      ↔ IsLive (length sinks) merges node
+  pub left : count_by (λ still. still) live.unjoined + length merges ≡ length sinks
+
+-- so many of the first sinks have their clusters
+pub record AreFirstSinks (sinks : List Sink) (register : ℕ) (live : Live) : Type 0 where
+  pub sinks_is : live.sinks ≡ length sinks
+  pub ordered : IsOrdered live
+  pub count : length live.clusters ≡ register
+  pub clusters : (node : ℕ) (cluster : Cluster) → slice_get live.clusters node ≡ Some cluster
+      → IsCluster (sinks_below sinks [] node) cluster
+  pub unjoined : (node : ℕ) → node < register → slice_get live.unjoined node ≡ Some true
+  pub left : count_by (λ still. still) live.unjoined ≡ register
 
 -- the merges so far were each the cheapest when they were made
 abbrev pub WereCheapest : List Sink → List Merge → Type 0
 WereCheapest sinks merges = (place : ℕ) (merge : Merge) → slice_get merges place ≡ Some merge
     → IsCheapest sinks (take place merges) merge
 
--- the cluster without its pair
-abbrev pub unpaired : Live → Live
-unpaired live = record live { kept = None }
-
--- both slabs have the same clusters at the same keys
-abbrev pub HaveSameClusters : Slab Live → Slab Live → Type 0
-HaveSameClusters old new = (key : ℕ)
-    → option_map unpaired (get new key) ≡ option_map unpaired (get old key)
-
--- ---- which pairs there are
-
--- the pair of two clusters, given with their keys
-abbrev pub pair_of : (key : ℕ) → Live → (other_key : ℕ) → Live → Pair
-pair_of key live other_key other = record {
-  cost = cost_of live.cluster other.cluster;
-  merge = record { first = live.node; second = other.node };
-  first = key;
-  second = other_key;
-}
-
--- the pair is of a cluster and a later one
-abbrev pub Pairs : (key : ℕ) → Live → (other_key : ℕ) → Live → Pair → Type 0
-Pairs key live other_key other pair =
-    (live.node < other.node) × (pair ≡ pair_of key live other_key other)
-
--- the pair of a cluster and another, if that one is later
-abbrev pub IsPairBefore : (key : ℕ) → Live → (other_key : ℕ) → Live → Option Pair → Type 0
-IsPairBefore key live other_key other found = (pair : Pair)
-    → (found ≡ Some pair) ↔ Pairs key live other_key other pair
-
--- the second cluster of the pair is still there
-abbrev pub has_second : Slab Live → Pair → Bool
-has_second slab pair =
-    option_map_or (λ other. other.node == pair.merge.second) (get slab pair.second) false
-
--- a cluster in the slab gives the pair
-pub record IsGiven (Gives : ℕ → Live → Pair → Type 0) (slab : Slab Live)
-    (pair : Pair) : Type 0 where
-  pub key : ℕ
-  pub live : Live
-  pub at : get slab key ≡ Some live
-  pub gives : Gives key live pair
-
--- of the pairs that clusters in the slab give, none is to be merged before the one that is found
-pub record IsLeastPair (Gives : ℕ → Live → Pair → Type 0) (slab : Slab Live)
-    (found : Option Pair) : Type 0 where
-  pub bound : (key : ℕ) (live : Live) (pair : Pair) → get slab key ≡ Some live
-      → Gives key live pair → IsAtMost found pair
-  pub there : (pair : Pair) → found ≡ Some pair → IsGiven Gives slab pair
-
--- the pair is of two clusters that are there
-pub record IsPair (slab : Slab Live) (pair : Pair) : Type 0 where
-  pub first : Live
-  pub second : Live
-  pub first_at : get slab pair.first ≡ Some first
-  pub second_at : get slab pair.second ≡ Some second
-  pub pairs : Pairs pair.first first pair.second second pair
-
--- of all pairs of two clusters none is to be merged before the one that is found
-pub record IsCheapestPair (slab : Slab Live) (found : Option Pair) : Type 0 where
-  pub bound : (key other_key : ℕ) (live other : Live) (pair : Pair) → get slab key ≡ Some live
-      → get slab other_key ≡ Some other → Pairs key live other_key other pair
-      → IsAtMost found pair
-  pub there : (pair : Pair) → found ≡ Some pair → IsPair slab pair
-
--- ---- which pairs are kept
-
--- the cluster keeps the pair
-abbrev pub Keeps : (key : ℕ) → Live → Pair → Type 0
-Keeps key live pair = live.kept ≡ Some pair
-
--- the pair was of the cluster and a later one, and still is where that one is there
-pub record IsPairKept (slab : Slab Live) (key : ℕ) (live : Live) (pair : Pair) : Type 0 where
-  pub first : pair.first ≡ key
-  pub node : pair.merge.first ≡ live.node
-  pub later : live.node < pair.merge.second
-  pub is : (other : Live) → get slab pair.second ≡ Some other → other.node ≡ pair.merge.second
-      → pair ≡ pair_of key live pair.second other
-
--- each cluster keeps a pair that no pair with a later one is to be merged before
-pub record KeepPairs (slab : Slab Live) : Type 0 where
-  pub bound : (key : ℕ) (live : Live) → get slab key ≡ Some live
-      → (other_key : ℕ) (other : Live) (pair : Pair) → get slab other_key ≡ Some other
-      → Pairs key live other_key other pair → IsAtMost live.kept pair
-  pub kept : (key : ℕ) (live : Live) (pair : Pair) → get slab key ≡ Some live
-      → live.kept ≡ Some pair → IsPairKept slab key live pair
-
--- all nodes of clusters and of their pairs are below the number
-pub record AreBelow (number : ℕ) (slab : Slab Live) : Type 0 where
-  pub nodes : (key : ℕ) (live : Live) → get slab key ≡ Some live → live.node < number
-  pub seconds : (key : ℕ) (live : Live) (pair : Pair) → get slab key ≡ Some live
-      → live.kept ≡ Some pair → pair.merge.second < number
-
--- the cluster keeps a pair that costs no more than that with the other
-abbrev pub KeepsAsCheap : Live → Live → Type 0
-KeepsAsCheap live other = IsSomeAnd live.kept
-    (λ pair. pair.cost ≤ℤ cost_of live.cluster other.cluster)
-
--- the pair that the cluster keeps, if it keeps one, is its own, and is with one below the number
-abbrev pub KeepsEarlier : (number : ℕ) → Live → Type 0
-KeepsEarlier number live = (pair : Pair) → live.kept ≡ Some pair
-    → (pair.merge.first ≡ live.node) × (pair.merge.second < number)
-
--- so it is for what a key may have
-abbrev pub KeepsEarlierAt : (number : ℕ) → Option Live → Type 0
-KeepsEarlierAt number here = (live : Live) → here ≡ Some live → KeepsEarlier number live
-
--- ---- how they change
-
--- one cluster looked anew for its pair, and all else stays
-pub record IsLookedAnew (old new : Slab Live) (key : ℕ) : Type 0 where
-  pub live : Live
-  pub found : Option Pair
-  pub at : get old key ≡ Some live
-  pub least : IsLeastPair (Pairs key live) old found
-  pub new_is : new ≡ with_value old key (record live { kept = found })
-
--- the cluster may keep its pair with the newest one instead
-pub record IsOffered (key : ℕ) (newest : Live) (newest_key : ℕ) (old new : Live) : Type 0 where
-  pub node : new.node ≡ old.node
-  pub cluster : new.cluster ≡ old.cluster
-  pub kept : IsCheaperOf old.kept (Some (pair_of key old newest_key newest)) new.kept
-
--- so it is for what a key may have
-abbrev pub IsOfferedAt : (key : ℕ) → Live → (newest_key : ℕ) → Option Live → Option Live → Type 0
-IsOfferedAt key newest newest_key None new = new ≡ None
-IsOfferedAt key newest newest_key (Some old) new =
-    IsSomeAnd new (IsOffered key newest newest_key old)
-
--- a later cluster came to the others, which may keep other pairs now
-pub record IsAdded (old new : Slab Live) (node : ℕ) (cluster : Cluster) : Type 0 where
-  pub key : ℕ
-  pub newest : Live
-  pub vacant : get old key ≡ None
-  pub at : get new key ≡ Some newest
-  pub node_is : newest.node ≡ node
-  pub cluster_is : newest.cluster ≡ cluster
-  pub others : (other : ℕ) → other ≢ key
-      → option_map unpaired (get new other) ≡ option_map unpaired (get old other)
-
--- there is as much room as before
-pub record HaveSameRoom (old new : Slab Live) : Type 0 where
-  pub len : slab_len new ≡ slab_len old
-  pub vacant_key : new.vacant_key ≡ old.vacant_key
-  pub capacity : new.capacity ≡ old.capacity
+-- pairs of two sinks are covered, whatever they cost, where the first is below the number less 1
+abbrev pub AreFirstCovered : (sinks register : ℕ) → (kept : List Pair) → Type 0
+AreFirstCovered sinks register kept = (pair : Pair) → pair.first + 1 < register
+    → pair.first < pair.second → pair.second < sinks → pos 0 ≤ℤ pair.cost
+    → IsCovered sinks kept pair

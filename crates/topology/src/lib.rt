@@ -4,5 +4,6 @@
 mod live;
 mod merging;
 mod pair;
+mod queue;
 
 pub use merging::greedy;

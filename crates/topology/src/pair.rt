@@ -1,37 +1,36 @@
-ghost use Rattle.std.specs.Prelude.{◌↔◌, IsTrue};
-ghost use Rattle.cts_model.specs.tree.GreedyMerges.{IsCheaper, IsLower};
-ghost use Rattle.topology.specs.Pairs.{ComesFirst, IsCheaperOf};
+ghost use Rattle.std.specs.Prelude.{◌≡◌, ◌↔◌, IsTrue};
+ghost use Rattle.topology.specs.Pairs.{ComesFirst, IsBefore, IsCheaperOf, merge_of};
 
 use cts_model::Merge;
 
-/// Two clusters that may be merged next.
-#[derive(Clone, Copy, Debug, PartialEq, Eq)]
+/// Two clusters that may be merged next, in the order in which pairs are to be merged.
+#[derive(Clone, Copy, Debug, PartialEq, Eq, PartialOrd, Ord)]
 pub(crate) struct Pair {
     /// What the wire of the tree grows by.
     pub(crate) cost: i128,
-    /// Their nodes, the lower number first.
-    pub(crate) merge: Merge,
-    /// Where the first stands in the slab.
-    pub(crate) first: usize,
-    /// Where the second does.
-    pub(crate) second: usize,
+    /// The lower number of their nodes.
+    pub(crate) first: u32,
+    /// The higher one.
+    pub(crate) second: u32,
 }
 
 impl Pair {
-    /// Whether it is to be merged before another.
-    pub(crate) fn is_cheaper(&self, other: &Pair) -> bool
-        ensures { IsTrue result
-            ↔ IsCheaper self.now.cost self.now.merge other.now.cost other.now.merge }
+    /// The merge of the two.
+    pub(crate) fn merge(&self) -> Merge
+        ensures { result ≡ merge_of self.now }
     {
-        self.cost < other.cost || (self.cost == other.cost && is_lower(self.merge, other.merge))
+        Merge {
+            first: self.first,
+            second: self.second,
+        }
     }
-}
 
-// Whether the one merge has the lower first number, or else the lower second.
-fn is_lower(merge: Merge, other: Merge) -> bool
-    ensures { IsTrue result ↔ IsLower merge other }
-{
-    merge.first < other.first || (merge.first == other.first && merge.second < other.second)
+    // Whether it is to be merged before another.
+    fn is_before(&self, other: &Pair) -> bool
+        ensures { IsTrue result ↔ IsBefore self.now other.now }
+    {
+        self < other
+    }
 }
 
 /// Keeps another pair instead, where that one is to be merged first.
@@ -48,7 +47,7 @@ fn comes_first(pair: &Option<Pair>, kept: &Option<Pair>) -> bool
     ensures { IsTrue result ↔ ComesFirst pair.now kept.now }
 {
     match (pair, kept) {
-        (Some(pair), Some(kept)) => pair.is_cheaper(kept),
+        (Some(pair), Some(kept)) => pair.is_before(kept),
         (Some(_), None) => true,
         (None, _) => false,
     }

@@ -1,0 +1,326 @@
+-- A search for the cheapest pair that a node keeps.
+use Rattle.std.proofs.Common.{◌≡◌, ◌↔◌, ◌⊎◌, ℕ, ◌<◌, ◌≤◌, Bool, true, false, cond, Option, Some, None, List, length, get_or, ℤ, pos, ◌-ℤ◌, ◌≤ℤ◌, ◌<ℤ◌, inl, inr, refl, sym, ap, subst, ◌∙◌, ◌^◌, FitsSigned, arith}
+use Rattle.std.specs.Int.{int_max, w128}
+use Rattle.std.specs.List.{slice_get, slice_index_or}
+use Rattle.std.specs.Bool.{nat_lt}
+use Rattle.std.proofs.lemmas.List.{get_or_default}
+use Rattle.std.specs.Option.{IsSomeAnd, option_map_or}
+use Rattle.std.proofs.lemmas.Bool.{cases_lt}
+use Rattle.std.proofs.lemmas.Int.{ints, clamps}
+use Rattle.std.proofs.lemmas.Option.{slice_get_within}
+use Rattle.cts_model.specs.placement.Points.{IsBelow}
+use Rattle.tilted_rect.specs.declared.cluster.Cluster.{Cluster}
+use Rattle.tilted_rect.specs.ClusterSets.{cost_of}
+use Rattle.tilted_rect.specs.Intervals.{between}
+use Rattle.topology.specs.declared.live.Live.{Live}
+use Rattle.topology.specs.declared.pair.Pair.{Pair}
+use Rattle.topology.specs.Pairs.{IsBefore, IsAtMost, IsCheaperOf}
+use Rattle.topology.specs.LiveClusters.{HasCluster, IsPair, IsKept, IsKeptWith, IsLooked, IsNearest, IsOrdered, low_of, low_at, owner_of, other_of}
+
+-- ---- the order of pairs
+
+-- what comes before a pair comes before all that isn't before that one
+pub before_along : (pair middle last : Pair) → IsBefore pair last → ¬ IsBefore middle last
+    → ¬ IsBefore pair middle → ⊥
+before_along pair middle last before not_middle not_pair = grind (arith, ints)
+
+-- so a bound on a kept pair holds for one that isn't after it
+pub at_most_along : (kept least : Option Pair) (pair : Pair) → IsAtMost kept pair
+    → ((other : Pair) → kept ≡ Some other → IsAtMost least other) → IsAtMost least pair
+at_most_along None least pair bound below = absurd bound
+at_most_along (Some other) least pair bound below = at least (below other refl)
+  where
+    at : (o : Option Pair) → IsAtMost o other → IsAtMost o pair
+    at None within = absurd within
+    at (Some first) within = λ before. before_along pair other first before within bound
+
+-- a pair that costs less than a gap is before one that costs no less than that
+less_is_at_most : (least : Option Pair) (pair : Pair) (gap : ℤ)
+    → IsSomeAnd least (λ found. found.cost <ℤ gap) → gap ≤ℤ pair.cost → IsAtMost least pair
+less_is_at_most None pair gap less apart = absurd less
+less_is_at_most (Some found) pair gap less apart = λ before. not_before before
+  where
+    not_before : IsBefore pair found → ⊥
+    not_before before = grind (arith, ints, less, apart)
+
+-- ---- what a pair costs
+
+at_left : (a b c : ℤ) → a ≤ℤ b → a ≤ℤ int_max b c
+at_left a b c is = omega (arith, ints, clamps)
+
+at_right : (a b c : ℤ) → a ≤ℤ c → a ≤ℤ int_max b c
+at_right a b c is = omega (arith, ints, clamps)
+
+same_le : (a : ℤ) → a ≤ℤ a
+same_le a = omega (arith, ints)
+
+-- the greatest of several is no less than any of the first three
+up_most : (up down v r s : ℤ)
+    → up ≤ℤ int_max (int_max (int_max (int_max (int_max up down) (pos 0)) v) r) s
+up_most up down v r s =
+    at_left up (int_max (int_max (int_max (int_max up down) (pos 0)) v) r) s
+    (at_left up (int_max (int_max (int_max up down) (pos 0)) v) r
+    (at_left up (int_max (int_max up down) (pos 0)) v
+    (at_left up (int_max up down) (pos 0) (at_left up up down (same_le up)))))
+
+down_most : (up down v r s : ℤ)
+    → down ≤ℤ int_max (int_max (int_max (int_max (int_max up down) (pos 0)) v) r) s
+down_most up down v r s =
+    at_left down (int_max (int_max (int_max (int_max up down) (pos 0)) v) r) s
+    (at_left down (int_max (int_max (int_max up down) (pos 0)) v) r
+    (at_left down (int_max (int_max up down) (pos 0)) v
+    (at_left down (int_max up down) (pos 0) (at_right down up down (same_le down)))))
+
+none_most : (up down v r s : ℤ)
+    → pos 0 ≤ℤ int_max (int_max (int_max (int_max (int_max up down) (pos 0)) v) r) s
+none_most up down v r s =
+    at_left (pos 0) (int_max (int_max (int_max (int_max up down) (pos 0)) v) r) s
+    (at_left (pos 0) (int_max (int_max (int_max up down) (pos 0)) v) r
+    (at_left (pos 0) (int_max (int_max up down) (pos 0)) v
+    (at_right (pos 0) (int_max up down) (pos 0) (same_le (pos 0)))))
+
+-- so a cost is no less than the gap in u upwards, or downwards, and nothing at least
+up_within : (one other : Cluster) → (other.region.ulo -ℤ one.region.uhi) ≤ℤ cost_of one other
+up_within one other = up_most (other.region.ulo -ℤ one.region.uhi)
+    (one.region.ulo -ℤ other.region.uhi)
+    (between one.region.vlo one.region.vhi other.region.vlo other.region.vhi)
+    (one.reach -ℤ other.reach) (other.reach -ℤ one.reach)
+
+down_within : (one other : Cluster) → (one.region.ulo -ℤ other.region.uhi) ≤ℤ cost_of one other
+down_within one other = down_most (other.region.ulo -ℤ one.region.uhi)
+    (one.region.ulo -ℤ other.region.uhi)
+    (between one.region.vlo one.region.vhi other.region.vlo other.region.vhi)
+    (one.reach -ℤ other.reach) (other.reach -ℤ one.reach)
+
+pub cost_least : (one other : Cluster) → pos 0 ≤ℤ cost_of one other
+cost_least one other = none_most (other.region.ulo -ℤ one.region.uhi)
+    (one.region.ulo -ℤ other.region.uhi)
+    (between one.region.vlo one.region.vhi other.region.vlo other.region.vhi)
+    (one.reach -ℤ other.reach) (other.reach -ℤ one.reach)
+
+-- ---- the two nodes of a pair
+
+-- the owner is the one of them, and the other is the other
+pub sides : (sinks : ℕ) (pair : Pair) (owner node : ℕ) → owner_of sinks pair ≡ owner
+    → other_of sinks pair ≡ node
+    → ((pair.first ≡ owner) × (pair.second ≡ node)) ⊎ ((pair.first ≡ node) × (pair.second ≡ owner))
+sides sinks pair owner node = at (nat_lt pair.second sinks)
+  where
+    at : (b : Bool) → cond b pair.first pair.second ≡ owner → cond b pair.second pair.first ≡ node
+        → ((pair.first ≡ owner) × (pair.second ≡ node))
+        ⊎ ((pair.first ≡ node) × (pair.second ≡ owner))
+    at true is other_is = inl (is, other_is)
+    at false is other_is = inr (other_is, is)
+
+pub one_cluster : (one other : Cluster) → Some one ≡ Some other → one ≡ other
+one_cluster one other is = cc
+
+same_cluster : (live : Live) (node other_node : ℕ) (one other : Cluster) → node ≡ other_node
+    → slice_get live.clusters node ≡ Some one → slice_get live.clusters other_node ≡ Some other
+    → one ≡ other
+same_cluster live node other_node one other is here there =
+    one_cluster one other (sym here ∙ ap (slice_get live.clusters) is ∙ there)
+
+-- a pair costs no less than its two regions are apart in u
+pub record IsApart (one other : Cluster) (cost : ℤ) : Type 0 where
+  pub up : (other.region.ulo -ℤ one.region.uhi) ≤ℤ cost
+  pub down : (one.region.ulo -ℤ other.region.uhi) ≤ℤ cost
+
+apart : (one other : Cluster) (cost : ℤ) → cost ≡ cost_of one other → IsApart one other cost
+apart one other cost is = record {
+  up = subst (λ z. (other.region.ulo -ℤ one.region.uhi) ≤ℤ z) (sym is) (up_within one other);
+  down = subst (λ z. (one.region.ulo -ℤ other.region.uhi) ≤ℤ z) (sym is) (down_within one other);
+}
+
+pub kept_apart : (live : Live) (owner node : ℕ) (pair : Pair) (cluster : Cluster)
+    → IsKeptWith live owner node pair → HasCluster live owner cluster
+    → (other : Cluster) × (slice_get live.clusters node ≡ Some other)
+    × IsApart cluster other pair.cost
+kept_apart live owner node pair cluster held has = elim
+    (sides live.sinks pair owner node held.kept.owner held.other) [
+      | inl (first, second) ↦ (
+        parts.other,
+        ap (slice_get live.clusters) (sym second) ∙ parts.second.cluster,
+        subst (λ c. IsApart c parts.other pair.cost)
+            (same_cluster live pair.first owner parts.one cluster first parts.first.cluster
+            has.cluster) (apart parts.one parts.other pair.cost parts.cost),
+      )
+      | inr (first, second) ↦ (
+        parts.one,
+        ap (slice_get live.clusters) (sym first) ∙ parts.first.cluster,
+        subst (λ c. IsApart c parts.one pair.cost)
+            (same_cluster live pair.second owner parts.other cluster second parts.second.cluster
+            has.cluster) (turned (apart parts.one parts.other pair.cost parts.cost)),
+      )
+    ]
+  where
+    parts : IsPair live pair
+    parts = held.kept.pair
+
+    turned : {one other : Cluster} {cost : ℤ} → IsApart one other cost → IsApart other one cost
+    turned is = record { up = is.down; down = is.up }
+
+-- ---- the search
+
+low_is : (live : Live) (node : ℕ) (cluster : Cluster) → slice_get live.clusters node ≡ Some cluster
+    → low_of live.clusters node ≡ cluster.region.ulo
+low_is live node cluster here =
+    ap (λ o. option_map_or (λ (c : Cluster). c.region.ulo) o (pos 0)) here
+
+module _ {live : Live} {owner : ℕ} where
+  -- before the first node
+  pub look_starts : (IsPassed : ℕ → Type 0) (least : Option Pair)
+      → ((place : ℕ) → ¬ IsPassed place) → IsLooked live owner IsPassed least least
+  look_starts IsPassed least none = record {
+    stays = λ pair within. within;
+    bound = λ place pair passed below held. absurd (none place passed);
+    there = λ pair is. inl is;
+  }
+
+  -- one node more
+  pub look_next : (IsPassed IsPassedNext : ℕ → Type 0) (old now next found : Option Pair)
+      (place : ℕ)
+      → ((other : ℕ) → IsPassedNext other → IsPassed other ⊎ (other ≡ place))
+      → IsLooked live owner IsPassed old now → IsCheaperOf now found next
+      → ((pair : Pair) → (found ≡ Some pair)
+      ↔ IsKeptWith live owner (slice_index_or live.order.items place 0) pair)
+      → IsLooked live owner IsPassedNext old next
+  look_next IsPassed IsPassedNext old now next found place more held cheaper law = record {
+    stays = λ pair within. along pair (held.stays pair within);
+    bound = λ other pair passed below with_it. elim (more other passed) [
+      | inl before ↦ along pair (held.bound other pair before below with_it)
+      | inr here ↦ cheaper.second pair ((law pair).1
+          (subst (λ k. IsKeptWith live owner (slice_index_or live.order.items k 0) pair) here
+          with_it))
+    ];
+    there = λ pair is. elim cheaper.either [
+      | inl same ↦ held.there pair (sym same ∙ is)
+      | inr same ↦ inr ((law pair).0 (sym same ∙ is)).kept
+    ];
+  }
+    where
+      along : (pair : Pair) → IsAtMost now pair → IsAtMost next pair
+      along pair within = at_most_along now next pair within cheaper.first
+
+  -- where the others are too far
+  pub look_stops : (IsPassed IsWanted : ℕ → Type 0) (old now : Option Pair) (gap : ℤ)
+      → IsLooked live owner IsPassed old now → IsSomeAnd now (λ pair. pair.cost <ℤ gap)
+      → ((other : ℕ) → IsWanted other → IsPassed other ⊎ ((pair : Pair)
+      → other < length live.order.items
+      → IsKeptWith live owner (slice_index_or live.order.items other 0) pair → gap ≤ℤ pair.cost))
+      → IsLooked live owner IsWanted old now
+  look_stops IsPassed IsWanted old now gap held less rest = record {
+    stays = held.stays;
+    bound = λ other pair wanted below with_it. elim (rest other wanted) [
+      | inl before ↦ held.bound other pair before below with_it
+      | inr far ↦ less_is_at_most now pair gap less (far pair below with_it)
+    ];
+    there = held.there;
+  }
+
+  -- where all were looked at
+  pub look_ends : (IsPassed IsWanted : ℕ → Type 0) (old now : Option Pair)
+      → IsLooked live owner IsPassed old now
+      → ((other : ℕ) → other < length live.order.items → IsWanted other → IsPassed other)
+      → IsLooked live owner IsWanted old now
+  look_ends IsPassed IsWanted old now held all = record {
+    stays = held.stays;
+    bound = λ other pair wanted below with_it.
+        held.bound other pair (all other below wanted) below with_it;
+    there = held.there;
+  }
+
+  module _ {cluster : Cluster} (ordered : IsOrdered live)
+      (has : HasCluster live owner cluster) where
+    -- from a place upwards all are as far
+    pub far_above : (place other : ℕ) (pair : Pair) → place ≤ other
+        → other < length live.order.items
+        → IsKeptWith live owner (slice_index_or live.order.items other 0) pair
+        → (low_at live.clusters live.order.items place -ℤ cluster.region.uhi) ≤ℤ pair.cost
+    far_above place other pair from below with_it =
+        let (found, here, is) = kept_apart live owner _ pair cluster with_it has in
+        let low = low_is live (slice_index_or live.order.items other 0) found here in
+        omega (arith, ints, is.up, low, ordered.ascending place other from below)
+
+    -- and from a place downwards
+    pub far_below : (place other : ℕ) (pair : Pair) → other ≤ place
+        → place < length live.order.items
+        → IsKeptWith live owner (slice_index_or live.order.items other 0) pair
+        → (cluster.region.ulo -ℤ live.widest -ℤ low_at live.clusters live.order.items place)
+        ≤ℤ pair.cost
+    far_below place other pair to below with_it =
+        let (found, here, is) = kept_apart live owner _ pair cluster with_it has in
+        let low = low_is live (slice_index_or live.order.items other 0) found here in
+        omega (
+          arith,
+          ints,
+          is.down,
+          low,
+          ordered.ascending other place to below,
+          ordered.wide (slice_index_or live.order.items other 0) found here,
+        )
+
+-- a gap downwards fits the code's numbers
+pub gap_fits : (lo widest low : ℤ) → IsBelow (10 ^ 33) lo → IsBelow (10 ^ 34) widest
+    → IsBelow (10 ^ 33) low → FitsSigned w128 (lo -ℤ widest -ℤ low)
+gap_fits lo widest low below wide low_below = omega (
+  arith,
+  ints,
+  below.above,
+  below.below,
+  wide.above,
+  wide.below,
+  low_below.above,
+  low_below.below,
+)
+
+-- the search upwards and that downwards from one place find the cheapest
+pub looked_both : (live : Live) (owner from : ℕ) (middle found : Option Pair) → IsOrdered live
+    → IsLooked live owner (λ place. from ≤ place) None middle
+    → IsLooked live owner (λ place. place < from) middle found → IsNearest live owner found
+looked_both live owner from middle found ordered up down = record {
+  bound = λ pair held.
+      let node = other_of live.sinks pair in
+      let (place, below, here) = ordered.all node (node_made pair held) in
+      let with_it : IsKeptWith live owner (slice_index_or live.order.items place 0) pair = record {
+        kept = held;
+        other = sym (placed live.order.items place node below here);
+      } in
+      elim (cases_lt place from) [
+        | inl before ↦ down.bound place pair before below with_it
+        | inr behind ↦ down.stays pair (up.bound place pair behind below with_it)
+      ];
+  there = λ pair is. elim (down.there pair is) [
+    | inl was ↦ elim (up.there pair was) [
+      | inl none ↦ absurd (cc)
+      | inr kept ↦ kept
+    ]
+    | inr kept ↦ kept
+  ];
+}
+  where
+    placed : (items : List ℕ) (place node : ℕ) → place < length items
+        → get_or items place node ≡ node → slice_index_or items place 0 ≡ node
+    placed items place node below here = get_or_default items place 0 node below ∙ here
+
+    node_made : (pair : Pair) → IsKept live owner pair
+        → other_of live.sinks pair < length live.clusters
+    node_made pair held = elim (sides live.sinks pair owner _ held.owner refl) [
+      | inl (_, second) ↦ subst (λ n. n < length live.clusters) second
+          (slice_get_within live.clusters pair.second held.pair.other held.pair.second.cluster)
+      | inr (first, _) ↦ subst (λ n. n < length live.clusters) first
+          (slice_get_within live.clusters pair.first held.pair.one held.pair.first.cluster)
+    ]
+
+-- where the node has no cluster it keeps no pair
+pub none_nearest : (live : Live) (owner : ℕ)
+    → ((cluster : Cluster) → ¬ HasCluster live owner cluster) → IsNearest live owner None
+none_nearest live owner none = record {
+  bound = λ pair held. elim (sides live.sinks pair owner _ held.owner refl) [
+    | inl (first, _) ↦ absurd (none held.pair.one
+        (subst (λ n. HasCluster live n held.pair.one) first held.pair.first))
+    | inr (_, second) ↦ absurd (none held.pair.other
+        (subst (λ n. HasCluster live n held.pair.other) second held.pair.second))
+  ];
+  there = λ pair is. absurd (cc);
+}

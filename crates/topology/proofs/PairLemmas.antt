@@ -1,0 +1,132 @@
+-- Which pair two nodes have, and which of them keeps it.
+use Rattle.std.proofs.Common.{◌≡◌, ◌↔◌, ℕ, ◌<◌, ◌≤◌, Option, Some, None, ℤ, inl, inr, refl, sym, ap, subst, ◌∙◌, arith}
+use Rattle.std.proofs.lemmas.Bool.{cases_lt, lt-ltb, le-ltb}
+use Rattle.tilted_rect.specs.declared.cluster.Cluster.{Cluster}
+use Rattle.tilted_rect.specs.ClusterSets.{cost_of}
+use Rattle.topology.specs.declared.live.Live.{Live}
+use Rattle.topology.specs.declared.pair.Pair.{Pair}
+use Rattle.topology.specs.LiveClusters.{HasCluster, IsPair, IsKeptWith, owner_of, other_of}
+use Rattle.topology.proofs.NearLemmas.{one_cluster}
+
+-- the pair is of those two nodes
+abbrev pub IsOf : Live → (first second : ℕ) → Pair → Type 0
+IsOf live first second pair = IsPair live pair × (pair.first ≡ first) × (pair.second ≡ second)
+
+pub no_pair : (live : Live) (first second : ℕ)
+    → ((one other : Cluster) → HasCluster live first one → HasCluster live second other → ⊥)
+    → (pair : Pair) → (None ≡ Some pair) ↔ IsOf live first second pair
+no_pair live first second none pair = (
+  λ is. absurd (cc),
+  λ (is, at_first, at_second). absurd (none is.one is.other
+      (subst (λ n. HasCluster live n is.one) at_first is.first)
+      (subst (λ n. HasCluster live n is.other) at_second is.second)),
+)
+
+pub found_pair : (live : Live) (first second : ℕ) (one other : Cluster) (cost : ℤ) → first < second
+    → HasCluster live first one → HasCluster live second other → cost ≡ cost_of one other
+    → (pair : Pair) → (Some (record { cost = cost; first = first; second = second }) ≡ Some pair)
+    ↔ IsOf live first second pair
+found_pair live first second one other cost ordered has other_has cost_is pair = (
+  λ is. subst (IsOf live first second) (one_pair _ pair is) (
+    record {
+      one = one;
+      other = other;
+      ordered = ordered;
+      first = has;
+      second = other_has;
+      cost = cost_is;
+    },
+    refl,
+    refl,
+  ),
+  λ (is, at_first, at_second).
+      let first_is : one ≡ is.one = one_cluster one is.one (sym has.cluster
+      ∙ (subst (λ n. HasCluster live n is.one) at_first is.first).cluster) in
+      let second_is : other ≡ is.other = one_cluster other is.other (sym other_has.cluster
+      ∙ (subst (λ n. HasCluster live n is.other) at_second is.second).cluster) in
+      let same : cost ≡ pair.cost = cost_is ∙ ap (λ c. cost_of c other) first_is
+      ∙ ap (cost_of is.one) second_is ∙ sym is.cost in
+      ap Some (λ i. record
+      { cost = same i; first = sym at_first i; second = sym at_second i }),
+)
+  where
+    one_pair : (a b : Pair) → Some a ≡ Some b → a ≡ b
+    one_pair a b is = cc
+
+-- ---- who keeps it
+
+owner_ahead : (sinks : ℕ) (pair : Pair) → pair.second < sinks
+    → (owner_of sinks pair ≡ pair.first) × (other_of sinks pair ≡ pair.second)
+owner_ahead sinks pair below = rw (lt-ltb pair.second sinks below) (refl, refl)
+
+owner_behind : (sinks : ℕ) (pair : Pair) → sinks ≤ pair.second
+    → (owner_of sinks pair ≡ pair.second) × (other_of sinks pair ≡ pair.first)
+owner_behind sinks pair from = rw (le-ltb pair.second sinks from) (refl, refl)
+
+pub kept_behind : (live : Live) (owner other : ℕ) (found : Option Pair) → live.sinks ≤ owner
+    → ((pair : Pair) → (found ≡ Some pair) ↔ IsOf live other owner pair)
+    → (pair : Pair) → (found ≡ Some pair) ↔ IsKeptWith live owner other pair
+kept_behind live owner other found behind law pair = (
+  λ is.
+      let (held, first, second) = (law pair).0 is in
+      let kept = owner_behind live.sinks pair (omega (arith, behind, second)) in
+      record {
+        kept = record { pair = held; owner = kept.0 ∙ second };
+        other = kept.1 ∙ first;
+      },
+  λ held. (law pair).1 (elim (cases_lt pair.second live.sinks) [
+    | inl below ↦ absurd (omega (
+      arith,
+      (owner_ahead live.sinks pair below).0,
+      held.kept.owner,
+      held.kept.pair.ordered,
+      below,
+      behind,
+    ))
+    | inr from ↦
+        let kept = owner_behind live.sinks pair from in
+        (held.kept.pair, sym kept.1 ∙ held.other, sym kept.0 ∙ held.kept.owner)
+  ]),
+)
+
+pub kept_ahead : (live : Live) (owner other : ℕ) (found : Option Pair) → owner < live.sinks
+    → other < live.sinks
+    → ((pair : Pair) → (found ≡ Some pair) ↔ IsOf live owner other pair)
+    → (pair : Pair) → (found ≡ Some pair) ↔ IsKeptWith live owner other pair
+kept_ahead live owner other found ahead other_ahead law pair = (
+  λ is.
+      let (held, first, second) = (law pair).0 is in
+      let kept = owner_ahead live.sinks pair (omega (arith, other_ahead, second)) in
+      record {
+        kept = record { pair = held; owner = kept.0 ∙ first };
+        other = kept.1 ∙ second;
+      },
+  λ held. (law pair).1 (elim (cases_lt pair.second live.sinks) [
+    | inl below ↦
+        let kept = owner_ahead live.sinks pair below in
+        (held.kept.pair, sym kept.0 ∙ held.kept.owner, sym kept.1 ∙ held.other)
+    | inr from ↦ absurd (omega (
+      arith,
+      (owner_behind live.sinks pair from).0,
+      held.kept.owner,
+      from,
+      ahead,
+    ))
+  ]),
+)
+
+-- ---- whether a pair is there
+
+pub has_found : (live : Live) (pair found : Pair) → IsOf live pair.first pair.second found
+    → (found.cost ≡ pair.cost) ↔ IsPair live pair
+has_found live pair found (held, first, second) = (
+  λ cost. subst (IsPair live) (λ i. record
+      { cost = cost i; first = first i; second = second i }) held,
+  λ is. held.cost ∙ ap (λ c. cost_of c held.other)
+      (one_cluster held.one is.one
+      (sym (subst (λ n. HasCluster live n held.one) first held.first).cluster ∙ is.first.cluster))
+      ∙ ap (cost_of is.one)
+      (one_cluster held.other is.other
+      (sym (subst (λ n. HasCluster live n held.other) second held.second).cluster
+      ∙ is.second.cluster)) ∙ sym is.cost,
+)
