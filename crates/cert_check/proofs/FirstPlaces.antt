@@ -1,10 +1,13 @@
 -- The first of some places where something doesn't hold.
-use Rattle.std.proofs.Common.{◌≡◌, ◌<◌, ◌↔◌, ◌+◌, ℕ, Bool, false, IsTrue, inl, inr, sym, ◌∙◌, subst, arith, List, ◌∷◌, All, length, get_or, drop, add-one, drop-cons, Option, Some, None}
+use Rattle.std.proofs.Common.{◌≡◌, ◌<◌, ◌↔◌, ◌+◌, ℕ, Bool, false, IsTrue, inl, inr, sym, ◌∙◌, subst, arith, List, ◌∷◌, All, length, get_or, drop, add-one, drop-cons, Some}
 use Rattle.std.proofs.lemmas.Bool.{cases_lt, false≢true}
 use Rattle.std.proofs.lemmas.Option.{get_or_from_slice_get, slice_get_within}
-use Rattle.std.specs.Prelude.{slice_get}
+use Rattle.std.specs.Prelude.{IsErrAnd, Result, Ok, Err, slice_get}
 use Rattle.cts_model.specs.report.Shown.{AtEach}
-use Rattle.cert_check.specs.Judged.{FindsFirst}
+use Rattle.cert_check.specs.declared.verdict.Reason.{Reason}
+use Rattle.cert_check.specs.declared.verdict.Stop.{Stop}
+use Rattle.cert_check.specs.declared.verdict.Stop.TheVariants.{At, NoMemory}
+use Rattle.cert_check.specs.Judged.{FailsFirst, Judges}
 
 -- what a test denies doesn't hold
 pub denied : (Holds : Type 0) (test : Bool) → IsTrue test ↔ Holds → test ≡ false → Holds → ⊥
@@ -18,18 +21,21 @@ each_more Holds place each here other within = elim (cases_lt other place) [
   | inr not_before ↦ subst Holds (omega arith) here
 ]
 
--- what holds at the same places fails first at the same place
-pub finds_same : (places : ℕ) (Holds Holds' : ℕ → Type 0) (found : Option ℕ)
-    → ((place : ℕ) → place < places → Holds place ↔ Holds' place)
-    → FindsFirst places Holds found → FindsFirst places Holds' found
-finds_same places Holds Holds' None same each =
-    λ place within. (same place within).0 (each place within)
-finds_same places Holds Holds' (Some place) same first = record {
-  within = first.within;
-  fails = λ holds. first.fails ((same place first.within).1 holds);
-  before = λ other before. (same other (omega (arith, before, first.within))).0
-      (first.before other before);
-}
+-- what stops a judgement at some places stops one at others that fails first with it
+pub stops_by : {places others : ℕ} {Holds Also : ℕ → Type 0}
+    {reason reason' : ℕ → Reason} (stop : Stop)
+    → ((place : ℕ) → FailsFirst places Holds place
+    → (other : ℕ) × FailsFirst others Also other × (reason place ≡ reason' other))
+    → Judges places Holds reason {T = Unit {0}} (Err stop) → Judges others Also reason' {T = Unit {0}} (Err stop)
+stops_by (At given) fails (place, first, is) =
+    let (other, also, same) = fails place first in (other, also, is ∙ same)
+stops_by NoMemory fails none = tt
+
+-- what is passed on is what stopped
+pub passed_on : (P : Result (Unit {0}) Stop → Type 0) (result : Result (Unit {0}) Stop)
+    (stop : Stop) → IsErrAnd result (λ passed. passed ≡ stop) → P (Err stop) → P result
+passed_on P (Ok done) stop is p = absurd is
+passed_on P (Err passed) stop is p = subst (λ given. P (Err given)) (sym is) p
 
 -- what all have, the one at a place has
 pub at_place : {X : Type 0} (Holds : X → Type 0) (items : List X) (place : ℕ) (item : X)

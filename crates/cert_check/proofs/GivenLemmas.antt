@@ -1,6 +1,6 @@
 -- Constraints by the delays of their pairs.
-use Rattle.std.proofs.Common.{◌≡◌, ◌<◌, ◌↔◌, ℕ, ℤ, ◌+ℤ◌, ◌-ℤ◌, Bool, true, false, IsTrue, List, length, Some, ap, ◌∙◌, arith}
-use Rattle.std.specs.Prelude.{MatchBool, slice_get, slice_index_or}
+use Rattle.std.proofs.Common.{◌≡◌, ◌↔◌, ℕ, ℤ, ◌+ℤ◌, ◌-ℤ◌, Bool, true, false, Some, ap, ◌∙◌, arith}
+use Rattle.std.specs.Prelude.{MatchBool}
 use Rattle.std.proofs.lemmas.Int.{ints}
 use Rattle.cts_model.specs.declared.circuit.Circuit.{Circuit}
 use Rattle.cts_model.specs.declared.constraint.Constraint.{Constraint}
@@ -9,14 +9,6 @@ use Rattle.cts_model.specs.declared.timing.PairDelay.{PairDelay}
 use Rattle.cts_model.specs.timing.Constraints.{IsConstraintOf, IsHoldConstraint, IsSetupConstraint}
 use Rattle.path_delays.specs.JoinedPairs.{IsDelayBetween, IsJoinedBy}
 use Rattle.cert_check.specs.GivenConstraints.{pair_of, weight_by}
-
--- for each constraint before a place whether it is one of the circuit
-pub record AreTested (circuit : Circuit) (tech : Tech) (constraints : List Constraint)
-    (place : ℕ) (tests : List Bool) : Type 0 where
-  pub long : length tests ≡ place
-  pub each : (at : ℕ) (constraint : Constraint) → at < place
-      → slice_get constraints at ≡ Some constraint
-      → IsTrue (slice_index_or tests at false) ↔ IsConstraintOf circuit tech constraint
 
 module _ (circuit : Circuit) (tech : Tech) (from to : ℕ) (weight : ℤ) where
   -- a pair's greatest delay gives the weight exactly where it is that of a setup constraint

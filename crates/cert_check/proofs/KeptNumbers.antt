@@ -56,10 +56,3 @@ kept_sum first more small few =
 -- a sum of delays is kept as it is
 pub kept_sum_same : (sum : ℤ) → IsBelow (2 ^ 82) sum → kept sum ≡ sum
 kept_sum_same sum small = to_z-of_z w128 sum (omega (arith, ints, small.above, small.below))
-
--- a weight below 10^12 is below 10^38
-pub weight_below : (weight : ℤ) → IsBelow (10 ^ 12) weight → IsBelow (10 ^ 38) weight
-weight_below weight small = record {
-  above = omega (arith, ints, small.above);
-  below = omega (arith, ints, small.below);
-}

@@ -9,9 +9,7 @@ mod CountLemmas
 mod DownLemmas
 mod FirstPlaces
 mod GivenLemmas
-mod JudgeSteps
 mod KeptNumbers
-mod LeadTests
 mod OrderLemmas
 mod ProductLemmas
 mod ReachLemmas
@@ -21,5 +19,6 @@ mod SumLemmas
 mod TableLemmas
 mod TailLemmas
 mod WalkLemmas
-mod EmbeddingSteps
 mod JudgedLemmas
+mod TightLemmas
+mod JudgeFacts

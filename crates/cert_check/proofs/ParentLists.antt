@@ -2,11 +2,11 @@
 use Rattle.std.proofs.Common.{◌≡◌, ◌⊎◌, ◌<◌, ◌≤◌, ◌+◌, ◌*◌, ℕ, List, length, get_or, set, Some, inl, inr, refl, sym, ap, subst, ◌∙◌, arith}
 use Rattle.std.specs.Prelude.{slice_get}
 use Rattle.std.proofs.lemmas.Bool.{cases_lt}
-use Rattle.std.proofs.lemmas.List.{get_or-set_same, get_or-set_other, length-set}
+use Rattle.std.proofs.lemmas.List.{get_or_default, get_or-set_same, get_or-set_other, length-set}
 use Rattle.std.proofs.lemmas.Option.{slice_get_within, get_or_from_slice_get}
 use Rattle.cts_model.specs.declared.tree.Merge.{Merge}
 use Rattle.cts_model.specs.tree.Topologies.{IsParent, IsTopology, Joins, root_of, source_of}
-use Rattle.cts_model.proofs.ParentLemmas.{has_parent, made_parent, one_parent}
+use Rattle.cts_model.proofs.ParentLemmas.{has_parent, made_parent, one_parent, parent_stands}
 use Rattle.cts_model.proofs.TopologyLemmas.{first_made, second_made, some_and}
 use Rattle.cert_check.specs.Parents.{AreParents, parent_at}
 
@@ -108,12 +108,20 @@ module _ {sinks : ℕ} {merges : List Merge} (topology : IsTopology sinks merges
       → place ≤ length merges → AreParentsBefore sinks merges place next parents
       → AreParents sinks merges (set parents (root_of sinks) next)
   parents_all place next parents past within before = record {
-    all = omega (arith, before.all, topology.all, length-set parents (root_of sinks) next);
-    each = λ node low.
-        let (up, is) = has_parent topology node low in
-        subst (IsParent sinks merges node) (sym (entry node up is)) is;
+    topology = topology;
+    all = long;
+    nodes = λ node default low.
+        let is = get_or_default (set parents (root_of sinks) next) node default 0 low in
+        let up = parent_stands topology node
+        (parent_at (set parents (root_of sinks) next) node)
+        (each node (omega (arith, long, low))) in
+        omega (arith, is, up, topology.all);
+    each = each;
   }
     where
+      long : length (set parents (root_of sinks) next) ≡ source_of sinks
+      long = omega (arith, before.all, topology.all, length-set parents (root_of sinks) next)
+
       low : root_of sinks < length parents
       low = omega (arith, before.all, topology.all)
 
@@ -131,3 +139,9 @@ module _ {sinks : ℕ} {merges : List Merge} (topology : IsTopology sinks merges
           ap (parent_at (set parents (root_of sinks) next)) is_root
           ∙ get_or-set_same parents (root_of sinks) next 0 low
           ∙ (let same : next ≡ up = omega (arith, before.parent, topology.all) in same)
+
+      each : (node : ℕ) → node < source_of sinks
+          → IsParent sinks merges node (parent_at (set parents (root_of sinks) next) node)
+      each node low =
+          let (up, is) = has_parent topology node low in
+          subst (IsParent sinks merges node) (sym (entry node up is)) is

@@ -1,10 +1,10 @@
 -- What a report's tree gives to the judgement of its reaches, and what that comes to.
-use Rattle.std.proofs.Common.{◌≡◌, ◌↔◌, ℕ, ◌<◌, ◌≤◌, ◌+◌, ◌*◌, ◌^◌, ℤ, pos, ◌-ℤ◌, List, length, get_or, FitsSigned, to_z, of_z, Option, Some, None, inl, inr, refl, sym, ap, subst, ◌∙◌, arith}
+use Rattle.std.proofs.Common.{◌≡◌, ◌↔◌, ℕ, ◌<◌, ◌≤◌, ◌+◌, ◌*◌, ◌^◌, ℤ, pos, ◌-ℤ◌, List, length, get_or, FitsSigned, to_z, of_z, Bool, IsTrue, Option, Some, None, inl, inr, refl, sym, ap, subst, ◌∙◌, arith}
 use Rattle.std.specs.Prelude.{IfSome, IsSomeAnd, slice_get}
 use Rattle.std.specs.List.{All}
 use mir.Syntax.{w128}
 use Rattle.std.proofs.lemmas.Int.{ints, to_z-of_z}
-use Rattle.std.proofs.lemmas.Option.{get_or_from_slice_get, slice_get_within}
+use Rattle.std.proofs.lemmas.Option.{get_or_from_slice_get, slice_get-get_or, slice_get_within}
 use Rattle.cts_model.specs.declared.circuit.Circuit.{Circuit}
 use Rattle.cts_model.specs.declared.place.Point.{Point}
 use Rattle.cts_model.specs.declared.place.Sink.{Sink}
@@ -16,10 +16,10 @@ use Rattle.cts_model.specs.tree.Embeddings.{AreWiresDown, Embedding, embedding_o
 use Rattle.cts_model.specs.report.Judgements.{IsReachShown, IsSkewed}
 use Rattle.cts_model.specs.placement.Points.{IsBelow, IsPointBelow, IsUvBelow, rotated}
 use Rattle.cts_model.specs.tree.Problems.{on_grid, sink_of}
-use Rattle.cts_model.specs.report.ReportBounds.{IsOfSize, IsWithinBounds, ShowsAmong}
+use Rattle.cts_model.specs.report.ReportBounds.{IsOfSize, IsWithinBounds}
 use Rattle.cts_model.specs.report.ReportLines.{number_at}
 use Rattle.cts_model.specs.timing.Schedules.{arrival_of}
-use Rattle.cts_model.specs.report.Shown.{AtEach, sinks_in, source_in}
+use Rattle.cts_model.specs.report.Shown.{sinks_in, source_in}
 use Rattle.cts_model.specs.tree.ShownReaches.{ShowsMerge, ShowsSource}
 use Rattle.cts_model.specs.tree.Topologies.{IsTopology, IsParent, Joins, numbers_below, root_of, source_of}
 use Rattle.cts_model.proofs.GridLemmas.{on_grid_below, scheduled_size}
@@ -27,10 +27,8 @@ use Rattle.cts_model.proofs.ParentLemmas.{made_parent}
 use Rattle.cts_model.proofs.SkewLemmas.{length-sinks_of, sink_at}
 use Rattle.cts_model.proofs.TopologyLemmas.{some_and}
 use Rattle.cts_model.proofs.TotalLemmas.{total_within}
-use Rattle.cert_check.specs.declared.verdict.Reason.TheVariants.{SkewDiffers, Total, Unshown}
-use Rattle.cert_check.specs.Judged.{FailsFirst}
-use Rattle.cert_check.specs.ReachParts.{HasReachParts, IsLevel, IsMergeShown, IsReachOver, IsSmallSink, IsSourceShown}
-use Rattle.cert_check.specs.Verdicts.{ReachesFound}
+use Rattle.cert_check.specs.ReachParts.{IsLevel, IsMergeShown, IsReachOver, IsSourceShown}
+use Rattle.cert_check.specs.SmallSinks.{IsSmallSink}
 use Rattle.cert_check.proofs.DownLemmas.{one_wire}
 
 -- ---- sizes
@@ -77,7 +75,7 @@ module _ (problem : Problem) (report : Report) (size : IsOfSize problem.circuit 
         offset = record { above = omega (arith, ints, long); below = omega (arith, ints, long) };
       }
 
-  small_sinks : All IsSmallSink (sinks_in problem report)
+  pub small_sinks : All IsSmallSink (sinks_in problem report)
   small_sinks register default here =
       let origin : Point = record { x = pos 0; y = pos 0 } in
       let low : register < length report.schedule.at = omega (
@@ -96,29 +94,21 @@ module _ (problem : Problem) (report : Report) (size : IsOfSize problem.circuit 
       (problem.valid.near register origin (omega (arith, same, low)))
       (bounds.timing.arrivals register (pos 0) low))
 
-  -- what the judgement stands on
-  pub reach_parts : IsTopology (length (sinks_in problem report)) report.topology.merges
-      → HasReachParts (sinks_in problem report) report
-  reach_parts topology = record {
-    few = omega (arith, sinks_count, few_registers problem.circuit);
-    topology = topology;
-    lengths = omega (arith, sinks_count, size.lengths);
-    reaches = omega (arith, sinks_count, size.reaches);
-    shows = omega (arith, sinks_count, size.shows);
-    named = subst (λ count. All (ShowsAmong count) report.shows) (sym sinks_count) size.each_show;
-    small_lengths = bounds.tree.lengths;
-    small_reaches = bounds.tree.reaches;
-    small_sinks = small_sinks;
-  }
-
-  -- by the sinks as they are made
-  pub parts_of : (sinks : List Sink) → sinks ≡ sinks_in problem report
-      → IsTopology (length sinks) report.topology.merges → HasReachParts sinks report
-  parts_of sinks same topology = subst (λ sinks. HasReachParts sinks report) (sym same)
-      (reach_parts (subst (λ sinks. IsTopology (length sinks) report.topology.merges) same
-      topology))
-
 -- ---- skews
+
+-- a register's skew by the sinks that are read
+pub denotes_level : (sinks : List Sink) (wire : ℕ → ℤ) (register : ℕ) (default : Sink)
+    → (test : Bool) → register < length sinks
+    → IsTrue test ↔ (wire register -ℤ wire 0
+    ≡ (get_or sinks 0 default).offset -ℤ (get_or sinks register default).offset)
+    → IsTrue test ↔ IsLevel sinks wire register
+denotes_level sinks wire register default test within denotes =
+    subst (λ found. IsTrue test ↔ IfSome found (λ sink. IfSome (slice_get sinks 0)
+    (λ first. wire register -ℤ wire 0 ≡ first.offset -ℤ sink.offset)))
+    (sym (slice_get-get_or sinks register default within))
+    (subst (λ found. IsTrue test ↔ IfSome found
+    (λ first. wire register -ℤ wire 0 ≡ first.offset -ℤ (get_or sinks register default).offset))
+    (sym (slice_get-get_or sinks 0 default (omega arith))) denotes)
 
 -- wires down are one, so a register's skew is that of any
 pub skewed_level : (sinks : List Sink) (merges : List Merge) (tree : Embedding) (wire : ℕ → ℤ)
@@ -146,11 +136,11 @@ Reached sinks source report = IsReachShown sinks report.topology.merges source
     (embedding_of report.tree) (number_at report.tree.reach) report.shows
 
 module _ (sinks : List Sink) (source : Uv) (report : Report)
-    (parts : HasReachParts sinks report) where
+    (topology : IsTopology (length sinks) report.topology.merges) where
   -- a sink has nothing below it
   pub sink_shown : (register : ℕ) → register < length sinks → Reached sinks source report register
   sink_shown register within =
-      let all = parts.topology.all in
+      let all = topology.all in
       record {
         reach_is = λ below is. absurd (nothing_below below is);
         of_merge = λ place low same. absurd (omega arith);
@@ -182,7 +172,7 @@ module _ (sinks : List Sink) (source : Uv) (report : Report)
   merge_shown place within = (there, back)
     where
       all : length sinks ≡ length report.topology.merges + 1
-      all = parts.topology.all
+      all = topology.all
 
       there : IsMergeShown sinks report place → Reached sinks source report (length sinks + place)
       there shown = record {
@@ -233,7 +223,7 @@ module _ (sinks : List Sink) (source : Uv) (report : Report)
   source_shown node last = (
     λ shown. record {
       reach_is = root_is shown;
-      of_merge = λ place low same. absurd (omega (arith, parts.topology.all));
+      of_merge = λ place low same. absurd (omega (arith, topology.all));
       of_source = λ same. subst (λ node. IsSomeAnd (slice_get report.shows
           (length report.topology.merges))
           (ShowsSource sinks source (number_at report.tree.reach (root_of (length sinks)))
@@ -258,14 +248,16 @@ module _ (sinks : List Sink) (source : Uv) (report : Report)
           let (merge, here, joins) = some_and (slice_get report.topology.merges place)
           (λ merge. Joins merge below) found in
           absurd (omega
-          (arith, slice_get_within report.topology.merges place merge here, parts.topology.all))
+          (arith, slice_get_within report.topology.merges place merge here, topology.all))
       root_is shown below (inr (is_root, is)) =
           subst (λ node. IsReachOver report.tree node below) (sym is_source)
           (subst (IsReachOver report.tree (source_of (length sinks))) (sym is_root) shown.root)
 
 -- ---- the wire
 
-module _ (sinks : List Sink) (report : Report) (parts : HasReachParts sinks report) where
+module _ (sinks : List Sink) (report : Report) (few : length sinks ≤ 4097)
+    (edges : length report.tree.length + 1 ≡ 2 * length sinks)
+    (small : All (IsBelow (10 ^ 32)) report.tree.length) where
   abbrev pub wire : ℤ
   wire = total_wire (length sinks) (embedding_of report.tree)
 
@@ -273,89 +265,21 @@ module _ (sinks : List Sink) (report : Report) (parts : HasReachParts sinks repo
   wire_fits : FitsSigned w128 wire
   wire_fits =
       let sum = total_within (number_at report.tree.length) (source_of (length sinks))
-      (λ node here. parts.small_lengths node (pos 0) (omega (arith, here, parts.lengths))) in
-      let few = parts.few in
+      (λ node here. small node (pos 0) (omega (arith, here, edges))) in
       omega (arith, ints, sum, few)
 
   -- so a test of the sum is one of the wire
   pub total_denoted : (lengths : List ℤ) → lengths ≡ report.tree.length → (sum : ℤ)
       → sum ≡ total_length (number_at lengths) (length lengths) → IsBelow (10 ^ 36) report.total
-      → (of_z w128 report.total ≡ of_z w128 sum) ↔ (report.total ≡ wire)
-  total_denoted lengths same sum is small =
-      let edges : length report.tree.length ≡ source_of (length sinks) =
-      omega (arith, parts.lengths) in
+      → (of_z w128 sum ≡ of_z w128 report.total) ↔ (report.total ≡ wire)
+  total_denoted lengths same sum is small_total =
+      let count : length report.tree.length ≡ source_of (length sinks) = omega (arith, edges) in
       let whole : sum ≡ wire = is
       ∙ ap (λ list. total_length (number_at list) (length list)) same
-      ∙ ap (total_length (number_at report.tree.length)) edges in
-      let plain = to_z-of_z w128 report.total (omega (arith, ints, small.above, small.below)) in (
-        λ denoted. sym plain ∙ ap (to_z w128) denoted ∙ ap (λ z. to_z w128 (of_z w128 z)) whole
-            ∙ to_z-of_z w128 wire wire_fits,
-        λ total. ap (of_z w128) (total ∙ sym whole),
+      ∙ ap (total_length (number_at report.tree.length)) count in
+      let plain = to_z-of_z w128 report.total
+      (omega (arith, ints, small_total.above, small_total.below)) in (
+        λ denoted. sym plain ∙ sym (ap (to_z w128) denoted)
+            ∙ ap (λ z. to_z w128 (of_z w128 z)) whole ∙ to_z-of_z w128 wire wire_fits,
+        λ total. sym (ap (of_z w128) (total ∙ sym whole)),
       )
-
--- ---- the group
-
--- what is judged of a register's skew
-abbrev pub Skewed : List Sink → Report → ℕ → Type 0
-Skewed sinks report = IsSkewed sinks report.topology.merges (embedding_of report.tree)
-
-module _ (problem : Problem) (report : Report) (sinks : List Sink)
-    (same : sinks ≡ sinks_in problem report) where
-  -- a skew that differs
-  pub skew_found : (register : ℕ) → FailsFirst (length sinks) (Skewed sinks report) register
-      → ReachesFound problem report (Some (SkewDiffers register))
-  skew_found register first = inl (
-    register,
-    subst (λ sinks. FailsFirst (length sinks) (Skewed sinks report) register) same first,
-    refl,
-  )
-
-  -- a reach that isn't shown
-  pub reach_found : (node : ℕ) → AtEach (length sinks) (Skewed sinks report)
-      → FailsFirst (2 * length sinks) (Reached sinks (source_in problem report) report) node
-      → ReachesFound problem report (Some (Unshown node))
-  reach_found node skewed first = inr (
-    subst (λ sinks. AtEach (length sinks) (Skewed sinks report)) same skewed,
-    inl (
-      node,
-      subst (λ sinks. FailsFirst (2 * length sinks) (Reached sinks
-          (source_in problem report) report) node) same first,
-      refl,
-    ),
-  )
-
-  -- a wire that isn't the sum
-  pub total_found : AtEach (length sinks) (Skewed sinks report)
-      → AtEach (2 * length sinks) (Reached sinks (source_in problem report) report)
-      → (report.total ≡ total_wire (length sinks) (embedding_of report.tree) → ⊥)
-      → ReachesFound problem report (Some Total)
-  total_found skewed reached differs = inr (
-    subst (λ sinks. AtEach (length sinks) (Skewed sinks report)) same skewed,
-    inr (
-      subst (λ sinks. AtEach (2 * length sinks) (Reached sinks
-          (source_in problem report) report)) same reached,
-      inl (
-        subst (λ sinks. report.total ≡ total_wire (length sinks) (embedding_of report.tree) → ⊥)
-            same differs,
-        refl,
-      ),
-    ),
-  )
-
-  -- nothing
-  pub none_found : AtEach (length sinks) (Skewed sinks report)
-      → AtEach (2 * length sinks) (Reached sinks (source_in problem report) report)
-      → report.total ≡ total_wire (length sinks) (embedding_of report.tree)
-      → ReachesFound problem report None
-  none_found skewed reached total = inr (
-    subst (λ sinks. AtEach (length sinks) (Skewed sinks report)) same skewed,
-    inr (
-      subst (λ sinks. AtEach (2 * length sinks) (Reached sinks
-          (source_in problem report) report)) same reached,
-      inr (
-        subst (λ sinks. report.total ≡ total_wire (length sinks) (embedding_of report.tree))
-            same total,
-        tt,
-      ),
-    ),
-  )

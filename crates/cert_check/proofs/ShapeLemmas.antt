@@ -1,6 +1,6 @@
 -- The shape of a tree, by its sinks, its merges and its source.
 use Rattle.std.proofs.Common.{◌≡◌, ◌<◌, ◌≤◌, ◌+◌, ◌-◌, ◌*◌, ℕ, List, length, take, inl, inr, refl, sym, subst, arith}
-use Rattle.std.specs.Prelude.{IfSome, slice_get}
+use Rattle.std.specs.Prelude.{IfOk, IfSome, Result, Ok, Err, slice_get}
 use Rattle.std.proofs.lemmas.Bool.{cases_lt}
 use Rattle.std.proofs.lemmas.Option.{slice_get_past, slice_get_within}
 use Rattle.cts_model.specs.declared.place.Sink.{Sink}
@@ -10,9 +10,13 @@ use Rattle.cts_model.specs.tree.Embeddings.{Embedding}
 use Rattle.cts_model.specs.report.Judgements.{HasShape}
 use Rattle.cts_model.specs.placement.Points.{rotated}
 use Rattle.cts_model.specs.report.Shown.{AtEach}
-use Rattle.cts_model.specs.tree.Topologies.{IsMerge, source_of}
+use Rattle.cts_model.specs.tree.Topologies.{IsMerge, IsTopology, source_of}
 use Rattle.cert_check.specs.EmbeddingParts.{JoinsAt, StandsAt}
-use Rattle.cert_check.specs.Judged.{FailsFirst}
+use Rattle.cert_check.specs.declared.verdict.Reason.TheVariants.{TreeShape}
+use Rattle.cert_check.specs.declared.verdict.Stop.{Stop}
+use Rattle.cert_check.specs.declared.verdict.Stop.TheVariants.{At, NoMemory}
+use Rattle.cert_check.specs.Judged.{FailsFirst, Judges, JudgesOnce}
+use Rattle.cert_check.proofs.FirstPlaces.{stops_by}
 use Rattle.cert_check.proofs.MarkLemmas.{if_some, some_if}
 
 module _ (sinks : List Sink) (merges : List Merge) (source : Uv) (tree : Embedding)
@@ -109,3 +113,41 @@ module _ (sinks : List Sink) (merges : List Merge) (source : Uv) (tree : Embeddi
             let is : source_of (length sinks) ≡ node = omega (arith, all) in
             subst (HasShape sinks merges source tree) is (of_source stands)
       ]
+
+  -- where each merge joins what it may, the merges are a topology
+  pub shape_topology : AtEach (2 * length sinks) (HasShape sinks merges source tree)
+      → IsTopology (length sinks) merges
+  shape_topology shape = record {
+    all = sym all;
+    each = λ place merge here.
+        let within = slice_get_within merges place merge here in
+        (shape (length sinks + place) (omega (arith, all))).joins place merge refl here;
+  }
+
+  module _ (stand : AtEach (length sinks) (StandsAt sinks tree)) where
+    -- what stops the judgement of the merges stops that of the nodes
+    pub merges_stop : (stop : Stop)
+        → Judges (length merges) (JoinsAt (length sinks) merges)
+        (λ place. TreeShape (length sinks + place)) {T = Unit {0}} (Err stop)
+        → Judges (2 * length sinks) (HasShape sinks merges source tree) TreeShape {T = Unit {0}} (Err stop)
+    merges_stop stop =
+        stops_by stop (λ place first. (length sinks + place, unjoined stand place first, refl))
+
+    -- and last the source
+    pub source_decides : {T : Type 0} (result : Result T Stop)
+        → AtEach (length merges) (JoinsAt (length sinks) merges)
+        → JudgesOnce (rotated (tree.place (source_of (length sinks))) ≡ source)
+        (TreeShape (source_of (length sinks))) result
+        → Judges (2 * length sinks) (HasShape sinks merges source tree) TreeShape result
+    source_decides (Ok done) join stands = all_shaped stand join stands
+    source_decides (Err (At given)) join (fails, is) =
+        (source_of (length sinks), source_moved stand join fails, is)
+    source_decides (Err NoMemory) join none = tt
+
+    pub source_topology : {T : Type 0} (result : Result T Stop)
+        → AtEach (length merges) (JoinsAt (length sinks) merges)
+        → JudgesOnce (rotated (tree.place (source_of (length sinks))) ≡ source)
+        (TreeShape (source_of (length sinks))) result
+        → IfOk result (λ done. IsTopology (length sinks) merges)
+    source_topology (Ok done) join stands = shape_topology (all_shaped stand join stands)
+    source_topology (Err stop) join stands = tt

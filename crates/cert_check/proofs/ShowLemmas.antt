@@ -1,8 +1,8 @@
 -- Shows and sinks as they are read from lists.
-use Rattle.std.proofs.Common.{◌≡◌, ◌↔◌, ◌<◌, ◌≤◌, ◌+◌, ◌^◌, ℕ, ℤ, pos, ◌+ℤ◌, ◌-ℤ◌, Bool, IsTrue, List, length, get_or, to_z, of_z, sym, ap, subst, ◌∙◌, arith}
+use Rattle.std.proofs.Common.{◌≡◌, ◌↔◌, ◌<◌, ◌≤◌, ◌+◌, ◌^◌, ℕ, ℤ, pos, ◌+ℤ◌, Bool, IsTrue, List, length, get_or, to_z, of_z, sym, ap, subst, ◌∙◌, arith}
 use mir.Syntax.{w128}
 use Rattle.std.specs.List.{All}
-use Rattle.std.specs.Prelude.{IfSome, IsSomeAnd, slice_get}
+use Rattle.std.specs.Prelude.{IsSomeAnd, slice_get}
 use Rattle.std.proofs.lemmas.Int.{ints, to_z-of_z}
 use Rattle.std.proofs.lemmas.Option.{slice_get-get_or}
 use Rattle.cts_model.specs.declared.place.Sink.{Sink}
@@ -16,7 +16,7 @@ use Rattle.cts_model.specs.report.ReportBounds.{ShowsAmong}
 use Rattle.cts_model.specs.tree.ShownReaches.{ShowsMerge, ShowsSource}
 use Rattle.cts_model.specs.tree.Topologies.{numbers_below}
 use Rattle.cert_check.specs.declared.order.SinkOrder.{SinkOrder}
-use Rattle.cert_check.specs.ReachParts.{IsLevel, ShowsPlaced}
+use Rattle.cert_check.specs.ReachParts.{ShowsPlaced}
 use Rattle.cert_check.specs.SinkOrders.{IsSinkOrder}
 
 -- a small number, as the code keeps it, is small
@@ -36,20 +36,6 @@ pub denotes_found : {X : Type 0} (Holds : X → Type 0) (items : List X) (place 
 denotes_found Holds items place default test within denotes =
     subst (λ found. IsTrue test ↔ IsSomeAnd found Holds)
     (sym (slice_get-get_or items place default within)) denotes
-
--- so it is with a register's skew
-pub denotes_level : (sinks : List Sink) (wire : ℕ → ℤ) (register : ℕ) (default : Sink)
-    → (test : Bool) → register < length sinks
-    → IsTrue test ↔ (wire register -ℤ wire 0
-    ≡ (get_or sinks 0 default).offset -ℤ (get_or sinks register default).offset)
-    → IsTrue test ↔ IsLevel sinks wire register
-denotes_level sinks wire register default test within denotes =
-    subst (λ found. IsTrue test ↔ IfSome found (λ sink. IfSome (slice_get sinks 0)
-    (λ first. wire register -ℤ wire 0 ≡ first.offset -ℤ sink.offset)))
-    (sym (slice_get-get_or sinks register default within))
-    (subst (λ found. IsTrue test ↔ IfSome found
-    (λ first. wire register -ℤ wire 0 ≡ first.offset -ℤ (get_or sinks register default).offset))
-    (sym (slice_get-get_or sinks 0 default (omega arith))) denotes)
 
 -- and with the span of two sinks
 pub denotes_span : (sinks : List Sink) (reach : ℤ) (first second : ℕ) (default : Sink)

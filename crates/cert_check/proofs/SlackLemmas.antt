@@ -1,20 +1,18 @@
 -- What true slacks say of the period, and of those that are printed.
-use Rattle.std.proofs.Common.{◌≡◌, ◌<◌, ◌↔◌, ◌*◌, ◌/◌, ℕ, suc, ℤ, pos, negsuc, ◌-ℤ◌, ◌*ℤ◌, ◌≤ℤ◌, List, length, get_or, Option, Some, None, sym, ap, subst, ◌∙◌, arith}
+use Rattle.std.proofs.Common.{◌≡◌, ◌<◌, ◌↔◌, ◌*◌, ◌/◌, ℕ, suc, ℤ, pos, negsuc, ◌-ℤ◌, ◌*ℤ◌, ◌≤ℤ◌, List, Option, Some, None, sym, ap, subst, ◌∙◌, arith}
 use Rattle.std.specs.Prelude.{nat_abs}
 use Rattle.std.proofs.Math.Nat.{mul-div_cancel, mul_right_comm}
 use Rattle.std.proofs.lemmas.Int.{ints}
-use Rattle.std.proofs.lemmas.Option.{slice_get-get_or}
 use Rattle.cts_base.specs.declared.fraction.Fraction.{Fraction}
 use Rattle.cts_base.proofs.OneFraction.{one_fraction, other_sign}
 use Rattle.cts_model.specs.declared.circuit.Circuit.{Circuit}
-use Rattle.cts_model.specs.declared.schedule.Schedule.{Schedule}
 use Rattle.cts_model.specs.declared.schedule.Slack.{Slack}
 use Rattle.cts_model.specs.declared.tech.Tech.{Tech}
-use Rattle.cts_model.specs.report.Judgements.{HasSlack, MeetsAt}
+use Rattle.cts_model.specs.report.Judgements.{MeetsAt}
 use Rattle.cts_model.specs.netlist.Paths.{IsPath}
 use Rattle.cts_model.specs.timing.Schedules.{arrival_of}
-use Rattle.cts_model.specs.timing.Slacks.{AreSlacks, IsSlack, IsSlackOf, hold_spare, setup_spare}
-use Rattle.cert_check.specs.ComparedSlacks.{AreOneSlack, HasOneSlack, HasSlackRoom, IsFromZero, SparesTime}
+use Rattle.cts_model.specs.timing.Slacks.{IsSlack, IsSlackOf, hold_spare, setup_spare}
+use Rattle.cert_check.specs.ComparedSlacks.{AreOneSlack, HasSlackRoom, IsFromZero}
 
 -- ---- fractions that are numbers over a scale
 
@@ -139,7 +137,7 @@ module _ (circuit : Circuit) (tech : Tech) (period : Fraction) (at : List ℤ) (
   some = some_scale period.den period.lowest.some_den
 
   -- paths meet the period exactly where neither slack is below 0
-  room_meets : HasSlackRoom own ↔ MeetsAt circuit tech period at register
+  pub room_meets : HasSlackRoom own ↔ MeetsAt circuit tech period at register
   room_meets =
       let setup = spares circuit (nat_abs period.den) some
       (setup_spare circuit tech (nat_abs period.den) period.num (arrival_of at)) register own.setup
@@ -157,7 +155,7 @@ module _ (circuit : Circuit) (tech : Tech) (period : Fraction) (at : List ℤ) (
       )
 
   -- other slacks are right exactly where they are these
-  same_slack : (slack : Slack)
+  pub same_slack : (slack : Slack)
       → (AreOneSlack slack.setup own.setup × AreOneSlack slack.hold own.hold)
       ↔ IsSlack circuit tech (nat_abs period.den) period.num (arrival_of at) register slack
   same_slack slack =
@@ -170,26 +168,3 @@ module _ (circuit : Circuit) (tech : Tech) (period : Fraction) (at : List ℤ) (
         λ both. record { setup = setup.0 both.0; hold = hold.0 both.1 },
         λ right. (setup.1 right.setup, hold.1 right.hold),
       )
-
-module _ (circuit : Circuit) (tech : Tech) (period : Fraction) (schedule : Schedule)
-    (slacks : List Slack) (are : AreSlacks circuit tech period schedule slacks) (register : ℕ)
-    (within : register < length slacks) where
-  -- so it is by the list of all slacks
-  pub spares_meets : SparesTime slacks register ↔ MeetsAt circuit tech period schedule.at register
-  spares_meets =
-      let none : Slack = record { setup = None; hold = None } in
-      let here = slice_get-get_or slacks register none within in
-      rw here (room_meets circuit tech period schedule.at register (get_or slacks register none)
-      (are.each register (get_or slacks register none) here))
-
-  -- and printed slacks are right exactly where they are the same
-  pub same_right : (printed : List Slack) → register < length printed
-      → HasOneSlack printed slacks register
-      ↔ HasSlack circuit tech period schedule.at printed register
-  same_right printed within' =
-      let none : Slack = record { setup = None; hold = None } in
-      let here = slice_get-get_or slacks register none within in
-      let there = slice_get-get_or printed register none within' in
-      rw (there, here) (same_slack circuit tech period schedule.at register
-      (get_or slacks register none) (are.each register (get_or slacks register none) here)
-      (get_or printed register none))

@@ -1,7 +1,9 @@
 -- The first judgement of several that doesn't hold, and its first place.
-use Rattle.std.specs.Prelude.{◌≡◌, ◌⊎◌, ◌<◌, ℕ, Option, Some, None, MatchOption}
+use Rattle.std.specs.Prelude.{◌≡◌, ◌⊎◌, ◌<◌, ℕ, Result, Ok, Err}
 use Rattle.cts_model.specs.report.Shown.{AtEach}
 use Rattle.cert_check.specs.declared.verdict.Reason.{Reason}
+use Rattle.cert_check.specs.declared.verdict.Stop.{Stop}
+use Rattle.cert_check.specs.declared.verdict.Stop.TheVariants.{At, NoMemory}
 use Rattle.cert_check.specs.declared.verdict.Verdict.{Verdict}
 use Rattle.cert_check.specs.declared.verdict.Verdict.TheVariants.{Shown, Not}
 
@@ -11,9 +13,19 @@ pub record FailsFirst (places : ℕ) (Holds : ℕ → Type 0) (place : ℕ) : Ty
   pub fails : Holds place → ⊥
   pub before : AtEach place Holds
 
--- the first place where it doesn't hold, or none where it holds at each
-abbrev pub FindsFirst : (places : ℕ) → (Holds : ℕ → Type 0) → Option ℕ → Type 0
-FindsFirst places Holds found = MatchOption found (AtEach places Holds) (FailsFirst places Holds)
+-- it holds at each place, or its reason at the first place where it doesn't stops
+abbrev pub Judges : (places : ℕ) → (Holds : ℕ → Type 0) → (reason : ℕ → Reason) → {T : Type 0}
+    → Result T Stop → Type 0
+Judges places Holds reason (Ok done) = AtEach places Holds
+Judges places Holds reason (Err (At given)) =
+    (place : ℕ) × FailsFirst places Holds place × (given ≡ reason place)
+Judges places Holds reason (Err NoMemory) = Unit {0}
+
+-- a judgement that has one place
+abbrev pub JudgesOnce : (Holds : Type 0) → Reason → {T : Type 0} → Result T Stop → Type 0
+JudgesOnce Holds reason (Ok done) = Holds
+JudgesOnce Holds reason (Err (At given)) = (Holds → ⊥) × (given ≡ reason)
+JudgesOnce Holds reason (Err NoMemory) = Unit {0}
 
 -- the reason of the first place where it doesn't hold decides; where it holds at each, what is
 -- judged next does
@@ -28,12 +40,8 @@ abbrev pub JudgedOnce : (Holds : Type 0) → Reason → Verdict → (Next : Type
 JudgedOnce Holds reason verdict Next =
     ((Holds → ⊥) × (verdict ≡ Not reason)) ⊎ (Holds × Next)
 
--- what was found, as a verdict
-abbrev pub verdict_of : Option Reason → Verdict
-verdict_of None = Shown
-verdict_of (Some reason) = Not reason
-
--- what is judged next, if no reason was found
-abbrev pub Passes : Option Reason → Type 0
-Passes None = Unit {0}
-Passes (Some reason) = ⊥
+-- a verdict by what stops the judgements, or that they all hold
+abbrev pub Decides : (IsVerdict : Verdict → Type 0) → {T : Type 0} → Result T Stop → Type 0
+Decides IsVerdict (Ok done) = IsVerdict Shown
+Decides IsVerdict (Err (At reason)) = IsVerdict (Not reason)
+Decides IsVerdict (Err NoMemory) = Unit {0}

@@ -1,7 +1,8 @@
 pub mod ComparedSlacks
 pub mod CyclePlaces
 pub mod CycleSums
-pub mod Earliest
+pub mod TightLeads
+pub mod SmallSinks
 pub mod GivenConstraints
 pub mod Judged
 pub mod ReachParts
@@ -11,3 +12,4 @@ pub mod Parents
 pub mod DrawnParts
 pub mod EmbeddingParts
 pub mod WalkedPaths
+pub mod OneProof

@@ -1,37 +1,18 @@
--- What the judgement of reaches stands on, and what it compares in one tree. Boese and Kahng 1992;
+-- What the judgement of reaches compares in one tree. Boese and Kahng 1992;
 -- Chao and others 1992.
-use Rattle.std.specs.Prelude.{◌≡◌, ◌≤◌, ◌+◌, ◌*◌, ◌^◌, ℕ, ℤ, ◌+ℤ◌, ◌-ℤ◌, List, length, All, IfSome, IsSomeAnd, slice_get}
+use Rattle.std.specs.Prelude.{◌≡◌, ◌≤◌, ◌+◌, ℕ, ℤ, ◌+ℤ◌, ◌-ℤ◌, List, length, IfSome, IsSomeAnd, slice_get}
 use Rattle.cts_model.specs.declared.place.Sink.{Sink}
 use Rattle.cts_model.specs.declared.place.Uv.{Uv}
 use Rattle.cts_model.specs.declared.report.Report.{Report}
 use Rattle.cts_model.specs.declared.tree.Show.{Show}
 use Rattle.cts_model.specs.declared.tree.Show.TheVariants as shows
 use Rattle.cts_model.specs.declared.tree.Tree.{Tree}
-use Rattle.cts_model.specs.placement.Points.{IsBelow, IsUvBelow}
 use Rattle.cts_model.specs.tree.Regions.{span}
-use Rattle.cts_model.specs.report.ReportBounds.{ShowsAmong}
 use Rattle.cts_model.specs.report.ReportLines.{number_at}
 use Rattle.cts_model.specs.tree.ShownReaches.{ShowsMerge, ShowsSource}
-use Rattle.cts_model.specs.tree.Topologies.{IsTopology, numbers_below, root_of, source_of}
+use Rattle.cts_model.specs.tree.Topologies.{numbers_below, root_of, source_of}
 use Rattle.cert_check.specs.declared.order.SinkOrder.{SinkOrder}
 use Rattle.cert_check.specs.SinkOrders.{IsInOrder}
-
--- a sink of a problem, in grid steps
-pub record IsSmallSink (sink : Sink) : Type 0 where
-  pub at : IsUvBelow (10 ^ 31) sink.at
-  pub offset : IsBelow (10 ^ 32) sink.offset
-
--- the merges are a topology of the sinks, and the lists have a small entry for each node
-pub record HasReachParts (sinks : List Sink) (report : Report) : Type 0 where
-  pub few : length sinks ≤ 4097
-  pub topology : IsTopology (length sinks) report.topology.merges
-  pub lengths : length report.tree.length + 1 ≡ 2 * length sinks
-  pub reaches : length report.tree.reach ≡ 2 * length sinks
-  pub shows : length report.shows ≡ length sinks
-  pub named : All (ShowsAmong (length sinks)) report.shows
-  pub small_lengths : All (IsBelow (10 ^ 32)) report.tree.length
-  pub small_reaches : All (IsBelow (10 ^ 32)) report.tree.reach
-  pub small_sinks : All IsSmallSink sinks
 
 -- with this wire down to each node, those to a register and to the first one differ as their
 -- offsets do

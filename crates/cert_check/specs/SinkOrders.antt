@@ -1,10 +1,9 @@
 -- An order of the sinks in which those below each node of a topology stand next to one another.
 -- Topologies as in Boese and Kahng 1992; the order is this project's.
-use Rattle.std.specs.Prelude.{◌≡◌, ◌<◌, ◌+◌, ◌*◌, ◌^◌, ◌↔◌, ℕ, ℤ, pos, ◌+ℤ◌, ◌≤ℤ◌, ◌<ℤ◌, List, length, All, Contains, Some, slice_get}
+use Rattle.std.specs.Prelude.{◌≡◌, ◌<◌, ◌+◌, ◌*◌, ◌↔◌, ℕ, ℤ, pos, ◌+ℤ◌, ◌≤ℤ◌, ◌<ℤ◌, List, length, Contains, Some, slice_get}
 use Rattle.cts_model.specs.declared.tree.Merge.{Merge}
-use Rattle.cts_model.specs.placement.Points.{IsBelow}
 use Rattle.cts_model.specs.report.ReportLines.{number_at}
-use Rattle.cts_model.specs.tree.Topologies.{numbers_below}
+use Rattle.cts_model.specs.tree.Topologies.{IsTopology, numbers_below}
 use Rattle.cert_check.specs.declared.order.SinkOrder.{SinkOrder}
 
 -- a sink counts one, and a merge's node what the two that it joins do
@@ -29,11 +28,9 @@ abbrev pub IsInOrder : SinkOrder → (node register : ℕ) → Type 0
 IsInOrder order node register =
     IsPlacedBelow (number_at order.starts.items) (number_at order.sizes.items) node register
 
--- it has each node, and the sinks that are placed below one are those below it
+-- it is one over the nodes of a topology, and the sinks that are placed below one are those below it
 pub record IsSinkOrder (sinks : ℕ) (merges : List Merge) (order : SinkOrder) : Type 0 where
-  pub starts : length order.starts.items ≡ 2 * sinks
+  pub topology : IsTopology sinks merges
   pub sizes : length order.sizes.items + 1 ≡ 2 * sinks
-  pub small_starts : All (IsBelow (10 ^ 36)) order.starts.items
-  pub small_sizes : All (IsBelow (10 ^ 32)) order.sizes.items
   pub below : (node register : ℕ) → node < sinks + length merges → register < sinks
       → Contains (numbers_below sinks merges node) register ↔ IsInOrder order node register

@@ -1,21 +1,20 @@
-ghost use Rattle.std.specs.Prelude.{◌≡◌, ◌↔◌, IfOk};
+ghost use Rattle.std.specs.Prelude.{◌≡◌, ◌↔◌, IfOk, length};
 ghost use Rattle.cts_model.specs.report.ReportBounds.{IsOfSize, IsWithinBounds};
 ghost use Rattle.cts_model.specs.report.SaidReports.{ShowsWhatItSays};
-ghost use Rattle.cts_model.specs.report.Shown.{IsShown, ShowsLeast};
+ghost use Rattle.cts_model.specs.report.Shown.{IsShown, ShowsLeast, cycle_of};
+ghost use Rattle.cts_model.specs.timing.Slacks.{AreSlacks};
+ghost use Rattle.cts_model.specs.tree.Topologies.{IsTopology};
 ghost use Rattle.path_delays.specs.LevelParts.{IsLevelsOf};
 ghost use Rattle.cert_check.specs.declared.verdict.Verdict.{Verdict};
-ghost use Rattle.cert_check.specs.Judged.{verdict_of};
-ghost use Rattle.cert_check.specs.Verdicts.{IsVerdict, TreeFound};
+ghost use Rattle.cert_check.specs.Judged.{Decides};
+ghost use Rattle.cert_check.specs.Verdicts.{EmbeddingJudged, IsVerdict, IsVerdictBy, ReachesJudged, RestJudged};
 
-use crate::earliest::judge_least;
-use crate::embedding::judge_embedding;
-use crate::period::judge_period;
-use crate::reaches::judge_reaches;
-use crate::sinks::sinks_of;
-use crate::slacks::judge_slacks;
-use crate::{Reason, Verdict};
+use crate::Verdict;
+use crate::judge::Judge;
+use crate::sinks::{sinks_of, source_of};
+use crate::verdict::Stop;
 use cts_base::NoMemory;
-use cts_model::{Problem, Report, laws};
+use cts_model::{Constraint, PeriodShow, Problem, Report, Slack, laws};
 use path_delays::{LevelFault, Levels, levels};
 use std::alloc::Global;
 use timing_report::slacks;
@@ -36,39 +35,105 @@ pub fn check(alloc: Global, problem: &Problem, report: &Report) -> Result<Verdic
         (λ verdict. verdict ≡ Verdict.Shown → ShowsLeast problem.now report.now) }
 {
     laws::reports();
-    match judge(alloc, problem, report)? {
-        Some(reason) => Ok(Verdict::Not(reason)),
-        None => Ok(Verdict::Shown),
+    match judge_report(alloc, problem, report) {
+        Ok(()) => Ok(Verdict::Shown),
+        Err(Stop::At(reason)) => Ok(Verdict::Not(reason)),
+        Err(Stop::NoMemory) => Err(NoMemory),
     }
 }
 
-// The first reason of all judgements.
-fn judge(alloc: Global, problem: &Problem, report: &Report) -> Result<Option<Reason>, NoMemory>
+// What stops the judgement of a report.
+fn judge_report(alloc: Global, problem: &Problem, report: &Report) -> Result<(), Stop>
     requires size { IsOfSize problem.now.circuit report.now }
     requires bounds { IsWithinBounds problem.now.tech report.now }
-    ensures { IfOk result (λ found. IsVerdict problem.now report.now (verdict_of found)) }
+    ensures { Decides (IsVerdict problem.now report.now) result }
 {
     let levels = levels_of(alloc, problem)?;
-    let circuit = &problem.circuit;
+    let sinks = sinks_of(alloc, problem, report)?;
+    let judge = Judge {
+        problem,
+        report,
+        cycle: cycle_of(&report.shown),
+        sinks: sinks.as_slice(),
+        source: source_of(problem, report),
+    };
     let slacks = slacks(
         alloc,
-        circuit,
+        &problem.circuit,
         &levels,
         &problem.tech,
         &report.schedule,
         report.period,
     )?;
-    let spare = slacks.as_slice();
-    if let Some(reason) = judge_period(alloc, problem, &levels, report, spare)? {
-        return Ok(Some(reason));
-    }
-    if let Some(reason) = judge_tree(alloc, problem, report)? {
-        return Ok(Some(reason));
-    }
-    if let Some(reason) = judge_slacks(problem, report, spare) {
-        return Ok(Some(reason));
-    }
-    judge_least(alloc, problem, &levels, report)
+    judge_all(alloc, &judge, &levels, slacks.as_slice())
+}
+
+// All judgements, in their order.
+fn judge_all(alloc: Global, judge: &Judge, levels: &Levels, slacks: &[Slack]) -> Result<(), Stop>
+    requires levels { IsLevelsOf judge.now.problem.now.circuit levels.now }
+    requires slacks { AreSlacks judge.now.problem.now.circuit judge.now.problem.now.tech
+        judge.now.report.now.period judge.now.report.now.schedule slacks.now }
+    ensures { Decides (IsVerdictBy judge.now.problem.now judge.now.report.now judge.now.cycle.now
+        judge.now.sinks.now judge.now.source) result }
+{
+    judge.judge_floor()?;
+    judge.judge_joins(alloc)?;
+    judge.judge_constraints(alloc, levels)?;
+    judge.judge_value()?;
+    judge.judge_schedule(slacks)?;
+    judge_embedding(alloc, judge, levels, slacks)
+}
+
+// Those from the embedding on.
+fn judge_embedding(
+    alloc: Global,
+    judge: &Judge,
+    levels: &Levels,
+    slacks: &[Slack],
+) -> Result<(), Stop>
+    requires levels { IsLevelsOf judge.now.problem.now.circuit levels.now }
+    requires slacks { AreSlacks judge.now.problem.now.circuit judge.now.problem.now.tech
+        judge.now.report.now.period judge.now.report.now.schedule slacks.now }
+    ensures { Decides (λ verdict. EmbeddingJudged judge.now.report.now judge.now.sinks.now
+        judge.now.source verdict (ReachesJudged judge.now.report.now judge.now.sinks.now
+        judge.now.source verdict (RestJudged judge.now.problem.now judge.now.report.now
+        judge.now.cycle.now verdict (verdict ≡ Verdict.Shown)))) result }
+{
+    judge.judge_shape(alloc)?;
+    let parents = judge.parents(alloc)?;
+    judge.judge_lengths(parents.as_slice())?;
+    judge.judge_wires(parents.as_slice())?;
+    judge_tree(alloc, judge, levels, slacks)
+}
+
+// Those from the skews on.
+fn judge_tree(alloc: Global, judge: &Judge, levels: &Levels, slacks: &[Slack]) -> Result<(), Stop>
+    requires levels { IsLevelsOf judge.now.problem.now.circuit levels.now }
+    requires slacks { AreSlacks judge.now.problem.now.circuit judge.now.problem.now.tech
+        judge.now.report.now.period judge.now.report.now.schedule slacks.now }
+    requires topology { IsTopology (length judge.now.sinks.now)
+        judge.now.report.now.topology.merges }
+    ensures { Decides (λ verdict. ReachesJudged judge.now.report.now judge.now.sinks.now
+        judge.now.source verdict (RestJudged judge.now.problem.now judge.now.report.now
+        judge.now.cycle.now verdict (verdict ≡ Verdict.Shown))) result }
+{
+    judge.judge_skews(alloc)?;
+    judge.judge_reaches(alloc)?;
+    judge.judge_total()?;
+    judge_rest(alloc, judge, levels, slacks)
+}
+
+// Those from the slacks on.
+fn judge_rest(alloc: Global, judge: &Judge, levels: &Levels, slacks: &[Slack]) -> Result<(), Stop>
+    requires levels { IsLevelsOf judge.now.problem.now.circuit levels.now }
+    requires slacks { AreSlacks judge.now.problem.now.circuit judge.now.problem.now.tech
+        judge.now.report.now.period judge.now.report.now.schedule slacks.now }
+    ensures { Decides (λ verdict. RestJudged judge.now.problem.now judge.now.report.now
+        judge.now.cycle.now verdict (verdict ≡ Verdict.Shown)) result }
+{
+    judge.judge_slacks(slacks)?;
+    judge.judge_paths()?;
+    judge.judge_leads(alloc, levels)
 }
 
 // The gates of a problem, each after those that it reads.
@@ -82,15 +147,12 @@ fn levels_of(alloc: Global, problem: &Problem) -> Result<Levels, NoMemory>
     }
 }
 
-// The first reason that the embedding, the skews, the reaches and the wire of the tree give.
-fn judge_tree(alloc: Global, problem: &Problem, report: &Report) -> Result<Option<Reason>, NoMemory>
-    requires size { IsOfSize problem.now.circuit report.now }
-    requires bounds { IsWithinBounds problem.now.tech report.now }
-    ensures { IfOk result (TreeFound problem.now report.now) }
+// The constraints of the cycle that is shown, and none for the floor.
+fn cycle_of(shown: &PeriodShow) -> &[Constraint]
+    ensures { result.now ≡ cycle_of shown.now }
 {
-    let sinks = sinks_of(alloc, problem, report)?;
-    if let Some(reason) = judge_embedding(alloc, problem, report, sinks.as_slice())? {
-        return Ok(Some(reason));
+    match shown {
+        PeriodShow::Cycle(cycle) => cycle.as_slice(),
+        PeriodShow::Floor => &[],
     }
-    judge_reaches(alloc, problem, report, sinks.as_slice())
 }

@@ -1,30 +1,80 @@
-ghost use Rattle.std.specs.Prelude.{◌≡◌, ◌↔◌, ◌≤◌, ◌<◌, ◌^◌, ◌≤ℤ◌, All, IsTrue, Some, length, slice_get, take};
-ghost use Rattle.cts_model.specs.tree.DrawnWires.{IsDrawn};
+ghost use Rattle.std.specs.Prelude.{◌<◌, ◌↔◌, ◌^◌, ◌≤ℤ◌, All, IsTrue, length};
 ghost use Rattle.cts_model.specs.tree.Embeddings.{embedding_of};
-ghost use Rattle.cts_model.specs.placement.Points.{IsBelow, IsPointBelow, distance};
-ghost use Rattle.cts_model.specs.report.ReportBounds.{IsSmallWire};
-ghost use Rattle.cert_check.specs.EmbeddingParts.{DrawnAt, HasEdges, ReachesAt};
-ghost use Rattle.cert_check.specs.Judged.{FindsFirst};
+ghost use Rattle.cts_model.specs.report.Judgements.{IsDrawnEdge, IsLongEnough};
+ghost use Rattle.cts_model.specs.placement.Points.{IsPointBelow, distance};
+ghost use Rattle.cert_check.specs.Parents.{AreParents};
 
 use crate::drawn::is_drawn;
-use cts_model::{Tree, Wire, manhattan};
+use crate::judge::Judge;
+use crate::verdict::{Reason, Stop};
+use cts_model::{Tree, manhattan};
 
-/// The first edge that is shorter than the way between its ends, by the parents of the nodes.
-pub(crate) fn first_short(parents: &[u32], tree: &Tree) -> Option<u32>
-    requires edges { HasEdges parents.now tree.now }
-    ensures { FindsFirst (length tree.now.length) (ReachesAt (embedding_of tree.now) parents.now)
-        result }
-{
-    for edge in 0..parents.len() {
-        if !is_long_enough(tree, parents[edge] as usize, edge) {
-            return Some(edge as u32);
+impl Judge<'_> {
+    ghost use Rattle.cert_check.specs.declared.verdict.Reason.TheVariants.{TooShort, WireSum};
+    ghost use Rattle.cert_check.specs.Judged.{Judges};
+
+    /// Whether each edge is as long as the way between its ends, or longer.
+    pub(crate) fn judge_lengths(&self, parents: &[u32]) -> Result<(), Stop>
+        requires { AreParents (length self.now.sinks.now) self.now.report.now.topology.merges
+            parents.now }
+        ensures { Judges (length self.now.report.now.tree.length) (IsLongEnough
+            (length self.now.sinks.now) self.now.report.now.topology.merges
+            (embedding_of self.now.report.now.tree)) TooShort result }
+    {
+        for edge in 0..parents.len() {
+            if !self.is_long_enough(parents, edge) {
+                return Err(Stop::At(Reason::TooShort(edge as u32)));
+            }
         }
+        Ok(())
     }
-    None
+
+    // Whether an edge is as long as the way between its ends, or longer.
+    fn is_long_enough(&self, parents: &[u32], edge: usize) -> bool
+        requires parents { AreParents (length self.now.sinks.now)
+            self.now.report.now.topology.merges parents.now }
+        requires edge { edge < length parents.now }
+        ensures { IsTrue result ↔ IsLongEnough (length self.now.sinks.now)
+            self.now.report.now.topology.merges (embedding_of self.now.report.now.tree) edge }
+    {
+        reaches(&self.report.tree, parents[edge] as usize, edge)
+    }
+
+    /// Whether the points of each edge are those of a wire of its length between its ends.
+    pub(crate) fn judge_wires(&self, parents: &[u32]) -> Result<(), Stop>
+        requires { AreParents (length self.now.sinks.now) self.now.report.now.topology.merges
+            parents.now }
+        ensures { Judges (length self.now.report.now.tree.length) (IsDrawnEdge
+            (length self.now.sinks.now) self.now.report.now.topology.merges
+            (embedding_of self.now.report.now.tree) self.now.report.now.wires) WireSum result }
+    {
+        for edge in 0..parents.len() {
+            if !self.is_drawn_edge(parents, edge) {
+                return Err(Stop::At(Reason::WireSum(edge as u32)));
+            }
+        }
+        Ok(())
+    }
+
+    // Whether the points of an edge are those of a wire of its length between its ends.
+    fn is_drawn_edge(&self, parents: &[u32], edge: usize) -> bool
+        requires parents { AreParents (length self.now.sinks.now)
+            self.now.report.now.topology.merges parents.now }
+        requires edge { edge < length parents.now }
+        ensures { IsTrue result ↔ IsDrawnEdge (length self.now.sinks.now)
+            self.now.report.now.topology.merges (embedding_of self.now.report.now.tree)
+            self.now.report.now.wires edge }
+    {
+        let tree = &self.report.tree;
+        let places = tree.place.as_slice();
+        let wire = &self.report.wires.as_slice()[edge];
+        let from = places[parents[edge] as usize];
+        is_drawn(wire, from, places[edge], tree.length.as_slice()[edge])
+    }
 }
 
 // Whether the edge from a parent is as long as the way between its ends, or longer.
-fn is_long_enough(tree: &Tree, parent: usize, edge: usize) -> bool
+fn reaches(tree: &Tree, parent: usize, edge: usize) -> bool
     requires parent { parent < length tree.now.place }
     requires node { edge < length tree.now.place }
     requires edge { edge < length tree.now.length }
@@ -34,27 +84,4 @@ fn is_long_enough(tree: &Tree, parent: usize, edge: usize) -> bool
 {
     let places = tree.place.as_slice();
     manhattan(places[parent], places[edge]) <= tree.length.as_slice()[edge]
-}
-
-/// The first edge whose points aren't those of a wire of its length between its ends.
-pub(crate) fn first_undrawn(parents: &[u32], tree: &Tree, wires: &[Wire]) -> Option<u32>
-    requires edges { HasEdges parents.now tree.now }
-    requires wires { length wires.now ≡ length parents.now }
-    requires small { All IsSmallWire wires.now }
-    ensures { FindsFirst (length tree.now.length)
-        (DrawnAt (embedding_of tree.now) parents.now wires.now) result }
-{
-    let places = tree.place.as_slice();
-    for edge in 0..parents.len() {
-        let from = places[parents[edge] as usize];
-        if !is_drawn(
-            &wires[edge],
-            from,
-            places[edge],
-            tree.length.as_slice()[edge],
-        ) {
-            return Some(edge as u32);
-        }
-    }
-    None
 }

@@ -1,65 +1,79 @@
-ghost use Rattle.std.specs.Prelude.{◌≡◌, ◌<◌, ◌≤◌, ◌↔◌, ◌^◌, All, IfOk, IsTrue, Some, length, map, slice_get, slice_index_or, false};
-ghost use Rattle.std.specs.Option.{IfSome};
-ghost use Rattle.cts_model.specs.declared.circuit.Circuit.{Circuit};
-ghost use Rattle.cts_model.specs.timing.Constraints.{IsConstraintOf};
+ghost use Rattle.std.specs.Prelude.{◌≡◌, ◌<◌, ◌↔◌, ◌^◌, All, IfOk, IfSome, IsSomeAnd, IsTrue, length, map};
 ghost use Rattle.cts_model.specs.report.Judgements.{IsOfCircuit};
 ghost use Rattle.cts_model.specs.timing.PairLists.{IsSmallPair};
 ghost use Rattle.cts_model.specs.placement.Points.{IsBelow};
-ghost use Rattle.cts_model.specs.report.ReportBounds.{HasSmallWeight, IsBetweenRegisters};
-ghost use Rattle.path_delays.specs.JoinedPairs.{IsJoinedBy};
+ghost use Rattle.cts_model.specs.report.ReportBounds.{IsBetweenRegisters};
+ghost use Rattle.path_delays.specs.JoinedPairs.{AreDelaysBetween};
 ghost use Rattle.path_delays.specs.LevelParts.{IsLevelsOf};
-ghost use Rattle.cert_check.specs.GivenConstraints.{AreOfCircuit, pair_of, weight_by};
-ghost use Rattle.cert_check.specs.Judged.{FindsFirst};
+ghost use Rattle.cert_check.specs.GivenConstraints.{pair_of, weight_by};
 
-use crate::cycle::constraint_at;
-use crate::product::are_same;
-use cts_base::NoMemory;
-use cts_model::{Circuit, Constraint, PairDelay, Tech};
+use crate::judge::Judge;
+use crate::verdict::{Reason, Stop};
+use cts_base::{Listed, NoMemory};
+use cts_model::{Constraint, PairDelay, Tech};
 use path_delays::{Levels, delays_between};
 use std::alloc::Global;
 
-/// The first place of a cycle whose constraint isn't one of the circuit.
-pub(crate) fn first_foreign(
-    alloc: Global,
-    circuit: &Circuit,
-    levels: &Levels,
-    tech: &Tech,
-    cycle: &[Constraint],
-) -> Result<Option<u32>, NoMemory>
-    requires levels { IsLevelsOf circuit.now levels.now }
-    requires among { All (IsBetweenRegisters (length circuit.now.registers)) cycle.now }
-    requires small { All HasSmallWeight cycle.now }
-    requires few { length cycle.now ≤ 9999 }
-    ensures { IfOk result
-        (FindsFirst (length cycle.now) (IsOfCircuit circuit.now tech.now cycle.now)) }
-{
-    let tests = are_of_circuit(alloc, circuit, levels, tech, cycle)?;
-    Ok(first_denied(tests.as_slice()))
-}
+impl Judge<'_> {
+    ghost use Rattle.cert_check.specs.declared.verdict.Reason.TheVariants.{NotOfCircuit};
+    ghost use Rattle.cert_check.specs.Judged.{Judges};
 
-/// For each constraint whether it is one of the circuit. One walk for each, from the register that
-/// launches.
-pub(crate) fn are_of_circuit(
-    alloc: Global,
-    circuit: &Circuit,
-    levels: &Levels,
-    tech: &Tech,
-    constraints: &[Constraint],
-) -> Result<Vec<bool>, NoMemory>
-    requires levels { IsLevelsOf circuit.now levels.now }
-    requires among { All (IsBetweenRegisters (length circuit.now.registers)) constraints.now }
-    requires small { All HasSmallWeight constraints.now }
-    ensures { IfOk result
-        (λ tests. AreOfCircuit circuit.now tech.now constraints.now tests.items) }
-{
-    let pairs = pairs_of(alloc, constraints)?;
-    let delays = delays_between(alloc, circuit, levels, tech, pairs.as_slice())?;
-    let mut tests = Vec::new(alloc);
-    for place in 0..constraints.len() {
-        let joined = joined_at(delays.as_slice(), place);
-        tests.push(is_given(tech, constraint_at(constraints, place), joined))?;
+    /// Whether the constraint at each place of the cycle is one of the circuit.
+    pub(crate) fn judge_constraints(&self, alloc: Global, levels: &Levels) -> Result<(), Stop>
+        requires { IsLevelsOf self.now.problem.now.circuit levels.now }
+        ensures { Judges (length self.now.cycle.now) (IsOfCircuit self.now.problem.now.circuit
+            self.now.problem.now.tech self.now.cycle.now) NotOfCircuit result }
+    {
+        let delays = self.delays_of(alloc, levels, self.cycle)?;
+        for place in 0..self.cycle.len() {
+            if !self.is_given(self.cycle, delays.as_slice(), place) {
+                return Err(Stop::At(Reason::NotOfCircuit(place as u32)));
+            }
+        }
+        Ok(())
     }
-    Ok(tests)
+
+    /// What joins the pair of each constraint. One walk for each, from the register that launches
+    /// along its paths.
+    pub(crate) fn delays_of(
+        &self,
+        alloc: Global,
+        levels: &Levels,
+        constraints: &[Constraint],
+    ) -> Result<Listed<Option<PairDelay>>, NoMemory>
+        requires levels { IsLevelsOf self.now.problem.now.circuit levels.now }
+        requires among { All (IsBetweenRegisters (length self.now.problem.now.circuit.registers))
+            constraints.now }
+        ensures { IfOk result (AreDelaysBetween self.now.problem.now.circuit
+            self.now.problem.now.tech (map pair_of constraints.now)) }
+    {
+        let pairs = pairs_of(alloc, constraints)?;
+        let problem = self.problem;
+        delays_between(
+            alloc,
+            &problem.circuit,
+            levels,
+            &problem.tech,
+            pairs.as_slice(),
+        )
+    }
+
+    /// Whether the constraint at a place, if there is one, is one of the circuit, by what joins the
+    /// pairs.
+    pub(crate) fn is_given(
+        &self,
+        constraints: &[Constraint],
+        delays: &[Option<PairDelay>],
+        place: usize,
+    ) -> bool
+        requires { AreDelaysBetween self.now.problem.now.circuit self.now.problem.now.tech
+            (map pair_of constraints.now) delays.now }
+        ensures { IsTrue result ↔ IsOfCircuit self.now.problem.now.circuit
+            self.now.problem.now.tech constraints.now place }
+    {
+        place >= constraints.len()
+            || gives_weight(&self.problem.tech, &constraints[place], delays[place])
+    }
 }
 
 // The pair of each constraint.
@@ -84,24 +98,14 @@ fn pair_of(constraint: Constraint) -> (u32, u32)
     }
 }
 
-// What joins the pair at a place.
-fn joined_at(delays: &[Option<PairDelay>], place: usize) -> Option<PairDelay>
-    requires { place < length delays.now }
-    ensures { slice_get delays.now place ≡ Some result }
-{
-    delays[place]
-}
-
-// Whether a constraint is one of the circuit, by what joins its pair.
-fn is_given(tech: &Tech, constraint: Constraint, joined: Option<PairDelay>) -> bool
-    requires small { HasSmallWeight constraint }
-    requires joined { IfSome joined IsSmallPair }
-    ensures { (circuit : Circuit)
-        → IsJoinedBy circuit tech.now (pair_of constraint).0 (pair_of constraint).1 joined
-        → IsTrue result ↔ IsConstraintOf circuit tech.now constraint }
+// Whether what joins a constraint's pair gives it its weight.
+fn gives_weight(tech: &Tech, constraint: &Constraint, joined: Option<PairDelay>) -> bool
+    requires { IfSome joined IsSmallPair }
+    ensures { IsTrue result ↔ IsSomeAnd joined (λ delays.
+        weight_by tech.now constraint.now.setup delays ≡ constraint.now.weight) }
 {
     match joined {
-        Some(delays) => are_same(weight_by(tech, constraint.setup, delays), constraint.weight),
+        Some(delays) => weight_by(tech, constraint.setup, delays) == constraint.weight,
         None => false,
     }
 }
@@ -117,18 +121,4 @@ fn weight_by(tech: &Tech, setup: bool, delays: PairDelay) -> i128
     } else {
         tech.hold - delays.least
     }
-}
-
-// The first test that denies.
-fn first_denied(tests: &[bool]) -> Option<u32>
-    requires { length tests.now ≤ 9999 }
-    ensures { FindsFirst (length tests.now)
-        (λ place. IsTrue (slice_index_or tests.now place false)) result }
-{
-    for place in 0..tests.len() {
-        if !tests[place] {
-            return Some(place as u32);
-        }
-    }
-    None
 }

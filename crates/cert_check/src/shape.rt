@@ -1,84 +1,99 @@
-ghost use Rattle.std.specs.Prelude.{◌≡◌, ◌≢◌, ◌↔◌, ◌≤◌, ◌<◌, ◌+◌, ◌*◌, ◌^◌, All, IfOk, IsTrue, length, slice_index_or};
+ghost use Rattle.std.specs.Prelude.{◌≡◌, ◌↔◌, ◌<◌, ◌≤◌, ◌+◌, ◌*◌, ◌^◌, IfOk, IsTrue, length};
 ghost use Rattle.cts_model.specs.tree.Embeddings.{embedding_of};
+ghost use Rattle.cts_model.specs.tree.Topologies.{IsTopology, source_of};
 ghost use Rattle.cts_model.specs.report.Judgements.{HasShape};
 ghost use Rattle.cts_model.specs.placement.Points.{IsPointBelow, rotated};
+ghost use Rattle.cert_check.specs.declared.verdict.Reason.TheVariants.{TreeShape};
+ghost use Rattle.cert_check.specs.Judged.{Judges, JudgesOnce};
 ghost use Rattle.cert_check.specs.EmbeddingParts.{IsOfUnmarked, JoinsAt, StandsAt};
-ghost use Rattle.cert_check.specs.Judged.{FindsFirst};
 
+use crate::judge::Judge;
 use crate::sinks::rotated;
-use cts_base::NoMemory;
-use cts_model::{Merge, Point, Sink, Tree, Uv};
+use crate::verdict::{Reason, Stop};
+use cts_model::{Merge, Point, Uv};
 use std::alloc::Global;
 
-/// The first node that isn't as the topology and the given places have it.
-pub(crate) fn first_misshapen(
-    alloc: Global,
-    sinks: &[Sink],
-    merges: &[Merge],
-    source: Uv,
-    tree: &Tree,
-) -> Result<Option<u32>, NoMemory>
-    requires few { length sinks.now ≤ 4097 }
-    requires merges { length merges.now + 1 ≡ length sinks.now }
-    requires places { length tree.now.place ≡ 2 * length sinks.now }
-    requires small { All (IsPointBelow (10 ^ 32)) tree.now.place }
-    ensures { IfOk result (FindsFirst (2 * length sinks.now)
-        (HasShape sinks.now merges.now source (embedding_of tree.now))) }
-{
-    if let Some(register) = first_moved(sinks, tree) {
-        return Ok(Some(register));
+impl Judge<'_> {
+    /// Whether each node is as the topology and the given places have it.
+    pub(crate) fn judge_shape(&self, alloc: Global) -> Result<(), Stop>
+        ensures shape { Judges (2 * length self.now.sinks.now) (HasShape self.now.sinks.now
+            self.now.report.now.topology.merges self.now.source
+            (embedding_of self.now.report.now.tree)) TreeShape result }
+        ensures topology { IfOk result (λ done. IsTopology (length self.now.sinks.now)
+            self.now.report.now.topology.merges) }
+    {
+        self.judge_sinks()?;
+        judge_merges(
+            alloc,
+            self.sinks.len(),
+            self.report.topology.merges.as_slice(),
+        )?;
+        self.judge_source()
     }
-    if let Some(place) = first_unjoined(alloc, sinks.len(), merges)? {
-        return Ok(Some(sinks.len() as u32 + place));
-    }
-    let last = 2 * sinks.len() - 1;
-    if stands(tree.place.as_slice()[last], source) {
-        Ok(None)
-    } else {
-        Ok(Some(last as u32))
-    }
-}
 
-// The first sink that isn't at its given place.
-fn first_moved(sinks: &[Sink], tree: &Tree) -> Option<u32>
-    requires few { length sinks.now ≤ 4097 }
-    requires places { length sinks.now ≤ length tree.now.place }
-    requires small { All (IsPointBelow (10 ^ 32)) tree.now.place }
-    ensures { FindsFirst (length sinks.now) (StandsAt sinks.now (embedding_of tree.now)) result }
-{
-    for register in 0..sinks.len() {
-        if !stands(tree.place.as_slice()[register], sinks[register].at) {
-            return Some(register as u32);
+    // Whether each sink is at its given place.
+    fn judge_sinks(&self) -> Result<(), Stop>
+        ensures { Judges (length self.now.sinks.now) (StandsAt self.now.sinks.now
+            (embedding_of self.now.report.now.tree)) TreeShape result }
+    {
+        for register in 0..self.sinks.len() {
+            if !self.stands(register, self.sinks[register].at) {
+                return Err(Stop::At(Reason::TreeShape(register as u32)));
+            }
+        }
+        Ok(())
+    }
+
+    // Whether the source is at its given place.
+    fn judge_source(&self) -> Result<(), Stop>
+        ensures { JudgesOnce (rotated ((embedding_of self.now.report.now.tree).place
+            (source_of (length self.now.sinks.now))) ≡ self.now.source)
+            (TreeShape (source_of (length self.now.sinks.now))) result }
+    {
+        let last = 2 * self.sinks.len() - 1;
+        if self.stands(last, self.source) {
+            Ok(())
+        } else {
+            Err(Stop::At(Reason::TreeShape(last as u32)))
         }
     }
-    None
+
+    // Whether a node is the point with these rotated coordinates.
+    fn stands(&self, node: usize, at: Uv) -> bool
+        requires { node < 2 * length self.now.sinks.now }
+        ensures { IsTrue result
+            ↔ (rotated ((embedding_of self.now.report.now.tree).place node) ≡ at) }
+    {
+        rotated(self.report.tree.place.as_slice()[node]) == at
+    }
 }
 
-// Whether a point is the one with these rotated coordinates.
-fn stands(point: Point, at: Uv) -> bool
-    requires { IsPointBelow (10 ^ 32) point }
-    ensures { IsTrue result ↔ (rotated point ≡ at) }
-{
-    rotated(point) == at
-}
-
-// The first of the merges over so many sinks that doesn't join two nodes that are there and that
-// none before it joined, the lower number first.
-fn first_unjoined(alloc: Global, sinks: usize, merges: &[Merge]) -> Result<Option<u32>, NoMemory>
+// Whether each of the merges over so many sinks joins two nodes that are there and that none before
+// it joined, the lower number first.
+fn judge_merges(alloc: Global, sinks: usize, merges: &[Merge]) -> Result<(), Stop>
     requires few { sinks ≤ 4097 }
     requires all { length merges.now + 1 ≡ sinks }
-    ensures { IfOk result (FindsFirst (length merges.now) (JoinsAt sinks merges.now)) }
+    ensures { Judges (length merges.now) (JoinsAt sinks merges.now)
+        (λ place. TreeShape (sinks + place)) result }
 {
     let mut joined = vec![in alloc; false; 2 * sinks]?;
     for place in 0..merges.len() {
         let merge = merges[place];
         if !is_of_unmarked(merge, sinks + place, joined.as_slice()) {
-            return Ok(Some(place as u32));
+            return Err(Stop::At(shape_of(sinks + place)));
         }
         joined[merge.first as usize] = true;
         joined[merge.second as usize] = true;
     }
-    Ok(None)
+    Ok(())
+}
+
+// The reason of a node that isn't as it has to be.
+fn shape_of(node: usize) -> Reason
+    requires { node ≤ 8193 }
+    ensures { result ≡ TreeShape node }
+{
+    Reason::TreeShape(node as u32)
 }
 
 // Whether a merge joins two of so many nodes that aren't marked, the lower number first.

@@ -1,4 +1,4 @@
-ghost use Rattle.std.specs.Prelude.{◌≡◌, ◌<◌, ◌≤◌, ◌+◌, ◌*◌, ◌^◌, ◌↔◌, ◌+ℤ◌, All, IsTrue, IsSomeAnd, length, slice_get};
+ghost use Rattle.std.specs.Prelude.{◌≡◌, ◌<◌, ◌≤◌, ◌+◌, ◌*◌, ◌^◌, ◌↔◌, ◌+ℤ◌, IsTrue, IsSomeAnd, Some, length, slice_get};
 ghost use Rattle.cts_model.specs.tree.Embeddings.{embedding_of};
 ghost use Rattle.cts_model.specs.report.Judgements.{IsReachShown};
 ghost use Rattle.cts_model.specs.placement.Points.{IsBelow, IsUvBelow, apart, rotated_distance};
@@ -7,144 +7,180 @@ ghost use Rattle.cts_model.specs.report.ReportBounds.{ShowsAmong};
 ghost use Rattle.cts_model.specs.report.ReportLines.{number_at};
 ghost use Rattle.cts_model.specs.tree.ShownReaches.{ShowsMerge, ShowsSource};
 ghost use Rattle.cts_model.specs.tree.Topologies.{numbers_below, root_of, source_of};
-ghost use Rattle.cert_check.specs.ReachParts.{ArePlaced, HasReachParts, IsMergeShown, IsPairPlaced, IsReachOver, IsSmallSink, IsSourceShown, ShowsPlaced};
-ghost use Rattle.cert_check.specs.SinkOrders.{IsSinkOrder};
+ghost use Rattle.cert_check.specs.SmallSinks.{IsSmallSink};
 
 use crate::down::{are_same, difference, sum};
+use crate::judge::Judge;
 use crate::order::SinkOrder;
-use cts_model::{Report, Show, Sink, Tree, Uv};
+use cts_model::{Merge, Show, Sink, Uv};
 
-/// Whether the reach of a merge or of the source is that of each node below it with the length of
-/// that one's edge, and its show gives it.
-pub(crate) fn is_reach_shown(
-    report: &Report,
-    sinks: &[Sink],
-    source: Uv,
-    order: &SinkOrder,
-    node: usize,
-) -> bool
-    requires parts { HasReachParts sinks.now report.now }
-    requires source { IsUvBelow (10 ^ 31) source }
-    requires order { IsSinkOrder (length sinks.now) report.now.topology.merges order.now }
-    requires above { length sinks.now ≤ node }
-    requires node { node < 2 * length sinks.now }
-    ensures { IsTrue result ↔ IsReachShown sinks.now report.now.topology.merges source
-        (embedding_of report.now.tree) (number_at report.now.tree.reach) report.now.shows node }
-{
-    if node + 1 == 2 * sinks.len() {
-        is_source_shown(report, sinks, source)
-    } else {
-        is_merge_shown(report, sinks, order, node - sinks.len())
+impl Judge<'_> {
+    ghost use Rattle.cert_check.specs.ReachParts.{IsMergeShown, IsPairPlaced, IsReachOver, IsSourceShown, ShowsPlaced};
+    ghost use Rattle.cert_check.specs.SinkOrders.{IsSinkOrder};
+
+    /// Whether the reach of a merge or of the source is that of each node below it with the length
+    /// of that one's edge, and its show gives it.
+    pub(crate) fn is_reach_shown(&self, order: &SinkOrder, node: usize) -> bool
+        requires order { IsSinkOrder (length self.now.sinks.now)
+            self.now.report.now.topology.merges order.now }
+        requires above { length self.now.sinks.now ≤ node }
+        requires node { node < 2 * length self.now.sinks.now }
+        ensures { IsTrue result ↔ IsReachShown self.now.sinks.now
+            self.now.report.now.topology.merges self.now.source
+            (embedding_of self.now.report.now.tree) (number_at self.now.report.now.tree.reach)
+            self.now.report.now.shows node }
+    {
+        let sinks = self.sinks.len();
+        if node + 1 == 2 * sinks {
+            self.is_source_shown()
+        } else {
+            self.is_merge_shown(order, node - sinks)
+        }
+    }
+
+    // Whether a merge's reach is that of both nodes that it joins, and its show gives it.
+    fn is_merge_shown(&self, order: &SinkOrder, place: usize) -> bool
+        requires order { IsSinkOrder (length self.now.sinks.now)
+            self.now.report.now.topology.merges order.now }
+        requires place { place < length self.now.report.now.topology.merges }
+        ensures { IsTrue result ↔ IsMergeShown self.now.sinks.now self.now.report.now place }
+    {
+        let merge = merge_at(self.report.topology.merges.as_slice(), place);
+        self.is_over_both(self.sinks.len() + place, merge) && self.shows_merge(order, place)
+    }
+
+    // Whether a node's reach is that of both nodes that a merge joins.
+    fn is_over_both(&self, node: usize, merge: Merge) -> bool
+        requires node { node < 2 * length self.now.sinks.now }
+        requires first { merge.first + 1 < 2 * length self.now.sinks.now }
+        requires second { merge.second + 1 < 2 * length self.now.sinks.now }
+        ensures { IsTrue result ↔ (IsReachOver self.now.report.now.tree node merge.first
+            × IsReachOver self.now.report.now.tree node merge.second) }
+    {
+        self.is_reach_over(node, merge.first as usize)
+            && self.is_reach_over(node, merge.second as usize)
+    }
+
+    // Whether the source's reach is that of the root, and its show gives it.
+    fn is_source_shown(&self) -> bool
+        ensures { IsTrue result
+            ↔ IsSourceShown self.now.sinks.now self.now.source self.now.report.now }
+    {
+        let source = 2 * self.sinks.len() - 1;
+        self.is_reach_over(source, source - 1) && self.shows_source()
+    }
+
+    // Whether the edge down to a node is as long as its reach and that of the node above differ.
+    fn is_reach_over(&self, node: usize, below: usize) -> bool
+        requires node { node < 2 * length self.now.sinks.now }
+        requires below { below + 1 < 2 * length self.now.sinks.now }
+        ensures { IsTrue result ↔ IsReachOver self.now.report.now.tree node below }
+    {
+        let length = self.report.tree.length.as_slice()[below];
+        are_same(length, difference(self.reach(node), self.reach(below)))
+    }
+
+    // The reach of a node.
+    fn reach(&self, node: usize) -> i128
+        requires { node < 2 * length self.now.sinks.now }
+        ensures value { result ≡ number_at self.now.report.now.tree.reach node }
+        ensures small { IsBelow (10 ^ 32) result }
+    {
+        self.report.tree.reach.as_slice()[node]
+    }
+
+    // Whether the show of a merge, of its own sinks, gives its reach.
+    fn shows_merge(&self, order: &SinkOrder, place: usize) -> bool
+        requires order { IsSinkOrder (length self.now.sinks.now)
+            self.now.report.now.topology.merges order.now }
+        requires place { place < length self.now.report.now.topology.merges }
+        ensures { IsTrue result ↔ IsSomeAnd (slice_get self.now.report.now.shows place)
+            (ShowsMerge self.now.sinks.now (numbers_below (length self.now.sinks.now)
+            self.now.report.now.topology.merges (length self.now.sinks.now + place))
+            (number_at self.now.report.now.tree.reach (length self.now.sinks.now + place))) }
+    {
+        self.gives_merge(
+            order,
+            self.sinks.len() + place,
+            self.report.shows.as_slice()[place],
+        )
+    }
+
+    // Whether a show, of sinks that are placed below a node, gives its reach.
+    fn gives_merge(&self, order: &SinkOrder, node: usize, show: Show) -> bool
+        requires order { IsSinkOrder (length self.now.sinks.now)
+            self.now.report.now.topology.merges order.now }
+        requires node { node + 1 < 2 * length self.now.sinks.now }
+        requires among { ShowsAmong (length self.now.sinks.now) show }
+        ensures { IsTrue result ↔ ShowsPlaced self.now.sinks.now order.now node
+            (number_at self.now.report.now.tree.reach node) show }
+    {
+        match show {
+            Show::Pair(first, second) => self.is_pair_placed(order, node, first, second),
+            Show::Sink(_) => false,
+            Show::Root => false,
+        }
+    }
+
+    // Whether twice a node's reach is the span of two sinks that are placed below it, in order.
+    fn is_pair_placed(&self, order: &SinkOrder, node: usize, first: u32, second: u32) -> bool
+        requires order { IsSinkOrder (length self.now.sinks.now)
+            self.now.report.now.topology.merges order.now }
+        requires node { node + 1 < 2 * length self.now.sinks.now }
+        requires first { first < length self.now.sinks.now }
+        requires second { second < length self.now.sinks.now }
+        ensures { IsTrue result ↔ IsPairPlaced self.now.sinks.now order.now node
+            (number_at self.now.report.now.tree.reach node) first second }
+    {
+        let reach = self.reach(node);
+        order.has_both_below(node, first, second)
+            && is_half_of_span(
+                reach,
+                self.sinks[first as usize],
+                self.sinks[second as usize],
+            )
+    }
+
+    // Whether the show of the source gives its reach.
+    fn shows_source(&self) -> bool
+        ensures { IsTrue result ↔ IsSomeAnd
+            (slice_get self.now.report.now.shows (length self.now.report.now.topology.merges))
+            (ShowsSource self.now.sinks.now self.now.source
+            (number_at self.now.report.now.tree.reach (root_of (length self.now.sinks.now)))
+            (number_at self.now.report.now.tree.reach (source_of (length self.now.sinks.now)))) }
+    {
+        let last = self.report.topology.merges.len();
+        self.gives_source(self.report.shows.as_slice()[last])
+    }
+
+    // Whether a show gives the reach of the source.
+    fn gives_source(&self, show: Show) -> bool
+        requires { ShowsAmong (length self.now.sinks.now) show }
+        ensures { IsTrue result ↔ ShowsSource self.now.sinks.now self.now.source
+            (number_at self.now.report.now.tree.reach (root_of (length self.now.sinks.now)))
+            (number_at self.now.report.now.tree.reach (source_of (length self.now.sinks.now)))
+            show }
+    {
+        let nodes = 2 * self.sinks.len();
+        let reach = self.reach(nodes - 1);
+        match show {
+            Show::Pair(_, _) => false,
+            Show::Sink(register) => is_reach_from(
+                reach,
+                self.source,
+                self.sinks[register as usize],
+            ),
+            Show::Root => are_same(reach, self.reach(nodes - 2)),
+        }
     }
 }
 
-// Whether a merge's reach is that of both nodes that it joins, and its show gives it.
-fn is_merge_shown(report: &Report, sinks: &[Sink], order: &SinkOrder, place: usize) -> bool
-    requires parts { HasReachParts sinks.now report.now }
-    requires order { IsSinkOrder (length sinks.now) report.now.topology.merges order.now }
-    requires place { place < length report.now.topology.merges }
-    ensures { IsTrue result ↔ IsMergeShown sinks.now report.now place }
+// The merge at a place.
+fn merge_at(merges: &[Merge], place: usize) -> Merge
+    requires { place < length merges.now }
+    ensures { slice_get merges.now place ≡ Some result }
 {
-    let merge = report.topology.merges.as_slice()[place];
-    let node = sinks.len() + place;
-    is_reach_over(&report.tree, node, merge.first as usize)
-        && is_reach_over(&report.tree, node, merge.second as usize)
-        && shows_merge(report, sinks, order, place)
-}
-
-// Whether the source's reach is that of the root, and its show gives it.
-fn is_source_shown(report: &Report, sinks: &[Sink], source: Uv) -> bool
-    requires parts { HasReachParts sinks.now report.now }
-    requires source { IsUvBelow (10 ^ 31) source }
-    ensures { IsTrue result ↔ IsSourceShown sinks.now source report.now }
-{
-    is_reach_over(&report.tree, 2 * sinks.len() - 1, 2 * sinks.len() - 2)
-        && shows_source(report, sinks, source)
-}
-
-// Whether the edge down to a node is as long as its reach and that of the node above differ.
-fn is_reach_over(tree: &Tree, node: usize, below: usize) -> bool
-    requires node { node < length tree.now.reach }
-    requires below { below < length tree.now.length }
-    requires reach { below < length tree.now.reach }
-    requires lengths { All (IsBelow (10 ^ 32)) tree.now.length }
-    requires reaches { All (IsBelow (10 ^ 32)) tree.now.reach }
-    ensures { IsTrue result ↔ IsReachOver tree.now node below }
-{
-    let reaches = tree.reach.as_slice();
-    tree.length.as_slice()[below] == difference(reaches[node], reaches[below])
-}
-
-// Whether the show of a merge, of its own sinks, gives its reach.
-fn shows_merge(report: &Report, sinks: &[Sink], order: &SinkOrder, place: usize) -> bool
-    requires parts { HasReachParts sinks.now report.now }
-    requires order { IsSinkOrder (length sinks.now) report.now.topology.merges order.now }
-    requires place { place < length report.now.topology.merges }
-    ensures { IsTrue result ↔ IsSomeAnd (slice_get report.now.shows place)
-        (ShowsMerge sinks.now (numbers_below (length sinks.now) report.now.topology.merges
-        (length sinks.now + place)) (number_at report.now.tree.reach (length sinks.now + place))) }
-{
-    let node = sinks.len() + place;
-    let reach = report.tree.reach.as_slice()[node];
-    gives_merge(report.shows.as_slice()[place], sinks, order, node, reach)
-}
-
-// Whether a show, of sinks that are placed below a node, gives its reach.
-fn gives_merge(show: Show, sinks: &[Sink], order: &SinkOrder, node: usize, reach: i128) -> bool
-    requires among { ShowsAmong (length sinks.now) show }
-    requires node { node < length order.now.sizes.items }
-    requires start { node < length order.now.starts.items }
-    requires all { length sinks.now ≤ length order.now.starts.items }
-    requires starts { All (IsBelow (10 ^ 36)) order.now.starts.items }
-    requires sizes { All (IsBelow (10 ^ 32)) order.now.sizes.items }
-    requires reach { IsBelow (10 ^ 32) reach }
-    requires sinks { All IsSmallSink sinks.now }
-    ensures { IsTrue result ↔ ShowsPlaced sinks.now order.now node reach show }
-{
-    match show {
-        Show::Pair(first, second) => is_pair_placed(sinks, order, node, reach, first, second),
-        Show::Sink(_) => false,
-        Show::Root => false,
-    }
-}
-
-// Whether twice a reach is the span of two sinks that are placed below a node, in order.
-fn is_pair_placed(
-    sinks: &[Sink],
-    order: &SinkOrder,
-    node: usize,
-    reach: i128,
-    first: u32,
-    second: u32,
-) -> bool
-    requires first { first < length sinks.now }
-    requires second { second < length sinks.now }
-    requires node { node < length order.now.sizes.items }
-    requires start { node < length order.now.starts.items }
-    requires all { length sinks.now ≤ length order.now.starts.items }
-    requires starts { All (IsBelow (10 ^ 36)) order.now.starts.items }
-    requires sizes { All (IsBelow (10 ^ 32)) order.now.sizes.items }
-    requires reach { IsBelow (10 ^ 32) reach }
-    requires sinks { All IsSmallSink sinks.now }
-    ensures { IsTrue result ↔ IsPairPlaced sinks.now order.now node reach first second }
-{
-    are_placed(order, node, first, second)
-        && is_half_of_span(reach, sinks[first as usize], sinks[second as usize])
-}
-
-// Whether two sinks are placed below a node, in order.
-fn are_placed(order: &SinkOrder, node: usize, first: u32, second: u32) -> bool
-    requires first { first < length order.now.starts.items }
-    requires second { second < length order.now.starts.items }
-    requires node { node < length order.now.sizes.items }
-    requires start { node < length order.now.starts.items }
-    requires starts { All (IsBelow (10 ^ 36)) order.now.starts.items }
-    requires sizes { All (IsBelow (10 ^ 32)) order.now.sizes.items }
-    ensures { IsTrue result ↔ ArePlaced order.now node first second }
-{
-    first <= second
-        && order.has_below(node, first as usize)
-        && order.has_below(node, second as usize)
+    merges[place]
 }
 
 // Whether twice a reach is the span of two sinks.
@@ -159,42 +195,6 @@ fn is_half_of_span(reach: i128, one: Sink, other: Sink) -> bool
         sum(reach, reach),
         sum(offsets, rotated_distance(one.at, other.at)),
     )
-}
-
-// Whether the show of the source gives its reach.
-fn shows_source(report: &Report, sinks: &[Sink], source: Uv) -> bool
-    requires parts { HasReachParts sinks.now report.now }
-    requires source { IsUvBelow (10 ^ 31) source }
-    ensures { IsTrue result ↔ IsSomeAnd
-        (slice_get report.now.shows (length report.now.topology.merges))
-        (ShowsSource sinks.now source
-        (number_at report.now.tree.reach (root_of (length sinks.now)))
-        (number_at report.now.tree.reach (source_of (length sinks.now)))) }
-{
-    let reaches = report.tree.reach.as_slice();
-    let root = reaches[2 * sinks.len() - 2];
-    let reach = reaches[2 * sinks.len() - 1];
-    gives_source(
-        report.shows.as_slice()[report.topology.merges.len()],
-        sinks,
-        source,
-        root,
-        reach,
-    )
-}
-
-// Whether a show gives the reach of a source.
-fn gives_source(show: Show, sinks: &[Sink], source: Uv, root: i128, reach: i128) -> bool
-    requires among { ShowsAmong (length sinks.now) show }
-    requires source { IsUvBelow (10 ^ 31) source }
-    requires sinks { All IsSmallSink sinks.now }
-    ensures { IsTrue result ↔ ShowsSource sinks.now source root reach show }
-{
-    match show {
-        Show::Pair(_, _) => false,
-        Show::Sink(register) => is_reach_from(reach, source, sinks[register as usize]),
-        Show::Root => are_same(reach, root),
-    }
 }
 
 // Whether a reach is a sink's offset and its distance from the source.

@@ -1,52 +1,73 @@
-ghost use Rattle.std.specs.Prelude.{◌≡◌, ◌<◌, ◌≤◌, ◌↔◌, IsTrue, Some, length, slice_get};
-ghost use Rattle.cts_model.specs.report.ReportBounds.{IsOfSize};
+ghost use Rattle.std.specs.Prelude.{◌≡◌, ◌<◌, ◌↔◌, IsTrue, Some, length, slice_get};
+ghost use Rattle.cts_model.specs.report.Judgements.{HasSlack, MeetsAt};
 ghost use Rattle.cts_model.specs.timing.Slacks.{AreSlacks};
-ghost use Rattle.cert_check.specs.Judged.{FindsFirst};
-ghost use Rattle.cert_check.specs.Verdicts.{SlacksFound};
-ghost use Rattle.cert_check.specs.ComparedSlacks.{AreOneSlack, HasOneSlack, HasSlackRoom, IsFromZero, SparesTime};
+ghost use Rattle.cert_check.specs.ComparedSlacks.{AreOneSlack, HasSlackRoom, IsFromZero};
 
-use crate::Reason;
+use crate::judge::Judge;
+use crate::verdict::{Reason, Stop};
 use cts_base::Fraction;
-use cts_model::{Problem, Report, Slack};
+use cts_model::Slack;
 
-/// The first register whose printed slacks aren't what it has to spare, if any.
-pub(crate) fn judge_slacks(problem: &Problem, report: &Report, slacks: &[Slack]) -> Option<Reason>
-    requires size { IsOfSize problem.now.circuit report.now }
-    requires slacks { AreSlacks problem.now.circuit problem.now.tech report.now.period
-        report.now.schedule slacks.now }
-    ensures { SlacksFound problem.now report.now result }
-{
-    match first_different(report.slacks.as_slice(), slacks) {
-        Some(register) => Some(Reason::SlackDiffers(register)),
-        None => None,
-    }
-}
+impl Judge<'_> {
+    ghost use Rattle.cert_check.specs.declared.verdict.Reason.TheVariants.{ScheduleMisses, SlackDiffers};
+    ghost use Rattle.cert_check.specs.Judged.{Judges};
 
-/// The first register that has less than nothing to spare.
-pub(crate) fn first_missed(slacks: &[Slack]) -> Option<u32>
-    requires few { length slacks.now ≤ 4097 }
-    ensures { FindsFirst (length slacks.now) (SparesTime slacks.now) result }
-{
-    for register in 0..slacks.len() {
-        if !has_room(slack_at(slacks, register)) {
-            return Some(register as u32);
+    /// Whether the paths that end at each register meet the period, by the slacks that there are.
+    pub(crate) fn judge_schedule(&self, slacks: &[Slack]) -> Result<(), Stop>
+        requires { AreSlacks self.now.problem.now.circuit self.now.problem.now.tech
+            self.now.report.now.period self.now.report.now.schedule slacks.now }
+        ensures { Judges (length self.now.problem.now.circuit.registers)
+            (MeetsAt self.now.problem.now.circuit self.now.problem.now.tech
+            self.now.report.now.period self.now.report.now.schedule.at) ScheduleMisses result }
+    {
+        for register in 0..slacks.len() {
+            if !self.meets(slacks, register) {
+                return Err(Stop::At(Reason::ScheduleMisses(register as u32)));
+            }
         }
+        Ok(())
     }
-    None
-}
 
-/// The first register whose slacks differ in two lists.
-pub(crate) fn first_different(printed: &[Slack], slacks: &[Slack]) -> Option<u32>
-    requires few { length slacks.now ≤ 4097 }
-    requires all { length printed.now ≡ length slacks.now }
-    ensures { FindsFirst (length slacks.now) (HasOneSlack printed.now slacks.now) result }
-{
-    for register in 0..slacks.len() {
-        if !are_one_slack(slack_at(printed, register), slack_at(slacks, register)) {
-            return Some(register as u32);
-        }
+    // Whether the paths that end at a register meet the period.
+    fn meets(&self, slacks: &[Slack], register: usize) -> bool
+        requires slacks { AreSlacks self.now.problem.now.circuit self.now.problem.now.tech
+            self.now.report.now.period self.now.report.now.schedule slacks.now }
+        requires register { register < length slacks.now }
+        ensures { IsTrue result ↔ MeetsAt self.now.problem.now.circuit self.now.problem.now.tech
+            self.now.report.now.period self.now.report.now.schedule.at register }
+    {
+        has_room(slack_at(slacks, register))
     }
-    None
+
+    /// Whether the printed slacks of each register are those that there are.
+    pub(crate) fn judge_slacks(&self, slacks: &[Slack]) -> Result<(), Stop>
+        requires { AreSlacks self.now.problem.now.circuit self.now.problem.now.tech
+            self.now.report.now.period self.now.report.now.schedule slacks.now }
+        ensures { Judges (length self.now.problem.now.circuit.registers)
+            (HasSlack self.now.problem.now.circuit self.now.problem.now.tech
+            self.now.report.now.period self.now.report.now.schedule.at
+            self.now.report.now.slacks) SlackDiffers result }
+    {
+        for register in 0..slacks.len() {
+            if !self.prints_slack(slacks, register) {
+                return Err(Stop::At(Reason::SlackDiffers(register as u32)));
+            }
+        }
+        Ok(())
+    }
+
+    // Whether the printed slacks of a register are those that it has.
+    fn prints_slack(&self, slacks: &[Slack], register: usize) -> bool
+        requires slacks { AreSlacks self.now.problem.now.circuit self.now.problem.now.tech
+            self.now.report.now.period self.now.report.now.schedule slacks.now }
+        requires register { register < length slacks.now }
+        ensures { IsTrue result ↔ HasSlack self.now.problem.now.circuit self.now.problem.now.tech
+            self.now.report.now.period self.now.report.now.schedule.at
+            self.now.report.now.slacks register }
+    {
+        let printed = slack_at(self.report.slacks.as_slice(), register);
+        are_one_slack(printed, slack_at(slacks, register))
+    }
 }
 
 // The slacks of a register.

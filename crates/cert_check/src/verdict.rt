@@ -1,3 +1,9 @@
+ghost use Rattle.std.specs.Prelude.{◌≡◌};
+ghost use Rattle.cert_check.specs.declared.verdict.Stop.TheVariants as stop;
+
+use cts_base::NoMemory;
+use std::alloc::AllocError;
+
 /// What a report comes to.
 #[derive(Clone, Copy, Debug, PartialEq, Eq)]
 pub enum Verdict {
@@ -42,4 +48,29 @@ pub enum Reason {
     PathBroken(u32),
     /// The arrival at this register is negative, or its lead doesn't show that none is earlier.
     NotLeast(u32),
+}
+
+/// What stops the judgement of a report.
+#[derive(Clone, Copy, Debug)]
+pub(crate) enum Stop {
+    /// It doesn't show what it says, for this reason.
+    At(Reason),
+    /// Memory was refused.
+    NoMemory,
+}
+
+impl From<NoMemory> for Stop {
+    ghost from_gives = { λ _ given. given ≡ stop.NoMemory };
+
+    fn from(_refused: NoMemory) -> Stop {
+        Stop::NoMemory
+    }
+}
+
+impl From<AllocError> for Stop {
+    ghost from_gives = { λ _ given. given ≡ stop.NoMemory };
+
+    fn from(_refused: AllocError) -> Stop {
+        Stop::NoMemory
+    }
 }

@@ -13,10 +13,8 @@ returns c =
     let steps = c.in_ok-steps.steps.items in
     let starts = c.in_ok-starts.starts.items in
     record {
-      starts = c.in_ok-starts.ensures.all;
+      topology = c.requires.topology;
       sizes = omega (arith, c.in_ok-sizes.ensures.all, c.requires.topology.all);
-      small_starts = c.in_ok-starts.ensures.small;
-      small_sizes = c.in_ok-sizes.ensures.small;
       below = placed_below c.requires.topology (number_at sizes) (number_at steps)
           (number_at starts) c.in_ok-sizes.ensures.sizes
           (subst (λ sizes. AreSteps merges (number_at sizes) (number_at steps))

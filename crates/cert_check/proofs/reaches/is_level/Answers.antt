@@ -3,7 +3,8 @@ use Rattle.std.proofs.Common.{◌^◌, pos, arith}
 use Rattle.std.proofs.lemmas.Int.{ints}
 use Rattle.cts_model.specs.declared.place.Sink.{Sink}
 use Rattle.cts_model.specs.report.ReportLines.{number_at}
-use Rattle.cert_check.proofs.ShowLemmas.{kept_below, denotes_level}
+use Rattle.cert_check.proofs.ReachLemmas.{denotes_level}
+use Rattle.cert_check.proofs.ShowLemmas.{kept_below}
 use Rattle.cert_check.proofs.reaches.is_level.Goals as goal
 
 pub difference-requires-clause-one : goal.difference-requires-clause-one

@@ -1,0 +1,76 @@
+-- The constraints of tight leads, lead by lead.
+use Rattle.std.proofs.Common.{◌≡◌, ◌<◌, ◌+◌, ◌↔◌, ℕ, zero, suc, Bool, IsTrue, List, [], ◌∷◌, ◌++◌, All, length, take, get_or, Some, refl, ap, subst, ◌∙◌, arith}
+use Rattle.std.specs.Prelude.{IfSome, slice_get}
+use Rattle.std.proofs.lemmas.List.{take_more}
+use Rattle.std.proofs.lemmas.List.Elements.{All-cons, All-head, All-nil, All-tail}
+use Rattle.cts_model.specs.declared.circuit.Circuit.{Circuit}
+use Rattle.cts_model.specs.declared.constraint.Constraint.{Constraint}
+use Rattle.cts_model.specs.declared.schedule.Lead.{Lead}
+use Rattle.cts_model.specs.declared.schedule.Lead.TheVariants.{Zero, Tight}
+use Rattle.cts_model.specs.declared.tech.Tech.{Tech}
+use Rattle.cts_model.specs.timing.Constraints.{IsConstraintOf}
+use Rattle.cts_model.specs.report.Judgements.{IsOfCircuit}
+use Rattle.cts_model.specs.report.ReportBounds.{IsBetweenRegisters, LeadsAmong}
+use Rattle.cert_check.specs.TightLeads.{IsTested, tight_constraints}
+
+-- how many constraints the leads before a register have
+abbrev pub tight_before : List Lead → (register : ℕ) → ℕ
+tight_before leads register = length (tight_constraints (take register leads))
+
+-- one lead more
+tight_append : (leads more : List Lead)
+    → tight_constraints (leads ++ more) ≡ tight_constraints leads ++ tight_constraints more
+tight_append [] more = refl
+tight_append (Zero ∷ leads) more = tight_append leads more
+tight_append (Tight depth constraint ∷ leads) more =
+    ap (λ constraints. constraint ∷ constraints) (tight_append leads more)
+
+pub tight_more : (leads : List Lead) (register : ℕ) (default : Lead) → register < length leads
+    → tight_constraints (take (register + 1) leads)
+    ≡ tight_constraints (take register leads)
+    ++ tight_constraints (get_or leads register default ∷ [])
+tight_more leads register default low = ap tight_constraints (take_more leads register default low)
+    ∙ tight_append (take register leads) (get_or leads register default ∷ [])
+
+-- the constraint of a tight lead stands where those before end
+tight_here : (leads : List Lead) (register depth : ℕ) (constraint : Constraint)
+    → register < length leads → get_or leads register Zero ≡ Tight depth constraint
+    → slice_get (tight_constraints leads) (tight_before leads register) ≡ Some constraint
+tight_here [] register depth constraint low is = absurd (omega arith)
+tight_here (Zero ∷ leads) zero depth constraint low is = absurd (cc is)
+tight_here (Tight d other ∷ leads) zero depth constraint low is =
+    let same : other ≡ constraint = cc is in ap Some same
+tight_here (Zero ∷ leads) (suc register) depth constraint low is =
+    tight_here leads register depth constraint (omega arith) is
+tight_here (Tight d other ∷ leads) (suc register) depth constraint low is =
+    tight_here leads register depth constraint (omega arith) is
+
+-- so a test of the constraint there is one of the lead's
+pub tight_tested : (circuit : Circuit) (tech : Tech) (leads : List Lead) (register : ℕ)
+    → register < length leads → (given : Bool)
+    → IsTrue given
+    ↔ IsOfCircuit circuit tech (tight_constraints leads) (tight_before leads register)
+    → IsTested circuit tech (get_or leads register Zero) given
+tight_tested circuit tech leads register low given says = at (get_or leads register Zero) refl
+  where
+    at : (lead : Lead) → get_or leads register Zero ≡ lead → IsTested circuit tech lead given
+    at Zero is = tt
+    at (Tight depth constraint) is = subst (λ found. IsTrue given
+        ↔ IfSome found (IsConstraintOf circuit tech))
+        (tight_here leads register depth constraint low is) says
+
+-- what all constraints of tight leads are, by the leads
+tight_all : (P : Constraint → Type 0) (Q : Lead → Type 0)
+    → ((depth : ℕ) (constraint : Constraint) → Q (Tight depth constraint) → P constraint)
+    → (leads : List Lead) → All Q leads → All P (tight_constraints leads)
+tight_all P Q each [] all = All-nil P
+tight_all P Q each (Zero ∷ leads) all = tight_all P Q each leads (All-tail Q Zero leads all)
+tight_all P Q each (Tight depth constraint ∷ leads) all =
+    All-cons P constraint (tight_constraints leads)
+    (each depth constraint (All-head Q (Tight depth constraint) leads all))
+    (tight_all P Q each leads (All-tail Q (Tight depth constraint) leads all))
+
+pub tight_among : (registers : ℕ) (leads : List Lead) → All (LeadsAmong registers) leads
+    → All (IsBetweenRegisters registers) (tight_constraints leads)
+tight_among registers =
+    tight_all (IsBetweenRegisters registers) (LeadsAmong registers) (λ depth constraint among. among)

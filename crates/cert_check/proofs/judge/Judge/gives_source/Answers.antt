@@ -1,0 +1,45 @@
+-- Each kind of show.
+use Rattle.std.proofs.Common.{◌≡◌, ◌↔◌, ◌<◌, ◌+ℤ◌, IsTrue, length, pos, get_or, sym, subst, ◌∙◌, arith}
+use mir.Syntax.{w128}
+use Rattle.std.proofs.lemmas.Bool.{false≢true}
+use Rattle.std.proofs.lemmas.Int.{ints, to_z-of_z}
+use Rattle.cts_model.specs.declared.place.Sink.{Sink}
+use Rattle.cts_model.specs.placement.Points.{rotated_distance}
+use Rattle.cts_model.specs.report.ReportLines.{number_at}
+use Rattle.cts_model.specs.tree.Topologies.{source_of}
+use Rattle.cert_check.proofs.ShowLemmas.{denotes_found}
+use Rattle.cert_check.proofs.judge.Judge.gives_source.Goals as goal
+
+pub returns-in-Pair : goal.returns-in-Pair
+returns-in-Pair c = rw c.in-Pair.is (λ holds. absurd (false≢true holds), λ shown. absurd shown)
+
+pub returns-in-Sink : goal.returns-in-Sink
+returns-in-Sink c =
+    let none : Sink = record { at = record { u = pos 0; v = pos 0 }; offset = pos 0 } in
+    let self = c.args.self.now in
+    let sinks = self.sinks.now in
+    let register = c.in-Sink.register in
+    let low : register < length sinks = rw c.in-Sink.is at c.requires in
+    let small = c.reach-reach.ensures.small in
+    let plain = to_z-of_z w128 c.reach-reach.result
+    (omega (arith, ints, small.above, small.below)) ∙ c.reach-reach.ensures.value in
+    let denotes = subst (λ z. IsTrue c.is_reach_from.result
+    ↔ (z ≡ (get_or sinks register none).offset
+    +ℤ rotated_distance self.source (get_or sinks register none).at)) plain
+    c.is_reach_from.ensures in
+    rw c.in-Sink.is (denotes_found (λ sink. number_at self.report.now.tree.reach
+    (source_of (length sinks)) ≡ sink.offset +ℤ rotated_distance self.source sink.at)
+    sinks register none c.is_reach_from.result low denotes)
+
+pub returns-in-Root : goal.returns-in-Root
+returns-in-Root c =
+    let small = c.reach-reach.ensures.small in
+    let plain = to_z-of_z w128 c.reach-reach.result
+    (omega (arith, ints, small.above, small.below)) ∙ c.reach-reach.ensures.value in
+    let also_small = c.reach.ensures.small in
+    let also_plain = to_z-of_z w128 c.reach.result
+    (omega (arith, ints, also_small.above, also_small.below)) ∙ c.reach.ensures.value in
+    rw c.in-Root.is (
+      λ holds. sym plain ∙ c.are_same.ensures.0 holds ∙ also_plain,
+      λ same. c.are_same.ensures.1 (plain ∙ same ∙ sym also_plain),
+    )

@@ -1,0 +1,33 @@
+-- The wire is drawn from the listed parent.
+use Rattle.std.proofs.Common.{◌≡◌, pos, [], get_or, to_z, of_z, arith}
+use mir.Syntax.{w128}
+use Rattle.std.proofs.lemmas.Int.{ints}
+use Rattle.std.proofs.lemmas.Option.{slice_get-get_or}
+use Rattle.cts_model.specs.declared.tree.Wire.{Wire}
+use Rattle.cts_model.specs.tree.Embeddings.{embedding_of}
+use Rattle.cert_check.proofs.EdgeLemmas.{drawn_same}
+use Rattle.cert_check.proofs.judge.Judge.is_drawn_edge.Goals as goal
+
+pub returns : goal.returns
+returns c =
+    let self = c.args.self.now in
+    let tree = self.report.now.tree in
+    let edge = c.args.edge in
+    let within = c.requires.edge in
+    let all = c.requires.parents.all in
+    let kept : to_z w128 (of_z w128 (get_or tree.length edge (pos 0))) ≡ get_or tree.length edge
+    (pos 0) =
+    omega (
+      arith,
+      ints,
+      self.tree.lengths edge (pos 0) (omega (arith, within, all, self.count, self.size.lengths)),
+    ) in
+    let is = rw (c.as_slice-places.ensures, c.as_slice.ensures, c.as_slice-2.ensures, kept) at c.is_drawn.ensures in
+    let none : Wire = record { corners = []; used = 0 } in
+    let here = slice_get-get_or self.report.now.wires edge none
+    (omega (arith, within, all, self.count, self.size.wires)) in
+    let law = drawn_same c.args.parents.now c.requires.parents edge within (embedding_of tree)
+    self.report.now.wires (get_or self.report.now.wires edge none) here in (
+      λ test. law.0 (is.0 test),
+      λ drawn. is.1 (law.1 drawn),
+    )

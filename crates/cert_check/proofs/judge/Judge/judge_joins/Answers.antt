@@ -1,0 +1,23 @@
+-- One constraint more.
+use Rattle.std.proofs.Common.{◌<◌, rules, IsTrue, ap, length, arith}
+use Rattle.cert_check.proofs.FirstPlaces.{at_place}
+use Rattle.cert_check.proofs.TailLemmas.{walked_next}
+use Rattle.cert_check.proofs.judge.Judge.judge_joins.Goals as goal
+
+pub holds_together-requires-clause-tails : goal.holds_together-requires-clause-tails
+holds_together-requires-clause-tails c place default within =
+    let low = (c.args.self.now.among place default within).tail in
+    let long = c.loop-place.invariant.long in
+    omega (arith, low, long, ap length c.as_slice.ensures.value)
+
+pub loop-place-preserved : goal.loop-place-preserved
+loop-place-preserved c =
+    let self = c.args.self.now in
+    let registers = length self.problem.now.circuit.registers in
+    let holds : IsTrue c.holds_together.result = search rules in
+    walked_next registers self.cycle.now c.loop-place.place c.loop-place.seen.items
+    c.constraint_at-tail.result c.constraint_at-tail.ensures
+    (at_place (λ constraint. constraint.tail < registers) self.cycle.now c.loop-place.place
+    c.constraint_at-tail.result
+    (λ place default within. (self.among place default within).tail)
+    c.constraint_at-tail.ensures) c.loop-place.invariant (c.holds_together.ensures.0 holds)

@@ -1,0 +1,115 @@
+-- The test of a tight lead is that of its constraint.
+use Rattle.std.proofs.Common.{◌≡◌, ◌↔◌, ◌∷◌, [], All, IsTrue, length, take, get_or, refl, rules, ap, subst, sym, ◌∙◌, arith}
+use Rattle.std.proofs.lemmas.List.{length-append}
+use Rattle.cts_model.specs.declared.schedule.Lead.TheVariants.{Zero}
+use Rattle.cts_model.specs.report.Judgements.{IsEarliest, IsOfCircuit}
+use Rattle.cts_model.specs.report.ReportBounds.{IsBetweenRegisters}
+use Rattle.cert_check.specs.TightLeads.{tight_constraints}
+use Rattle.cert_check.proofs.FirstPlaces.{denied, each_more}
+use Rattle.cert_check.proofs.JudgeFacts.{listed_count, listed_second, second_count}
+use Rattle.cert_check.proofs.TightLemmas.{tight_among, tight_more, tight_tested}
+use Rattle.cert_check.proofs.judge.Judge.judge_leads.Goals as goal
+
+pub delays_of-requires-clause-among : goal.delays_of-requires-clause-among
+delays_of-requires-clause-among c =
+    let self = c.args.self.now in
+    let registers = length self.problem.now.circuit.registers in
+    subst (All (IsBetweenRegisters registers))
+    (sym (c.as_slice.ensures.value ∙ c.in_ok-constraints.ensures
+    ∙ ap tight_constraints c.as_slice-leads.ensures))
+    (tight_among registers self.report.now.leads self.size.each_lead)
+
+pub is_earliest-requires-clause-given : goal.is_earliest-requires-clause-given
+is_earliest-requires-clause-given c =
+    let problem = c.args.self.now.problem.now in
+    let leads = c.args.self.now.report.now.leads in
+    let test = c.is_given-given.result in
+    tight_tested problem.circuit problem.tech leads c.loop-register.register
+    (rw c.as_slice-leads.ensures at c.loop-register-test.true) test
+    (subst (λ place. IsTrue test ↔ IsOfCircuit problem.circuit problem.tech
+    (tight_constraints leads) place) c.loop-register.invariant.passed
+    (subst (λ constraints. IsTrue test ↔ IsOfCircuit problem.circuit problem.tech constraints
+    c.loop-register.tight)
+    (c.as_slice-in-loop-register.ensures.value ∙ c.in_ok-constraints.ensures
+    ∙ ap tight_constraints c.as_slice-leads.ensures) c.is_given-given.ensures))
+
+pub loop-register-init : goal.loop-register-init
+loop-register-init c = record {
+  passed = refl;
+  few = omega arith;
+  each = λ place low. absurd (omega arith);
+}
+
+pub loop-register-preserved : goal.loop-register-preserved
+loop-register-preserved c =
+    let problem = c.args.self.now.problem.now in
+    let report = c.args.self.now.report.now in
+    let leads = report.leads in
+    let register = c.loop-register.register in
+    let before = c.loop-register.invariant in
+    let low = rw c.as_slice-leads.ensures at c.loop-register-test.true in
+    let count = rw c.as_slice-leads.ensures at c.constraint_count-tight.ensures.value in
+    let more = ap length (tight_more leads register Zero low) in
+    record {
+      passed = omega (
+        arith,
+        before.passed,
+        count,
+        more,
+        length-append (tight_constraints (take register leads))
+            (tight_constraints (get_or leads register Zero ∷ [])),
+      );
+      few = omega (arith, before.few, c.constraint_count-tight.ensures.small);
+      each = each_more (IsEarliest problem.circuit problem.tech report.period report.schedule.at
+          leads) register before.each (c.is_earliest.ensures.0 c.if-not-is_earliest.false);
+    }
+
+pub returns-then-is_empty : goal.returns-then-is_empty
+returns-then-is_empty c place within second =
+    let self = c.args.self.now in
+    let report = self.report.now in
+    let none : length c.as_slice-leads.result.now ≡ 0 = search rules in
+    absurd (omega (
+      arith,
+      within,
+      none,
+      ap length c.as_slice-leads.ensures,
+      second_count report.version (length self.problem.now.circuit.registers)
+          (length report.leads) self.size.leads second,
+    ))
+
+pub returns-then-not-is_earliest : goal.returns-then-not-is_earliest
+returns-then-not-is_earliest c =
+    let self = c.args.self.now in
+    let problem = self.problem.now in
+    let report = self.report.now in
+    let register = c.loop-register.register in
+    let registers = length problem.circuit.registers in
+    let low = rw c.as_slice-leads.ensures at c.loop-register-test.true in
+    let second = listed_second report.version registers (length report.leads) register
+    self.size.leads low in
+    let count = listed_count report.version registers (length report.leads) register
+    self.size.leads low in (
+      register,
+      record {
+        within = omega (arith, low, count);
+        fails = λ holds. denied (IsEarliest problem.circuit problem.tech report.period
+            report.schedule.at report.leads register) c.is_earliest.result c.is_earliest.ensures
+            c.if-not-is_earliest.true (holds second);
+        before = λ place earlier also. c.loop-register.invariant.each place earlier;
+      },
+      refl,
+    )
+
+pub returns : goal.returns
+returns c place within second =
+    let self = c.args.self.now in
+    let report = self.report.now in
+    c.loop-register.invariant.each place (omega (
+      arith,
+      within,
+      c.loop-register-test.false,
+      ap length c.as_slice-leads.ensures,
+      second_count report.version (length self.problem.now.circuit.registers)
+          (length report.leads) self.size.leads second,
+    ))

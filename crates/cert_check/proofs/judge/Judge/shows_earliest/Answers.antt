@@ -1,0 +1,20 @@
+-- The lead is the register's.
+use Rattle.std.proofs.Common.{◌↔◌, IsTrue, subst, sym, ◌∙◌}
+use Rattle.cts_model.specs.timing.Constraints.{IsConstraintOf}
+use Rattle.cts_model.specs.timing.Leads.{ShowsEarliest}
+use Rattle.cert_check.specs.TightLeads.{IsTested}
+use Rattle.cert_check.proofs.judge.Judge.shows_earliest.Goals as goal
+
+pub is_led-requires-clause-given : goal.is_led-requires-clause-given
+is_led-requires-clause-given c =
+    let problem = c.args.self.now.problem.now in
+    subst (λ lead. IsTested problem.circuit problem.tech lead c.args.given)
+    (sym c.lead.ensures.value ∙ c.in-Tight.is) c.requires.given
+
+pub returns-in-Tight : goal.returns-in-Tight
+returns-in-Tight c =
+    let problem = c.args.self.now.problem.now in
+    let report = c.args.self.now.report.now in
+    subst (λ lead. IsTrue c.is_led.result ↔ ShowsEarliest (IsConstraintOf problem.circuit
+    problem.tech) report.period report.schedule.at report.leads c.args.register lead)
+    (sym (sym c.lead.ensures.value ∙ c.in-Tight.is)) c.is_led.ensures

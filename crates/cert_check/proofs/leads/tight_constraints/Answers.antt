@@ -1,0 +1,14 @@
+-- One lead more.
+use Rattle.std.proofs.Common.{◌++◌, ◌∷◌, [], get_or, ap, sym, ◌∙◌}
+use Rattle.cts_model.specs.declared.schedule.Lead.TheVariants.{Zero}
+use Rattle.cert_check.specs.TightLeads.{tight_constraints}
+use Rattle.cert_check.proofs.TightLemmas.{tight_more}
+use Rattle.cert_check.proofs.leads.tight_constraints.Goals as goal
+
+pub loop-lead-preserved : goal.loop-lead-preserved
+loop-lead-preserved c =
+    let leads = c.args.leads.now in
+    let index = c.loop-lead.lead-index in
+    c.in_ok-push_constraint.ensures
+    ∙ ap (λ constraints. constraints ++ tight_constraints (get_or leads index Zero ∷ []))
+    c.loop-lead.invariant ∙ sym (tight_more leads index Zero c.loop-lead-test.true)

@@ -1,0 +1,20 @@
+-- The constraints of tight leads.
+use Rattle.std.specs.Prelude.{◌↔◌, Bool, IsTrue, List, [], ◌∷◌}
+use Rattle.cts_model.specs.declared.circuit.Circuit.{Circuit}
+use Rattle.cts_model.specs.declared.constraint.Constraint.{Constraint}
+use Rattle.cts_model.specs.declared.schedule.Lead.{Lead}
+use Rattle.cts_model.specs.declared.schedule.Lead.TheVariants.{Zero, Tight}
+use Rattle.cts_model.specs.declared.tech.Tech.{Tech}
+use Rattle.cts_model.specs.timing.Constraints.{IsConstraintOf}
+
+-- the constraints of those leads that have one
+abbrev pub tight_constraints : List Lead → List Constraint
+tight_constraints [] = []
+tight_constraints (Zero ∷ leads) = tight_constraints leads
+tight_constraints (Tight depth constraint ∷ leads) = constraint ∷ tight_constraints leads
+
+-- the test says whether the lead's constraint is one of the circuit
+abbrev pub IsTested : Circuit → Tech → Lead → (given : Bool) → Type 0
+IsTested circuit tech Zero given = Unit {0}
+IsTested circuit tech (Tight depth constraint) given =
+    IsTrue given ↔ IsConstraintOf circuit tech constraint

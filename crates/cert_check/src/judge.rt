@@ -1,0 +1,37 @@
+ghost use Rattle.std.specs.Prelude.{◌≡◌, ◌≤◌, ◌^◌, All, length};
+ghost use Rattle.cts_model.specs.placement.Points.{IsBelow, IsUvBelow};
+ghost use Rattle.cts_model.specs.report.ReportBounds.{HasSmallWeight, HasSmallWeights, HasTreeBounds, IsBetweenRegisters, IsOfSize, IsSmallLead, cycle_length};
+ghost use Rattle.cts_model.specs.timing.Schedules.{IsSmallPeriod};
+ghost use Rattle.cert_check.specs.SmallSinks.{IsSmallSink};
+ghost use Rattle.cert_check.specs.OneProof.{leads_prop, size_prop, tree_prop, weights_prop};
+
+use cts_model::{Constraint, Problem, Report, Sink, Uv};
+
+/// A report of a problem, as it is judged.
+#[derive(Clone, Copy)]
+pub(crate) struct Judge<'a> {
+    pub(crate) problem: &'a Problem,
+    pub(crate) report: &'a Report,
+    /// The constraints of the cycle that is shown, and none for the floor.
+    pub(crate) cycle: &'a [Constraint],
+    /// The registers as the report's tree has them.
+    pub(crate) sinks: &'a [Sink],
+    /// Where the source has to stand, in rotated coordinates.
+    pub(crate) source: Uv,
+    pub(crate) ghost size: { IsOfSize problem.now.circuit report.now } by { size_prop problem.now.circuit report.now },
+    pub(crate) ghost period: { IsSmallPeriod report.now.period },
+    pub(crate) ghost weights: { HasSmallWeights report.now.shown } by { weights_prop report.now.shown },
+    pub(crate) ghost arrivals: { All (IsBelow (10 ^ 19)) report.now.schedule.at },
+    pub(crate) ghost paths: { All (λ path. length path ≤ 65536) report.now.paths },
+    pub(crate) ghost leads: { All IsSmallLead report.now.leads } by { leads_prop report.now.leads },
+    pub(crate) ghost tree: { HasTreeBounds problem.now.tech report.now } by { tree_prop problem.now.tech report.now },
+    pub(crate) ghost among: { All (IsBetweenRegisters (length problem.now.circuit.registers))
+        cycle.now },
+    pub(crate) ghost light: { All HasSmallWeight cycle.now },
+    pub(crate) ghost short: { length cycle.now ≤ 9999 },
+    pub(crate) ghost long: { length cycle.now ≡ cycle_length report.now.shown },
+    pub(crate) ghost count: { length sinks.now ≡ length problem.now.circuit.registers },
+    pub(crate) ghost few: { length sinks.now ≤ 4097 },
+    pub(crate) ghost small: { All IsSmallSink sinks.now },
+    pub(crate) ghost near: { IsUvBelow (10 ^ 31) source },
+}

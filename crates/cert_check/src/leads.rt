@@ -1,0 +1,230 @@
+ghost use Rattle.std.specs.Prelude.{◌≡◌, ◌<◌, ◌≤◌, ◌↔◌, ◌^◌, ◌++◌, ◌∷◌, [], pos, ◌-ℤ◌, ◌*ℤ◌, IfOk, IsTrue, length};
+ghost use Rattle.cts_model.specs.timing.Constraints.{IsConstraintOf, count_of};
+ghost use Rattle.cts_model.specs.report.Judgements.{IsEarliest};
+ghost use Rattle.cts_model.specs.timing.Leads.{IsLedBy, IsTight, ShowsEarliest, depth_of, lead_at};
+ghost use Rattle.cts_model.specs.placement.Points.{IsBelow};
+ghost use Rattle.cts_model.specs.report.ReportBounds.{HasSmallWeight, IsBetweenRegisters, IsSmallLead, LeadsAmong};
+ghost use Rattle.cts_model.specs.timing.Schedules.{IsSmallPeriod, arrival_of};
+ghost use Rattle.path_delays.specs.LevelParts.{IsLevelsOf};
+ghost use Rattle.cert_check.specs.TightLeads.{IsTested, tight_constraints};
+
+use crate::judge::Judge;
+use crate::product::{are_same, difference, product};
+use crate::value::count_of;
+use crate::verdict::{Reason, Stop};
+use cts_base::{Fraction, NoMemory};
+use cts_model::{Constraint, Lead};
+use path_delays::Levels;
+use std::alloc::Global;
+
+impl Judge<'_> {
+    ghost use Rattle.cts_model.specs.declared.report.Version.TheVariants.{Second};
+    ghost use Rattle.cert_check.specs.declared.verdict.Reason.TheVariants.{NotLeast};
+    ghost use Rattle.cert_check.specs.Judged.{Judges};
+
+    /// Whether each arrival is from 0 on, and its lead, if it is printed, shows that none is
+    /// earlier.
+    pub(crate) fn judge_leads(&self, alloc: Global, levels: &Levels) -> Result<(), Stop>
+        requires { IsLevelsOf self.now.problem.now.circuit levels.now }
+        ensures { Judges (length self.now.problem.now.circuit.registers)
+            (λ register. self.now.report.now.version ≡ Second
+            → IsEarliest self.now.problem.now.circuit self.now.problem.now.tech
+            self.now.report.now.period self.now.report.now.schedule.at self.now.report.now.leads
+            register) NotLeast result }
+    {
+        let leads = self.report.leads.as_slice();
+        if leads.is_empty() {
+            return Ok(());
+        }
+        let constraints = tight_constraints(alloc, leads)?;
+        let delays = self.delays_of(alloc, levels, constraints.as_slice())?;
+        let mut tight = 0;
+        for register in 0..leads.len() {
+            let given = self.is_given(constraints.as_slice(), delays.as_slice(), tight);
+            if !self.is_earliest(register, given) {
+                return Err(Stop::At(Reason::NotLeast(register as u32)));
+            }
+            tight += constraint_count(leads[register]);
+        }
+        Ok(())
+    }
+
+    // Whether a register's arrival isn't below 0, and its lead shows that none is earlier, where a
+    // test says whether the lead's constraint is one of the circuit.
+    fn is_earliest(&self, register: usize, given: bool) -> bool
+        requires register { register < length self.now.report.now.leads }
+        requires given { IsTested self.now.problem.now.circuit self.now.problem.now.tech
+            (lead_at self.now.report.now.leads register) given }
+        ensures { IsTrue result ↔ IsEarliest self.now.problem.now.circuit
+            self.now.problem.now.tech self.now.report.now.period self.now.report.now.schedule.at
+            self.now.report.now.leads register }
+    {
+        self.arrival(register) >= 0 && self.shows_earliest(register, given)
+    }
+
+    // Whether a register's lead shows that nothing is earlier.
+    fn shows_earliest(&self, register: usize, given: bool) -> bool
+        requires register { register < length self.now.report.now.leads }
+        requires given { IsTested self.now.problem.now.circuit self.now.problem.now.tech
+            (lead_at self.now.report.now.leads register) given }
+        ensures { IsTrue result ↔ ShowsEarliest (IsConstraintOf self.now.problem.now.circuit
+            self.now.problem.now.tech) self.now.report.now.period self.now.report.now.schedule.at
+            self.now.report.now.leads register (lead_at self.now.report.now.leads register) }
+    {
+        match self.lead(register) {
+            Lead::Zero => self.arrival(register) == 0,
+            Lead::Tight { depth, constraint } => self.is_led(register, depth, &constraint, given),
+        }
+    }
+
+    // Whether a tight constraint leads to a register, and takes so many, where a test says whether
+    // it is one of the circuit.
+    fn is_led(&self, register: usize, depth: u32, constraint: &Constraint, given: bool) -> bool
+        requires among { IsBetweenRegisters (length self.now.report.now.leads) constraint.now }
+        requires all { length self.now.report.now.leads
+            ≡ length self.now.report.now.schedule.at }
+        requires small { HasSmallWeight constraint.now }
+        requires given { IsTrue given ↔ IsConstraintOf self.now.problem.now.circuit
+            self.now.problem.now.tech constraint.now }
+        ensures { IsTrue result ↔ IsLedBy (IsConstraintOf self.now.problem.now.circuit
+            self.now.problem.now.tech) self.now.report.now.period self.now.report.now.schedule.at
+            self.now.report.now.leads register depth constraint.now }
+    {
+        let before = depth_of(self.lead(constraint.tail as usize));
+        given
+            && constraint.head as usize == register
+            && self.is_tight(constraint)
+            && depth == 1 + before
+    }
+
+    // The lead of a register.
+    fn lead(&self, register: usize) -> Lead
+        requires { register < length self.now.report.now.leads }
+        ensures value { result ≡ lead_at self.now.report.now.leads register }
+        ensures small { IsSmallLead result }
+        ensures among { LeadsAmong (length self.now.report.now.leads) result }
+        ensures all { length self.now.report.now.leads
+            ≡ length self.now.report.now.schedule.at }
+    {
+        self.report.leads.as_slice()[register]
+    }
+
+    // Whether the head's arrival is just what a constraint asks.
+    fn is_tight(&self, constraint: &Constraint) -> bool
+        requires among { IsBetweenRegisters (length self.now.report.now.leads) constraint.now }
+        requires all { length self.now.report.now.leads
+            ≡ length self.now.report.now.schedule.at }
+        requires small { HasSmallWeight constraint.now }
+        ensures { IsTrue result ↔ IsTight self.now.report.now.period
+            self.now.report.now.schedule.at constraint.now }
+    {
+        are_same(
+            self.lateness(constraint),
+            asked(self.report.period, constraint),
+        )
+    }
+
+    // How much later the head's arrival is.
+    fn lateness(&self, constraint: &Constraint) -> i128
+        requires among { IsBetweenRegisters (length self.now.report.now.leads) constraint.now }
+        requires all { length self.now.report.now.leads
+            ≡ length self.now.report.now.schedule.at }
+        ensures value { result ≡ arrival_of self.now.report.now.schedule.at constraint.now.head
+            -ℤ arrival_of self.now.report.now.schedule.at constraint.now.tail }
+        ensures small { IsBelow (10 ^ 38) result }
+    {
+        let head = self.arrival(constraint.head as usize);
+        let tail = self.arrival(constraint.tail as usize);
+        difference(head, tail)
+    }
+
+    // The arrival at a register.
+    fn arrival(&self, register: usize) -> i128
+        requires { register < length self.now.report.now.schedule.at }
+        ensures value { result ≡ arrival_of self.now.report.now.schedule.at register }
+        ensures small { IsBelow (10 ^ 19) result }
+    {
+        self.report.schedule.at.as_slice()[register]
+    }
+}
+
+// The constraints of tight leads.
+fn tight_constraints(alloc: Global, leads: &[Lead]) -> Result<Vec<Constraint>, NoMemory>
+    ensures { IfOk result (λ constraints. constraints.items ≡ tight_constraints leads.now) }
+{
+    let mut constraints = Vec::new(alloc);
+    for lead in leads {
+        push_constraint(&mut constraints, *lead)?;
+    }
+    Ok(constraints)
+}
+
+// Puts a lead's constraint last, if it has one.
+fn push_constraint(constraints: &mut Vec<Constraint>, lead: Lead) -> Result<(), NoMemory>
+    ensures { IfOk result (λ done. constraints.new.items
+        ≡ constraints.old.items ++ tight_constraints (lead ∷ [])) }
+{
+    match lead {
+        Lead::Zero => Ok(()),
+        Lead::Tight { constraint, .. } => {
+            constraints.push(constraint)?;
+            Ok(())
+        }
+    }
+}
+
+// How many constraints a lead has.
+fn constraint_count(lead: Lead) -> usize
+    ensures value { result ≡ length (tight_constraints (lead ∷ [])) }
+    ensures small { result ≤ 1 }
+{
+    match lead {
+        Lead::Zero => 0,
+        Lead::Tight { .. } => 1,
+    }
+}
+
+// How many constraints a lead takes.
+fn depth_of(lead: Lead) -> u32
+    requires { IsSmallLead lead }
+    ensures value { result ≡ depth_of lead }
+    ensures small { result ≤ 9999 }
+{
+    match lead {
+        Lead::Zero => 0,
+        Lead::Tight { depth, .. } => depth,
+    }
+}
+
+// How much later a constraint asks its head's arrival to be.
+fn asked(period: Fraction, constraint: &Constraint) -> i128
+    requires period { IsSmallPeriod period }
+    requires small { HasSmallWeight constraint.now }
+    ensures value { result ≡ (period.den *ℤ constraint.now.weight)
+        -ℤ (period.num *ℤ pos (count_of constraint.now)) }
+    ensures small { IsBelow (10 ^ 38) result }
+{
+    difference(
+        scaled_weight(period, constraint),
+        counted_period(period, constraint),
+    )
+}
+
+// The weight in ticks over the period's denominator.
+fn scaled_weight(period: Fraction, constraint: &Constraint) -> i128
+    requires period { IsSmallPeriod period }
+    requires small { HasSmallWeight constraint.now }
+    ensures value { result ≡ period.den *ℤ constraint.now.weight }
+    ensures small { IsBelow (10 ^ 37) result }
+{
+    product(period.den(), constraint.weight)
+}
+
+// The period as often as it is counted, in ticks over its denominator.
+fn counted_period(period: Fraction, constraint: &Constraint) -> i128
+    requires { IsSmallPeriod period }
+    ensures value { result ≡ period.num *ℤ pos (count_of constraint.now) }
+    ensures small { IsBelow (10 ^ 37) result }
+{
+    product(period.num(), count_of(constraint))
+}
