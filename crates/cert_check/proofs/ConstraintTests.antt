@@ -101,7 +101,9 @@ module _ (circuit : Circuit) (tech : Tech) (constraints : List Constraint)
         ≡ (get_or constraints place constraint).weight) ↔ IsOfCircuit circuit tech constraints place
     given_at = subst (λ found. IsSomeAnd (get_or delays place joined)
         (λ delays. weight_by tech (get_or constraints place constraint).setup delays
-        ≡ (get_or constraints place constraint).weight) ↔ IfSome found (IsConstraintOf circuit tech))
+        ≡ (get_or constraints place constraint).weight)
+        ↔ IfSome found (IsConstraintOf circuit tech))
         (sym (slice_get-get_or constraints place constraint within))
-        (given_joined circuit tech (get_or constraints place constraint) (get_or delays place joined)
+        (given_joined circuit tech (get_or constraints place constraint)
+        (get_or delays place joined)
         is_joined)

@@ -26,7 +26,8 @@ pub stops_by : {places others : ℕ} {Holds Also : ℕ → Type 0}
     {reason reason' : ℕ → Reason} (stop : Stop)
     → ((place : ℕ) → FailsFirst places Holds place
     → (other : ℕ) × FailsFirst others Also other × (reason place ≡ reason' other))
-    → Judges places Holds reason {T = Unit {0}} (Err stop) → Judges others Also reason' {T = Unit {0}} (Err stop)
+    → Judges places Holds reason {T = Unit {0}} (Err stop)
+    → Judges others Also reason' {T = Unit {0}} (Err stop)
 stops_by (At given) fails (place, first, is) =
     let (other, also, same) = fails place first in (other, also, is ∙ same)
 stops_by NoMemory fails none = tt

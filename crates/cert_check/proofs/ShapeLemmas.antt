@@ -129,7 +129,8 @@ module _ (sinks : List Sink) (merges : List Merge) (source : Uv) (tree : Embeddi
     pub merges_stop : (stop : Stop)
         → Judges (length merges) (JoinsAt (length sinks) merges)
         (λ place. TreeShape (length sinks + place)) {T = Unit {0}} (Err stop)
-        → Judges (2 * length sinks) (HasShape sinks merges source tree) TreeShape {T = Unit {0}} (Err stop)
+        → Judges (2 * length sinks) (HasShape sinks merges source tree) TreeShape {T = Unit {0}}
+        (Err stop)
     merges_stop stop =
         stops_by stop (λ place first. (length sinks + place, unjoined stand place first, refl))
 

@@ -28,7 +28,8 @@ abbrev pub IsInOrder : SinkOrder → (node register : ℕ) → Type 0
 IsInOrder order node register =
     IsPlacedBelow (number_at order.starts.items) (number_at order.sizes.items) node register
 
--- it is one over the nodes of a topology, and the sinks that are placed below one are those below it
+-- it is one over the nodes of a topology, and the sinks that are placed below one are those below
+-- it
 pub record IsSinkOrder (sinks : ℕ) (merges : List Merge) (order : SinkOrder) : Type 0 where
   pub topology : IsTopology sinks merges
   pub sizes : length order.sizes.items + 1 ≡ 2 * sinks

@@ -18,13 +18,13 @@ pub(crate) struct Judge<'a> {
     pub(crate) sinks: &'a [Sink],
     /// Where the source has to stand, in rotated coordinates.
     pub(crate) source: Uv,
-    pub(crate) ghost size: { IsOfSize problem.now.circuit report.now } by { size_prop problem.now.circuit report.now },
+    pub(crate) ghost size: { IsOfSize problem.now.circuit report.now } by { size_prop _ _ },
     pub(crate) ghost period: { IsSmallPeriod report.now.period },
-    pub(crate) ghost weights: { HasSmallWeights report.now.shown } by { weights_prop report.now.shown },
+    pub(crate) ghost weights: { HasSmallWeights report.now.shown } by { weights_prop _ },
     pub(crate) ghost arrivals: { All (IsBelow (10 ^ 19)) report.now.schedule.at },
     pub(crate) ghost paths: { All (λ path. length path ≤ 65536) report.now.paths },
-    pub(crate) ghost leads: { All IsSmallLead report.now.leads } by { leads_prop report.now.leads },
-    pub(crate) ghost tree: { HasTreeBounds problem.now.tech report.now } by { tree_prop problem.now.tech report.now },
+    pub(crate) ghost leads: { All IsSmallLead report.now.leads } by { leads_prop _ },
+    pub(crate) ghost tree: { HasTreeBounds problem.now.tech report.now } by { tree_prop _ _ },
     pub(crate) ghost among: { All (IsBetweenRegisters (length problem.now.circuit.registers))
         cycle.now },
     pub(crate) ghost light: { All HasSmallWeight cycle.now },

@@ -8,8 +8,9 @@ ghost use Rattle.cts_model.specs.timing.Schedules.{IsSmallPeriod, arrival_of};
 ghost use Rattle.path_delays.specs.LevelParts.{IsLevelsOf};
 ghost use Rattle.cert_check.specs.TightLeads.{IsTested, tight_constraints};
 
+use crate::down::are_same;
 use crate::judge::Judge;
-use crate::product::{are_same, difference, product};
+use crate::product::{difference, product};
 use crate::value::count_of;
 use crate::verdict::{Reason, Stop};
 use cts_base::{Fraction, NoMemory};

@@ -1,4 +1,4 @@
-ghost use Rattle.std.specs.Prelude.{◌≡◌, ◌↔◌, ◌^◌, ◌-ℤ◌, ◌*ℤ◌, IsTrue};
+ghost use Rattle.std.specs.Prelude.{◌≡◌, ◌^◌, ◌-ℤ◌, ◌*ℤ◌};
 ghost use Rattle.cts_model.specs.placement.Points.{IsBelow};
 
 /// The product of two numbers.
@@ -19,13 +19,4 @@ pub(crate) fn difference(number: i128, other: i128) -> i128
     ensures small { IsBelow (10 ^ 38) result }
 {
     number - other
-}
-
-/// Whether two numbers are one.
-pub(crate) fn are_same(number: i128, other: i128) -> bool
-    requires number { IsBelow (10 ^ 38) number }
-    requires other { IsBelow (10 ^ 38) other }
-    ensures { IsTrue result ↔ (number ≡ other) }
-{
-    number == other
 }

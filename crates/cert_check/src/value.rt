@@ -8,7 +8,8 @@ ghost use Rattle.cts_model.specs.report.ReportBounds.{HasSmallWeight, HasSmallWe
 ghost use Rattle.cts_model.specs.timing.Schedules.{IsSmallPeriod};
 ghost use Rattle.cert_check.specs.CycleSums.{AreSumsOf};
 
-use crate::product::{are_same, product};
+use crate::down::are_same;
+use crate::product::product;
 use cts_base::Fraction;
 use cts_model::{Constraint, PeriodShow, Tech};
 

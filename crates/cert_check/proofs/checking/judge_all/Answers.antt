@@ -57,7 +57,8 @@ returns c =
     let source = c.args.judge.now.source in
     decides_after (λ verdict. EmbeddingJudged report sinks source verdict
     (ReachesJudged report sinks source verdict
-    (RestJudged problem report cycle verdict (verdict ≡ Shown)))) (IsVerdictBy problem report cycle sinks source)
+    (RestJudged problem report cycle verdict (verdict ≡ Shown))))
+    (IsVerdictBy problem report cycle sinks source)
     c.judge_embedding.result
     (λ verdict next. inr (
       c.in_ok-judge_floor.ensures,

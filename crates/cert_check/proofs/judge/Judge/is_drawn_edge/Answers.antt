@@ -22,7 +22,8 @@ returns c =
       ints,
       self.tree.lengths edge (pos 0) (omega (arith, within, all, self.count, self.size.lengths)),
     ) in
-    let is = rw (c.as_slice-places.ensures, c.as_slice.ensures, c.as_slice-2.ensures, kept) at c.is_drawn.ensures in
+    let is = rw (c.as_slice-places.ensures, c.as_slice.ensures, c.as_slice-2.ensures, kept)
+    at c.is_drawn.ensures in
     let none : Wire = record { corners = []; used = 0 } in
     let here = slice_get-get_or self.report.now.wires edge none
     (omega (arith, within, all, self.count, self.size.wires)) in

@@ -8,5 +8,6 @@ loop-register-preserved c =
     let self = c.args.self.now in
     let problem = self.problem.now in
     let report = self.report.now in
-    each_more (MeetsAt problem.circuit problem.tech report.period report.schedule.at) c.loop-register.register
+    each_more (MeetsAt problem.circuit problem.tech report.period report.schedule.at)
+    c.loop-register.register
     c.loop-register.invariant (c.meets.ensures.0 c.if-not-meets.false)

@@ -9,5 +9,6 @@ loop-register-preserved c =
     let self = c.args.self.now in
     let problem = self.problem.now in
     let report = self.report.now in
-    each_more (IsSkewed self.sinks.now report.topology.merges (embedding_of report.tree)) c.loop-register.register
+    each_more (IsSkewed self.sinks.now report.topology.merges (embedding_of report.tree))
+    c.loop-register.register
     c.loop-register.invariant (c.is_skewed.ensures.0 c.if-not-is_skewed.false)
