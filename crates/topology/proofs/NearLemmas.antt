@@ -162,7 +162,8 @@ kept_apart live owner node pair cluster held has = elim
 
 -- ---- the search
 
-pub low_is : (live : Live) (node : ℕ) (cluster : Cluster) → slice_get live.clusters node ≡ Some cluster
+pub low_is : (live : Live) (node : ℕ) (cluster : Cluster)
+    → slice_get live.clusters node ≡ Some cluster
     → low_of live.clusters node ≡ cluster.region.ulo
 low_is live node cluster here =
     ap (λ o. option_map_or (λ (c : Cluster). c.region.ulo) o (pos 0)) here

@@ -14,9 +14,9 @@ use tilted_rect::Cluster;
 
 /// The topology that merges, again and again, the two clusters whose merging costs the least wire.
 /// Of pairs that cost as much it merges that of the lower first node, and then of the lower second.
-/// A search looks at the clusters that are near enough in `u` alone, and what it finds is kept until
-/// a merge breaks it up. Edahiro, "A Clustering-Based Optimization Algorithm in Zero-Skew Routings",
-/// 1993.
+/// A search looks at the clusters that are near enough in `u` alone, and what it finds is kept
+/// until a merge breaks it up. Edahiro, "A Clustering-Based Optimization Algorithm in Zero-Skew
+/// Routings", 1993.
 pub fn greedy(alloc: Global, sinks: &[Sink]) -> Result<Topology, NoMemory>
     requires { AreTreeSinks sinks.now }
     ensures greedy { IfOk result (λ topology. IsGreedy sinks.now topology.merges) }
