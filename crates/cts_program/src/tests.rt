@@ -145,6 +145,15 @@ impl Seen {
         expect_same(rt, self.out.bytes(), out.as_bytes(), &row);
         expect_same(rt, self.err.bytes(), err.as_bytes(), &row);
     }
+
+    // The text that must be printed, or the line where the status is above 1.
+    fn answers(&self, rt: &impl Abort, status: u8, answer: &str) {
+        if status > 1 {
+            self.expect(rt, status, "", answer, answer);
+        } else {
+            self.expect(rt, status, answer, "", answer);
+        }
+    }
 }
 
 // The words of a command line.
@@ -270,12 +279,8 @@ type Row<'a> = (&'a [&'a [&'a str]], u8, &'a str);
 
 fn expect_row(rt: &impl Abort, alloc: Global, command: &[&str], row: &Row<'_>) {
     let (texts, status, answer) = row;
-    let seen = run_on(rt, alloc, command, files_in_parts(rt, alloc, texts));
-    if *status > 1 {
-        seen.expect(rt, *status, "", answer, answer);
-    } else {
-        seen.expect(rt, *status, answer, "", answer);
-    }
+    let inputs = files_in_parts(rt, alloc, texts);
+    run_on(rt, alloc, command, inputs).answers(rt, *status, answer);
 }
 
 // What a command must leave over the files of each row.

@@ -1,16 +1,21 @@
 use crate::tests::problems::{
-    EMBED, LONE, LONE_PLACES, LONE_TREE, S27_PLACES, S27_PROBLEM, S27_TREE, files_with,
+    EMBED, LONE, LONE_PLACES, LONE_TREE, S27_PROBLEM, S27_TREE, files_with,
 };
-use crate::tests::{
-    FLOOR_5, Row, S27, S27_TABLE, ZEROS, expect_row, expect_rows, expect_same, run_on,
-};
+use crate::tests::{Row, S27, S27_TABLE, ZEROS, expect_rows, expect_same, run_on};
 use std::alloc::{AllocError, Global};
 use std::process::Abort;
 
-// What `embed` must leave over s27 and this topology.
-fn expect_s27(rt: &impl Abort, alloc: Global, topology: &str, status: u8, answer: &str) {
-    let texts: [&[&str]; 4] = [&[S27], &[S27_TABLE], &[S27_PLACES], &[topology]];
-    expect_row(rt, alloc, &EMBED, &(&texts, status, answer));
+// What `embed` must leave over a problem and this topology.
+fn expect_embed(
+    rt: &impl Abort,
+    alloc: Global,
+    problem: [&str; 3],
+    topology: &str,
+    status: u8,
+    answer: &str,
+) {
+    let inputs = files_with(rt, alloc, problem, topology.as_bytes());
+    run_on(rt, alloc, &EMBED, inputs).answers(rt, status, answer);
 }
 
 // Topologies that denote the greedy one of s27.
@@ -19,15 +24,17 @@ const S27_TOPOLOGIES: [&str; 2] = ["3 1 0\n4 2 3\n", "# two merges\n\n3 0 1 # fi
 #[test]
 fn makes_the_tree_of_a_given_topology(rt: HostRuntime) {
     for topology in &S27_TOPOLOGIES {
-        expect_s27(&rt, rt.alloc(), topology, 0, S27_TREE);
+        expect_embed(&rt, rt.alloc(), S27_PROBLEM, topology, 0, S27_TREE);
     }
 }
 
-// What `embed` must leave over one register and this topology.
-fn expect_lone(rt: &impl Abort, alloc: Global, topology: &str, status: u8, answer: &str) {
-    let texts: [&[&str]; 4] = [&[LONE], &[ZEROS, FLOOR_5], &[LONE_PLACES], &[topology]];
-    expect_row(rt, alloc, &EMBED, &(&texts, status, answer));
-}
+// The table has the floor 5.
+const LONE_PROBLEM: [&str; 3] = [
+    LONE,
+    "[wire]\ndelay = \"1/1\"\n[source]\nplace = \"CLK\"\n[register]\nsetup = 0\nhold = 0\n\
+     least = 0\ngreatest = 0\n[period]\nfloor = 5\n",
+    LONE_PLACES,
+];
 
 // Topologies of one register: nothing is to be joined.
 const LONE_TOPOLOGIES: [(&str, u8, &str); 5] = [
@@ -41,7 +48,7 @@ const LONE_TOPOLOGIES: [(&str, u8, &str); 5] = [
 #[test]
 fn joins_nothing_to_one_register(rt: HostRuntime) {
     for (topology, status, answer) in &LONE_TOPOLOGIES {
-        expect_lone(&rt, rt.alloc(), topology, *status, answer);
+        expect_embed(&rt, rt.alloc(), LONE_PROBLEM, topology, *status, answer);
     }
 }
 
@@ -65,7 +72,7 @@ const REFUSED: [(&str, &str); 10] = [
 #[test]
 fn refuses_other_topologies(rt: HostRuntime) {
     for (topology, line) in &REFUSED {
-        expect_s27(&rt, rt.alloc(), topology, 3, line);
+        expect_embed(&rt, rt.alloc(), S27_PROBLEM, topology, 3, line);
     }
 }
 

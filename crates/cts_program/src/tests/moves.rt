@@ -2,8 +2,7 @@ use crate::tests::problems::{
     LONE, LONE_PLACES, LOPSIDED_PLACES, PAIR_PLACES, files_with, texts_with,
 };
 use crate::tests::{
-    APART, HOST, LOPSIDED, NOT, OUTPUT, Row, SLOW, ZEROS, expect_row, expect_rows, held_files,
-    run_on,
+    APART, HOST, LOPSIDED, NOT, OUTPUT, Row, SLOW, ZEROS, expect_rows, held_files, run_on,
 };
 use std::alloc::Global;
 use std::process::Abort;
@@ -12,10 +11,12 @@ const MOVES: [&str; 9] = [
     "moves", "--moves", "R", "--pl", "P", "--bench", "F", "--tech", "T",
 ];
 
+const PAIR_PROBLEM: [&str; 3] = [APART, ZEROS, PAIR_PLACES];
+
 // What `moves` must leave over two registers that no path joins, of which A stands at the source.
 fn expect_pair(rt: &impl Abort, alloc: Global, moves: &str, status: u8, answer: &str) {
-    let texts: [&[&str]; 4] = [&[APART], &[ZEROS], &[PAIR_PLACES], &[moves]];
-    expect_row(rt, alloc, &MOVES, &(&texts, status, answer));
+    let inputs = files_with(rt, alloc, PAIR_PROBLEM, moves.as_bytes());
+    run_on(rt, alloc, &MOVES, inputs).answers(rt, status, answer);
 }
 
 // Moves of the two registers, and what is printed.
@@ -125,7 +126,7 @@ fn keeps_the_schedule_of_each_problem(rt: HostRuntime) {
 #[test]
 fn blames_moves_that_are_not_read(rt: HostRuntime) {
     let alloc = rt.alloc();
-    let texts = texts_with([APART, ZEROS, PAIR_PLACES], b"B 2 1\n");
+    let texts = texts_with(PAIR_PROBLEM, b"B 2 1\n");
     for call in 10..13 {
         let files = held_files(&rt, alloc, &texts, &[call], 100_000);
         let seen = run_on(&rt, alloc, &MOVES, files);
@@ -140,7 +141,7 @@ fn blames_moves_that_are_not_read(rt: HostRuntime) {
 fn refuses_moves_that_are_too_long(rt: HostRuntime) {
     let alloc = rt.alloc();
     let long = vec![in alloc; b'#'; 16_777_217].expect(&rt, "memory");
-    let inputs = files_with(&rt, alloc, [APART, ZEROS, PAIR_PLACES], &long);
+    let inputs = files_with(&rt, alloc, PAIR_PROBLEM, &long);
     let seen = run_on(&rt, alloc, &MOVES, inputs);
     seen.expect(&rt, 3, "", "refused moves long\n", "a byte more");
 }

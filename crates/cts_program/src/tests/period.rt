@@ -1,6 +1,6 @@
 use crate::tests::{
-    APART, BUFF, LOPSIDED, RING, Row, S27, S27_TABLE, SLOW, ZEROS, expect_rows, files_in_parts,
-    run_on,
+    APART, BUFF, LOPSIDED, RING, Row, S27, S27_TABLE, SLOW, ZEROS, expect_rows, joined, run_on,
+    whole_files,
 };
 use std::alloc::{AllocError, Global};
 
@@ -76,7 +76,10 @@ fn long_cycle(alloc: Global) -> Result<String, AllocError> {
     Ok(text)
 }
 
-const SLIGHT: &str = "[gate.BUFF]\nleast = 0\ngreatest = 1\n";
+const RING_TABLE: &[&str] = &[
+    registers!(1, 0, 1, 1),
+    "[gate.BUFF]\nleast = 0\ngreatest = 1\n",
+];
 
 // A period over 4,096, the most without a host.
 #[test]
@@ -84,7 +87,7 @@ fn finds_the_least_period_of_a_long_ring(rt: HostRuntime) {
     let alloc = rt.alloc();
     let ring = long_ring(alloc).expect(&rt, "memory");
     let text = long_cycle(alloc).expect(&rt, "memory");
-    let texts: [&[&str]; 2] = [&[&ring], &[registers!(1, 0, 1, 1), SLIGHT]];
-    let inputs = files_in_parts(&rt, alloc, &texts);
+    let tech = joined(&rt, alloc, RING_TABLE);
+    let inputs = whole_files(&rt, alloc, &[ring.as_bytes(), tech.as_slice()]);
     run_on(&rt, alloc, &PERIOD, inputs).expect(&rt, 0, &text, "", "a long ring");
 }

@@ -1,6 +1,6 @@
 use crate::tests::{
-    NO_PATH, Row, S27, S27_TABLE, USAGE, ZEROS, changed, expect_row, expect_rows, held_files,
-    run_on,
+    NO_PATH, Row, S27, S27_TABLE, USAGE, ZEROS, changed, expect_rows, held_files, run_on,
+    whole_files,
 };
 use cts_io::Inputs;
 use std::alloc::Global;
@@ -104,8 +104,8 @@ const TABLED: [&str; 5] = ["zero", "--bench", "F", "--tech", "T"];
 // What `zero` must leave over s27 and its table with one part changed.
 fn expect_change(rt: &impl Abort, alloc: Global, old: &str, new: &str, status: u8, answer: &str) {
     let tech = changed(rt, alloc, S27_TABLE, old, new);
-    let texts: [&[&str]; 2] = [&[S27], &[&tech]];
-    expect_row(rt, alloc, &TABLED, &(&texts, status, answer));
+    let inputs = whole_files(rt, alloc, &[S27.as_bytes(), tech.as_bytes()]);
+    run_on(rt, alloc, &TABLED, inputs).answers(rt, status, answer);
 }
 
 // A part of the table, what stands in its place, the status, and the text or the line.

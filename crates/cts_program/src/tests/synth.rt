@@ -4,7 +4,7 @@ use crate::tests::problems::{
 };
 use crate::tests::{
     APART, FLOOR_5, HOST, LOPSIDED, NO_PATH, NOT, OUTPUT, Row, S27, S27_TABLE, SLOW, ZEROS,
-    expect_row, expect_rows,
+    expect_rows, run_on, whole_files,
 };
 use std::alloc::Global;
 use std::process::Abort;
@@ -95,8 +95,12 @@ fn makes_trees(rt: HostRuntime) {
 
 // What `synth` must leave over one register and this placement.
 fn expect_refused(rt: &impl Abort, alloc: Global, pl: &str, line: &str) {
-    let texts: [&[&str]; 3] = [&[NO_PATH], &[ZEROS], &[pl]];
-    expect_row(rt, alloc, &SYNTH, &(&texts, 3, line));
+    let inputs = whole_files(
+        rt,
+        alloc,
+        &[NO_PATH.as_bytes(), ZEROS.as_bytes(), pl.as_bytes()],
+    );
+    run_on(rt, alloc, &SYNTH, inputs).answers(rt, 3, line);
 }
 
 const REFUSED: [(&str, &str); 6] = [
