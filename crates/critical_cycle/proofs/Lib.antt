@@ -1,13 +1,5 @@
 mod IntLemmas
-mod GainLemmas
-mod RelaxLemmas
-mod ParentLemmas
-mod SweepLemmas
-mod StepLemmas
-mod ClimbLemmas
-mod SettleLemmas
-mod PrepareLemmas
-mod Climbs
+mod ProductLemmas
 pub mod PlaceLemmas
 mod Turns
 mod RoundWalk

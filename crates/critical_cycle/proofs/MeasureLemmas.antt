@@ -10,13 +10,13 @@ use Rattle.cts_model.specs.timing.Constraints.{count_of}
 use Rattle.cts_model.specs.timing.Cycles.{total_weight, total_count}
 use Rattle.cts_model.specs.placement.Points.{IsBelow}
 use Rattle.critical_cycle.specs.declared.measure.Measure.{Measure}
-use Rattle.critical_cycle.specs.declared.trial.Trial.{Trial}
-use Rattle.critical_cycle.specs.declared.relaxation.Relaxation.{Relaxation}
+use Rattle.relaxation.specs.declared.gains.Gains.{Gains}
 use Rattle.critical_cycle.specs.Measures.{CanTry, IsTrialAt, SatisfiesRatio, measured_count, cycle_count, cycle_weight, measured_weight}
-use Rattle.critical_cycle.specs.RatioSizes.{IsSmallTrial, most_weight}
-use Rattle.critical_cycle.specs.Relaxing.{SatisfiesTrial}
-use Rattle.critical_cycle.specs.Trials.{gain_of, total_gain, value_of}
-use Rattle.critical_cycle.proofs.GainLemmas.{kept, small_product_read}
+use Rattle.critical_cycle.specs.RatioSizes.{most_weight}
+use Rattle.relaxation.specs.GainSizes.{AreSmallGains}
+use Rattle.relaxation.specs.Gains.{SatisfiesGains, gain_of, total_gain}
+use Rattle.relaxation.proofs.GainLemmas.{kept}
+use Rattle.critical_cycle.proofs.ProductLemmas.{small_product_read}
 use Rattle.critical_cycle.proofs.IntLemmas.{never, once, times-sub, times_times}
 use Rattle.critical_cycle.proofs.SumLemmas.{AreSmallSums}
 use borrow.Author.Differences.{up, down}
@@ -101,7 +101,7 @@ cycle_count-cons measure step steps =
     at true whole one others is = omega arith
     at false whole one others is = is
 
-module _ {measure : Measure} {ratio : Fraction} {trial : Trial}
+module _ {measure : Measure} {ratio : Fraction} {trial : Gains}
     (trial_at : IsTrialAt measure ratio trial) where
   -- the gain of a constraint at the trial's ratio
   gain_is : (step : Constraint)
@@ -134,19 +134,17 @@ module _ {measure : Measure} {ratio : Fraction} {trial : Trial}
       (cycle_count measure steps) (cycle_count measure (step ∷ steps))
       (cycle_weight-cons measure step steps) (cycle_count-cons measure step steps)
 
-  -- values from which no constraint gains satisfy the constraints at the ratio
-  pub satisfies_ratio : (constraints : List Constraint) (relaxation : Relaxation)
-      → SatisfiesTrial constraints trial relaxation
-      → SatisfiesRatio measure constraints ratio (value_of relaxation.values.items)
-  satisfies_ratio constraints relaxation satisfies place default within =
+  -- values that satisfy the constraints by their gains do so at the ratio
+  pub satisfies_ratio : (constraints : List Constraint) (value : ℕ → ℤ)
+      → SatisfiesGains constraints trial 1 value → SatisfiesRatio measure constraints ratio value
+  satisfies_ratio constraints value satisfies place default within =
       let it : Constraint = get_or constraints place default in
-      let values = relaxation.values.items in
-      parted (value_of values it.tail) (ratio.den *ℤ measured_weight measure it)
-      (ratio.num *ℤ pos (measured_count measure it)) (value_of values it.head)
-      (subst (λ g. (value_of values it.tail +ℤ g) ≤ℤ value_of values it.head) (gain_is it)
+      parted (value it.tail) (ratio.den *ℤ measured_weight measure it)
+      (ratio.num *ℤ pos (measured_count measure it)) (value it.head)
+      (subst (λ g. (value it.tail +ℤ (pos 1 *ℤ g)) ≤ℤ value it.head) (gain_is it)
       (satisfies place default within))
     where
-      parted : (from asked due to : ℤ) → (from +ℤ (asked -ℤ due)) ≤ℤ to
+      parted : (from asked due to : ℤ) → (from +ℤ (pos 1 *ℤ (asked -ℤ due))) ≤ℤ to
           → (from +ℤ asked) ≤ℤ (to +ℤ due)
       parted from asked due to met = omega (arith, ints)
 
@@ -238,7 +236,7 @@ period_small measure = record {
 trial_small_over : (den num scale period : ℤ) (every : Bool) → pos 1 ≤ℤ den → den ≤ℤ pos 4097
     → pos 1 ≤ℤ scale → scale ≤ℤ pos (10 ^ 4) → pos 0 ≤ℤ period → period <ℤ pos (10 ^ 15)
     → neg_ℤ (most_weight scale period) ≤ℤ num → num ≤ℤ most_weight scale period
-    → IsSmallTrial (den *ℤ scale) ((den *ℤ period) +ℤ num) (if every then num else pos 0)
+    → AreSmallGains (den *ℤ scale) ((den *ℤ period) +ℤ num) (if every then num else pos 0)
 trial_small_over (pos den) num (pos scale) (pos period) every proper low some fine from_zero short
     above below =
     let few : den ≤ 4097 = omega (arith, ints) in
@@ -256,7 +254,7 @@ trial_small_over (pos den) num (pos scale) (pos period) every proper low some fi
       hold = at every;
     }
   where
-    at : (every : Bool) → IsBelow (13 * 10 ^ 18) (if every then num else pos 0)
+    at : (every : Bool) → IsBelow (2 ^ 79) (if every then num else pos 0)
     at true = record {
       above = omega (arith, ints, fine, short, above);
       below = omega (arith, ints, fine, short, below);
@@ -273,7 +271,7 @@ trial_small_over (pos den) num (pos scale) (negsuc period) every proper low some
     absurd (omega (arith, ints))
 
 module _ (measure : Measure) (ratio : Fraction) (small : CanTry measure ratio) where
-  pub trial_small : IsSmallTrial (ratio.den *ℤ measure.scale)
+  pub trial_small : AreSmallGains (ratio.den *ℤ measure.scale)
       ((ratio.den *ℤ measure.period) +ℤ ratio.num) (if measure.every then ratio.num else pos 0)
   trial_small =
       let valid = measure.valid in
@@ -297,7 +295,7 @@ module _ (measure : Measure) (ratio : Fraction) (small : CanTry measure ratio) w
       ∙ small_product_read ratio.den measure.scale den_small (scale_small measure) in
       ap kept whole ∙ at (ratio.den *ℤ measure.scale) trial_small.some trial_small.fine
     where
-      at : (z : ℤ) → pos 1 ≤ℤ z → z ≤ℤ pos (4097 * 10 ^ 4) → kept z ≡ z
+      at : (z : ℤ) → pos 1 ≤ℤ z → z ≤ℤ pos (4097 * 10 ^ 8) → kept z ≡ z
       at z some fine = omega (arith, ints)
 
   -- what the code takes away for a setup constraint
@@ -321,5 +319,5 @@ module _ (measure : Measure) (ratio : Fraction) (small : CanTry measure ratio) w
   hold_read hold is =
       ap kept is ∙ at (if measure.every then ratio.num else pos 0) trial_small.hold
     where
-      at : (z : ℤ) → IsBelow (13 * 10 ^ 18) z → kept z ≡ z
+      at : (z : ℤ) → IsBelow (2 ^ 79) z → kept z ≡ z
       at z low = omega (arith, ints, low.above, low.below)

@@ -11,15 +11,16 @@ use Rattle.std.specs.Prelude.{slice_get}
 use Rattle.std.specs.List.{cons_option}
 use Rattle.cts_model.specs.declared.constraint.Constraint.{Constraint}
 use Rattle.cts_model.specs.timing.Cycles.{Leads, IsCycle}
-use Rattle.critical_cycle.specs.declared.trial.Trial.{Trial}
-use Rattle.critical_cycle.specs.Trials.{AreParents, parent_of, Climbs, gain_of, total_gain}
-use Rattle.critical_cycle.specs.CyclePlaces.{AreWithin, EndsClimb, constraints_at}
+use Rattle.relaxation.specs.declared.gains.Gains.{Gains}
+use Rattle.relaxation.specs.Gains.{gain_of, total_gain}
+use Rattle.relaxation.specs.Parents.{AreParents, EndsClimb, parent_of, Climbs}
+use Rattle.critical_cycle.specs.CyclePlaces.{AreWithin, constraints_at}
 use Rattle.critical_cycle.proofs.PlaceLemmas.{length-constraints_at}
 use Rattle.critical_cycle.proofs.Turns.{cycle_from_closed}
-use Rattle.critical_cycle.proofs.Climbs.{climbs_push, direct_climb, IsDirect, not_passed, parent_place, ring_at_end}
+use Rattle.relaxation.proofs.Climbs.{climbs_push, direct_climb, IsDirect, not_passed, parent_place, ring_at_end}
 
 -- a gain that is added last counts as one that is added first
-gains_push : (trial : Trial) (constraints : List Constraint) (next : Constraint)
+gains_push : (trial : Gains) (constraints : List Constraint) (next : Constraint)
     → total_gain trial (constraints ++ next ∷ []) ≡ gain_of trial next +ℤ total_gain trial
     constraints
 gains_push trial [] next = refl
@@ -41,7 +42,7 @@ pub record IsGone (constraints : List Constraint) (parents places : List ℕ)
   pub leads : Leads register (constraints_at constraints (drop at places)) start
   pub once : AllPairs (λ first second. first.tail ≢ second.tail)
       (constraints_at constraints (drop at places))
-  pub gained : (trial : Trial)
+  pub gained : (trial : Gains)
       → total_gain trial climbed ≡ total_gain trial (constraints_at constraints (drop at places))
 
 -- what is left to climb: a parent of the register reached, and more up to the first register, all
@@ -275,7 +276,7 @@ module _ (constraints : List Constraint) (parents : List ℕ) where
   -- and a total above 0
   pub gone_gains : (places : List ℕ) (start at : ℕ) → IsGone constraints parents places start at
       start
-      → at < length places → (trial : Trial) (values : List ℤ) → AreParents constraints trial
+      → at < length places → (trial : Gains) (values : List ℤ) → AreParents constraints trial
       values parents
       → pos 0 <ℤ total_gain trial (constraints_at constraints (drop at places))
   gone_gains places start at gone some trial values are =

@@ -10,18 +10,16 @@ use Rattle.cts_model.specs.timing.Cycles.{IsCycle}
 use Rattle.critical_cycle.specs.declared.measure.Measure.{Measure}
 use Rattle.critical_cycle.specs.declared.raise.Raise.{Raise}
 use Rattle.critical_cycle.specs.declared.raise.Raise.TheVariants as raise
-use Rattle.critical_cycle.specs.declared.relaxation.Relaxation.{Relaxation}
 use Rattle.critical_cycle.specs.declared.shown.Shown.{Shown}
 use Rattle.critical_cycle.specs.declared.shown.Shown.TheVariants.{First, Value, Never}
-use Rattle.critical_cycle.specs.declared.trial.Trial.{Trial}
+use Rattle.relaxation.specs.declared.gains.Gains.{Gains}
 use Rattle.critical_cycle.specs.CyclePlaces.{AreWithin, constraints_at}
 use Rattle.critical_cycle.specs.Measures.{CanTry, IsTrialAt, SatisfiesRatio}
 use Rattle.critical_cycle.specs.RatioSizes.{most_weight}
 use Rattle.critical_cycle.specs.Raises.{IsRaise}
-use Rattle.critical_cycle.specs.Relaxing.{SatisfiesTrial}
 use Rattle.critical_cycle.specs.Searches.{ClosesWithNext}
 use Rattle.critical_cycle.specs.ShownRatios.{IsGreatestShown, IsRaisedBy, IsNeverAtAll, IsSettled, IsShown, raises_left, steps_below}
-use Rattle.critical_cycle.specs.Trials.{total_gain, value_of}
+use Rattle.relaxation.specs.Gains.{SatisfiesGains, total_gain}
 use Rattle.critical_cycle.proofs.MeasureLemmas.{satisfies_ratio, total_gain-sums}
 use Rattle.critical_cycle.proofs.RaiseLemmas.{size_is}
 use Rattle.critical_cycle.proofs.Steps.{steps_below-less}
@@ -29,20 +27,20 @@ use borrow.Author.Differences.{up, down}
 
 -- a trial that settles, settles the greatest ratio shown
 pub settled_at : (measure : Measure) (constraints : List Constraint) (first : Fraction)
-    (shown : Shown) (ratio : Fraction) (trial : Trial) (relaxation : Relaxation)
+    (shown : Shown) (ratio : Fraction) (trial : Gains) (value : ℕ → ℤ)
     → IsGreatestShown first shown ratio → IsTrialAt measure ratio trial
-    → SatisfiesTrial constraints trial relaxation → IsSettled measure constraints first shown
-settled_at measure constraints first First ratio trial relaxation greatest at satisfies = (
-  value_of relaxation.values.items,
-  subst (λ r. SatisfiesRatio measure constraints r (value_of relaxation.values.items)) greatest
-      (satisfies_ratio at constraints relaxation satisfies),
+    → SatisfiesGains constraints trial 1 value → IsSettled measure constraints first shown
+settled_at measure constraints first First ratio trial value greatest at satisfies = (
+  value,
+  subst (λ r. SatisfiesRatio measure constraints r value) greatest
+      (satisfies_ratio at constraints value satisfies),
 )
-settled_at measure constraints first (Value value) ratio trial relaxation greatest at satisfies = (
-  value_of relaxation.values.items,
-  subst (λ r. SatisfiesRatio measure constraints r (value_of relaxation.values.items)) greatest
-      (satisfies_ratio at constraints relaxation satisfies),
+settled_at measure constraints first (Value shown) ratio trial value greatest at satisfies = (
+  value,
+  subst (λ r. SatisfiesRatio measure constraints r value) greatest
+      (satisfies_ratio at constraints value satisfies),
 )
-settled_at measure constraints first Never ratio trial relaxation greatest at satisfies =
+settled_at measure constraints first Never ratio trial value greatest at satisfies =
     absurd greatest
 
 -- both outcomes of a trial
@@ -95,7 +93,7 @@ left_at measure first (Value value) ratio greatest = rw greatest refl
 left_at measure first Never ratio greatest = absurd greatest
 
 -- a ratio isn't enough for a cycle with a total above 0 at its trial
-pub not_kept : (measure : Measure) (ratio : Fraction) (trial : Trial) (steps : List Constraint)
+pub not_kept : (measure : Measure) (ratio : Fraction) (trial : Gains) (steps : List Constraint)
     (says : Raise) → IsTrialAt measure ratio trial → pos 0 <ℤ total_gain trial steps
     → IsRaise measure ratio steps says → says ≡ raise.Keep → ⊥
 not_kept measure ratio trial steps raise.Keep at gains keep is =

@@ -1,9 +1,6 @@
 pub mod RatioSizes
 pub mod Rooms
-pub mod Trials
 pub mod Measures
-pub mod Relaxing
-pub mod Sweeps
 pub mod Floors
 pub mod CyclePlaces
 pub mod Raises

@@ -7,7 +7,7 @@ use Rattle.cts_model.specs.timing.Constraints.{count_of}
 use Rattle.cts_model.specs.timing.Cycles.{IsCycle, total_count, total_weight}
 use Rattle.critical_cycle.specs.RatioSizes.{IsSmallRatio}
 use Rattle.critical_cycle.specs.declared.measure.Measure.{Measure}
-use Rattle.critical_cycle.specs.declared.trial.Trial.{Trial}
+use Rattle.relaxation.specs.declared.gains.Gains.{Gains}
 
 -- what a constraint weighs
 abbrev pub measured_weight : Measure → Constraint → ℤ
@@ -57,7 +57,7 @@ abbrev pub CanTry : Measure → Fraction → Type 0
 CanTry measure ratio = IsSmallRatio measure.scale measure.period ratio.num ratio.den
 
 -- the trial is that of the ratio
-pub record IsTrialAt (measure : Measure) (ratio : Fraction) (trial : Trial) : Type 0 where
+pub record IsTrialAt (measure : Measure) (ratio : Fraction) (trial : Gains) : Type 0 where
   pub scale_is : trial.scale ≡ ratio.den *ℤ measure.scale
   pub setup_is : trial.setup ≡ (ratio.den *ℤ measure.period) +ℤ ratio.num
   pub hold_is : trial.hold ≡ (if measure.every then ratio.num else pos 0)

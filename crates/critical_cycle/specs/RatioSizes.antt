@@ -1,6 +1,5 @@
 -- How large the numbers are that a search for the greatest ratio works with.
 use Rattle.std.specs.Prelude.{◌*◌, ◌^◌, ℤ, pos, neg_ℤ, ◌+ℤ◌, ◌*ℤ◌, ◌≤ℤ◌, ◌<ℤ◌}
-use Rattle.cts_model.specs.placement.Points.{IsBelow}
 
 -- a scale from 1 to 10,000, and a period from 0 on, below 10^15
 pub record IsMeasure (scale period : ℤ) : Type 0 where
@@ -20,10 +19,3 @@ pub record IsSmallRatio (scale period numerator denominator : ℤ) : Type 0 wher
   pub below : numerator ≤ℤ most_weight scale period
   pub proper : pos 1 ≤ℤ denominator
   pub low : denominator ≤ℤ pos 4097
-
--- what a trial takes weights times, and takes away from those of setup and of hold constraints
-pub record IsSmallTrial (times from_setup from_hold : ℤ) : Type 0 where
-  pub some : pos 1 ≤ℤ times
-  pub fine : times ≤ℤ pos (4097 * 10 ^ 4)
-  pub setup : IsBelow (13 * 10 ^ 18) from_setup
-  pub hold : IsBelow (13 * 10 ^ 18) from_hold

@@ -1,7 +1,7 @@
 -- The search for the greatest ratio: what it keeps from trial to trial.
 use Rattle.std.specs.Prelude.{◌≡◌, ◌≢◌, ◌<◌, ◌≤◌, ◌+◌, ℕ, List, drop, length, slice_index_or}
 use Rattle.cts_model.specs.declared.constraint.Constraint.{Constraint}
-use Rattle.critical_cycle.specs.Relaxing.{HasTrialRoom, IsFarUp}
+use Rattle.relaxation.specs.Relaxing.{HasEntries, IsFarUp}
 use Rattle.critical_cycle.specs.Measures.{CanTry, IsTrialAt}
 use Rattle.critical_cycle.specs.ShownRatios.{IsGreatestShown, IsShown}
 use Rattle.critical_cycle.specs.declared.search.Search.{Search}
@@ -12,7 +12,7 @@ last_cycle search = drop search.start search.places.items
 
 -- there is room for each register, and the cycle shows what is said to be shown
 pub record IsSearch (constraints : List Constraint) (search : Search) : Type 0 where
-  pub room : HasTrialRoom constraints search.relaxation
+  pub room : HasEntries constraints search.relaxation
   pub places : length search.places.items ≡ length search.relaxation.parents.items
   pub start : search.start ≤ length search.places.items
   pub first : CanTry search.measure search.first

@@ -4,16 +4,13 @@
 
 mod measure;
 mod period;
-mod policy;
 mod raise;
 mod ratio;
-mod relaxation;
 mod ring;
 mod room;
 mod search;
 mod shown;
 mod sums;
-mod trial;
 
 pub use measure::Measure;
 pub use period::{Period, least_period, least_period_in};

@@ -1,8 +1,8 @@
 ghost use Rattle.critical_cycle.specs.RatioSizes.{IsMeasure};
 
 use crate::sums::product;
-use crate::trial::Trial;
 use cts_base::Fraction;
+use relaxation::Gains;
 
 /// What a search weighs and counts. A constraint weighs its weight in ticks times the scale, less
 /// the period where it is a setup constraint. A setup constraint counts once, a hold constraint
@@ -23,11 +23,11 @@ impl Measure {
     ghost use Rattle.critical_cycle.specs.Measures.{CanTry, IsTrialAt};
 
     /// The trial of a ratio.
-    pub(crate) fn trial(self, ratio: Fraction) -> Trial
+    pub(crate) fn trial(self, ratio: Fraction) -> Gains
         requires { CanTry self ratio }
         ensures { IsTrialAt self ratio result }
     {
-        Trial {
+        Gains {
             scale: product(ratio.den(), self.scale),
             setup: product(ratio.den(), self.period) + ratio.num(),
             hold: self.counted_by_hold(ratio),

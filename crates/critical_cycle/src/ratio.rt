@@ -7,13 +7,13 @@ ghost use Rattle.critical_cycle.specs.Searches.{IsSearch};
 ghost use Rattle.critical_cycle.specs.ShownRatios.{IsSettled};
 
 use crate::measure::Measure;
-use crate::relaxation::Relaxation;
 use crate::ring::turn_to_lowest;
 use crate::room::Room;
 use crate::search::Search;
 use crate::shown::Shown;
 use cts_base::{Fraction, Listed};
 use cts_model::Constraint;
+use relaxation::Relaxation;
 
 /// The greatest ratio of the cycles of constraints, at or above a first one. It is the least ratio
 /// at which some arrivals satisfy the constraints.

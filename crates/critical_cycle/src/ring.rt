@@ -2,9 +2,10 @@ ghost use Rattle.std.specs.Prelude.{◌≡◌, ◌<◌, ◌≤◌, ◌++◌, ℕ
 ghost use Rattle.cts_model.specs.declared.constraint.Constraint.{Constraint};
 ghost use Rattle.cts_model.specs.timing.Constraints.{AreSmallConstraints};
 ghost use Rattle.cts_model.specs.timing.Cycles.{IsCycle};
-ghost use Rattle.critical_cycle.specs.declared.trial.Trial.{Trial};
-ghost use Rattle.critical_cycle.specs.Trials.{AreParents, parent_of, total_gain};
-ghost use Rattle.critical_cycle.specs.CyclePlaces.{AreWithin, EndsClimb, IsFromLowest, constraints_at, tail_at};
+ghost use Rattle.relaxation.specs.declared.gains.Gains.{Gains};
+ghost use Rattle.relaxation.specs.Gains.{total_gain};
+ghost use Rattle.relaxation.specs.Parents.{AreParents, EndsClimb, parent_of};
+ghost use Rattle.critical_cycle.specs.CyclePlaces.{AreWithin, IsFromLowest, constraints_at, tail_at};
 
 use cts_model::Constraint;
 
@@ -25,7 +26,7 @@ pub(crate) fn go_round(
     ensures some { result < length places.new }
     ensures within { AreWithin constraints.now (drop result places.new) }
     ensures cycle { IsCycle (constraints_at constraints.now (drop result places.new)) }
-    ensures gains { (trial : Trial) (values : List ℤ)
+    ensures gains { (trial : Gains) (values : List ℤ)
         → AreParents constraints.now trial values parents.now
         → pos 0 <ℤ total_gain trial (constraints_at constraints.now (drop result places.new)) }
 {

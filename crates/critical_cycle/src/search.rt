@@ -1,5 +1,6 @@
-ghost use Rattle.std.specs.Prelude.{◌≡◌, ◌<◌, ◌≤◌, false, IsTrue, List, MatchOption, drop, length};
+ghost use Rattle.std.specs.Prelude.{◌≡◌, ◌<◌, ◌≤◌, ◌^◌, false, IsTrue, List, All, MatchOption, drop, length};
 ghost use Rattle.cts_model.specs.declared.constraint.Constraint.{Constraint};
+ghost use Rattle.cts_model.specs.placement.Points.{IsBelow};
 ghost use Rattle.cts_model.specs.timing.Constraints.{AreSmallConstraints};
 ghost use Rattle.cts_model.specs.timing.Cycles.{IsCycle};
 ghost use Rattle.critical_cycle.specs.CyclePlaces.{AreWithin, constraints_at};
@@ -9,12 +10,11 @@ ghost use Rattle.critical_cycle.specs.ShownRatios.{IsNeverAtAll, IsSettled, rais
 
 use crate::measure::Measure;
 use crate::raise::{Raise, raise_by};
-use crate::relaxation::Relaxation;
 use crate::ring::go_round;
 use crate::shown::Shown;
-use crate::trial::Trial;
 use cts_base::Fraction;
 use cts_model::Constraint;
+use relaxation::{Gains, Relaxation};
 
 /// The most rounds of policy iteration.
 const ROUNDS: u32 = 256;
@@ -28,7 +28,7 @@ pub(crate) struct Search {
     /// The ratio that the relaxation is at.
     pub(crate) ratio: Fraction,
     /// Its trial.
-    pub(crate) trial: Trial,
+    pub(crate) trial: Gains,
     /// An entry for each register. The places of the cycle that shows the ratio come last.
     pub(crate) places: Vec<u32>,
     /// Where they begin.
@@ -89,10 +89,10 @@ impl Search {
         ensures search { IsSearch constraints.now self.new }
         ensures same { IsSameSearch self.old self.new }
     {
-        self.relaxation.prepare(self.trial);
         if !self.reach_shown() {
             return;
         }
+        self.relaxation.forget_parents();
         self.relaxation.choose_parents(constraints, self.trial);
         for _round in 0..ROUNDS {
             if !self.improve(constraints, marks) {
@@ -115,7 +115,7 @@ impl Search {
         if !self.reach_shown() {
             return None;
         }
-        self.relaxation.prepare(self.trial);
+        self.relaxation.forget_parents();
         self.relaxation.settle(constraints, self.trial)
     }
 
@@ -144,6 +144,7 @@ impl Search {
         ensures same { IsSameSearch self.old self.new }
         ensures shown { self.new.shown ≡ self.old.shown }
         ensures reached { IsTrue result → IsAtShown self.new }
+        ensures small { IsTrue result → All (IsBelow (2 ^ 88)) self.new.relaxation.values.items }
         ensures never { result ≡ false → IsNeverAtAll self.new.shown }
     {
         let Some(ratio) = self.shown.ratio(self.first) else {
@@ -170,9 +171,7 @@ impl Search {
             return self.reach_shown();
         }
         self.relaxation.evaluate(constraints, self.trial, marks);
-        self.relaxation
-            .sweep_forwards(constraints, self.trial)
-            .is_some()
+        self.relaxation.sweep(constraints, self.trial, 0).is_some()
     }
 
     // Shows the ring of parents above the register where its ratio is greater than what is shown.

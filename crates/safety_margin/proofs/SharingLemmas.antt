@@ -12,8 +12,9 @@ use Rattle.cts_model.specs.timing.Constraints.{count_of}
 use Rattle.cts_model.specs.placement.Points.{IsBelow}
 use Rattle.cts_model.specs.timing.Schedules.{IsMarginPeriod, arrival_of}
 use Rattle.cts_model.proofs.ScaleLemmas.{size_same}
-use Rattle.schedule.specs.declared.gain.Gains.{Gains}
-use Rattle.schedule.specs.Gains.{AdmitsGains, AreLeastArrivalsBy, SatisfiesGains, gain_of}
+use Rattle.relaxation.specs.declared.gains.Gains.{Gains}
+use Rattle.relaxation.specs.Gains.{AdmitsGains, SatisfiesGains, gain_of}
+use Rattle.schedule.specs.Gains.{AreLeastArrivalsBy}
 use Rattle.safety_margin.specs.Margins.{IsOver, Spares}
 use Rattle.safety_margin.specs.Sharing.{AreGainsAt, CanSpare, IsShare, IsSmallMargin}
 use Rattle.safety_margin.specs.SparingSchedules.{AreLeastSparing, IsLeastMultiple}

@@ -3,7 +3,7 @@
 use Rattle.std.specs.Prelude.{◌≡◌, ◌≤◌, ◌*◌, ◌^◌, ℕ, ℤ, pos, neg_ℤ, ◌-ℤ◌, ◌*ℤ◌, ◌≤ℤ◌, List, nat_abs}
 use Rattle.cts_base.specs.declared.fraction.Fraction.{Fraction}
 use Rattle.cts_model.specs.declared.constraint.Constraint.{Constraint}
-use Rattle.schedule.specs.declared.gain.Gains.{Gains}
+use Rattle.relaxation.specs.declared.gains.Gains.{Gains}
 use Rattle.safety_margin.specs.Margins.{IsOver, Spares}
 
 -- a value whose numerator is below 10^19 in size and whose denominator is at most 40,970,000

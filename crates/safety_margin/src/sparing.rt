@@ -8,7 +8,8 @@ ghost use Rattle.safety_margin.specs.SparingSchedules.{IsSmallSparing, IsSparing
 
 use cts_base::{Fraction, Listed};
 use cts_model::{Constraint, Schedule};
-use schedule::{Gains, Room, least_arrivals_in};
+use relaxation::Gains;
+use schedule::{Room, least_arrivals_in};
 
 /// The least schedule that spares a margin at a period. A list of the room becomes the schedule's,
 /// and no other memory is taken.

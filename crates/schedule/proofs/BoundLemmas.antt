@@ -12,11 +12,12 @@ use Rattle.cts_model.specs.declared.constraint.Constraint.{Constraint}
 use Rattle.cts_model.specs.placement.Points.{IsBelow}
 use Rattle.cts_model.specs.timing.Constraints.{AreSmallConstraints, IsSmallConstraint}
 use Rattle.cts_model.specs.timing.Schedules.{arrival_of, AreFromZero, IsSmallPeriod}
-use Rattle.schedule.specs.declared.gain.Gains.{Gains}
-use Rattle.schedule.specs.Gains.{AreGainsOf, AreLeastBy, SatisfiesGains, gain_of}
+use Rattle.relaxation.specs.declared.gains.Gains.{Gains}
+use Rattle.relaxation.specs.Gains.{SatisfiesGains, gain_of}
+use Rattle.schedule.specs.Gains.{AreGainsOf, AreLeastBy}
 use Rattle.schedule.specs.Schedules.{AreWithinWeights, CanSchedule}
 use Rattle.schedule.specs.Rises.{IsRising}
-use Rattle.schedule.proofs.GainLemmas.{gain_small}
+use Rattle.relaxation.proofs.GainLemmas.{gain_small}
 use Rattle.schedule.proofs.Levels.{lowered, lowered_low, lowered_keeps}
 
 -- the size of a number is at least the number

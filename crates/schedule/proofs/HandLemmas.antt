@@ -12,7 +12,7 @@ use Rattle.cts_model.specs.timing.Schedules.{arrival_of}
 use Rattle.cts_model.specs.timing.Leads.{IsTight, IsTightLead, depth_of, lead_at}
 use Rattle.schedule.specs.Tails.{IsLastBefore}
 use Rattle.schedule.specs.Reaching.{IsAdded, IsGiven, IsGrown, IsHanded, IsHandedBy, IsReachKept, IsReached, IsReaching}
-use Rattle.schedule.proofs.SweepLemmas.{nowhere}
+use Rattle.relaxation.proofs.RelaxLemmas.{nowhere}
 use Rattle.schedule.proofs.ReachLemmas.{IsReachKept-added, IsReaching-added, flag_here}
 
 -- the constraints that lead from the register are looked at, up to the mark's

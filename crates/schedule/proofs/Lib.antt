@@ -1,9 +1,7 @@
-mod GainLemmas
 mod Levels
 mod BoundLemmas
 mod PeriodLemmas
 mod RiseLemmas
-mod SweepLemmas
 mod TightLemmas
 mod TailLemmas
 mod ReachLemmas

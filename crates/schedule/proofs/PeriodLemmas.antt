@@ -7,8 +7,9 @@ use Rattle.cts_base.specs.declared.fraction.Fraction.{Fraction}
 use Rattle.cts_model.specs.declared.constraint.Constraint.{Constraint}
 use Rattle.cts_model.specs.timing.Constraints.{Satisfies}
 use Rattle.cts_model.proofs.ScaleLemmas.{scale-finer, scale-sub}
-use Rattle.schedule.specs.declared.gain.Gains.{Gains}
-use Rattle.schedule.specs.Gains.{AreGainsOf, AreLeastArrivalsBy, AdmitsGains, SatisfiesGains, gain_of}
+use Rattle.relaxation.specs.declared.gains.Gains.{Gains}
+use Rattle.relaxation.specs.Gains.{AdmitsGains, SatisfiesGains, gain_of}
+use Rattle.schedule.specs.Gains.{AreGainsOf, AreLeastArrivalsBy}
 use Rattle.schedule.specs.Schedules.{IsAdmittedBy, IsLeastScheduleOf}
 use Rattle.cts_model.specs.timing.Schedules.{arrival_of}
 use Rattle.schedule.proofs.BoundLemmas.{once_is, size_same}

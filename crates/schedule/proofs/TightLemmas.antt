@@ -3,7 +3,7 @@ use Rattle.std.proofs.Common.{◌≡◌, ◌↔◌, ◌^◌, ◌∙◌, ℤ, pos
 use Rattle.std.proofs.lemmas.Int.{ints}
 use Rattle.std.specs.Int.{w128}
 use Rattle.cts_model.specs.placement.Points.{IsBelow}
-use Rattle.schedule.proofs.GainLemmas.{kept}
+use Rattle.relaxation.proofs.GainLemmas.{kept}
 use mir.Val.{of_z}
 
 -- the code compares the difference with the gain

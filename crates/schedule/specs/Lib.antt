@@ -1,5 +1,4 @@
 pub mod Rooms
-pub mod GainSizes
 pub mod Gains
 pub mod Schedules
 pub mod Rises

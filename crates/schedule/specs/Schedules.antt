@@ -5,8 +5,8 @@ use Rattle.cts_base.specs.declared.fraction.Fraction.{Fraction}
 use Rattle.cts_model.specs.declared.constraint.Constraint.{Constraint}
 use Rattle.cts_model.specs.timing.Constraints.{AreSmallConstraints, Satisfies}
 use Rattle.cts_model.specs.timing.Schedules.{arrival_of, AreFromZero}
-use Rattle.schedule.specs.Gains.{AdmitsGains}
-use Rattle.schedule.specs.declared.gain.Gains.{Gains}
+use Rattle.relaxation.specs.Gains.{AdmitsGains}
+use Rattle.relaxation.specs.declared.gains.Gains.{Gains}
 
 -- any others from 0 on that satisfy the constraints, at a scale that many times as fine, are at
 -- least as late

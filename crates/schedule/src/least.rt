@@ -1,15 +1,17 @@
 ghost use Rattle.std.specs.Prelude.{◌≡◌, ◌^◌, All, IfOk, length, nat_abs};
 ghost use Rattle.cts_model.specs.timing.Constraints.{AreSmallConstraints};
 ghost use Rattle.cts_model.specs.placement.Points.{IsBelow};
-ghost use Rattle.schedule.specs.Gains.{AdmitsGains, AreLeastArrivalsBy};
+ghost use Rattle.relaxation.specs.Gains.{AdmitsGains};
+ghost use Rattle.schedule.specs.Gains.{AreLeastArrivalsBy};
 ghost use Rattle.schedule.specs.Schedules.{AreWithinWeights, IsAdmittedBy, IsLeastScheduleOf};
 ghost use Rattle.cts_model.specs.timing.Schedules.{IsSmallPeriod};
 
-use crate::gain::Gains;
-use crate::raising::{NO_PARENT, Raising};
+use crate::gains::gains_of;
+use crate::raising::raise_in_turns;
 use crate::room::Room;
 use cts_base::{Fraction, Listed, NoMemory};
 use cts_model::{Constraint, Schedule};
+use relaxation::{Gains, Relaxation};
 use std::alloc::Global;
 
 /// The least arrivals from 0 on that satisfy the constraints by their gains. A list of the room
@@ -22,15 +24,17 @@ pub fn least_arrivals_in(room: Room, constraints: &Listed<Constraint>, gains: Ga
     ensures least { AreLeastArrivalsBy constraints.now gains result }
     ensures small { All (IsBelow (2 ^ 93)) result }
 {
-    let mut raising = Raising {
-        at: room.at.into_vec(),
+    let list = constraints.as_slice();
+    let mut links = room.links.into_vec();
+    let mut relaxation = Relaxation {
+        values: room.at.into_vec(),
         parents: room.parents.into_vec(),
-        links: room.links.into_vec(),
     };
-    raising.at.fill(0);
-    raising.parents.fill(NO_PARENT);
-    raising.settle(constraints.as_slice(), gains);
-    Listed::from_vec(raising.at)
+    relaxation.values.fill(0);
+    raise_in_turns(&mut relaxation, list, gains, &mut links);
+    relaxation.forget_parents();
+    relaxation.settle(list, gains);
+    Listed::from_vec(relaxation.values)
 }
 
 /// The least arrivals that satisfy the constraints at a period in ticks. A list of the room becomes
@@ -48,7 +52,7 @@ pub fn least_schedule_in(room: Room, constraints: &Listed<Constraint>, period: F
 {
     Schedule {
         den: period.den(),
-        at: least_arrivals_in(room, constraints, Gains::of(period)),
+        at: least_arrivals_in(room, constraints, gains_of(period)),
     }
 }
 

@@ -1,7 +1,7 @@
 //! The least arrivals at which registers meet constraints between them at a period, and why.
 #![tactic(auto)]
 
-mod gain;
+mod gains;
 mod least;
 mod raising;
 mod reach;
@@ -9,7 +9,6 @@ mod room;
 mod tails;
 mod tight;
 
-pub use gain::Gains;
 pub use least::{least_arrivals_in, least_schedule, least_schedule_in};
 pub use room::Room;
 pub use tight::leads;

@@ -5,7 +5,7 @@ ghost use Rattle.schedule.specs.Schedules.{IsAdmittedBy, IsLeastScheduleOf};
 ghost use Rattle.cts_model.specs.timing.Schedules.{IsSmallPeriod, arrival_of};
 ghost use Rattle.cts_model.specs.timing.Leads.{EachLead, IsTight, depth_of, lead_at};
 
-use crate::gain::Gains;
+use crate::gains::gains_of;
 use crate::reach::Reach;
 use crate::tails::ByTail;
 use cts_base::{Fraction, Listed, NoMemory};
@@ -59,6 +59,6 @@ pub(crate) fn is_tight(constraint: &Constraint, at: &[i128], period: Fraction) -
     requires from_zero { AreFromZero (length at.now) (arrival_of at.now) }
     ensures { IsTrue result ↔ IsTight period at.now constraint.now }
 {
-    let gain = Gains::of(period).gain(constraint);
+    let gain = gains_of(period).gain(constraint);
     at[constraint.head as usize] - at[constraint.tail as usize] == gain
 }

@@ -1,7 +1,7 @@
 use Rattle.std.proofs.Common.{◌*ℤ◌, refl}
 use mir.Syntax.{w128}
 use Rattle.std.proofs.lemmas.Int.{to_z-of_z}
-use Rattle.critical_cycle.proofs.GainLemmas.{product_fits, product_small}
+use Rattle.critical_cycle.proofs.ProductLemmas.{product_fits, product_small}
 use Rattle.critical_cycle.proofs.sums.product.Goals as goal
 
 pub returns-clause-value : goal.returns-clause-value

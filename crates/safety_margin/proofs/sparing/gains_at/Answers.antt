@@ -4,7 +4,7 @@ use Rattle.std.specs.Int.{w128}
 use Rattle.std.proofs.lemmas.Int.{ints}
 use Rattle.cts_base.specs.declared.fraction.Fraction.{Fraction}
 use Rattle.cts_model.specs.placement.Points.{IsBelow}
-use Rattle.schedule.specs.GainSizes.{AreSmallGains}
+use Rattle.relaxation.specs.GainSizes.{AreSmallGains}
 use Rattle.safety_margin.proofs.CodeLemmas.{kept}
 use Rattle.safety_margin.proofs.SharingLemmas.{AreSmallParts, small_parts}
 use Rattle.safety_margin.proofs.sparing.gains_at.Goals as goal

@@ -8,22 +8,22 @@ use Rattle.schedule.proofs.least.least_schedule_in.Goals as goal
 
 pub least_arrivals_in-requires-clause-admitted : goal.least_arrivals_in-requires-clause-admitted
 least_arrivals_in-requires-clause-admitted c =
-    admits_gains c.of.ensures c.args.constraints.now c.requires.admitted
+    admits_gains c.gains_of.ensures c.args.constraints.now c.requires.admitted
 
 pub returns-clause-least : goal.returns-clause-least
 returns-clause-least c =
-    least_at_period c.of.ensures c.args.constraints.now c.least_arrivals_in.result
+    least_at_period c.gains_of.ensures c.args.constraints.now c.least_arrivals_in.result
     c.least_arrivals_in.ensures.least
 
 pub returns-clause-bound : goal.returns-clause-bound
 returns-clause-bound c =
     let constraints = c.args.constraints.now in
-    AreWithinWeights-least constraints c.args.period c.of.result c.least_arrivals_in.result
-    c.of.ensures c.requires.period
-    (subst (CanSchedule constraints c.of.result) (sym c.least_arrivals_in.ensures.registers)
+    AreWithinWeights-least constraints c.args.period c.gains_of.result c.least_arrivals_in.result
+    c.gains_of.ensures c.requires.period
+    (subst (CanSchedule constraints c.gains_of.result) (sym c.least_arrivals_in.ensures.registers)
     (record {
       small = c.requires.small;
-      admitted = admits_gains c.of.ensures constraints c.requires.admitted;
+      admitted = admits_gains c.gains_of.ensures constraints c.requires.admitted;
     }))
     c.least_arrivals_in.ensures.least.least
 

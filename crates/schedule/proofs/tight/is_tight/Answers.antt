@@ -16,7 +16,7 @@ returns c =
     (c.requires.from_zero it.tail c.requires.small.tail) to_fits from_fits
     c.gain-gain.ensures.small
     (c.gain-gain.ensures.gain ∙ rw (
-      c.of.ensures.scale_is,
-      c.of.ensures.setup_is,
-      c.of.ensures.hold_is,
+      c.gains_of.ensures.scale_is,
+      c.gains_of.ensures.setup_is,
+      c.gains_of.ensures.hold_is,
     ) refl)

@@ -5,7 +5,7 @@ use Rattle.std.proofs.lemmas.List.{with_items_is}
 use Rattle.critical_cycle.specs.CyclePlaces.{constraints_at}
 use Rattle.critical_cycle.specs.Raises.{IsRaise}
 use Rattle.critical_cycle.specs.ShownRatios.{IsShown}
-use Rattle.critical_cycle.specs.Trials.{AreParents}
+use Rattle.relaxation.specs.Parents.{AreParents}
 use Rattle.critical_cycle.proofs.SearchLemmas.{can_try, not_kept, raise_shows}
 use Rattle.critical_cycle.proofs.search.Search.raise.Goals as goal
 

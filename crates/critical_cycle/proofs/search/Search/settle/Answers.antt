@@ -1,5 +1,6 @@
 -- A trial settles the greatest ratio shown, or a register is far up its parents.
 use Rattle.std.proofs.Common.{subst}
+use Rattle.relaxation.specs.Parents.{value_of}
 use Rattle.critical_cycle.specs.ShownRatios.{IsSettled}
 use Rattle.critical_cycle.proofs.SearchLemmas.{outcome, settled_at}
 use Rattle.critical_cycle.proofs.search.Search.settle.Goals as goal
@@ -16,8 +17,8 @@ returns-clause-settled c =
     subst (λ measure. IsSettled measure constraints before.first before.shown) same.measure
     (subst (λ first. IsSettled now.measure constraints first before.shown) same.first
     (subst (λ shown. IsSettled now.measure constraints now.first shown) c.reach_shown.ensures.shown
-    (settled_at now.measure constraints now.first now.shown now.ratio now.trial c.settle.new.self
-    at.greatest at.at satisfies))))
+    (settled_at now.measure constraints now.first now.shown now.ratio now.trial
+    (value_of c.settle.new.self.values.items) at.greatest at.at satisfies))))
     (λ register far.
     record { far_up = far; at_shown = record { at = at.at; greatest = at.greatest } })
     c.settle.ensures.settled

@@ -3,7 +3,8 @@ use Rattle.std.proofs.Common.{◌≡◌, ◌^◌, ◌∙◌, ℤ, ◌-ℤ◌, �
 use Rattle.std.proofs.lemmas.Int.{ints}
 use Rattle.cts_model.specs.placement.Points.{IsBelow}
 use Rattle.critical_cycle.specs.declared.measure.Measure.{Measure}
-use Rattle.critical_cycle.proofs.GainLemmas.{kept, products_fit, products_read, small_product_read}
+use Rattle.critical_cycle.proofs.ProductLemmas.{products_fit, products_read, small_product_read}
+use Rattle.relaxation.proofs.GainLemmas.{kept}
 use Rattle.critical_cycle.proofs.MeasureLemmas.{period_small, scale_small}
 use Rattle.critical_cycle.proofs.sums.Sums.measured.Goals as goal
 

@@ -4,7 +4,7 @@ use Rattle.std.proofs.lemmas.List.{get_or_read}
 use Rattle.cts_model.specs.declared.constraint.Constraint.{Constraint}
 use Rattle.cts_model.specs.declared.schedule.Lead.TheVariants.{Zero}
 use Rattle.cts_model.specs.timing.Leads.{IsTight, depth_of, lead_at}
-use Rattle.schedule.proofs.SweepLemmas.{nowhere}
+use Rattle.relaxation.proofs.RelaxLemmas.{nowhere}
 use Rattle.schedule.proofs.HandLemmas.{IsGrown-offered}
 use Rattle.schedule.proofs.reach.Reach.offer.Goals as goal
 

@@ -1,6 +1,6 @@
 use Rattle.std.proofs.Common.{subst, arith}
 use Rattle.schedule.specs.Tails.{AreByTail}
-use Rattle.schedule.proofs.SweepLemmas.{nowhere}
+use Rattle.relaxation.proofs.RelaxLemmas.{nowhere}
 use Rattle.schedule.proofs.TailLemmas.{AreByTail-more}
 use Rattle.schedule.proofs.tails.ByTail.of.Goals as goal
 

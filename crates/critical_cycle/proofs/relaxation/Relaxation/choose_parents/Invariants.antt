@@ -1,6 +1,0 @@
-use Rattle.std.proofs.Common.{◌≡◌, length}
-use Rattle.critical_cycle.proofs.relaxation.Relaxation.choose_parents.Given as goal
-
-abbrev pub invariant-loop-place : goal.invariant-loop-place
-invariant-loop-place l = (l.self.values.items ≡ l.initial.self.values.items)
-    × (length l.self.parents.items ≡ length l.initial.self.parents.items)

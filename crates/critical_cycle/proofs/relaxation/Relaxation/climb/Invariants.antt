@@ -1,7 +1,0 @@
-use Rattle.std.proofs.Common.{◌<◌, length}
-use Rattle.critical_cycle.proofs.ClimbLemmas.{IsClimbing}
-use Rattle.critical_cycle.proofs.relaxation.Relaxation.climb.Given as goal
-
-abbrev pub invariant-loop-step : goal.invariant-loop-step
-invariant-loop-step l = (l.register < length l.self.values.items) × IsClimbing l.constraints
-    l.self.parents.items l.from l._step l.register

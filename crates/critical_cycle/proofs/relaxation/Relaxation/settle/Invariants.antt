@@ -1,9 +1,0 @@
-use Rattle.std.proofs.Common.{◌-◌, length}
-use Rattle.critical_cycle.proofs.SettleLemmas.{IsSettling}
-use Rattle.critical_cycle.proofs.relaxation.Relaxation.settle.Given as goal
-
-abbrev pub invariant-loop-changed : goal.invariant-loop-changed
-invariant-loop-changed l = IsSettling l.constraints l.trial l.sweeps l.initial.self l.self
-
-abbrev pub decreases-loop-changed : goal.decreases-loop-changed
-decreases-loop-changed l = length l.initial.self.values.items - l.sweeps

@@ -1,0 +1,169 @@
+-- How far a sweep has come: what one constraint after the other makes of all values.
+use Rattle.std.proofs.Common.{◌≡◌, ◌<◌, ◌≤◌, ◌+◌, ◌^◌, ◌∙◌, ℕ, ℤ, List, length, get_or, set, All, Option, Some, None, MatchOption, IfSome, ◌⊎◌, sym, subst, ap, arith}
+use Rattle.std.specs.List.{slice_get}
+use Rattle.std.specs.Bool.{⊤}
+use Rattle.std.specs.Option.{option_or}
+use Rattle.std.proofs.lemmas.List.{length-set}
+use Rattle.std.proofs.lemmas.Option.{slice_get-get_or, slice_get_within}
+use Rattle.cts_model.specs.declared.constraint.Constraint.{Constraint}
+use Rattle.cts_model.specs.timing.Constraints.{AreSmallConstraints, IsSmallConstraint}
+use Rattle.cts_model.specs.placement.Points.{IsBelow}
+use Rattle.relaxation.specs.declared.gains.Gains.{Gains}
+use Rattle.relaxation.specs.declared.relaxation.Relaxation.{Relaxation}
+use Rattle.relaxation.specs.Relaxing.{HasEntries, offer_of, IsLeft, IsRaised, IsRelaxed}
+use Rattle.relaxation.specs.Rises.{AreRaised}
+use Rattle.relaxation.specs.Sweeps.{IsSweeping, IsReady, IsSweep}
+use Rattle.relaxation.proofs.RelaxLemmas.{nowhere}
+use Rattle.relaxation.proofs.RiseLemmas.{AreRaised-none, AreRaised-one, AreRaised-more, small_raised}
+use Rattle.relaxation.proofs.ParentLemmas.{IsRaise, IsRaise-set}
+use Rattle.relaxation.proofs.SweepLemmas.{IsSweeping-fewer, IsSweeping-left, IsSweeping-raised}
+
+-- what a look at a constraint leaves, by whether its head changed
+abbrev pub IsLook : Gains → ℕ → Constraint → Relaxation → Option ℕ → Relaxation → Type 0
+IsLook gains place constraint old answer new =
+    MatchOption answer (IsLeft gains constraint old new)
+    (λ (register : ℕ). IsRaised gains place constraint old register new)
+
+module _ {constraints : List Constraint} (gains : Gains) (place : ℕ) {constraint : Constraint}
+    {old : Relaxation} (new : Relaxation)
+    (entries : HasEntries constraints old) (here : slice_get constraints place ≡ Some constraint)
+    (small : IsSmallConstraint (length old.values.items) constraint) where
+  -- the parents keep their length
+  pub parents_length : (answer : Option ℕ) → IsLook gains place constraint old answer new
+      → length new.parents.items ≡ length old.parents.items
+  parents_length None left = ap length left.parents
+  parents_length (Some register) raised =
+      ap length raised.parents ∙ length-set old.parents.items constraint.head place
+
+  -- a register that is raised
+  raise_of : (register : ℕ) → IsRaised gains place constraint old register new
+      → IsRaise constraints gains constraint old.values.items old.parents.items
+      new.values.items new.parents.items
+  raise_of register raised =
+      subst (λ (later : List ℤ). IsRaise constraints gains constraint old.values.items
+      old.parents.items later new.parents.items) (sym raised.values)
+      (subst (λ (later : List ℕ). IsRaise constraints gains constraint old.values.items
+      old.parents.items
+      (set old.values.items constraint.head (offer_of gains old.values.items constraint)) later)
+      (sym raised.parents)
+      (IsRaise-set constraints gains place constraint old.values.items old.parents.items here
+      small.head (omega (arith, small.head, entries.parents)) raised.more))
+
+  -- it is at most one raise
+  raised_look : (answer : Option ℕ) → IsLook gains place constraint old answer new
+      → AreRaised constraints gains 1 old.values.items new.values.items
+  raised_look None left = subst (AreRaised constraints gains 1 old.values.items) (sym left.values)
+      (AreRaised-more (omega arith) (AreRaised-none old.values.items)
+      (AreRaised-none old.values.items))
+  raised_look (Some register) raised =
+      subst (AreRaised constraints gains 1 old.values.items) (sym raised.values)
+      (AreRaised-one gains old.values.items constraint small constraints place here raised.more)
+
+  -- one more place is seen
+  pub sweeping_look : (answer : Option ℕ) → IsLook gains place constraint old answer new
+      → (sweep : ℕ) (Seen Later : ℕ → Type 0) (changed : Option ℕ)
+      → ((other : ℕ) → Later other → (Seen other) ⊎ (other ≡ place))
+      → IsSweeping constraints gains sweep Seen changed old.values.items old.parents.items
+      → IsSweeping constraints gains sweep Later (option_or answer changed)
+      new.values.items new.parents.items
+  sweeping_look None left sweep Seen Later changed seen before =
+      subst (λ (values : List ℤ). IsSweeping constraints gains sweep Later changed values
+      new.parents.items) (sym left.values)
+      (subst (λ (parents : List ℕ). IsSweeping constraints gains sweep Later changed
+      old.values.items parents) (sym left.parents)
+      (IsSweeping-left before place constraint here Later seen left.met))
+  sweeping_look (Some register) raised sweep Seen Later changed seen before =
+      subst (λ r. IsSweeping constraints gains sweep Later (Some r) new.values.items
+      new.parents.items) (sym raised.head)
+      (IsSweeping-raised before place constraint here Later seen
+      (raised_look (Some register) raised).registers small.head (raise_of register raised))
+
+-- how far a sweep has come that has seen so many constraints
+pub record IsUnderWay (constraints : List Constraint) (gains : Gains) (Seen : ℕ → Type 0)
+    (count : ℕ) (changed : Option ℕ) (begun now : Relaxation) : Type 0 where
+  pub parents : length now.parents.items ≡ length begun.parents.items
+  pub raised : AreRaised constraints gains count begun.values.items now.values.items
+  pub swept : (sweep : ℕ) → IsReady constraints gains sweep begun
+      → IsSweeping constraints gains sweep Seen changed now.values.items now.parents.items
+
+-- there is an entry for each register still
+pub entries_kept : {constraints : List Constraint} {old new : Relaxation}
+    → length new.values.items ≡ length old.values.items
+    → length new.parents.items ≡ length old.parents.items
+    → HasEntries constraints old → HasEntries constraints new
+entries_kept {constraints} values parents entries = record {
+  small = subst (λ n. AreSmallConstraints n constraints) (sym values) entries.small;
+  parents = omega (arith, values, parents, entries.parents);
+}
+
+module _ {constraints : List Constraint} {gains : Gains} {Seen : ℕ → Type 0} {count : ℕ}
+    {changed : Option ℕ} {begun now : Relaxation}
+    (entries : HasEntries constraints begun)
+    (way : IsUnderWay constraints gains Seen count changed begun now) where
+  -- there is an entry for each register
+  entries_now : HasEntries constraints now
+  entries_now = entries_kept way.raised.registers way.parents entries
+
+  -- the values are small still
+  pub small_now : count ≤ 2097152 → All (IsBelow (2 ^ 114)) begun.values.items
+      → All (IsBelow (2 ^ 115)) now.values.items
+  small_now few = small_raised (2 ^ 114) (2 ^ 115) (omega arith) way.raised
+
+  -- one more constraint is looked at
+  pub IsUnderWay-more : (place : ℕ) (answer : Option ℕ) (later : Relaxation) (Later : ℕ → Type 0)
+      → place < length constraints → IsRelaxed constraints gains place now answer later
+      → ((other : ℕ) → Later other → (Seen other) ⊎ (other ≡ place))
+      → IsUnderWay constraints gains Later (count + 1) (option_or answer changed) begun later
+  IsUnderWay-more place answer later Later within relaxed seen = record {
+    parents = parents_length gains place later entries_now here small answer look ∙ way.parents;
+    raised = AreRaised-more (omega arith) way.raised
+        (raised_look gains place later entries_now here small answer look);
+    swept = λ sweep ready. sweeping_look gains place later entries_now here small answer look sweep
+        Seen Later changed seen (way.swept sweep ready);
+  }
+    where
+      -- the constraint at the place
+      here : slice_get constraints place ≡ Some (get_or constraints place nowhere)
+      here = slice_get-get_or constraints place nowhere within
+
+      -- the look at it
+      look : IsLook gains place (get_or constraints place nowhere) now answer later
+      look = subst (λ o. IfSome o (λ (it : Constraint). IsLook gains place it now answer later))
+          here relaxed
+
+      -- it is small
+      small : IsSmallConstraint (length now.values.items) (get_or constraints place nowhere)
+      small = entries_now.small.each place nowhere within
+
+  -- after the last
+  pub IsSweep-all : count ≡ length constraints → ((place : ℕ) → place < length constraints
+      → Seen place) → IsSweep constraints gains begun changed now
+  IsSweep-all whole all = record {
+    parents = way.parents;
+    raised = subst (λ n. AreRaised constraints gains n begun.values.items now.values.items) whole
+        way.raised;
+    swept = λ sweep ready. IsSweeping-fewer (way.swept sweep ready) (λ place. ⊤)
+        (λ place constraint seen here. all place
+        (slice_get_within constraints place constraint here));
+  }
+
+-- one constraint that is looked at raises at most once
+pub raised_by : {constraints : List Constraint} {gains : Gains} (place : ℕ) (answer : Option ℕ)
+    (old new : Relaxation) → HasEntries constraints old → place < length constraints
+    → IsRelaxed constraints gains place old answer new
+    → AreRaised constraints gains 1 old.values.items new.values.items
+    × (length new.parents.items ≡ length old.parents.items)
+raised_by {constraints} {gains} place answer old new entries within relaxed = (
+  raised_look gains place new entries here small answer look,
+  parents_length gains place new entries here small answer look,
+)
+  where
+    here : slice_get constraints place ≡ Some (get_or constraints place nowhere)
+    here = slice_get-get_or constraints place nowhere within
+
+    look : IsLook gains place (get_or constraints place nowhere) old answer new
+    look = subst (λ o. IfSome o (λ (it : Constraint). IsLook gains place it old answer new))
+        here relaxed
+
+    small : IsSmallConstraint (length old.values.items) (get_or constraints place nowhere)
+    small = entries.small.each place nowhere within

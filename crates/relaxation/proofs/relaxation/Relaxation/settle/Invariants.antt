@@ -1,0 +1,9 @@
+use Rattle.std.proofs.Common.{◌-◌, length}
+use Rattle.relaxation.proofs.SettleLemmas.{IsSettling}
+use Rattle.relaxation.proofs.relaxation.Relaxation.settle.Given as goal
+
+abbrev pub invariant-loop-changed : goal.invariant-loop-changed
+invariant-loop-changed l = IsSettling l.constraints l.gains l.sweeps l.initial.self l.self
+
+abbrev pub decreases-loop-changed : goal.decreases-loop-changed
+decreases-loop-changed l = length l.initial.self.values.items - l.sweeps

@@ -1,0 +1,21 @@
+-- Scales are above 0, so the quotient is no larger than the product.
+use Rattle.std.proofs.Common.{FitsSigned, ℤ, ◌*ℤ◌, arith}
+use Rattle.std.proofs.lemmas.Int.{ints, quot_fits}
+use Rattle.std.specs.Int.{w128}
+use Rattle.relaxation.proofs.GainLemmas.{kept, scaled_fits, scaled_kept}
+use Rattle.relaxation.proofs.relaxation.rescaled.Goals as goal
+
+pub overflow_mul-cut : goal.overflow_mul-cut
+overflow_mul-cut c =
+    let next = c.args.next.valid in
+    scaled_fits c.cut.result c.args.next.scale c.cut.ensures next.some next.fine
+
+pub nonzero_div-cut : goal.nonzero_div-cut
+nonzero_div-cut c =
+    let next = c.args.next.valid in
+    let product : ℤ = kept (kept c.cut.result *ℤ kept c.args.next.scale) in
+    let fits : FitsSigned w128 product =
+    scaled_kept c.cut.result c.args.next.scale c.cut.ensures next.some next.fine in (
+      omega (arith, ints),
+      quot_fits w128 product (kept c.args.last.scale) fits (omega (arith, ints)),
+    )

@@ -1,0 +1,6 @@
+pub mod GainSizes
+pub mod Gains
+pub mod Parents
+pub mod Rises
+pub mod Relaxing
+pub mod Sweeps

@@ -1,0 +1,196 @@
+ghost use Rattle.std.specs.Prelude.{◌≡◌, ◌<◌, ◌≤◌, ◌^◌, ℕ, None, List, All, IfSome, MatchOption, length};
+ghost use Rattle.cts_model.specs.declared.constraint.Constraint.{Constraint};
+ghost use Rattle.cts_model.specs.placement.Points.{IsBelow};
+
+use crate::gains::Gains;
+use cts_model::Constraint;
+
+/// The parent of a register without one. No list of constraints has a place with this number.
+const NO_PARENT: u32 = u32::MAX;
+
+/// Values of registers that are raised until constraints hold, in the order of the list and against
+/// it by turns. Bellman, "On a routing problem", 1958; with parents that show where no values will
+/// do: Cherkassky and Goldberg, "Negative-cycle detection algorithms", 1999.
+#[derive(Drop)]
+pub struct Relaxation {
+    /// A value for each register, in ticks over the scale of the gains.
+    pub values: Vec<i128>,
+    /// For each register the place of the constraint that raised it last, or a number that is no
+    /// place.
+    pub parents: Vec<u32>,
+}
+
+impl Relaxation {
+    ghost use Rattle.relaxation.specs.Gains.{AdmitsGains, SatisfiesGains};
+    ghost use Rattle.relaxation.specs.Parents.{ReachesUp, parent_of, value_of};
+    ghost use Rattle.relaxation.specs.Relaxing.{HasEntries, IsFarUp, IsRelaxed};
+    ghost use Rattle.relaxation.specs.Rises.{AreRaised};
+    ghost use Rattle.relaxation.specs.Sweeps.{IsSweep};
+
+    /// Forgets all parents. It takes no memory.
+    pub fn forget_parents(&mut self)
+        ensures values { self.new.values.items ≡ self.old.values.items }
+        ensures parents { length self.new.parents.items ≡ length self.old.parents.items }
+        ensures none { (constraints : List Constraint) (register : ℕ)
+            → length constraints ≤ 2097152
+            → parent_of constraints self.new.parents.items register ≡ None }
+    {
+        self.parents.fill(NO_PARENT);
+    }
+
+    /// Brings the values from the scale of the last gains to that of the next, rounded towards 0
+    /// and cut in size. Any values will do. It takes no memory.
+    pub fn rescale(&mut self, last: Gains, next: Gains)
+        ensures values { length self.new.values.items ≡ length self.old.values.items }
+        ensures parents { self.new.parents.items ≡ self.old.parents.items }
+        ensures small { All (IsBelow (2 ^ 88)) self.new.values.items }
+    {
+        for register in 0..self.values.len() {
+            let value = self.values[register];
+            self.values[register] = rescaled(value, last, next);
+        }
+    }
+
+    /// Sweeps over the constraints, forwards and backwards by turns, until a sweep changes nothing
+    /// or as many parents as there are registers stand above the register that it changed last. The
+    /// register at their top is answered; where some values satisfy the constraints there is none.
+    /// It makes at most a sweep for each register, and takes no memory.
+    pub fn settle(&mut self, constraints: &[Constraint], gains: Gains) -> Option<u32>
+        requires entries { HasEntries constraints.now self.old }
+        requires small { All (IsBelow (2 ^ 93)) self.old.values.items }
+        requires none { (register : ℕ)
+            → parent_of constraints.now self.old.parents.items register ≡ None }
+        ensures settled { MatchOption result
+            (SatisfiesGains constraints.now gains 1 (value_of self.new.values.items))
+            (IsFarUp constraints.now gains self.new) }
+        ensures admitted { AdmitsGains constraints.now gains → result ≡ None }
+        ensures raised { (raises : ℕ)
+            × AreRaised constraints.now gains raises self.old.values.items self.new.values.items }
+        ensures parents { length self.new.parents.items ≡ length self.old.parents.items }
+    {
+        let mut sweeps = 0;
+        while let Some(changed) = self.sweep(constraints, gains, sweeps) {
+            if let Some(register) = self.climb(constraints, changed) {
+                return Some(register);
+            }
+            sweeps += 1;
+        }
+        None
+    }
+
+    /// The parent of a register, if it has one.
+    pub(crate) fn parent<'a>(
+        &self,
+        constraints: &'a [Constraint],
+        register: u32,
+    ) -> Option<&'a Constraint>
+        requires entries { HasEntries constraints.now self.now }
+        requires register { register < length self.now.parents.items }
+        ensures small { IfSome result (λ parent. IsBelow (10 ^ 11) parent.now.weight) }
+        ensures within { IfSome result (λ parent.
+            parent.now.tail < length self.now.parents.items) }
+    {
+        constraints.get(self.parents[register as usize] as usize)
+    }
+
+    /// The register to which as many steps up the parents lead as there are registers, if there are
+    /// so many parents. It takes no memory.
+    pub fn climb(&self, constraints: &[Constraint], from: u32) -> Option<u32>
+        requires entries { HasEntries constraints.now self.now }
+        requires from { from < length self.now.values.items }
+        ensures reaches { MatchOption result
+            ((to : ℕ) → ReachesUp constraints.now self.now.parents.items from to → ⊥)
+            (ReachesUp constraints.now self.now.parents.items from) }
+        ensures within { IfSome result (λ register. register < length self.now.values.items) }
+    {
+        let mut register = from;
+        for _step in 0..self.parents.len() {
+            let parent = self.parents[register as usize];
+            register = constraints.get(parent as usize)?.tail;
+        }
+        Some(register)
+    }
+
+    /// One sweep, forwards where the number of sweeps before it is even. The register that changed
+    /// last is answered.
+    pub fn sweep(&mut self, constraints: &[Constraint], gains: Gains, before: usize) -> Option<u32>
+        requires entries { HasEntries constraints.now self.old }
+        requires small { All (IsBelow (2 ^ 114)) self.old.values.items }
+        ensures { IsSweep constraints.now gains self.old result self.new }
+    {
+        if before % 2 == 0 {
+            self.sweep_forwards(constraints, gains)
+        } else {
+            self.sweep_backwards(constraints, gains)
+        }
+    }
+
+    // From the first constraint to the last.
+    fn sweep_forwards(&mut self, constraints: &[Constraint], gains: Gains) -> Option<u32>
+        requires entries { HasEntries constraints.now self.old }
+        requires small { All (IsBelow (2 ^ 114)) self.old.values.items }
+        ensures { IsSweep constraints.now gains self.old result self.new }
+    {
+        let mut changed = None;
+        for place in 0..constraints.len() {
+            changed = self.relax(constraints, place, gains).or(changed);
+        }
+        changed
+    }
+
+    // From the last constraint to the first.
+    fn sweep_backwards(&mut self, constraints: &[Constraint], gains: Gains) -> Option<u32>
+        requires entries { HasEntries constraints.now self.old }
+        requires small { All (IsBelow (2 ^ 114)) self.old.values.items }
+        ensures { IsSweep constraints.now gains self.old result self.new }
+    {
+        let mut changed = None;
+        let mut place = constraints.len();
+        while place > 0 {
+            place -= 1;
+            changed = self.relax(constraints, place, gains).or(changed);
+        }
+        changed
+    }
+
+    /// Raises the head of a constraint to what the constraint gives it, if that is more. The head
+    /// is answered where it changed.
+    pub(crate) fn relax(
+        &mut self,
+        constraints: &[Constraint],
+        place: usize,
+        gains: Gains,
+    ) -> Option<u32>
+        requires entries { HasEntries constraints.now self.old }
+        requires place { place < length constraints.now }
+        requires small { All (IsBelow (2 ^ 115)) self.old.values.items }
+        ensures { IsRelaxed constraints.now gains place self.old result self.new }
+    {
+        let constraint = &constraints[place];
+        let offer = self.values[constraint.tail as usize] + gains.gain(constraint);
+        let head = constraint.head;
+        if offer <= self.values[head as usize] {
+            return None;
+        }
+        self.values[head as usize] = offer;
+        self.parents[head as usize] = place as u32;
+        Some(head)
+    }
+}
+
+// A value at another scale, rounded and cut to a size below 2^88.
+fn rescaled(value: i128, last: Gains, next: Gains) -> i128
+    ensures { IsBelow (2 ^ 88) result }
+{
+    cut(cut(value) * next.scale / last.scale)
+}
+
+// The nearest value whose size is below 2^88.
+fn cut(value: i128) -> i128
+    ensures { IsBelow (2 ^ 88) result }
+{
+    value.clamp(-LIMIT, LIMIT)
+}
+
+// The greatest value whose size is below 2^88.
+const LIMIT: i128 = (1 << 88) - 1;
