@@ -6,10 +6,10 @@ ghost use Rattle.path_delays.specs.WalkParts.{IsRoomFor};
 ghost use Rattle.path_delays.specs.Capturings.{IsCapturingOf};
 ghost use Rattle.path_delays.specs.JoinedPairs.{ListsPairsBefore, ArePairs, ShowsTooMany, MeetsLimit, pair_limit};
 
+use crate::PairFault;
 use crate::capturing::Capturing;
 use crate::pair::joined_pair;
 use crate::walk::Walk;
-use crate::PairFault;
 use cts_base::Listed;
 use cts_model::{Circuit, PairDelay, Tech};
 use gate_order::Levels;
