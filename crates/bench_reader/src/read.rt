@@ -10,7 +10,7 @@ use crate::circuit_parts::{CircuitParts, read_parts};
 use crate::definitions::read_definitions;
 use cts_base::{Listed, Name, NoMemory};
 use cts_model::Circuit;
-use path_delays::{LevelFault, levels};
+use gate_order::{LevelFault, levels};
 use std::alloc::Global;
 
 /// Reads a netlist in the ISCAS'89 `.bench` format. The circuit has no host.

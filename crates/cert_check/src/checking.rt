@@ -4,7 +4,7 @@ ghost use Rattle.cts_model.specs.report.SaidReports.{ShowsWhatItSays};
 ghost use Rattle.cts_model.specs.report.Shown.{IsShown, ShowsLeast, cycle_of};
 ghost use Rattle.cts_model.specs.timing.Slacks.{AreSlacks};
 ghost use Rattle.cts_model.specs.tree.Topologies.{IsTopology};
-ghost use Rattle.path_delays.specs.LevelParts.{IsLevelsOf};
+ghost use Rattle.gate_order.specs.LevelParts.{IsLevelsOf};
 ghost use Rattle.cert_check.specs.declared.verdict.Verdict.{Verdict};
 ghost use Rattle.cert_check.specs.Judged.{Decides};
 ghost use Rattle.cert_check.specs.Verdicts.{EmbeddingJudged, IsVerdict, IsVerdictBy, ReachesJudged, RestJudged};
@@ -15,7 +15,7 @@ use crate::sinks::{sinks_of, source_of};
 use crate::verdict::Stop;
 use cts_base::NoMemory;
 use cts_model::{Constraint, PeriodShow, Problem, Report, Slack, laws};
-use path_delays::{LevelFault, Levels, levels};
+use gate_order::{LevelFault, Levels, levels};
 use std::alloc::Global;
 use timing_report::slacks;
 

@@ -5,7 +5,7 @@ ghost use Rattle.cts_model.specs.timing.Leads.{IsLedBy, IsTight, ShowsEarliest, 
 ghost use Rattle.cts_model.specs.placement.Points.{IsBelow};
 ghost use Rattle.cts_model.specs.report.ReportBounds.{HasSmallWeight, IsBetweenRegisters, IsSmallLead, LeadsAmong};
 ghost use Rattle.cts_model.specs.timing.Schedules.{IsSmallPeriod, arrival_of};
-ghost use Rattle.path_delays.specs.LevelParts.{IsLevelsOf};
+ghost use Rattle.gate_order.specs.LevelParts.{IsLevelsOf};
 ghost use Rattle.cert_check.specs.TightLeads.{IsTested, tight_constraints};
 
 use crate::down::are_same;
@@ -15,7 +15,7 @@ use crate::value::count_of;
 use crate::verdict::{Reason, Stop};
 use cts_base::{Fraction, NoMemory};
 use cts_model::{Constraint, Lead};
-use path_delays::Levels;
+use gate_order::Levels;
 use std::alloc::Global;
 
 impl Judge<'_> {

@@ -3,15 +3,16 @@ ghost use Rattle.cts_model.specs.report.Judgements.{IsOfCircuit};
 ghost use Rattle.cts_model.specs.timing.PairLists.{IsSmallPair};
 ghost use Rattle.cts_model.specs.placement.Points.{IsBelow};
 ghost use Rattle.cts_model.specs.report.ReportBounds.{IsBetweenRegisters};
+ghost use Rattle.gate_order.specs.LevelParts.{IsLevelsOf};
 ghost use Rattle.path_delays.specs.JoinedPairs.{AreDelaysBetween};
-ghost use Rattle.path_delays.specs.LevelParts.{IsLevelsOf};
 ghost use Rattle.cert_check.specs.GivenConstraints.{pair_of, weight_by};
 
 use crate::judge::Judge;
 use crate::verdict::{Reason, Stop};
 use cts_base::{Listed, NoMemory};
 use cts_model::{Constraint, PairDelay, Tech};
-use path_delays::{Levels, delays_between};
+use gate_order::Levels;
+use path_delays::delays_between;
 use std::alloc::Global;
 
 impl Judge<'_> {

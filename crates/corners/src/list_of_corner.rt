@@ -1,15 +1,16 @@
 ghost use Rattle.std.specs.Prelude.{◌≤◌, ℕ, List, IfOk, IfErr, length};
 ghost use Rattle.cts_model.specs.timing.PairLists.{JoinsMoreThan};
 ghost use Rattle.cts_model.specs.netlist.Paths.{IsLoop};
+ghost use Rattle.gate_order.specs.LevelParts.{IsLevelsOf};
 ghost use Rattle.path_delays.specs.JoinedPairs.{ShowsTooMany};
-ghost use Rattle.path_delays.specs.LevelParts.{IsLevelsOf};
 ghost use Rattle.corners.specs.CornerConstraints.{AreCommonConstraints, AreConstraintsBy};
 
 use crate::Combined;
 use constraints::constraints_of;
 use cts_base::Listed;
 use cts_model::{Circuit, Constraint, Tech};
-use path_delays::{LevelFault, Levels, PairFault, levels, pair_delays};
+use gate_order::{LevelFault, Levels, levels};
+use path_delays::{PairFault, pair_delays};
 use std::alloc::Global;
 
 /// The gates of a circuit, each after those that it reads.

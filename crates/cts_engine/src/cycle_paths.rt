@@ -2,13 +2,14 @@ ghost use Rattle.std.specs.Prelude.{◌≡◌, All, IfOk};
 ghost use Rattle.cts_model.specs.timing.ConstraintPaths.{ArePathsOf, ArePathsWithin, GivesWeight};
 ghost use Rattle.cts_model.specs.timing.Constraints.{IsConstraintOf};
 ghost use Rattle.cts_model.specs.timing.PairLists.{AreJoined};
+ghost use Rattle.gate_order.specs.LevelParts.{IsLevelsOf};
 ghost use Rattle.path_delays.specs.ExtremePaths.{IsExtremePath};
-ghost use Rattle.path_delays.specs.LevelParts.{IsLevelsOf};
 ghost use Rattle.cts_engine.specs.CyclePaths.{IsShownBy, FitsRoom, IsPathWithin, path_signals};
 
 use cts_base::{Listed, NoMemory};
 use cts_model::{Circuit, Constraint, PeriodShow, Tech};
-use path_delays::{Levels, Paths};
+use gate_order::Levels;
+use path_delays::Paths;
 use std::alloc::Global;
 
 /// How many signals the paths of a cycle have together, at most.

@@ -1,14 +1,15 @@
 ghost use Rattle.std.specs.Prelude.{ℕ, List, IfOk, IfErr};
 ghost use Rattle.cts_model.specs.timing.PairLists.{JoinsMoreThan};
 ghost use Rattle.cts_model.specs.netlist.Paths.{IsLoop};
+ghost use Rattle.gate_order.specs.LevelParts.{IsLevelsOf};
 ghost use Rattle.path_delays.specs.JoinedPairs.{ArePairs};
-ghost use Rattle.path_delays.specs.LevelParts.{IsLevelsOf};
 ghost use Rattle.cts_engine.specs.Faults.{IsCaused};
 
 use crate::SynthFault;
 use cts_base::Listed;
 use cts_model::{Circuit, PairDelay, Tech};
-use path_delays::{LevelFault, Levels, levels, pair_delays};
+use gate_order::{LevelFault, Levels, levels};
+use path_delays::pair_delays;
 use std::alloc::Global;
 
 /// The gates of a circuit, each after those that it reads.

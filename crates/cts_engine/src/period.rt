@@ -6,7 +6,7 @@ ghost use Rattle.cts_model.specs.timing.PairLists.{HasSmallDelays, JoinsMoreThan
 ghost use Rattle.cts_model.specs.netlist.Paths.{IsLoop};
 ghost use Rattle.critical_cycle.specs.CyclePlaces.{AreWithin, constraints_at};
 ghost use Rattle.critical_cycle.specs.Periods.{HasSmallValue, IsPeriodOf};
-ghost use Rattle.path_delays.specs.LevelParts.{IsLevelsOf};
+ghost use Rattle.gate_order.specs.LevelParts.{IsLevelsOf};
 ghost use Rattle.cts_engine.specs.Faults.{IsCaused};
 ghost use Rattle.cts_engine.specs.Outcomes.{AreConstraintsOf, BeginsLowest, HasSmallPeriod, HasSmallZero, IsNeverOutcome, IsPeriodOutcome, IsTiming};
 
@@ -16,7 +16,7 @@ use constraints::constraints_of;
 use critical_cycle::{Period, least_period};
 use cts_base::{Fraction, Listed, NoMemory};
 use cts_model::{Circuit, Constraint, PeriodShow, Tech, ZeroSkew};
-use path_delays::Levels;
+use gate_order::Levels;
 use std::alloc::Global;
 use timing_report::zero_skew;
 

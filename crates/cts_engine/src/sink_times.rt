@@ -1,6 +1,6 @@
 ghost use Rattle.std.specs.Prelude.{◌≡◌, IfOk, IfErr};
 ghost use Rattle.cts_model.specs.timing.PairLists.{JoinsMoreThan};
-ghost use Rattle.path_delays.specs.LevelParts.{IsLevelsOf};
+ghost use Rattle.gate_order.specs.LevelParts.{IsLevelsOf};
 ghost use Rattle.cts_engine.specs.Faults.{IsCaused};
 ghost use Rattle.cts_engine.specs.RegisterTimes.{HasLeastPeriod};
 ghost use Rattle.cts_engine.specs.SinkOutcomes.{AreTimedSinks, IsSinkOutcome, StartsLowest};
@@ -12,7 +12,7 @@ use crate::sinks::sinks_of;
 use crate::times::{Times, times_of};
 use cts_base::{Fraction, Listed, NoMemory};
 use cts_model::{Constraint, PeriodShow, Problem, Sink};
-use path_delays::Levels;
+use gate_order::Levels;
 use std::alloc::Global;
 
 /// The registers of a problem as the sinks of a tree, and the times that give their offsets.

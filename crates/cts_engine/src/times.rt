@@ -1,11 +1,11 @@
 ghost use Rattle.std.specs.Prelude.{IfOk, length};
-ghost use Rattle.path_delays.specs.LevelParts.{IsLevelsOf};
+ghost use Rattle.gate_order.specs.LevelParts.{IsLevelsOf};
 ghost use Rattle.cts_engine.specs.RegisterTimes.{AreTimes, HasLeastPeriod};
 
 use crate::cycle_paths::cycle_paths;
 use cts_base::{Fraction, Listed, NoMemory};
 use cts_model::{Circuit, Constraint, Lead, PeriodShow, Schedule, Slack, Tech};
-use path_delays::Levels;
+use gate_order::Levels;
 use schedule::{leads, least_schedule};
 use std::alloc::Global;
 use timing_report::slacks;

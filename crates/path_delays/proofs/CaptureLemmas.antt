@@ -14,8 +14,8 @@ use Rattle.cts_model.specs.declared.circuit.Circuit.{Circuit}
 use Rattle.cts_model.specs.netlist.Kinds.{is_host, is_valid}
 use Rattle.cts_model.specs.netlist.Circuits.{has_host}
 use Rattle.cts_model.specs.netlist.Paths.{register_signal, Captures}
-use Rattle.path_delays.specs.declared.groups.Groups.{Groups}
-use Rattle.path_delays.specs.GroupParts.{group_of, HasGroups}
+use Rattle.gate_order.specs.declared.groups.Groups.{Groups}
+use Rattle.gate_order.specs.GroupParts.{group_of, HasGroups}
 use Rattle.path_delays.specs.NumberSets.{has_number, AreInserted}
 use Rattle.path_delays.specs.Captured.{AreCapturedBy, AreAllCaptures, AreCapturersOf, AreCapturedBelow}
 use Rattle.path_delays.proofs.ReachedPairs.{captured_within}

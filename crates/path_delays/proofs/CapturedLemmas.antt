@@ -10,6 +10,7 @@ use Rattle.path_delays.specs.declared.walk.Walk.{Walk}
 use Rattle.path_delays.specs.SumParts.{merged_sums, IsAround}
 use Rattle.path_delays.specs.WalkParts.{sums_to}
 use Rattle.path_delays.specs.CapturedSums.{either_sums, AreSumsOver, AreCaptured}
+use Rattle.path_delays.proofs.Chains.{around_itself}
 
 -- what lies in the first sums lies in the merged ones
 around_first : (first second : Sums) (entry : Sums) → IsAround first entry
@@ -26,10 +27,6 @@ around_second first second entry around = record {
   least = let low = around.least in grind (arith, ints);
   greatest = let high = around.greatest in grind (arith, ints);
 }
-
--- sums lie around themselves
-around_itself : (sums : Sums) → IsAround sums sums
-around_itself sums = record { least = omega (arith, ints); greatest = omega (arith, ints) }
 
 module _ (walk : Walk) (signals : List ℕ) (signal : ℕ) where
   -- nothing was found before, and nothing here

@@ -1,16 +1,16 @@
 -- Which registers capture what a walk reached, signal by signal.
-use Rattle.std.proofs.Common.{ℕ, ◌≡◌, ◌<◌, ◌≤◌, ◌+◌, ◌*◌, ◌⊎◌, ◌==◌, not, IsTrue, IsSome, List, length, get_or, vec_len, All, Contains, Option, Some, None, inl, inr, refl, sym, ◌∙◌, ap, subst, arith}
+use Rattle.std.proofs.Common.{ℕ, ◌≡◌, ◌<◌, ◌≤◌, ◌+◌, ◌*◌, ◌⊎◌, ◌==◌, not, IsTrue, IsSome, List, length, get_or, All, Contains, Option, Some, None, inl, inr, refl, sym, ◌∙◌, ap, subst, arith}
 use Rattle.std.proofs.lemmas.List.Elements.{Contains-get_or}
 use Rattle.std.proofs.lemmas.Bool.{cases_eq, and_parts, and_from, not-true, eqb-false, ne_eqb}
 use Rattle.cts_model.specs.declared.circuit.Circuit.{Circuit}
 use Rattle.cts_model.specs.declared.tech.Tech.{Tech}
 use Rattle.cts_model.specs.netlist.Paths.{IsPath}
+use Rattle.gate_order.specs.declared.groups.Groups.{Groups}
+use Rattle.gate_order.specs.GroupParts.{bounds_of, group_of}
 use Rattle.path_delays.specs.declared.capturing.Capturing.{Capturing}
-use Rattle.path_delays.specs.declared.groups.Groups.{Groups}
 use Rattle.path_delays.specs.declared.number_set.NumberSet.{NumberSet}
 use Rattle.path_delays.specs.declared.sums.Sums.{Sums}
 use Rattle.path_delays.specs.declared.walk.Walk.{Walk}
-use Rattle.path_delays.specs.GroupParts.{group_of}
 use Rattle.path_delays.specs.NumberSets.{has_number, AreInserted, IsLowestTaken}
 use Rattle.path_delays.specs.Reaches.{IsChain, IsReach}
 use Rattle.path_delays.specs.WalkParts.{HasReach, sums_to}
@@ -99,7 +99,7 @@ HasCaptureRoom-same old new same room = record {
   groups = λ signal held.
       let before : IsTrue (has_number old.captured.words.items signal) =
       subst (λ (s : NumberSet). IsTrue (has_number s.words.items signal)) same.captured held in
-      subst (λ (g : Groups). signal + 1 < vec_len g.starts) (sym same.capturers)
+      subst (λ (g : Groups). signal + 1 < bounds_of g) (sym same.capturers)
       (room.groups signal before);
   registers = λ signal register capturer. omega (
     arith,

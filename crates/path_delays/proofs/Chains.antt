@@ -119,9 +119,13 @@ module _ (circuit : Circuit) (tech : Tech) where
         ];
       }
 
+-- sums are around themselves
+pub around_itself : (sums : Sums) → IsAround sums sums
+around_itself sums = record { least = omega (arith, ints); greatest = omega (arith, ints) }
+
 -- the joined sums are around what is joined
 pub around_joined : (known : Option Sums) (sums : Sums) → IsAround (joined_sums known sums) sums
-around_joined None sums = record { least = omega (arith, ints); greatest = omega (arith, ints) }
+around_joined None sums = around_itself sums
 around_joined (Some old) sums = record {
   least = (min_cases old.least sums.least).2;
   greatest = (max_cases old.greatest sums.greatest).2;

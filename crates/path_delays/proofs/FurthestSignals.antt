@@ -2,13 +2,13 @@
 use Rattle.std.proofs.Common.{ℕ, ◌≡◌, ◌<◌, ◌+◌, Bool, true, false, List, length, get_or, Contains, IsSomeAnd, sym, ◌∙◌, subst, arith, inl, inr, ℤ}
 use Rattle.std.proofs.lemmas.Bool.{cases_lt}
 use Rattle.std.proofs.lemmas.List.{get_or_default}
+use Rattle.cts_model.proofs.TopologyLemmas.{some_and}
 use Rattle.path_delays.specs.declared.sums.Sums.{Sums}
 use Rattle.path_delays.specs.declared.walk.Walk.{Walk}
 use Rattle.path_delays.specs.SumParts.{IsAround}
 use Rattle.path_delays.specs.WalkParts.{sums_to}
 use Rattle.path_delays.specs.CapturedSums.{AreSumsOver}
 use Rattle.path_delays.specs.ExtremePaths.{extreme_of, IsNoFurther, IsFurthest}
-use Rattle.path_delays.proofs.ReachedPairs.{some_of}
 
 -- the walk found this extreme at the signal
 abbrev pub FitsAt : Walk → Bool → ℤ → ℕ → Type 0
@@ -33,7 +33,7 @@ module _ (walk : Walk) (signals : List ℕ) (greatest : Bool) (sums : Sums)
       → FitsAt walk greatest (extreme_of greatest sums) signal
       → IsFurthest walk (Contains signals) greatest signal
   furthest_found signal listed fits =
-      let found = some_of (sums_to walk signal)
+      let found = some_and (sums_to walk signal)
       (λ entry. extreme_of greatest entry ≡ extreme_of greatest sums) fits in
       record {
         is_one = listed;

@@ -10,6 +10,7 @@ use Rattle.cts_model.specs.declared.circuit.Circuit.{Circuit}
 use Rattle.cts_model.specs.netlist.Kinds.{is_gate, is_host, is_input, is_register}
 use Rattle.cts_model.specs.netlist.Paths.{IsInput, Launches, register_signal}
 use Rattle.cts_model.proofs.CircuitLemmas.{IsRegisterAt, registered}
+use Rattle.cts_model.proofs.TopologyLemmas.{some_and}
 use Rattle.path_delays.specs.Networks.{AreRanks}
 
 -- a primary input is no gate
@@ -37,18 +38,14 @@ pub launched_at : (circuit : Circuit) (from number : ℕ) → Launches circuit f
     × (is_gate signal.kind ≡ false)
 launched_at circuit from number launches = at (register_signal circuit from) launches
   where
-    input : (o : Option Signal) → slice_get circuit.signals number ≡ o
-        → IsSomeAnd o (λ signal. IsTrue (is_input signal.kind))
-        → (signal : Signal) × (slice_get circuit.signals number ≡ Some signal)
-        × (is_gate signal.kind ≡ false)
-    input None here none = absurd none
-    input (Some signal) here is_one = (signal, here, input_is_no_gate signal.kind is_one)
-
     by_kind : (host : Bool)
         → MatchBool host (IsInput circuit number) (slice_get circuit.registers from ≡ Some number)
         → (signal : Signal) × (slice_get circuit.signals number ≡ Some signal)
         × (is_gate signal.kind ≡ false)
-    by_kind true is_one = input (slice_get circuit.signals number) refl is_one
+    by_kind true is_one =
+        let found = some_and (slice_get circuit.signals number)
+        (λ signal. IsTrue (is_input signal.kind)) is_one in
+        (found.0, found.1, input_is_no_gate found.0.kind found.2)
     by_kind false listed =
         let found = listed_register circuit from number listed in
         (found.signal, found.here, register_is_no_gate found.signal.kind found.register)

@@ -1,16 +1,3 @@
-mod Tallies
-mod GroupLemmas
-mod ReadLemmas
-mod IdleGates
-mod Releases
-mod Unmet
-mod SortSteps
-mod FirstWaiting
-mod TopologicalOrders
-mod Distinct
-mod Rings
-mod WaitingInputs
-mod Walks
 mod NumberSetLemmas
 mod DelayLemmas
 mod NetworkLemmas

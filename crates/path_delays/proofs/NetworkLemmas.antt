@@ -7,18 +7,18 @@ use Rattle.std.proofs.lemmas.List.{length-append, length-map, length-set, length
 use Rattle.std.proofs.lemmas.List.Folds.{sum_by-replicate}
 use Rattle.std.proofs.lemmas.List.Sums.{sum_by_more, sum_by-cons, sum_by-set, sum_by-le-sum_by, sum-map}
 use Rattle.std.proofs.lemmas.List.Elements.{All-nil, All-map, All-filter, All-append, All-contains, All-contains_itself, filter_passes, Contains-append_left, Contains-append_right}
-use Rattle.std.proofs.lemmas.Option.{get_or_from_slice_get, slice_get_within, slice_get-get_or, slice_get_past}
+use Rattle.std.proofs.lemmas.Option.{get_or_from_slice_get, slice_get_within, slice_get-get_or}
 use Rattle.cts_model.specs.declared.signal.Signal.{Signal}
 use Rattle.cts_model.specs.declared.circuit.Circuit.{Circuit}
 use Rattle.cts_model.specs.netlist.Kinds.{is_gate}
 use Rattle.cts_model.specs.netlist.Circuits.{gate_inputs, has_host}
 use Rattle.cts_model.specs.netlist.Paths.{IsGate, Reads}
-use Rattle.path_delays.specs.declared.groups.Groups.{Groups}
-use Rattle.path_delays.specs.Grouped.{values_at}
-use Rattle.path_delays.specs.GroupParts.{group_of, HasGroups}
-use Rattle.path_delays.specs.Orders.{IsTopologicalOrder}
+use Rattle.gate_order.specs.declared.groups.Groups.{Groups}
+use Rattle.gate_order.specs.Grouped.{values_at}
+use Rattle.gate_order.specs.GroupParts.{group_of, HasGroups}
+use Rattle.gate_order.specs.Orders.{IsTopologicalOrder}
+use Rattle.gate_order.proofs.ReadLemmas.{Contains-cons, IsGate-from_Reads, gate_within}
 use Rattle.path_delays.specs.Networks.{AreAllReads, all_reads_by, AreReaders, HasPlaceInOrder, ArePlaces, AreRanks, weight_of, weight_at}
-use Rattle.path_delays.proofs.ReadLemmas.{Contains-cons, IsGate-from_Reads}
 
 -- no pairs of no signals
 pub AreAllReads-none : (signals : List Signal) → AreAllReads signals 0 []
@@ -99,8 +99,8 @@ reads_within signals gate read within reads = at (slice_get signals gate) refl r
 -- and so is the gate
 pub reader_within : (signals : List Signal) (gate read : ℕ) → Reads signals gate read
     → gate < length signals
-reader_within signals gate read reads = elim (cases_lt gate (length signals))
-    [ inl inside ↦ inside | inr past ↦ absurd (rw (slice_get_past signals gate past) at reads) ]
+reader_within signals gate read reads =
+    gate_within signals gate (IsGate-from_Reads signals gate read reads)
 
 -- a pair's value stands among those of its key
 pub Contains-values_at : (pairs : List (ℕ × ℕ)) (key value : ℕ) → Contains pairs (key, value)

@@ -1,107 +1,32 @@
 -- The walk back from the end of a path, each time to the signal that was found furthest.
-use Rattle.std.proofs.Common.{ℕ, ◌≡◌, ◌<◌, ◌⊎◌, Bool, true, false, MatchBool, List, [], ◌∷◌, ◌++◌, length, reverse, Option, Some, None, IsSomeAnd, IsTrue, Contains, refl, sym, ◌∙◌, ap, subst, arith, inl, inr, ◌+ℤ◌}
+use Rattle.std.proofs.Common.{ℕ, ◌≡◌, ◌<◌, ◌⊎◌, Bool, List, [], ◌∷◌, ◌++◌, length, reverse, Option, Some, None, Contains, refl, sym, ◌∙◌, ap, subst, arith, inl, inr, ◌+ℤ◌}
 use Rattle.std.specs.List.{slice_get}
-use Rattle.std.proofs.lemmas.Bool.{false≢true}
+use Rattle.std.proofs.lemmas.Bool.{true≢false}
 use Rattle.std.proofs.lemmas.Int.{ints}
 use Rattle.std.proofs.lemmas.List.{reverse-append}
-use Rattle.std.proofs.lemmas.Option.{same_Some, slice_get_within, get_or_from_slice_get}
-use Rattle.cts_model.specs.declared.kind.Kind.{Kind}
-use Rattle.cts_model.specs.declared.kind.Kind.TheVariants.{And, Nand, Or, Nor, Not, Xor, Xnor, Buff, Input, Dff, Host}
+use Rattle.std.proofs.lemmas.Option.{same_Some}
 use Rattle.cts_model.specs.declared.signal.Signal.{Signal}
 use Rattle.cts_model.specs.declared.circuit.Circuit.{Circuit}
 use Rattle.cts_model.specs.declared.tech.Tech.{Tech}
-use Rattle.cts_model.specs.netlist.Kinds.{is_gate, is_host, is_input, is_register}
-use Rattle.cts_model.specs.netlist.Paths.{register_signal, Reads, Follows, IsInput, Launches, Captures}
-use Rattle.cts_model.proofs.CircuitLemmas.{IsRegisterAt, registered}
+use Rattle.cts_model.specs.netlist.Paths.{register_signal, Reads, Follows, Launches, Captures}
+use Rattle.gate_order.proofs.Rings.{follows_joined}
 use Rattle.path_delays.specs.declared.sums.Sums.{Sums}
 use Rattle.path_delays.specs.declared.walk.Walk.{Walk}
 use Rattle.path_delays.specs.Reaches.{IsChain, IsReach}
 use Rattle.path_delays.specs.WalkParts.{sums_to, HasReach}
 use Rattle.path_delays.specs.ExtremePaths.{delay_by, extreme_of, IsNoFurther, IsExtremePath, IsFurthest}
-use Rattle.path_delays.proofs.Rings.{follows_joined}
 use Rattle.path_delays.proofs.ExtremeDelays.{own_by, gate_by, through_by, delay_is, delay_push, IsReachBy, reach_by, same_extreme, no_further_than, no_further_after}
-use Rattle.path_delays.proofs.ReachedPairs.{read_within, captured_within, chain_of_path}
-
--- a primary input is no gate
-input_no_gate : (kind : Kind) → is_input kind ≡ true → is_gate kind ≡ true → ⊥
-input_no_gate Input input gate = false≢true gate
-input_no_gate And input gate = false≢true input
-input_no_gate Nand input gate = false≢true input
-input_no_gate Or input gate = false≢true input
-input_no_gate Nor input gate = false≢true input
-input_no_gate Not input gate = false≢true input
-input_no_gate Xor input gate = false≢true input
-input_no_gate Xnor input gate = false≢true input
-input_no_gate Buff input gate = false≢true input
-input_no_gate Dff input gate = false≢true input
-input_no_gate Host input gate = false≢true input
-
--- and a register is none
-register_no_gate : (kind : Kind) → is_register kind ≡ true → is_gate kind ≡ true → ⊥
-register_no_gate Dff register gate = false≢true gate
-register_no_gate Host register gate = false≢true gate
-register_no_gate Input register gate = false≢true register
-register_no_gate And register gate = false≢true register
-register_no_gate Nand register gate = false≢true register
-register_no_gate Or register gate = false≢true register
-register_no_gate Nor register gate = false≢true register
-register_no_gate Not register gate = false≢true register
-register_no_gate Xor register gate = false≢true register
-register_no_gate Xnor register gate = false≢true register
-register_no_gate Buff register gate = false≢true register
+use Rattle.path_delays.proofs.Launching.{launched_at}
+use Rattle.path_delays.proofs.NetworkLemmas.{reads_within}
+use Rattle.path_delays.proofs.ReachedPairs.{captured_within, chain_of_path}
 
 -- what a register launches reads nothing
 launched_no_gate : (circuit : Circuit) (from number read : ℕ) → Launches circuit from number
     → Reads circuit.signals number read → ⊥
 launched_no_gate circuit from number read launched reads =
-    at (slice_get circuit.signals number) refl reads
-  where
-    own : (signal : Signal) → slice_get circuit.signals number ≡ Some signal
-        → is_gate signal.kind ≡ true → slice_get circuit.registers from ≡ Some number → ⊥
-    own signal here is_one listed =
-        let register : IsRegisterAt circuit.signals number = subst (IsRegisterAt circuit.signals)
-        (get_or_from_slice_get circuit.registers from number 0 listed)
-        (registered circuit from (slice_get_within circuit.registers from number listed)) in
-        let same : register.signal ≡ signal =
-        same_Some register.signal signal (sym register.here ∙ here) in
-        register_no_gate register.signal.kind register.register
-        (ap (λ s. is_gate s.kind) same ∙ is_one)
-
-    by : (signal : Signal) → slice_get circuit.signals number ≡ Some signal
-        → is_gate signal.kind ≡ true → (host : Bool)
-        → MatchBool host (IsInput circuit number) (slice_get circuit.registers from ≡ Some number)
-        → ⊥
-    by signal here is_one true input = input_no_gate signal.kind (rw here at input) is_one
-    by signal here is_one false listed = own signal here is_one listed
-
-    register : (signal : Signal) → slice_get circuit.signals number ≡ Some signal
-        → is_gate signal.kind ≡ true → (from_signal : Option Signal)
-        → IsSomeAnd from_signal (λ launching. MatchBool (is_host launching.kind)
-        (IsInput circuit number) (slice_get circuit.registers from ≡ Some number)) → ⊥
-    register signal here is_one None launches = launches
-    register signal here is_one (Some launching) launches =
-        by signal here is_one (is_host launching.kind) launches
-
-    at : (found : Option Signal) → slice_get circuit.signals number ≡ found
-        → IsSomeAnd found (λ signal. IsTrue (is_gate signal.kind) × Contains signal.fan_in read) → ⊥
-    at None missing reads = reads
-    at (Some signal) here reads =
-        register signal here reads.0 (register_signal circuit from) launched
-
--- what a gate reads is within the circuit
-reads_within : (circuit : Circuit) (number read : ℕ) → Reads circuit.signals number read
-    → read < length circuit.signals
-reads_within circuit number read reads = at (slice_get circuit.signals number) refl reads
-  where
-    at : (found : Option Signal) → slice_get circuit.signals number ≡ found
-        → IsSomeAnd found (λ signal. IsTrue (is_gate signal.kind) × Contains signal.fan_in read)
-        → read < length circuit.signals
-    at None missing reads = absurd reads
-    at (Some signal) here reads =
-        rw reads.1.2 at
-        (read_within circuit number signal (slice_get_within circuit.signals number signal here)
-        (sym (get_or_from_slice_get circuit.signals number signal signal here)) reads.1.0 read
-        reads.1.1)
+    let found = launched_at circuit from number launched in
+    let is_one = rw found.1 at reads in
+    true≢false (sym is_one.0 ∙ found.2)
 
 -- a chain to a signal is this signal alone, or goes through one that it reads
 pub record IsAfter (circuit : Circuit) (first : ℕ) (gates : List ℕ) (last : ℕ) : Type 0 where
@@ -314,7 +239,7 @@ module _ (circuit : Circuit) (tech : Tech) (from : ℕ) (walk : Walk) (greatest 
       record {
         rest = signal ∷ back.rest;
         is = ap reverse is ∙ reverse-append path (read ∷ []) ∙ ap (λ l. read ∷ l) back.is;
-        within = reads_within circuit signal read furthest.is_one;
+        within = reads_within circuit.signals signal read circuit.valid.read furthest.is_one;
         follows = (furthest.is_one, back.follows);
         sums = furthest.sums;
         here = furthest.here;

@@ -1,6 +1,6 @@
 -- From what a walk found at the signals that a register captures to the delays between the two
 -- registers.
-use Rattle.std.proofs.Common.{ℕ, ◌≡◌, ◌<◌, List, [], ◌∷◌, length, get_or, All, Contains, Option, Some, None, IsSomeAnd, refl, sym, ◌∙◌, subst, arith, ◌≤ℤ◌}
+use Rattle.std.proofs.Common.{ℕ, ◌≡◌, ◌<◌, List, [], ◌∷◌, length, get_or, All, Contains, Option, Some, None, refl, sym, ◌∙◌, subst, arith, ◌≤ℤ◌}
 use Rattle.std.specs.List.{slice_get}
 use Rattle.std.specs.Option.{option_and_then}
 use Rattle.std.proofs.lemmas.Int.{ints}
@@ -11,6 +11,7 @@ use Rattle.cts_model.specs.declared.tech.Tech.{Tech}
 use Rattle.cts_model.specs.declared.timing.PairDelay.{PairDelay}
 use Rattle.cts_model.specs.netlist.Paths.{register_signal, Captures, IsPath}
 use Rattle.cts_model.specs.timing.Delays.{least_delay, greatest_delay}
+use Rattle.cts_model.proofs.TopologyLemmas.{some_and}
 use Rattle.path_delays.specs.declared.sums.Sums.{Sums}
 use Rattle.path_delays.specs.declared.walk.Walk.{Walk}
 use Rattle.path_delays.specs.Reaches.{IsChain, AreExtreme, IsReach}
@@ -18,12 +19,6 @@ use Rattle.path_delays.specs.WalkParts.{sums_to, HasReach}
 use Rattle.path_delays.specs.Captured.{AreCapturedBy}
 use Rattle.path_delays.specs.CapturedSums.{AreSumsOver, AreCaptured}
 use Rattle.path_delays.specs.JoinedPairs.{IsDelayBetween}
-
--- the value that there is
-pub some_of : (found : Option Sums) (Holds : Sums → Type 0) → IsSomeAnd found Holds
-    → (entry : Sums) × (found ≡ Some entry) × Holds entry
-some_of None Holds holds = absurd holds
-some_of (Some entry) Holds holds = (entry, refl, holds)
 
 -- what a signal reads are signals of the circuit
 pub read_within : (circuit : Circuit) (number : ℕ) (signal : Signal)
@@ -112,10 +107,10 @@ module _ (circuit : Circuit) (tech : Tech) (from to : ℕ) (walk : Walk) (captur
       → IsDelayBetween circuit tech from to pair
   delays_between sums pair over from_is to_is least_is greatest_is =
       let least_entry =
-      some_of (sums_to walk over.least_at) (λ entry. entry.least ≡ sums.least) over.least_found in
+      some_and (sums_to walk over.least_at) (λ entry. entry.least ≡ sums.least) over.least_found in
       let least_reach = reached over.least_at least_entry.0 least_entry.1 in
       let least_chain = least_reach.shown.least in
-      let greatest_entry = some_of (sums_to walk over.greatest_at)
+      let greatest_entry = some_and (sums_to walk over.greatest_at)
       (λ entry. entry.greatest ≡ sums.greatest) over.greatest_found in
       let greatest_reach = reached over.greatest_at greatest_entry.0 greatest_entry.1 in
       let greatest_chain = greatest_reach.shown.greatest in

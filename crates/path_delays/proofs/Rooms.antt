@@ -8,11 +8,11 @@ use Rattle.std.proofs.lemmas.Option.{slice_get_within}
 use Rattle.std.proofs.lemmas.Int.{ints}
 use Rattle.cts_model.specs.declared.circuit.Circuit.{Circuit}
 use Rattle.cts_model.specs.declared.tech.Tech.{Tech}
+use Rattle.gate_order.specs.GroupParts.{group_of}
 use Rattle.path_delays.specs.declared.sums.Sums.{Sums}
 use Rattle.path_delays.specs.declared.network.Network.{Network}
 use Rattle.path_delays.specs.declared.reach.Reach.{Reach}
 use Rattle.path_delays.specs.SumParts.{AreWithin, delay_limit}
-use Rattle.path_delays.specs.GroupParts.{group_of}
 use Rattle.path_delays.specs.Networks.{IsNetworkOf, gate_sums, weight_of}
 use Rattle.path_delays.specs.Handing.{HasReachRoom, rank_at}
 use Rattle.path_delays.proofs.DelayLemmas.{gate_within}

@@ -16,9 +16,11 @@ use Rattle.cts_model.specs.timing.Delays.{least_gate_delay, greatest_gate_delay}
 use Rattle.cts_model.specs.netlist.Kinds.{is_gate, is_host, is_input, is_valid}
 use Rattle.cts_model.specs.netlist.Paths.{IsGate, IsInput, Reads, Launches, Captures, register_signal}
 use Rattle.cts_model.specs.timing.Schedules.{arrival_of}
+use Rattle.gate_order.specs.Orders.{IsTopologicalOrder}
+use Rattle.gate_order.proofs.Rings.{follows_joined}
+use Rattle.gate_order.proofs.ReadLemmas.{IsGate-from_Reads, gate_within}
 use Rattle.path_delays.specs.declared.window.Window.{Window}
 use Rattle.path_delays.specs.Networks.{gate_sums}
-use Rattle.path_delays.specs.Orders.{IsTopologicalOrder}
 use Rattle.path_delays.specs.Reaches.{IsChain}
 use Rattle.path_delays.specs.Windows.{window_along, IsHullIfAny, IsWindowBelow, ComesTo, AreWindows}
 use Rattle.path_delays.specs.WindowParts.{window_after, either_window, window_at, IsGateWindow, ComesCaptured, AreCaptures, start_window, ComesOf, is_input_at, AreInputsStarted, ComesAt, window_limit, IsPassed, AreLaunched, ArePassed}
@@ -28,8 +30,6 @@ use Rattle.path_delays.proofs.Launching.{launched_at, launched_within, host_laun
 use Rattle.path_delays.proofs.NetworkLemmas.{few_gates}
 use Rattle.path_delays.proofs.PathsBack.{last_of}
 use Rattle.path_delays.proofs.ReachedPairs.{chain_of_path, path_of_chain, read_within}
-use Rattle.path_delays.proofs.Rings.{follows_joined}
-use Rattle.path_delays.proofs.ReadLemmas.{IsGate-from_Reads}
 use Rattle.path_delays.proofs.WindowLemmas.{moved, below_wider, either_below}
 
 -- what launches a signal is a register
@@ -60,13 +60,8 @@ pub next_within : (circuit : Circuit) (order : List ℕ) (place gate : ℕ)
     → IsTopologicalOrder circuit.signals order → place < length order
     → gate ≡ get_or order place 0 → gate < length circuit.signals
 next_within circuit order place gate sorted low read =
-    at (slice_get circuit.signals gate) refl
+    gate_within circuit.signals gate
     (subst (IsGate circuit.signals) (sym read) (sorted.gates place 0 low))
-  where
-    at : (o : Option Signal) → slice_get circuit.signals gate ≡ o
-        → IsSomeAnd o (λ signal. IsTrue (is_gate signal.kind)) → gate < length circuit.signals
-    at None missing none = absurd none
-    at (Some signal) here is_one = slice_get_within circuit.signals gate signal here
 
 -- and is a gate
 pub next_read : (circuit : Circuit) (order : List ℕ) (place gate : ℕ) (signal : Signal)

@@ -1,6 +1,6 @@
 -- A walk that takes the gates by rank and hands their sums to their readers, one step after the
 -- other.
-use Rattle.std.proofs.Common.{◌≡◌, ◌≢◌, ◌+◌, ◌-◌, ◌<◌, ◌≤◌, ◌==◌, ◌&&◌, ◌||◌, not, ℕ, suc, pos, ◌+ℤ◌, Bool, true, false, IsTrue, MatchBool, ◌↔◌, List, [], ◌∷◌, ◌++◌, length, take, get_or, Contains, Option, Some, None, IsSomeAnd, inl, inr, ◌⊎◌, refl, sym, ◌∙◌, ap, subst, arith, append-nil, append_assoc}
+use Rattle.std.proofs.Common.{◌≡◌, ◌≢◌, ◌+◌, ◌-◌, ◌<◌, ◌≤◌, ◌==◌, ◌&&◌, ◌||◌, not, ℕ, suc, pos, ◌+ℤ◌, Bool, true, false, IsTrue, MatchBool, ◌↔◌, List, [], ◌∷◌, ◌++◌, length, take, get_or, Contains, Option, Some, None, inl, inr, ◌⊎◌, refl, sym, ◌∙◌, ap, subst, arith, append-nil, append_assoc}
 use Rattle.std.specs.Prelude.{is_none}
 use Rattle.std.specs.List.{slice_get, sum_by}
 use Rattle.std.specs.Option.{option_map_or}
@@ -16,20 +16,21 @@ use Rattle.cts_model.specs.declared.tech.Tech.{Tech}
 use Rattle.cts_model.specs.netlist.Kinds.{is_gate, is_input}
 use Rattle.cts_model.specs.netlist.Paths.{IsGate, IsInput, Reads, Follows, Launches}
 use Rattle.cts_model.specs.timing.Delays.{least_gate_delay, greatest_gate_delay, least_through, greatest_through, least_delay, greatest_delay}
+use Rattle.gate_order.specs.GroupParts.{group_of}
+use Rattle.gate_order.proofs.ReadLemmas.{IsGate-from_Reads}
+use Rattle.cts_model.proofs.TopologyLemmas.{some_and}
 use Rattle.path_delays.specs.declared.sums.Sums.{Sums}
 use Rattle.path_delays.specs.declared.network.Network.{Network}
 use Rattle.path_delays.specs.declared.reach.Reach.{Reach}
 use Rattle.path_delays.specs.SumParts.{AreWithin, IsAround, AreAround, delay_limit, joined_sums, sums_through}
-use Rattle.path_delays.specs.GroupParts.{group_of}
 use Rattle.path_delays.specs.NumberSets.{IsLowestTaken}
 use Rattle.path_delays.specs.Networks.{IsNetworkOf, gate_sums, weight_of, weight_at}
 use Rattle.path_delays.specs.Handing.{delay_at, rank_at, sums_at, waits_at, IsCleared, IsMarked, IsHanded, AreHanded, IsHandedOn, IsStarted}
 use Rattle.path_delays.specs.Reaches.{IsChain, AreShown, IsReach}
 use Rattle.path_delays.specs.Walking.{start_sums, limit_at, IsDue, AllBelow, AllBelowBut, IsReaching, IsReachedBelow}
-use Rattle.path_delays.proofs.ReadLemmas.{IsGate-from_Reads}
 use Rattle.path_delays.proofs.NetworkLemmas.{weights_within}
 use Rattle.path_delays.proofs.DelayLemmas.{gate_within}
-use Rattle.path_delays.proofs.Chains.{shown_start, shown_through, shown_joined, around_joined, around_known, within_joined, within_through}
+use Rattle.path_delays.proofs.Chains.{shown_start, shown_through, shown_joined, around_itself, around_joined, around_known, within_joined, within_through}
 use Rattle.path_delays.proofs.Rooms.{within_higher, rank_within}
 use Rattle.path_delays.proofs.Launching.{launched_within, launched_lowest}
 
@@ -41,10 +42,6 @@ around_around (Some sums) between inner outer around = record {
   least = omega (arith, ints, outer.least, around.least);
   greatest = omega (arith, ints, outer.greatest, around.greatest);
 }
-
--- sums are around themselves
-around_itself : (sums : Sums) → IsAround sums sums
-around_itself sums = record { least = omega (arith, ints); greatest = omega (arith, ints) }
 
 -- what is around something is there
 there : (known : Option Sums) (inner : Sums) → AreAround known inner
@@ -58,14 +55,8 @@ module _ (circuit : Circuit) (tech : Tech) (from : ℕ) (network : Network)
   signal_of : (gate : ℕ) → IsGate circuit.signals gate
       → (signal : Signal) × (slice_get circuit.signals gate ≡ Some signal)
       × (is_gate signal.kind ≡ true)
-  signal_of gate is_one = at (slice_get circuit.signals gate) refl is_one
-    where
-      at : (o : Option Signal) → slice_get circuit.signals gate ≡ o
-          → IsSomeAnd o (λ signal. IsTrue (is_gate signal.kind))
-          → (signal : Signal) × (slice_get circuit.signals gate ≡ Some signal)
-          × (is_gate signal.kind ≡ true)
-      at None here none = absurd none
-      at (Some signal) here one = (signal, here, one)
+  signal_of gate is_one =
+      some_and (slice_get circuit.signals gate) (λ signal. IsTrue (is_gate signal.kind)) is_one
 
   -- a gate's delays are the table's
   delay_is : (gate : ℕ) (signal : Signal) → slice_get circuit.signals gate ≡ Some signal

@@ -1,9 +1,9 @@
 -- Which registers capture each signal.
-use Rattle.std.specs.Prelude.{◌≡◌, ◌<◌, ◌≤◌, ◌+◌, ◌*◌, ◌↔◌, ℕ, IsTrue, List, length, All, Contains, vec_len}
+use Rattle.std.specs.Prelude.{◌≡◌, ◌<◌, ◌≤◌, ◌+◌, ◌*◌, ◌↔◌, ℕ, IsTrue, List, length, All, Contains}
 use Rattle.cts_model.specs.declared.circuit.Circuit.{Circuit}
 use Rattle.cts_model.specs.netlist.Paths.{Captures}
-use Rattle.path_delays.specs.declared.groups.Groups.{Groups}
-use Rattle.path_delays.specs.GroupParts.{group_of}
+use Rattle.gate_order.specs.declared.groups.Groups.{Groups}
+use Rattle.gate_order.specs.GroupParts.{bounds_of, group_of}
 use Rattle.path_delays.specs.NumberSets.{has_number}
 
 -- the register captures these signals and no others
@@ -22,7 +22,7 @@ pub record AreAllCaptures (circuit : Circuit) (below : ℕ) (pairs : List (ℕ �
 
 -- the registers that capture each signal
 pub record AreCapturersOf (circuit : Circuit) (capturers : Groups) : Type 0 where
-  pub long : vec_len capturers.starts ≡ length circuit.signals + 1
+  pub long : bounds_of capturers ≡ length circuit.signals + 1
   pub each : (signal register : ℕ) → signal < length circuit.signals
       → Contains (group_of capturers signal) register → Captures circuit register signal
   pub all : (signal register : ℕ) → Captures circuit register signal

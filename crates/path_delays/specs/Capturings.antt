@@ -1,9 +1,9 @@
 -- The registers that capture what a walk reached.
-use Rattle.std.specs.Prelude.{◌≡◌, ◌<◌, ◌+◌, ◌*◌, ◌^◌, ℕ, IsTrue, IsSome, length, Contains, vec_len}
+use Rattle.std.specs.Prelude.{◌≡◌, ◌<◌, ◌+◌, ◌*◌, ◌^◌, ℕ, IsTrue, IsSome, length, Contains}
 use Rattle.cts_model.specs.declared.circuit.Circuit.{Circuit}
+use Rattle.gate_order.specs.GroupParts.{bounds_of, group_of}
 use Rattle.path_delays.specs.declared.capturing.Capturing.{Capturing}
 use Rattle.path_delays.specs.declared.walk.Walk.{Walk}
-use Rattle.path_delays.specs.GroupParts.{group_of}
 use Rattle.path_delays.specs.NumberSets.{has_number}
 use Rattle.path_delays.specs.WalkParts.{sums_to}
 use Rattle.path_delays.specs.Captured.{AreCapturersOf, AreCapturedBelow}
@@ -16,7 +16,7 @@ pub record IsCapturer (capturing : Capturing) (signal register : ℕ) : Type 0 w
 -- room for the signals and the registers
 pub record HasCaptureRoom (capturing : Capturing) : Type 0 where
   pub groups : (signal : ℕ) → IsTrue (has_number capturing.captured.words.items signal)
-      → signal + 1 < vec_len capturing.capturers.starts
+      → signal + 1 < bounds_of capturing.capturers
   pub registers : (signal register : ℕ) → IsCapturer capturing signal register
       → register < 64 * length capturing.registers.words.items
   pub reached : length capturing.reached.words.items ≡ length capturing.captured.words.items

@@ -1,10 +1,10 @@
 -- Sums of delays that a walk holds, and how they are handed from a signal to the gates that read
 -- it.
-use Rattle.std.specs.Prelude.{◌≡◌, ◌≢◌, ◌<◌, ◌+◌, ◌*◌, ◌^◌, ◌==◌, ◌&&◌, ◌||◌, ℕ, Bool, false, pos, List, [], ◌∷◌, length, All, Option, Some, None, is_none, if◌then◌else◌, slice_get, slice_index, slice_index_or, vec_len}
+use Rattle.std.specs.Prelude.{◌≡◌, ◌≢◌, ◌<◌, ◌+◌, ◌*◌, ◌^◌, ◌==◌, ◌&&◌, ◌||◌, ℕ, Bool, false, pos, List, [], ◌∷◌, length, All, Option, Some, None, is_none, if◌then◌else◌, slice_get, slice_index, slice_index_or}
+use Rattle.gate_order.specs.GroupParts.{bounds_of, group_of}
 use Rattle.path_delays.specs.declared.sums.Sums.{Sums}
 use Rattle.path_delays.specs.declared.network.Network.{Network}
 use Rattle.path_delays.specs.declared.reach.Reach.{Reach}
-use Rattle.path_delays.specs.GroupParts.{group_of}
 use Rattle.path_delays.specs.NumberSets.{has_number}
 use Rattle.path_delays.specs.SumParts.{AreWithin, delay_limit, joined_sums, sums_through}
 
@@ -26,7 +26,7 @@ delay_at network number =
 
 -- room for the signals of a network, whose delays are small
 pub record HasReachRoom (network : Network) (reach : Reach) : Type 0 where
-  pub starts : vec_len network.readers.starts ≡ length network.ranks.items + 1
+  pub starts : bounds_of network.readers ≡ length network.ranks.items + 1
   pub readers : (signal : ℕ) → signal < length network.ranks.items
       → All (λ gate. gate < length network.ranks.items) (group_of network.readers signal)
   pub delays : length network.delays.items ≡ length network.ranks.items

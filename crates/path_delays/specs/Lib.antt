@@ -1,13 +1,6 @@
-pub mod Orders
-pub mod Loops
-pub mod Grouped
-pub mod GroupParts
-pub mod GateReads
-pub mod Sorted
 pub mod NumberSets
 pub mod SumParts
 pub mod Networks
-pub mod LevelParts
 pub mod Handing
 pub mod Reaches
 pub mod Walking

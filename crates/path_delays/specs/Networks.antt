@@ -1,6 +1,6 @@
 -- What walks over a circuit go by: the readers of each signal, the order of the gates and their
 -- delays.
-use Rattle.std.specs.Prelude.{◌≡◌, ◌<◌, ◌≤◌, ◌+◌, ◌-◌, ◌*◌, ℕ, pos, List, [], length, map, take, All, Contains, Some, if◌then◌else◌, slice_get, slice_index, vec_len}
+use Rattle.std.specs.Prelude.{◌≡◌, ◌<◌, ◌≤◌, ◌+◌, ◌-◌, ◌*◌, ℕ, pos, List, [], length, map, take, All, Contains, Some, if◌then◌else◌, slice_get, slice_index}
 use Rattle.std.specs.List.{sum_by}
 use Rattle.std.specs.Option.{option_map_or}
 use Rattle.cts_model.specs.declared.signal.Signal.{Signal}
@@ -10,10 +10,10 @@ use Rattle.cts_model.specs.netlist.Kinds.{is_gate}
 use Rattle.cts_model.specs.netlist.Circuits.{gate_inputs}
 use Rattle.cts_model.specs.netlist.Paths.{IsGate, Reads}
 use Rattle.cts_model.specs.timing.Delays.{least_gate_delay, greatest_gate_delay}
-use Rattle.path_delays.specs.declared.groups.Groups.{Groups}
+use Rattle.gate_order.specs.declared.groups.Groups.{Groups}
+use Rattle.gate_order.specs.GroupParts.{bounds_of, group_of}
 use Rattle.path_delays.specs.declared.sums.Sums.{Sums}
 use Rattle.path_delays.specs.declared.network.Network.{Network}
-use Rattle.path_delays.specs.GroupParts.{group_of}
 
 -- the pairs of a signal that is read and a gate that reads it, of all gates below a number
 pub record AreAllReads (signals : List Signal) (below : ℕ) (pairs : List (ℕ × ℕ)) : Type 0 where
@@ -29,7 +29,7 @@ all_reads_by signal number =
 
 -- the readers of each signal
 pub record AreReaders (signals : List Signal) (readers : Groups) : Type 0 where
-  pub long : vec_len readers.starts ≡ length signals + 1
+  pub long : bounds_of readers ≡ length signals + 1
   pub each : (read gate : ℕ) → read < length signals
       → Contains (group_of readers read) gate → Reads signals gate read
   pub all : (read gate : ℕ) → Reads signals gate read → Contains (group_of readers read) gate

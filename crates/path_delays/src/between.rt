@@ -1,12 +1,12 @@
 ghost use Rattle.std.specs.Prelude.{◌<◌, All, IfOk, length};
-ghost use Rattle.path_delays.specs.LevelParts.{IsLevelsOf};
+ghost use Rattle.gate_order.specs.LevelParts.{IsLevelsOf};
 ghost use Rattle.path_delays.specs.JoinedPairs.{AreDelaysBetween};
 
-use crate::Levels;
 use crate::pair::delay_between;
 use crate::walk::Walk;
 use cts_base::{Listed, NoMemory};
 use cts_model::{Circuit, PairDelay, Tech};
+use gate_order::Levels;
 use std::alloc::Global;
 
 /// The delays of pairs of registers, one pair after the other, over all paths between the two.

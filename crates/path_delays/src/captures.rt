@@ -1,10 +1,10 @@
 ghost use Rattle.std.specs.Prelude.{◌≡◌, ◌++◌, IfOk, OnOk, length, map};
 ghost use Rattle.path_delays.specs.Captured.{AreAllCaptures, AreCapturedBelow, AreCapturersOf};
 
-use crate::groups::Groups;
 use crate::number_set::NumberSet;
 use cts_base::NoMemory;
 use cts_model::Circuit;
+use gate_order::Groups;
 use std::alloc::Global;
 
 /// The registers that capture each signal. One pass over what the registers capture.

@@ -1,11 +1,11 @@
 ghost use Rattle.std.specs.Prelude.{◌≤◌, IfOk, length};
 
 use crate::captures::{captured_signals, capturers};
-use crate::groups::Groups;
 use crate::number_set::NumberSet;
 use crate::walk::Walk;
 use cts_base::NoMemory;
 use cts_model::Circuit;
+use gate_order::Groups;
 use std::alloc::Global;
 
 /// The registers that capture what a walk reached, in room that is used again from walk to walk.

@@ -1,11 +1,10 @@
 ghost use Rattle.std.specs.Prelude.{◌≡◌, ◌≢◌, ◌<◌, ◌++◌, ◌^◌, IfOk, OnOk, All, AllPairs, length};
 
-use crate::Levels;
 use crate::gate_delays::gate_delays;
-use crate::groups::Groups;
 use crate::sums::Sums;
 use cts_base::NoMemory;
 use cts_model::{Circuit, Signal, Tech};
+use gate_order::{Groups, Levels};
 use std::alloc::Global;
 
 /// What walks over a circuit go by.
@@ -22,7 +21,7 @@ pub(crate) struct Network {
 }
 
 impl Network {
-    ghost use Rattle.path_delays.specs.LevelParts.{IsLevelsOf};
+    ghost use Rattle.gate_order.specs.LevelParts.{IsLevelsOf};
     ghost use Rattle.path_delays.specs.Networks.{AreAllReads, ArePlaces, IsNetworkOf, all_reads_by};
 
     /// The network of a circuit: one pass over its inputs, and one over its gates.

@@ -1,17 +1,17 @@
 ghost use Rattle.std.specs.Prelude.{◌≡◌, ◌<◌, length, IfOk};
 ghost use Rattle.cts_model.specs.declared.circuit.Circuit.{Circuit};
 ghost use Rattle.cts_model.specs.declared.tech.Tech.{Tech};
-ghost use Rattle.path_delays.specs.LevelParts.{IsLevelsOf};
+ghost use Rattle.gate_order.specs.LevelParts.{IsLevelsOf};
 ghost use Rattle.path_delays.specs.WalkParts.{HasReach, IsRoomFor};
 ghost use Rattle.path_delays.specs.Captured.{AreCapturedBy};
 ghost use Rattle.path_delays.specs.CapturedSums.{AreCaptured, either_sums};
 ghost use Rattle.path_delays.specs.JoinedPairs.{IsJoinedBy};
 
-use crate::Levels;
 use crate::sums::Sums;
 use crate::walk::Walk;
 use cts_base::NoMemory;
 use cts_model::{Circuit, PairDelay, Tech};
+use gate_order::Levels;
 use std::alloc::Global;
 
 /// The delays from one register to another over all paths between the two. `None` comes exactly

@@ -1,17 +1,18 @@
 ghost use Rattle.std.specs.Prelude.{◌≡◌, ◌<◌, ◌≤◌, ◌+◌, ◌++◌, length, vec_len, IfOk, IfErr, OnOk};
 ghost use Rattle.std.specs.Option.{option_to_list};
 ghost use Rattle.cts_model.specs.timing.PairLists.{JoinsMoreThan};
-ghost use Rattle.path_delays.specs.LevelParts.{IsLevelsOf};
+ghost use Rattle.gate_order.specs.LevelParts.{IsLevelsOf};
 ghost use Rattle.path_delays.specs.WalkParts.{IsRoomFor};
 ghost use Rattle.path_delays.specs.Capturings.{IsCapturingOf};
 ghost use Rattle.path_delays.specs.JoinedPairs.{ListsPairsBefore, ArePairs, ShowsTooMany, MeetsLimit, pair_limit};
 
+use crate::PairFault;
 use crate::capturing::Capturing;
 use crate::pair::joined_pair;
 use crate::walk::Walk;
-use crate::{Levels, PairFault};
 use cts_base::Listed;
 use cts_model::{Circuit, PairDelay, Tech};
+use gate_order::Levels;
 use std::alloc::Global;
 
 /// How many joined pairs of registers a circuit may have.

@@ -1,12 +1,12 @@
 ghost use Rattle.std.specs.Prelude.{◌<◌, length, IfOk};
-ghost use Rattle.path_delays.specs.LevelParts.{IsLevelsOf};
+ghost use Rattle.gate_order.specs.LevelParts.{IsLevelsOf};
 ghost use Rattle.path_delays.specs.ExtremePaths.{IsExtremeIfAny};
 
-use crate::Levels;
 use crate::extreme_path::path_between;
 use crate::walk::Walk;
 use cts_base::{Listed, NoMemory};
 use cts_model::{Circuit, Tech};
+use gate_order::Levels;
 use std::alloc::Global;
 use std::marker::Model;
 
@@ -31,7 +31,7 @@ impl<'a> Model for Paths<'a> {
 
 impl<'a> Paths<'a> {
     ghost use Rattle.std.specs.Prelude.{◌≡◌, ◌<◌, length, IfOk};
-    ghost use Rattle.path_delays.specs.LevelParts.{IsLevelsOf};
+    ghost use Rattle.gate_order.specs.LevelParts.{IsLevelsOf};
     ghost use Rattle.path_delays.specs.ExtremePaths.{IsExtremeIfAny};
 
     /// The paths of a circuit. Which gates read each signal is listed once, for all of them.

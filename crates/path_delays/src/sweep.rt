@@ -2,18 +2,18 @@ ghost use Rattle.std.specs.Prelude.{◌≡◌, ◌<◌, ◌≤◌, ◌+◌, ◌*
 ghost use Rattle.cts_model.specs.netlist.Kinds as kinds;
 ghost use Rattle.cts_model.specs.netlist.Kinds.{is_gate, is_valid};
 ghost use Rattle.cts_model.specs.table.Tables.{IsWithin};
+ghost use Rattle.gate_order.specs.LevelParts.{IsLevelsOf};
 ghost use Rattle.path_delays.specs.declared.window.Window.{Window};
-ghost use Rattle.path_delays.specs.LevelParts.{IsLevelsOf};
 ghost use Rattle.path_delays.specs.Networks.{gate_sums};
 ghost use Rattle.path_delays.specs.Windows.{AreWindows, IsHullIfAny, IsSmallSchedule, IsWindowBelow};
 ghost use Rattle.path_delays.specs.WindowParts.{AreBelow, AreCaptures, AreInputsStarted, AreLaunched, ArePassed, ComesFrom, IsGateWindow, either_window, start_window, window_at, window_limit};
 
-use crate::Levels;
 use crate::gate_delays::gate_delay;
 use crate::walk::{is_host, is_input, start_sums};
 use crate::window::Window;
 use cts_base::{Listed, NoMemory};
 use cts_model::{Circuit, Kind, Schedule, Signal, Tech};
+use gate_order::Levels;
 use std::alloc::Global;
 
 /// When what the registers launch by a schedule comes to each register, over all paths that end

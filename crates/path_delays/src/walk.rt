@@ -4,13 +4,13 @@ ghost use Rattle.cts_model.specs.netlist.Paths.{IsInput, Launches};
 ghost use Rattle.path_delays.specs.SumParts.{AreWithin, delay_limit};
 ghost use Rattle.path_delays.specs.Walking as walking;
 
-use crate::Levels;
 use crate::network::Network;
 use crate::number_set::NumberSet;
 use crate::reach::Reach;
 use crate::sums::Sums;
 use cts_base::NoMemory;
 use cts_model::{Circuit, Kind, Tech};
+use gate_order::Levels;
 use std::alloc::Global;
 
 /// Room for walks from registers, used again from walk to walk.
@@ -21,7 +21,7 @@ pub(crate) struct Walk {
 }
 
 impl Walk {
-    ghost use Rattle.path_delays.specs.LevelParts.{IsLevelsOf};
+    ghost use Rattle.gate_order.specs.LevelParts.{IsLevelsOf};
     ghost use Rattle.path_delays.specs.NumberSets.{IsCommon};
     ghost use Rattle.path_delays.specs.WalkParts.{HasReach, IsRoomFor, sums_to};
 

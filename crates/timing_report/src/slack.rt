@@ -4,13 +4,14 @@ ghost use Rattle.cts_model.specs.table.Tables.{IsWithin};
 ghost use Rattle.cts_model.specs.placement.Points.{IsBelow};
 ghost use Rattle.cts_model.specs.timing.Schedules.{IsSmallPeriod};
 ghost use Rattle.cts_model.specs.timing.Slacks.{AreSlacks, AreSmallSlacks, IsSmallSlack};
-ghost use Rattle.path_delays.specs.LevelParts.{IsLevelsOf};
+ghost use Rattle.gate_order.specs.LevelParts.{IsLevelsOf};
 ghost use Rattle.path_delays.specs.Windows.{IsWindowBelow};
 ghost use Rattle.timing_report.specs.SpareTicks.{AreSlacksBefore, IsSlackAt, IsTicks, hold_ticks, setup_ticks};
 
 use cts_base::{Fraction, Listed, NoMemory};
 use cts_model::{Circuit, Schedule, Slack, Tech};
-use path_delays::{Levels, Window, arrivals};
+use gate_order::Levels;
+use path_delays::{Window, arrivals};
 use std::alloc::Global;
 
 /// What each register has to spare at a period where the clock reaches the registers by a schedule.

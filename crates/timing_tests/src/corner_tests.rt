@@ -6,7 +6,7 @@ use crate::same::expect_same;
 use corners::{CornersOutcome, combine, corners_of};
 use cts_base::Listed;
 use cts_model::Constraint;
-use path_delays::levels;
+use gate_order::levels;
 use std::alloc::Global;
 use std::process::Abort;
 use std::test::Fail;

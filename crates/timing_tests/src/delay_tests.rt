@@ -1,7 +1,7 @@
 use crate::same::expect_same;
 use bench_reader::read_bench;
 use cts_model::Circuit;
-use path_delays::levels;
+use gate_order::levels;
 use std::alloc::{AllocError, Global};
 use std::process::Abort;
 use std::test::Fail;

@@ -6,7 +6,7 @@ use crate::same::expect_same;
 use cts_base::Listed;
 use cts_engine::{PeriodOutcome, SynthFault, period_of, zero_of};
 use cts_model::{Constraint, PairDelay, PeriodShow, Tech, ZeroSkew};
-use path_delays::levels;
+use gate_order::levels;
 use std::alloc::Global;
 use std::process::Abort;
 use std::test::Fail;

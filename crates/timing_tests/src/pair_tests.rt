@@ -5,7 +5,8 @@ use crate::circuits::{
 use crate::same::expect_same;
 use cts_base::Listed;
 use cts_model::{Circuit, PairDelay, Tech, ZeroSkew};
-use path_delays::{PairFault, Paths, delays_between, levels, pair_delay, pair_delays, path_of};
+use gate_order::levels;
+use path_delays::{PairFault, Paths, delays_between, pair_delay, pair_delays, path_of};
 use std::alloc::{AllocError, Global};
 use std::process::Abort;
 use std::test::Fail;

@@ -4,7 +4,7 @@ use crate::same::expect_same;
 use cts_base::{Fraction, Listed};
 use cts_engine::{ScheduleOutcome, schedule_of};
 use cts_model::{PairDelay, Schedule, Slack, ZeroSkew};
-use path_delays::levels;
+use gate_order::levels;
 use std::alloc::Global;
 use std::process::Abort;
 use std::test::Fail;

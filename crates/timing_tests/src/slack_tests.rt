@@ -6,7 +6,8 @@ use crate::circuits::{RING, Registers, S27, S27_GATES, TO_OUTPUT, circuit_of, ta
 use crate::same::expect_same;
 use cts_base::{Fraction, Listed};
 use cts_model::{Schedule, Slack};
-use path_delays::{arrivals, levels};
+use gate_order::levels;
+use path_delays::arrivals;
 use std::alloc::{AllocError, Global};
 use std::process::Abort;
 use std::test::Fail;

@@ -1,8 +1,8 @@
 -- One reader more.
 use Rattle.std.proofs.Common.{◌≡◌, ◌∙◌, Some, take, get_or, arith, refl, sym, subst}
 use Rattle.std.proofs.lemmas.List.{take_all, take_more}
+use Rattle.gate_order.specs.GroupParts.{group_of}
 use Rattle.path_delays.specs.declared.sums.Sums.{Sums}
-use Rattle.path_delays.specs.GroupParts.{group_of}
 use Rattle.path_delays.specs.Handing.{AreHanded}
 use Rattle.path_delays.proofs.Hands.{HasReachRoom-same, AreHanded-push}
 use Rattle.path_delays.proofs.reach.Reach.hand_on.Goals as goal

@@ -1,0 +1,7 @@
+use Rattle.std.proofs.Common.{◌≡◌, ◌++◌, take}
+use Rattle.gate_order.specs.GateReads.{reads_among}
+use Rattle.gate_order.proofs.gate_reads.push_reads.Given as goal
+
+abbrev pub invariant-loop-input : goal.invariant-loop-input
+invariant-loop-input l = l.pairs.items
+    ≡ l.initial.pairs.items ++ reads_among l.signals l.number (take l.input-index l.input-items)

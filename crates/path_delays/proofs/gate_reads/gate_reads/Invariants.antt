@@ -1,5 +1,0 @@
-use Rattle.path_delays.specs.GateReads.{AreReads}
-use Rattle.path_delays.proofs.gate_reads.gate_reads.Given as goal
-
-abbrev pub invariant-loop-number : goal.invariant-loop-number
-invariant-loop-number l = AreReads l.signals l.number l.pairs.items

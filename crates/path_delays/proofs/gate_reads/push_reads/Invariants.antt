@@ -1,7 +1,0 @@
-use Rattle.std.proofs.Common.{◌≡◌, ◌++◌, take}
-use Rattle.path_delays.specs.GateReads.{reads_among}
-use Rattle.path_delays.proofs.gate_reads.push_reads.Given as goal
-
-abbrev pub invariant-loop-input : goal.invariant-loop-input
-invariant-loop-input l = l.pairs.items
-    ≡ l.initial.pairs.items ++ reads_among l.signals l.number (take l.input-index l.input-items)

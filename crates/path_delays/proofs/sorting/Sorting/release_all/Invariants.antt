@@ -1,7 +1,0 @@
-use Rattle.std.proofs.Common.{take}
-use Rattle.path_delays.specs.Sorted.{AreReleased}
-use Rattle.path_delays.proofs.sorting.Sorting.release_all.Given as goal
-
-abbrev pub invariant-loop-reader : goal.invariant-loop-reader
-invariant-loop-reader l = AreReleased (take l.reader-index l.readers) l.initial.self.waiting.items
-    l.initial.self.order.items l.self.waiting.items l.self.order.items
