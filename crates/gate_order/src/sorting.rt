@@ -17,8 +17,8 @@ pub(crate) struct Sorting {
     pub(crate) order: Vec<u32>,
 }
 
-/// Sorts the gates of a circuit, up to those that wait for one another. It goes over the signals
-/// and their inputs a fixed number of times.
+/// Sorts the gates of a circuit, up to those that wait for one another. Kahn, "Topological sorting
+/// of large networks", 1962. It goes over the signals and their inputs a fixed number of times.
 pub(crate) fn sorted(alloc: Global, circuit: &Circuit) -> Result<Sorting, NoMemory>
     ensures { IfOk result
         (λ sorting. IsSorted circuit.now.signals sorting.waiting.items sorting.order.items) }
