@@ -1,18 +1,20 @@
 -- What is taken in from a line whose names are all defined.
-use Rattle.std.proofs.Common.{◌≡◌, ℕ, nat_eq, List, [], ◌∷◌, ◌++◌, map, Option, Some, None, IsSome, IsSomeAnd, refl, sym, ap, ◌∙◌}
+use Rattle.std.proofs.Common.{◌≡◌, ℕ, nat_eq, List, [], ◌∷◌, ◌++◌, map, Option, Some, None, IsSome, IsSomeAnd, All, refl, sym, ap, ◌∙◌, subst, append_assoc, append-nil}
 use Rattle.std.specs.List.{filter_map}
 use Rattle.std.proofs.lemmas.List.{map_push}
-use Rattle.std.proofs.lemmas.List.Elements.{All-nil, All-cons, All-push}
+use Rattle.std.proofs.lemmas.List.Elements.{All-nil, All-cons, All-head, All-push, All-tail}
 use Rattle.cts_model.specs.netlist.Circuits.{registers_of}
-use Rattle.cts_model.specs.netlist.Statements.{Statement, Blank, Output, Definition, statement_of, definition_of, mention_of}
+use Rattle.cts_model.specs.netlist.Statements.{Statement, Blank, Input, Output, Assign, Definition, statement_of, definition_of, mention_of}
 use Rattle.cts_model.specs.netlist.Flaws.{statements_in, definitions_in}
 use Rattle.cts_model.specs.netlist.Netlists.{AreDefined, UsesDefined, signal_of, number_of, first_mentions}
 use Rattle.indexmap.specs.IndexSet.{insert_key}
 use Rattle.bench_reader.specs.declared.circuit_parts.CircuitParts.{CircuitParts}
+use Rattle.bench_reader.specs.Said.{unless_blank}
 use Rattle.bench_reader.specs.Taken.{HasParts}
 use Rattle.cts_model.proofs.RegisterLists.{filter_map_push_none, filter_map_push_some}
 use Rattle.bench_reader.proofs.LineStatements.{statements_push, definitions_push_some, definitions_push_none}
 use Rattle.bench_reader.proofs.PartLists.{mentions_push}
+use Rattle.bench_reader.proofs.SaidLemmas.{IsSilent}
 
 module _ (names : List (List ℕ)) (line : List ℕ) (old new : CircuitParts) {earlier : List (List ℕ)}
     (has : HasParts names old earlier) (statement : Statement)
@@ -106,3 +108,35 @@ module _ (names : List (List ℕ)) (line : List ℕ) (old : CircuitParts) {earli
             defined = defined_push names line old new has (Output name) form
                 (All-cons (λ n. IsSome (number_of names n)) name [] (rw some refl) (All-nil _));
           }
+
+module _ (names : List (List ℕ)) (parts : CircuitParts) where
+  -- a line that says nothing, or has no form
+  silent_denoted : {earlier : List (List ℕ)} (line : List ℕ) → IsSilent line
+      → HasParts names parts earlier → HasParts names parts (earlier ++ line ∷ [])
+  silent_denoted {earlier} line silent has = at (statement_of line) refl silent
+    where
+      at : (o : Option Statement) → statement_of line ≡ o → unless_blank o ≡ None
+          → HasParts names parts (earlier ++ line ∷ [])
+      at None form none =
+          let same : statements_in (earlier ++ line ∷ []) ≡ statements_in earlier =
+          filter_map_push_none statement_of earlier line form in
+          record {
+            signals_are = rw same has.signals_are;
+            registers_are = has.registers_are;
+            outputs_are = rw same has.outputs_are;
+            defined = rw same has.defined;
+          }
+      at (Some Blank) form none = blank_denoted names line parts has form
+      at (Some (Input name)) form none = cc
+      at (Some (Output name)) form none = cc
+      at (Some (Assign name word inputs)) form none = cc
+
+  -- lines that say nothing
+  pub silents_denoted : (earlier silent : List (List ℕ)) → All IsSilent silent
+      → HasParts names parts earlier → HasParts names parts (earlier ++ silent)
+  silents_denoted earlier [] silence has =
+      subst (HasParts names parts) (sym (append-nil earlier)) has
+  silents_denoted earlier (line ∷ silent) silence has =
+      subst (HasParts names parts) (append_assoc earlier (line ∷ []) silent)
+      (silents_denoted (earlier ++ line ∷ []) silent (All-tail IsSilent line silent silence)
+      (silent_denoted line (All-head IsSilent line silent silence) has))

@@ -3,7 +3,11 @@ use Rattle.std.proofs.Common.{◌≡◌, ℕ, List, [], ◌∷◌, ◌++◌, Som
 use Rattle.std.specs.List.{filter_map}
 use Rattle.std.proofs.lemmas.List.Elements.{All-push}
 use Rattle.cts_model.specs.netlist.Netlists.{number_of}
+use Rattle.cts_model.specs.netlist.Statements.{Statement, uses_of}
 use Rattle.cts_model.proofs.RegisterLists.{filter_map_push_some}
+use Rattle.bench_reader.specs.LineFaults.{IsUseFault, MissesName}
+use Rattle.bench_reader.specs.declared.use_fault.UseFault.{UseFault}
+use Rattle.bench_reader.specs.declared.use_fault.UseFault.TheVariants as use_fault
 
 -- the name has a number
 abbrev IsNumbered : List (List ℕ) → List ℕ → Type 0
@@ -42,3 +46,10 @@ module _ {names used left : List (List ℕ)} {numbers : List ℕ}
   -- so each has a number
   pub all_numbered : All (λ name. IsSome (number_of names name)) used
   all_numbered = subst (All (IsNumbered names)) whole before.defined
+
+-- whoever misses a name that a statement uses refuses the statement
+pub misses_use : (names used : List (List ℕ)) (statement : Statement) (fault : UseFault)
+    → uses_of statement ≡ used → MissesName names used fault → IsUseFault names statement fault
+misses_use names used statement use_fault.Undefined is misses = λ uses.
+    misses (subst (All (λ name. IsSome (number_of names name))) is uses)
+misses_use names used statement use_fault.NoMemory is misses = tt

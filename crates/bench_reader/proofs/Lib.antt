@@ -1,5 +1,6 @@
 mod AddedParts
 mod DefiningLines
+mod SaidLemmas
 mod DefinitionWalk
 mod FanIns
 mod FlawlessLines

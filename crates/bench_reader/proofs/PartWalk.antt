@@ -1,31 +1,49 @@
--- The walk that takes in what each line denotes, where the names of all lines are known.
-use Rattle.std.proofs.Common.{◌≡◌, ℕ, ◌≤◌, List, [], ◌∷◌, ◌++◌, length, None, ap, ◌∙◌, subst, arith, length-append}
+-- The walk that takes in what each line says, where the names of all lines are known.
+use Rattle.std.proofs.Common.{◌≡◌, ℕ, suc, ◌+◌, ◌<◌, ◌≤◌, true, drop, get_or, List, [], ◌∷◌, ◌++◌, length, Some, ap, refl, sym, ◌∙◌, subst, arith, length-append, append_assoc}
 use Rattle.std.specs.List.{filter_map}
-use Rattle.std.proofs.lemmas.List.{length-map}
+use Rattle.std.proofs.Math.Seq.{drop-cons}
+use Rattle.std.proofs.lemmas.List.{get_or-map, length-map, length_push}
 use Rattle.std.proofs.lemmas.List.Elements.{filter_map-append}
-use Rattle.cts_base.specs.Lines.{lines_of, numbered_lines}
-use Rattle.cts_model.specs.netlist.Statements.{statement_of, definition_of}
-use Rattle.cts_model.specs.netlist.Flaws.{statements_in, definitions_in, flaw_of}
-use Rattle.cts_model.specs.netlist.Netlists.{AreFlawless, AreDefined, names_in, signal_of}
+use Rattle.cts_base.specs.Lines.{lines_of}
+use Rattle.cts_model.specs.netlist.Statements.{Statement, statement_of, definition_of}
+use Rattle.cts_model.specs.netlist.Flaws.{statements_in, definitions_in, has_kind}
+use Rattle.cts_model.specs.netlist.Netlists.{AreDefined, UsesDefined, signal_of}
 use Rattle.bench_reader.specs.declared.circuit_parts.CircuitParts.{CircuitParts}
-use Rattle.bench_reader.specs.Lines.{UsesUndefined, IsFirstUndefined}
+use Rattle.bench_reader.specs.declared.said.Said.{Said}
+use Rattle.bench_reader.specs.Lines.{IsFirstUndefined, UsesUndefined}
+use Rattle.bench_reader.specs.Said.{IsReading, kept_of, said_in}
 use Rattle.bench_reader.specs.Taken.{HasParts}
-use Rattle.cts_base.proofs.LineSplits.{IsPassed, none_passed, all_passed, next_line}
+use Rattle.bench_reader.specs.View.{said_by}
+use Rattle.bench_reader.proofs.AddedParts.{silents_denoted}
+use Rattle.bench_reader.proofs.FlawlessLines.{sound_line}
+use Rattle.bench_reader.proofs.SaidLemmas.{IsNextSaid, all_silent, next_said}
 use Rattle.bench_reader.proofs.ValidDefinitions.{valid_lines}
 
--- this is what the lines so far tell
-pub record DenotesPassed (text : List ℕ) (left : List (ℕ × List ℕ)) (names : List (List ℕ))
+-- this is what the lines so far tell, and this is left of what lines say
+pub record DenotesPassed (text : List ℕ) (names : List (List ℕ)) (left : List (ℕ × Statement))
     (parts : CircuitParts) : Type 0 where
   pub passed : List (List ℕ)
-  pub walk : IsPassed text left passed
+  pub later : List (List ℕ)
+  pub split : lines_of text ≡ passed ++ later
+  pub left_is : left ≡ said_in (length passed + 1) later
   pub has : HasParts names parts passed
 
--- at the start
-pub denotes_none : {text : List ℕ} {left : List (ℕ × List ℕ)} {names : List (List ℕ)}
-    {parts : CircuitParts} → left ≡ numbered_lines text → HasParts names parts []
-    → DenotesPassed text left names parts
-denotes_none {text} {left} all has =
-    record { passed = []; walk = none_passed text left all; has = has }
+-- as much is kept as is said
+pub kept_length : (said : List Said) → length (kept_of said) ≡ length said
+kept_length said = length-map said (λ one. (one.number, said_by one.statement))
+
+-- what is left begins with what is said at the next place
+pub left_next : (said : List Said) (place : ℕ) (one : Said) → place < length said
+    → one ≡ get_or said place one
+    → drop place (kept_of said)
+    ≡ (one.number, said_by one.statement) ∷ drop (place + 1) (kept_of said)
+left_next said place one within is =
+    let kept : Said → ℕ × Statement = λ o. (o.number, said_by o.statement) in
+    let more : suc place ≡ place + 1 = omega arith in
+    drop-cons (kept_of said) place (kept one) (omega (arith, kept_length said))
+    ∙ ap (λ first. first ∷ drop (suc place) (kept_of said))
+    (get_or-map kept said place one (kept one) within ∙ ap kept (sym is))
+    ∙ ap (λ n. (one.number, said_by one.statement) ∷ drop n (kept_of said)) more
 
 -- the lines so far define no more than all lines
 definitions_before : (passed later : List (List ℕ))
@@ -36,53 +54,92 @@ definitions_before passed later =
     ∙ filter_map-append definition_of (statements_in passed) (statements_in later) in
     rw joined (omega (arith, length-append (definitions_in passed) (definitions_in later)))
 
--- so there is room for one more
-pub few_so_far : {text : List ℕ} {left : List (ℕ × List ℕ)} {names : List (List ℕ)}
-    {parts : CircuitParts} → AreFlawless (lines_of text) → DenotesPassed text left names parts
-    → length parts.signals ≤ 65536
-few_so_far {text} {left} {names} {parts} flawless before =
-    let all = (valid_lines (lines_of text) flawless).few_signals in
-    let all_here : length (definitions_in (before.passed ++ before.walk.later)) ≤ 65536 =
-    rw (← before.walk.split) all in
-    let count : length parts.signals ≡ length (definitions_in before.passed) =
-    ap length before.has.signals_are
-    ∙ length-map (definitions_in before.passed) (signal_of names) in
-    omega (arith, count, definitions_before before.passed before.walk.later)
-
-module _ {text : List ℕ} {left more : List (ℕ × List ℕ)} {number : ℕ} {line : List ℕ}
-    {names : List (List ℕ)} {old : CircuitParts} where
-  -- the next line has no flaw
-  pub flawless_next : AreFlawless (lines_of text) → DenotesPassed text left names old
-      → left ≡ (number, line) ∷ more → (earlier : List (List ℕ)) × (flaw_of earlier line ≡ None)
-  flawless_next flawless before some =
-      let place = (next_line number line more before.walk some).place in
-      (before.passed, flawless.each before.passed line place.later place.split)
-
-  -- a turn
-  pub denotes_next : {new : CircuitParts} → DenotesPassed text left names old
-      → left ≡ (number, line) ∷ more
-      → ((earlier : List (List ℕ)) → HasParts names old earlier
-      → HasParts names new (earlier ++ line ∷ [])) → DenotesPassed text more names new
-  denotes_next before some denotes = record {
-    passed = before.passed ++ line ∷ [];
-    walk = (next_line number line more before.walk some).passed_next;
-    has = denotes before.passed before.has;
+module _ {text : List ℕ} {names : List (List ℕ)} {said : List Said}
+    (reading : IsReading text names said) where
+  -- at the start
+  pub denotes_none : {parts : CircuitParts} → HasParts names parts []
+      → DenotesPassed text names (kept_of said) parts
+  denotes_none has = record {
+    passed = [];
+    later = lines_of text;
+    split = refl;
+    left_is = reading.said_are;
+    has = has;
   }
 
-  -- a refusal
-  pub undefined_next : names ≡ names_in text → DenotesPassed text left names old
-      → left ≡ (number, line) ∷ more → UsesUndefined names line → IsFirstUndefined text number
-  undefined_next known before some refuses = record {
-    earlier = before.passed;
-    line = line;
-    place = (next_line number line more before.walk some).place;
-    defined = subst (λ n. AreDefined n before.passed) known before.has.defined;
-    refused = subst (λ n. UsesUndefined n line) known refuses;
-  }
+  module _ {left : List (ℕ × Statement)} {parts : CircuitParts}
+      (before : DenotesPassed text names left parts) where
+    -- there is room for one more signal
+    pub few_so_far : length parts.signals ≤ 65536
+    few_so_far =
+        let all = (valid_lines (lines_of text) reading.flawless).few_signals in
+        let all_here : length (definitions_in (before.passed ++ before.later)) ≤ 65536 =
+        rw (← before.split) all in
+        let count : length parts.signals ≡ length (definitions_in before.passed) =
+        ap length before.has.signals_are
+        ∙ length-map (definitions_in before.passed) (signal_of names) in
+        omega (arith, count, definitions_before before.passed before.later)
 
--- at the end
-pub all_denoted : {text : List ℕ} {left : List (ℕ × List ℕ)} {names : List (List ℕ)}
-    {parts : CircuitParts} → DenotesPassed text left names parts → left ≡ []
-    → HasParts names parts (lines_of text)
-all_denoted {text} {left} {names} {parts} before none =
-    subst (HasParts names parts) (all_passed before.walk none) before.has
+    -- at the end
+    pub all_denoted : left ≡ [] → HasParts names parts (lines_of text)
+    all_denoted none =
+        subst (HasParts names parts) (sym before.split)
+        (silents_denoted names parts before.passed before.later
+        (all_silent (length before.passed + 1) before.later (sym before.left_is ∙ none)) before.has)
+
+    module _ (number : ℕ) (statement : Statement) (more : List (ℕ × Statement))
+        (some : left ≡ (number, statement) ∷ more) where
+      -- the line that says it
+      next : IsNextSaid (length before.passed + 1) before.later number statement more
+      next = next_said (length before.passed + 1) before.later number statement more
+          (sym before.left_is ∙ some)
+
+      -- all lines before that
+      abbrev earlier : List (List ℕ)
+      earlier = before.passed ++ next.silent
+
+      -- tell the same
+      has_earlier : HasParts names parts earlier
+      has_earlier =
+          silents_denoted names parts before.passed next.silent next.silence before.has
+
+      -- it stands behind them
+      parted : lines_of text ≡ earlier ++ next.line ∷ next.later
+      parted = before.split ∙ ap (λ l. before.passed ++ l) next.split
+          ∙ sym (append_assoc before.passed next.silent (next.line ∷ next.later))
+
+      -- its number
+      number_is : number ≡ length earlier + 1
+      number_is = omega (arith, next.place_is, length-append before.passed next.silent)
+
+      -- it has a kind
+      pub has_kind_next : has_kind statement ≡ true
+      has_kind_next =
+          let sound = sound_line earlier next.line
+          (reading.flawless.each earlier next.line next.later parted) in
+          let same : sound.statement ≡ statement = cc (sound.form, next.says) in
+          subst (λ s. has_kind s ≡ true) same sound.sound.kind
+
+      -- a turn
+      pub denotes_next : {new : CircuitParts} → ((earlier : List (List ℕ)) (line : List ℕ)
+          → statement_of line ≡ Some statement → HasParts names parts earlier
+          → HasParts names new (earlier ++ line ∷ [])) → DenotesPassed text names more new
+      denotes_next denotes = record {
+        passed = earlier ++ next.line ∷ [];
+        later = next.later;
+        split = parted ∙ sym (append_assoc earlier (next.line ∷ []) next.later);
+        left_is = next.more_is ∙ ap (λ n. said_in n next.later)
+            (omega (arith, number_is, length_push earlier next.line));
+        has = denotes earlier next.line next.says has_earlier;
+      }
+
+      -- a refusal
+      pub undefined_next : (UsesDefined names statement → ⊥) → IsFirstUndefined text number
+      undefined_next refuses = record {
+        earlier = earlier;
+        line = next.line;
+        place = record { later = next.later; split = parted; number_is = number_is };
+        defined = subst (λ n. AreDefined n earlier) reading.names_are has_earlier.defined;
+        refused = subst (λ n. UsesUndefined n next.line) reading.names_are
+            (record { statement = statement; form = next.says; undefined = refuses });
+      }

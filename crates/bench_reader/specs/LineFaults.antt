@@ -1,4 +1,4 @@
--- What the two walks over the lines refuse.
+-- What the walk over the lines refuses, and that over what they say.
 use Rattle.std.specs.Prelude.{◌≡◌, ℕ, List, All, Option, Some, None, IsSome}
 use Rattle.cts_model.specs.netlist.Flaws.{Flaw, flaw_of}
 use Rattle.cts_model.specs.netlist.Flaws as flaws
@@ -8,8 +8,9 @@ use Rattle.bench_reader.specs.declared.use_fault.UseFault.{UseFault}
 use Rattle.bench_reader.specs.declared.use_fault.UseFault.TheVariants as use_fault
 use Rattle.bench_reader.specs.declared.fault.BenchFault.{BenchFault}
 use Rattle.bench_reader.specs.declared.fault.BenchFault.TheVariants.{Undefined, CombLoop, NoRegisters, NoMemory}
-use Rattle.cts_model.specs.netlist.Netlists.{number_of}
-use Rattle.bench_reader.specs.Lines.{UsesUndefined, IsFirstUndefined}
+use Rattle.cts_model.specs.netlist.Netlists.{UsesDefined, number_of}
+use Rattle.cts_model.specs.netlist.Statements.{Statement}
+use Rattle.bench_reader.specs.Lines.{IsFirstUndefined}
 use Rattle.bench_reader.specs.Refusals.{limit_of, RefusesNetlist}
 
 -- the fault of a line that has this flaw; memory is wanted only where it has none
@@ -37,10 +38,10 @@ abbrev pub MissesName : (names used : List (List ℕ)) → UseFault → Type 0
 MissesName names used use_fault.Undefined = All (λ name. IsSome (number_of names name)) used → ⊥
 MissesName names used use_fault.NoMemory = Unit {0}
 
--- the line uses a name that isn't one of these; memory may run out at any line
-abbrev pub IsUseFault : List (List ℕ) → List ℕ → UseFault → Type 0
-IsUseFault names text use_fault.Undefined = UsesUndefined names text
-IsUseFault names text use_fault.NoMemory = Unit {0}
+-- a statement uses a name that isn't one of these; memory may run out at any statement
+abbrev pub IsUseFault : List (List ℕ) → Statement → UseFault → Type 0
+IsUseFault names statement use_fault.Undefined = UsesDefined names statement → ⊥
+IsUseFault names statement use_fault.NoMemory = Unit {0}
 
 -- what the walk over uses refuses: the first line that uses an undefined name
 abbrev pub RefusesUse : List ℕ → BenchFault → Type 0

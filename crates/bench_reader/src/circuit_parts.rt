@@ -1,20 +1,23 @@
-ghost use Rattle.std.specs.Prelude.{◌≡◌, ◌≤◌, List, ℕ, None, [], ◌∷◌, ◌++◌, length, IfOk, IfErr, OnOk, IsSome, IsSomeAnd, All, nat_eq};
+ghost use Rattle.std.specs.Prelude.{◌≡◌, ◌≤◌, List, ℕ, Some, true, [], ◌∷◌, ◌++◌, length, IfOk, IfErr, OnOk, IsSome, IsSomeAnd, All, nat_eq};
 ghost use Rattle.std.specs.List.{filter_map};
 ghost use Rattle.cts_base.specs.Lines.{lines_of};
 ghost use Rattle.cts_model.specs.netlist.Circuits.{registers_of};
-ghost use Rattle.cts_model.specs.netlist.Flaws.{flaw_of};
-ghost use Rattle.cts_model.specs.netlist.Netlists.{AreFlawless, names_in, number_of};
+ghost use Rattle.cts_model.specs.netlist.Flaws.{has_kind};
+ghost use Rattle.cts_model.specs.netlist.Netlists.{number_of};
+ghost use Rattle.cts_model.specs.netlist.Statements.{statement_of};
 ghost use Rattle.indexmap.specs.IndexSet.{insert_key};
 ghost use Rattle.bench_reader.specs.LineFaults.{MissesName, IsUseFault, RefusesUse};
 ghost use Rattle.bench_reader.specs.Taken.{HasParts};
+ghost use Rattle.bench_reader.specs.View.{said_by};
 
 use crate::BenchFault;
 use crate::input_list::InputList;
 use crate::kinds::kind_of;
 use crate::names::Names;
+use crate::said::Reading;
 use crate::statement::Statement;
 use crate::use_fault::UseFault;
-use cts_base::{Listed, NoMemory, lines};
+use cts_base::{Listed, NoMemory};
 use cts_model::{FanIn, Kind, Signal};
 use indexmap::IndexSet;
 use std::alloc::Global;
@@ -40,16 +43,17 @@ impl CircuitParts {
         }
     }
 
-    // Takes in the next line.
-    fn add_line(&mut self, alloc: Global, names: &Names, line: &[u8]) -> Result<(), UseFault>
-        requires flawless { (earlier : List (List ℕ)) × (flaw_of earlier line.now ≡ None) }
+    // Takes in what a line says.
+    fn add(&mut self, alloc: Global, names: &Names, statement: &Statement) -> Result<(), UseFault>
+        requires kind { has_kind (said_by statement.now) ≡ true }
         requires few { length self.old.signals ≤ 65536 }
-        ensures denoted { OnOk result ((earlier : List (List ℕ))
+        ensures denoted { OnOk result ((earlier : List (List ℕ)) (line : List ℕ)
+            → statement_of line ≡ Some (said_by statement.now)
             → HasParts names.now self.old earlier
-            → HasParts names.now self.new (earlier ++ line.now ∷ [])) }
-        ensures refused { IfErr result (IsUseFault names.now line.now) }
+            → HasParts names.now self.new (earlier ++ line ∷ [])) }
+        ensures refused { IfErr result (IsUseFault names.now (said_by statement.now)) }
     {
-        match Statement::of(line).unwrap() {
+        match statement {
             Statement::Blank => Ok(()),
             Statement::Input(name) => {
                 self.add_signal(alloc, name, Kind::Input, FanIn::new(alloc))?;
@@ -60,7 +64,7 @@ impl CircuitParts {
                 Ok(())
             }
             Statement::Assign { name, word, inputs } => {
-                let fan_in = fan_in(alloc, names, &inputs)?;
+                let fan_in = fan_in(alloc, names, inputs)?;
                 self.add_signal(alloc, name, kind_of(word).unwrap(), fan_in)?;
                 Ok(())
             }
@@ -124,23 +128,19 @@ fn fan_in(alloc: Global, names: &Names, inputs: &InputList) -> Result<FanIn, Use
     Ok(numbers)
 }
 
-/// What the lines of a netlist tell, where the names that they define are known.
-pub(crate) fn read_parts(
-    alloc: Global,
-    names: &Names,
-    bytes: &[u8],
-) -> Result<CircuitParts, BenchFault>
-    requires short { length bytes.now ≤ 16777216 }
-    requires flawless { AreFlawless (lines_of bytes.now) }
-    requires names { names.now ≡ names_in bytes.now }
-    ensures denoted { IfOk result (λ parts. HasParts names.now parts (lines_of bytes.now)) }
-    ensures refused { IfErr result (RefusesUse bytes.now) }
+/// The parts of the circuit that a netlist tells, or the first line that uses a name which none
+/// defines.
+pub(crate) fn read_parts(alloc: Global, reading: &Reading) -> Result<CircuitParts, BenchFault>
+    ensures denoted { IfOk result (λ parts.
+        HasParts reading.now.names parts (lines_of reading.now.text.now)) }
+    ensures refused { IfErr result (RefusesUse reading.now.text.now) }
 {
     let mut parts = CircuitParts::new(alloc);
-    for line in lines(bytes) {
-        match parts.add_line(alloc, names, line.text) {
+    for place in 0..reading.said.len() {
+        let said = &reading.said[place];
+        match parts.add(alloc, &reading.names, &said.statement) {
             Ok(()) => {}
-            Err(UseFault::Undefined) => return Err(BenchFault::Undefined(line.number)),
+            Err(UseFault::Undefined) => return Err(BenchFault::Undefined(said.number)),
             Err(UseFault::NoMemory) => return Err(BenchFault::NoMemory),
         }
     }

@@ -1,20 +1,20 @@
-ghost use Rattle.std.specs.Prelude.{◌≡◌, ◌≤◌, List, ℕ, [], ◌∷◌, ◌++◌, length, false, None, IfOk, IfErr, OnOk, MatchResult, if◌then◌else◌};
+ghost use Rattle.std.specs.Prelude.{◌≡◌, ◌≤◌, List, ℕ, [], ◌∷◌, ◌++◌, false, None, Some, OnOk, MatchResult, if◌then◌else◌};
 ghost use Rattle.std.specs.Option.{option_map};
 ghost use Rattle.std.specs.List.{list_any};
 ghost use Rattle.std.specs.Str.{bytes_eq};
-ghost use Rattle.cts_base.specs.Lines.{lines_of};
 ghost use Rattle.cts_model.specs.netlist.Kinds.{is_register, is_gate};
 ghost use Rattle.cts_model.specs.netlist.Flaws.{flaw_of};
-ghost use Rattle.cts_model.specs.netlist.Netlists.{AreFlawless, names_in};
+ghost use Rattle.cts_model.specs.netlist.Statements.{statement_of};
 ghost use Rattle.bench_reader.specs.Refusals.{limit_of};
-ghost use Rattle.bench_reader.specs.LineFaults.{IsFaultOf, IsLineFault, RefusesLine};
+ghost use Rattle.bench_reader.specs.LineFaults.{IsFaultOf, IsLineFault};
+ghost use Rattle.bench_reader.specs.View.{said_by};
 
+use crate::Which;
 use crate::kinds::{kind_of, may_have};
 use crate::line_fault::LineFault;
 use crate::names::Names;
 use crate::statement::Statement;
-use crate::{BenchFault, Which};
-use cts_base::{NoMemory, lines};
+use cts_base::NoMemory;
 use cts_model::Kind;
 use std::alloc::Global;
 
@@ -27,7 +27,7 @@ const MAX_GATE_INPUTS: usize = 262_144;
 /// What the lines so far define.
 #[derive(Drop)]
 pub(crate) struct Definitions {
-    names: Names,
+    pub(crate) names: Names,
     registers: u32,
     gate_inputs: usize,
     ghost few_registers: { registers ≤ 4096 },
@@ -37,7 +37,8 @@ pub(crate) struct Definitions {
 impl Definitions {
     ghost use Rattle.bench_reader.specs.Taken.{HasDefinitions, Adds, excess_after, flaw_after};
 
-    fn new(alloc: Global) -> Definitions
+    /// No definitions yet. It takes no memory.
+    pub(crate) fn new(alloc: Global) -> Definitions
         ensures { HasDefinitions result [] }
     {
         Definitions {
@@ -47,17 +48,15 @@ impl Definitions {
         }
     }
 
-    // Takes in what the next line defines, if nothing is wrong with it.
-    fn add_line(&mut self, line: &[u8]) -> Result<(), LineFault>
-        ensures { (earlier : List (List ℕ)) → HasDefinitions self.old earlier
+    /// Takes in what a statement defines, if nothing is wrong with it.
+    pub(crate) fn add(&mut self, statement: &Statement) -> Result<(), LineFault>
+        ensures { (earlier : List (List ℕ)) (line : List ℕ)
+            → statement_of line ≡ Some (said_by statement.now) → HasDefinitions self.old earlier
             → MatchResult result
-            (λ _. (flaw_of earlier line.now ≡ None)
-            × HasDefinitions self.new (earlier ++ line.now ∷ []))
-            (IsLineFault earlier line.now) }
+            (λ _. (flaw_of earlier line ≡ None)
+            × HasDefinitions self.new (earlier ++ line ∷ []))
+            (IsLineFault earlier line) }
     {
-        let Some(statement) = Statement::of(line) else {
-            return Err(LineFault::BadLine);
-        };
         let short = statement.has_short_names();
         match statement {
             Statement::Blank => Ok(()),
@@ -144,20 +143,4 @@ fn gate_input_count(kind: Kind, inputs: usize) -> usize
     ensures { result ≡ (if is_gate kind then inputs else 0) }
 {
     if kind.is_gate() { inputs } else { 0 }
-}
-
-/// The names that the lines of a netlist define.
-pub(crate) fn read_definitions(alloc: Global, bytes: &[u8]) -> Result<Names, BenchFault>
-    requires { length bytes.now ≤ 16777216 }
-    ensures flawless { IfOk result (λ _. AreFlawless (lines_of bytes.now)) }
-    ensures names { IfOk result (λ names. names ≡ names_in bytes.now) }
-    ensures refused { IfErr result (RefusesLine bytes.now) }
-{
-    let mut definitions = Definitions::new(alloc);
-    for line in lines(bytes) {
-        if let Err(fault) = definitions.add_line(line.text) {
-            return Err(fault.at(line.number));
-        }
-    }
-    Ok(definitions.names)
 }

@@ -9,6 +9,8 @@ mod kinds;
 mod line_fault;
 mod names;
 mod read;
+mod reading;
+mod said;
 mod statement;
 mod token;
 mod use_fault;

@@ -7,6 +7,7 @@ ghost use Rattle.bench_reader.specs.declared.fault.BenchFault.TheVariants as ben
 
 use crate::{BenchFault, Which};
 use cts_base::NoMemory;
+use std::alloc::AllocFailed;
 
 /// What is wrong with a line of a netlist, by the order in which it is judged, or want of memory.
 #[derive(Clone, Copy, Debug, PartialEq, Eq)]
@@ -42,6 +43,14 @@ impl From<NoMemory> for LineFault {
     ghost from_gives = { λ _ given. given ≡ fault.NoMemory };
 
     fn from(_refused: NoMemory) -> LineFault {
+        LineFault::NoMemory
+    }
+}
+
+impl<T: Drop> From<AllocFailed<T>> for LineFault {
+    ghost from_gives = { λ _ given. given ≡ fault.NoMemory };
+
+    fn from(_refused: AllocFailed<T>) -> LineFault {
         LineFault::NoMemory
     }
 }

@@ -7,7 +7,7 @@ ghost use Rattle.bench_reader.specs.Taken.{DenotesCircuit};
 
 use crate::BenchFault;
 use crate::circuit_parts::{CircuitParts, read_parts};
-use crate::definitions::read_definitions;
+use crate::reading::read_lines;
 use cts_base::{Listed, Name, NoMemory};
 use cts_model::Circuit;
 use gate_order::{LevelFault, levels};
@@ -54,12 +54,12 @@ fn circuit_of_lines(alloc: Global, bytes: &[u8]) -> Result<Circuit, BenchFault>
     ensures denoted { IfOk result (DenotesCircuit bytes.now) }
     ensures refused { IfErr result (RefusesNetlist bytes.now) }
 {
-    let names = read_definitions(alloc, bytes)?;
+    let reading = read_lines(alloc, bytes)?;
     let CircuitParts {
         signals,
         registers,
         outputs,
-    } = read_parts(alloc, &names, bytes)?;
+    } = read_parts(alloc, &reading)?;
     if registers.is_empty() {
         return Err(BenchFault::NoRegisters);
     }

@@ -1,9 +1,9 @@
-ghost use Rattle.std.specs.Prelude.{◌≡◌, ◌≢◌, ℕ, List, [], ◌∷◌, IfSome, IsNone};
+ghost use Rattle.std.specs.Prelude.{◌≡◌, ◌≢◌, ◌↔◌, ℕ, List, [], ◌∷◌, IfSome, IsNone, IsTrue};
 ghost use Rattle.std.specs.Option.{option_map};
 ghost use Rattle.std.specs.Str.{str_eq_ignore_ascii_case};
 ghost use Rattle.std.specs.List.{list_all};
 ghost use Rattle.cts_model.specs.text.Names.{is_short};
-ghost use Rattle.cts_model.specs.netlist.Statements.{statement_of, form_of, declaration_of, names_of};
+ghost use Rattle.cts_model.specs.netlist.Statements.{Blank, statement_of, form_of, declaration_of, names_of};
 ghost use Rattle.cts_model.specs.text.Tokens.{Word, Close, Equals};
 ghost use Rattle.bench_reader.specs.View.{said_by};
 
@@ -48,6 +48,13 @@ impl<'a> Statement<'a> {
             Token::Equals => assignment(word, tokens),
             _ => None,
         }
+    }
+
+    /// Whether the line says nothing.
+    pub(crate) fn is_blank(&self) -> bool
+        ensures { IsTrue result ↔ (said_by self.now ≡ Blank) }
+    {
+        matches!(self, Statement::Blank)
     }
 
     /// Whether no name on the line is too long.

@@ -1,30 +1,43 @@
-use Rattle.std.proofs.Common.{◌∙◌}
-use Rattle.bench_reader.proofs.PartWalk.{denotes_none, few_so_far, flawless_next, denotes_next, undefined_next, all_denoted}
+-- What is said is taken in one after the other.
+use Rattle.std.proofs.Common.{arith}
+use Rattle.std.proofs.lemmas.List.{drop_all}
+use Rattle.bench_reader.specs.Said.{kept_of}
+use Rattle.bench_reader.proofs.PartWalk.{all_denoted, denotes_next, denotes_none, few_so_far, has_kind_next, kept_length, left_next, undefined_next}
 use Rattle.bench_reader.proofs.circuit_parts.read_parts.Goals as goal
 
-pub loop-line-init : goal.loop-line-init
-loop-line-init c = (
-  tt,
-  tt,
-  denotes_none (c.into_iter-line-iterator.ensures.into_iter_gives ∙ c.lines-line-items.ensures)
-      (c.new-parts.ensures c.args.names.now),
-)
+pub loop-place-init : goal.loop-place-init
+loop-place-init c =
+    denotes_none c.args.reading.now.valid (c.new-parts.ensures c.args.reading.now.names)
 
-pub add_line-requires-clause-flawless : goal.add_line-requires-clause-flawless
-add_line-requires-clause-flawless c =
-    flawless_next c.requires.flawless c.loop-line.invariant.2 c.in-Some.ensures.steps
+pub add-requires-clause-kind : goal.add-requires-clause-kind
+add-requires-clause-kind c =
+    let said = c.args.reading.now.said.items in
+    has_kind_next c.args.reading.now.valid c.loop-place.invariant _ _ _
+    (left_next said c.loop-place.place c.index-said.result.now
+    (omega (arith, c.len-place-end.ensures, c.loop-place-test.true)) c.index-said.ensures)
 
-pub add_line-requires-clause-few : goal.add_line-requires-clause-few
-add_line-requires-clause-few c = few_so_far c.requires.flawless c.loop-line.invariant.2
+pub add-requires-clause-few : goal.add-requires-clause-few
+add-requires-clause-few c = few_so_far c.args.reading.now.valid c.loop-place.invariant
 
-pub loop-line-preserved : goal.loop-line-preserved
-loop-line-preserved c =
-    (tt, tt, denotes_next c.loop-line.invariant.2 c.in-Some.ensures.steps c.in-Ok.ensures.denoted)
+pub loop-place-preserved : goal.loop-place-preserved
+loop-place-preserved c =
+    let said = c.args.reading.now.said.items in
+    denotes_next c.args.reading.now.valid c.loop-place.invariant _ _ _
+    (left_next said c.loop-place.place c.index-said.result.now
+    (omega (arith, c.len-place-end.ensures, c.loop-place-test.true)) c.index-said.ensures)
+    c.in-Ok.ensures.denoted
 
 pub returns-in-Err-Undefined-clause-refused : goal.returns-in-Err-Undefined-clause-refused
 returns-in-Err-Undefined-clause-refused c =
+    let said = c.args.reading.now.said.items in
     let refused = rw c.in-Err-Undefined.field-0-is at c.in-Err-Undefined.ensures.refused in
-    undefined_next c.requires.names c.loop-line.invariant.2 c.in-Some.ensures.steps refused
+    undefined_next c.args.reading.now.valid c.loop-place.invariant _ _ _
+    (left_next said c.loop-place.place c.index-said.result.now
+    (omega (arith, c.len-place-end.ensures, c.loop-place-test.true)) c.index-said.ensures) refused
 
 pub returns-clause-denoted : goal.returns-clause-denoted
-returns-clause-denoted c = all_denoted c.loop-line.invariant.2 c.in-None.ensures.steps.0
+returns-clause-denoted c =
+    let said = c.args.reading.now.said.items in
+    all_denoted c.args.reading.now.valid c.loop-place.invariant
+    (drop_all c.loop-place.place (kept_of said)
+    (omega (arith, kept_length said, c.len-place-end.ensures, c.loop-place-test.false)))

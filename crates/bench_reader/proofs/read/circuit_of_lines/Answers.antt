@@ -4,22 +4,26 @@ use Rattle.std.proofs.lemmas.Result.{err_from_is_err_and}
 use Rattle.bench_reader.proofs.DenotedCircuits.{no_registers, parts_circuit, parts_denoted, line_refused, use_refused}
 use Rattle.bench_reader.proofs.read.circuit_of_lines.Goals as goal
 
-pub returns-in_err-names-clause-refused : goal.returns-in_err-names-clause-refused
-returns-in_err-names-clause-refused c =
+pub returns-in_err-reading-clause-refused : goal.returns-in_err-reading-clause-refused
+returns-in_err-reading-clause-refused c =
     let p = err_from_is_err_and c.from_residual.result c.from_residual.ensures.1 in
-    rw (p.1, p.2) (line_refused _ _ c.in_err-names.ensures.refused)
+    rw (p.1, p.2) (line_refused _ _ c.in_err-reading.ensures.refused)
 
 pub returns-in_err-signals-clause-refused : goal.returns-in_err-signals-clause-refused
 returns-in_err-signals-clause-refused c =
     let p = err_from_is_err_and c.from_residual-in_err-signals.result
     c.from_residual-in_err-signals.ensures.1 in
-    rw (p.1, p.2) (use_refused _ _ c.in_ok-names.ensures.flawless c.in_err-signals.ensures.refused)
+    let same = c.in_ok-reading.ensures.text in
+    rw (p.1, p.2) (use_refused _ _ (rw same at c.in_ok-reading.reading.valid.flawless)
+    (rw same at c.in_err-signals.ensures.refused))
 
 pub returns-then-is_empty-clause-refused : goal.returns-then-is_empty-clause-refused
 returns-then-is_empty-clause-refused c =
     let none : length c.in_ok-signals.field-0.registers ≡ 0 = grind (arith, nat_tests) in
-    no_registers c.args.bytes.now _ c.in_ok-signals.field-0 c.in_ok-names.ensures.flawless
-    c.in_ok-names.ensures.names c.in_ok-signals.ensures.denoted none
+    let same = c.in_ok-reading.ensures.text in
+    let valid = rw same at c.in_ok-reading.reading.valid in
+    no_registers c.args.bytes.now _ c.in_ok-signals.field-0 valid.flawless valid.names_are
+    (rw same at c.in_ok-signals.ensures.denoted) none
 
 pub returns-in_err-from_slice-clause-refused : goal.returns-in_err-from_slice-clause-refused
 returns-in_err-from_slice-clause-refused c =
@@ -30,17 +34,21 @@ returns-in_err-from_slice-clause-refused c =
 pub invariant_of-result : goal.invariant_of-result
 invariant_of-result c =
     let some : 0 < length c.in_ok-signals.field-0.registers = grind (arith, nat_tests) in
+    let same = c.in_ok-reading.ensures.text in
+    let valid = rw same at c.in_ok-reading.reading.valid in
     record {
       valid =
-          parts_circuit c.args.bytes.now _ c.in_ok-signals.field-0 c.in_ok-names.ensures.flawless
-          c.in_ok-names.ensures.names c.in_ok-signals.ensures.denoted some c.from_vec-outputs.result
+          parts_circuit c.args.bytes.now _ c.in_ok-signals.field-0 valid.flawless valid.names_are
+          (rw same at c.in_ok-signals.ensures.denoted) some c.from_vec-outputs.result
           (c.from_vec-outputs.ensures ∙ c.in_ok-from_slice.ensures.items ∙ c.as_slice.ensures.keys);
     }
 
 pub returns-clause-denoted : goal.returns-clause-denoted
 returns-clause-denoted c =
     let some : 0 < length c.in_ok-signals.field-0.registers = grind (arith, nat_tests) in
-    parts_denoted c.args.bytes.now _ c.in_ok-signals.field-0 c.in_ok-names.ensures.flawless
-    c.in_ok-names.ensures.names c.in_ok-signals.ensures.denoted some c.from_vec-outputs.result
+    let same = c.in_ok-reading.ensures.text in
+    let valid = rw same at c.in_ok-reading.reading.valid in
+    parts_denoted c.args.bytes.now _ c.in_ok-signals.field-0 valid.flawless valid.names_are
+    (rw same at c.in_ok-signals.ensures.denoted) some c.from_vec-outputs.result
     (c.from_vec-outputs.ensures ∙ c.in_ok-from_slice.ensures.items ∙ c.as_slice.ensures.keys) _ refl
     refl refl

@@ -2,38 +2,37 @@ use Rattle.std.proofs.Common.{[], sym, refl, ◌∙◌}
 use Rattle.cts_model.specs.declared.kind.Kind.TheVariants as kinds
 use Rattle.cts_model.specs.netlist.Statements.{Blank, Input, Output, Assign}
 use Rattle.bench_reader.proofs.DefiningLines.{silent_adds, defining_adds}
-use Rattle.bench_reader.proofs.definitions.Definitions.add_line.Goals as goal
+use Rattle.bench_reader.proofs.definitions.Definitions.add.Goals as goal
 
 pub returns-in-Blank : goal.returns-in-Blank
-returns-in-Blank c earlier = silent_adds earlier c.args.line.now Blank
-    (sym (rw c.in-Blank.is at c.in-Some.ensures)) refl refl refl c.args.self.now
+returns-in-Blank c earlier line form =
+    silent_adds earlier line Blank (rw c.in-Blank.is at form) refl refl refl c.args.self.now
 
 pub returns-in-Output : goal.returns-in-Output
-returns-in-Output c earlier =
+returns-in-Output c earlier line form =
     let name = c.in-Output.field-0.now in
     let short = rw c.in-Output.is at c.has_short_names-short.ensures in
-    silent_adds earlier c.args.line.now (Output name) (sym (rw c.in-Output.is at c.in-Some.ensures))
+    silent_adds earlier line (Output name) (rw c.in-Output.is at form)
     refl refl (sym short ∙ c.if-short.true) c.args.self.now
 
 pub returns-in-Input : goal.returns-in-Input
-returns-in-Input c earlier =
+returns-in-Input c earlier line form =
     let name = c.in-Input.name.now in
     let short = rw c.in-Input.is at c.has_short_names-short.ensures in
-    defining_adds earlier c.args.line.now (Input name) (sym (rw c.in-Input.is at c.in-Some.ensures))
+    defining_adds earlier line (Input name) (rw c.in-Input.is at form)
     (record { name = name; kind = kinds.Input; inputs = [] }) refl refl refl c.define.new.self
     c.define.result (rw short at c.define.ensures)
 
 pub returns-else-not-may_have : goal.returns-else-not-may_have
-returns-else-not-may_have c earlier =
+returns-else-not-may_have c earlier line form =
     let name = c.in-Assign.name.now in
     let word = c.in-Assign.word.now in
     let short = rw c.in-Assign.is at c.has_short_names-short.ensures in
-    let kind = sym c.in-Some-kind_of.ensures in
+    let kind = sym c.in-Some.ensures in
     let valid_inputs =
     rw c.len-count.ensures at (sym c.may_have.ensures ∙ c.if-not-may_have.false) in
     let judged = rw (short, c.len-count.ensures) at c.define-in-Assign.ensures in
-    defining_adds earlier c.args.line.now (Assign name word c.in-Assign.inputs)
-    (sym (rw c.in-Assign.is at c.in-Some.ensures))
-    (record { name = name; kind = c.in-Some-kind_of.kind; inputs = c.in-Assign.inputs })
+    defining_adds earlier line (Assign name word c.in-Assign.inputs) (rw c.in-Assign.is at form)
+    (record { name = name; kind = c.in-Some.kind; inputs = c.in-Assign.inputs })
     (rw kind refl)
     (rw kind refl) valid_inputs c.define-in-Assign.new.self c.define-in-Assign.result judged
