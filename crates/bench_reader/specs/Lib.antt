@@ -4,4 +4,5 @@ pub mod Lines
 pub mod Refusals
 pub mod Said
 pub mod Taken
+pub mod Tallies
 pub mod View

@@ -1,9 +1,14 @@
-ghost use Rattle.std.specs.Prelude.{◌≡◌, ℕ, List, is_some, length};
+ghost use Rattle.std.specs.Prelude.{◌≡◌, ◌<◌, ◌+◌, ◌^◌, ℕ, List, length};
 ghost use Rattle.std.specs.Iterator.{YieldsFirstRef, item_count};
+ghost use Rattle.std.specs.List.{list_all};
+ghost use Rattle.std.specs.Option.{option_map};
+ghost use Rattle.cts_model.specs.text.Names.{is_short};
 ghost use Rattle.cts_model.specs.text.Tokens.{tokens_of};
 ghost use Rattle.cts_model.specs.netlist.Statements.{inputs_of, more_inputs_of};
 ghost use Rattle.bench_reader.specs.Inputs.{words_in};
+ghost use Rattle.bench_reader.specs.Tallies.{tally_of, with_names};
 
+use crate::tally::Tally;
 use crate::token::{Token, Tokens};
 use std::marker::Model;
 
@@ -13,12 +18,15 @@ use std::marker::Model;
 pub(crate) struct InputList<'a> {
     // What stands after the opening parenthesis.
     text: &'a [u8],
+    tally: Tally,
 }
 
 impl<'a> Model for InputList<'a> {
     ghost Value = { List (List ℕ) };
 
     ghost view = { λ inputs. words_in (tokens_of inputs.text.now) };
+
+    ghost invariant = { λ inputs. inputs.tally ≡ tally_of (words_in (tokens_of inputs.text.now)) };
 }
 
 impl<'a> InputList<'a> {
@@ -28,11 +36,8 @@ impl<'a> InputList<'a> {
         ensures { result ≡ inputs_of tokens.entry }
     {
         let text = tokens.rest();
-        if is_list(tokens) {
-            Some(InputList { text })
-        } else {
-            None
-        }
+        let tally = tally(tokens)?;
+        Some(InputList { text, tally })
     }
 
     /// The names in order.
@@ -46,7 +51,14 @@ impl<'a> InputList<'a> {
     pub(crate) fn len(&self) -> usize
         ensures { result ≡ length self.now }
     {
-        Inputs::of(self.text).count()
+        self.tally.count
+    }
+
+    /// Whether no name is too long.
+    pub(crate) fn are_short(&self) -> bool
+        ensures { result ≡ list_all is_short self.now }
+    {
+        self.tally.are_short
     }
 }
 
@@ -85,29 +97,37 @@ impl<'a> Iterator for Inputs<'a> {
     }
 }
 
-// Whether the tokens after an opening parenthesis are a list and its end, and nothing else.
-fn is_list(mut tokens: Tokens) -> bool
-    ensures { result ≡ is_some (inputs_of tokens.entry) }
+// The tally of the names of a list after its opening parenthesis. `None` says that it has another
+// form, or that the line goes on after it.
+fn tally(mut tokens: Tokens) -> Option<Tally>
+    requires { length tokens < 2 ^ 64 }
+    ensures { result ≡ option_map tally_of (inputs_of tokens.entry) }
 {
-    match tokens.next() {
-        Some(Token::Close) => tokens.next().is_none(),
-        Some(Token::Word(_)) => goes_on(tokens),
-        _ => false,
+    let mut tally = Tally::new();
+    match tokens.next()? {
+        Token::Close if tokens.next().is_none() => Some(tally),
+        Token::Word(name) => {
+            tally.add(name);
+            tally_more(tokens, tally)
+        }
+        _ => None,
     }
 }
 
-// Whether the tokens after a name are more of a list and its end, and nothing else.
-fn goes_on(mut tokens: Tokens) -> bool
-    ensures { result ≡ is_some (more_inputs_of tokens.entry) }
+// The same after a name, with the tally of the names so far.
+fn tally_more(mut tokens: Tokens, mut tally: Tally) -> Option<Tally>
+    requires { tally.count + length tokens < 2 ^ 64 }
+    ensures { result ≡ option_map (with_names tally) (more_inputs_of tokens.entry) }
 {
     loop {
-        match tokens.next() {
-            Some(Token::Comma) => {}
-            Some(Token::Close) => return tokens.next().is_none(),
-            _ => return false,
+        match tokens.next()? {
+            Token::Comma => {}
+            Token::Close if tokens.next().is_none() => return Some(tally),
+            _ => return None,
         }
-        let Some(Token::Word(_)) = tokens.next() else {
-            return false;
+        let Token::Word(name) = tokens.next()? else {
+            return None;
         };
+        tally.add(name);
     }
 }

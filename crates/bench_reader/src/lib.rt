@@ -12,6 +12,7 @@ mod read;
 mod reading;
 mod said;
 mod statement;
+mod tally;
 mod token;
 mod use_fault;
 

@@ -8,11 +8,9 @@ ghost use Rattle.cts_model.specs.text.Tokens.{Word, Close, Equals};
 ghost use Rattle.bench_reader.specs.View.{said_by};
 
 use crate::input_list::InputList;
+use crate::tally::is_short;
 use crate::token::{Token, Tokens};
 use cts_base::before_comment;
-
-// The longest that a name may be.
-const MAX_NAME_BYTES: usize = 255;
 
 /// What a line of a netlist says.
 #[derive(Drop)]
@@ -65,9 +63,7 @@ impl<'a> Statement<'a> {
             Statement::Blank => true,
             Statement::Input(name) => is_short(name),
             Statement::Output(name) => is_short(name),
-            Statement::Assign { name, inputs, .. } => {
-                is_short(name) && inputs.names().all(is_short)
-            }
+            Statement::Assign { name, inputs, .. } => is_short(name) && inputs.are_short(),
         }
     }
 }
@@ -115,10 +111,4 @@ fn same_word(word: &[u8], other: &[u8]) -> bool
     ensures { result ≡ str_eq_ignore_ascii_case word.now other.now }
 {
     word.eq_ignore_ascii_case(other)
-}
-
-fn is_short(name: &[u8]) -> bool
-    ensures { result ≡ is_short name.now }
-{
-    name.len() <= MAX_NAME_BYTES
 }
