@@ -138,7 +138,7 @@ fn mark_of(byte: u8) -> Token<'static>
 fn is_name_byte(byte: u8) -> bool
     ensures { result ≡ is_name_byte byte }
 {
-    matches!(byte, b'!'..=b'~' | 128..) && !matches!(byte, b'(' | b')' | b',' | b'=' | b'#')
+    matches!(byte, b'-'..=b'<' | b'>'..=b'~' | b'!' | b'"' | b'$'..=b'\'' | b'*' | b'+' | 128..)
 }
 
 fn is_blank(byte: u8) -> bool
