@@ -32,13 +32,12 @@ pub number_of-keys : {X : Type 0} (keys : List X) (bytes : X → List ℕ) (name
     → number_of (map bytes keys) name ≡ position (λ key. bytes_eq name (bytes key)) keys
 number_of-keys keys bytes name = position-map bytes (bytes_eq name) keys
 
--- a name that no key has comes last
-pub insert_key-new : {X : Type 0} (bytes : X → List ℕ) (keys new : List X) (key : X) (name : List ℕ)
-    → bytes key ≡ name → list_any (bytes_eq name) (map bytes keys) ≡ false
+-- a key with a new name comes last
+pub insert_key-new : {X : Type 0} (bytes : X → List ℕ) (keys new : List X) (key : X)
+    → list_any (bytes_eq (bytes key)) (map bytes keys) ≡ false
     → new ≡ insert_key (λ first second. bytes_eq (bytes first) (bytes second)) keys key
-    → map bytes new ≡ map bytes keys ++ name ∷ []
-insert_key-new bytes keys new key name same absent inserted =
+    → map bytes new ≡ map bytes keys ++ bytes key ∷ []
+insert_key-new bytes keys new key absent inserted =
     let none : list_any (λ other. bytes_eq (bytes key) (bytes other)) keys ≡ false =
-    sym (list_any-map bytes (bytes_eq (bytes key)) keys)
-    ∙ ap (λ n. list_any (bytes_eq n) (map bytes keys)) same ∙ absent in
-    rw (inserted, none) (map_push bytes keys key ∙ ap (λ n. map bytes keys ++ n ∷ []) same)
+    sym (list_any-map bytes (bytes_eq (bytes key)) keys) ∙ absent in
+    rw (inserted, none) (map_push bytes keys key)

@@ -26,19 +26,19 @@ const MAX_GATE_INPUTS: usize = 262_144;
 
 /// What the lines so far define.
 #[derive(Drop)]
-pub(crate) struct Definitions {
-    pub(crate) names: Names,
+pub(crate) struct Definitions<'a> {
+    pub(crate) names: Names<'a>,
     registers: u32,
     gate_inputs: usize,
     ghost few_registers: { registers ≤ 4096 },
     ghost few_inputs: { gate_inputs ≤ 262144 },
 }
 
-impl Definitions {
+impl<'a> Definitions<'a> {
     ghost use Rattle.bench_reader.specs.Taken.{HasDefinitions, Adds, excess_after, flaw_after};
 
     /// No definitions yet. It takes no memory.
-    pub(crate) fn new(alloc: Global) -> Definitions
+    pub(crate) fn new(alloc: Global) -> Definitions<'a>
         ensures { HasDefinitions result [] }
     {
         Definitions {
@@ -49,7 +49,7 @@ impl Definitions {
     }
 
     /// Takes in what a statement defines, if nothing is wrong with it.
-    pub(crate) fn add(&mut self, statement: &Statement) -> Result<(), LineFault>
+    pub(crate) fn add(&mut self, statement: &Statement<'a>) -> Result<(), LineFault>
         ensures { (earlier : List (List ℕ)) (line : List ℕ)
             → statement_of line ≡ Some (said_by statement.now) → HasDefinitions self.old earlier
             → MatchResult result
@@ -80,7 +80,7 @@ impl Definitions {
     // wrong with it.
     fn define(
         &mut self,
-        name: &[u8],
+        name: &'a [u8],
         kind: Kind,
         inputs: usize,
         short: bool,
@@ -119,7 +119,7 @@ impl Definitions {
     }
 
     // Takes in a definition that passes no limit.
-    fn take_in(&mut self, name: &[u8], kind: Kind, inputs: usize) -> Result<(), NoMemory>
+    fn take_in(&mut self, name: &'a [u8], kind: Kind, inputs: usize) -> Result<(), NoMemory>
         requires new { list_any (bytes_eq name.now) self.old.names ≡ false }
         requires room { excess_after self.old kind inputs ≡ None }
         ensures { OnOk result (Adds self.old self.new name.now kind inputs) }

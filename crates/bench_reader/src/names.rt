@@ -11,28 +11,26 @@ use std::marker::Model;
 // The most names that a netlist defines.
 const MAX_NAMES: usize = 65536;
 
-/// The names that lines define, each once, in order.
+/// The names that lines define, each once, in order: slices of the text.
 #[derive(Drop)]
-pub(crate) struct Names {
-    alloc: Global,
-    names: IndexSet<Vec<u8>>,
+pub(crate) struct Names<'a> {
+    names: IndexSet<&'a [u8]>,
 }
 
-impl Model for Names {
+impl<'a> Model for Names<'a> {
     ghost Value = { List (List ℕ) };
 
-    ghost view = { λ names. map (λ name. name.items) names.names.keys };
+    ghost view = { λ names. map (λ name. name.now) names.names.keys };
 
     ghost invariant = { λ names. length names.names.keys ≤ 65536 };
 }
 
-impl Names {
+impl<'a> Names<'a> {
     /// No names. It takes no memory.
-    pub(crate) fn new(alloc: Global) -> Names
+    pub(crate) fn new(alloc: Global) -> Names<'a>
         ensures { result ≡ [] }
     {
         Names {
-            alloc,
             names: IndexSet::new(alloc),
         }
     }
@@ -52,13 +50,12 @@ impl Names {
     }
 
     /// Puts a new name last.
-    pub(crate) fn define(&mut self, name: &[u8]) -> Result<(), NoMemory>
+    pub(crate) fn define(&mut self, name: &'a [u8]) -> Result<(), NoMemory>
         requires new { list_any (bytes_eq name.now) self.old ≡ false }
         requires room { length self.old < 65536 }
         ensures { OnOk result (self.new ≡ self.old ++ name.now ∷ []) }
     {
-        let key = Vec::from_slice(self.alloc, name)?;
-        self.names.insert(key)?;
+        self.names.insert(name)?;
         Ok(())
     }
 

@@ -15,7 +15,7 @@ use std::alloc::Global;
 
 // Takes in what a line defines and keeps what it says, if nothing is wrong with it.
 fn take_line<'a>(
-    definitions: &mut Definitions,
+    definitions: &mut Definitions<'a>,
     said: &mut Vec<Said<'a>>,
     line: Line<'a>,
 ) -> Result<(), LineFault>

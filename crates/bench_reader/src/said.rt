@@ -15,7 +15,7 @@ pub(crate) struct Said<'a> {
 #[derive(Drop)]
 pub(crate) struct Reading<'a> {
     pub(crate) text: &'a [u8],
-    pub(crate) names: Names,
+    pub(crate) names: Names<'a>,
     pub(crate) said: Vec<Said<'a>>,
     pub ghost valid: { IsReading text.now names said.items },
 }

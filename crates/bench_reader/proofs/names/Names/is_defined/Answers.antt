@@ -6,4 +6,4 @@ use Rattle.bench_reader.proofs.names.Names.is_defined.Goals as goal
 pub returns : goal.returns
 returns c = rw (← c.self.view_is)
     (c.contains.ensures
-    ∙ sym (list_any-map (λ key. key.items) (bytes_eq c.args.name.now) c.self.inside.names.keys))
+    ∙ sym (list_any-map (λ key. key.now) (bytes_eq c.args.name.now) c.self.inside.names.keys))
