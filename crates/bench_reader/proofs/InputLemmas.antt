@@ -1,5 +1,5 @@
 -- The names of a list of inputs, and how they stand among its tokens.
-use Rattle.std.proofs.Common.{ℕ, suc, if◌then◌else◌, ◌≡◌, ◌≤◌, Bool, true, false, List, [], ◌∷◌, length, Option, Some, None, IfSome, refl, sym, ap, ◌∙◌, arith}
+use Rattle.std.proofs.Common.{ℕ, suc, if◌then◌else◌, ◌≡◌, ◌≤◌, Bool, true, false, List, [], ◌∷◌, length, Option, Some, None, IfSome, refl, ap, arith}
 use Rattle.std.specs.Option.{option_map}
 use Rattle.cts_base.specs.Words.{is_blank}
 use Rattle.cts_model.specs.text.Names.{is_name_byte}

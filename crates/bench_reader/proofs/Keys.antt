@@ -1,5 +1,5 @@
 -- Names as the keys of a set: looking them up by their bytes.
-use Rattle.std.proofs.Common.{◌≡◌, ℕ, ◌+◌, Bool, false, not, cond, List, [], ◌∷◌, ◌++◌, map, Contains, position, refl, sym, ap, ◌∙◌, arith}
+use Rattle.std.proofs.Common.{◌≡◌, ℕ, ◌+◌, Bool, false, not, cond, List, [], ◌∷◌, ◌++◌, map, Contains, position, refl, ap, arith}
 use Rattle.std.specs.Str.{bytes_eq}
 use Rattle.std.specs.List.{list_any, position_or_len}
 use Rattle.std.specs.Cmp.Lexicographic.{nat_list_eq_equiv}
@@ -32,12 +32,15 @@ pub number_of-keys : {X : Type 0} (keys : List X) (bytes : X → List ℕ) (name
     → number_of (map bytes keys) name ≡ position (λ key. bytes_eq name (bytes key)) keys
 number_of-keys keys bytes name = position-map bytes (bytes_eq name) keys
 
--- a key with a new name comes last
-pub insert_key-new : {X : Type 0} (bytes : X → List ℕ) (keys new : List X) (key : X)
-    → list_any (bytes_eq (bytes key)) (map bytes keys) ≡ false
-    → new ≡ insert_key (λ first second. bytes_eq (bytes first) (bytes second)) keys key
-    → map bytes new ≡ map bytes keys ++ bytes key ∷ []
-insert_key-new bytes keys new key absent inserted =
-    let none : list_any (λ other. bytes_eq (bytes key) (bytes other)) keys ≡ false =
-    sym (list_any-map bytes (bytes_eq (bytes key)) keys) ∙ absent in
-    rw (inserted, none) (map_push bytes keys key)
+module _ {X : Type 0} (bytes : X → List ℕ) (keys : List X) (key : X) where
+  -- whether a key's name is new shows among the keys
+  pub list_any-keys : list_any (bytes_eq (bytes key)) (map bytes keys)
+      ≡ list_any (λ other. bytes_eq (bytes key) (bytes other)) keys
+  list_any-keys = list_any-map bytes (bytes_eq (bytes key)) keys
+
+  -- a key with a new name comes last
+  pub insert_key-new : (new : List X)
+      → list_any (λ other. bytes_eq (bytes key) (bytes other)) keys ≡ false
+      → new ≡ insert_key (λ first second. bytes_eq (bytes first) (bytes second)) keys key
+      → map bytes new ≡ map bytes keys ++ bytes key ∷ []
+  insert_key-new new absent inserted = rw (inserted, absent) (map_push bytes keys key)

@@ -3,7 +3,7 @@ ghost use Rattle.std.specs.Option.{option_map};
 ghost use Rattle.std.specs.List.{list_any};
 ghost use Rattle.std.specs.Str.{bytes_eq};
 ghost use Rattle.cts_model.specs.netlist.Kinds.{is_register, is_gate};
-ghost use Rattle.cts_model.specs.netlist.Flaws.{flaw_of};
+ghost use Rattle.cts_model.specs.netlist.Flaws.{Name, flaw_of};
 ghost use Rattle.cts_model.specs.netlist.Statements.{statement_of};
 ghost use Rattle.bench_reader.specs.Refusals.{limit_of};
 ghost use Rattle.bench_reader.specs.LineFaults.{IsFaultOf, IsLineFault};
@@ -90,24 +90,29 @@ impl<'a> Definitions<'a> {
             × Adds self.old self.new name.now kind inputs)
             (IsFaultOf (flaw_after self.old name.now kind inputs short)) }
     {
-        if self.names.is_defined(name) {
+        if let Some(which) = self.excess(kind, inputs, short) {
+            return Err(if self.names.is_defined(name) {
+                LineFault::SignalTwice
+            } else {
+                LineFault::TooLarge(which)
+            });
+        }
+        if !self.names.define(name)? {
             return Err(LineFault::SignalTwice);
         }
-        if !short {
-            return Err(LineFault::TooLarge(Which::Name));
-        }
-        if let Some(which) = self.excess(kind, inputs) {
-            return Err(LineFault::TooLarge(which));
-        }
-        self.take_in(name, kind, inputs)?;
+        self.registers += register_count(kind);
+        self.gate_inputs += gate_input_count(kind, inputs);
         Ok(())
     }
 
-    // The first limit that one more definition passes, its names aside.
-    fn excess(&self, kind: Kind, inputs: usize) -> Option<Which>
-        ensures { option_map limit_of result ≡ excess_after self.now kind inputs }
+    // The first limit that one more definition passes.
+    fn excess(&self, kind: Kind, inputs: usize, short: bool) -> Option<Which>
+        ensures { option_map limit_of result
+            ≡ (if short then excess_after self.now kind inputs else Some Name) }
     {
-        if self.names.is_full() {
+        if !short {
+            Some(Which::Name)
+        } else if self.names.is_full() {
             Some(Which::Signals)
         } else if register_count(kind) > MAX_REGISTERS - self.registers {
             Some(Which::Registers)
@@ -116,18 +121,6 @@ impl<'a> Definitions<'a> {
         } else {
             None
         }
-    }
-
-    // Takes in a definition that passes no limit.
-    fn take_in(&mut self, name: &'a [u8], kind: Kind, inputs: usize) -> Result<(), NoMemory>
-        requires new { list_any (bytes_eq name.now) self.old.names ≡ false }
-        requires room { excess_after self.old kind inputs ≡ None }
-        ensures { OnOk result (Adds self.old self.new name.now kind inputs) }
-    {
-        self.names.define(name)?;
-        self.registers += register_count(kind);
-        self.gate_inputs += gate_input_count(kind, inputs);
-        Ok(())
     }
 }
 

@@ -1,4 +1,4 @@
-ghost use Rattle.std.specs.Prelude.{◌≡◌, ◌≤◌, ◌<◌, List, ℕ, [], ◌∷◌, ◌++◌, map, length, false, nat_le, OnOk};
+ghost use Rattle.std.specs.Prelude.{◌≡◌, ◌≤◌, ◌<◌, List, ℕ, [], ◌∷◌, ◌++◌, map, length, false, not, nat_le, IfOk, OnErr, IsTrue};
 ghost use Rattle.std.specs.List.{list_any};
 ghost use Rattle.std.specs.Str.{bytes_eq};
 ghost use Rattle.cts_model.specs.netlist.Netlists.{number_of};
@@ -49,14 +49,14 @@ impl<'a> Names<'a> {
         self.names.len() == MAX_NAMES
     }
 
-    /// Puts a new name last.
-    pub(crate) fn define(&mut self, name: &'a [u8]) -> Result<(), NoMemory>
-        requires new { list_any (bytes_eq name.now) self.old ≡ false }
+    /// Puts a name last, if it is new, and answers whether it is. Only a new one wants memory.
+    pub(crate) fn define(&mut self, name: &'a [u8]) -> Result<bool, NoMemory>
         requires room { length self.old < 65536 }
-        ensures { OnOk result (self.new ≡ self.old ++ name.now ∷ []) }
+        ensures ok { IfOk result (λ new. new ≡ not (list_any (bytes_eq name.now) self.old)) }
+        ensures last { IfOk result (λ new. IsTrue new → self.new ≡ self.old ++ name.now ∷ []) }
+        ensures err { OnErr result (list_any (bytes_eq name.now) self.old ≡ false) }
     {
-        self.names.insert(name)?;
-        Ok(())
+        Ok(self.names.insert(name)?)
     }
 
     /// The number of a name, counted from 0.

@@ -10,6 +10,28 @@ ghost use Rattle.bench_reader.specs.View.{token_of};
 
 use std::marker::Model;
 
+// Whether each byte is one of a name: a printable one other than `(`, `)`, `,`, `=` and `#`, or one
+// above 127.
+const NAME_BYTES: [bool; 256] = [
+    false, false, false, false, false, false, false, false, false, false, false, false, false,
+    false, false, false, false, false, false, false, false, false, false, false, false, false,
+    false, false, false, false, false, false, false, true, true, false, true, true, true, true,
+    false, false, true, true, false, true, true, true, true, true, true, true, true, true, true,
+    true, true, true, true, true, true, false, true, true, true, true, true, true, true, true,
+    true, true, true, true, true, true, true, true, true, true, true, true, true, true, true, true,
+    true, true, true, true, true, true, true, true, true, true, true, true, true, true, true, true,
+    true, true, true, true, true, true, true, true, true, true, true, true, true, true, true, true,
+    true, true, true, true, true, true, true, true, true, false, true, true, true, true, true,
+    true, true, true, true, true, true, true, true, true, true, true, true, true, true, true, true,
+    true, true, true, true, true, true, true, true, true, true, true, true, true, true, true, true,
+    true, true, true, true, true, true, true, true, true, true, true, true, true, true, true, true,
+    true, true, true, true, true, true, true, true, true, true, true, true, true, true, true, true,
+    true, true, true, true, true, true, true, true, true, true, true, true, true, true, true, true,
+    true, true, true, true, true, true, true, true, true, true, true, true, true, true, true, true,
+    true, true, true, true, true, true, true, true, true, true, true, true, true, true, true, true,
+    true, true, true, true, true, true, true, true, true, true, true,
+];
+
 /// A token of a netlist's line.
 #[derive(Clone, Copy, Debug, PartialEq, Eq)]
 pub(crate) enum Token<'a> {
@@ -138,7 +160,7 @@ fn mark_of(byte: u8) -> Token<'static>
 fn is_name_byte(byte: u8) -> bool
     ensures { result ≡ is_name_byte byte }
 {
-    matches!(byte, b'-'..=b'<' | b'>'..=b'~' | b'!' | b'"' | b'$'..=b'\'' | b'*' | b'+' | 128..)
+    NAME_BYTES[byte as usize]
 }
 
 fn is_blank(byte: u8) -> bool
