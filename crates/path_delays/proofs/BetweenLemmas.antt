@@ -1,13 +1,23 @@
 -- The delays of given pairs of registers, pair by pair.
-use Rattle.std.proofs.Common.{ℕ, ◌≡◌, ◌<◌, ◌+◌, List, [], ◌∷◌, ◌++◌, length, take, get_or, Option, Some, inl, inr, refl, sym, ◌∙◌, ap, subst, arith}
-use Rattle.std.specs.List.{slice_get}
+use Rattle.std.proofs.Common.{ℕ, ◌≡◌, ◌<◌, ◌≤◌, ◌+◌, ◌-◌, List, [], ◌∷◌, ◌++◌, length, drop, take, Option, Some, inl, inr, refl, sym, ◌∙◌, ap, subst, arith}
+use Rattle.std.specs.List.{slice_get, slice_range}
 use Rattle.std.proofs.lemmas.Bool.{cases_lt}
-use Rattle.std.proofs.lemmas.List.{get_or_append_left, get_or_push, length_push, take_more}
+use Rattle.std.proofs.lemmas.List.{drop-take, take-append-drop, take-take, get_or_append_left, get_or_push, length_push}
 use Rattle.std.proofs.lemmas.Option.{same_Some, slice_get-get_or, slice_get_within}
 use Rattle.cts_model.specs.declared.circuit.Circuit.{Circuit}
 use Rattle.cts_model.specs.declared.tech.Tech.{Tech}
 use Rattle.cts_model.specs.declared.timing.PairDelay.{PairDelay}
 use Rattle.path_delays.specs.JoinedPairs.{IsJoinedBy, AreDelaysBetween}
+
+-- the items up to a place, and those from there to a later one
+pub take_on : {X : Type 0} (xs : List X) (first end : ℕ) → first ≤ end
+    → take first xs ++ slice_range xs first end ≡ take end xs
+take_on xs first end after =
+    let length_is : first + (end - first) ≡ end = omega arith in
+    ap (λ ys. ys ++ slice_range xs first end) (sym (take-take first end xs after))
+    ∙ (ap (λ ys. take first (take end xs) ++ ys)
+    (sym (drop-take first (end - first) xs) ∙ ap (λ n. drop first (take n xs)) length_is)
+    ∙ take-append-drop first (take end xs))
 
 -- what stands before the last item
 get_before : {X : Type 0} (xs : List X) (x : X) (place : ℕ) → place < length xs
@@ -34,7 +44,7 @@ module _ (circuit : Circuit) (tech : Tech) where
   }
 
   -- one pair more
-  between_push : (pairs : List (ℕ × ℕ)) (pair : ℕ × ℕ) (delays : List (Option PairDelay))
+  pub between_push : (pairs : List (ℕ × ℕ)) (pair : ℕ × ℕ) (delays : List (Option PairDelay))
       (joined : Option PairDelay) → IsJoinedBy circuit tech pair.0 pair.1 joined
       → AreDelaysBetween circuit tech pairs delays
       → AreDelaysBetween circuit tech (pairs ++ pair ∷ []) (delays ++ joined ∷ [])
@@ -54,11 +64,3 @@ module _ (circuit : Circuit) (tech : Tech) where
           (subst (λ (p : ℕ × ℕ). IsJoinedBy circuit tech p.0 p.1 joined) same is_joined)
     ];
   }
-
-  pub between_next : (pairs : List (ℕ × ℕ)) (i : ℕ) (d : ℕ × ℕ) (delays : List (Option PairDelay))
-      (joined : Option PairDelay) → i < length pairs
-      → IsJoinedBy circuit tech (get_or pairs i d).0 (get_or pairs i d).1 joined
-      → AreDelaysBetween circuit tech (take i pairs) delays
-      → AreDelaysBetween circuit tech (take (i + 1) pairs) (delays ++ joined ∷ [])
-  between_next pairs i d delays joined within is_joined so_far = rw (take_more pairs i d within)
-      (between_push (take i pairs) (get_or pairs i d) delays joined is_joined so_far)

@@ -25,7 +25,8 @@ pub record IsGathering (walk : Walk) (old now : Capturing) (next : ℕ) : Type 0
   pub above : (signal : ℕ) → IsTrue (has_number now.reached.words.items signal) → next ≤ signal
   pub captured : (signal : ℕ) → IsTrue (has_number now.reached.words.items signal)
       → IsTrue (has_number old.captured.words.items signal)
-  pub all : (signal register : ℕ) → IsCapturer old signal register → IsSome (sums_to walk signal)
+  pub all : (lane signal register : ℕ) → IsCapturer old signal register
+      → IsSome (sums_to walk lane signal)
       → IsTrue (has_number now.reached.words.items signal)
       ⊎ IsTrue (has_number now.registers.words.items register)
   pub each : (register : ℕ) → IsTrue (has_number now.registers.words.items register)
@@ -44,6 +45,7 @@ module _ (walk : Walk) (old : Capturing) where
       captured = step.captured ∙ so_far.same.captured;
       reached = step.reached ∙ so_far.same.reached;
       registers = step.registers ∙ so_far.same.registers;
+      waiting = step.waiting ∙ so_far.same.waiting;
     };
     above = λ other held.
         let both = left other held in
@@ -51,7 +53,7 @@ module _ (walk : Walk) (old : Capturing) where
         let apart = eqb-false other signal (not-true (other == signal) both.1) in
         elim (cases_eq other signal) [ inl same ↦ absurd (apart same) | inr differs ↦ omega arith ];
     captured = λ other held. so_far.captured other (left other held).0;
-    all = λ other register capturer some. elim (so_far.all other register capturer some) [
+    all = λ lane other register capturer some. elim (so_far.all lane other register capturer some) [
       | inl waits ↦ elim (cases_eq other signal) [
         | inl same ↦
             inr ((inserted.each register).1
@@ -110,6 +112,7 @@ HasCaptureRoom-same old new same room = record {
       ∙ (room.reached ∙ ap (λ (s : NumberSet). length s.words.items) (sym same.captured));
   small_reached = omega (arith, same.reached, room.small_reached);
   small_registers = omega (arith, same.registers, room.small_registers);
+  waiting = same.waiting ∙ (room.waiting ∙ sym same.registers);
 }
 
 -- the registers of a signal that waits have their place in the set
@@ -132,8 +135,9 @@ module _ (circuit : Circuit) where
       → length capturing.reached.words.items ≡ length capturing.captured.words.items
       → length circuit.registers < 64 * length capturing.registers.words.items
       → 64 * length capturing.registers.words.items ≤ length circuit.registers + 64
+      → length capturing.waiting.words.items ≡ length capturing.registers.words.items
       → IsCapturingOf circuit capturing
-  capturing_made capturing capturers captured covers more small = record {
+  capturing_made capturing capturers captured covers more small waiting = record {
     capturers = capturers;
     captured = captured;
     room = record {
@@ -148,6 +152,7 @@ module _ (circuit : Circuit) where
       reached = covers;
       small_reached = omega (arith, covers, captured.small, few_signals circuit);
       small_registers = omega (arith, small, few_registers circuit);
+      waiting = waiting;
     };
   }
 
@@ -173,18 +178,18 @@ module _ (circuit : Circuit) where
       (is.captured.each found.0 found.1.captured) found.1.listed)).0
 
   -- and among them is each that a path leads to
-  pub joined_gathered : (tech : Tech) (from : ℕ) (walk : Walk) (old new : Capturing)
-      → HasReach circuit tech from walk → IsCapturingOf circuit old → AreGathered walk old new
+  pub joined_gathered : (tech : Tech) (from lane : ℕ) (walk : Walk) (old new : Capturing)
+      → HasReach circuit tech from lane walk → IsCapturingOf circuit old → AreGathered walk old new
       → (to : ℕ) (path : List ℕ) → IsPath circuit from to path
       → IsTrue (has_number new.registers.words.items to)
-  joined_gathered tech from walk old new reach is gathered to path is_path =
+  joined_gathered tech from lane walk old new reach is gathered to path is_path =
       let chain = chain_of_path circuit from to path is_path in
-      gathered.all chain.0 to
+      gathered.all lane chain.0 to
       (record {
         captured = is.captured.all to chain.0 (capture_within circuit to chain.0 chain.2).0 chain.2;
         listed = is.capturers.all chain.0 to chain.2;
       })
-      (some chain.0 chain.1 (sums_to walk chain.0) (reach.each chain.0))
+      (some chain.0 chain.1 (sums_to walk lane chain.0) (reach.each chain.0))
     where
       some : (signal : ℕ) → IsChain circuit from signal path → (o : Option Sums)
           → IsReach circuit tech from signal o → IsSome o

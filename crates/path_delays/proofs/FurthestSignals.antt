@@ -13,7 +13,7 @@ use Rattle.path_delays.specs.ExtremePaths.{extreme_of, IsNoFurther, IsFurthest}
 -- the walk found this extreme at the signal
 abbrev pub FitsAt : Walk → Bool → ℤ → ℕ → Type 0
 FitsAt walk greatest extreme signal =
-    IsSomeAnd (sums_to walk signal) (λ sums. extreme_of greatest sums ≡ extreme)
+    IsSomeAnd (sums_to walk 0 signal) (λ sums. extreme_of greatest sums ≡ extreme)
 
 -- it did at none of so many signals
 abbrev pub NoneFitsBefore : Walk → List ℕ → Bool → ℤ → ℕ → Type 0
@@ -27,13 +27,13 @@ no_further_around true sums entry around = around.greatest
 no_further_around false sums entry around = around.least
 
 module _ (walk : Walk) (signals : List ℕ) (greatest : Bool) (sums : Sums)
-    (over : AreSumsOver walk signals sums) where
+    (over : AreSumsOver walk 0 signals sums) where
   -- a signal where the walk found the extreme is the furthest
   pub furthest_found : (signal : ℕ) → Contains signals signal
       → FitsAt walk greatest (extreme_of greatest sums) signal
       → IsFurthest walk (Contains signals) greatest signal
   furthest_found signal listed fits =
-      let found = some_and (sums_to walk signal)
+      let found = some_and (sums_to walk 0 signal)
       (λ entry. extreme_of greatest entry ≡ extreme_of greatest sums) fits in
       record {
         is_one = listed;

@@ -2,6 +2,7 @@ mod NumberSetLemmas
 mod DelayLemmas
 mod NetworkLemmas
 mod Hands
+mod LaneLemmas
 mod Chains
 mod Rooms
 mod Launching

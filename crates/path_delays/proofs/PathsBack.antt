@@ -91,34 +91,34 @@ pub record IsBack (circuit : Circuit) (tech : Tech) (walk : Walk) (greatest : Bo
   pub within : signal < length circuit.signals
   pub follows : Follows circuit.signals signal rest last
   pub sums : Sums
-  pub here : sums_to walk signal ≡ Some sums
+  pub here : sums_to walk 0 signal ≡ Some sums
   pub end : Sums
-  pub end_here : sums_to walk last ≡ Some end
+  pub end_here : sums_to walk 0 last ≡ Some end
   pub total : extreme_of greatest end
       ≡ extreme_of greatest sums +ℤ through_by greatest circuit tech rest
 
 module _ (circuit : Circuit) (tech : Tech) (from : ℕ) (walk : Walk) (greatest : Bool)
-    (reach : HasReach circuit tech from walk) where
+    (reach : HasReach circuit tech from 0 walk) where
   -- what the walk found at a signal are the delays of its chains
-  reached : (signal : ℕ) (sums : Sums) → sums_to walk signal ≡ Some sums
+  reached : (signal : ℕ) (sums : Sums) → sums_to walk 0 signal ≡ Some sums
       → IsReachBy greatest circuit tech from signal sums
   reached signal sums here = reach_by greatest circuit tech from signal sums
       (subst (IsReach circuit tech from signal) here (reach.each signal))
 
   -- where it found nothing, there is no chain
-  unreached : (signal : ℕ) (chain : List ℕ) → sums_to walk signal ≡ None
+  unreached : (signal : ℕ) (chain : List ℕ) → sums_to walk 0 signal ≡ None
       → IsChain circuit from signal chain → ⊥
   unreached signal chain nothing is_chain =
       subst (IsReach circuit tech from signal) nothing (reach.each signal) chain is_chain
 
   -- a chain to a signal is no further than what the walk found there
   chain_within : (signal : ℕ) (chain : List ℕ) → IsChain circuit from signal chain
-      → (sums : Sums) × (sums_to walk signal ≡ Some sums)
+      → (sums : Sums) × (sums_to walk 0 signal ≡ Some sums)
       × IsNoFurther greatest (delay_by greatest circuit tech chain) (extreme_of greatest sums)
-  chain_within signal chain is_chain = at (sums_to walk signal) refl
+  chain_within signal chain is_chain = at (sums_to walk 0 signal) refl
     where
-      at : (found : Option Sums) → sums_to walk signal ≡ found
-          → (sums : Sums) × (sums_to walk signal ≡ Some sums)
+      at : (found : Option Sums) → sums_to walk 0 signal ≡ found
+          → (sums : Sums) × (sums_to walk 0 signal ≡ Some sums)
           × IsNoFurther greatest (delay_by greatest circuit tech chain) (extreme_of greatest sums)
       at None nothing = absurd (unreached signal chain nothing is_chain)
       at (Some sums) here = (sums, here, (reached signal sums here).extreme chain is_chain)
@@ -134,7 +134,7 @@ module _ (circuit : Circuit) (tech : Tech) (from : ℕ) (walk : Walk) (greatest 
 
   -- so the walk found no less at a gate than what it reads and the gate add up to
   reader_within : (signal read : ℕ) (sums read_sums : Sums) → Reads circuit.signals signal read
-      → sums_to walk signal ≡ Some sums → sums_to walk read ≡ Some read_sums
+      → sums_to walk 0 signal ≡ Some sums → sums_to walk 0 read ≡ Some read_sums
       → IsNoFurther greatest
       (extreme_of greatest read_sums +ℤ gate_by greatest tech (slice_get circuit.signals signal))
       (extreme_of greatest sums)
@@ -155,7 +155,7 @@ module _ (circuit : Circuit) (tech : Tech) (from : ℕ) (walk : Walk) (greatest 
 
   -- at a gate the walk found what it found at the furthest signal that the gate reads, and the
   -- gate's delay
-  furthest_adds : (signal read : ℕ) (sums : Sums) → sums_to walk signal ≡ Some sums
+  furthest_adds : (signal read : ℕ) (sums : Sums) → sums_to walk 0 signal ≡ Some sums
       → (furthest : IsFurthest walk (Reads circuit.signals signal) greatest read)
       → extreme_of greatest sums ≡ extreme_of greatest furthest.sums
       +ℤ gate_by greatest tech (slice_get circuit.signals signal)
@@ -193,8 +193,8 @@ module _ (circuit : Circuit) (tech : Tech) (from : ℕ) (walk : Walk) (greatest 
       ]
 
   -- where the walk found nothing at what a signal reads, the register launches it
-  is_start : (signal : ℕ) (sums : Sums) → sums_to walk signal ≡ Some sums
-      → ((read : ℕ) → Reads circuit.signals signal read → sums_to walk read ≡ None)
+  is_start : (signal : ℕ) (sums : Sums) → sums_to walk 0 signal ≡ Some sums
+      → ((read : ℕ) → Reads circuit.signals signal read → sums_to walk 0 read ≡ None)
       → Launches circuit from signal × (extreme_of greatest sums ≡ own_by greatest tech)
   is_start signal sums here none =
       let shown = reached signal sums here in at shown.chain shown.is_chain shown.shown
@@ -215,7 +215,7 @@ module _ (circuit : Circuit) (tech : Tech) (from : ℕ) (walk : Walk) (greatest 
 
   -- the last signal by itself
   pub back_first : (last : ℕ) (sums : Sums) (path : List ℕ) → path ≡ last ∷ []
-      → last < length circuit.signals → sums_to walk last ≡ Some sums
+      → last < length circuit.signals → sums_to walk 0 last ≡ Some sums
       → IsBack circuit tech walk greatest last path last
   back_first last sums path is within here = record {
     rest = [];
@@ -251,7 +251,7 @@ module _ (circuit : Circuit) (tech : Tech) (from : ℕ) (walk : Walk) (greatest 
   -- back at a signal that the register launches, it is a path, and none is further
   pub back_at_start : (to last signal : ℕ) (path rotated : List ℕ) → rotated ≡ reverse path
       → IsFurthest walk (Captures circuit to) greatest last
-      → ((read : ℕ) → Reads circuit.signals signal read → sums_to walk read ≡ None)
+      → ((read : ℕ) → Reads circuit.signals signal read → sums_to walk 0 read ≡ None)
       → IsBack circuit tech walk greatest last path signal
       → IsExtremePath circuit tech from to greatest rotated
   back_at_start to last signal path rotated is furthest none back =

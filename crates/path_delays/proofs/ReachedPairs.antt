@@ -60,37 +60,37 @@ pub captured_is_fan_in : (circuit : Circuit) (register : ℕ) (signal : Signal)
 captured_is_fan_in circuit register signal found =
     λ number. (λ listed. rw found listed, λ captures. rw found at captures)
 
-module _ (circuit : Circuit) (tech : Tech) (from to : ℕ) (walk : Walk) (captured : List ℕ)
-    (exact : AreCapturedBy circuit to captured) (reach : HasReach circuit tech from walk) where
+module _ (circuit : Circuit) (tech : Tech) (from to lane : ℕ) (walk : Walk) (captured : List ℕ)
+    (exact : AreCapturedBy circuit to captured) (reach : HasReach circuit tech from lane walk) where
   -- what the walk found at a signal are the delays of its chains
-  reached : (signal : ℕ) (entry : Sums) → sums_to walk signal ≡ Some entry
+  reached : (signal : ℕ) (entry : Sums) → sums_to walk lane signal ≡ Some entry
       → AreExtreme circuit tech from signal entry
   reached signal entry here = subst (IsReach circuit tech from signal) here (reach.each signal)
 
   -- where it found nothing, there is no chain
-  no_chain : (signal : ℕ) (chain : List ℕ) → sums_to walk signal ≡ None
+  no_chain : (signal : ℕ) (chain : List ℕ) → sums_to walk lane signal ≡ None
       → IsChain circuit from signal chain → ⊥
   no_chain signal chain nothing is_chain =
       subst (IsReach circuit tech from signal) nothing (reach.each signal) chain is_chain
 
   -- so no path joins the registers, where it found nothing at any
-  pub no_path : AreCaptured walk captured None → (path : List ℕ) → IsPath circuit from to path → ⊥
+  pub no_path : AreCaptured walk lane captured None → (path : List ℕ) → IsPath circuit from to path → ⊥
   no_path none path is_path =
       let chain = chain_of_path circuit from to path is_path in
       no_chain chain.0 path (none chain.0 ((exact chain.0).1 chain.2)) chain.1
 
   -- the delays of a path lie within the sums over all captured signals
-  path_within : (sums : Sums) → AreSumsOver walk captured sums → (path : List ℕ)
+  path_within : (sums : Sums) → AreSumsOver walk lane captured sums → (path : List ℕ)
       → IsPath circuit from to path
       → (sums.least ≤ℤ least_delay circuit tech path)
       × (greatest_delay circuit tech path ≤ℤ sums.greatest)
   path_within sums over path is_path =
       let chain = chain_of_path circuit from to path is_path in
       let listed = (exact chain.0).1 chain.2 in
-      at chain.0 listed chain.1 (sums_to walk chain.0) refl
+      at chain.0 listed chain.1 (sums_to walk lane chain.0) refl
     where
       at : (last : ℕ) → Contains captured last → IsChain circuit from last path
-          → (entry : Option Sums) → sums_to walk last ≡ entry
+          → (entry : Option Sums) → sums_to walk lane last ≡ entry
           → (sums.least ≤ℤ least_delay circuit tech path)
           × (greatest_delay circuit tech path ≤ℤ sums.greatest)
       at last listed is_chain None nothing = absurd (no_chain last path nothing is_chain)
@@ -102,15 +102,15 @@ module _ (circuit : Circuit) (tech : Tech) (from to : ℕ) (walk : Walk) (captur
           (omega (arith, ints, around.least), omega (arith, ints, around.greatest))
 
   -- the sums over all captured signals are the delays between the registers
-  pub delays_between : (sums : Sums) (pair : PairDelay) → AreSumsOver walk captured sums
+  pub delays_between : (sums : Sums) (pair : PairDelay) → AreSumsOver walk lane captured sums
       → pair.from ≡ from → pair.to ≡ to → pair.least ≡ sums.least → pair.greatest ≡ sums.greatest
       → IsDelayBetween circuit tech from to pair
   delays_between sums pair over from_is to_is least_is greatest_is =
       let least_entry =
-      some_and (sums_to walk over.least_at) (λ entry. entry.least ≡ sums.least) over.least_found in
+      some_and (sums_to walk lane over.least_at) (λ entry. entry.least ≡ sums.least) over.least_found in
       let least_reach = reached over.least_at least_entry.0 least_entry.1 in
       let least_chain = least_reach.shown.least in
-      let greatest_entry = some_and (sums_to walk over.greatest_at)
+      let greatest_entry = some_and (sums_to walk lane over.greatest_at)
       (λ entry. entry.greatest ≡ sums.greatest) over.greatest_found in
       let greatest_reach = reached over.greatest_at greatest_entry.0 greatest_entry.1 in
       let greatest_chain = greatest_reach.shown.greatest in

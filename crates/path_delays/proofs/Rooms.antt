@@ -61,11 +61,11 @@ module _ (circuit : Circuit) (tech : Tech) (network : Network)
 
   -- room for as many signals and gates is room for the network
   pub HasReachRoom-made : (reach : Reach) (gates : ℕ) → length network.order.items ≤ gates
-      → length reach.sums.items ≡ length circuit.signals
+      → length reach.lanes.items ≡ length circuit.signals
       → length circuit.signals < 64 * length reach.reached.words.items
       → gates < 64 * length reach.waiting.words.items
       → 64 * length reach.waiting.words.items < 2 ^ 32 → HasReachRoom network reach
-  HasReachRoom-made reach gates few sums reached waiting small =
+  HasReachRoom-made reach gates few lanes reached waiting small =
       let covers : length circuit.signals ≡ length network.ranks.items = sym is.ranks.covers in
       record {
         starts = is.readers.long ∙ ap (λ n. n + 1) covers;
@@ -74,7 +74,7 @@ module _ (circuit : Circuit) (tech : Tech) (network : Network)
             → All (λ gate. gate < n) (group_of network.readers signal)) covers readers_within;
         delays = ap length is.delays ∙ (length-map circuit.signals (gate_sums tech) ∙ covers);
         small_delays = delays_within;
-        sums = sums ∙ covers;
+        lanes = lanes ∙ covers;
         reached = omega arith;
         waiting = λ gate. omega (arith, rank_within gate);
         small = small;

@@ -10,20 +10,20 @@ abbrev pub either_sums : Option Sums → Option Sums → Option Sums
 either_sums known None = known
 either_sums known (Some sums) = Some (joined_sums known sums)
 
--- over some signals the least and the greatest of what the walk found, each found at one of them
-pub record AreSumsOver (walk : Walk) (signals : List ℕ) (sums : Sums) : Type 0 where
+-- over some signals the least and the greatest of what the walk found in a lane, each found at one of them
+pub record AreSumsOver (walk : Walk) (lane : ℕ) (signals : List ℕ) (sums : Sums) : Type 0 where
   pub least_at : ℕ
   pub least_listed : Contains signals least_at
-  pub least_found : IsSomeAnd (sums_to walk least_at)
+  pub least_found : IsSomeAnd (sums_to walk lane least_at)
       (λ entry. entry.least ≡ sums.least)
   pub greatest_at : ℕ
   pub greatest_listed : Contains signals greatest_at
-  pub greatest_found : IsSomeAnd (sums_to walk greatest_at)
+  pub greatest_found : IsSomeAnd (sums_to walk lane greatest_at)
       (λ entry. entry.greatest ≡ sums.greatest)
   pub around : (signal : ℕ) (entry : Sums) → Contains signals signal
-      → sums_to walk signal ≡ Some entry → IsAround sums entry
+      → sums_to walk lane signal ≡ Some entry → IsAround sums entry
 
 -- nothing, where the walk found nothing at any of these signals
-abbrev pub AreCaptured : Walk → List ℕ → Option Sums → Type 0
-AreCaptured walk signals None = (signal : ℕ) → Contains signals signal → sums_to walk signal ≡ None
-AreCaptured walk signals (Some sums) = AreSumsOver walk signals sums
+abbrev pub AreCaptured : Walk → (lane : ℕ) → List ℕ → Option Sums → Type 0
+AreCaptured walk lane signals None = (signal : ℕ) → Contains signals signal → sums_to walk lane signal ≡ None
+AreCaptured walk lane signals (Some sums) = AreSumsOver walk lane signals sums

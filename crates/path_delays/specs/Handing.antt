@@ -1,17 +1,28 @@
 -- Sums of delays that a walk holds, and how they are handed from a signal to the gates that read
 -- it.
 use Rattle.std.specs.Prelude.{◌≡◌, ◌≢◌, ◌<◌, ◌+◌, ◌*◌, ◌^◌, ◌==◌, ◌&&◌, ◌||◌, ℕ, Bool, false, pos, List, [], ◌∷◌, length, All, Option, Some, None, is_none, if◌then◌else◌, slice_get, slice_index, slice_index_or}
+use Rattle.std.specs.Option.{option_and_then, option_map, unwrap_or}
 use Rattle.gate_order.specs.GroupParts.{bounds_of, group_of}
+use Rattle.path_delays.specs.declared.lanes.Lanes.{Lanes}
 use Rattle.path_delays.specs.declared.sums.Sums.{Sums}
 use Rattle.path_delays.specs.declared.network.Network.{Network}
 use Rattle.path_delays.specs.declared.reach.Reach.{Reach}
 use Rattle.path_delays.specs.NumberSets.{has_number}
-use Rattle.path_delays.specs.SumParts.{AreWithin, delay_limit, joined_sums, sums_through}
+use Rattle.path_delays.specs.LaneParts.{lane_of}
+use Rattle.path_delays.specs.SumParts.{AreWithin, delay_limit, joined_sums, no_sums, some_sums, sums_through}
 
--- the sums to a signal, if the walk reached it
-abbrev pub sums_at : Reach → ℕ → Option Sums
-sums_at reach signal = if has_number reach.reached.words.items signal
-    then slice_get reach.sums.items signal else None
+-- the sums in all lanes to a signal, if the walk reached it
+abbrev pub lanes_at : Reach → ℕ → Option Lanes
+lanes_at reach signal =
+    if has_number reach.reached.words.items signal then slice_get reach.lanes.items signal else None
+
+-- what stands in a lane at a signal, if the walk reached it
+abbrev pub lane_at : Reach → (lane : ℕ) → ℕ → Option Sums
+lane_at reach lane signal = option_map (λ lanes. lane_of lanes lane) (lanes_at reach signal)
+
+-- the sums in a lane to a signal, if the walk reached it there
+abbrev pub sums_at : Reach → (lane : ℕ) → ℕ → Option Sums
+sums_at reach lane signal = option_and_then some_sums (lane_at reach lane signal)
 
 -- whether the gate of this rank waits to be taken
 abbrev pub waits_at : Reach → ℕ → Bool
@@ -31,35 +42,37 @@ pub record HasReachRoom (network : Network) (reach : Reach) : Type 0 where
       → All (λ gate. gate < length network.ranks.items) (group_of network.readers signal)
   pub delays : length network.delays.items ≡ length network.ranks.items
   pub small_delays : All (AreWithin delay_limit) network.delays.items
-  pub sums : length reach.sums.items ≡ length network.ranks.items
+  pub lanes : length reach.lanes.items ≡ length network.ranks.items
   pub reached : length network.ranks.items < 64 * length reach.reached.words.items
   pub waiting : (gate : ℕ) → rank_at network gate < 64 * length reach.waiting.words.items
   pub small : 64 * length reach.waiting.words.items < 2 ^ 32
 
 -- as much room as before
 pub record IsSameRoom (old new : Reach) : Type 0 where
-  pub sums : length new.sums.items ≡ length old.sums.items
+  pub lanes : length new.lanes.items ≡ length old.lanes.items
   pub reached : length new.reached.words.items ≡ length old.reached.words.items
   pub waiting : length new.waiting.words.items ≡ length old.waiting.words.items
 
--- a signal gets sums, and all else stays
-pub record IsMarked (signal : ℕ) (sums : Sums) (old new : Reach) : Type 0 where
+-- a signal gets sums in a lane, where it isn't reached none in the others, and all else stays
+pub record IsMarked (lane signal : ℕ) (sums : Sums) (old new : Reach) : Type 0 where
   pub room : IsSameRoom old new
-  pub at : sums_at new signal ≡ Some sums
-  pub others : (other : ℕ) → other ≢ signal → sums_at new other ≡ sums_at old other
+  pub at : lane_at new lane signal ≡ Some sums
+  pub beside : (other : ℕ) → other ≢ lane
+      → lane_at new other signal ≡ Some (unwrap_or (lane_at old other signal) no_sums)
+  pub others : (other : ℕ) → other ≢ signal → lanes_at new other ≡ lanes_at old other
   pub waits : (rank : ℕ) → waits_at new rank ≡ waits_at old rank
 
--- a gate gets the sums after it, and waits to be taken where it is reached first
-pub record IsHanded (network : Network) (given : Sums) (gate : ℕ) (old new : Reach) : Type 0 where
+-- a gate gets the sums after it in each lane, and waits to be taken where it is reached first
+pub record IsHanded (network : Network) (given : Lanes) (gate : ℕ) (old new : Reach) : Type 0 where
   pub room : IsSameRoom old new
-  pub at : sums_at new gate
-      ≡ Some (joined_sums (sums_at old gate) (sums_through given (delay_at network gate)))
-  pub others : (other : ℕ) → other ≢ gate → sums_at new other ≡ sums_at old other
+  pub at : (lane : ℕ) → lane < 8 → lane_at new lane gate ≡ Some (joined_sums
+      (lane_at old lane gate) (sums_through (lane_of given lane) (delay_at network gate)))
+  pub others : (other : ℕ) → other ≢ gate → lanes_at new other ≡ lanes_at old other
   pub waits : (rank : ℕ) → waits_at new rank
-      ≡ (is_none (sums_at old gate) && (rank == rank_at network gate) || waits_at old rank)
+      ≡ (is_none (lanes_at old gate) && (rank == rank_at network gate) || waits_at old rank)
 
 -- these gates do, one after the other
-abbrev pub AreHanded : Network → Sums → List ℕ → Reach → Reach → Type 0
+abbrev pub AreHanded : Network → Lanes → List ℕ → Reach → Reach → Type 0
 AreHanded network given [] old new = old ≡ new
 AreHanded network given (gate ∷ gates) old new =
     (between : Reach) × IsHanded network given gate old between
@@ -67,15 +80,15 @@ AreHanded network given (gate ∷ gates) old new =
 
 -- the signal's sums are handed to each of its readers
 abbrev pub IsHandedOn : Network → ℕ → Reach → Reach → Type 0
-IsHandedOn network signal old new = (given : Sums) → sums_at old signal ≡ Some given
+IsHandedOn network signal old new = (given : Lanes) → lanes_at old signal ≡ Some given
     → AreHanded network given (group_of network.readers signal) old new
 
--- the signal gets sums and hands them on
-abbrev pub IsStarted : Network → ℕ → Sums → Reach → Reach → Type 0
-IsStarted network signal sums old new =
-    (between : Reach) × IsMarked signal sums old between × IsHandedOn network signal between new
+-- the signal gets sums in a lane and hands them on
+abbrev pub IsStarted : Network → (lane signal : ℕ) → Sums → Reach → Reach → Type 0
+IsStarted network lane signal sums old new =
+    (between : Reach) × IsMarked lane signal sums old between × IsHandedOn network signal between new
 
 -- nothing is reached
 pub record IsCleared (reach : Reach) : Type 0 where
-  pub none : (signal : ℕ) → sums_at reach signal ≡ None
+  pub none : (signal : ℕ) → lanes_at reach signal ≡ None
   pub idle : (rank : ℕ) → waits_at reach rank ≡ false

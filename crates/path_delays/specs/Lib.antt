@@ -1,5 +1,6 @@
 pub mod NumberSets
 pub mod SumParts
+pub mod LaneParts
 pub mod Networks
 pub mod Handing
 pub mod Reaches

@@ -1,5 +1,5 @@
 -- The least and the greatest sum of delays: how they grow, and how two of them become one.
-use Rattle.std.specs.Prelude.{◌+ℤ◌, ◌≤ℤ◌, ℕ, Option, Some, None}
+use Rattle.std.specs.Prelude.{◌+ℤ◌, ◌≤ℤ◌, ◌⊎◌, ℕ, pos, negsuc, int_lt, Option, Some, None, if◌then◌else◌}
 use Rattle.std.specs.Int.{int_min, int_max}
 use Rattle.cts_model.specs.table.Tables.{IsWithin}
 use Rattle.path_delays.specs.declared.sums.Sums.{Sums}
@@ -27,6 +27,25 @@ joined_sums (Some known) sums = merged_sums known sums
 pub record AreWithin (limit : ℕ) (sums : Sums) : Type 0 where
   pub least : IsWithin 0 limit sums.least
   pub greatest : IsWithin 0 limit sums.greatest
+
+-- no sums: merged with others they give those
+abbrev pub no_sums : Sums
+no_sums = record { least = pos 1000000000000; greatest = negsuc 999999999999 }
+
+-- no sums, after delays of a limit at most
+pub record AreMissing (limit : ℕ) (sums : Sums) : Type 0 where
+  pub least_above : no_sums.least ≤ℤ sums.least
+  pub least_below : sums.least ≤ℤ (no_sums.least +ℤ pos limit)
+  pub greatest_above : no_sums.greatest ≤ℤ sums.greatest
+  pub greatest_below : sums.greatest ≤ℤ (no_sums.greatest +ℤ pos limit)
+
+-- sums within a limit, or none
+abbrev pub AreBounded : ℕ → Sums → Type 0
+AreBounded limit sums = AreWithin limit sums ⊎ AreMissing limit sums
+
+-- the sums, if there are any
+abbrev pub some_sums : Sums → Option Sums
+some_sums sums = if int_lt sums.greatest (pos 0) then None else Some sums
 
 -- the least is no greater, and the greatest no less
 pub record IsAround (sums inner : Sums) : Type 0 where

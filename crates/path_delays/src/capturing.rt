@@ -1,4 +1,4 @@
-ghost use Rattle.std.specs.Prelude.{◌≤◌, IfOk, length};
+ghost use Rattle.std.specs.Prelude.{◌≡◌, ◌≤◌, IfOk, length};
 
 use crate::captures::{captured_signals, capturers};
 use crate::number_set::NumberSet;
@@ -19,10 +19,12 @@ pub(crate) struct Capturing {
     pub(crate) reached: NumberSet,
     /// The registers that capture one that was looked at.
     pub(crate) registers: NumberSet,
+    /// Those of them that wait to be taken.
+    pub(crate) waiting: NumberSet,
 }
 
 impl Capturing {
-    ghost use Rattle.path_delays.specs.Capturings.{AreGathered, HasCaptureRoom, IsCapturingOf};
+    ghost use Rattle.path_delays.specs.Capturings.{AreGathered, HasCaptureRoom, IsCapturingOf, IsSameCapturing};
 
     /// No registers yet, with room for those of a circuit.
     pub(crate) fn new(alloc: Global, circuit: &Circuit) -> Result<Capturing, NoMemory>
@@ -32,11 +34,13 @@ impl Capturing {
         let captured = captured_signals(alloc, circuit)?;
         let reached = captured.cleared(alloc)?;
         let registers = NumberSet::new(alloc, circuit.registers.len() as u32)?;
+        let waiting = registers.cleared(alloc)?;
         Ok(Capturing {
             capturers,
             captured,
             reached,
             registers,
+            waiting,
         })
     }
 
@@ -55,5 +59,15 @@ impl Capturing {
                 .insert_all(self.capturers.group(signal as usize));
             next = signal + 1;
         }
+    }
+
+    /// Lets all registers wait that were found.
+    pub(crate) fn wait_all(&mut self)
+        requires room { HasCaptureRoom self.old }
+        ensures same { IsSameCapturing self.old self.new }
+        ensures registers { self.new.registers ≡ self.old.registers }
+        ensures waiting { self.new.waiting.words.items ≡ self.old.registers.words.items }
+    {
+        self.waiting.become_copy(&self.registers);
     }
 }

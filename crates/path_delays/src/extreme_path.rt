@@ -26,7 +26,7 @@ pub(crate) fn path_between(
     ensures path { IfOk result (IsExtremeIfAny circuit.now tech.now from to greatest) }
     ensures room { IsRoomFor circuit.now tech.now walk.new }
 {
-    walk.walk_from(circuit, tech, from);
+    walk.walk_from(circuit, tech, &[from]);
     let captured = circuit.register_signal(to as usize).fan_in.as_slice();
     let Some(last) = furthest(walk, captured, greatest) else {
         return Ok(None);
@@ -58,9 +58,9 @@ fn furthest_read(walk: &Walk, circuit: &Circuit, gate: u32, greatest: bool) -> O
 fn furthest(walk: &Walk, signals: &[u32], greatest: bool) -> Option<u32>
     ensures { IsFurthestIfAny walk.now (Contains signals.now) greatest result }
 {
-    let sums = captured_sums(walk, signals)?;
+    let sums = captured_sums(walk, 0, signals)?;
     for signal in signals {
-        if fits(walk.sums(*signal), sums, greatest) {
+        if fits(walk.sums(0, *signal), sums, greatest) {
             return Some(*signal);
         }
     }

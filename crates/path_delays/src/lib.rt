@@ -8,6 +8,7 @@ mod capturing;
 mod extreme_path;
 mod fault;
 mod gate_delays;
+mod lanes;
 mod network;
 mod number_set;
 mod pair;

@@ -47,17 +47,24 @@ pub(crate) fn delay_between(
     ensures joined { IsJoinedBy circuit.now tech.now from to result }
     ensures room { IsRoomFor circuit.now tech.now walk.new }
 {
-    walk.walk_from(circuit, tech, from);
+    walk.walk_from(circuit, tech, &[from]);
     let captured = circuit.register_signal(to as usize).fan_in.as_slice();
-    joined_pair(walk, captured, from, to)
+    joined_pair(walk, 0, captured, from, to)
 }
 
-/// The delays from the register that a walk came from to another, which captures these signals.
-pub(crate) fn joined_pair(walk: &Walk, captured: &[u32], from: u32, to: u32) -> Option<PairDelay>
+/// The delays from the register in a lane of a walk to another, which captures these signals.
+pub(crate) fn joined_pair(
+    walk: &Walk,
+    lane: usize,
+    captured: &[u32],
+    from: u32,
+    to: u32,
+) -> Option<PairDelay>
+    requires { lane < 8 }
     ensures { (circuit : Circuit) (tech : Tech) → AreCapturedBy circuit to captured.now
-        → HasReach circuit tech from walk.now → IsJoinedBy circuit tech from to result }
+        → HasReach circuit tech from lane walk.now → IsJoinedBy circuit tech from to result }
 {
-    let sums = captured_sums(walk, captured)?;
+    let sums = captured_sums(walk, lane, captured)?;
     Some(PairDelay {
         from,
         to,
@@ -66,13 +73,14 @@ pub(crate) fn joined_pair(walk: &Walk, captured: &[u32], from: u32, to: u32) -> 
     })
 }
 
-// The least and the greatest of what a walk found at some signals.
-pub(crate) fn captured_sums(walk: &Walk, signals: &[u32]) -> Option<Sums>
-    ensures { AreCaptured walk.now signals.now result }
+// The least and the greatest of what a walk found at some signals in a lane.
+pub(crate) fn captured_sums(walk: &Walk, lane: usize, signals: &[u32]) -> Option<Sums>
+    requires { lane < 8 }
+    ensures { AreCaptured walk.now lane signals.now result }
 {
     let mut captured = None;
     for signal in signals {
-        captured = either(captured, walk.sums(*signal));
+        captured = either(captured, walk.sums(lane, *signal));
     }
     captured
 }

@@ -1,13 +1,15 @@
-ghost use Rattle.std.specs.Prelude.{◌≡◌, ◌<◌, ◌≤◌, ◌+◌, ◌++◌, length, vec_len, IfOk, IfErr, OnOk};
+ghost use Rattle.std.specs.Prelude.{◌≡◌, ◌<◌, ◌≤◌, ◌+◌, ◌-◌, ◌++◌, ℕ, length, vec_len, IfOk, IfErr, OnOk};
 ghost use Rattle.std.specs.Option.{option_to_list};
+ghost use Rattle.cts_model.specs.declared.tech.Tech.{Tech};
 ghost use Rattle.cts_model.specs.timing.PairLists.{JoinsMoreThan};
 ghost use Rattle.gate_order.specs.LevelParts.{IsLevelsOf};
-ghost use Rattle.path_delays.specs.WalkParts.{IsRoomFor};
-ghost use Rattle.path_delays.specs.Capturings.{IsCapturingOf};
+ghost use Rattle.path_delays.specs.WalkParts.{HasReach, IsRoomFor};
+ghost use Rattle.path_delays.specs.Capturings.{IsCapturingOf, IsGatheredFrom};
 ghost use Rattle.path_delays.specs.JoinedPairs.{ListsPairsBefore, ArePairs, ShowsTooMany, MeetsLimit, pair_limit};
 
 use crate::PairFault;
 use crate::capturing::Capturing;
+use crate::lanes::{LANES, block_end};
 use crate::pair::joined_pair;
 use crate::walk::Walk;
 use cts_base::Listed;
@@ -34,46 +36,100 @@ pub fn pair_delays(
     let mut walk = Walk::new(alloc, circuit, levels, tech)?;
     let mut capturing = Capturing::new(alloc, circuit)?;
     let mut pairs = Vec::new(alloc);
-    for from in 0..circuit.registers.len() {
-        push_pairs_from(
+    let mut first = 0;
+    while first < circuit.registers.len() {
+        let end = block_end(first, circuit.registers.len());
+        push_block(
             &mut pairs,
             &mut walk,
             &mut capturing,
             circuit,
             tech,
-            from as u32,
+            first,
+            end,
         )?;
+        first = end;
     }
     Ok(Listed::from_vec(pairs))
 }
 
-// Appends the pairs of the register that launches.
-fn push_pairs_from(
+// Appends the pairs of up to eight registers that launch, from one number up to another.
+fn push_block(
     pairs: &mut Vec<PairDelay>,
     walk: &mut Walk,
     capturing: &mut Capturing,
     circuit: &Circuit,
     tech: &Tech,
-    from: u32,
+    first: usize,
+    end: usize,
 ) -> Result<(), PairFault>
-    requires from { from < length circuit.now.registers }
+    requires after { first < end }
+    requires short { end ≤ first + 8 }
+    requires within { end ≤ length circuit.now.registers }
     requires room { IsRoomFor circuit.now tech.now walk.old }
     requires capturing { IsCapturingOf circuit.now capturing.old }
-    requires listed { ListsPairsBefore circuit.now tech.now from 0 pairs.old.items }
+    requires listed { ListsPairsBefore circuit.now tech.now first 0 pairs.old.items }
     requires few { vec_len pairs.old ≤ pair_limit }
     ensures room { IsRoomFor circuit.now tech.now walk.new }
     ensures capturing { OnOk result (IsCapturingOf circuit.now capturing.new) }
-    ensures listed { OnOk result (ListsPairsBefore circuit.now tech.now (from + 1) 0
-        pairs.new.items) }
+    ensures listed { OnOk result (ListsPairsBefore circuit.now tech.now end 0 pairs.new.items) }
     ensures few { OnOk result (vec_len pairs.new ≤ pair_limit) }
     ensures many { IfErr result (ShowsTooMany circuit.now) }
 {
-    walk.walk_from(circuit, tech, from);
+    walk_block(walk, circuit, tech, first, end);
     capturing.gather(walk);
+    for from in first..end {
+        push_pairs_from(pairs, walk, capturing, circuit, from - first, from as u32)?;
+    }
+    Ok(())
+}
+
+// Walks from up to eight registers, from one number up to another.
+fn walk_block(walk: &mut Walk, circuit: &Circuit, tech: &Tech, first: usize, end: usize)
+    requires after { first < end }
+    requires short { end ≤ first + 8 }
+    requires within { end ≤ length circuit.now.registers }
+    requires room { IsRoomFor circuit.now tech.now walk.old }
+    ensures room { IsRoomFor circuit.now tech.now walk.new }
+    ensures reach { (from : ℕ) → first ≤ from → from < end
+        → HasReach circuit.now tech.now from (from - first) walk.new }
+{
+    let mut registers = [0; LANES];
+    for from in first..end {
+        registers[from - first] = from as u32;
+    }
+    walk.walk_from(circuit, tech, &registers[..end - first]);
+}
+
+// Appends the pairs of the register that launches, which is walked from in a lane.
+fn push_pairs_from(
+    pairs: &mut Vec<PairDelay>,
+    walk: &Walk,
+    capturing: &mut Capturing,
+    circuit: &Circuit,
+    lane: usize,
+    from: u32,
+) -> Result<(), PairFault>
+    requires lane { lane < 8 }
+    requires capturing { IsCapturingOf circuit.now capturing.old }
+    requires gathered { IsGatheredFrom circuit.now from capturing.old.registers.words.items }
+    requires few { vec_len pairs.old ≤ pair_limit }
+    ensures capturing { OnOk result (IsCapturingOf circuit.now capturing.new) }
+    ensures registers { OnOk result (capturing.new.registers ≡ capturing.old.registers) }
+    ensures few { OnOk result (vec_len pairs.new ≤ pair_limit) }
+    ensures listed { OnOk result ((tech : Tech) → HasReach circuit.now tech from lane walk.now
+        → ListsPairsBefore circuit.now tech from 0 pairs.old.items
+        → ListsPairsBefore circuit.now tech (from + 1) 0 pairs.new.items) }
+    ensures many { IfErr result (λ fault. (tech : Tech)
+        → HasReach circuit.now tech from lane walk.now
+        → ListsPairsBefore circuit.now tech from 0 pairs.old.items
+        → ShowsTooMany circuit.now fault) }
+{
+    capturing.wait_all();
     let mut next = 0;
-    while let Some(to) = capturing.registers.take_lowest(next) {
+    while let Some(to) = capturing.waiting.take_lowest(next) {
         let captured = circuit.register_signal(to as usize).fan_in.as_slice();
-        push_joined(pairs, joined_pair(walk, captured, from, to))?;
+        push_joined(pairs, joined_pair(walk, lane, captured, from, to))?;
         next = to + 1;
     }
     Ok(())

@@ -8,12 +8,29 @@ pub(crate) struct Sums {
 }
 
 impl Sums {
-    ghost use Rattle.path_delays.specs.SumParts.{AreWithin, delay_limit, merged_sums, sums_through};
+    ghost use Rattle.path_delays.specs.SumParts.{AreBounded, AreWithin, delay_limit, merged_sums, no_sums, some_sums, sums_through};
     ghost use Rattle.path_delays.specs.ExtremePaths.{extreme_of};
+
+    /// No sums yet: merged with others it gives those.
+    pub(crate) fn none() -> Sums
+        ensures { result ≡ no_sums }
+    {
+        Sums {
+            least: 1_000_000_000_000,
+            greatest: -1_000_000_000_000,
+        }
+    }
+
+    /// The sums, if there are any.
+    pub(crate) fn some(self) -> Option<Sums>
+        ensures { result ≡ some_sums self }
+    {
+        if self.greatest < 0 { None } else { Some(self) }
+    }
 
     /// The sums after one more gate.
     pub(crate) fn through(self, delay: Sums) -> Sums
-        requires sums { AreWithin delay_limit self }
+        requires sums { AreBounded delay_limit self }
         requires delay { AreWithin delay_limit delay }
         ensures { result ≡ sums_through self delay }
     {

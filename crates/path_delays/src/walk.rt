@@ -1,4 +1,4 @@
-ghost use Rattle.std.specs.Prelude.{◌≡◌, ◌<◌, ◌≤◌, ◌↔◌, ℕ, IfOk, MatchBool, length};
+ghost use Rattle.std.specs.Prelude.{◌≡◌, ◌<◌, ◌≤◌, ◌↔◌, ℕ, All, IfOk, length};
 ghost use Rattle.cts_model.specs.netlist.Kinds as kinds;
 ghost use Rattle.cts_model.specs.netlist.Paths.{IsInput, Launches};
 ghost use Rattle.path_delays.specs.SumParts.{AreWithin, delay_limit};
@@ -23,7 +23,7 @@ pub(crate) struct Walk {
 impl Walk {
     ghost use Rattle.gate_order.specs.LevelParts.{IsLevelsOf};
     ghost use Rattle.path_delays.specs.NumberSets.{IsCommon};
-    ghost use Rattle.path_delays.specs.WalkParts.{HasReach, IsRoomFor, sums_to};
+    ghost use Rattle.path_delays.specs.WalkParts.{HaveReach, IsRoomFor, sums_to};
 
     /// Room for walks over a circuit.
     pub(crate) fn new(
@@ -42,15 +42,17 @@ impl Walk {
         Ok(Walk { network, reach })
     }
 
-    /// Walks from a register to all that it reaches, from the lowest rank to the highest. It takes
-    /// no memory.
-    pub(crate) fn walk_from(&mut self, circuit: &Circuit, tech: &Tech, from: u32)
+    /// Walks from up to eight registers to all that they reach, from the lowest rank to the
+    /// highest, each register in a lane. It takes no memory.
+    pub(crate) fn walk_from(&mut self, circuit: &Circuit, tech: &Tech, registers: &[u32])
         requires room { IsRoomFor circuit.now tech.now self.old }
-        requires from { from < length circuit.now.registers }
-        ensures reach { HasReach circuit.now tech.now from self.new }
+        requires few { length registers.now ≤ 8 }
+        requires registers { All (λ from. from < length circuit.now.registers) registers.now }
+        ensures reach { HaveReach circuit.now tech.now registers.now self.new }
         ensures room { IsRoomFor circuit.now tech.now self.new }
     {
-        self.reach.reach_all(&self.network, circuit, tech, from);
+        self.reach
+            .reach_all(&self.network, circuit, tech, registers);
     }
 
     /// Finds which of some signals the register reaches.
@@ -65,31 +67,31 @@ impl Walk {
         reached.become_common(signals, &self.reach.reached);
     }
 
-    /// The sums to a signal, `None` where the register doesn't reach it.
-    pub(crate) fn sums(&self, signal: u32) -> Option<Sums>
-        ensures { result ≡ sums_to self.now signal }
+    /// The sums to a signal from the register in a lane, `None` where that doesn't reach it.
+    pub(crate) fn sums(&self, lane: usize, signal: u32) -> Option<Sums>
+        requires { lane < 8 }
+        ensures { result ≡ sums_to self.now lane signal }
     {
-        self.reach.sums_at(signal)
+        self.reach.sums_at(lane, signal)
     }
 }
 
 impl Reach {
     ghost use Rattle.path_delays.specs.Networks.{IsNetworkOf};
-    ghost use Rattle.path_delays.specs.Handing.{HasReachRoom, IsCleared, IsStarted, sums_at};
-    ghost use Rattle.path_delays.specs.Reaches.{IsReach};
-    ghost use Rattle.path_delays.specs.Walking.{IsReachedBelow};
+    ghost use Rattle.path_delays.specs.Handing.{HasReachRoom, IsCleared};
+    ghost use Rattle.path_delays.specs.Walking.{AreLaunched, HaveReached, IsLaunched, IsSpreadBelow};
 
-    // Reaches all that a register reaches: each gate hands on its sums when no lower rank waits.
-    fn reach_all(&mut self, network: &Network, circuit: &Circuit, tech: &Tech, from: u32)
+    // Reaches all that registers reach: each gate hands on its sums when no lower rank waits.
+    fn reach_all(&mut self, network: &Network, circuit: &Circuit, tech: &Tech, registers: &[u32])
         requires network { IsNetworkOf circuit.now tech.now network.now }
         requires room { HasReachRoom network.now self.old }
-        requires from { from < length circuit.now.registers }
-        ensures reach { (signal : ℕ)
-            → IsReach circuit.now tech.now from signal (sums_at self.new signal) }
+        requires few { length registers.now ≤ 8 }
+        requires registers { All (λ from. from < length circuit.now.registers) registers.now }
+        ensures reach { HaveReached circuit.now tech.now registers.now self.new }
         ensures room { HasReachRoom network.now self.new }
     {
         self.clear();
-        self.launch(network, circuit, tech, from);
+        self.launch_all(network, circuit, tech, registers);
         let mut rank = 1;
         while let Some(next) = self.waiting.take_lowest(rank) {
             self.hand_on(network, network.order[next as usize - 1]);
@@ -97,50 +99,65 @@ impl Reach {
         }
     }
 
-    // Starts at all that a register launches: its own signal, or for the host each input.
-    fn launch(&mut self, network: &Network, circuit: &Circuit, tech: &Tech, from: u32)
+    // Starts at what each of some registers launches.
+    fn launch_all(&mut self, network: &Network, circuit: &Circuit, tech: &Tech, registers: &[u32])
         requires network { IsNetworkOf circuit.now tech.now network.now }
         requires room { HasReachRoom network.now self.old }
         requires clear { IsCleared self.old }
+        requires few { length registers.now ≤ 8 }
+        requires registers { All (λ from. from < length circuit.now.registers) registers.now }
+        ensures spread { IsSpreadBelow circuit.now network.now 1 self.new }
+        ensures launched { AreLaunched circuit.now tech.now registers.now self.new }
+        ensures room { HasReachRoom network.now self.new }
+    {
+        for (lane, from) in registers.iter().enumerate() {
+            self.launch(network, circuit, tech, lane, *from);
+        }
+    }
+
+    // Starts at all that a register launches: its own signal, or for the host each input.
+    fn launch(&mut self, network: &Network, circuit: &Circuit, tech: &Tech, lane: usize, from: u32)
+        requires network { IsNetworkOf circuit.now tech.now network.now }
+        requires room { HasReachRoom network.now self.old }
+        requires lane { lane < 8 }
         requires from { from < length circuit.now.registers }
-        ensures reached { IsReachedBelow circuit.now tech.now from network.now 1 self.new }
+        requires spread { IsSpreadBelow circuit.now network.now 1 self.old }
+        ensures spread { IsSpreadBelow circuit.now network.now 1 self.new }
+        ensures launched { IsLaunched circuit.now tech.now from lane self.old self.new }
         ensures room { HasReachRoom network.now self.new }
     {
         if is_host(circuit.register_signal(from as usize).kind) {
-            self.start_inputs(network, circuit, tech, from);
+            self.start_inputs(network, circuit, tech, lane, from);
         } else {
             let signal = circuit.registers.as_slice()[from as usize];
-            self.start(network, signal, start_sums(tech));
+            self.start(network, lane, signal, start_sums(tech));
         }
     }
 
     // Starts at each input.
-    fn start_inputs(&mut self, network: &Network, circuit: &Circuit, tech: &Tech, from: u32)
+    fn start_inputs(
+        &mut self,
+        network: &Network,
+        circuit: &Circuit,
+        tech: &Tech,
+        lane: usize,
+        from: u32,
+    )
         requires network { IsNetworkOf circuit.now tech.now network.now }
         requires room { HasReachRoom network.now self.old }
-        requires clear { IsCleared self.old }
+        requires lane { lane < 8 }
+        requires spread { IsSpreadBelow circuit.now network.now 1 self.old }
         requires host { (number : ℕ)
             → Launches circuit.now from number ↔ IsInput circuit.now number }
-        ensures reached { IsReachedBelow circuit.now tech.now from network.now 1 self.new }
+        ensures spread { IsSpreadBelow circuit.now network.now 1 self.new }
+        ensures launched { IsLaunched circuit.now tech.now from lane self.old self.new }
         ensures room { HasReachRoom network.now self.new }
     {
         let sums = start_sums(tech);
         for (number, signal) in circuit.signals.as_slice().iter().enumerate() {
-            self.start_input(network, signal.kind, number as u32, sums);
-        }
-    }
-
-    // Starts at a signal, if it is an input.
-    fn start_input(&mut self, network: &Network, kind: Kind, number: u32, sums: Sums)
-        requires room { HasReachRoom network.now self.old }
-        requires number { number < length network.now.ranks.items }
-        requires sums { AreWithin delay_limit sums }
-        ensures started { MatchBool (kinds.is_input kind)
-            (IsStarted network.now number sums self.old self.new) (self.new ≡ self.old) }
-        ensures room { HasReachRoom network.now self.new }
-    {
-        if is_input(kind) {
-            self.start(network, number, sums);
+            if is_input(signal.kind) {
+                self.start(network, lane, number as u32, sums);
+            }
         }
     }
 }

@@ -1,11 +1,18 @@
--- One pair more.
-use Rattle.path_delays.proofs.BetweenLemmas.{between_next}
+-- One block more.
+use Rattle.std.proofs.Common.{arith, subst, take}
+use Rattle.path_delays.specs.JoinedPairs.{AreDelaysBetween}
+use Rattle.path_delays.proofs.BetweenLemmas.{take_on}
 use Rattle.path_delays.proofs.between.delays_between.Goals as goal
 
-pub loop-pair-preserved : goal.loop-pair-preserved
-loop-pair-preserved c = (
-  c.delay_between.ensures.room,
-  rw c.in_ok-push.ensures.items (between_next c.args.circuit.now c.args.tech.now c.args.pairs.now
-      c.loop-pair.pair-index (0, 0) c.loop-pair.delays.items c.delay_between.result
-      c.loop-pair-test.true c.delay_between.ensures.joined c.loop-pair.invariant.1),
-)
+pub loop-first-preserved : goal.loop-first-preserved
+loop-first-preserved c =
+    let pairs = c.args.pairs.now in
+    let first = c.loop-first.first in
+    record {
+      room = c.push_delays.ensures.room;
+      delays = subst (λ passed. AreDelaysBetween c.args.circuit.now c.args.tech.now passed
+          c.push_delays.new.delays.items)
+          (take_on pairs first c.block_end-end.result (omega (arith, c.block_end-end.ensures.after)))
+          (c.in_ok-push_delays.ensures.delays (take first pairs) c.loop-first.invariant.delays);
+      within = c.block_end-end.ensures.within;
+    }

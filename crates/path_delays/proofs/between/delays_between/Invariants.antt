@@ -1,9 +1,15 @@
--- The delays of the pairs passed so far.
-use Rattle.std.proofs.Common.{take}
+-- The delays of the pairs of the blocks passed so far.
+use Rattle.std.proofs.Common.{◌≤◌, ◌-◌, length, take}
 use Rattle.path_delays.specs.WalkParts.{IsRoomFor}
 use Rattle.path_delays.specs.JoinedPairs.{AreDelaysBetween}
 use Rattle.path_delays.proofs.between.delays_between.Given as goal
 
-abbrev pub invariant-loop-pair : goal.invariant-loop-pair
-invariant-loop-pair l = IsRoomFor l.circuit l.tech l.walk
-    × AreDelaysBetween l.circuit l.tech (take l.pair-index l.pairs) l.delays.items
+abbrev pub invariant-loop-first : goal.invariant-loop-first
+invariant-loop-first l = record {
+  room : IsRoomFor l.circuit l.tech l.walk;
+  delays : AreDelaysBetween l.circuit l.tech (take l.first l.pairs) l.delays.items;
+  within : l.first ≤ length l.pairs;
+}
+
+abbrev pub decreases-loop-first : goal.decreases-loop-first
+decreases-loop-first l = length l.pairs - l.first

@@ -6,11 +6,11 @@ use Rattle.path_delays.proofs.pair.joined_pair.Goals as goal
 pub returns-in_err-sums : goal.returns-in_err-sums
 returns-in_err-sums c = λ circuit tech exact reach.
     rw c.from_residual.ensures
-    (no_path circuit tech c.args.from c.args.to c.args.walk.now c.args.captured.now exact reach
+    (no_path circuit tech c.args.from c.args.to c.args.lane c.args.walk.now c.args.captured.now exact reach
     c.in_err-sums.ensures)
 
 pub returns : goal.returns
 returns c = λ circuit tech exact reach.
-    delays_between circuit tech c.args.from c.args.to c.args.walk.now c.args.captured.now exact
+    delays_between circuit tech c.args.from c.args.to c.args.lane c.args.walk.now c.args.captured.now exact
     reach c.in_ok-sums.sums _ c.in_ok-sums.ensures refl refl (omega (arith, ints, c.from.ensures))
     (omega (arith, ints, c.from-2.ensures))

@@ -3,8 +3,8 @@ use Rattle.path_delays.proofs.PairWalk.{none_before, all_listed}
 use Rattle.path_delays.proofs.PairCounts.{not_more}
 use Rattle.path_delays.proofs.pairs.pair_delays.Goals as goal
 
-pub loop-from-init : goal.loop-from-init
-loop-from-init c = record {
+pub loop-first-init : goal.loop-first-init
+loop-first-init c = record {
   room = c.in_ok-walk.ensures;
   capturing = c.in_ok-capturing.ensures;
   listed = rw c.new-pairs.ensures.items (none_before c.args.circuit.now c.args.tech.now);
@@ -14,13 +14,13 @@ loop-from-init c = record {
 pub returns-clause-ok : goal.returns-clause-ok
 returns-clause-ok c =
     rw c.from_vec.ensures
-    (all_listed c.args.circuit.now c.args.tech.now c.loop-from.from c.loop-from.pairs.items
-    (rw (← c.len-from-end.ensures) c.loop-from-test.false)
-    (omega (arith, c.loop-from.pairs.ok.0)) c.loop-from.invariant.listed)
+    (all_listed c.args.circuit.now c.args.tech.now c.loop-first.first c.loop-first.pairs.items
+    (omega (arith, c.loop-first-test.false, c.len.ensures))
+    (omega (arith, c.loop-first.pairs.ok.0)) c.loop-first.invariant.listed)
 
 pub returns-clause-few : goal.returns-clause-few
 returns-clause-few c = λ more.
-    let all = all_listed c.args.circuit.now c.args.tech.now c.loop-from.from c.loop-from.pairs.items
-    (rw (← c.len-from-end.ensures) c.loop-from-test.false)
-    (omega (arith, c.loop-from.pairs.ok.0)) c.loop-from.invariant.listed in
+    let all = all_listed c.args.circuit.now c.args.tech.now c.loop-first.first
+    c.loop-first.pairs.items (omega (arith, c.loop-first-test.false, c.len.ensures))
+    (omega (arith, c.loop-first.pairs.ok.0)) c.loop-first.invariant.listed in
     not_more all.lists more all.few

@@ -11,6 +11,7 @@ insert_all-requires c =
       captured = c.args.self.now.captured;
       reached = c.reached_among.new.reached;
       registers = c.clear.new.self;
+      waiting = c.args.self.now.waiting;
     } in
     let room = HasCaptureRoom-same c.args.self.now begun
     (record {
@@ -18,6 +19,7 @@ insert_all-requires c =
       captured = refl;
       reached = c.reached_among.ensures.covers;
       registers = c.clear.ensures.covers;
+      waiting = refl;
     }) c.requires.room in
     rw c.group.ensures (gathering_room c.args.walk.now begun c.loop-signal.self c.loop-signal.next
     c.in-Some.signal room c.loop-signal.invariant c.in-Some.ensures.some.held)
@@ -29,12 +31,14 @@ loop-signal-preserved c =
       captured = c.args.self.now.captured;
       reached = c.reached_among.new.reached;
       registers = c.clear.new.self;
+      waiting = c.args.self.now.waiting;
     } in
     let later : Capturing = record {
       capturers = c.loop-signal.self.capturers;
       captured = c.loop-signal.self.captured;
       reached = c.take_lowest.new.self;
       registers = c.insert_all.new.self;
+      waiting = c.loop-signal.self.waiting;
     } in
     gathering_next c.args.walk.now begun c.loop-signal.self later c.loop-signal.next
     c.in-Some.signal
@@ -43,4 +47,5 @@ loop-signal-preserved c =
       captured = refl;
       reached = c.in-Some.ensures.covers;
       registers = c.insert_all.ensures.covers;
+      waiting = refl;
     }) c.in-Some.ensures.some (rw c.group.ensures at c.insert_all.ensures) c.loop-signal.invariant

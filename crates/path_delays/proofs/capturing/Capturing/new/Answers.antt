@@ -7,4 +7,4 @@ pub returns : goal.returns
 returns c =
     capturing_made c.args.circuit.now _ c.in_ok-capturers.ensures c.in_ok-captured.ensures
     c.in_ok-reached.ensures (omega (arith, c.in_ok-registers.ensures.room, c.len.ensures))
-    (omega (arith, c.in_ok-registers.ensures.small, c.len.ensures))
+    (omega (arith, c.in_ok-registers.ensures.small, c.len.ensures)) c.in_ok-waiting.ensures

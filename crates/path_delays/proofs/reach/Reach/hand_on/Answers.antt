@@ -1,10 +1,10 @@
 -- One reader more.
-use Rattle.std.proofs.Common.{◌≡◌, ◌∙◌, Some, take, get_or, arith, refl, sym, subst}
+use Rattle.std.proofs.Common.{take, get_or, refl, subst}
 use Rattle.std.proofs.lemmas.List.{take_all, take_more}
 use Rattle.gate_order.specs.GroupParts.{group_of}
-use Rattle.path_delays.specs.declared.sums.Sums.{Sums}
+use Rattle.path_delays.specs.declared.lanes.Lanes.{Lanes}
 use Rattle.path_delays.specs.Handing.{AreHanded}
-use Rattle.path_delays.proofs.Hands.{HasReachRoom-same, AreHanded-push}
+use Rattle.path_delays.proofs.Hands.{HasReachRoom-same, AreHanded-push, lanes_read}
 use Rattle.path_delays.proofs.reach.Reach.hand_on.Goals as goal
 
 pub loop-gate-init : goal.loop-gate-init
@@ -17,20 +17,19 @@ loop-gate-preserved c =
       HasReachRoom-same network c.loop-gate.self c.hand_to.new.self c.hand_to.ensures.room
           c.loop-gate.invariant.0,
       rw (take_more readers c.loop-gate.gate-index 0 c.loop-gate-test.true)
-          (AreHanded-push network c.unwrap-given.result (take c.loop-gate.gate-index readers)
+          (AreHanded-push network c.index.result.now (take c.loop-gate.gate-index readers)
           (get_or readers c.loop-gate.gate-index 0) c.args.self.now c.loop-gate.self
           c.hand_to.new.self c.loop-gate.invariant.1 c.hand_to.ensures),
     )
 
 pub returns-clause-on : goal.returns-clause-on
 returns-clause-on c given here =
-    let known : Some c.unwrap-given.result ≡ Some given =
-    sym c.unwrap-given.ensures ∙ (c.sums_at.ensures ∙ here) in
-    let same : c.unwrap-given.result ≡ given = cc known in
+    let same =
+    lanes_read c.args.self.now c.args.signal given c.index.result.now here c.index.ensures in
     let readers = group_of c.args.network.now.readers c.args.signal in
-    subst (λ (sums : Sums).
-    AreHanded c.args.network.now sums readers c.args.self.now c.loop-gate.self) same
+    subst (λ (lanes : Lanes).
+    AreHanded c.args.network.now lanes readers c.args.self.now c.loop-gate.self) same
     (rw (
-      take_all c.loop-gate.gate-index c.group-gate-items.result.now (omega arith),
+      take_all c.loop-gate.gate-index c.group-gate-items.result.now c.loop-gate-test.false,
       c.group-gate-items.ensures,
     ) at c.loop-gate.invariant.1)

@@ -20,7 +20,7 @@ returns c =
       network = c.in_ok-network.ensures.network;
       room = HasReachRoom-made c.args.circuit.now c.args.tech.now network
           c.in_ok-network.ensures.network c.in_ok-reach.reach (length c.gates.result.now) few
-          (c.in_ok-reach.ensures.sums ∙ c.len-signals.ensures)
+          (c.in_ok-reach.ensures.lanes ∙ c.len-signals.ensures)
           (omega (arith, c.in_ok-reach.ensures.reached)) c.in_ok-reach.ensures.waiting
           (c.in_ok-reach.ensures.small (omega (
             arith,

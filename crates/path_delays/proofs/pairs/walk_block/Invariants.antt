@@ -1,0 +1,10 @@
+-- The registers passed so far stand in their lanes.
+use Rattle.std.proofs.Common.{◌≡◌, ◌<◌, ◌≤◌, ◌-◌, ℕ, length, get_or}
+use Rattle.path_delays.proofs.pairs.walk_block.Given as goal
+
+abbrev pub invariant-loop-from : goal.invariant-loop-from
+invariant-loop-from l = record {
+  lanes : length l.registers ≡ 8;
+  each : (from : ℕ) → l.first ≤ from → from < l.from
+      → get_or l.registers (from - l.first) 0 ≡ from;
+}

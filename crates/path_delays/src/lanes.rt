@@ -1,0 +1,67 @@
+ghost use Rattle.std.specs.Prelude.{◌≡◌, ◌<◌, ◌≤◌, ◌+◌, ◌≢◌, ℕ};
+
+use crate::sums::Sums;
+
+/// From how many registers a walk goes at once.
+pub(crate) const LANES: usize = 8;
+
+/// The sums to a signal from several registers, in a lane each.
+#[derive(Clone, Copy, Debug)]
+pub(crate) struct Lanes {
+    pub(crate) sums: [Sums; 8],
+}
+
+impl Lanes {
+    ghost use Rattle.path_delays.specs.SumParts.{AreWithin, delay_limit, merged_sums, no_sums, sums_through};
+    ghost use Rattle.path_delays.specs.LaneParts.{AllBounded, lane_of};
+
+    /// No sums in any lane.
+    pub(crate) fn none() -> Lanes
+        ensures { (lane : ℕ) → lane_of result lane ≡ no_sums }
+    {
+        Lanes {
+            sums: [Sums::none(); 8],
+        }
+    }
+
+    /// Puts sums into a lane.
+    pub(crate) fn put(&mut self, lane: usize, sums: Sums)
+        requires { lane < 8 }
+        ensures at { lane_of self.new lane ≡ sums }
+        ensures others { (other : ℕ) → other ≢ lane → lane_of self.new other ≡ lane_of self.old other }
+    {
+        self.sums[lane] = sums;
+    }
+
+    /// Becomes the sums after one more gate.
+    pub(crate) fn pass(&mut self, delay: Sums)
+        requires sums { AllBounded delay_limit self.old }
+        requires delay { AreWithin delay_limit delay }
+        ensures { (lane : ℕ) → lane < 8
+            → lane_of self.new lane ≡ sums_through (lane_of self.old lane) delay }
+    {
+        for lane in 0..LANES {
+            self.sums[lane] = self.sums[lane].through(delay);
+        }
+    }
+
+    /// In each lane the least and the greatest of both.
+    pub(crate) fn merge(&mut self, other: &Lanes)
+        ensures { (lane : ℕ) → lane < 8 → lane_of self.new lane
+            ≡ merged_sums (lane_of self.old lane) (lane_of other.now lane) }
+    {
+        for lane in 0..LANES {
+            self.sums[lane] = self.sums[lane].merged(other.sums[lane]);
+        }
+    }
+}
+
+/// Where a block of up to eight ends that begins at a place below the number of all.
+pub(crate) fn block_end(first: usize, count: usize) -> usize
+    requires { first < count }
+    ensures after { first < result }
+    ensures within { result ≤ count }
+    ensures few { result ≤ first + 8 }
+{
+    first + (count - first).min(LANES)
+}
