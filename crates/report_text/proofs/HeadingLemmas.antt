@@ -1,17 +1,26 @@
 -- The first lines of a report, and what shows its period.
-use Rattle.std.proofs.Common.{◌≡◌, ℕ, Option, Some, None, List, [], ◌∷◌, subst}
-use Rattle.cts_base.specs.declared.fraction.Fraction.{Fraction}
+use Rattle.std.proofs.Common.{◌≡◌, ℕ, Option, Some, None, List, [], ◌∷◌, codes, length, map, refl, sym, ap, ◌∙◌, subst, arith}
+use Rattle.std.specs.List.{range_with_len}
 use Rattle.cts_model.specs.declared.circuit.Circuit.{Circuit}
+use Rattle.cts_model.specs.declared.constraint.Constraint.{Constraint}
+use Rattle.cts_model.specs.declared.period.PeriodShow.TheVariants.{Cycle}
 use Rattle.cts_model.specs.declared.report.Version.{Version}
-use Rattle.cts_model.specs.text.PrintedLines.{Words}
+use Rattle.cts_model.specs.declared.report.Version.TheVariants.{First, Second}
+use Rattle.cts_model.specs.text.PrintedLines.{Words, count_line, line_for}
+use Rattle.cts_model.specs.report.ReportBounds.{HasSmallWeight, IsBetweenRegisters}
+use Rattle.cts_model.specs.report.ReportLines.{pathed_lines}
 use Rattle.report_text.specs.declared.fault.ReportFault.{ReportFault}
 use Rattle.report_text.specs.declared.form.Form.{Form}
 use Rattle.report_text.specs.declared.form.Form.TheVariants as form
 use Rattle.report_text.specs.declared.form.Scale.{Scale}
-use Rattle.report_text.specs.declared.sections.Heading.{Heading}
-use Rattle.report_text.specs.Headings.{HasHeading, IsSmallCount, shown_line}
-use Rattle.report_text.specs.TimingValues.{IsFlawless, DenotesPeriod, DenotesShow}
+use Rattle.report_text.specs.declared.sections.Pathed.{Pathed}
+use Rattle.report_text.specs.declared.timing_values.PeriodLine.{PeriodLine}
+use Rattle.report_text.specs.declared.timing_values.ShowLine.{ShowLine}
+use Rattle.report_text.specs.Headings.{HasHeading, HasShown, IsSmallCount, shown_line}
+use Rattle.report_text.specs.Rows.{HasPathed, HasRows}
+use Rattle.report_text.specs.TimingValues.{IsFlawless, DenotesConstraint, DenotesPeriod, DenotesShow}
 use Rattle.report_text.specs.Walks.{Left, Reads, ReadsLine, Stops, DenotesLine, DenotesVersion}
+use Rattle.report_text.proofs.RowLemmas.{one_form, plain_lines, rows_all, rows_lines}
 use Rattle.report_text.proofs.WalkLemmas.{read_more, stop_after}
 
 -- a line that is read by another scale
@@ -40,8 +49,9 @@ module _ {circuit : Circuit} {scale : Scale} {old first : Left} {version : Versi
   version_then other forms fault stops =
       stop_after (denoted.line.read other denoted.line.flawless) forms fault stops
 
-module _ {circuit : Circuit} {scale : Scale} {first second : Left} {period : Fraction}
-    (denoted : DenotesLine circuit scale form.Period DenotesPeriod first second period) where
+module _ {circuit : Circuit} {scale : Scale} {first second : Left} {period : PeriodLine}
+    (denoted : DenotesLine circuit scale form.Period
+    (λ words line. DenotesPeriod words line.period) first second period) where
   -- a fault after the period
   pub period_then : (other : Scale) (forms : List Form) (fault : ReportFault)
       → Stops circuit other forms second fault
@@ -51,21 +61,75 @@ module _ {circuit : Circuit} {scale : Scale} {first second : Left} {period : Fra
 
 -- the three lines
 pub heading_read : (circuit : Circuit) (scale : Scale) (old first second new : Left)
-    (heading : Heading)
-    → DenotesLine circuit scale form.Version DenotesVersion old first heading.version
-    → DenotesLine circuit scale form.Period DenotesPeriod first second heading.period
-    → DenotesLine circuit scale form.Show DenotesShow second new heading.count
-    → HasHeading circuit old new heading
-heading_read circuit scale old first second new heading version period show = record {
-  lines = λ other. read_more
-      (read_as circuit scale other form.Version version.words _ old first version.line
-      version.line.flawless version.denoted)
-      (form.Period ∷ form.Show ∷ []) _ new
-      (read_more (read_as circuit scale other form.Period period.words _ first second
-      period.line period.line.flawless period.denoted.line)
-      (form.Show ∷ []) _ new
-      (read_as circuit scale other form.Show show.words _ second new show.line show.line.flawless
-      (show_line show.words heading.count show.denoted)));
-  small = period.denoted.small;
-  count = show_small show.words heading.count show.denoted;
+    (version : Version) (period : PeriodLine) (show : ShowLine)
+    → DenotesLine circuit scale form.Version DenotesVersion old first version
+    → DenotesLine circuit scale form.Period (λ words line. DenotesPeriod words line.period)
+    first second period
+    → DenotesLine circuit scale form.Show (λ words line. DenotesShow words line.count)
+    second new show
+    → HasHeading circuit old new
+    (record { version = version; period = period.period; count = show.count })
+heading_read circuit scale old first second new version period show is_version is_period is_show =
+    record {
+      lines = λ other. read_more
+          (read_as circuit scale other form.Version is_version.words _ old first is_version.line
+          is_version.line.flawless is_version.denoted)
+          (form.Period ∷ form.Show ∷ []) _ new
+          (read_more (read_as circuit scale other form.Period is_period.words _ first second
+          is_period.line is_period.line.flawless is_period.denoted.line)
+          (form.Show ∷ []) _ new
+          (read_as circuit scale other form.Show is_show.words _ second new is_show.line
+          is_show.line.flawless (show_line is_show.words show.count is_show.denoted)));
+      small = is_period.denoted.small;
+      count = show_small is_show.words show.count is_show.denoted;
+    }
+
+-- the constraints of a cycle show the period
+pub cycle_shown : {circuit : Circuit} {scale : Scale} {count : ℕ} {old new : Left}
+    (cycle : List Constraint) → IsSmallCount (Some count)
+    → HasRows circuit scale (λ number. form.Constraint) (λ number. DenotesConstraint circuit) 0
+    count old new cycle
+    → HasShown circuit scale First (Some count) old new
+    (record { shown = Cycle cycle; paths = [] })
+cycle_shown {circuit} {scale} {count} {old} {new} cycle small has =
+    let lines = rows_lines (λ number. DenotesConstraint circuit) (λ number. line_for circuit)
+    (λ number words row denoted. denoted.line) 0 has.lines cycle has.each
+    ∙ plain_lines (line_for circuit) 0 cycle in
+    record {
+      lines = subst (λ forms. Reads circuit scale forms (map (line_for circuit) cycle) old new)
+          (one_form form.Constraint 0 count)
+          (subst (λ ls. Reads circuit scale
+          (map (λ number. form.Constraint) (range_with_len 0 count)) ls old new) lines has.read);
+      first = ap (λ n. count_line (codes "cycle") n ∷ map (line_for circuit) cycle) has.many;
+      counted = has.many;
+      paths = refl;
+      among = rows_all (λ number. DenotesConstraint circuit)
+          (IsBetweenRegisters (length circuit.registers))
+          (λ number words row denoted. denoted.registers) 0 has.lines cycle has.each;
+      weights = (
+        omega (arith, has.many, small.0),
+        omega (arith, has.many, small.1),
+        rows_all (λ number. DenotesConstraint circuit) HasSmallWeight
+            (λ number words row denoted. denoted.weight) 0 has.lines cycle has.each,
+      );
+      signals = λ place default within. absurd (omega (arith, within));
+      few = λ place default within. absurd (omega (arith, within));
+    }
+
+-- and so do those with their paths
+pub pathed_shown : {circuit : Circuit} {scale : Scale} {count : ℕ} {old new : Left}
+    (pathed : Pathed) → IsSmallCount (Some count)
+    → HasPathed circuit scale count old new pathed
+    → HasShown circuit scale Second (Some count) old new
+    (record { shown = Cycle pathed.cycle; paths = pathed.paths })
+pathed_shown {circuit} {scale} {count} {old} {new} pathed small has = record {
+  lines = has.lines;
+  first = ap (λ n. count_line (codes "cycle") n
+      ∷ pathed_lines circuit pathed.cycle pathed.paths) has.as_many;
+  counted = has.as_many;
+  paths = has.paths ∙ sym has.as_many;
+  among = has.registers;
+  weights = (omega (arith, has.as_many, small.0), omega (arith, has.as_many, small.1), has.weights);
+  signals = has.signals;
+  few = has.few;
 }

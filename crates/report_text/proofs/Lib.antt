@@ -27,7 +27,7 @@ mod LineReading
 mod FlawlessReport
 mod WholeTexts
 mod DenotedForms
-mod SectionLemmas
+mod RowLemmas
 mod HeadingLemmas
 mod BodyLemmas
 mod PartLemmas

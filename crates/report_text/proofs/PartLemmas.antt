@@ -21,7 +21,7 @@ use Rattle.report_text.specs.Headings.{HasHeading, HasShown, IsSmallCount, count
 use Rattle.report_text.specs.Parts.{scale_in, whole}
 use Rattle.report_text.specs.ReportFaults.{HasFault, HasFirstFault, cycle_denoted, den_denoted, is_line_feed, scale_denoted, version_denoted, word_at, words_of}
 use Rattle.report_text.specs.Walks.{Left, Stops}
-use Rattle.report_text.proofs.SectionLemmas.{length_pathed}
+use Rattle.report_text.proofs.RowLemmas.{length_pathed}
 use Rattle.report_text.proofs.DenotedForms.{cycle_of, den_of, fraction_den, small_count, value_of}
 
 -- the image of an item

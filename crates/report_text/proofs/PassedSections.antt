@@ -1,210 +1,80 @@
 -- The sections of a text without a fault, up to the last line.
-use Rattle.std.proofs.Common.{◌≡◌, ◌<◌, ◌≤◌, ◌+◌, ◌-◌, ◌*◌, ◌^◌, ℕ, List, [], ◌∷◌, ◌++◌, map, replicate, length, refl, ap, ◌∙◌, subst, append_assoc, arith}
+use Rattle.std.proofs.Common.{◌≡◌, ◌<◌, ◌≤◌, ◌+◌, ◌-◌, ◌*◌, ◌^◌, ℕ, List, [], ◌∷◌, ◌++◌, map, length, refl, ap, sym, ◌∙◌, subst, append_assoc, arith}
 use Rattle.std.specs.List.{range_with_len}
 use Rattle.cts_model.specs.declared.circuit.Circuit.{Circuit}
-use Rattle.cts_model.specs.declared.constraint.Constraint.{Constraint}
 use Rattle.cts_model.specs.declared.report.Version.{Version}
 use Rattle.cts_model.specs.declared.report.Version.TheVariants as version
-use Rattle.cts_model.specs.declared.schedule.Lead.{Lead}
-use Rattle.cts_model.specs.text.PrintedLines.{count_line}
+use Rattle.cts_model.specs.text.PrintedLines.{Words, count_line}
 use Rattle.report_text.specs.declared.field.Keyword.{Keyword}
 use Rattle.report_text.specs.declared.field.Keyword.TheVariants as word
 use Rattle.report_text.specs.declared.form.Form.{Form}
 use Rattle.report_text.specs.declared.form.Form.TheVariants as form
 use Rattle.report_text.specs.declared.form.Scale.{Scale}
-use Rattle.report_text.specs.declared.sections.Merged.{Merged}
 use Rattle.report_text.specs.declared.sections.Pathed.{Pathed}
-use Rattle.report_text.specs.declared.sections.Placed.{Placed}
-use Rattle.report_text.specs.declared.sections.Timings.{Timings}
-use Rattle.report_text.specs.Bodies.{Counted, HasBody, HasVersionLeads, merge_forms, node_forms, register_forms, section_forms}
-use Rattle.report_text.specs.Forms.{cycle_forms, lead_forms}
+use Rattle.report_text.specs.declared.timing_values.PathLine.{PathLine}
+use Rattle.report_text.specs.declared.tree_values.TotalLine.{TotalLine}
+use Rattle.report_text.specs.Bodies.{HasBody, HasVersionLeads}
+use Rattle.report_text.specs.Forms.{cycle_forms, forms_after, lead_forms}
 use Rattle.report_text.specs.Keywords.{keyword_text}
-use Rattle.report_text.specs.Sections.{HasCycle, HasLeads, HasMerged, HasPathed, HasPlaced, HasTimings}
-use Rattle.report_text.specs.TimingValues.{DenotesConstraint, DenotesLead, DenotesPath}
+use Rattle.report_text.specs.Rows.{Counted, HasPathed, HasRows}
+use Rattle.report_text.specs.TimingValues.{IsFlawless, DenotesConstraint, DenotesLead, DenotesPath}
 use Rattle.report_text.specs.Values.{IsSmallScale, SaysMerge, SaysNode, SaysSource, SaysTotal}
 use Rattle.report_text.specs.Walks.{Left, ReadsLine, DenotesTimed}
+use Rattle.report_text.proofs.BodyLemmas.{leads_given, merge_forms, node_forms, register_forms}
 use Rattle.report_text.proofs.PassedLines.{IsSound, Passed, steps_passed, denoted_passed}
-use Rattle.report_text.proofs.SectionLemmas.{cycle_next, leads_next, merged_next, pathed_next, placed_next, timings_next}
+use Rattle.report_text.proofs.RowLemmas.{no_rows, one_form, pathed_next, rows_next}
 use Rattle.report_text.proofs.TimingFound.{constraint_found, lead_found, path_found, timed_found}
 use Rattle.report_text.proofs.TimingDenoted.{count_denoted}
 use Rattle.report_text.proofs.TreeFound.{merge_found, node_found, source_found, total_found}
 use Rattle.report_text.proofs.WalkLemmas.{read_none}
 
+-- a line without a flaw is that of a row
+abbrev pub IsFound : {X : Type 0} (circuit : Circuit) (scale : Scale) (due : ℕ → Form)
+    (Says : ℕ → Words → X → Type 0) (first count : ℕ) → Type 0
+IsFound {X} circuit scale due Says first count = (number : ℕ) (words : Words)
+    → number < first + count → 0 < length words → IsFlawless circuit scale (due number) words
+    → (row : X) × Says number words row
+
 module _ (circuit : Circuit) (scale : Scale) where
   -- ---- lines of one form
 
-  timings_passed : (count : ℕ) (more : List Form) (old : Left) → IsSmallScale scale
-      → IsSound circuit scale (map form.Register (range_with_len 0 count) ++ more) old
-      → Passed circuit scale more (HasTimings circuit scale count old)
-  timings_passed count more old small sound = steps_passed circuit scale more
-      (λ place. HasTimings circuit scale place old) count (λ place. form.Register place ∷ [])
-      (λ place rest. map form.Register (range_with_len place rest)) (λ place rest. refl)
-      (λ place. refl) next count 0 (omega arith) old (record { at = []; slacks = [] }) (record {
-        lines = read_none circuit scale old;
-        arrivals = refl;
-        slacks = refl;
-        small = λ place default within. absurd (omega (arith, within));
-        small_slacks = λ place default within. absurd (omega (arith, within));
-      }) sound
+  rows_passed : {X : Type 0} (due : ℕ → Form) (Says : ℕ → Words → X → Type 0) (first count : ℕ)
+      → (more : List Form) (old : Left) → IsFound circuit scale due Says first count
+      → IsSound circuit scale (map due (range_with_len first count) ++ more) old
+      → Passed circuit scale more (HasRows circuit scale due Says first count old)
+  rows_passed {X} due Says first count more old found sound = steps_passed circuit scale more
+      (λ place. HasRows circuit scale due Says first place old) count
+      (λ place. due (first + place) ∷ [])
+      (λ place rest. map due (range_with_len (first + place) rest))
+      (λ place rest. ap (λ start. due (first + place) ∷ map due (range_with_len start rest))
+      (omega arith)) (λ place. refl) next count 0 (omega arith) old [] (no_rows due Says first)
+      (subst (λ start. IsSound circuit scale (map due (range_with_len start count) ++ more) old)
+      (omega arith) sound)
     where
-      next : (place : ℕ) (suffix : List Form) (between : Left) (value : Timings) → place < count
-          → HasTimings circuit scale place old between value
-          → IsSound circuit scale (form.Register place ∷ suffix) between
-          → Passed circuit scale suffix (HasTimings circuit scale (place + 1) old)
+      next : (place : ℕ) (suffix : List Form) (between : Left) (value : List X) → place < count
+          → HasRows circuit scale due Says first place old between value
+          → IsSound circuit scale (due (first + place) ∷ suffix) between
+          → Passed circuit scale suffix (HasRows circuit scale due Says first (place + 1) old)
       next place suffix between value within has sound =
-          let line = denoted_passed circuit scale (form.Register place) suffix
-          (DenotesTimed circuit scale place) between
-          (λ words some. timed_found circuit scale place words small) sound in
-          record {
-            new = line.new;
-            value = record {
-              at = value.at ++ line.value.arrival ∷ [];
-              slacks = value.slacks ++ line.value.slack ∷ [];
-            };
-            has = timings_next value _ line.value has line.has refl refl;
-            rest = line.rest;
-          }
-
-  merged_passed : (count : ℕ) (more : List Form) (old : Left) → IsSmallScale scale
-      → length circuit.registers + count < 2 ^ 32
-      → IsSound circuit scale
-      (map form.Merge (range_with_len (length circuit.registers) count) ++ more) old
-      → Passed circuit scale more (HasMerged circuit scale count old)
-  merged_passed count more old small few sound = steps_passed circuit scale more
-      (λ place. HasMerged circuit scale place old) count
-      (λ place. form.Merge (registers + place) ∷ [])
-      (λ place rest. map form.Merge (range_with_len (registers + place) rest))
-      (λ place rest. ap (λ start. form.Merge (registers + place)
-      ∷ map form.Merge (range_with_len start rest)) (omega arith))
-      (λ place. refl) next count 0 (omega arith) old
-      (record { merges = []; reaches = []; shows = [] }) (record {
-        lines = read_none circuit scale old;
-        merges = refl;
-        reaches = refl;
-        shows = refl;
-        small = λ place default within. absurd (omega (arith, within));
-        small_reaches = λ place default within. absurd (omega (arith, within));
-        merge_shows = λ place default within. absurd (omega (arith, within));
-        among = λ place default within. absurd (omega (arith, within));
-      })
-      (subst (λ start. IsSound circuit scale (map form.Merge (range_with_len start count) ++ more)
-      old) (omega arith) sound)
-    where
-      registers : ℕ
-      registers = length circuit.registers
-
-      next : (place : ℕ) (suffix : List Form) (between : Left) (value : Merged) → place < count
-          → HasMerged circuit scale place old between value
-          → IsSound circuit scale (form.Merge (length circuit.registers + place) ∷ suffix) between
-          → Passed circuit scale suffix (HasMerged circuit scale (place + 1) old)
-      next place suffix between value within has sound =
-          let node = length circuit.registers + place in
-          let line = denoted_passed circuit scale (form.Merge node) suffix
-          (SaysMerge circuit scale.grid node) between
-          (λ words some. merge_found circuit scale node words small (omega (arith, few, within)))
-          sound in
-          record {
-            new = line.new;
-            value = record {
-              merges = value.merges ++ line.value.merge ∷ [];
-              reaches = value.reaches ++ line.value.reach ∷ [];
-              shows = value.shows ++ line.value.show ∷ [];
-            };
-            has = merged_next value _ line.value has line.has refl refl refl;
-            rest = line.rest;
-          }
-
-  placed_passed : (count : ℕ) (more : List Form) (old : Left) → IsSmallScale scale
-      → count < 2 ^ 32
-      → IsSound circuit scale (map form.Node (range_with_len 0 count) ++ more) old
-      → Passed circuit scale more (HasPlaced circuit scale count old)
-  placed_passed count more old small few sound = steps_passed circuit scale more
-      (λ place. HasPlaced circuit scale place old) count (λ place. form.Node place ∷ [])
-      (λ place rest. map form.Node (range_with_len place rest)) (λ place rest. refl)
-      (λ place. refl) next count 0 (omega arith) old
-      (record { places = []; lengths = []; wires = [] }) (record {
-        lines = read_none circuit scale old;
-        places = refl;
-        lengths = refl;
-        wires = refl;
-        small_places = λ place default within. absurd (omega (arith, within));
-        small_lengths = λ place default within. absurd (omega (arith, within));
-        small_wires = λ place default within. absurd (omega (arith, within));
-      }) sound
-    where
-      next : (place : ℕ) (suffix : List Form) (between : Left) (value : Placed) → place < count
-          → HasPlaced circuit scale place old between value
-          → IsSound circuit scale (form.Node place ∷ suffix) between
-          → Passed circuit scale suffix (HasPlaced circuit scale (place + 1) old)
-      next place suffix between value within has sound =
-          let line = denoted_passed circuit scale (form.Node place) suffix
-          (SaysNode scale.grid place) between
-          (λ words some. node_found circuit scale place words small (omega (arith, few, within))
-          some) sound in
-          record {
-            new = line.new;
-            value = record {
-              places = value.places ++ line.value.place ∷ [];
-              lengths = value.lengths ++ line.value.length ∷ [];
-              wires = value.wires ++ line.value.wire ∷ [];
-            };
-            has = placed_next value _ line.value has line.has refl refl refl;
-            rest = line.rest;
-          }
-
-  leads_passed : (count : ℕ) (more : List Form) (old : Left)
-      → IsSound circuit scale (replicate count form.Lead ++ more) old
-      → Passed circuit scale more (HasLeads circuit scale count old)
-  leads_passed count more old sound = steps_passed circuit scale more
-      (λ place. HasLeads circuit scale place old) count (λ place. form.Lead ∷ [])
-      (λ place rest. replicate rest form.Lead) (λ place rest. refl) (λ place. refl) next count 0
-      (omega arith) old [] (record {
-        lines = read_none circuit scale old;
-        as_many = refl;
-        among = λ place default within. absurd (omega (arith, within));
-        small = λ place default within. absurd (omega (arith, within));
-      }) sound
-    where
-      next : (place : ℕ) (suffix : List Form) (between : Left) (value : List Lead)
-          → place < count → HasLeads circuit scale place old between value
-          → IsSound circuit scale (form.Lead ∷ suffix) between
-          → Passed circuit scale suffix (HasLeads circuit scale (place + 1) old)
-      next place suffix between value within has sound =
-          let line = denoted_passed circuit scale form.Lead suffix (DenotesLead circuit) between
-          (λ words some. lead_found circuit scale words) sound in
+          let line = denoted_passed circuit scale (due (first + place)) suffix
+          (Says (first + place)) between
+          (λ words. found (first + place) words (omega (arith, within))) sound in
           record {
             new = line.new;
             value = value ++ line.value ∷ [];
-            has = leads_next value _ line.value has line.has refl;
+            has = rows_next due Says first has _ line.value line.new line.has refl;
             rest = line.rest;
           }
 
   pub cycle_passed : (count : ℕ) (more : List Form) (old : Left)
       → IsSound circuit scale (cycle_forms version.First count ++ more) old
-      → Passed circuit scale more (HasCycle circuit scale count old)
-  cycle_passed count more old sound = steps_passed circuit scale more
-      (λ place. HasCycle circuit scale place old) count (λ place. form.Constraint ∷ [])
-      (λ place rest. replicate rest form.Constraint) (λ place rest. refl) (λ place. refl) next
-      count 0 (omega arith) old [] (record {
-        lines = read_none circuit scale old;
-        as_many = refl;
-        registers = λ place default within. absurd (omega (arith, within));
-        weights = λ place default within. absurd (omega (arith, within));
-      }) sound
-    where
-      next : (place : ℕ) (suffix : List Form) (between : Left) (value : List Constraint)
-          → place < count → HasCycle circuit scale place old between value
-          → IsSound circuit scale (form.Constraint ∷ suffix) between
-          → Passed circuit scale suffix (HasCycle circuit scale (place + 1) old)
-      next place suffix between value within has sound =
-          let line = denoted_passed circuit scale form.Constraint suffix (DenotesConstraint circuit)
-          between (λ words some. constraint_found circuit scale words) sound in
-          record {
-            new = line.new;
-            value = value ++ line.value ∷ [];
-            has = cycle_next value _ line.value has line.has refl;
-            rest = line.rest;
-          }
+      → Passed circuit scale more (HasRows circuit scale (λ number. form.Constraint)
+      (λ number. DenotesConstraint circuit) 0 count old)
+  cycle_passed count more old sound = rows_passed (λ number. form.Constraint)
+      (λ number. DenotesConstraint circuit) 0 count more old
+      (λ number words within some. constraint_found circuit scale words)
+      (subst (λ forms. IsSound circuit scale (forms ++ more) old)
+      (sym (one_form form.Constraint 0 count)) sound)
 
   pub pathed_passed : (count : ℕ) (more : List Form) (old : Left)
       → IsSound circuit scale (cycle_forms version.Second count ++ more) old
@@ -231,13 +101,16 @@ module _ (circuit : Circuit) (scale : Scale) where
           let line = denoted_passed circuit scale form.Constraint (form.Path ∷ suffix)
           (DenotesConstraint circuit) between
           (λ words some. constraint_found circuit scale words) sound in
-          let way = denoted_passed circuit scale form.Path suffix (DenotesPath circuit) line.new
-          (λ words some. path_found circuit scale words) line.rest in
+          let way = denoted_passed circuit scale form.Path suffix
+          (λ words (path : PathLine). DenotesPath circuit words path.signals) line.new
+          (λ words some flawless.
+          let (path, denoted) = path_found circuit scale words flawless in
+          (record { signals = path }, denoted)) line.rest in
           record {
             new = way.new;
             value = record {
               cycle = value.cycle ++ line.value ∷ [];
-              paths = value.paths ++ way.value ∷ [];
+              paths = value.paths ++ way.value.signals ∷ [];
             };
             has = pathed_next line.new value _ line.value way.value has line.has way.has refl refl;
             rest = way.rest;
@@ -246,28 +119,29 @@ module _ (circuit : Circuit) (scale : Scale) where
   -- ---- the sections
 
   -- so many lines after how many they are
-  counted_passed : {X : Type 0} (keyword : Keyword) (count : ℕ) (forms more : List Form)
-      → (Has : Left → Left → X → Type 0) → count < 10 ^ 37
-      → ((between : Left) → IsSound circuit scale (forms ++ more) between
-      → Passed circuit scale more (Has between)) → (old : Left)
-      → IsSound circuit scale (form.Count keyword count ∷ forms ++ more) old
-      → Passed circuit scale more (Counted circuit scale keyword count Has old)
-  counted_passed keyword count forms more Has few has old sound =
-      let line = denoted_passed circuit scale (form.Count keyword count) (forms ++ more)
+  counted_passed : {X : Type 0} (keyword : Keyword) (due : ℕ → Form)
+      (Says : ℕ → Words → X → Type 0) (first count : ℕ) (more : List Form) → count < 10 ^ 37
+      → IsFound circuit scale due Says first count → (old : Left)
+      → IsSound circuit scale
+      ((form.Count keyword count ∷ map due (range_with_len first count)) ++ more) old
+      → Passed circuit scale more (Counted circuit scale keyword due Says first count old)
+  counted_passed keyword due Says first count more few found old sound =
+      let line = denoted_passed circuit scale (form.Count keyword count)
+      (map due (range_with_len first count) ++ more)
       (λ words (denoted : ℕ). words ≡ count_line (keyword_text keyword) count) old
       (λ words some flawless. (0, count_denoted circuit scale keyword count words few flawless))
       sound in
-      let section = has line.new line.rest in
+      let rows = rows_passed due Says first count more line.new found line.rest in
       record {
-        new = section.new;
-        value = section.value;
+        new = rows.new;
+        value = rows.value;
         has = record {
           between = line.new;
           counted = subst (λ words. ReadsLine circuit scale (form.Count keyword count) words old
               line.new) line.has.denoted line.has.line;
-          has = section.has;
+          has = rows.has;
         };
-        rest = section.rest;
+        rest = rows.rest;
       }
 
   version_leads_passed : (version : Version) (count : ℕ) (more : List Form) (old : Left)
@@ -276,25 +150,18 @@ module _ (circuit : Circuit) (scale : Scale) where
   version_leads_passed version.First count more old sound = record {
     new = old;
     value = [];
-    has = record {
-      lines = read_none circuit scale old;
-      as_many = refl;
-      among = λ place default within. absurd (omega (arith, within));
-      small = λ place default within. absurd (omega (arith, within));
-    };
+    has = record { lines = []; read = read_none circuit scale old; each = tt; many = refl };
     rest = sound;
   }
   version_leads_passed version.Second count more old sound =
-      let leads = leads_passed count more old sound in
+      let leads = rows_passed (λ number. form.Lead) (λ number. DenotesLead circuit) 0 count more
+      old (λ number words within some. lead_found circuit scale words)
+      (subst (λ forms. IsSound circuit scale (forms ++ more) old) (sym (one_form form.Lead 0 count))
+      sound) in
       record {
         new = leads.new;
         value = leads.value;
-        has = record {
-          lines = leads.has.lines;
-          as_many = leads.has.as_many;
-          among = leads.has.among;
-          small = leads.has.small;
-        };
+        has = leads_given leads.value leads.has;
         rest = leads.rest;
       }
 
@@ -308,40 +175,35 @@ module _ (circuit : Circuit) (scale : Scale) where
       ∙ append_assoc a b (c ++ (d ++ (e ++ more)))
 
   pub body_passed : (version : Version) (count : ℕ) (more : List Form) (old : Left)
-      → IsSmallScale scale → length circuit.registers ≤ 4097 → count ≤ 4097
-      → IsSound circuit scale (section_forms circuit version count ++ more) old
+      → IsSmallScale scale → count ≤ 4097
+      → IsSound circuit scale (forms_after version count ++ more) old
       → Passed circuit scale more (HasBody circuit scale version count old)
-  body_passed version count more old small few some sound =
-      let merges : List Form = merge_forms circuit (count - 1) in
-      let nodes : List Form = node_forms (2 * count - 1) in
-      let apart = subst (λ forms. IsSound circuit scale forms old)
-      (forms_apart (register_forms count) (lead_forms version count) merges (form.Source ∷ nodes)
-      (form.Total ∷ []) more) sound in
+  body_passed version count more old small few sound =
       let last : List Form = form.Total ∷ more in
-      let timings = counted_passed word.Registers count
-      (map form.Register (range_with_len 0 count))
-      (lead_forms version count ++ (merges ++ (form.Source ∷ nodes ++ last)))
-      (HasTimings circuit scale count) (omega (arith, some))
-      (λ between. timings_passed count
-      (lead_forms version count ++ (merges ++ (form.Source ∷ nodes ++ last))) between small)
+      let apart = subst (λ forms. IsSound circuit scale forms old)
+      (forms_apart (register_forms count) (lead_forms version count) (merge_forms count)
+      (form.Source ∷ node_forms count) (form.Total ∷ []) more) sound in
+      let timings = counted_passed word.Registers form.Register (DenotesTimed circuit scale) 0 count
+      (lead_forms version count ++ (merge_forms count ++ (form.Source ∷ node_forms count ++ last)))
+      (omega (arith, few)) (λ number words within some. timed_found circuit scale number words small)
       old apart in
-      let leads = version_leads_passed version count (merges ++ (form.Source ∷ nodes ++ last))
-      timings.new timings.rest in
-      let merged = counted_passed word.Merges (count - 1)
-      (map form.Merge (range_with_len (length circuit.registers) (count - 1)))
-      (form.Source ∷ nodes ++ last) (HasMerged circuit scale (count - 1)) (omega (arith, some))
-      (λ between. merged_passed (count - 1) (form.Source ∷ nodes ++ last) between small
-      (omega (arith, few, some))) leads.new leads.rest in
-      let source = denoted_passed circuit scale form.Source (nodes ++ last)
+      let leads = version_leads_passed version count
+      (merge_forms count ++ (form.Source ∷ node_forms count ++ last)) timings.new timings.rest in
+      let merged = counted_passed word.Merges form.Merge (SaysMerge circuit scale.grid) count
+      (count - 1) (form.Source ∷ node_forms count ++ last) (omega (arith, few))
+      (λ number words within some. merge_found circuit scale number words small
+      (omega (arith, few, within))) leads.new leads.rest in
+      let source = denoted_passed circuit scale form.Source (node_forms count ++ last)
       (SaysSource circuit scale.grid) merged.new
       (λ words there. source_found circuit scale words small) merged.rest in
-      let placed = counted_passed word.Nodes (2 * count - 1)
-      (map form.Node (range_with_len 0 (2 * count - 1))) last
-      (HasPlaced circuit scale (2 * count - 1)) (omega (arith, some))
-      (λ between. placed_passed (2 * count - 1) last between small (omega (arith, some)))
-      source.new source.rest in
-      let total = denoted_passed circuit scale form.Total more (SaysTotal scale.grid) placed.new
-      (λ words there. total_found circuit scale words small) placed.rest in
+      let placed = counted_passed word.Nodes form.Node (SaysNode scale.grid) 0 (2 * count - 1) last
+      (omega (arith, few)) (λ number words within some. node_found circuit scale number words small
+      (omega (arith, few, within)) some) source.new source.rest in
+      let total = denoted_passed circuit scale form.Total more
+      (λ words (line : TotalLine). SaysTotal scale.grid words line.length) placed.new
+      (λ words there flawless.
+      let (length, says) = total_found circuit scale words small flawless in
+      (record { length = length }, says)) placed.rest in
       record {
         new = total.new;
         value = record {

@@ -1,5 +1,5 @@
 -- A text without a fault spells a report.
-use Rattle.std.proofs.Common.{◌≡◌, ◌≤◌, ◌+◌, ◌==◌, ℕ, suc, Bool, true, false, cond, Option, Some, None, List, [], ◌∷◌, ◌++◌, length, map, codes, if◌then◌else◌, refl, sym, ap, ◌∙◌, subst, append-nil, arith}
+use Rattle.std.proofs.Common.{◌≡◌, ◌≤◌, ◌+◌, ◌==◌, ℕ, suc, Bool, true, false, cond, Option, Some, None, List, [], ◌∷◌, ◌++◌, length, if◌then◌else◌, refl, sym, ap, ◌∙◌, subst, append-nil, arith}
 use Rattle.std.proofs.lemmas.Bool.{ne_eqb}
 use Rattle.std.proofs.lemmas.Option.{none-some}
 use Rattle.cts_model.specs.declared.circuit.Circuit.{Circuit}
@@ -9,15 +9,15 @@ use Rattle.cts_model.specs.declared.report.Version.{Version}
 use Rattle.cts_model.specs.declared.report.Version.TheVariants.{First, Second}
 use Rattle.cts_model.specs.declared.tech.Tech.{Tech}
 use Rattle.cts_model.specs.netlist.Circuits.{has_host}
-use Rattle.cts_model.specs.text.PrintedLines.{count_line, line_for}
 use Rattle.cts_model.specs.report.ReportBounds.{Spells}
-use Rattle.cts_model.specs.report.ReportLines.{pathed_lines}
 use Rattle.report_text.specs.declared.fault.ReportFault.TheVariants.{Extra}
 use Rattle.report_text.specs.declared.form.Form.{Form}
 use Rattle.report_text.specs.declared.form.Form.TheVariants as form
 use Rattle.report_text.specs.declared.form.Scale.{Scale}
 use Rattle.report_text.specs.declared.sections.Heading.{Heading}
 use Rattle.report_text.specs.declared.sections.Parts.{Parts}
+use Rattle.report_text.specs.declared.timing_values.PeriodLine.{PeriodLine}
+use Rattle.report_text.specs.declared.timing_values.ShowLine.{ShowLine}
 use Rattle.report_text.specs.Forms.{cycle_forms, forms_after}
 use Rattle.report_text.specs.Headings.{HasHeading, HasShown, IsSmallCount, count_of, heading_forms}
 use Rattle.report_text.specs.Parts.{HasParts, scale_in, whole}
@@ -26,7 +26,7 @@ use Rattle.report_text.specs.TimingValues.{DenotesPeriod, DenotesShow}
 use Rattle.report_text.specs.DenotedReports.{report_denoted}
 use Rattle.report_text.specs.Walks.{Left, DenotesVersion}
 use Rattle.report_text.proofs.GridLemmas.{scale_small}
-use Rattle.report_text.proofs.HeadingLemmas.{heading_read}
+use Rattle.report_text.proofs.HeadingLemmas.{cycle_shown, heading_read, pathed_shown}
 use Rattle.report_text.proofs.PartLemmas.{denoted_cycle, denoted_scale, denoted_version}
 use Rattle.report_text.proofs.PartsDenoted.{parts_spelled}
 use Rattle.report_text.proofs.PassedLines.{IsSound, Passed, denoted_passed}
@@ -41,18 +41,26 @@ heading_passed : (circuit : Circuit) (scale : Scale) (more : List Form) (old : L
 heading_passed circuit scale more old sound =
     let version = denoted_passed circuit scale form.Version (form.Period ∷ form.Show ∷ more)
     DenotesVersion old (λ words some. version_found circuit scale words) sound in
-    let period =
-    denoted_passed circuit scale form.Period (form.Show ∷ more) DenotesPeriod version.new
-    (λ words some. period_found circuit scale words) version.rest in
-    let count = denoted_passed circuit scale form.Show more DenotesShow period.new
-    (λ words some. show_found circuit scale words) period.rest in
+    let period = denoted_passed circuit scale form.Period (form.Show ∷ more)
+    (λ words (line : PeriodLine). DenotesPeriod words line.period) version.new
+    (λ words some flawless.
+    let (period, denoted) = period_found circuit scale words flawless in
+    (record { period = period }, denoted)) version.rest in
+    let show = denoted_passed circuit scale form.Show more
+    (λ words (line : ShowLine). DenotesShow words line.count) period.new
+    (λ words some flawless.
+    let (count, denoted) = show_found circuit scale words flawless in
+    (record { count = count }, denoted)) period.rest in
     record {
-      new = count.new;
-      value = record { version = version.value; period = period.value; count = count.value };
-      has = heading_read circuit scale old version.new period.new count.new
-          (record { version = version.value; period = period.value; count = count.value })
-          version.has period.has count.has;
-      rest = count.rest;
+      new = show.new;
+      value = record {
+        version = version.value;
+        period = period.value.period;
+        count = show.value.count;
+      };
+      has = heading_read circuit scale old version.new period.new show.new version.value
+          period.value show.value version.has period.has show.has;
+      rest = show.rest;
     }
 
 -- what shows the period
@@ -92,43 +100,18 @@ shown_passed circuit scale Second None more old small sound = record {
 }
 shown_passed circuit scale First (Some count) more old small sound =
     let cycle = cycle_passed circuit scale count more old sound in
-    let many = cycle.has.as_many in
     record {
       new = cycle.new;
       value = record { shown = Cycle cycle.value; paths = [] };
-      has = record {
-        lines = cycle.has.lines;
-        first = ap (λ n. count_line (codes "cycle") n ∷ map (line_for circuit) cycle.value) many;
-        counted = many;
-        paths = refl;
-        among = cycle.has.registers;
-        weights = (omega (arith, many, small.0), omega (arith, many, small.1), cycle.has.weights);
-        signals = λ place default within. absurd (omega (arith, within));
-        few = λ place default within. absurd (omega (arith, within));
-      };
+      has = cycle_shown cycle.value small cycle.has;
       rest = cycle.rest;
     }
 shown_passed circuit scale Second (Some count) more old small sound =
     let pathed = pathed_passed circuit scale count more old sound in
-    let many = pathed.has.as_many in
     record {
       new = pathed.new;
       value = record { shown = Cycle pathed.value.cycle; paths = pathed.value.paths };
-      has = record {
-        lines = pathed.has.lines;
-        first = ap (λ n. count_line (codes "cycle") n
-            ∷ pathed_lines circuit pathed.value.cycle pathed.value.paths) many;
-        counted = many;
-        paths = pathed.has.paths ∙ sym many;
-        among = pathed.has.registers;
-        weights = (
-          omega (arith, many, small.0),
-          omega (arith, many, small.1),
-          pathed.has.weights,
-        );
-        signals = pathed.has.signals;
-        few = pathed.has.few;
-      };
+      has = pathed_shown pathed.value small pathed.has;
       rest = pathed.rest;
     }
 
@@ -190,7 +173,7 @@ parts_passed circuit tech text sound =
     let shown = shown_passed circuit scale heading.value.version heading.value.count suffix
     heading.new heading.has.count (forms_denoted heading.has tech heading.rest) in
     let body = body_passed circuit scale heading.value.version registers [] shown.new
-    (scale_small tech heading.value.period heading.has.small) few few
+    (scale_small tech heading.value.period heading.has.small) few
     (subst (λ forms. IsSound circuit scale forms shown.new) (sym (append-nil suffix))
     shown.rest) in (
       record { heading = heading.value; shown = shown.value; body = body.value },

@@ -16,7 +16,6 @@ use Rattle.cts_base.proofs.OneNumberText.{no_fraction_minus, one_number_text, on
 use Rattle.cts_base.proofs.OneSpelling.{quotient_some, quotient_text_spelled}
 use Rattle.cts_model.specs.declared.circuit.Circuit.{Circuit}
 use Rattle.cts_model.specs.declared.constraint.Constraint.{Constraint}
-use Rattle.cts_model.specs.netlist.Paths.{register_name}
 use Rattle.cts_model.specs.placement.Points.{IsBelow}
 use Rattle.cts_model.specs.text.PrintedLines.{Words, count_line, constraint_line, floor_line}
 use Rattle.cts_model.specs.timing.Slacks.{IsSmallSlack}
@@ -30,11 +29,11 @@ use Rattle.report_text.specs.declared.field.Keyword.{Keyword}
 use Rattle.report_text.specs.declared.field.Keyword.TheVariants as word
 use Rattle.report_text.specs.declared.form.Form.TheVariants as form
 use Rattle.report_text.specs.declared.form.Scale.{Scale}
-use Rattle.report_text.specs.Fields.{EachWord, IsFormed, IsKnown, IsFit, IsWithin, IsFractionForm, NamesRegister, NamesSignal}
+use Rattle.report_text.specs.Fields.{EachWord, IsFormed, IsKnown, IsFit, IsWithin, IsFractionForm, NamesSignal}
 use Rattle.report_text.specs.Forms.{constraint_fields, lead_fields, register_fields, is_word}
 use Rattle.report_text.specs.Keywords.{keyword_text}
 use Rattle.report_text.specs.TimingValues.{IsFlawless, DenotesPeriod, DenotesShow, DenotesConstraint, DenotesPath, DenotesArrival, DenotesLead, NamesSignals, IsSlackWord}
-use Rattle.report_text.specs.Values.{SpellsNumber, SpellsSteps}
+use Rattle.report_text.specs.Values.{SpellsNumber, SpellsRegister, SpellsSteps}
 use Rattle.report_text.proofs.FieldWords.{as_many, each_at, after_two, one_word, four_words, two_words, no_words}
 use Rattle.report_text.proofs.NumberWords.{whole_word, denoted_steps}
 
@@ -88,11 +87,6 @@ period_denoted circuit scale words period (formed, known, fit, within) read =
 
 -- ---- a constraint
 
--- the number is that of the register of the name, where the name is known
-abbrev pub IsNumberOf : Circuit → (register : ℕ) (name : List ℕ) → Type 0
-IsNumberOf circuit register name = NamesRegister circuit name
-    → (register < length circuit.registers) × (register_name circuit register ≡ name)
-
 -- the weight is what the word spells, where it spells one
 abbrev pub IsWeightOf : ℤ → List ℕ → Type 0
 IsWeightOf weight word = (value : ℤ) → SpellsWhole word value → HasSizeBelow (10 ^ 37) value
@@ -100,21 +94,10 @@ IsWeightOf weight word = (value : ℤ) → SpellsWhole word value → HasSizeBel
 
 module _ (circuit : Circuit) (words : Words) (launch capture : ℕ) (weight : ℤ)
     (formed : EachWord IsFormed constraint_fields words)
-    (known : EachWord (IsKnown circuit) constraint_fields words)
     (within : EachWord IsWithin constraint_fields words)
-    (launches : IsNumberOf circuit launch (get_or words 1 []))
-    (captures : IsNumberOf circuit capture (get_or words 2 []))
+    (launches : SpellsRegister circuit (get_or words 1 []) launch)
+    (captures : SpellsRegister circuit (get_or words 2 []) capture)
     (weighs : IsWeightOf weight (get_or words 3 [])) where
-  launch_denoted : (launch < length circuit.registers)
-      × (register_name circuit launch ≡ get_or words 1 [])
-  launch_denoted =
-      launches (each_at (IsKnown circuit) constraint_fields words known 1 field.Kind (omega arith))
-
-  capture_denoted : (capture < length circuit.registers)
-      × (register_name circuit capture ≡ get_or words 2 [])
-  capture_denoted =
-      captures (each_at (IsKnown circuit) constraint_fields words known 2 field.Kind (omega arith))
-
   weight_denoted : IsBelow (10 ^ 12) weight × (get_or words 3 [] ≡ signed_decimal weight)
   weight_denoted =
       let (value, spells) =
@@ -143,7 +126,7 @@ module _ (circuit : Circuit) (words : Words) (launch capture : ℕ) (weight : �
   line_denoted word first =
       four_words words (as_many IsFormed constraint_fields words formed)
       ∙ (λ i.
-      first i ∷ sym (launch_denoted.1) i ∷ sym (capture_denoted.1) i ∷ weight_denoted.1 i ∷ [])
+      first i ∷ sym (launches.1) i ∷ sym (captures.1) i ∷ weight_denoted.1 i ∷ [])
 
   -- of a setup constraint
   pub setup_denoted : bytes_eq (get_or words 0 []) (codes "setup") ≡ true
@@ -159,7 +142,7 @@ module _ (circuit : Circuit) (words : Words) (launch capture : ℕ) (weight : �
       (record { setup = true; tail = launch; head = capture; weight = w })) weight_held (record {
         line = line_denoted (codes "setup") ((bytes_eq-Decides (get_or words 0 []) (codes
             "setup")).0 is);
-        registers = record { tail = launch_denoted.0; head = capture_denoted.0 };
+        registers = record { tail = launches.0; head = captures.0 };
         weight = weight_denoted.0;
       })
 
@@ -177,7 +160,7 @@ module _ (circuit : Circuit) (words : Words) (launch capture : ℕ) (weight : �
       (record { setup = false; tail = capture; head = launch; weight = w })) weight_held (record {
         line = line_denoted (codes "hold")
             (kind (each_at IsFormed constraint_fields words formed 0 field.Kind (omega arith)));
-        registers = record { tail = capture_denoted.0; head = launch_denoted.0 };
+        registers = record { tail = captures.0; head = launches.0 };
         weight = weight_denoted.0;
       })
     where
@@ -488,27 +471,30 @@ more_signals circuit names signals name signal named one = record {
   within = All-push (λ number. number < length circuit.signals) signals signal named.within one.0;
 }
 
--- the signal of the next of some names
+-- the next of some names is known
+pub known_at : {X : Type 0} (name : X → List ℕ) (circuit : Circuit) (items : List X)
+    (place : ℕ) (default : X) → place < length items → All (NamesSignal circuit) (map name items)
+    → NamesSignal circuit (name (get_or items place default))
+known_at name circuit items place default within known =
+    subst (NamesSignal circuit) (get_or-map name items place default (name default) within)
+    (known place (name default) (omega (arith, length-map items name, within)))
+
+-- and its signal is one more
 pub next_signal : {X : Type 0} (name : X → List ℕ) (circuit : Circuit) (items : List X)
     (place : ℕ) (default : X) (signals new : List ℕ) (signal : ℕ) → place < length items
-    → All (NamesSignal circuit) (map name items)
-    → (NamesSignal circuit (name (get_or items place default))
     → (signal < length circuit.signals)
-    × (signal_name circuit signal ≡ name (get_or items place default)))
+    × (signal_name circuit signal ≡ name (get_or items place default))
     → NamesSignals circuit (map name (take place items)) signals
     → new ≡ signals ++ signal ∷ []
     → NamesSignals circuit (map name (take (place + 1) items)) new
-next_signal name circuit items place default signals new signal within known denoted named is =
-    let here = subst (NamesSignal circuit) (get_or-map name items place default (name default)
-    within)
-    (known place (name default) (omega (arith, length-map items name, within))) in
+next_signal name circuit items place default signals new signal within one named is =
     subst (λ ns. NamesSignals circuit ns new)
     (sym (ap (map name) (take_more items place default within)
     ∙ map_push name (take place items) (get_or items place default)))
     (subst (NamesSignals circuit (map name (take place items)
     ++ name (get_or items place default) ∷ [])) (sym is)
     (more_signals circuit (map name (take place items)) signals
-    (name (get_or items place default)) signal named (denoted here)))
+    (name (get_or items place default)) signal named one))
 
 -- words that are names of signals
 known_signals : (circuit : Circuit) (count : ℕ) (words : Words)

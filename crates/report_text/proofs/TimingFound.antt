@@ -107,13 +107,13 @@ module _ (circuit : Circuit) (scale : Scale) (words : Words) where
       at (bytes_eq (get_or words 0 []) (codes "setup"))
       (λ is. (
         _,
-        setup_denoted circuit words launch capture weight formed known within
-            (λ named. (low, name)) (λ named. (low', name')) weighs is,
+        setup_denoted circuit words launch capture weight formed within (low, name)
+            (low', name') weighs is,
       ))
       (λ differs. (
         _,
-        hold_denoted circuit words launch capture weight formed known within
-            (λ named. (low, name)) (λ named. (low', name')) weighs differs,
+        hold_denoted circuit words launch capture weight formed within (low, name)
+            (low', name') weighs differs,
       ))
     where
       Found : Type 0

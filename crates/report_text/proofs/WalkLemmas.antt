@@ -181,24 +181,6 @@ module _ (circuit : Circuit) (scale : Scale) (form : Form) {old new : Left}
     denoted = denotes line_flawless;
   }
 
--- what is said alike of numbers below another
-pub lines_same : (line line' : ℕ → Words) (count : ℕ)
-    → ((before : ℕ) → before < count → line before ≡ line' before)
-    → map line (range_with_len 0 count) ≡ map line' (range_with_len 0 count)
-lines_same line line' count same =
-    fill_by_all line' (map line (range_with_len 0 count)) count []
-    (length-map-range_with_len line 0 count)
-    (λ k within. get_or-map-range_with_len line 0 count k k [] within (omega arith)
-    ∙ same k within)
-
--- the lines of numbers below one, and a further line
-pub numbered_more : (line line' : ℕ → Words) (count : ℕ) (words : Words)
-    → ((before : ℕ) → before < count → line before ≡ line' before) → words ≡ line' count
-    → map line' (range_with_len 0 (count + 1)) ≡ map line (range_with_len 0 count) ++ words ∷ []
-numbered_more line line' count words same is =
-    map-range_with_len_more line' 0 count count (omega arith)
-    ∙ ap₂ (λ prefix last. prefix ++ last ∷ []) (sym (lines_same line line' count same)) (sym is)
-
 -- forms that are due one after the other
 module _ (forms due : ℕ → List Form) (step : (n : ℕ) → forms (n + 1) ≡ forms n ++ due n) where
   forms_after : (place more : ℕ) → (rest : List Form)

@@ -1,22 +1,51 @@
 -- The report that the sections of a text tell.
-use Rattle.std.specs.Prelude.{◌≡◌, ◌<◌, ◌≤◌, ◌-◌, ◌*◌, ◌^◌, ℤ, neg_ℤ, List, [], ◌∷◌, ◌++◌, All, length, map, slice_index_or, codes}
+use Rattle.std.specs.Prelude.{◌≡◌, ◌<◌, ◌≤◌, ◌-◌, ◌*◌, ◌^◌, ℕ, ℤ, neg_ℤ, List, [], ◌∷◌, ◌++◌, All, length, map, slice_index_or, codes}
 use Rattle.cts_base.specs.Fractions.{quotient_text}
 use Rattle.cts_model.specs.declared.circuit.Circuit.{Circuit}
 use Rattle.cts_model.specs.declared.place.Point.{Point}
+use Rattle.cts_model.specs.declared.schedule.Slack.{Slack}
+use Rattle.cts_model.specs.declared.tree.Merge.{Merge}
+use Rattle.cts_model.specs.declared.tree.Show.{Show}
 use Rattle.cts_model.specs.declared.report.Report.{Report}
 use Rattle.cts_model.specs.declared.tech.Tech.{Tech}
 use Rattle.cts_model.specs.declared.tree.Wire.{Wire}
 use Rattle.cts_model.specs.placement.Points.{IsBelow, IsPointBelow}
-use Rattle.cts_model.specs.text.PrintedLines.{Words, count_line, period_line}
+use Rattle.cts_model.specs.text.PrintedLines.{Words, count_line, period_line, register_line}
 use Rattle.cts_model.specs.tree.Problems.{grid_of, scheduled_length}
 use Rattle.cts_model.specs.report.ReportBounds.{HasSmallWeights, IsMergeShow, IsSmallLead, IsSmallMerge, IsSmallWire, IsSourceShow, LeadsAmong, ShowsAmong, ShowsPeriodAmong, count_in, cycle_length}
-use Rattle.cts_model.specs.report.ReportLines.{lead_line, lines_below, no_wire, origin, period_show_lines, show_words, version_line}
+use Rattle.cts_model.specs.report.ReportLines.{lead_line, no_wire, origin, period_show_lines, version_line}
 use Rattle.cts_model.specs.timing.Schedules.{IsSmallPeriod}
 use Rattle.cts_model.specs.timing.Slacks.{AreSmallSlacks}
 use Rattle.report_text.specs.declared.sections.Parts.{Parts}
 use Rattle.report_text.specs.declared.form.Scale.{Scale}
-use Rattle.report_text.specs.declared.tree_values.SourceLine.{SourceLine}
-use Rattle.report_text.specs.Sections.{merged_line, placed_line, timed_line}
+use Rattle.report_text.specs.declared.timing_values.Timed.{Timed}
+use Rattle.report_text.specs.Rows.{lines_of}
+use Rattle.report_text.specs.Values.{merged_line, placed_line, sourced_line}
+
+-- what the rows tell, value by value
+abbrev pub arrivals_in : Parts → List ℤ
+arrivals_in parts = map (λ row. row.arrival) parts.body.timings
+
+abbrev pub slacks_in : Parts → List Slack
+slacks_in parts = map (λ row. row.slack) parts.body.timings
+
+abbrev pub merges_in : Parts → List Merge
+merges_in parts = map (λ row. row.merge) parts.body.merged
+
+abbrev pub reaches_in : Parts → List ℤ
+reaches_in parts = map (λ row. row.reach) parts.body.merged
+
+abbrev pub shows_in : Parts → List Show
+shows_in parts = map (λ row. row.show) parts.body.merged
+
+abbrev pub places_in : Parts → List Point
+places_in parts = map (λ row. row.place) parts.body.placed
+
+abbrev pub lengths_in : Parts → List ℤ
+lengths_in parts = map (λ row. row.length) parts.body.placed
+
+abbrev pub wires_in : Parts → List Wire
+wires_in parts = map (λ row. row.wire) parts.body.placed
 
 -- the sections that tell the timing have so many entries, within their bounds
 pub record HasDenotedTiming (circuit : Circuit) (parts : Parts) : Type 0 where
@@ -27,54 +56,54 @@ pub record HasDenotedTiming (circuit : Circuit) (parts : Parts) : Type 0 where
       ≡ count_in parts.heading.version (cycle_length parts.shown.shown)
   pub signals : All (All (λ number. number < length circuit.signals)) parts.shown.paths
   pub few : All (λ path. length path ≤ 65536) parts.shown.paths
-  pub at : length parts.body.timings.at ≡ length circuit.registers
-  pub arrivals : All (IsBelow (10 ^ 19)) parts.body.timings.at
-  pub slacks : length parts.body.timings.slacks ≡ length circuit.registers
-  pub small_slacks : All (AreSmallSlacks parts.heading.period.den) parts.body.timings.slacks
+  pub at : length (arrivals_in parts) ≡ length circuit.registers
+  pub arrivals : All (IsBelow (10 ^ 19)) (arrivals_in parts)
+  pub slacks : length (slacks_in parts) ≡ length circuit.registers
+  pub small_slacks : All (AreSmallSlacks parts.heading.period.den) (slacks_in parts)
   pub leads : length parts.body.leads ≡ count_in parts.heading.version (length circuit.registers)
   pub leads_among : All (LeadsAmong (length circuit.registers)) parts.body.leads
   pub small_leads : All IsSmallLead parts.body.leads
 
 -- and so have those that tell the tree
 pub record HasDenotedTree (circuit : Circuit) (parts : Parts) : Type 0 where
-  pub merges : length parts.body.merged.merges ≡ length circuit.registers - 1
-  pub small_merges : All IsSmallMerge parts.body.merged.merges
-  pub reaches : length parts.body.merged.reaches ≡ length circuit.registers - 1
-  pub small_reaches : All (IsBelow (10 ^ 32)) parts.body.merged.reaches
-  pub shows : length parts.body.merged.shows ≡ length circuit.registers - 1
-  pub merge_shows : All IsMergeShow parts.body.merged.shows
-  pub among : All (ShowsAmong (length circuit.registers)) parts.body.merged.shows
+  pub merges : length (merges_in parts) ≡ length circuit.registers - 1
+  pub small_merges : All IsSmallMerge (merges_in parts)
+  pub reaches : length (reaches_in parts) ≡ length circuit.registers - 1
+  pub small_reaches : All (IsBelow (10 ^ 32)) (reaches_in parts)
+  pub shows : length (shows_in parts) ≡ length circuit.registers - 1
+  pub merge_shows : All IsMergeShow (shows_in parts)
+  pub among : All (ShowsAmong (length circuit.registers)) (shows_in parts)
   pub source : IsBelow (10 ^ 32) parts.body.source.reach
   pub source_show : IsSourceShow parts.body.source.show
   pub source_among : ShowsAmong (length circuit.registers) parts.body.source.show
-  pub places : length parts.body.placed.places ≡ 2 * length circuit.registers - 1
-  pub small_places : All (IsPointBelow (10 ^ 32)) parts.body.placed.places
-  pub lengths : length parts.body.placed.lengths ≡ 2 * length circuit.registers - 1
-  pub small_lengths : All (IsBelow (10 ^ 32)) parts.body.placed.lengths
-  pub wires : length parts.body.placed.wires ≡ 2 * length circuit.registers - 1
-  pub small_wires : All IsSmallWire parts.body.placed.wires
-  pub total : IsBelow (10 ^ 36) parts.body.total
+  pub places : length (places_in parts) ≡ 2 * length circuit.registers - 1
+  pub small_places : All (IsPointBelow (10 ^ 32)) (places_in parts)
+  pub lengths : length (lengths_in parts) ≡ 2 * length circuit.registers - 1
+  pub small_lengths : All (IsBelow (10 ^ 32)) (lengths_in parts)
+  pub wires : length (wires_in parts) ≡ 2 * length circuit.registers - 1
+  pub small_wires : All IsSmallWire (wires_in parts)
+  pub total : IsBelow (10 ^ 36) parts.body.total.length
 
 pub record AreDenoted (circuit : Circuit) (parts : Parts) : Type 0 where
   pub timing : HasDenotedTiming circuit parts
   pub tree : HasDenotedTree circuit parts
 
--- the line of the source
-abbrev pub sourced_line : Circuit → (grid : ℤ) → SourceLine → Words
-sourced_line circuit grid source =
-    codes "source" ∷ quotient_text source.reach grid ∷ show_words circuit source.show
+-- the line of a register
+abbrev pub timed_line : Circuit → (den : ℤ) → (register : ℕ) → Timed → Words
+timed_line circuit den register timed =
+    register_line circuit den register timed.arrival timed.slack
 
 -- the lines of the sections after what shows the period
 abbrev pub lines_after : Circuit → Scale → Parts → List Words
 lines_after circuit scale parts = count_line (codes "registers") (length circuit.registers)
-    ∷ lines_below (timed_line circuit scale.den parts.body.timings) (length circuit.registers)
+    ∷ lines_of (timed_line circuit scale.den) 0 parts.body.timings
     ++ map (lead_line circuit) parts.body.leads
     ++ count_line (codes "merges") (length circuit.registers - 1)
-    ∷ lines_below (merged_line circuit scale.grid parts.body.merged) (length circuit.registers - 1)
+    ∷ lines_of (merged_line circuit scale.grid) (length circuit.registers) parts.body.merged
     ++ sourced_line circuit scale.grid parts.body.source
     ∷ count_line (codes "nodes") (2 * length circuit.registers - 1)
-    ∷ lines_below (placed_line scale.grid parts.body.placed) (2 * length circuit.registers - 1)
-    ++ (codes "wire" ∷ quotient_text parts.body.total scale.grid ∷ []) ∷ []
+    ∷ lines_of (placed_line scale.grid) 0 parts.body.placed
+    ++ (codes "wire" ∷ quotient_text parts.body.total.length scale.grid ∷ []) ∷ []
 
 -- the lines of all sections
 abbrev pub denoted_lines : Circuit → Scale → Parts → List Words
@@ -102,18 +131,18 @@ report_denoted tech parts = record {
   period = parts.heading.period;
   shown = parts.shown.shown;
   paths = parts.shown.paths;
-  schedule = record { den = parts.heading.period.den; at = parts.body.timings.at };
-  slacks = parts.body.timings.slacks;
+  schedule = record { den = parts.heading.period.den; at = (arrivals_in parts) };
+  slacks = (slacks_in parts);
   leads = parts.body.leads;
   grid = grid_of parts.heading.period tech;
-  topology = record { merges = parts.body.merged.merges };
+  topology = record { merges = (merges_in parts) };
   tree = record {
-    reach = sink_reaches tech parts.body.timings.at ++ parts.body.merged.reaches
+    reach = sink_reaches tech (arrivals_in parts) ++ (reaches_in parts)
         ++ parts.body.source.reach ∷ [];
-    place = parts.body.placed.places ++ begin_of parts.body.placed.wires ∷ [];
-    length = parts.body.placed.lengths;
+    place = (places_in parts) ++ begin_of (wires_in parts) ∷ [];
+    length = (lengths_in parts);
   };
-  shows = parts.body.merged.shows ++ parts.body.source.show ∷ [];
-  wires = parts.body.placed.wires;
-  total = parts.body.total;
+  shows = (shows_in parts) ++ parts.body.source.show ∷ [];
+  wires = (wires_in parts);
+  total = parts.body.total.length;
 }

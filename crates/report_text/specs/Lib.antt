@@ -11,7 +11,7 @@ pub mod FlawOrder
 pub mod JudgedFractions
 pub mod Walks
 pub mod WireLines
-pub mod Sections
+pub mod Rows
 pub mod Headings
 pub mod Bodies
 pub mod Parts

@@ -1,17 +1,19 @@
 //! Putting a report together from what its lines tell.
 
-ghost use Rattle.std.specs.Prelude.{◌≡◌, ◌^◌, ◌++◌, ◌∷◌, ℕ, List, [], All, IfOk};
+ghost use Rattle.std.specs.Prelude.{◌≡◌, ◌^◌, ◌++◌, ◌∷◌, ℕ, List, [], All, IfOk, map};
 ghost use Rattle.cts_model.specs.declared.circuit.Circuit as model;
 ghost use Rattle.cts_model.specs.placement.Points.{IsBelow};
 ghost use Rattle.cts_model.specs.report.ReportBounds.{Spells};
 ghost use Rattle.cts_model.specs.timing.Schedules.{IsSmallPeriod};
 ghost use Rattle.report_text.specs.Parts.{HasParts};
-ghost use Rattle.report_text.specs.DenotedReports.{begin_of, report_denoted, sink_reach, sink_reaches};
+ghost use Rattle.report_text.specs.DenotedReports.{arrivals_in, begin_of, report_denoted, sink_reach, sink_reaches};
 
 use crate::grid::{grid_of, scheduled_length};
 use crate::sections::{Body, Parts};
+use crate::timing_values::Timed;
+use crate::tree_values::{MergeLine, NodeLine};
 use cts_base::{Listed, NoMemory};
-use cts_model::{Point, Report, Schedule, Tech, Topology, Tree, Wire};
+use cts_model::{Merge, Point, Report, Schedule, Show, Slack, Tech, Topology, Tree, Wire};
 use std::alloc::Global;
 
 /// The report that the parts of a text make up.
@@ -28,22 +30,34 @@ pub(crate) fn report_of(alloc: Global, tech: &Tech, parts: Parts) -> Result<Repo
 // The report, value by value.
 fn put_together(alloc: Global, tech: &Tech, parts: Parts) -> Result<Report, NoMemory>
     requires period { IsSmallPeriod parts.heading.period }
-    requires arrivals { All (IsBelow (10 ^ 19)) parts.body.timings.at }
+    requires arrivals { All (IsBelow (10 ^ 19)) (arrivals_in parts) }
     ensures { IfOk result (λ report. report ≡ report_denoted tech.now parts) }
 {
-    let reach = reaches_of(alloc, tech, &parts.body)?;
-    let heading = parts.heading;
-    let shown = parts.shown;
-    let body = parts.body;
+    let Parts {
+        heading,
+        shown,
+        body,
+    } = parts;
     let Body {
         timings,
+        leads,
         merged,
+        source,
         placed,
-        ..
+        total,
     } = body;
-    let begin = begin_of(placed.wires.as_slice());
-    let place = with_last(placed.places, begin)?;
-    let shows = with_last(merged.shows, body.source.show)?;
+    let at = Listed::from_vec(arrivals_of(alloc, timings.as_slice())?);
+    let slacks = Listed::from_vec(slacks_of(alloc, timings.as_slice())?);
+    let merges = Listed::from_vec(merges_of(alloc, merged.as_slice())?);
+    let shows = Listed::from_vec(shows_of(alloc, merged.as_slice())?);
+    let merged = merge_reaches_of(alloc, merged.as_slice())?;
+    let reach = reaches_of(alloc, tech, at.as_slice(), merged.as_slice(), source.reach)?;
+    let places = Listed::from_vec(places_of(alloc, placed.as_slice())?);
+    let length = Listed::from_vec(lengths_of(alloc, placed.as_slice())?);
+    let wires = Listed::from_vec(wires_of(alloc, placed.as_slice())?);
+    let begin = begin_of(wires.as_slice());
+    let place = with_last(places, begin)?;
+    let shows = with_last(shows, source.show)?;
     Ok(Report {
         version: heading.version,
         period: heading.period,
@@ -51,34 +65,38 @@ fn put_together(alloc: Global, tech: &Tech, parts: Parts) -> Result<Report, NoMe
         paths: shown.paths,
         schedule: Schedule {
             den: heading.period.den(),
-            at: timings.at,
+            at,
         },
-        slacks: timings.slacks,
-        leads: body.leads,
+        slacks,
+        leads,
         grid: grid_of(heading.period, tech),
-        topology: Topology {
-            merges: merged.merges,
-        },
+        topology: Topology { merges },
         tree: Tree {
             reach,
             place,
-            length: placed.lengths,
+            length,
         },
         shows,
-        wires: placed.wires,
-        total: body.total,
+        wires,
+        total: total.length,
     })
 }
 
 // The reaches of the sinks, of the merges and of the source.
-fn reaches_of(alloc: Global, tech: &Tech, body: &Body) -> Result<Listed<i128>, NoMemory>
-    requires { All (IsBelow (10 ^ 19)) body.now.timings.at }
-    ensures { IfOk result (λ reaches. reaches ≡ sink_reaches tech.now body.now.timings.at
-        ++ body.now.merged.reaches ++ body.now.source.reach ∷ []) }
+fn reaches_of(
+    alloc: Global,
+    tech: &Tech,
+    arrivals: &[i128],
+    merged: &[i128],
+    source: i128,
+) -> Result<Listed<i128>, NoMemory>
+    requires { All (IsBelow (10 ^ 19)) arrivals.now }
+    ensures { IfOk result (λ reaches. reaches ≡ sink_reaches tech.now arrivals.now
+        ++ merged.now ++ source ∷ []) }
 {
-    let mut reaches = sink_reaches(alloc, tech, body.timings.at.as_slice())?;
-    reaches.extend_from_slice(body.merged.reaches.as_slice())?;
-    reaches.push(body.source.reach)?;
+    let mut reaches = sink_reaches(alloc, tech, arrivals)?;
+    reaches.extend_from_slice(merged)?;
+    reaches.push(source)?;
     Ok(Listed::from_vec(reaches))
 }
 
@@ -119,4 +137,60 @@ fn with_last<T: Drop>(items: Listed<T>, item: T) -> Result<Listed<T>, NoMemory>
     let mut list = items;
     list.push(item)?;
     Ok(list)
+}
+
+// When the clock reaches each register.
+fn arrivals_of(alloc: Global, rows: &[Timed]) -> Result<Vec<i128>, NoMemory>
+    ensures { IfOk result (λ list. list.items ≡ map (λ row. row.arrival) rows.now) }
+{
+    Ok(rows.iter().map(|row| row.arrival).collect(alloc)?)
+}
+
+// What each register has to spare.
+fn slacks_of(alloc: Global, rows: &[Timed]) -> Result<Vec<Slack>, NoMemory>
+    ensures { IfOk result (λ list. list.items ≡ map (λ row. row.slack) rows.now) }
+{
+    Ok(rows.iter().map(|row| row.slack).collect(alloc)?)
+}
+
+// What each merge joins.
+fn merges_of(alloc: Global, rows: &[MergeLine]) -> Result<Vec<Merge>, NoMemory>
+    ensures { IfOk result (λ list. list.items ≡ map (λ row. row.merge) rows.now) }
+{
+    Ok(rows.iter().map(|row| row.merge).collect(alloc)?)
+}
+
+// The reach of the node that each merge makes.
+fn merge_reaches_of(alloc: Global, rows: &[MergeLine]) -> Result<Vec<i128>, NoMemory>
+    ensures { IfOk result (λ list. list.items ≡ map (λ row. row.reach) rows.now) }
+{
+    Ok(rows.iter().map(|row| row.reach).collect(alloc)?)
+}
+
+// What shows the reach of each merge.
+fn shows_of(alloc: Global, rows: &[MergeLine]) -> Result<Vec<Show>, NoMemory>
+    ensures { IfOk result (λ list. list.items ≡ map (λ row. row.show) rows.now) }
+{
+    Ok(rows.iter().map(|row| row.show).collect(alloc)?)
+}
+
+// Where each node stands.
+fn places_of(alloc: Global, rows: &[NodeLine]) -> Result<Vec<Point>, NoMemory>
+    ensures { IfOk result (λ list. list.items ≡ map (λ row. row.place) rows.now) }
+{
+    Ok(rows.iter().map(|row| row.place).collect(alloc)?)
+}
+
+// How long each edge is.
+fn lengths_of(alloc: Global, rows: &[NodeLine]) -> Result<Vec<i128>, NoMemory>
+    ensures { IfOk result (λ list. list.items ≡ map (λ row. row.length) rows.now) }
+{
+    Ok(rows.iter().map(|row| row.length).collect(alloc)?)
+}
+
+// Each edge as it is drawn.
+fn wires_of(alloc: Global, rows: &[NodeLine]) -> Result<Vec<Wire>, NoMemory>
+    ensures { IfOk result (λ list. list.items ≡ map (λ row. row.wire) rows.now) }
+{
+    Ok(rows.iter().map(|row| row.wire).collect(alloc)?)
 }

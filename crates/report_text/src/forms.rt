@@ -2,29 +2,21 @@
 
 ghost use Rattle.std.specs.Prelude.{◌≡◌, ◌↔◌, ◌≤◌, ◌<◌, ◌+◌, ◌*◌, ◌++◌, IsTrue, map, replicate, IfOk, OnOk};
 ghost use Rattle.report_text.specs.Forms.{fields_of, show_fields, constraint_fields, path_fields, register_fields, lead_fields, merge_fields, source_fields, pointed_fields, node_fields, total_fields, length_field, register_named};
-ghost use Rattle.report_text.specs.NamesOf.{AreNamesOf};
 
 use crate::field::{Field, Keyword};
 use crate::form::{Form, Scale};
-use crate::names::Names;
+use crate::rules::Rules;
 use crate::words::{is_word, word_at};
 use cts_base::NoMemory;
-use cts_model::Circuit;
 use std::alloc::Global;
 
 /// The fields of a line of that form.
-pub(crate) fn fields_of(
-    alloc: Global,
-    names: &Names,
-    circuit: &Circuit,
-    scale: Scale,
-    form: Form,
-    words: &[&[u8]],
-) -> Result<Vec<Field>, NoMemory>
-    requires { AreNamesOf circuit.now names.now }
+pub(crate) fn fields_of(rules: &Rules, form: Form, words: &[&[u8]]) -> Result<Vec<Field>, NoMemory>
     ensures { IfOk result (λ fields. fields.items
-        ≡ fields_of circuit.now scale form (map (λ word. word.now) words.now)) }
+        ≡ fields_of rules.now.circuit.now rules.now.scale form (map (λ word. word.now) words.now)) }
 {
+    let alloc = rules.alloc;
+    let scale = rules.scale;
     match form {
         Form::Version => listed(alloc, &[Field::Word(Keyword::Cts), Field::Version]),
         Form::Period => listed(alloc, &[Field::Word(Keyword::Period), Field::Period]),
@@ -36,7 +28,7 @@ pub(crate) fn fields_of(
         }
         Form::Register(register) => register_fields(alloc, scale, register),
         Form::Lead => lead_fields(alloc, words),
-        Form::Merge(node) => merge_fields(alloc, names, circuit, scale, node, words),
+        Form::Merge(node) => merge_fields(rules, node, words),
         Form::Source => source_fields(alloc, scale, words),
         Form::Node(node) => pointed_fields(alloc, scale, node, words),
         Form::Total => total_fields(alloc, scale),
@@ -142,30 +134,22 @@ fn lead_fields(alloc: Global, words: &[&[u8]]) -> Result<Vec<Field>, NoMemory>
 }
 
 // The fields of a merge.
-fn merge_fields(
-    alloc: Global,
-    names: &Names,
-    circuit: &Circuit,
-    scale: Scale,
-    node: u32,
-    words: &[&[u8]],
-) -> Result<Vec<Field>, NoMemory>
-    requires { AreNamesOf circuit.now names.now }
-    ensures { IfOk result (λ fields. fields.items
-        ≡ merge_fields circuit.now scale node (map (λ word. word.now) words.now)) }
+fn merge_fields(rules: &Rules, node: u32, words: &[&[u8]]) -> Result<Vec<Field>, NoMemory>
+    ensures { IfOk result (λ fields. fields.items ≡ merge_fields rules.now.circuit.now
+        rules.now.scale node (map (λ word. word.now) words.now)) }
 {
     let merged = Field::Number {
         least: 0,
         most: 9999,
     };
-    let first = register_named(names, circuit, word_at(words, 5));
+    let first = register_named(rules, word_at(words, 5));
     listed(
-        alloc,
+        rules.alloc,
         &[
             Field::Exactly(node),
             merged,
             merged,
-            length_field(scale),
+            length_field(rules.scale),
             Field::Word(Keyword::Pair),
             Field::Register,
             Field::From(first),
@@ -174,13 +158,12 @@ fn merge_fields(
 }
 
 // The number of the register of that name, and how many there are where none has it.
-fn register_named(names: &Names, circuit: &Circuit, name: &[u8]) -> u32
-    requires { AreNamesOf circuit.now names.now }
-    ensures { result ≡ register_named circuit.now name.now }
+fn register_named(rules: &Rules, name: &[u8]) -> u32
+    ensures { result ≡ register_named rules.now.circuit.now name.now }
 {
-    match names.register(name) {
+    match rules.register(name) {
         Some(register) => register,
-        None => circuit.registers.len() as u32,
+        None => rules.circuit.registers.len() as u32,
     }
 }
 

@@ -3,15 +3,13 @@
 ghost use Rattle.std.specs.Prelude.{◌≡◌, map};
 ghost use Rattle.report_text.specs.Fields.{LineHasFlaw, WordHasFlaw};
 ghost use Rattle.report_text.specs.FlawOrder.{form_flaw, large_flaw, rank, sooner_flaw};
-ghost use Rattle.report_text.specs.NamesOf.{AreNamesOf};
 
 use crate::field::{Field, Flaw};
 use crate::judging::fraction::{period_flaw, slack_flaw, steps_flaw};
 use crate::judging::keyword::{is_kind, is_version, is_word};
 use crate::judging::name::{from_flaw, named_flaw, register_flaw, signal_flaw};
 use crate::judging::number::{counted_flaw, is_number, number_flaw, weight_flaw};
-use crate::names::Names;
-use cts_model::Circuit;
+use crate::rules::Rules;
 
 mod fraction;
 mod keyword;
@@ -19,21 +17,16 @@ mod name;
 mod number;
 
 /// What is wrong with a line whose words are to have these fields, or `None`. It takes no memory.
-pub(crate) fn line_flaw(
-    names: &Names,
-    circuit: &Circuit,
-    fields: &[Field],
-    words: &[&[u8]],
-) -> Option<Flaw>
-    requires names { AreNamesOf circuit.now names.now }
-    ensures { LineHasFlaw circuit.now fields.now (map (λ word. word.now) words.now) result }
+pub(crate) fn line_flaw(rules: &Rules, fields: &[Field], words: &[&[u8]]) -> Option<Flaw>
+    ensures { LineHasFlaw rules.now.circuit.now fields.now (map (λ word. word.now) words.now)
+        result }
 {
     if fields.len() != words.len() {
         return Some(Flaw::Form);
     }
     let mut flaw = None;
     for place in 0..fields.len() {
-        let found = word_flaw(names, circuit, fields[place], words[place]);
+        let found = word_flaw(rules, fields[place], words[place]);
         flaw = sooner(flaw, found);
     }
     flaw
@@ -64,9 +57,8 @@ fn rank(flaw: Option<Flaw>) -> u8
 }
 
 // What is wrong with a word that is to have that field.
-fn word_flaw(names: &Names, circuit: &Circuit, field: Field, word: &[u8]) -> Option<Flaw>
-    requires names { AreNamesOf circuit.now names.now }
-    ensures { WordHasFlaw circuit.now field word.now result }
+fn word_flaw(rules: &Rules, field: Field, word: &[u8]) -> Option<Flaw>
+    ensures { WordHasFlaw rules.now.circuit.now field word.now result }
 {
     match field {
         Field::Word(keyword) => form_flaw(is_word(word, keyword)),
@@ -79,10 +71,10 @@ fn word_flaw(names: &Names, circuit: &Circuit, field: Field, word: &[u8]) -> Opt
         Field::Period => period_flaw(word),
         Field::Steps { over, bound } => steps_flaw(over, bound, word),
         Field::Slack { over, bound } => slack_flaw(over, bound, word),
-        Field::Register => register_flaw(names, circuit, word),
-        Field::Named(register) => named_flaw(names, circuit, register, word),
-        Field::From(first) => from_flaw(names, circuit, first, word),
-        Field::Signal => signal_flaw(names, circuit, word),
+        Field::Register => register_flaw(rules, word),
+        Field::Named(register) => named_flaw(rules, register, word),
+        Field::From(first) => from_flaw(rules, first, word),
+        Field::Signal => signal_flaw(rules, word),
     }
 }
 

@@ -18,6 +18,7 @@ mod number;
 mod period;
 mod reader;
 mod report;
+mod rules;
 mod sections;
 mod timing;
 mod timing_values;

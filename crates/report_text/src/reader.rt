@@ -10,11 +10,9 @@ ghost use Rattle.report_text.specs.ReportFaults.{HasFault};
 
 mod body;
 mod heading;
-mod line;
+pub(crate) mod line;
 mod parts;
-mod section;
-mod timing;
-mod tree;
+mod rows;
 
 use crate::assembly::report_of;
 use crate::fault::ReportFault;

@@ -1,39 +1,41 @@
-//! The values that the lines of a report's timing tell. Each line has no flaw.
+//! What the lines of a report's timing say.
 
-ghost use Rattle.std.specs.Prelude.{◌≡◌, ◌≤ℤ◌, ◌^◌, ℕ, ℤ, pos, All, IfOk, codes, map};
+ghost use Rattle.std.specs.Prelude.{◌≡◌, ◌^◌, ◌<◌, ℤ, All, IfOk, codes, length, map};
 ghost use Rattle.std.specs.Str.{bytes_eq};
 ghost use Rattle.cts_base.specs.Fractions.{HasSizeBelow, fraction_text};
 ghost use Rattle.cts_base.specs.NumberTexts.{SpellsWhole, HaveSmallSizes};
-ghost use Rattle.cts_model.specs.declared.circuit.Circuit as model;
 ghost use Rattle.cts_model.specs.text.PrintedLines.{slack_text};
-ghost use Rattle.cts_model.specs.report.ReportLines.{version_line};
 ghost use Rattle.cts_model.specs.timing.Slacks.{IsSmallSlack};
 ghost use Rattle.report_text.specs.declared.form.Form.TheVariants as form;
-ghost use Rattle.report_text.specs.declared.form.Scale as scales;
 ghost use Rattle.report_text.specs.Fields.{IsFractionForm, NamesSignal};
-ghost use Rattle.report_text.specs.NamesOf.{AreNamesOf};
-ghost use Rattle.report_text.specs.TimingValues.{IsFlawless, DenotesPeriod, DenotesShow, DenotesConstraint, DenotesPath, NamesSignals, DenotesArrival, DenotesLead, IsSlackWord};
+ghost use Rattle.report_text.specs.TimingValues.{IsFlawless, DenotesPeriod, DenotesShow, DenotesConstraint, DenotesPath, NamesSignals, DenotesLead, IsSlackWord};
+ghost use Rattle.report_text.specs.Walks.{DenotesTimed, DenotesVersion};
 
 use crate::field::Keyword;
-use crate::form::Scale;
+use crate::form::Form;
 use crate::known::{known_register, known_signal};
-use crate::names::Names;
 use crate::number::{number_of, steps_of};
+use crate::reader::line::Line;
+use crate::rules::Rules;
 use crate::words::{is_word, word_at, words_after};
 use cts_base::{Fraction, Listed, NoMemory, read_fraction, read_whole};
 use cts_model::{Constraint, Lead, Slack, Version};
-use std::alloc::Global;
 
-/// The version of a report.
-pub(crate) fn version_of(words: &[&[u8]]) -> Version
-    ensures { (circuit : model.Circuit) (scale : scales.Scale)
-        → IsFlawless circuit scale form.Version (map (λ word. word.now) words.now)
-        → map (λ word. word.now) words.now ≡ version_line result }
-{
-    if is_one(word_at(words, 1)) {
-        Version::First
-    } else {
-        Version::Second
+impl Line for Version {
+    ghost due = { λ number. form.Version };
+
+    ghost says = { λ circuit scale number words version. DenotesVersion words version };
+
+    fn form(_number: u32) -> Form {
+        Form::Version
+    }
+
+    fn of(_rules: &Rules, _number: u32, words: &[&[u8]]) -> Result<Version, NoMemory> {
+        if is_one(word_at(words, 1)) {
+            Ok(Version::First)
+        } else {
+            Ok(Version::Second)
+        }
     }
 }
 
@@ -43,13 +45,27 @@ fn is_one(word: &[u8]) -> bool
     word == b"1".as_slice()
 }
 
-/// The period in ticks.
-pub(crate) fn period_of(words: &[&[u8]]) -> Fraction
-    ensures { (circuit : model.Circuit) (scale : scales.Scale)
-        → IsFlawless circuit scale form.Period (map (λ word. word.now) words.now)
-        → DenotesPeriod (map (λ word. word.now) words.now) result }
-{
-    fraction_of(word_at(words, 1))
+/// The line of the period.
+#[derive(Clone, Copy, Debug, PartialEq, Eq)]
+pub(crate) struct PeriodLine {
+    /// The period in ticks.
+    pub period: Fraction,
+}
+
+impl Line for PeriodLine {
+    ghost due = { λ number. form.Period };
+
+    ghost says = { λ circuit scale number words line. DenotesPeriod words line.period };
+
+    fn form(_number: u32) -> Form {
+        Form::Period
+    }
+
+    fn of(_rules: &Rules, _number: u32, words: &[&[u8]]) -> Result<PeriodLine, NoMemory> {
+        Ok(PeriodLine {
+            period: fraction_of(word_at(words, 1)),
+        })
+    }
 }
 
 // The fraction that a word spells.
@@ -63,27 +79,54 @@ fn fraction_of(word: &[u8]) -> Fraction
     }
 }
 
-/// How many constraints show the period, or `None` where the floor does.
-pub(crate) fn show_of(words: &[&[u8]]) -> Option<u32>
-    requires { (circuit : model.Circuit) × (scale : scales.Scale)
-        × IsFlawless circuit scale form.Show (map (λ word. word.now) words.now) }
-    ensures { DenotesShow (map (λ word. word.now) words.now) result }
-{
-    if is_word(words, 0, Keyword::Floor) {
-        None
-    } else {
-        Some(number_of(word_at(words, 1)))
+/// The line for what shows the period.
+#[derive(Clone, Copy, Debug, PartialEq, Eq)]
+pub(crate) struct ShowLine {
+    /// How many constraints show it, or `None` where the floor does.
+    pub count: Option<u32>,
+}
+
+impl Line for ShowLine {
+    ghost due = { λ number. form.Show };
+
+    ghost says = { λ circuit scale number words line. DenotesShow words line.count };
+
+    fn form(_number: u32) -> Form {
+        Form::Show
+    }
+
+    fn of(_rules: &Rules, _number: u32, words: &[&[u8]]) -> Result<ShowLine, NoMemory> {
+        if is_word(words, 0, Keyword::Floor) {
+            return Ok(ShowLine { count: None });
+        }
+        let count = number_of(word_at(words, 1));
+        Ok(ShowLine { count: Some(count) })
     }
 }
 
-/// A constraint of the cycle.
-pub(crate) fn constraint_of(names: &Names, words: &[&[u8]]) -> Constraint
-    ensures { (circuit : model.Circuit) (scale : scales.Scale) → AreNamesOf circuit names.now
-        → IsFlawless circuit scale form.Constraint (map (λ word. word.now) words.now)
-        → DenotesConstraint circuit (map (λ word. word.now) words.now) result }
+impl Line for Constraint {
+    ghost due = { λ number. form.Constraint };
+
+    ghost says = { λ circuit scale number words constraint.
+        DenotesConstraint circuit words constraint };
+
+    fn form(_number: u32) -> Form {
+        Form::Constraint
+    }
+
+    fn of(rules: &Rules, _number: u32, words: &[&[u8]]) -> Result<Constraint, NoMemory> {
+        Ok(constraint_of(rules, words))
+    }
+}
+
+// A constraint of the cycle.
+fn constraint_of(rules: &Rules, words: &[&[u8]]) -> Constraint
+    requires { IsFlawless rules.now.circuit.now rules.now.scale form.Constraint
+        (map (λ word. word.now) words.now) }
+    ensures { DenotesConstraint rules.now.circuit.now (map (λ word. word.now) words.now) result }
 {
-    let launch = known_register(names, word_at(words, 1));
-    let capture = known_register(names, word_at(words, 2));
+    let launch = known_register(rules, word_at(words, 1));
+    let capture = known_register(rules, word_at(words, 2));
     let weight = weight_of(word_at(words, 3));
     if is_setup(word_at(words, 0)) {
         Constraint {
@@ -119,35 +162,42 @@ fn weight_of(word: &[u8]) -> i128
     }
 }
 
-/// The signals of a path; none where it isn't printed.
-pub(crate) fn path_of(
-    alloc: Global,
-    names: &Names,
-    words: &[&[u8]],
-) -> Result<Listed<u32>, NoMemory>
-    ensures { IfOk result (λ path. (circuit : model.Circuit) (scale : scales.Scale)
-        → AreNamesOf circuit names.now
-        → IsFlawless circuit scale form.Path (map (λ word. word.now) words.now)
-        → DenotesPath circuit (map (λ word. word.now) words.now) path) }
-{
-    let path = signals_of(alloc, names, words_after(words, 2))?;
-    Ok(path)
+/// The line of a path.
+#[derive(Drop)]
+pub(crate) struct PathLine {
+    /// Its signals; none where it isn't printed.
+    pub signals: Listed<u32>,
+}
+
+impl Line for PathLine {
+    ghost due = { λ number. form.Path };
+
+    ghost says = { λ circuit scale number words line. DenotesPath circuit words line.signals };
+
+    fn form(_number: u32) -> Form {
+        Form::Path
+    }
+
+    fn of(rules: &Rules, _number: u32, words: &[&[u8]]) -> Result<PathLine, NoMemory> {
+        let signals = signals_of(rules, words_after(words, 2))?;
+        Ok(PathLine { signals })
+    }
 }
 
 // The signals of these names.
-fn signals_of(alloc: Global, names: &Names, words: &[&[u8]]) -> Result<Listed<u32>, NoMemory>
-    ensures { IfOk result (λ path. (circuit : model.Circuit) → AreNamesOf circuit names.now
-        → All (NamesSignal circuit) (map (λ word. word.now) words.now)
-        → NamesSignals circuit (map (λ word. word.now) words.now) path) }
+fn signals_of(rules: &Rules, words: &[&[u8]]) -> Result<Listed<u32>, NoMemory>
+    requires { All (NamesSignal rules.now.circuit.now) (map (λ word. word.now) words.now) }
+    ensures { IfOk result
+        (NamesSignals rules.now.circuit.now (map (λ word. word.now) words.now)) }
 {
-    let mut path = Listed::new(alloc);
+    let mut path = Listed::new(rules.alloc);
     for word in words {
-        path.push(known_signal(names, word))?;
+        path.push(known_signal(rules, word))?;
     }
     Ok(path)
 }
 
-/// What the line of a register denotes of it.
+/// The line of a register.
 #[derive(Clone, Copy, Debug, PartialEq, Eq)]
 pub(crate) struct Timed {
     /// When the clock reaches it, in steps.
@@ -156,23 +206,23 @@ pub(crate) struct Timed {
     pub slack: Slack,
 }
 
-/// The arrival and the slacks of a register.
-pub(crate) fn timed_of(scale: Scale, words: &[&[u8]]) -> Timed
-    requires some { pos 1 ≤ℤ scale.den }
-    requires small { HasSizeBelow (10 ^ 37) scale.den }
-    requires flawless { (circuit : model.Circuit) × (register : ℕ)
-        × IsFlawless circuit scale (form.Register register) (map (λ word. word.now) words.now) }
-    ensures { (circuit : model.Circuit) (register : ℕ)
-        → IsFlawless circuit scale (form.Register register) (map (λ word. word.now) words.now)
-        → DenotesArrival circuit scale.den register (map (λ word. word.now) words.now)
-        result.arrival result.slack }
-{
-    Timed {
-        arrival: steps_of(word_at(words, 1), scale.den),
-        slack: Slack {
-            setup: slack_of(word_at(words, 2)),
-            hold: slack_of(word_at(words, 3)),
-        },
+impl Line for Timed {
+    ghost due = { form.Register };
+
+    ghost says = { DenotesTimed };
+
+    fn form(number: u32) -> Form {
+        Form::Register(number)
+    }
+
+    fn of(rules: &Rules, _number: u32, words: &[&[u8]]) -> Result<Timed, NoMemory> {
+        let arrival = steps_of(word_at(words, 1), rules.scale.den);
+        let setup = slack_of(word_at(words, 2));
+        let hold = slack_of(word_at(words, 3));
+        Ok(Timed {
+            arrival,
+            slack: Slack { setup, hold },
+        })
     }
 }
 
@@ -187,19 +237,21 @@ fn slack_of(word: &[u8]) -> Option<Fraction>
     }
 }
 
-/// Why a register's arrival can't be earlier.
-pub(crate) fn lead_of(names: &Names, words: &[&[u8]]) -> Lead
-    requires { (circuit : model.Circuit) × (scale : scales.Scale)
-        × IsFlawless circuit scale form.Lead (map (λ word. word.now) words.now) }
-    ensures { (circuit : model.Circuit) (scale : scales.Scale) → AreNamesOf circuit names.now
-        → IsFlawless circuit scale form.Lead (map (λ word. word.now) words.now)
-        → DenotesLead circuit (map (λ word. word.now) words.now) result }
-{
-    if is_word(words, 1, Keyword::Zero) {
-        return Lead::Zero;
+impl Line for Lead {
+    ghost due = { λ number. form.Lead };
+
+    ghost says = { λ circuit scale number words lead. DenotesLead circuit words lead };
+
+    fn form(_number: u32) -> Form {
+        Form::Lead
     }
-    Lead::Tight {
-        depth: number_of(word_at(words, 1)),
-        constraint: constraint_of(names, words_after(words, 2)),
+
+    fn of(rules: &Rules, _number: u32, words: &[&[u8]]) -> Result<Lead, NoMemory> {
+        if is_word(words, 1, Keyword::Zero) {
+            return Ok(Lead::Zero);
+        }
+        let depth = number_of(word_at(words, 1));
+        let constraint = constraint_of(rules, words_after(words, 2));
+        Ok(Lead::Tight { depth, constraint })
     }
 }

@@ -1,22 +1,22 @@
-//! The values of the lines of a report's tree.
+//! What the lines of a report's tree say.
 
 ghost use Rattle.std.specs.Prelude.{◌≡◌, ◌<◌, ◌≤◌, ◌+◌, ◌^◌, ℕ, ℤ, [], true, false, get_or, length, map};
-ghost use Rattle.cts_model.specs.declared.circuit.Circuit as model;
 ghost use Rattle.cts_model.specs.declared.tree.Show.TheVariants as show;
-ghost use Rattle.report_text.specs.declared.form.Form.TheVariants as form;
-ghost use Rattle.report_text.specs.TimingValues.{IsFlawless};
 ghost use Rattle.report_text.specs.declared.field.Keyword.TheVariants as word;
+ghost use Rattle.report_text.specs.declared.form.Form.TheVariants as form;
+ghost use Rattle.report_text.specs.declared.form.Scale as scales;
 ghost use Rattle.report_text.specs.Fields.{NamesRegister};
 ghost use Rattle.report_text.specs.Forms.{is_word, points_of};
-ghost use Rattle.report_text.specs.NamesOf.{AreNamesOf};
-ghost use Rattle.report_text.specs.Values.{HasCorners, IsCorner, IsLengthWord, IsSinkOf, IsSmallScale, SaysMerge, SaysNode, SaysSource, SaysTotal, SaysWire, SpellsPoint, SpellsSteps};
+ghost use Rattle.report_text.specs.Values.{HasCorners, IsCorner, IsLengthWord, IsSinkOf, SaysMerge, SaysNode, SaysSource, SaysTotal, SaysWire, SpellsPoint, SpellsSteps};
 
 use crate::field::Keyword;
-use crate::form::Scale;
+use crate::form::Form;
 use crate::known::known_register;
-use crate::names::Names;
 use crate::number::{number_of, steps_of};
+use crate::reader::line::Line;
+use crate::rules::Rules;
 use crate::words::{is_word, word_at};
+use cts_base::NoMemory;
 use cts_model::{Merge, Point, Show, Wire};
 
 /// What the line of a merge says.
@@ -30,6 +30,30 @@ pub(crate) struct MergeLine {
     pub show: Show,
 }
 
+impl Line for MergeLine {
+    ghost due = { form.Merge };
+
+    ghost says = { λ circuit scale node words line.
+        SaysMerge circuit scale.grid node words line };
+
+    fn form(number: u32) -> Form {
+        Form::Merge(number)
+    }
+
+    fn of(rules: &Rules, _number: u32, words: &[&[u8]]) -> Result<MergeLine, NoMemory> {
+        let first = number_of(word_at(words, 1));
+        let second = number_of(word_at(words, 2));
+        let reach = length_of(rules, word_at(words, 3));
+        let left = known_register(rules, word_at(words, 5));
+        let right = known_register(rules, word_at(words, 6));
+        Ok(MergeLine {
+            merge: Merge { first, second },
+            reach,
+            show: Show::Pair(left, right),
+        })
+    }
+}
+
 /// What the line of the source says.
 #[derive(Clone, Copy, Debug, PartialEq, Eq)]
 pub(crate) struct SourceLine {
@@ -37,6 +61,37 @@ pub(crate) struct SourceLine {
     pub reach: i128,
     /// What shows it.
     pub show: Show,
+}
+
+impl Line for SourceLine {
+    ghost due = { λ number. form.Source };
+
+    ghost says = { λ circuit scale number words line. SaysSource circuit scale.grid words line };
+
+    fn form(_number: u32) -> Form {
+        Form::Source
+    }
+
+    fn of(rules: &Rules, _number: u32, words: &[&[u8]]) -> Result<SourceLine, NoMemory> {
+        let reach = length_of(rules, word_at(words, 1));
+        let show = source_show(rules, words);
+        Ok(SourceLine { reach, show })
+    }
+}
+
+// What shows the source's reach.
+fn source_show(rules: &Rules, words: &[&[u8]]) -> Show
+    requires { is_word (map (λ word. word.now) words.now) 2 word.Root ≡ false
+        → NamesRegister rules.now.circuit.now (get_or (map (λ word. word.now) words.now) 3 []) }
+    ensures root { is_word (map (λ word. word.now) words.now) 2 word.Root ≡ true
+        → result ≡ show.Root }
+    ensures sink { is_word (map (λ word. word.now) words.now) 2 word.Root ≡ false
+        → IsSinkOf rules.now.circuit.now (get_or (map (λ word. word.now) words.now) 3 []) result }
+{
+    if is_word(words, 2, Keyword::Root) {
+        return Show::Root;
+    }
+    Show::Sink(known_register(rules, word_at(words, 3)))
 }
 
 /// What the line of a node says.
@@ -50,87 +105,37 @@ pub(crate) struct NodeLine {
     pub wire: Wire,
 }
 
-/// The values of a merge's line.
-pub(crate) fn merge_of(names: &Names, scale: Scale, words: &[&[u8]]) -> MergeLine
-    requires scale { IsSmallScale scale }
-    requires line { (circuit : model.Circuit) × (node : ℕ) × (node < 2 ^ 32)
-        × IsFlawless circuit scale (form.Merge node) (map (λ word. word.now) words.now) }
-    ensures { (circuit : model.Circuit) (node : ℕ) → AreNamesOf circuit names.now → node < 2 ^ 32
-        → IsFlawless circuit scale (form.Merge node) (map (λ word. word.now) words.now)
-        → SaysMerge circuit scale.grid node (map (λ word. word.now) words.now) result }
-{
-    let first = number_of(word_at(words, 1));
-    let second = number_of(word_at(words, 2));
-    let reach = length_of(word_at(words, 3), scale);
-    let left = known_register(names, word_at(words, 5));
-    let right = known_register(names, word_at(words, 6));
-    MergeLine {
-        merge: Merge { first, second },
-        reach,
-        show: Show::Pair(left, right),
+impl Line for NodeLine {
+    ghost due = { form.Node };
+
+    ghost says = { λ circuit scale node words line. SaysNode scale.grid node words line };
+
+    fn form(number: u32) -> Form {
+        Form::Node(number)
     }
-}
 
-/// The values of the source's line.
-pub(crate) fn source_of(names: &Names, scale: Scale, words: &[&[u8]]) -> SourceLine
-    requires scale { IsSmallScale scale }
-    requires line { (circuit : model.Circuit)
-        × IsFlawless circuit scale form.Source (map (λ word. word.now) words.now) }
-    ensures { (circuit : model.Circuit) → AreNamesOf circuit names.now
-        → IsFlawless circuit scale form.Source (map (λ word. word.now) words.now)
-        → SaysSource circuit scale.grid (map (λ word. word.now) words.now) result }
-{
-    let reach = length_of(word_at(words, 1), scale);
-    let show = source_show(names, words);
-    SourceLine { reach, show }
-}
-
-// What shows the source's reach.
-fn source_show(names: &Names, words: &[&[u8]]) -> Show
-    ensures root { is_word (map (λ word. word.now) words.now) 2 word.Root ≡ true
-        → result ≡ show.Root }
-    ensures sink { (circuit : model.Circuit) → AreNamesOf circuit names.now
-        → is_word (map (λ word. word.now) words.now) 2 word.Root ≡ false
-        → NamesRegister circuit (get_or (map (λ word. word.now) words.now) 3 [])
-        → IsSinkOf circuit (get_or (map (λ word. word.now) words.now) 3 []) result }
-{
-    if is_word(words, 2, Keyword::Root) {
-        return Show::Root;
-    }
-    Show::Sink(known_register(names, word_at(words, 3)))
-}
-
-/// The values of a node's line, which has a word.
-pub(crate) fn node_of(scale: Scale, words: &[&[u8]]) -> NodeLine
-    requires scale { IsSmallScale scale }
-    requires some { 0 < length words.now }
-    requires line { (circuit : model.Circuit) × (node : ℕ) × (node < 2 ^ 32)
-        × IsFlawless circuit scale (form.Node node) (map (λ word. word.now) words.now) }
-    ensures { (circuit : model.Circuit) (node : ℕ) → node < 2 ^ 32
-        → IsFlawless circuit scale (form.Node node) (map (λ word. word.now) words.now)
-        → SaysNode scale.grid node (map (λ word. word.now) words.now) result }
-{
-    let place = point_at(scale, words, 1);
-    let length = length_of(word_at(words, 3), scale);
-    let wire = wire_of(scale, words);
-    NodeLine {
-        place,
-        length,
-        wire,
+    fn of(rules: &Rules, _number: u32, words: &[&[u8]]) -> Result<NodeLine, NoMemory> {
+        let place = point_at(rules, words, 1);
+        let length = length_of(rules, word_at(words, 3));
+        let wire = wire_of(rules, words);
+        Ok(NodeLine {
+            place,
+            length,
+            wire,
+        })
     }
 }
 
 // The wire that the words from the sixth on tell.
-fn wire_of(scale: Scale, words: &[&[u8]]) -> Wire
-    requires scale { IsSmallScale scale }
-    requires corners { HasCorners scale.grid (map (λ word. word.now) words.now) }
-    ensures { SaysWire scale.grid (map (λ word. word.now) words.now) result }
+fn wire_of(rules: &Rules, words: &[&[u8]]) -> Wire
+    requires corners { HasCorners rules.now.scale.grid (map (λ word. word.now) words.now) }
+    ensures { SaysWire rules.now.scale.grid (map (λ word. word.now) words.now) result }
 {
-    let first = corner_at(scale, words, 5);
-    let second = corner_at(scale, words, 7);
-    let third = corner_at(scale, words, 9);
-    let fourth = corner_at(scale, words, 11);
-    let fifth = corner_at(scale, words, 13);
+    let first = corner_at(rules, words, 5);
+    let second = corner_at(rules, words, 7);
+    let third = corner_at(rules, words, 9);
+    let fourth = corner_at(rules, words, 11);
+    let fifth = corner_at(rules, words, 13);
     Wire {
         corners: [first, second, third, fourth, fifth],
         used: points_of(words),
@@ -147,50 +152,59 @@ fn points_of(words: &[&[u8]]) -> u8
 }
 
 // The point that the words at a place and after it tell, and (0, 0) where they aren't there.
-fn corner_at(scale: Scale, words: &[&[u8]], place: usize) -> Point
-    requires scale { IsSmallScale scale }
-    requires corners { HasCorners scale.grid (map (λ word. word.now) words.now) }
+fn corner_at(rules: &Rules, words: &[&[u8]], place: usize) -> Point
+    requires corners { HasCorners rules.now.scale.grid (map (λ word. word.now) words.now) }
     requires low { 5 ≤ place }
     requires high { place ≤ 13 }
-    ensures { IsCorner scale.grid (map (λ word. word.now) words.now) place result }
+    ensures { IsCorner rules.now.scale.grid (map (λ word. word.now) words.now) place result }
 {
     if place + 1 < words.len() {
-        point_at(scale, words, place)
+        point_at(rules, words, place)
     } else {
         Point { x: 0, y: 0 }
     }
 }
 
 // The point that the words at a place and after it tell.
-fn point_at(scale: Scale, words: &[&[u8]], place: usize) -> Point
-    requires scale { IsSmallScale scale }
+fn point_at(rules: &Rules, words: &[&[u8]], place: usize) -> Point
     requires place { place ≤ 13 }
-    requires x { IsLengthWord scale.grid (get_or (map (λ word. word.now) words.now) place []) }
-    requires y { IsLengthWord scale.grid
+    requires x { IsLengthWord rules.now.scale.grid (get_or (map (λ word. word.now) words.now) place []) }
+    requires y { IsLengthWord rules.now.scale.grid
         (get_or (map (λ word. word.now) words.now) (place + 1) []) }
-    ensures { SpellsPoint scale.grid (get_or (map (λ word. word.now) words.now) place [])
+    ensures { SpellsPoint rules.now.scale.grid (get_or (map (λ word. word.now) words.now) place [])
         (get_or (map (λ word. word.now) words.now) (place + 1) []) result }
 {
-    let x = length_of(word_at(words, place), scale);
-    let y = length_of(word_at(words, place + 1), scale);
+    let x = length_of(rules, word_at(words, place));
+    let y = length_of(rules, word_at(words, place + 1));
     Point { x, y }
 }
 
-/// The value of the last line, the length of all edges in grid steps.
-pub(crate) fn total_of(scale: Scale, words: &[&[u8]]) -> i128
-    requires scale { IsSmallScale scale }
-    requires line { (circuit : model.Circuit)
-        × IsFlawless circuit scale form.Total (map (λ word. word.now) words.now) }
-    ensures { SaysTotal scale.grid (map (λ word. word.now) words.now) result }
-{
-    length_of(word_at(words, 1), scale)
+/// The last line.
+#[derive(Clone, Copy, Debug, PartialEq, Eq)]
+pub(crate) struct TotalLine {
+    /// The length of all edges, in grid steps.
+    pub length: i128,
 }
 
-// The grid steps of a length.
-fn length_of(word: &[u8], scale: Scale) -> i128
-    requires scale { IsSmallScale scale }
-    requires word { (steps : ℤ) × SpellsSteps scale.grid word.now steps }
-    ensures { SpellsSteps scale.grid word.now result }
+impl Line for TotalLine {
+    ghost due = { λ number. form.Total };
+
+    ghost says = { λ circuit scale number words line. SaysTotal scale.grid words line.length };
+
+    fn form(_number: u32) -> Form {
+        Form::Total
+    }
+
+    fn of(rules: &Rules, _number: u32, words: &[&[u8]]) -> Result<TotalLine, NoMemory> {
+        let length = length_of(rules, word_at(words, 1));
+        Ok(TotalLine { length })
+    }
+}
+
+// The length that a word tells, in grid steps.
+fn length_of(rules: &Rules, word: &[u8]) -> i128
+    requires { (steps : ℤ) × SpellsSteps rules.now.scale.grid word.now steps }
+    ensures { SpellsSteps rules.now.scale.grid word.now result }
 {
-    steps_of(word, scale.grid)
+    steps_of(word, rules.scale.grid)
 }

@@ -8,9 +8,9 @@ ghost use Rattle.report_text.specs.ReportFaults.{HasFault};
 use crate::cursor::Cursor;
 use crate::fault::ReportFault;
 use crate::grid::scale_of;
-use crate::names::Names;
 use crate::reader::body::read_body;
 use crate::reader::heading::{read_heading, read_shown};
+use crate::rules::Rules;
 use crate::sections::Parts;
 use cts_model::{Circuit, Tech};
 use std::alloc::Global;
@@ -26,20 +26,12 @@ pub(crate) fn read_parts(
     ensures fault { IfErr result (λ found. found ≢ fault.NoMemory
         → HasFault circuit.now tech.now bytes.now (Some found)) }
 {
-    let names = Names::new(alloc, circuit)?;
+    let unscaled = Rules::new(alloc, circuit)?;
     let mut cursor = Cursor::of(bytes);
-    let heading = read_heading(alloc, &names, circuit, &mut cursor)?;
-    let scale = scale_of(heading.period, tech);
-    let shown = read_shown(
-        alloc,
-        &names,
-        circuit,
-        scale,
-        heading.version,
-        heading.count,
-        &mut cursor,
-    )?;
-    let body = read_body(alloc, &names, circuit, scale, heading.version, &mut cursor)?;
+    let heading = read_heading(&unscaled, &mut cursor)?;
+    let rules = unscaled.with_scale(scale_of(heading.period, tech));
+    let shown = read_shown(&rules, heading.version, heading.count, &mut cursor)?;
+    let body = read_body(&rules, heading.version, &mut cursor)?;
     at_end(&cursor)?;
     Ok(Parts {
         heading,

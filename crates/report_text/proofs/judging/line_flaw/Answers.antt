@@ -12,14 +12,14 @@ returns-then-fields-words c each =
 
 pub loop-place-preserved : goal.loop-place-preserved
 loop-place-preserved c =
-    line_more c.args.circuit.now c.args.fields.now c.args.words.now (λ word. word.now)
+    line_more c.args.rules.now.circuit.now c.args.fields.now c.args.words.now (λ word. word.now)
     c.loop-place.place _ _ c.loop-place.flaw c.word_flaw-found.result c.sooner-flaw.result
     c.if-fields-words.false c.loop-place-test.true c.loop-place.invariant
     c.word_flaw-found.ensures c.sooner-flaw.ensures
 
 pub returns : goal.returns
 returns c =
-    line_whole c.args.circuit.now c.args.fields.now c.args.words.now (λ word. word.now)
+    line_whole c.args.rules.now.circuit.now c.args.fields.now c.args.words.now (λ word. word.now)
     c.loop-place.place c.loop-place.flaw c.if-fields-words.false
     (omega (arith, c.loop-place.auto.place-end, c.loop-place-test.false))
     c.loop-place.invariant

@@ -4,8 +4,8 @@ use Rattle.report_text.proofs.judging.name.from_flaw.Goals as goal
 
 pub returns-in-Some : goal.returns-in-Some
 returns-in-Some c =
-    let circuit = c.args.circuit.now in
-    let denoted = c.in-Some.ensures circuit c.requires.names in (
+    let circuit = c.args.rules.now.circuit.now in
+    let denoted = c.in-Some.ensures in (
       tt,
       (c.in-Some.found, denoted.0, denoted.1),
       λ register within same.

@@ -3,8 +3,8 @@ use Rattle.report_text.proofs.judging.name.named_flaw.Goals as goal
 
 pub returns-in-Some-2 : goal.returns-in-Some-2
 returns-in-Some-2 c =
-    let circuit = c.args.circuit.now in
-    let denoted = c.in-Some.ensures circuit c.requires.names in (
+    let circuit = c.args.rules.now.circuit.now in
+    let denoted = c.in-Some.ensures in (
       tt,
       (c.in-Some.found, denoted.0, denoted.1),
       other_register circuit c.in-Some.found c.args.register c.args.word.now denoted.0 denoted.1

@@ -1,0 +1,247 @@
+-- Lines of one form, one after the other, and the rows that they tell.
+use Rattle.std.proofs.Common.{ℕ, zero, suc, ◌≡◌, ◌<◌, ◌≤◌, ◌+◌, ◌*◌, All, List, [], ◌∷◌, ◌++◌, map, length, get_or, replicate, refl, sym, ap, ap₂, subst, ◌∙◌, arith}
+use Rattle.std.specs.List.{range_with_len}
+use Rattle.std.proofs.lemmas.List.{length-append, length-map}
+use Rattle.std.proofs.lemmas.List.Elements.{All-cons, All-map, All-nil, All-push}
+use Rattle.std.proofs.lemmas.List.FromFn.{length-map-range_with_len, map-range_with_len_more}
+use Rattle.cts_model.specs.declared.circuit.Circuit.{Circuit}
+use Rattle.cts_model.specs.declared.constraint.Constraint.{Constraint}
+use Rattle.cts_model.specs.declared.report.Version.TheVariants as version
+use Rattle.cts_model.specs.text.PrintedLines.{Words, count_line, line_for}
+use Rattle.cts_model.specs.report.ReportBounds.{HasSmallWeight, IsBetweenRegisters}
+use Rattle.cts_model.specs.report.ReportLines.{path_line, pathed_lines}
+use Rattle.report_text.specs.declared.fault.ReportFault.{ReportFault}
+use Rattle.report_text.specs.declared.field.Keyword.{Keyword}
+use Rattle.report_text.specs.declared.form.Form.{Form}
+use Rattle.report_text.specs.declared.form.Form.TheVariants as form
+use Rattle.report_text.specs.declared.form.Scale.{Scale}
+use Rattle.report_text.specs.declared.sections.Pathed.{Pathed}
+use Rattle.report_text.specs.declared.timing_values.PathLine.{PathLine}
+use Rattle.report_text.specs.Forms.{cycle_forms}
+use Rattle.report_text.specs.Keywords.{keyword_text}
+use Rattle.report_text.specs.Rows.{Counted, HasPathed, HasRows, SayEach, lines_of}
+use Rattle.report_text.specs.TimingValues.{DenotesConstraint, DenotesPath}
+use Rattle.report_text.specs.Walks.{Left, Reads, Stops, StopsLine, DenotesLine}
+use Rattle.report_text.proofs.WalkLemmas.{next_read, next_stops, read_more, read_none, stop_line}
+
+-- a list with one more item
+module _ {X : Type 0} (xs xs' : List X) (x : X) (is : xs' ≡ xs ++ x ∷ []) where
+  pub longer : (count : ℕ) → length xs ≡ count → length xs' ≡ count + 1
+  longer count long =
+      omega (arith, ap (λ (l : List X). length l) is, length-append xs (x ∷ []), long)
+
+  all_with : (P : X → Type 0) → All P xs → P x → All P xs'
+  all_with P each last = subst (All P) (sym is) (All-push P xs x each last)
+
+-- ---- rows
+
+module _ {X : Type 0} (Says : ℕ → Words → X → Type 0) where
+  -- one more line and its row
+  say_more : (first : ℕ) (lines : List Words) (rows : List X) (words : Words) (row : X)
+      → SayEach Says first lines rows → Says (first + length rows) words row
+      → SayEach Says first (lines ++ words ∷ []) (rows ++ row ∷ [])
+  say_more first [] [] words row each says = (subst (λ n. Says n words row) (omega arith) says, tt)
+  say_more first [] (other ∷ rows) words row each says = absurd each
+  say_more first (line ∷ lines) [] words row each says = absurd each
+  say_more first (line ∷ lines) (other ∷ rows) words row each says = (
+    each.0,
+    say_more (first + 1) lines rows words row each.1
+        (subst (λ n. Says n words row) (omega arith) says),
+  )
+
+  -- the lines are those of the rows
+  pub rows_lines : (line : ℕ → X → Words)
+      → ((number : ℕ) (words : Words) (row : X) → Says number words row → words ≡ line number row)
+      → (first : ℕ) (lines : List Words) (rows : List X) → SayEach Says first lines rows
+      → lines ≡ lines_of line first rows
+  rows_lines line is first [] [] each = refl
+  rows_lines line is first [] (row ∷ rows) each = absurd each
+  rows_lines line is first (words ∷ lines) [] each = absurd each
+  rows_lines line is first (words ∷ lines) (row ∷ rows) each =
+      ap₂ (λ w ws. w ∷ ws) (is first words row each.0)
+      (rows_lines line is (first + 1) lines rows each.1)
+
+  -- and each row has what its line gives
+  pub rows_all : (P : X → Type 0)
+      → ((number : ℕ) (words : Words) (row : X) → Says number words row → P row)
+      → (first : ℕ) (lines : List Words) (rows : List X) → SayEach Says first lines rows
+      → All P rows
+  rows_all P has first [] [] each = All-nil P
+  rows_all P has first [] (row ∷ rows) each = absurd each
+  rows_all P has first (words ∷ lines) [] each = absurd each
+  rows_all P has first (words ∷ lines) (row ∷ rows) each = All-cons P row rows
+      (has first words row each.0) (rows_all P has (first + 1) lines rows each.1)
+
+-- lines that have no number
+pub plain_lines : {X : Type 0} (line : X → Words) (first : ℕ) (rows : List X)
+    → lines_of (λ number. line) first rows ≡ map line rows
+plain_lines line first [] = refl
+plain_lines line first (row ∷ rows) =
+    ap (λ lines. line row ∷ lines) (plain_lines line (first + 1) rows)
+
+-- forms that are numbered
+numbered_step : (due : ℕ → Form) (first place : ℕ)
+    → map due (range_with_len first (place + 1))
+    ≡ map due (range_with_len first place) ++ due (first + place) ∷ []
+numbered_step due first place = map-range_with_len_more due first place (first + place) refl
+
+-- where all are one form
+pub one_form : (due : Form) (first count : ℕ)
+    → map (λ number. due) (range_with_len first count) ≡ replicate count due
+one_form due first zero = refl
+one_form due first (suc count) = ap (λ forms. due ∷ forms) (one_form due (first + 1) count)
+
+-- the lines of numbers, where each is that of a row
+numbered_lines : {X : Type 0} (f : ℕ → Words) (line : ℕ → X → Words) (default : X)
+    (start first : ℕ) (rows : List X)
+    → ((place node number : ℕ) → start + place ≡ node → first + place ≡ number
+    → place < length rows → f node ≡ line number (get_or rows place default))
+    → map f (range_with_len start (length rows)) ≡ lines_of line first rows
+numbered_lines f line default start first [] same = refl
+numbered_lines f line default start first (row ∷ rows) same =
+    ap₂ (λ w ws. w ∷ ws) (same 0 start first (omega arith) (omega arith) (omega arith))
+    (numbered_lines f line default (start + 1) (first + 1) rows
+    (λ place node number is is' within.
+    same (suc place) node number (omega (arith, is)) (omega (arith, is')) (omega (arith, within))))
+
+-- of numbers from 0 on
+pub numbered_rows : {X : Type 0} (f : ℕ → Words) (line : ℕ → X → Words) (default : X)
+    (first : ℕ) (rows : List X)
+    → ((place : ℕ) → place < length rows
+    → f place ≡ line (first + place) (get_or rows place default))
+    → map f (range_with_len 0 (length rows)) ≡ lines_of line first rows
+numbered_rows f line default first rows same =
+    numbered_lines f line default 0 first rows (λ place node number is is' within.
+    let here : node ≡ place = omega (arith, is) in
+    ap f here ∙ same place within ∙ ap (λ n. line n (get_or rows place default)) is')
+
+module _ {X : Type 0} {circuit : Circuit} {scale : Scale} (due : ℕ → Form)
+    (Says : ℕ → Words → X → Type 0) (first : ℕ) {old : Left} where
+  -- before the first
+  pub no_rows : HasRows circuit scale due Says first 0 old old []
+  no_rows = record { lines = []; read = read_none circuit scale old; each = tt; many = refl }
+
+  module _ {place : ℕ} {between : Left} {rows : List X}
+      (has : HasRows circuit scale due Says first place old between rows) where
+    -- the number of the next line
+    pub rows_number : between.line ≡ old.line + place
+    rows_number = omega (arith, has.read.number, length-map-range_with_len due first place)
+
+    -- one more row
+    pub rows_next : (rows' : List X) (row : X) (new : Left)
+        → DenotesLine circuit scale (due (first + place)) (Says (first + place)) between new row
+        → rows' ≡ rows ++ row ∷ []
+        → HasRows circuit scale due Says first (place + 1) old new rows'
+    rows_next rows' row new next is = record {
+      lines = has.lines ++ next.words ∷ [];
+      read = next_read (λ n. map due (range_with_len first n)) (λ n. due (first + n) ∷ [])
+          (numbered_step due first) place has.lines (next.words ∷ [])
+          (has.lines ++ next.words ∷ []) old between new has.read
+          (next.line.read scale next.line.flawless) refl;
+      each = subst (SayEach Says first (has.lines ++ next.words ∷ [])) (sym is)
+          (say_more Says first has.lines rows next.words row has.each
+          (subst (λ n. Says (first + n) next.words row) (sym has.many) next.denoted));
+      many = longer rows rows' row is place has.many;
+    }
+
+    -- a fault of the next line
+    pub rows_stop : (count : ℕ) (fault : ReportFault) → place < count
+        → StopsLine circuit scale (due (first + place)) between fault
+        → Stops circuit scale (map due (range_with_len first count)) old fault
+    rows_stop count fault within stops =
+        next_stops (λ n. map due (range_with_len first n)) (λ n. due (first + n) ∷ [])
+        (numbered_step due first) place count has.lines old between fault within has.read
+        (stop_line circuit scale (due (first + place)) between fault stops)
+
+module _ {X : Type 0} {circuit : Circuit} {scale : Scale} {keyword : Keyword} {due : ℕ → Form}
+    {Says : ℕ → Words → X → Type 0} {first count : ℕ} {old new : Left} {rows : List X}
+    (has : Counted circuit scale keyword due Says first count old new rows) where
+  -- the lines of rows, after how many they are
+  pub counted_read : Reads circuit scale
+      (form.Count keyword count ∷ map due (range_with_len first count))
+      (count_line (keyword_text keyword) count ∷ has.has.lines) old new
+  counted_read =
+      read_more (has.counted.read scale has.counted.flawless)
+      (map due (range_with_len first count)) has.has.lines new has.has.read
+
+  pub counted_number : new.line ≡ old.line + 1 + count
+  counted_number =
+      let head = has.counted.read scale has.counted.flawless in
+      omega (arith, head.number, rows_number due Says first has.has)
+
+-- what the rows tell, value by value
+module _ {X Y : Type 0} {circuit : Circuit} {scale : Scale} {due : ℕ → Form}
+    (Says : ℕ → Words → X → Type 0) {first count : ℕ} {old new : Left} {rows : List X}
+    (f : X → Y) (has : HasRows circuit scale due Says first count old new rows) where
+  pub values_many : length (map f rows) ≡ count
+  values_many = length-map rows f ∙ has.many
+
+  pub values_all : (P : Y → Type 0)
+      → ((number : ℕ) (words : Words) (row : X) → Says number words row → P (f row))
+      → All P (map f rows)
+  values_all P gives = All-map P f rows
+      (rows_all Says (λ row. P (f row)) gives first has.lines rows has.each)
+
+-- ---- a cycle with paths
+
+-- its forms
+pub pathed_step : (place : ℕ) → cycle_forms version.Second (place + 1)
+    ≡ cycle_forms version.Second place ++ form.Constraint ∷ form.Path ∷ []
+pathed_step zero = refl
+pathed_step (suc place) =
+    let more : suc place + 1 ≡ suc (place + 1) = omega arith in
+    ap (cycle_forms version.Second) more
+    ∙ ap (λ forms. form.Constraint ∷ form.Path ∷ forms) (pathed_step place)
+
+pub length_pathed : (place : ℕ) → length (cycle_forms version.Second place) ≡ 2 * place
+length_pathed zero = refl
+length_pathed (suc place) = omega (arith, length_pathed place)
+
+-- its lines
+pathed_more : (circuit : Circuit) (cycle : List Constraint) (paths : List (List ℕ))
+    (constraint : Constraint) (path : List ℕ) → length cycle ≡ length paths
+    → pathed_lines circuit (cycle ++ constraint ∷ []) (paths ++ path ∷ [])
+    ≡ pathed_lines circuit cycle paths
+    ++ line_for circuit constraint ∷ path_line circuit path ∷ []
+pathed_more circuit [] [] constraint path as_many = refl
+pathed_more circuit [] (first ∷ paths) constraint path as_many = absurd (omega arith)
+pathed_more circuit (first ∷ cycle) [] constraint path as_many = absurd (omega arith)
+pathed_more circuit (first ∷ cycle) (way ∷ paths) constraint path as_many =
+    ap (λ lines. line_for circuit first ∷ path_line circuit way ∷ lines)
+    (pathed_more circuit cycle paths constraint path (omega arith))
+
+-- one more constraint and its path
+pub pathed_next : {circuit : Circuit} {scale : Scale} {place : ℕ} {old between new : Left}
+    (middle : Left) (pathed pathed' : Pathed) (constraint : Constraint)
+    (path : PathLine) → HasPathed circuit scale place old between pathed
+    → DenotesLine circuit scale form.Constraint
+    (DenotesConstraint circuit) between middle constraint
+    → DenotesLine circuit scale form.Path (λ words line. DenotesPath circuit words line.signals)
+    middle new path
+    → pathed'.cycle ≡ pathed.cycle ++ constraint ∷ []
+    → pathed'.paths ≡ pathed.paths ++ path.signals ∷ []
+    → HasPathed circuit scale (place + 1) old new pathed'
+pathed_next {circuit} {scale} {place} {old} {between} {new} middle pathed pathed' constraint path
+    has next way cycle paths = record {
+      lines = next_read (cycle_forms version.Second) (λ n. form.Constraint ∷ form.Path ∷ [])
+          pathed_step place (pathed_lines circuit pathed.cycle pathed.paths)
+          (next.words ∷ way.words ∷ []) (pathed_lines circuit pathed'.cycle pathed'.paths)
+          old between new has.lines
+          (read_more (next.line.read scale next.line.flawless) (form.Path ∷ []) (way.words ∷ []) new
+          (way.line.read scale way.line.flawless))
+          (ap₂ (pathed_lines circuit) cycle paths
+          ∙ pathed_more circuit pathed.cycle pathed.paths constraint path.signals
+          (has.as_many ∙ sym has.paths)
+          ∙ ap₂ (λ first second. pathed_lines circuit pathed.cycle pathed.paths
+          ++ first ∷ second ∷ []) (sym next.denoted.line) (sym way.denoted.line));
+      as_many = longer pathed.cycle pathed'.cycle constraint cycle place has.as_many;
+      paths = longer pathed.paths pathed'.paths path.signals paths place has.paths;
+      registers = all_with pathed.cycle pathed'.cycle constraint cycle
+          (IsBetweenRegisters (length circuit.registers)) has.registers next.denoted.registers;
+      weights = all_with pathed.cycle pathed'.cycle constraint cycle HasSmallWeight has.weights
+          next.denoted.weight;
+      signals = all_with pathed.paths pathed'.paths path.signals paths
+          (All (λ number. number < length circuit.signals)) has.signals way.denoted.signals;
+      few = all_with pathed.paths pathed'.paths path.signals paths
+          (λ (each : List ℕ). length each ≤ 65536) has.few way.denoted.few;
+    }

@@ -1,0 +1,70 @@
+use Rattle.std.proofs.Common.{[], ◌∷◌, arith}
+use Rattle.cts_model.specs.declared.report.Version.TheVariants as version
+use Rattle.report_text.specs.declared.form.Form.TheVariants as form
+use Rattle.report_text.specs.Forms.{cycle_forms}
+use Rattle.report_text.specs.Walks.{Stops}
+use Rattle.report_text.proofs.RowLemmas.{length_pathed, pathed_next, pathed_step}
+use Rattle.report_text.proofs.WalkLemmas.{next_stops, passed_on, stop_before, stop_after, stop_line}
+use Rattle.report_text.proofs.reader.rows.read_pathed.Goals as goal
+
+pub read-requires : goal.read-requires
+read-requires c = record {
+  line = omega (
+    arith,
+    c.loop-place.invariant.lines.number,
+    length_pathed c.loop-place._place,
+    c.loop-place-test.true,
+    c.requires.line,
+    c.requires.count,
+  );
+}
+
+pub read-requires-in-loop-place : goal.read-requires-in-loop-place
+read-requires-in-loop-place c =
+    let next = c.in_ok-constraint.ensures.ok in
+    let read = next.line.read c.args.rules.now.scale next.line.flawless in
+    record {
+      line = omega (
+        arith,
+        c.loop-place.invariant.lines.number,
+        read.number,
+        length_pathed c.loop-place._place,
+        c.loop-place-test.true,
+        c.requires.line,
+        c.requires.count,
+      );
+    }
+
+pub returns-in_err-constraint-clause-fault : goal.returns-in_err-constraint-clause-fault
+returns-in_err-constraint-clause-fault c =
+    passed_on c.from_residual.result c.in_err-constraint.field-0.0
+    (Stops c.args.rules.now.circuit.now c.args.rules.now.scale (cycle_forms version.Second c.args.count)
+    c.args.cursor.now) c.from_residual.ensures.1
+    (next_stops (cycle_forms version.Second) (λ n. form.Constraint ∷ form.Path ∷ []) pathed_step
+    c.loop-place._place c.args.count _ c.args.cursor.now c.loop-place.cursor
+    c.in_err-constraint.field-0.0 c.loop-place-test.true c.loop-place.invariant.lines
+    (stop_before c.args.rules.now.circuit.now c.args.rules.now.scale (form.Constraint ∷ []) (form.Path ∷ [])
+    c.loop-place.cursor c.in_err-constraint.field-0.0
+    (stop_line c.args.rules.now.circuit.now c.args.rules.now.scale form.Constraint c.loop-place.cursor
+    c.in_err-constraint.field-0.0 c.in_err-constraint.ensures.fault)))
+
+pub returns-in_err-path-clause-fault : goal.returns-in_err-path-clause-fault
+returns-in_err-path-clause-fault c =
+    let next = c.in_ok-constraint.ensures.ok in
+    passed_on c.from_residual-in_err-path.result c.in_err-path.field-0.0
+    (Stops c.args.rules.now.circuit.now c.args.rules.now.scale (cycle_forms version.Second c.args.count)
+    c.args.cursor.now) c.from_residual-in_err-path.ensures.1
+    (next_stops (cycle_forms version.Second) (λ n. form.Constraint ∷ form.Path ∷ []) pathed_step
+    c.loop-place._place c.args.count _ c.args.cursor.now c.loop-place.cursor
+    c.in_err-path.field-0.0 c.loop-place-test.true c.loop-place.invariant.lines
+    (stop_after (next.line.read c.args.rules.now.scale next.line.flawless) (form.Path ∷ [])
+    c.in_err-path.field-0.0
+    (stop_line c.args.rules.now.circuit.now c.args.rules.now.scale form.Path c.read.new.cursor
+    c.in_err-path.field-0.0 c.in_err-path.ensures.fault)))
+
+pub loop-place-preserved : goal.loop-place-preserved
+loop-place-preserved c =
+    pathed_next c.read.new.cursor c.loop-place.pathed c.push_pathed.new.pathed
+    c.in_ok-constraint.constraint c.in_ok-path.path c.loop-place.invariant
+    c.in_ok-constraint.ensures.ok c.in_ok-path.ensures.ok c.in_ok-push_pathed.ensures.cycle
+    c.in_ok-push_pathed.ensures.paths

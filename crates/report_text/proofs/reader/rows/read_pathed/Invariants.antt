@@ -1,0 +1,7 @@
+use Rattle.report_text.specs.Rows.{HasPathed}
+use Rattle.report_text.proofs.reader.rows.read_pathed.Given as goal
+
+-- what was read so far
+abbrev pub invariant-loop-place : goal.invariant-loop-place
+invariant-loop-place l =
+    HasPathed l.rules.circuit.now l.rules.scale l._place l.fn.cursor l.cursor l.pathed

@@ -1,0 +1,85 @@
+//! Lines of one form, one after the other.
+
+ghost use Rattle.std.specs.Prelude.{◌<◌, ◌≤◌, ◌∷◌, IfOk, IfErr, map};
+ghost use Rattle.std.specs.List.{range_with_len};
+ghost use Rattle.cts_model.specs.declared.report.Version.TheVariants as version;
+ghost use Rattle.report_text.specs.declared.form.Form.TheVariants as form;
+ghost use Rattle.report_text.specs.Forms.{cycle_forms};
+ghost use Rattle.report_text.specs.Rows.{Counted, HasPathed, HasRows};
+ghost use Rattle.report_text.specs.Walks.{Stops};
+
+use crate::cursor::Cursor;
+use crate::fault::ReportFault;
+use crate::field::Keyword;
+use crate::reader::line::{Line, read, read_count};
+use crate::rules::Rules;
+use crate::sections::{Pathed, no_cycle, push_pathed};
+use crate::timing_values::PathLine;
+use cts_base::Listed;
+use cts_model::Constraint;
+
+/// Reads so many lines, after how many they are. The first has this number.
+pub(crate) fn read_counted<L: Line>(
+    rules: &Rules,
+    word: Keyword,
+    first: u32,
+    count: u32,
+    cursor: &mut Cursor,
+) -> Result<Listed<L>, ReportFault>
+    requires line { cursor.old.line < 90000 }
+    requires first { first ≤ 10000 }
+    requires count { count ≤ 10000 }
+    ensures ok { IfOk result (Counted rules.now.circuit.now rules.now.scale word L.due
+        (L.says rules.now.circuit.now rules.now.scale) first count cursor.old cursor.new) }
+    ensures fault { IfErr result (Stops rules.now.circuit.now rules.now.scale
+        (form.Count word count ∷ map L.due (range_with_len first count)) cursor.old) }
+{
+    read_count(rules, word, count, cursor)?;
+    let rows = read_rows(rules, first, count, cursor)?;
+    Ok(rows)
+}
+
+/// Reads so many lines. The first has this number.
+pub(crate) fn read_rows<L: Line>(
+    rules: &Rules,
+    first: u32,
+    count: u32,
+    cursor: &mut Cursor,
+) -> Result<Listed<L>, ReportFault>
+    requires line { cursor.old.line < 100000 }
+    requires first { first ≤ 10000 }
+    requires count { count ≤ 10000 }
+    ensures ok { IfOk result (HasRows rules.now.circuit.now rules.now.scale L.due
+        (L.says rules.now.circuit.now rules.now.scale) first count cursor.old cursor.new) }
+    ensures fault { IfErr result (Stops rules.now.circuit.now rules.now.scale
+        (map L.due (range_with_len first count)) cursor.old) }
+{
+    let mut rows = Listed::new(rules.alloc);
+    for place in 0..count {
+        let row = read(rules, first + place, cursor)?;
+        rows.push(row)?;
+    }
+    Ok(rows)
+}
+
+/// Reads so many constraints of a cycle, each with its path.
+pub(crate) fn read_pathed(
+    rules: &Rules,
+    count: u32,
+    cursor: &mut Cursor,
+) -> Result<Pathed, ReportFault>
+    requires line { cursor.old.line < 100000 }
+    requires count { count ≤ 10000 }
+    ensures ok { IfOk result (HasPathed rules.now.circuit.now rules.now.scale count
+        cursor.old cursor.new) }
+    ensures fault { IfErr result (Stops rules.now.circuit.now rules.now.scale
+        (cycle_forms version.Second count) cursor.old) }
+{
+    let mut pathed = no_cycle(rules.alloc);
+    for _place in 0..count {
+        let constraint: Constraint = read(rules, 0, cursor)?;
+        let path: PathLine = read(rules, 0, cursor)?;
+        push_pathed(&mut pathed, constraint, path.signals)?;
+    }
+    Ok(pathed)
+}
