@@ -13,18 +13,47 @@ use Rattle.report_text.specs.declared.form.Form.{Form}
 use Rattle.report_text.specs.declared.form.Form.TheVariants as form
 use Rattle.report_text.specs.declared.form.Scale.{Scale}
 use Rattle.report_text.specs.declared.sections.Body.{Body}
+use Rattle.report_text.specs.declared.timing_values.Timed.{Timed}
 use Rattle.report_text.specs.Bodies.{HasBody, HasVersionLeads}
 use Rattle.report_text.specs.Forms.{forms_after, lead_forms}
 use Rattle.report_text.specs.ReportFaults.{HasFirstFault}
-use Rattle.report_text.specs.Rows.{HasRows}
+use Rattle.report_text.specs.Rows.{Counted, HasRows}
 use Rattle.report_text.specs.TimingValues.{DenotesLead}
-use Rattle.report_text.specs.Walks.{Left, Reads, Stops}
-use Rattle.report_text.proofs.RowLemmas.{counted_read, one_form}
+use Rattle.report_text.specs.Walks.{DenotesTimed, Left, Reads, Stops}
+use Rattle.report_text.proofs.RowLemmas.{counted_number, counted_read, one_form}
 use Rattle.report_text.proofs.WalkLemmas.{read_more, stop_after, stop_before}
 
--- a fault in one of five sections that are due one after the other
-module _ (circuit : Circuit) (scale : Scale) (a b c d e : List Form) (old : Left)
+-- the forms of three sections, after how many lines each has
+abbrev pub register_forms : ℕ → List Form
+register_forms count =
+    form.Count word.Registers count ∷ map form.Register (range_with_len 0 count)
+
+abbrev pub merge_forms : ℕ → List Form
+merge_forms count = form.Count word.Merges (count - 1)
+    ∷ map form.Merge (range_with_len count (count - 1))
+
+abbrev pub node_forms : ℕ → List Form
+node_forms count = form.Count word.Nodes (2 * count - 1)
+    ∷ map form.Node (range_with_len 0 (2 * count - 1))
+
+-- a fault in one of the five sections
+module _ (circuit : Circuit) (scale : Scale) (version : Version) (count : ℕ) (old : Left)
     (fault : ReportFault) where
+  abbrev a : List Form
+  a = register_forms count
+
+  abbrev b : List Form
+  b = lead_forms version count
+
+  abbrev c : List Form
+  c = merge_forms count
+
+  abbrev d : List Form
+  d = form.Source ∷ node_forms count
+
+  abbrev e : List Form
+  e = form.Total ∷ []
+
   after_fourth : Stops circuit scale (a ++ b ++ c ++ d) old fault
       → Stops circuit scale (a ++ b ++ c ++ d ++ e) old fault
   after_fourth stops = stop_before circuit scale (a ++ b ++ c ++ d) e old fault stops
@@ -62,26 +91,27 @@ module _ (circuit : Circuit) (scale : Scale) (a b c d e : List Form) (old : Left
         → Stops circuit scale (a ++ b ++ c ++ d ++ e) old fault
     fifth_stops read stops = stop_after read e fault stops
 
--- the forms of three sections, after how many lines each has
-abbrev pub register_forms : ℕ → List Form
-register_forms count =
-    form.Count word.Registers count ∷ map form.Register (range_with_len 0 count)
-
-abbrev pub merge_forms : ℕ → List Form
-merge_forms count = form.Count word.Merges (count - 1)
-    ∷ map form.Merge (range_with_len count (count - 1))
-
-abbrev pub node_forms : ℕ → List Form
-node_forms count = form.Count word.Nodes (2 * count - 1)
-    ∷ map form.Node (range_with_len 0 (2 * count - 1))
-
 -- there are no more leads than registers
-pub leads_line : (circuit : Circuit) (scale : Scale) (version : Version) (count : ℕ)
+leads_line : (circuit : Circuit) (scale : Scale) (version : Version) (count : ℕ)
     (old new : Left) (leads : List Lead) → HasVersionLeads circuit scale version count old new leads
     → new.line ≤ old.line + count
 leads_line circuit scale version.First count old new leads has = omega (arith, has.read.number)
 leads_line circuit scale version.Second count old new leads has =
     omega (arith, has.read.number, length-replicate count form.Lead)
+
+-- so the lines of both are at most twice as many, and one
+pub lines_before_merges : {circuit : Circuit} {scale : Scale} {version : Version} {count : ℕ}
+    {old between new : Left} {timings : List Timed} {leads : List Lead}
+    → Counted circuit scale word.Registers form.Register (DenotesTimed circuit scale) 0 count old
+    between timings → HasVersionLeads circuit scale version count between new leads
+    → new.line ≤ old.line + 1 + 2 * count
+lines_before_merges {circuit} {scale} {version} {count} {old} {between} {new} {timings} {leads}
+    registers has =
+    omega (
+      arith,
+      counted_number registers,
+      leads_line circuit scale version count between new leads has,
+    )
 
 -- the second version has the leads of all registers
 pub leads_given : {circuit : Circuit} {scale : Scale} {count : ℕ} {old new : Left}

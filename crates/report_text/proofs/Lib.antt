@@ -11,6 +11,7 @@ mod OneTiming
 mod OneTree
 pub mod ReportWords
 mod TreeValues
+mod LineWords
 mod WordBytes
 mod NameNumbers
 mod RegisterNames
