@@ -1,7 +1,6 @@
 -- Lines that are taken from a text one after the other.
 use Rattle.std.proofs.Common.{ℕ, zero, suc, ◌≡◌, ◌<◌, ◌+◌, ◌-◌, ◌==◌, Bool, true, false, Option, Some, None, Bor, Result, Ok, Err, IfErr, IsErrAnd, List, [], ◌∷◌, ◌++◌, map, length, take, drop, get_or, MatchBool, MatchOption, refl, sym, ap, ap₂, subst, ◌∙◌, append_assoc, append-nil, arith}
-use Rattle.std.proofs.lemmas.List.FromFn.{map-range_with_len_more, fill_by_all, length-map-range_with_len, get_or-map-range_with_len}
-use Rattle.std.specs.List.{range_with_len, slice_split, position}
+use Rattle.std.specs.List.{slice_split, position}
 use Rattle.std.proofs.lemmas.Bool.Decides.{nat_tests}
 use Rattle.std.proofs.lemmas.Grind.{flat_map-append}
 use Rattle.std.proofs.lemmas.List.{take-append-drop, drop-drop, length-append}

@@ -22,9 +22,11 @@ pub length_of-length-requires : goal.length_of-length-requires
 length_of-length-requires c =
     let line = node_words c.args.rules.now c.args._number c.args.words.now (omega arith)
     c.requires.some c.requires.flawless in
-    let (steps, low, spells) = line.edge in
-    (steps, subst (λ w. SpellsSteps c.args.rules.now.scale.grid w steps) (sym c.word_at.ensures)
-    spells)
+    let (steps, low, spells) = line.edge in (
+      steps,
+      subst (λ w. SpellsSteps c.args.rules.now.scale.grid w steps) (sym c.word_at.ensures)
+          spells,
+    )
 
 pub wire_of-wire-requires : goal.wire_of-wire-requires
 wire_of-wire-requires c =
