@@ -17,15 +17,15 @@ size_below bound (pos n) small = omega (arith, ints, small.below)
 size_below bound (negsuc n) small = omega (arith, ints, small.above)
 
 -- a product of two small numbers is small
-pub product_small : (a b : ℤ) → IsBelow (10 ^ 18) a → IsBelow (10 ^ 18) b
+pub product_small : (a b : ℤ) → IsBelow (10 ^ 20) a → IsBelow (10 ^ 16) b
     → IsBelow (10 ^ 37) (a *ℤ b)
 product_small a b small_a small_b =
-    let size : unsigned_abs (a *ℤ b) ≤ 10 ^ 18 * 10 ^ 18 =
+    let size : unsigned_abs (a *ℤ b) ≤ 10 ^ 20 * 10 ^ 16 =
     omega (
       arith,
       unsigned_abs-mul a b,
-      mul-le (unsigned_abs a) (unsigned_abs b) (10 ^ 18) (10 ^ 18)
-          (size_below (10 ^ 18) a small_a) (size_below (10 ^ 18) b small_b),
+      mul-le (unsigned_abs a) (unsigned_abs b) (10 ^ 20) (10 ^ 16)
+          (size_below (10 ^ 20) a small_a) (size_below (10 ^ 16) b small_b),
     ) in
-    let both = within_size (10 ^ 18 * 10 ^ 18) (a *ℤ b) size in
+    let both = within_size (10 ^ 20 * 10 ^ 16) (a *ℤ b) size in
     record { above = omega (arith, ints, both.0); below = omega (arith, ints, both.1) }

@@ -8,5 +8,5 @@ use Rattle.cert_check.specs.declared.value.Sums.{Sums}
 pub record AreSumsOf (cycle : List Constraint) (sums : Sums) : Type 0 where
   pub weight : sums.weight ≡ total_weight cycle
   pub count : sums.count ≡ pos (total_count cycle)
-  pub small_weight : IsBelow (10 ^ 17) sums.weight
-  pub small_count : IsBelow (10 ^ 17) sums.count
+  pub small_weight : IsBelow (10 ^ 16) sums.weight
+  pub small_count : IsBelow (10 ^ 16) sums.count

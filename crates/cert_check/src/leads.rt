@@ -10,10 +10,9 @@ ghost use Rattle.cert_check.specs.TightLeads.{IsTested, tight_constraints};
 
 use crate::down::are_same;
 use crate::judge::Judge;
-use crate::product::{difference, product};
-use crate::value::count_of;
+use crate::value::{asked, count_of};
 use crate::verdict::{Reason, Stop};
-use cts_base::{Fraction, NoMemory};
+use cts_base::NoMemory;
 use cts_model::{Constraint, Lead};
 use gate_order::Levels;
 use std::alloc::Global;
@@ -119,24 +118,10 @@ impl Judge<'_> {
         ensures { IsTrue result ↔ IsTight self.now.report.now.period
             self.now.report.now.schedule.at constraint.now }
     {
-        are_same(
-            self.lateness(constraint),
-            asked(self.report.period, constraint),
-        )
-    }
-
-    // How much later the head's arrival is.
-    fn lateness(&self, constraint: &Constraint) -> i128
-        requires among { IsBetweenRegisters (length self.now.report.now.leads) constraint.now }
-        requires all { length self.now.report.now.leads
-            ≡ length self.now.report.now.schedule.at }
-        ensures value { result ≡ arrival_of self.now.report.now.schedule.at constraint.now.head
-            -ℤ arrival_of self.now.report.now.schedule.at constraint.now.tail }
-        ensures small { IsBelow (10 ^ 38) result }
-    {
         let head = self.arrival(constraint.head as usize);
         let tail = self.arrival(constraint.tail as usize);
-        difference(head, tail)
+        let asked = asked(self.report.period, constraint.weight, count_of(constraint));
+        are_same(head - tail, asked)
     }
 
     // The arrival at a register.
@@ -195,37 +180,4 @@ fn depth_of(lead: Lead) -> u32
         Lead::Zero => 0,
         Lead::Tight { depth, .. } => depth,
     }
-}
-
-// How much later a constraint asks its head's arrival to be.
-fn asked(period: Fraction, constraint: &Constraint) -> i128
-    requires period { IsSmallPeriod period }
-    requires small { HasSmallWeight constraint.now }
-    ensures value { result ≡ (period.den *ℤ constraint.now.weight)
-        -ℤ (period.num *ℤ pos (count_of constraint.now)) }
-    ensures small { IsBelow (10 ^ 38) result }
-{
-    difference(
-        scaled_weight(period, constraint),
-        counted_period(period, constraint),
-    )
-}
-
-// The weight in ticks over the period's denominator.
-fn scaled_weight(period: Fraction, constraint: &Constraint) -> i128
-    requires period { IsSmallPeriod period }
-    requires small { HasSmallWeight constraint.now }
-    ensures value { result ≡ period.den *ℤ constraint.now.weight }
-    ensures small { IsBelow (10 ^ 37) result }
-{
-    product(period.den(), constraint.weight)
-}
-
-// The period as often as it is counted, in ticks over its denominator.
-fn counted_period(period: Fraction, constraint: &Constraint) -> i128
-    requires { IsSmallPeriod period }
-    ensures value { result ≡ period.num *ℤ pos (count_of constraint.now) }
-    ensures small { IsBelow (10 ^ 37) result }
-{
-    product(period.num(), count_of(constraint))
 }

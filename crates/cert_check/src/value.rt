@@ -1,4 +1,4 @@
-ghost use Rattle.std.specs.Prelude.{◌≡◌, ◌≤◌, ◌↔◌, ◌^◌, IsTrue, All, length, pos, ◌+ℤ◌, ◌*ℤ◌, ◌≤ℤ◌};
+ghost use Rattle.std.specs.Prelude.{◌≡◌, ◌≤◌, ◌↔◌, ◌^◌, IsTrue, All, length, pos, ◌+ℤ◌, ◌-ℤ◌, ◌*ℤ◌, ◌≤ℤ◌};
 ghost use Rattle.cts_model.specs.timing.Constraints.{count_of};
 ghost use Rattle.cts_model.specs.timing.Cycles.{total_count, total_weight};
 ghost use Rattle.cts_model.specs.report.Judgements.{GivesPeriod};
@@ -8,7 +8,6 @@ ghost use Rattle.cts_model.specs.report.ReportBounds.{HasSmallWeight, HasSmallWe
 ghost use Rattle.cts_model.specs.timing.Schedules.{IsSmallPeriod};
 ghost use Rattle.cert_check.specs.CycleSums.{AreSumsOf};
 
-use crate::down::are_same;
 use crate::product::product;
 use cts_base::Fraction;
 use cts_model::{Constraint, PeriodShow, Tech};
@@ -61,48 +60,18 @@ impl Sums {
     // Whether the sums give a period.
     fn give(self, period: Fraction) -> bool
         requires period { IsSmallPeriod period }
-        requires weight { IsBelow (10 ^ 17) self.weight }
-        requires count { IsBelow (10 ^ 17) self.count }
+        requires weight { IsBelow (10 ^ 16) self.weight }
+        requires count { IsBelow (10 ^ 16) self.count }
         ensures { IsTrue result ↔ ((pos 1 ≤ℤ self.count)
             × ((period.den *ℤ self.weight) ≡ (period.num *ℤ self.count))) }
     {
-        self.count >= 1 && self.are_worth(period)
-    }
-
-    // Whether the weight is so many periods as are counted.
-    fn are_worth(self, period: Fraction) -> bool
-        requires period { IsSmallPeriod period }
-        requires weight { IsBelow (10 ^ 17) self.weight }
-        requires count { IsBelow (10 ^ 17) self.count }
-        ensures { IsTrue result ↔ ((period.den *ℤ self.weight) ≡ (period.num *ℤ self.count)) }
-    {
-        are_same(self.scaled_weight(period), self.scaled_count(period))
-    }
-
-    // The weight in ticks over the period's denominator.
-    fn scaled_weight(self, period: Fraction) -> i128
-        requires period { IsSmallPeriod period }
-        requires weight { IsBelow (10 ^ 17) self.weight }
-        ensures value { result ≡ period.den *ℤ self.weight }
-        ensures small { IsBelow (10 ^ 37) result }
-    {
-        product(period.den(), self.weight)
-    }
-
-    // So many periods as are counted, in ticks over the period's denominator.
-    fn scaled_count(self, period: Fraction) -> i128
-        requires period { IsSmallPeriod period }
-        requires count { IsBelow (10 ^ 17) self.count }
-        ensures value { result ≡ period.num *ℤ self.count }
-        ensures small { IsBelow (10 ^ 37) result }
-    {
-        product(period.num(), self.count)
+        self.count >= 1 && asked(period, self.weight, self.count) == 0
     }
 
     // The sums with one more constraint.
     fn and(self, constraint: &Constraint) -> Sums
-        requires weight { IsBelow (10 ^ 17) self.weight }
-        requires count { IsBelow (10 ^ 17) self.count }
+        requires weight { IsBelow (10 ^ 16) self.weight }
+        requires count { IsBelow (10 ^ 16) self.count }
         requires small { HasSmallWeight constraint.now }
         ensures weight { result.weight ≡ self.weight +ℤ constraint.now.weight }
         ensures count { result.count ≡ self.count +ℤ pos (count_of constraint.now) }
@@ -112,6 +81,17 @@ impl Sums {
             count: self.count + count_of(constraint),
         }
     }
+}
+
+/// How much later a weight and so many periods ask an arrival to be, in ticks over the period's
+/// denominator.
+pub(crate) fn asked(period: Fraction, weight: i128, count: i128) -> i128
+    requires period { IsSmallPeriod period }
+    requires weight { IsBelow (10 ^ 16) weight }
+    requires count { IsBelow (10 ^ 16) count }
+    ensures { result ≡ (period.den *ℤ weight) -ℤ (period.num *ℤ count) }
+{
+    product(period.den(), weight) - product(period.num(), count)
 }
 
 /// How often a constraint counts the period.

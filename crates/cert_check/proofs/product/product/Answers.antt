@@ -1,4 +1,4 @@
--- A product of two numbers below 10^18 is below 10^37.
+-- A product of numbers below 10^20 and 10^16 is below 10^37.
 use Rattle.std.proofs.Common.{◌*ℤ◌, FitsSigned, refl, arith}
 use mir.Syntax.{w128}
 use Rattle.std.proofs.lemmas.Int.{ints, to_z-of_z}

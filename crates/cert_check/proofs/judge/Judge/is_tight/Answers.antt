@@ -1,8 +1,25 @@
 -- The differences are compared as they are.
-use Rattle.cert_check.proofs.KeptNumbers.{tests_same}
+use Rattle.std.proofs.Common.{◌-ℤ◌, ◌*ℤ◌, ◌∙◌, arith}
+use mir.Syntax.{w128}
+use Rattle.std.proofs.lemmas.Int.{ints, to_z-of_z}
 use Rattle.cert_check.proofs.judge.Judge.is_tight.Goals as goal
 
+pub overflow_sub-head : goal.overflow_sub-head
+overflow_sub-head c = omega (arith, ints, c.arrival-head.ensures.small, c.arrival-tail.ensures.small)
+
 pub returns : goal.returns
-returns c = tests_same c.are_same.result c.lateness.result c.asked.result _ _
-    c.lateness.ensures.small c.asked.ensures.small c.lateness.ensures.value c.asked.ensures.value
-    c.are_same.ensures
+returns c =
+    let period = c.args.self.now.report.now.period in
+    let constraint = c.args.constraint.now in
+    let head = c.arrival-head.ensures in
+    let tail = c.arrival-tail.ensures in
+    let weight = to_z-of_z w128 constraint.weight
+    (omega (arith, ints, c.requires.small.above, c.requires.small.below)) in
+    let count = to_z-of_z w128 c.count_of.result (record { sfits = c.count_of.type_inv })
+    ∙ c.count_of.ensures.value in
+    let asked = to_z-of_z w128 c.asked-asked.result (record { sfits = c.asked-asked.type_inv })
+    ∙ c.asked-asked.ensures
+    ∙ (λ i. (period.den *ℤ weight i) -ℤ (period.num *ℤ count i)) in (
+      λ test. omega (arith, ints, head, tail, asked, c.are_same.ensures.0 test),
+      λ tight. c.are_same.ensures.1 (omega (arith, ints, head, tail, asked, tight)),
+    )
