@@ -8,7 +8,7 @@ use Rattle.cts_model.specs.tree.Embeddings.{Embedding}
 use Rattle.cts_model.specs.report.Judgements.{IsDrawnEdge, IsLongEnough}
 use Rattle.cts_model.specs.placement.Points.{distance}
 use Rattle.cts_model.specs.tree.Topologies.{IsParent}
-use Rattle.cts_model.proofs.ParentLemmas.{one_parent}
+use Rattle.cts_model.proofs.ParentLemmas.{has_parent}
 use Rattle.cert_check.specs.Parents.{AreParents, parent_at}
 
 -- what is found at a place is one
@@ -18,10 +18,11 @@ some_same first second = cc (sym first ∙ second)
 
 module _ {sinks : ℕ} {merges : List Merge} (parents : List ℕ)
     (are : AreParents sinks merges parents) (edge : ℕ) (within : edge < length parents) where
-  -- a node that is a parent is the one that is listed
-  listed : (parent : ℕ) → IsParent sinks merges edge parent → parent_at parents edge ≡ parent
-  listed parent is = one_parent are.topology edge (parent_at parents edge) parent
-      (are.each edge (omega (arith, are.all))) is
+  -- the listed parent is one
+  listed : IsParent sinks merges edge (parent_at parents edge)
+  listed =
+      let (parent, is) = has_parent are.topology edge (omega (arith, are.all)) in
+      subst (IsParent sinks merges edge) (sym (are.each edge parent is)) is
 
   -- an edge is long enough exactly where it is from the listed parent
   pub reaches_same : (tree : Embedding)
@@ -30,8 +31,8 @@ module _ {sinks : ℕ} {merges : List Merge} (parents : List ℕ)
   reaches_same tree = (
     λ reaches parent is. subst
         (λ up. distance (tree.place up) (tree.place edge) ≤ℤ tree.length edge)
-        (listed parent is) reaches,
-    λ long. long (parent_at parents edge) (are.each edge (omega (arith, are.all))),
+        (are.each edge parent is) reaches,
+    λ long. long (parent_at parents edge) listed,
   )
 
   -- and its wire is drawn exactly where it is from there
@@ -43,8 +44,8 @@ module _ {sinks : ℕ} {merges : List Merge} (parents : List ℕ)
     λ drawn parent other is there.
         let one : wire ≡ other = some_same here there in
         subst (λ up. IsDrawn (tree.place up) (tree.place edge) (tree.length edge)
-        (take other.used other.corners)) (listed parent is)
+        (take other.used other.corners)) (are.each edge parent is)
         (subst (λ wire. IsDrawn (tree.place (parent_at parents edge)) (tree.place edge)
         (tree.length edge) (take wire.used wire.corners)) one drawn),
-    λ drawn. drawn (parent_at parents edge) wire (are.each edge (omega (arith, are.all))) here,
+    λ drawn. drawn (parent_at parents edge) wire listed here,
   )

@@ -1,5 +1,5 @@
 -- A sink is placed below a node exactly where it is below it.
-use Rattle.std.proofs.Common.{◌≡◌, ◌↔◌, ℕ, zero, suc, ◌<◌, ◌≤◌, ◌+◌, ℤ, pos, ◌+ℤ◌, ◌≤ℤ◌, List, [], ◌∷◌, ◌++◌, length, Some, inl, inr, refl, sym, ap, subst, arith}
+use Rattle.std.proofs.Common.{◌≡◌, ◌↔◌, ℕ, zero, suc, ◌<◌, ◌≤◌, ◌+◌, ℤ, pos, ◌≤ℤ◌, List, [], ◌∷◌, ◌++◌, length, Some, inl, inr, refl, sym, ap, subst, arith}
 use Rattle.std.specs.Prelude.{slice_get}
 use Rattle.std.specs.List.{Contains}
 use Rattle.std.proofs.lemmas.Int.{ints}
@@ -10,16 +10,35 @@ use Rattle.cts_model.specs.tree.Embeddings.{AreWiresDown}
 use Rattle.cts_model.specs.tree.Topologies.{IsTopology, IsParent, Joins, numbers_below, root_of, source_of}
 use Rattle.cts_model.proofs.ParentLemmas.{has_parent, made_parent, parent_above}
 use Rattle.cts_model.proofs.TopologyLemmas.{some_and, numbers_below-sink, numbers_below-merge, of_made}
-use Rattle.cert_check.specs.SinkOrders.{AreSizes, AreSteps, IsPlacedBelow}
+use Rattle.cert_check.specs.SinkOrders.{AreStarts, AreSteps, IsPlacedBelow, IsSinkOrder}
 
 -- a list of one item has no other
 only_item : {X : Type 0} (only item : X) → Contains (only ∷ []) item → item ≡ only
 only_item only item (zero, within, same) = sym same
 only_item only item (suc place, within, same) = absurd (omega arith)
 
-module _ {sinks : ℕ} {merges : List Merge} (topology : IsTopology sinks merges)
-    (size step start : ℕ → ℤ) (sizes : AreSizes sinks merges size)
-    (steps : AreSteps merges size step) (starts : AreWiresDown sinks merges step start) where
+-- wires down whose lengths are steps are starts
+pub starts_by_steps : (sinks : ℕ) (merges : List Merge) (size step start : ℕ → ℤ)
+    → AreSteps merges size step → AreWiresDown sinks merges step start
+    → AreStarts sinks merges size start
+starts_by_steps sinks merges size step start steps down = record {
+  first = λ place merge here.
+      let wire = down.each merge.first (sinks + place)
+      (made_parent sinks merges place merge here merge.first (inl refl)) in
+      let step = steps.first place merge here in
+      omega (arith, ints);
+  second = λ place merge here.
+      let wire = down.each merge.second (sinks + place)
+      (made_parent sinks merges place merge here merge.second (inr refl)) in
+      let step = steps.second place merge here in
+      omega (arith, ints);
+}
+
+module _ {sinks : ℕ} {merges : List Merge} {start size : ℕ → ℤ}
+    (order : IsSinkOrder sinks merges start size) where
+  topology : IsTopology sinks merges
+  topology = order.topology
+
   -- the sinks below what a merge makes are those below the two that it joins
   below_both : (place : ℕ) (merge : Merge) → slice_get merges place ≡ Some merge
       → numbers_below sinks merges (sinks + place)
@@ -27,30 +46,12 @@ module _ {sinks : ℕ} {merges : List Merge} (topology : IsTopology sinks merges
   below_both place merge here =
       numbers_below-merge sinks merges place merge here (topology.each place merge here)
 
-  -- the first of the two starts where the merge does
-  first_start : (place : ℕ) (merge : Merge) → slice_get merges place ≡ Some merge
-      → start merge.first ≡ start (sinks + place)
-  first_start place merge here =
-      let down = starts.each merge.first (sinks + place)
-      (made_parent sinks merges place merge here merge.first (inl refl)) in
-      let step = steps.first place merge here in
-      omega (arith, ints)
-
-  -- and the second after it
-  second_start : (place : ℕ) (merge : Merge) → slice_get merges place ≡ Some merge
-      → start merge.second ≡ start (sinks + place) +ℤ size merge.first
-  second_start place merge here =
-      let down = starts.each merge.second (sinks + place)
-      (made_parent sinks merges place merge here merge.second (inr refl)) in
-      let step = steps.second place merge here in
-      omega (arith, ints)
-
   -- each node counts something
   some_size : (node : ℕ) → node < sinks + length merges → pos 0 ≤ℤ size node
   some_size node made = of_made sinks merges topology.each (λ node. pos 0 ≤ℤ size node)
-      (λ register within. let one = sizes.of_sinks register within in omega (arith, ints))
+      (λ register within. let one = order.sizes.of_sinks register within in omega (arith, ints))
       (λ place merge here first second.
-      let both = sizes.of_merges place merge here in omega (arith, ints))
+      let both = order.sizes.of_merges place merge here in omega (arith, ints))
       node made
 
   -- a number below a node is placed below it
@@ -63,15 +64,15 @@ module _ {sinks : ℕ} {merges : List Merge} (topology : IsTopology sinks merges
       let only = subst (λ numbers. Contains numbers number)
       (numbers_below-sink sinks merges register within) below in
       let same = ap start (only_item register number only) in
-      let one = sizes.of_sinks register within in
+      let one = order.sizes.of_sinks register within in
       record { from = omega (arith, ints); until = omega (arith, ints) }
 
   merge_placed : (place : ℕ) (merge : Merge) → slice_get merges place ≡ Some merge
       → AllPlaced merge.first → AllPlaced merge.second → AllPlaced (sinks + place)
   merge_placed place merge here first second number below =
-      let one = first_start place merge here in
-      let other = second_start place merge here in
-      let both = sizes.of_merges place merge here in
+      let one = order.starts.first place merge here in
+      let other = order.starts.second place merge here in
+      let both = order.sizes.of_merges place merge here in
       let within = slice_get_within merges place merge here in
       let made = parent_above topology merge.first (sinks + place)
       (made_parent sinks merges place merge here merge.first (inl refl)) in
@@ -156,9 +157,9 @@ module _ {sinks : ℕ} {merges : List Merge} (topology : IsTopology sinks merges
       → (node : ℕ) → Joins merge node → OnlyPlaced (sinks + place) → OnlyPlaced node
   only_joined place merge here node joins only register within placed =
       let in_list = slice_get_within merges place merge here in
-      let one = first_start place merge here in
-      let other = second_start place merge here in
-      let both = sizes.of_merges place merge here in
+      let one = order.starts.first place merge here in
+      let other = order.starts.second place merge here in
+      let both = order.sizes.of_merges place merge here in
       let made = parent_above topology merge.first (sinks + place)
       (made_parent sinks merges place merge here merge.first (inl refl)) in
       let also_made = parent_above topology merge.second (sinks + place)

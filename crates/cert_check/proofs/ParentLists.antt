@@ -112,11 +112,10 @@ module _ {sinks : ℕ} {merges : List Merge} (topology : IsTopology sinks merges
     all = long;
     nodes = λ node default low.
         let is = get_or_default (set parents (root_of sinks) next) node default 0 low in
-        let up = parent_stands topology node
-        (parent_at (set parents (root_of sinks) next) node)
-        (each node (omega (arith, long, low))) in
-        omega (arith, is, up, topology.all);
-    each = each;
+        let (up, parent) = has_parent topology node (omega (arith, long, low)) in
+        let stands = parent_stands topology node up parent in
+        omega (arith, is, entry node up parent, stands, topology.all);
+    each = entry;
   }
     where
       long : length (set parents (root_of sinks) next) ≡ source_of sinks
@@ -139,9 +138,3 @@ module _ {sinks : ℕ} {merges : List Merge} (topology : IsTopology sinks merges
           ap (parent_at (set parents (root_of sinks) next)) is_root
           ∙ get_or-set_same parents (root_of sinks) next 0 low
           ∙ (let same : next ≡ up = omega (arith, before.parent, topology.all) in same)
-
-      each : (node : ℕ) → node < source_of sinks
-          → IsParent sinks merges node (parent_at (set parents (root_of sinks) next) node)
-      each node low =
-          let (up, is) = has_parent topology node low in
-          subst (IsParent sinks merges node) (sym (entry node up is)) is

@@ -1,5 +1,5 @@
 -- Shows and sinks as they are read from lists.
-use Rattle.std.proofs.Common.{◌≡◌, ◌↔◌, ◌<◌, ◌≤◌, ◌+◌, ◌^◌, ℕ, ℤ, pos, ◌+ℤ◌, Bool, IsTrue, List, length, get_or, to_z, of_z, sym, ap, subst, ◌∙◌, arith}
+use Rattle.std.proofs.Common.{◌≡◌, ◌↔◌, ◌<◌, ◌≤◌, ◌^◌, ℕ, ℤ, pos, ◌+ℤ◌, Bool, IsTrue, List, length, get_or, to_z, of_z, sym, ap, subst, ◌∙◌, arith}
 use mir.Syntax.{w128}
 use Rattle.std.specs.List.{All}
 use Rattle.std.specs.Prelude.{IsSomeAnd, slice_get}
@@ -7,17 +7,10 @@ use Rattle.std.proofs.lemmas.Int.{ints, to_z-of_z}
 use Rattle.std.proofs.lemmas.Option.{slice_get-get_or}
 use Rattle.cts_model.specs.declared.place.Sink.{Sink}
 use Rattle.cts_model.specs.declared.place.Uv.{Uv}
-use Rattle.cts_model.specs.declared.tree.Merge.{Merge}
 use Rattle.cts_model.specs.declared.tree.Show.{Show}
-use Rattle.cts_model.specs.declared.tree.Show.TheVariants as shows
 use Rattle.cts_model.specs.placement.Points.{IsBelow}
 use Rattle.cts_model.specs.tree.Regions.{span}
-use Rattle.cts_model.specs.report.ReportBounds.{ShowsAmong}
-use Rattle.cts_model.specs.tree.ShownReaches.{ShowsMerge, ShowsSource}
-use Rattle.cts_model.specs.tree.Topologies.{numbers_below}
-use Rattle.cert_check.specs.declared.order.SinkOrder.{SinkOrder}
-use Rattle.cert_check.specs.ReachParts.{ShowsPlaced}
-use Rattle.cert_check.specs.SinkOrders.{IsSinkOrder}
+use Rattle.cts_model.specs.tree.ShownReaches.{ShowsSource}
 
 -- a small number, as the code keeps it, is small
 pub kept_below : (low high : ℕ) (number : ℤ) → low ≤ high → high ≤ 10 ^ 36 → IsBelow low number
@@ -50,55 +43,7 @@ denotes_span sinks reach first second default test low also_low denotes =
     (denotes_found (λ other. reach +ℤ reach ≡ span (get_or sinks first default) other) sinks second
     default test also_low denotes)
 
--- what is placed below a node is below it, so the same shows give its reach
-pub placed_shows : (sinks : List Sink) (merges : List Merge) (order : SinkOrder)
-    → IsSinkOrder (length sinks) merges order → (node : ℕ) → node < length sinks + length merges
-    → (reach : ℤ) (show : Show) → ShowsAmong (length sinks) show
-    → ShowsPlaced sinks order node reach show
-    ↔ ShowsMerge sinks (numbers_below (length sinks) merges node) reach show
-placed_shows sinks merges order is node made reach (shows.Pair first second) (low, also_low) = (
-  λ shown. record {
-    ordered = shown.placed.ordered;
-    first_below = (is.below node first made low).1 shown.placed.first_below;
-    second_below = (is.below node second made also_low).1 shown.placed.second_below;
-    value = shown.value;
-  },
-  λ shown. record {
-    placed = record {
-      ordered = shown.ordered;
-      first_below = (is.below node first made low).0 shown.first_below;
-      second_below = (is.below node second made also_low).0 shown.second_below;
-    };
-    value = shown.value;
-  },
-)
-placed_shows sinks merges order is node made reach (shows.Sink register) among = (λ x. x, λ x. x)
-placed_shows sinks merges order is node made reach shows.Root among = (λ x. x, λ x. x)
-
--- so what is said of a merge's show, as it is read
-pub denotes_merge : (sinks : List Sink) (merges : List Merge) (order : SinkOrder)
-    → IsSinkOrder (length sinks) merges order → (place : ℕ) → place < length merges
-    → (list other : List Show) → other ≡ list → place < length list
-    → All (ShowsAmong (length sinks)) list → (reach number : ℤ) → number ≡ reach
-    → (default : Show) (test : Bool)
-    → IsTrue test ↔ ShowsPlaced sinks order (length sinks + place) number
-    (get_or other place default)
-    → IsTrue test ↔ IsSomeAnd (slice_get list place)
-    (ShowsMerge sinks (numbers_below (length sinks) merges (length sinks + place)) reach)
-denotes_merge sinks merges order is place low list other same within among reach number plain
-    default test denotes =
-    let node = length sinks + place in
-    let read = subst (λ list. IsTrue test ↔ ShowsPlaced sinks order node number
-    (get_or list place default)) same denotes in
-    let placed = subst (λ z. IsTrue test ↔ ShowsPlaced sinks order node z
-    (get_or list place default)) plain read in
-    let both = placed_shows sinks merges order is node (omega arith) reach
-    (get_or list place default) (among place default within) in
-    denotes_found (ShowsMerge sinks (numbers_below (length sinks) merges node) reach) list place
-    default test within
-    (λ holds. both.0 (placed.0 holds), λ shown. placed.1 (both.1 shown))
-
--- and of the source's
+-- what is said of the source's show, as it is read
 pub denotes_source : (sinks : List Sink) (source : Uv) (place : ℕ) (list other : List Show)
     → other ≡ list → place < length list → (root reach top number : ℤ) → top ≡ root
     → number ≡ reach → (default : Show) (test : Bool)

@@ -12,5 +12,5 @@ pub record AreParents (sinks : ℕ) (merges : List Merge) (parents : List ℕ) :
   pub topology : IsTopology sinks merges
   pub all : length parents ≡ source_of sinks
   pub nodes : All (λ parent. parent < 2 * sinks) parents
-  pub each : (node : ℕ) → node < source_of sinks
-      → IsParent sinks merges node (parent_at parents node)
+  pub each : (node parent : ℕ) → IsParent sinks merges node parent
+      → parent_at parents node ≡ parent

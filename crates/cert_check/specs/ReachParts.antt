@@ -1,18 +1,13 @@
 -- What the judgement of reaches compares in one tree. Boese and Kahng 1992;
 -- Chao and others 1992.
-use Rattle.std.specs.Prelude.{◌≡◌, ◌≤◌, ◌+◌, ℕ, ℤ, ◌+ℤ◌, ◌-ℤ◌, List, length, IfSome, IsSomeAnd, slice_get}
+use Rattle.std.specs.Prelude.{◌≡◌, ◌+◌, ℕ, ℤ, ◌-ℤ◌, List, length, IfSome, IsSomeAnd, slice_get}
 use Rattle.cts_model.specs.declared.place.Sink.{Sink}
 use Rattle.cts_model.specs.declared.place.Uv.{Uv}
 use Rattle.cts_model.specs.declared.report.Report.{Report}
-use Rattle.cts_model.specs.declared.tree.Show.{Show}
-use Rattle.cts_model.specs.declared.tree.Show.TheVariants as shows
 use Rattle.cts_model.specs.declared.tree.Tree.{Tree}
-use Rattle.cts_model.specs.tree.Regions.{span}
 use Rattle.cts_model.specs.report.ReportLines.{number_at}
 use Rattle.cts_model.specs.tree.ShownReaches.{ShowsMerge, ShowsSource}
 use Rattle.cts_model.specs.tree.Topologies.{numbers_below, root_of, source_of}
-use Rattle.cert_check.specs.declared.order.SinkOrder.{SinkOrder}
-use Rattle.cert_check.specs.SinkOrders.{IsInOrder}
 
 -- with this wire down to each node, those to a register and to the first one differ as their
 -- offsets do
@@ -42,23 +37,3 @@ pub record IsSourceShown (sinks : List Sink) (source : Uv) (report : Report) : T
   pub shown : IsSomeAnd (slice_get report.shows (length report.topology.merges))
       (ShowsSource sinks source (number_at report.tree.reach (root_of (length sinks)))
       (number_at report.tree.reach (source_of (length sinks))))
-
--- two sinks, in order, are placed below the node
-pub record ArePlaced (order : SinkOrder) (node first second : ℕ) : Type 0 where
-  pub ordered : first ≤ second
-  pub first_below : IsInOrder order node first
-  pub second_below : IsInOrder order node second
-
--- and twice the reach is their span
-pub record IsPairPlaced (sinks : List Sink) (order : SinkOrder) (node : ℕ) (reach : ℤ)
-    (first second : ℕ) : Type 0 where
-  pub placed : ArePlaced order node first second
-  pub value : IsSomeAnd (slice_get sinks first) (λ one. IsSomeAnd (slice_get sinks second)
-      (λ other. reach +ℤ reach ≡ span one other))
-
--- such a pair shows the node's reach
-abbrev pub ShowsPlaced : List Sink → SinkOrder → (node : ℕ) → (reach : ℤ) → Show → Type 0
-ShowsPlaced sinks order node reach (shows.Pair first second) =
-    IsPairPlaced sinks order node reach first second
-ShowsPlaced sinks order node reach (shows.Sink register) = ⊥
-ShowsPlaced sinks order node reach shows.Root = ⊥

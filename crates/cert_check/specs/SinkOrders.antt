@@ -1,10 +1,8 @@
 -- An order of the sinks in which those below each node of a topology stand next to one another.
 -- Topologies as in Boese and Kahng 1992; the order is this project's.
-use Rattle.std.specs.Prelude.{◌≡◌, ◌<◌, ◌+◌, ◌*◌, ◌↔◌, ℕ, ℤ, pos, ◌+ℤ◌, ◌≤ℤ◌, ◌<ℤ◌, List, length, Contains, Some, slice_get}
+use Rattle.std.specs.Prelude.{◌≡◌, ◌<◌, ◌≤◌, ◌+◌, ℕ, ℤ, pos, ◌+ℤ◌, ◌≤ℤ◌, ◌<ℤ◌, List, Contains, Some, slice_get}
 use Rattle.cts_model.specs.declared.tree.Merge.{Merge}
-use Rattle.cts_model.specs.report.ReportLines.{number_at}
-use Rattle.cts_model.specs.tree.Topologies.{IsTopology, numbers_below}
-use Rattle.cert_check.specs.declared.order.SinkOrder.{SinkOrder}
+use Rattle.cts_model.specs.tree.Topologies.{IsTopology}
 
 -- a sink counts one, and a merge's node what the two that it joins do
 pub record AreSizes (sinks : ℕ) (merges : List Merge) (size : ℕ → ℤ) : Type 0 where
@@ -24,14 +22,22 @@ pub record IsPlacedBelow (start size : ℕ → ℤ) (node register : ℕ) : Type
   pub from : start node ≤ℤ start register
   pub until : start register <ℤ (start node +ℤ size node)
 
-abbrev pub IsInOrder : SinkOrder → (node register : ℕ) → Type 0
-IsInOrder order node register =
-    IsPlacedBelow (number_at order.starts.items) (number_at order.sizes.items) node register
+-- of the two that a merge joins the first begins where the merge's node does, and the second after
+-- the sinks of the first
+pub record AreStarts (sinks : ℕ) (merges : List Merge) (size start : ℕ → ℤ) : Type 0 where
+  pub first : (place : ℕ) (merge : Merge) → slice_get merges place ≡ Some merge
+      → start merge.first ≡ start (sinks + place)
+  pub second : (place : ℕ) (merge : Merge) → slice_get merges place ≡ Some merge
+      → start merge.second ≡ start (sinks + place) +ℤ size merge.first
 
--- it is one over the nodes of a topology, and the sinks that are placed below one are those below
--- it
-pub record IsSinkOrder (sinks : ℕ) (merges : List Merge) (order : SinkOrder) : Type 0 where
+-- it is one over the nodes of a topology: where those below each node begin, and how many they are
+pub record IsSinkOrder (sinks : ℕ) (merges : List Merge) (start size : ℕ → ℤ) : Type 0 where
   pub topology : IsTopology sinks merges
-  pub sizes : length order.sizes.items + 1 ≡ 2 * sinks
-  pub below : (node register : ℕ) → node < sinks + length merges → register < sinks
-      → Contains (numbers_below sinks merges node) register ↔ IsInOrder order node register
+  pub sizes : AreSizes sinks merges size
+  pub starts : AreStarts sinks merges size start
+
+-- two sinks, in order, are among the numbered ones
+pub record AreBelow (numbers : List ℕ) (first second : ℕ) : Type 0 where
+  pub ordered : first ≤ second
+  pub first_below : Contains numbers first
+  pub second_below : Contains numbers second

@@ -1,9 +1,8 @@
-ghost use Rattle.std.specs.Prelude.{◌≡◌, ◌↔◌, IfOk, length};
+ghost use Rattle.std.specs.Prelude.{◌≡◌, ◌↔◌, IfOk};
 ghost use Rattle.cts_model.specs.report.ReportBounds.{IsOfSize, IsWithinBounds};
 ghost use Rattle.cts_model.specs.report.SaidReports.{ShowsWhatItSays};
 ghost use Rattle.cts_model.specs.report.Shown.{IsShown, ShowsLeast, cycle_of};
 ghost use Rattle.cts_model.specs.timing.Slacks.{AreSlacks};
-ghost use Rattle.cts_model.specs.tree.Topologies.{IsTopology};
 ghost use Rattle.gate_order.specs.LevelParts.{IsLevelsOf};
 ghost use Rattle.cert_check.specs.declared.verdict.Verdict.{Verdict};
 ghost use Rattle.cert_check.specs.Judged.{Decides};
@@ -11,6 +10,8 @@ ghost use Rattle.cert_check.specs.Verdicts.{EmbeddingJudged, IsVerdict, IsVerdic
 
 use crate::Verdict;
 use crate::judge::Judge;
+use crate::parents::parents_of;
+use crate::shaped::ShapedTree;
 use crate::sinks::{sinks_of, source_of};
 use crate::verdict::Stop;
 use cts_base::NoMemory;
@@ -100,27 +101,35 @@ fn judge_embedding(
         judge.now.cycle.now verdict (verdict ≡ Verdict.Shown)))) result }
 {
     judge.judge_shape(alloc)?;
-    let parents = judge.parents(alloc)?;
-    judge.judge_lengths(parents.as_slice())?;
-    judge.judge_wires(parents.as_slice())?;
-    judge_tree(alloc, judge, levels, slacks)
+    let parents = parents_of(alloc, &judge.merges())?;
+    let tree = ShapedTree {
+        judge: *judge,
+        parents,
+    };
+    tree.judge_lengths()?;
+    tree.judge_wires()?;
+    judge_tree(alloc, &tree, levels, slacks)
 }
 
 // Those from the skews on.
-fn judge_tree(alloc: Global, judge: &Judge, levels: &Levels, slacks: &[Slack]) -> Result<(), Stop>
-    requires levels { IsLevelsOf judge.now.problem.now.circuit levels.now }
-    requires slacks { AreSlacks judge.now.problem.now.circuit judge.now.problem.now.tech
-        judge.now.report.now.period judge.now.report.now.schedule slacks.now }
-    requires topology { IsTopology (length judge.now.sinks.now)
-        judge.now.report.now.topology.merges }
-    ensures { Decides (λ verdict. ReachesJudged judge.now.report.now judge.now.sinks.now
-        judge.now.source verdict (RestJudged judge.now.problem.now judge.now.report.now
-        judge.now.cycle.now verdict (verdict ≡ Verdict.Shown))) result }
+fn judge_tree(
+    alloc: Global,
+    tree: &ShapedTree,
+    levels: &Levels,
+    slacks: &[Slack],
+) -> Result<(), Stop>
+    requires levels { IsLevelsOf tree.now.judge.problem.now.circuit levels.now }
+    requires slacks { AreSlacks tree.now.judge.problem.now.circuit tree.now.judge.problem.now.tech
+        tree.now.judge.report.now.period tree.now.judge.report.now.schedule slacks.now }
+    ensures { Decides (λ verdict. ReachesJudged tree.now.judge.report.now
+        tree.now.judge.sinks.now tree.now.judge.source verdict
+        (RestJudged tree.now.judge.problem.now tree.now.judge.report.now
+        tree.now.judge.cycle.now verdict (verdict ≡ Verdict.Shown))) result }
 {
-    judge.judge_skews(alloc)?;
-    judge.judge_reaches(alloc)?;
-    judge.judge_total()?;
-    judge_rest(alloc, judge, levels, slacks)
+    tree.judge_skews(alloc)?;
+    tree.judge_reaches(alloc)?;
+    tree.judge.judge_total()?;
+    judge_rest(alloc, &tree.judge, levels, slacks)
 }
 
 // Those from the slacks on.

@@ -2,8 +2,8 @@ ghost use Rattle.std.specs.Prelude.{◌≡◌, ◌<◌, ◌≤◌, ◌+◌, ◌*
 ghost use Rattle.cts_model.specs.tree.Embeddings.{AreWiresDown};
 ghost use Rattle.cts_model.specs.placement.Points.{IsBelow};
 ghost use Rattle.cts_model.specs.report.ReportLines.{number_at};
-ghost use Rattle.cts_model.specs.tree.Topologies.{IsTopology};
 
+use crate::merges::Merges;
 use cts_base::{Listed, NoMemory};
 use cts_model::Merge;
 use std::alloc::Global;
@@ -12,24 +12,22 @@ use std::alloc::Global;
 /// One pass over the merges.
 pub(crate) fn wires_down(
     alloc: Global,
-    sinks: usize,
-    merges: &[Merge],
+    merges: &Merges,
     lengths: &[i128],
 ) -> Result<Vec<i128>, NoMemory>
-    requires few { sinks ≤ 4097 }
-    requires topology { IsTopology sinks merges.now }
-    requires all { length lengths.now + 1 ≡ 2 * sinks }
+    requires all { length lengths.now + 1 ≡ 2 * merges.now.sinks }
     requires small { All (IsBelow (10 ^ 32)) lengths.now }
-    ensures wires { IfOk result (λ wires.
-        AreWiresDown sinks merges.now (number_at lengths.now) (number_at wires.items)) }
-    ensures all { IfOk result (λ wires. length wires.items ≡ 2 * sinks) }
+    ensures wires { IfOk result (λ wires. AreWiresDown merges.now.sinks merges.now.list.now
+        (number_at lengths.now) (number_at wires.items)) }
+    ensures all { IfOk result (λ wires. length wires.items ≡ 2 * merges.now.sinks) }
     ensures small { IfOk result (λ wires. All (IsBelow (10 ^ 36)) wires.items) }
 {
+    let Merges { sinks, list, .. } = *merges;
     let mut wires = Listed::from_vec(vec![in alloc; 0; 2 * sinks]?);
     wires.set(2 * sinks - 2, lengths[2 * sinks - 2]);
-    for done in 0..merges.len() {
-        let place = merges.len() - 1 - done;
-        hand_down(&mut wires, lengths, merges[place], sinks + place);
+    for done in 0..list.len() {
+        let place = list.len() - 1 - done;
+        hand_down(&mut wires, lengths, list[place], sinks + place);
     }
     Ok(wires.into_vec())
 }

@@ -1,7 +1,11 @@
-ghost use Rattle.std.specs.Prelude.{◌≡◌, ◌^◌, ◌+◌, All, length};
+ghost use Rattle.std.specs.Prelude.{◌≡◌, ◌+◌, ◌*◌, ◌^◌, ◌<◌, ◌↔◌, All, IsTrue, Contains, length};
 ghost use Rattle.cts_model.specs.placement.Points.{IsBelow};
+ghost use Rattle.cts_model.specs.report.ReportLines.{number_at};
+ghost use Rattle.cts_model.specs.tree.Topologies.{numbers_below};
+ghost use Rattle.cert_check.specs.SinkOrders.{AreBelow, IsPlacedBelow, IsSinkOrder};
 
 use crate::down::sum;
+use crate::judge::Judge;
 
 /// Where the sinks below each node stand in an order of all the sinks.
 #[derive(Debug, Drop)]
@@ -16,30 +20,51 @@ pub(crate) struct SinkOrder {
 }
 
 impl SinkOrder {
-    ghost use Rattle.std.specs.Prelude.{◌<◌, ◌↔◌, IsTrue};
-    ghost use Rattle.cert_check.specs.ReachParts.{ArePlaced};
-    ghost use Rattle.cert_check.specs.SinkOrders.{IsInOrder};
-
-    /// Whether two sinks are placed below a node, in order.
-    pub(crate) fn has_both_below(&self, node: usize, first: u32, second: u32) -> bool
+    // Whether a sink's place is one of those of a node.
+    fn has_placed(&self, node: usize, register: usize) -> bool
         requires node { node < length self.now.sizes.items }
-        requires first { first < length self.now.starts.items }
-        requires second { second < length self.now.starts.items }
-        ensures { IsTrue result ↔ ArePlaced self.now node first second }
+        requires register { register < length self.now.starts.items }
+        ensures { IsTrue result ↔ IsPlacedBelow (number_at self.now.starts.items)
+            (number_at self.now.sizes.items) node register }
+    {
+        let start = self.starts[node];
+        let place = self.starts[register];
+        start <= place && place < sum(start, self.sizes[node])
+    }
+}
+
+/// A report with an order of the sinks of its tree, as its reaches are judged.
+#[derive(Drop)]
+pub(crate) struct OrderedTree<'a> {
+    pub(crate) judge: Judge<'a>,
+    pub(crate) order: SinkOrder,
+    pub(crate) ghost all: { length order.sizes.items + 1 ≡ 2 * length judge.sinks.now },
+    pub(crate) ghost is: { IsSinkOrder (length judge.sinks.now)
+        judge.report.now.topology.merges (number_at order.starts.items)
+        (number_at order.sizes.items) },
+}
+
+impl OrderedTree<'_> {
+    /// Whether two sinks are at or below a node, in order.
+    pub(crate) fn has_both_below(&self, node: usize, first: u32, second: u32) -> bool
+        requires node { node + 1 < 2 * length self.now.judge.sinks.now }
+        requires first { first < length self.now.judge.sinks.now }
+        requires second { second < length self.now.judge.sinks.now }
+        ensures { IsTrue result ↔ AreBelow (numbers_below (length self.now.judge.sinks.now)
+            self.now.judge.report.now.topology.merges node) first second }
     {
         first <= second
             && self.has_below(node, first as usize)
             && self.has_below(node, second as usize)
     }
 
-    // Whether a sink is placed below a node.
+    // Whether a sink is at or below a node.
     fn has_below(&self, node: usize, register: usize) -> bool
-        requires node { node < length self.now.sizes.items }
-        requires register { register < length self.now.starts.items }
-        ensures { IsTrue result ↔ IsInOrder self.now node register }
+        requires node { node + 1 < 2 * length self.now.judge.sinks.now }
+        requires register { register < length self.now.judge.sinks.now }
+        ensures { IsTrue result ↔ Contains (numbers_below (length self.now.judge.sinks.now)
+            self.now.judge.report.now.topology.merges node) register }
     {
-        let start = self.starts[node];
-        let place = self.starts[register];
-        start <= place && place < sum(start, self.sizes[node])
+        self.order.has_placed(node, register)
     }
 }

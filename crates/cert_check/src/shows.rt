@@ -5,49 +5,96 @@ ghost use Rattle.cts_model.specs.placement.Points.{IsBelow, IsUvBelow, apart, ro
 ghost use Rattle.cts_model.specs.tree.Regions.{span};
 ghost use Rattle.cts_model.specs.report.ReportBounds.{ShowsAmong};
 ghost use Rattle.cts_model.specs.report.ReportLines.{number_at};
-ghost use Rattle.cts_model.specs.tree.ShownReaches.{ShowsMerge, ShowsSource};
+ghost use Rattle.cts_model.specs.tree.ShownReaches.{IsPairShow, ShowsMerge, ShowsSource};
 ghost use Rattle.cts_model.specs.tree.Topologies.{numbers_below, root_of, source_of};
 ghost use Rattle.cert_check.specs.SmallSinks.{IsSmallSink};
 
 use crate::down::{are_same, difference, sum};
 use crate::judge::Judge;
-use crate::order::SinkOrder;
+use crate::order::OrderedTree;
 use cts_model::{Merge, Show, Sink, Uv};
 
-impl Judge<'_> {
-    ghost use Rattle.cert_check.specs.ReachParts.{IsMergeShown, IsPairPlaced, IsReachOver, IsSourceShown, ShowsPlaced};
-    ghost use Rattle.cert_check.specs.SinkOrders.{IsSinkOrder};
+impl OrderedTree<'_> {
+    ghost use Rattle.cert_check.specs.ReachParts.{IsMergeShown};
 
     /// Whether the reach of a merge or of the source is that of each node below it with the length
     /// of that one's edge, and its show gives it.
-    pub(crate) fn is_reach_shown(&self, order: &SinkOrder, node: usize) -> bool
-        requires order { IsSinkOrder (length self.now.sinks.now)
-            self.now.report.now.topology.merges order.now }
-        requires above { length self.now.sinks.now ≤ node }
-        requires node { node < 2 * length self.now.sinks.now }
-        ensures { IsTrue result ↔ IsReachShown self.now.sinks.now
-            self.now.report.now.topology.merges self.now.source
-            (embedding_of self.now.report.now.tree) (number_at self.now.report.now.tree.reach)
-            self.now.report.now.shows node }
+    pub(crate) fn is_reach_shown(&self, node: usize) -> bool
+        requires above { length self.now.judge.sinks.now ≤ node }
+        requires node { node < 2 * length self.now.judge.sinks.now }
+        ensures { IsTrue result ↔ IsReachShown self.now.judge.sinks.now
+            self.now.judge.report.now.topology.merges self.now.judge.source
+            (embedding_of self.now.judge.report.now.tree)
+            (number_at self.now.judge.report.now.tree.reach) self.now.judge.report.now.shows node }
     {
-        let sinks = self.sinks.len();
+        let sinks = self.judge.sinks.len();
         if node + 1 == 2 * sinks {
-            self.is_source_shown()
+            self.judge.is_source_shown()
         } else {
-            self.is_merge_shown(order, node - sinks)
+            self.is_merge_shown(node - sinks)
         }
     }
 
     // Whether a merge's reach is that of both nodes that it joins, and its show gives it.
-    fn is_merge_shown(&self, order: &SinkOrder, place: usize) -> bool
-        requires order { IsSinkOrder (length self.now.sinks.now)
-            self.now.report.now.topology.merges order.now }
-        requires place { place < length self.now.report.now.topology.merges }
-        ensures { IsTrue result ↔ IsMergeShown self.now.sinks.now self.now.report.now place }
+    fn is_merge_shown(&self, place: usize) -> bool
+        requires { place < length self.now.judge.report.now.topology.merges }
+        ensures { IsTrue result
+            ↔ IsMergeShown self.now.judge.sinks.now self.now.judge.report.now place }
     {
-        let merge = merge_at(self.report.topology.merges.as_slice(), place);
-        self.is_over_both(self.sinks.len() + place, merge) && self.shows_merge(order, place)
+        let merge = merge_at(self.judge.report.topology.merges.as_slice(), place);
+        let node = self.judge.sinks.len() + place;
+        self.judge.is_over_both(node, merge) && self.shows_merge(place)
     }
+
+    // Whether the show of a merge, of its own sinks, gives its reach.
+    fn shows_merge(&self, place: usize) -> bool
+        requires { place < length self.now.judge.report.now.topology.merges }
+        ensures { IsTrue result ↔ IsSomeAnd (slice_get self.now.judge.report.now.shows place)
+            (ShowsMerge self.now.judge.sinks.now (numbers_below (length self.now.judge.sinks.now)
+            self.now.judge.report.now.topology.merges
+            (length self.now.judge.sinks.now + place))
+            (number_at self.now.judge.report.now.tree.reach
+            (length self.now.judge.sinks.now + place))) }
+    {
+        let node = self.judge.sinks.len() + place;
+        self.gives_merge(node, self.judge.report.shows.as_slice()[place])
+    }
+
+    // Whether a show, of sinks below a node, gives its reach.
+    fn gives_merge(&self, node: usize, show: Show) -> bool
+        requires node { node + 1 < 2 * length self.now.judge.sinks.now }
+        requires among { ShowsAmong (length self.now.judge.sinks.now) show }
+        ensures { IsTrue result ↔ ShowsMerge self.now.judge.sinks.now
+            (numbers_below (length self.now.judge.sinks.now)
+            self.now.judge.report.now.topology.merges node)
+            (number_at self.now.judge.report.now.tree.reach node) show }
+    {
+        match show {
+            Show::Pair(first, second) => self.is_pair(node, first, second),
+            Show::Sink(_) => false,
+            Show::Root => false,
+        }
+    }
+
+    // Whether twice a node's reach is the span of two sinks below it, in order.
+    fn is_pair(&self, node: usize, first: u32, second: u32) -> bool
+        requires node { node + 1 < 2 * length self.now.judge.sinks.now }
+        requires first { first < length self.now.judge.sinks.now }
+        requires second { second < length self.now.judge.sinks.now }
+        ensures { IsTrue result ↔ IsPairShow self.now.judge.sinks.now
+            (numbers_below (length self.now.judge.sinks.now)
+            self.now.judge.report.now.topology.merges node)
+            (number_at self.now.judge.report.now.tree.reach node) first second }
+    {
+        let sinks = self.judge.sinks;
+        let reach = self.judge.reach(node);
+        self.has_both_below(node, first, second)
+            && is_half_of_span(reach, sinks[first as usize], sinks[second as usize])
+    }
+}
+
+impl Judge<'_> {
+    ghost use Rattle.cert_check.specs.ReachParts.{IsReachOver, IsSourceShown};
 
     // Whether a node's reach is that of both nodes that a merge joins.
     fn is_over_both(&self, node: usize, merge: Merge) -> bool
@@ -87,58 +134,6 @@ impl Judge<'_> {
         ensures small { IsBelow (10 ^ 32) result }
     {
         self.report.tree.reach.as_slice()[node]
-    }
-
-    // Whether the show of a merge, of its own sinks, gives its reach.
-    fn shows_merge(&self, order: &SinkOrder, place: usize) -> bool
-        requires order { IsSinkOrder (length self.now.sinks.now)
-            self.now.report.now.topology.merges order.now }
-        requires place { place < length self.now.report.now.topology.merges }
-        ensures { IsTrue result ↔ IsSomeAnd (slice_get self.now.report.now.shows place)
-            (ShowsMerge self.now.sinks.now (numbers_below (length self.now.sinks.now)
-            self.now.report.now.topology.merges (length self.now.sinks.now + place))
-            (number_at self.now.report.now.tree.reach (length self.now.sinks.now + place))) }
-    {
-        self.gives_merge(
-            order,
-            self.sinks.len() + place,
-            self.report.shows.as_slice()[place],
-        )
-    }
-
-    // Whether a show, of sinks that are placed below a node, gives its reach.
-    fn gives_merge(&self, order: &SinkOrder, node: usize, show: Show) -> bool
-        requires order { IsSinkOrder (length self.now.sinks.now)
-            self.now.report.now.topology.merges order.now }
-        requires node { node + 1 < 2 * length self.now.sinks.now }
-        requires among { ShowsAmong (length self.now.sinks.now) show }
-        ensures { IsTrue result ↔ ShowsPlaced self.now.sinks.now order.now node
-            (number_at self.now.report.now.tree.reach node) show }
-    {
-        match show {
-            Show::Pair(first, second) => self.is_pair_placed(order, node, first, second),
-            Show::Sink(_) => false,
-            Show::Root => false,
-        }
-    }
-
-    // Whether twice a node's reach is the span of two sinks that are placed below it, in order.
-    fn is_pair_placed(&self, order: &SinkOrder, node: usize, first: u32, second: u32) -> bool
-        requires order { IsSinkOrder (length self.now.sinks.now)
-            self.now.report.now.topology.merges order.now }
-        requires node { node + 1 < 2 * length self.now.sinks.now }
-        requires first { first < length self.now.sinks.now }
-        requires second { second < length self.now.sinks.now }
-        ensures { IsTrue result ↔ IsPairPlaced self.now.sinks.now order.now node
-            (number_at self.now.report.now.tree.reach node) first second }
-    {
-        let reach = self.reach(node);
-        order.has_both_below(node, first, second)
-            && is_half_of_span(
-                reach,
-                self.sinks[first as usize],
-                self.sinks[second as usize],
-            )
     }
 
     // Whether the show of the source gives its reach.

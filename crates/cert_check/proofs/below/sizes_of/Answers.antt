@@ -14,11 +14,11 @@ sum-size-requires-clause-one c =
     let sizes = c.loop-merge.sizes.items in
     let counted = c.loop-merge.invariant in
     subst (λ z. IsBelow (10 ^ 36) (to_z w128 (of_z w128 z)))
-    (sym (c.index.ensures ∙ first_read c.requires.topology place sizes counted
+    (sym (c.index.ensures ∙ first_read c.args.merges.now.topology place sizes counted
     c.loop-merge-test.true c.index.result.now))
-    (kept_count c.args.sinks (number_at sizes (merge_at c.args.merges.now place).first)
-    c.requires.few
-    (first_count c.requires.topology place sizes counted c.loop-merge-test.true))
+    (kept_count c.args.merges.now.sinks (number_at sizes (merge_at c.args.merges.now.list.now place).first)
+    c.args.merges.now.few
+    (first_count c.args.merges.now.topology place sizes counted c.loop-merge-test.true))
 
 pub sum-size-requires-clause-other : goal.sum-size-requires-clause-other
 sum-size-requires-clause-other c =
@@ -26,39 +26,39 @@ sum-size-requires-clause-other c =
     let sizes = c.loop-merge.sizes.items in
     let counted = c.loop-merge.invariant in
     subst (λ z. IsBelow (10 ^ 36) (to_z w128 (of_z w128 z)))
-    (sym (c.index-in-loop-merge.ensures ∙ second_read c.requires.topology place sizes counted
+    (sym (c.index-in-loop-merge.ensures ∙ second_read c.args.merges.now.topology place sizes counted
     c.loop-merge-test.true c.index-in-loop-merge.result.now))
-    (kept_count c.args.sinks (number_at sizes (merge_at c.args.merges.now place).second)
-    c.requires.few
-    (second_count c.requires.topology place sizes counted c.loop-merge-test.true))
+    (kept_count c.args.merges.now.sinks (number_at sizes (merge_at c.args.merges.now.list.now place).second)
+    c.args.merges.now.few
+    (second_count c.args.merges.now.topology place sizes counted c.loop-merge-test.true))
 
 pub loop-merge-preserved : goal.loop-merge-preserved
 loop-merge-preserved c =
     let place = c.loop-merge.merge-index in
-    let merge = merge_at c.args.merges.now place in
+    let merge = merge_at c.args.merges.now.list.now place in
     let sizes = c.loop-merge.sizes.items in
     let counted = c.loop-merge.invariant in
     let test = c.loop-merge-test.true in
-    let size = kept_sum c.args.sinks c.index.result.now c.index-in-loop-merge.result.now
-    (number_at sizes merge.first) (number_at sizes merge.second) c.sum-size.result c.requires.few
-    (first_count c.requires.topology place sizes counted test)
-    (second_count c.requires.topology place sizes counted test)
-    (c.index.ensures ∙ first_read c.requires.topology place sizes counted test c.index.result.now)
-    (c.index-in-loop-merge.ensures ∙ second_read c.requires.topology place sizes counted test
+    let size = kept_sum c.args.merges.now.sinks c.index.result.now c.index-in-loop-merge.result.now
+    (number_at sizes merge.first) (number_at sizes merge.second) c.sum-size.result c.args.merges.now.few
+    (first_count c.args.merges.now.topology place sizes counted test)
+    (second_count c.args.merges.now.topology place sizes counted test)
+    (c.index.ensures ∙ first_read c.args.merges.now.topology place sizes counted test c.index.result.now)
+    (c.index-in-loop-merge.ensures ∙ second_read c.args.merges.now.topology place sizes counted test
     c.index-in-loop-merge.result.now) c.sum-size.ensures in
-    let first = first_count c.requires.topology place sizes counted test in
-    let second = second_count c.requires.topology place sizes counted test in
-    let few = c.requires.few in
+    let first = first_count c.args.merges.now.topology place sizes counted test in
+    let second = second_count c.args.merges.now.topology place sizes counted test in
+    let few = c.args.merges.now.few in
     let fits : FitsSigned w128 c.sum-size.result =
     omega (arith, ints, size, first, second, few) in
     let pushed : c.push.new.self.items ≡ sizes ++ to_z w128 (of_z w128 c.sum-size.result) ∷ [] =
     c.in_ok-push.ensures.items in
-    subst (CountedTo c.args.sinks c.args.merges.now (place + 1))
+    subst (CountedTo c.args.merges.now.sinks c.args.merges.now.list.now (place + 1))
     (sym (pushed ∙ ap (λ z. sizes ++ z ∷ []) (to_z-of_z w128 c.sum-size.result fits ∙ size)))
-    (counted_turn c.requires.topology place sizes counted test)
+    (counted_turn c.args.merges.now.topology place sizes counted test)
 
 pub returns-clause-sizes : goal.returns-clause-sizes
-returns-clause-sizes c = counted_all c.requires.topology c.loop-merge.sizes.items
-    (subst (λ count. CountedTo c.args.sinks c.args.merges.now count c.loop-merge.sizes.items)
+returns-clause-sizes c = counted_all c.args.merges.now.topology c.loop-merge.sizes.items
+    (subst (λ count. CountedTo c.args.merges.now.sinks c.args.merges.now.list.now count c.loop-merge.sizes.items)
     (omega (arith, c.loop-merge-test.false, c.loop-merge.auto.merge-index-end))
     c.loop-merge.invariant)

@@ -3,4 +3,4 @@ use Rattle.cert_check.proofs.CountLemmas.{CountedTo}
 use Rattle.cert_check.proofs.below.sizes_of.Given as goal
 
 abbrev pub invariant-loop-merge : goal.invariant-loop-merge
-invariant-loop-merge l = CountedTo l.sinks l.merges l.merge-index l.sizes.items
+invariant-loop-merge l = CountedTo l.merges.sinks l.merges.list.now l.merge-index l.sizes.items

@@ -3,4 +3,4 @@ use Rattle.cert_check.proofs.CountLemmas.{SteppedTo}
 use Rattle.cert_check.proofs.below.steps_of.Given as goal
 
 abbrev pub invariant-loop-merge : goal.invariant-loop-merge
-invariant-loop-merge l = SteppedTo l.sinks l.merges l.sizes l.merge-index l.steps.items
+invariant-loop-merge l = SteppedTo l.merges.sinks l.merges.list.now l.sizes l.merge-index l.steps.items

@@ -7,11 +7,11 @@ use Rattle.cert_check.proofs.checking.judge_tree.Goals as goal
 
 pub returns : goal.returns
 returns c =
-    let problem = c.args.judge.now.problem.now in
-    let report = c.args.judge.now.report.now in
-    let cycle = c.args.judge.now.cycle.now in
-    let sinks = c.args.judge.now.sinks.now in
-    let source = c.args.judge.now.source in
+    let problem = c.args.tree.now.judge.problem.now in
+    let report = c.args.tree.now.judge.report.now in
+    let cycle = c.args.tree.now.judge.cycle.now in
+    let sinks = c.args.tree.now.judge.sinks.now in
+    let source = c.args.tree.now.judge.source in
     decides_after (λ verdict. RestJudged problem report cycle verdict (verdict ≡ Shown))
     (λ verdict. ReachesJudged report sinks source verdict
     (RestJudged problem report cycle verdict (verdict ≡ Shown)))

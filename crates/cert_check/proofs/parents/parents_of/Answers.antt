@@ -5,13 +5,13 @@ use Rattle.cert_check.proofs.parents.parents_of.Goals as goal
 
 pub loop-merge-preserved : goal.loop-merge-preserved
 loop-merge-preserved c =
-    let merges = c.args.merges.now in
+    let merges = c.args.merges.now.list.now in
     let place = c.loop-merge.merge-index in
-    parents_more c.requires.topology place c.loop-merge.parent (merge_at merges place)
+    parents_more c.args.merges.now.topology place c.loop-merge.parent (merge_at merges place)
     c.loop-merge.parents.items (merge_here merges place c.loop-merge-test.true)
     c.loop-merge.invariant
 
 pub returns : goal.returns
-returns c = parents_all c.requires.topology c.loop-merge.merge-index c.loop-merge.parent
+returns c = parents_all c.args.merges.now.topology c.loop-merge.merge-index c.loop-merge.parent
     c.loop-merge.parents.items (omega (arith, c.loop-merge-test.false))
     (omega (arith, c.loop-merge.auto.merge-index-end)) c.loop-merge.invariant
