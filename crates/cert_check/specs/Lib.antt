@@ -1,6 +1,5 @@
 pub mod ComparedSlacks
 pub mod CyclePlaces
-pub mod CycleSums
 pub mod TightLeads
 pub mod SmallSinks
 pub mod GivenConstraints

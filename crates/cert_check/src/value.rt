@@ -6,20 +6,11 @@ ghost use Rattle.cts_model.specs.timing.LeastPeriods.{IsFloorPeriod};
 ghost use Rattle.cts_model.specs.placement.Points.{IsBelow};
 ghost use Rattle.cts_model.specs.report.ReportBounds.{HasSmallWeight, HasSmallWeights};
 ghost use Rattle.cts_model.specs.timing.Schedules.{IsSmallPeriod};
-ghost use Rattle.cert_check.specs.CycleSums.{AreSumsOf};
 
+use crate::down::are_same;
 use crate::product::product;
 use cts_base::Fraction;
 use cts_model::{Constraint, PeriodShow, Tech};
-
-/// What the constraints of a cycle sum to.
-#[derive(Clone, Copy, Debug)]
-pub(crate) struct Sums {
-    /// In ticks.
-    pub(crate) weight: i128,
-    /// How often they count the period.
-    pub(crate) count: i128,
-}
 
 /// Whether what is shown gives the period.
 pub(crate) fn gives_period(tech: &Tech, period: Fraction, shown: &PeriodShow) -> bool
@@ -28,7 +19,7 @@ pub(crate) fn gives_period(tech: &Tech, period: Fraction, shown: &PeriodShow) ->
     ensures { IsTrue result ↔ GivesPeriod tech.now period shown.now }
 {
     match shown {
-        PeriodShow::Cycle(cycle) => sums_of(cycle.as_slice()).give(period),
+        PeriodShow::Cycle(cycle) => is_worth(cycle.as_slice(), period),
         PeriodShow::Floor => is_floor(tech, period),
     }
 }
@@ -40,47 +31,21 @@ fn is_floor(tech: &Tech, period: Fraction) -> bool
     period.num() == tech.floor && period.den() == 1
 }
 
-// The sums of the constraints of a cycle.
-fn sums_of(cycle: &[Constraint]) -> Sums
+// Whether a cycle counts the period, and its weights sum to that count of it.
+fn is_worth(cycle: &[Constraint], period: Fraction) -> bool
     requires few { length cycle.now ≤ 9999 }
     requires small { All HasSmallWeight cycle.now }
-    ensures { AreSumsOf cycle.now result }
+    requires period { IsSmallPeriod period }
+    ensures { IsTrue result ↔ ((pos 1 ≤ℤ pos (total_count cycle.now)) × ((period.den
+        *ℤ total_weight cycle.now) ≡ (period.num *ℤ pos (total_count cycle.now)))) }
 {
-    let mut sums = Sums {
-        weight: 0,
-        count: 0,
-    };
+    let mut weight = 0;
+    let mut count = 0;
     for constraint in cycle {
-        sums = sums.and(constraint);
+        weight += constraint.weight;
+        count += count_of(constraint);
     }
-    sums
-}
-
-impl Sums {
-    // Whether the sums give a period.
-    fn give(self, period: Fraction) -> bool
-        requires period { IsSmallPeriod period }
-        requires weight { IsBelow (10 ^ 16) self.weight }
-        requires count { IsBelow (10 ^ 16) self.count }
-        ensures { IsTrue result ↔ ((pos 1 ≤ℤ self.count)
-            × ((period.den *ℤ self.weight) ≡ (period.num *ℤ self.count))) }
-    {
-        self.count >= 1 && asked(period, self.weight, self.count) == 0
-    }
-
-    // The sums with one more constraint.
-    fn and(self, constraint: &Constraint) -> Sums
-        requires weight { IsBelow (10 ^ 16) self.weight }
-        requires count { IsBelow (10 ^ 16) self.count }
-        requires small { HasSmallWeight constraint.now }
-        ensures weight { result.weight ≡ self.weight +ℤ constraint.now.weight }
-        ensures count { result.count ≡ self.count +ℤ pos (count_of constraint.now) }
-    {
-        Sums {
-            weight: self.weight + constraint.weight,
-            count: self.count + count_of(constraint),
-        }
-    }
+    count >= 1 && are_same(asked(period, weight, count), 0)
 }
 
 /// How much later a weight and so many periods ask an arrival to be, in ticks over the period's
