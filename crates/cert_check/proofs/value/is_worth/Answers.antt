@@ -1,5 +1,5 @@
 -- One constraint more is added to both sums, and in the end they are compared as they are.
-use Rattle.std.proofs.Common.{◌≡◌, ◌+ℤ◌, ◌-ℤ◌, ◌*ℤ◌, ◌≤ℤ◌, pos, false, get_or, to_z, of_z, ◌∙◌, rules, arith}
+use Rattle.std.proofs.Common.{◌+ℤ◌, ◌-ℤ◌, ◌*ℤ◌, ◌≤ℤ◌, pos, false, get_or, to_z, of_z, ◌∙◌, rules, arith}
 use mir.Syntax.{w128}
 use Rattle.std.proofs.lemmas.Int.{ints, to_z-of_z}
 use Rattle.cts_model.specs.declared.constraint.Constraint.{Constraint}
