@@ -19,6 +19,9 @@ use relaxation::{Gains, Relaxation};
 /// The most rounds of policy iteration.
 const ROUNDS: u32 = 256;
 
+/// How many sweeps are tried before it.
+const SWEEPS: usize = 3;
+
 /// A search for the greatest ratio of a cycle, from the first ratio upwards.
 #[derive(Drop)]
 pub(crate) struct Search {
@@ -81,17 +84,19 @@ impl Search {
         }
     }
 
-    /// Policy iteration from the greatest ratio shown: rings of parents show greater ones. It ends
-    /// where each constraint is satisfied, or else after so many rounds as take little time.
+    /// Policy iteration from the greatest ratio shown, unless a few sweeps show that this is enough:
+    /// rings of parents show greater ones. It ends where each constraint is satisfied, or else after
+    /// so many rounds as take little time.
     pub(crate) fn iterate(&mut self, constraints: &[Constraint], marks: &mut [u32])
         requires search { IsSearch constraints.now self.old }
         requires marks { length marks.old ≡ length self.old.relaxation.parents.items }
         ensures search { IsSearch constraints.now self.new }
         ensures same { IsSameSearch self.old self.new }
     {
-        if !self.reach_shown() {
+        if !self.reach_shown() || self.sweep_from_zero(constraints) {
             return;
         }
+        self.relaxation.values.fill(0);
         self.relaxation.forget_parents();
         self.relaxation.choose_parents(constraints, self.trial);
         for _round in 0..ROUNDS {
@@ -155,6 +160,22 @@ impl Search {
         self.ratio = ratio;
         self.trial = trial;
         true
+    }
+
+    // Sweeps a few times from values of 0. True where each constraint is satisfied then.
+    fn sweep_from_zero(&mut self, constraints: &[Constraint]) -> bool
+        requires search { IsSearch constraints.now self.old }
+        ensures search { IsSearch constraints.now self.new }
+        ensures same { IsSameSearch self.old self.new }
+    {
+        self.relaxation.values.fill(0);
+        for before in 0..SWEEPS {
+            self.relaxation.rescale(self.trial, self.trial);
+            if self.relaxation.sweep(constraints, self.trial, before).is_none() {
+                return true;
+            }
+        }
+        false
     }
 
     // One round: a ring of parents that gains, or else values by the parents and a sweep. False

@@ -182,7 +182,11 @@ impl Relaxation {
 fn rescaled(value: i128, last: Gains, next: Gains) -> i128
     ensures { IsBelow (2 ^ 88) result }
 {
-    cut(cut(value) * next.scale / last.scale)
+    let kept = cut(value);
+    if next.scale == last.scale {
+        return kept;
+    }
+    cut(kept * next.scale / last.scale)
 }
 
 // The nearest value whose size is below 2^88.
