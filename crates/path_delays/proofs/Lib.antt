@@ -5,6 +5,7 @@ mod Hands
 mod LaneLemmas
 mod Chains
 mod Rooms
+mod SetListing
 mod Launching
 mod WalkSteps
 mod CapturedLemmas

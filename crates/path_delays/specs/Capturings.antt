@@ -1,5 +1,5 @@
 -- The registers that capture what a walk reached.
-use Rattle.std.specs.Prelude.{◌≡◌, ◌<◌, ◌+◌, ◌*◌, ◌^◌, ℕ, IsTrue, IsSome, List, length, Contains}
+use Rattle.std.specs.Prelude.{◌≡◌, ◌<◌, ◌+◌, ◌*◌, ◌^◌, ℕ, IsTrue, IsSome, List, length, All, AllPairs, Contains}
 use Rattle.cts_model.specs.declared.circuit.Circuit.{Circuit}
 use Rattle.cts_model.specs.netlist.Paths.{IsPath}
 use Rattle.gate_order.specs.GroupParts.{bounds_of, group_of}
@@ -18,30 +18,28 @@ pub record IsCapturer (capturing : Capturing) (signal register : ℕ) : Type 0 w
 pub record HasCaptureRoom (capturing : Capturing) : Type 0 where
   pub groups : (signal : ℕ) → IsTrue (has_number capturing.captured.words.items signal)
       → signal + 1 < bounds_of capturing.capturers
-  pub registers : (signal register : ℕ) → IsCapturer capturing signal register
-      → register < 64 * length capturing.registers.words.items
+  pub found : (signal register : ℕ) → IsCapturer capturing signal register
+      → register < 64 * length capturing.found.words.items
   pub reached : length capturing.reached.words.items ≡ length capturing.captured.words.items
   pub small_reached : 64 * length capturing.reached.words.items < 2 ^ 32
-  pub small_registers : 64 * length capturing.registers.words.items < 2 ^ 32
-  pub waiting : length capturing.waiting.words.items ≡ length capturing.registers.words.items
+  pub small_found : 64 * length capturing.found.words.items < 2 ^ 32
 
 -- as much room as before, for the same registers and signals
 pub record IsSameCapturing (old new : Capturing) : Type 0 where
   pub capturers : new.capturers ≡ old.capturers
   pub captured : new.captured ≡ old.captured
   pub reached : length new.reached.words.items ≡ length old.reached.words.items
-  pub registers : length new.registers.words.items ≡ length old.registers.words.items
-  pub waiting : length new.waiting.words.items ≡ length old.waiting.words.items
+  pub found : length new.found.words.items ≡ length old.found.words.items
 
 -- the registers are those that capture a signal that the walk reached, and maybe others that
--- capture one
+-- capture one, in ascending order
 pub record AreGathered (walk : Walk) (old new : Capturing) : Type 0 where
   pub same : IsSameCapturing old new
   pub all : (lane signal register : ℕ) → IsCapturer old signal register
-      → IsSome (sums_to walk lane signal)
-      → IsTrue (has_number new.registers.words.items register)
-  pub each : (register : ℕ) → IsTrue (has_number new.registers.words.items register)
+      → IsSome (sums_to walk lane signal) → Contains new.registers.items register
+  pub each : (register : ℕ) → Contains new.registers.items register
       → (signal : ℕ) × IsCapturer old signal register
+  pub ascending : AllPairs ◌<◌ new.registers.items
 
 -- the signals and registers of a circuit
 pub record IsCapturingOf (circuit : Circuit) (capturing : Capturing) : Type 0 where
@@ -50,8 +48,9 @@ pub record IsCapturingOf (circuit : Circuit) (capturing : Capturing) : Type 0 wh
       capturing.captured.words.items
   pub room : HasCaptureRoom capturing
 
--- the registers are ones of the circuit, and among them is each that a path leads to from this one
-pub record IsGatheredFrom (circuit : Circuit) (from : ℕ) (registers : List ℕ) : Type 0 where
-  pub within : (to : ℕ) → IsTrue (has_number registers to) → to < length circuit.registers
-  pub joined : (to : ℕ) (path : List ℕ) → IsPath circuit from to path
-      → IsTrue (has_number registers to)
+-- the registers are ones of the circuit, in ascending order, and among them is each that a path
+-- leads to from this one
+pub record AreAllReached (circuit : Circuit) (from : ℕ) (registers : List ℕ) : Type 0 where
+  pub within : All (λ to. to < length circuit.registers) registers
+  pub ascending : AllPairs ◌<◌ registers
+  pub joined : (to : ℕ) (path : List ℕ) → IsPath circuit from to path → Contains registers to

@@ -1,4 +1,4 @@
-ghost use Rattle.std.specs.Prelude.{◌≡◌, ◌≤◌, IfOk, length};
+ghost use Rattle.std.specs.Prelude.{◌≤◌, IfOk, OnOk, length};
 
 use crate::captures::{captured_signals, capturers};
 use crate::number_set::NumberSet;
@@ -18,13 +18,13 @@ pub(crate) struct Capturing {
     /// Those of them that the walk reached and that aren't looked at.
     pub(crate) reached: NumberSet,
     /// The registers that capture one that was looked at.
-    pub(crate) registers: NumberSet,
-    /// Those of them that wait to be taken.
-    pub(crate) waiting: NumberSet,
+    pub(crate) found: NumberSet,
+    /// The registers that capture one that the walk reached, in ascending order.
+    pub(crate) registers: Vec<u32>,
 }
 
 impl Capturing {
-    ghost use Rattle.path_delays.specs.Capturings.{AreGathered, HasCaptureRoom, IsCapturingOf, IsSameCapturing};
+    ghost use Rattle.path_delays.specs.Capturings.{AreGathered, HasCaptureRoom, IsCapturingOf};
 
     /// No registers yet, with room for those of a circuit.
     pub(crate) fn new(alloc: Global, circuit: &Circuit) -> Result<Capturing, NoMemory>
@@ -33,41 +33,32 @@ impl Capturing {
         let capturers = capturers(alloc, circuit)?;
         let captured = captured_signals(alloc, circuit)?;
         let reached = captured.cleared(alloc)?;
-        let registers = NumberSet::new(alloc, circuit.registers.len() as u32)?;
-        let waiting = registers.cleared(alloc)?;
+        let found = NumberSet::new(alloc, circuit.registers.len() as u32)?;
         Ok(Capturing {
             capturers,
             captured,
             reached,
-            registers,
-            waiting,
+            found,
+            registers: Vec::new(alloc),
         })
     }
 
-    /// Finds the registers that capture what a walk reached. It takes no memory.
-    pub(crate) fn gather(&mut self, walk: &Walk)
+    /// Lists the registers that capture what a walk reached.
+    pub(crate) fn gather(&mut self, walk: &Walk) -> Result<(), NoMemory>
         requires room { HasCaptureRoom self.old }
         requires walk { length self.old.captured.words.items
             ≤ length walk.now.reach.reached.words.items }
-        ensures { AreGathered walk.now self.old self.new }
+        ensures { OnOk result (AreGathered walk.now self.old self.new) }
     {
-        self.registers.clear();
+        self.found.clear();
         walk.reached_among(&self.captured, &mut self.reached);
         let mut next = 0;
         while let Some(signal) = self.reached.take_lowest(next) {
-            self.registers
+            self.found
                 .insert_all(self.capturers.group(signal as usize));
             next = signal + 1;
         }
-    }
-
-    /// Lets all registers wait that were found.
-    pub(crate) fn wait_all(&mut self)
-        requires room { HasCaptureRoom self.old }
-        ensures same { IsSameCapturing self.old self.new }
-        ensures registers { self.new.registers ≡ self.old.registers }
-        ensures waiting { self.new.waiting.words.items ≡ self.old.registers.words.items }
-    {
-        self.waiting.become_copy(&self.registers);
+        self.found.take_all(&mut self.registers)?;
+        Ok(())
     }
 }

@@ -4,7 +4,7 @@ ghost use Rattle.cts_model.specs.declared.tech.Tech.{Tech};
 ghost use Rattle.cts_model.specs.timing.PairLists.{JoinsMoreThan};
 ghost use Rattle.gate_order.specs.LevelParts.{IsLevelsOf};
 ghost use Rattle.path_delays.specs.WalkParts.{HasReach, IsRoomFor};
-ghost use Rattle.path_delays.specs.Capturings.{IsCapturingOf, IsGatheredFrom};
+ghost use Rattle.path_delays.specs.Capturings.{AreAllReached, IsCapturingOf};
 ghost use Rattle.path_delays.specs.JoinedPairs.{ListsPairsBefore, ArePairs, ShowsTooMany, MeetsLimit, pair_limit};
 
 use crate::PairFault;
@@ -77,9 +77,10 @@ fn push_block(
     ensures many { IfErr result (ShowsTooMany circuit.now) }
 {
     walk_block(walk, circuit, tech, first, end);
-    capturing.gather(walk);
+    capturing.gather(walk)?;
+    let registers = capturing.registers.as_slice();
     for from in first..end {
-        push_pairs_from(pairs, walk, capturing, circuit, from - first, from as u32)?;
+        push_pairs_from(pairs, walk, registers, circuit, from - first, from as u32)?;
     }
     Ok(())
 }
@@ -101,21 +102,19 @@ fn walk_block(walk: &mut Walk, circuit: &Circuit, tech: &Tech, first: usize, end
     walk.walk_from(circuit, tech, &registers[..end - first]);
 }
 
-// Appends the pairs of the register that launches, which is walked from in a lane.
+// Appends the pairs of the register that launches, which is walked from in a lane. The registers
+// are those that the walk reaches.
 fn push_pairs_from(
     pairs: &mut Vec<PairDelay>,
     walk: &Walk,
-    capturing: &mut Capturing,
+    registers: &[u32],
     circuit: &Circuit,
     lane: usize,
     from: u32,
 ) -> Result<(), PairFault>
     requires lane { lane < 8 }
-    requires capturing { IsCapturingOf circuit.now capturing.old }
-    requires gathered { IsGatheredFrom circuit.now from capturing.old.registers.words.items }
+    requires registers { AreAllReached circuit.now from registers.now }
     requires few { vec_len pairs.old ≤ pair_limit }
-    ensures capturing { OnOk result (IsCapturingOf circuit.now capturing.new) }
-    ensures registers { OnOk result (capturing.new.registers ≡ capturing.old.registers) }
     ensures few { OnOk result (vec_len pairs.new ≤ pair_limit) }
     ensures listed { OnOk result ((tech : Tech) → HasReach circuit.now tech from lane walk.now
         → ListsPairsBefore circuit.now tech from 0 pairs.old.items
@@ -125,12 +124,9 @@ fn push_pairs_from(
         → ListsPairsBefore circuit.now tech from 0 pairs.old.items
         → ShowsTooMany circuit.now fault) }
 {
-    capturing.wait_all();
-    let mut next = 0;
-    while let Some(to) = capturing.waiting.take_lowest(next) {
-        let captured = circuit.register_signal(to as usize).fan_in.as_slice();
-        push_joined(pairs, joined_pair(walk, lane, captured, from, to))?;
-        next = to + 1;
+    for to in registers {
+        let captured = circuit.register_signal(*to as usize).fan_in.as_slice();
+        push_joined(pairs, joined_pair(walk, lane, captured, from, *to))?;
     }
     Ok(())
 }

@@ -1,21 +1,16 @@
 -- What is gathered is gathered from each register of the block.
-use Rattle.std.proofs.Common.{◌-◌}
-use Rattle.path_delays.proofs.CapturingLemmas.{capturing_same, gathered_within, joined_gathered}
+use Rattle.std.proofs.Common.{◌-◌, arith}
+use Rattle.path_delays.proofs.CapturingLemmas.{capturing_same, gathered_from}
 use Rattle.path_delays.proofs.pairs.push_block.Goals as goal
 
-pub loop-from-init : goal.loop-from-init
-loop-from-init c =
-    let circuit = c.args.circuit.now in
-    let walk = c.walk_block.new.walk in
-    let old = c.args.capturing.now in
-    let new = c.gather.new.self in
-    record {
-      capturing = capturing_same circuit old new c.gather.ensures.same c.requires.capturing;
-      gathered = λ from after before. record {
-        within = gathered_within circuit walk old new c.requires.capturing c.gather.ensures;
-        joined = joined_gathered circuit c.args.tech.now from (from - c.args.first) walk old new
-            (c.walk_block.ensures.reach from after before) c.requires.capturing c.gather.ensures;
-      };
-      listed = c.requires.listed;
-      few = c.requires.few;
-    }
+pub push_pairs_from-requires-clause-registers : goal.push_pairs_from-requires-clause-registers
+push_pairs_from-requires-clause-registers c =
+    let from = c.loop-from.from in
+    rw c.as_slice-registers.ensures.value (gathered_from c.args.circuit.now c.args.tech.now from
+    (from - c.args.first) c.walk_block.new.walk c.args.capturing.now c.gather.new.self
+    (c.walk_block.ensures.reach from (omega arith) (omega arith)) c.requires.capturing
+    c.in_ok-gather.ensures)
+
+pub returns-clause-capturing : goal.returns-clause-capturing
+returns-clause-capturing c = capturing_same c.args.circuit.now c.args.capturing.now
+    c.gather.new.self c.in_ok-gather.ensures.same c.requires.capturing

@@ -1,14 +1,10 @@
 -- The pairs of the registers passed so far are listed.
 use Rattle.std.proofs.Common.{◌<◌, ◌≤◌, ℕ, vec_len}
-use Rattle.path_delays.specs.Capturings.{IsCapturingOf, IsGatheredFrom}
 use Rattle.path_delays.specs.JoinedPairs.{ListsPairsBefore, pair_limit}
 use Rattle.path_delays.proofs.pairs.push_block.Given as goal
 
 abbrev pub invariant-loop-from : goal.invariant-loop-from
 invariant-loop-from l = record {
-  capturing : IsCapturingOf l.circuit l.capturing;
-  gathered : (from : ℕ) → l.first ≤ from → from < l.end
-      → IsGatheredFrom l.circuit from l.capturing.registers.words.items;
   listed : ListsPairsBefore l.circuit l.tech l.from 0 l.pairs.items;
   few : vec_len l.pairs ≤ pair_limit;
 }

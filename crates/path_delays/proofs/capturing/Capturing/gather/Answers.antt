@@ -1,7 +1,7 @@
--- The registers of one signal more.
+-- The registers of one signal more; where no signal waits, they become the list.
 use Rattle.std.proofs.Common.{refl}
 use Rattle.path_delays.specs.declared.capturing.Capturing.{Capturing}
-use Rattle.path_delays.proofs.CapturingLemmas.{HasCaptureRoom-same, gathering_next, gathering_room}
+use Rattle.path_delays.proofs.CapturingLemmas.{HasCaptureRoom-same, gathered_all, gathering_next, gathering_room}
 use Rattle.path_delays.proofs.capturing.Capturing.gather.Goals as goal
 
 pub insert_all-requires : goal.insert_all-requires
@@ -10,16 +10,15 @@ insert_all-requires c =
       capturers = c.args.self.now.capturers;
       captured = c.args.self.now.captured;
       reached = c.reached_among.new.reached;
-      registers = c.clear.new.self;
-      waiting = c.args.self.now.waiting;
+      found = c.clear.new.self;
+      registers = c.args.self.now.registers;
     } in
     let room = HasCaptureRoom-same c.args.self.now begun
     (record {
       capturers = refl;
       captured = refl;
       reached = c.reached_among.ensures.covers;
-      registers = c.clear.ensures.covers;
-      waiting = refl;
+      found = c.clear.ensures.covers;
     }) c.requires.room in
     rw c.group.ensures (gathering_room c.args.walk.now begun c.loop-signal.self c.loop-signal.next
     c.in-Some.signal room c.loop-signal.invariant c.in-Some.ensures.some.held)
@@ -30,15 +29,15 @@ loop-signal-preserved c =
       capturers = c.args.self.now.capturers;
       captured = c.args.self.now.captured;
       reached = c.reached_among.new.reached;
-      registers = c.clear.new.self;
-      waiting = c.args.self.now.waiting;
+      found = c.clear.new.self;
+      registers = c.args.self.now.registers;
     } in
     let later : Capturing = record {
       capturers = c.loop-signal.self.capturers;
       captured = c.loop-signal.self.captured;
       reached = c.take_lowest.new.self;
-      registers = c.insert_all.new.self;
-      waiting = c.loop-signal.self.waiting;
+      found = c.insert_all.new.self;
+      registers = c.loop-signal.self.registers;
     } in
     gathering_next c.args.walk.now begun c.loop-signal.self later c.loop-signal.next
     c.in-Some.signal
@@ -46,6 +45,35 @@ loop-signal-preserved c =
       capturers = refl;
       captured = refl;
       reached = c.in-Some.ensures.covers;
-      registers = c.insert_all.ensures.covers;
-      waiting = refl;
+      found = c.insert_all.ensures.covers;
     }) c.in-Some.ensures.some (rw c.group.ensures at c.insert_all.ensures) c.loop-signal.invariant
+
+pub returns : goal.returns
+returns c =
+    let begun : Capturing = record {
+      capturers = c.args.self.now.capturers;
+      captured = c.args.self.now.captured;
+      reached = c.reached_among.new.reached;
+      found = c.clear.new.self;
+      registers = c.args.self.now.registers;
+    } in
+    let last : Capturing = record {
+      capturers = c.loop-signal.self.capturers;
+      captured = c.loop-signal.self.captured;
+      reached = c.take_lowest.new.self;
+      found = c.take_all.new.self;
+      registers = c.take_all.new.numbers;
+    } in
+    gathered_all c.args.walk.now begun c.args.self.now c.loop-signal.self last c.loop-signal.next
+    (record {
+      capturers = refl;
+      captured = refl;
+      reached = c.reached_among.ensures.covers;
+      found = c.clear.ensures.covers;
+    })
+    (record {
+      capturers = refl;
+      captured = refl;
+      reached = c.in_default.ensures.covers;
+      found = c.in_ok-take_all.ensures.covers;
+    }) c.in_default.ensures.none c.in_ok-take_all.ensures.listed c.loop-signal.invariant

@@ -6,5 +6,5 @@ use Rattle.path_delays.proofs.capturing.Capturing.new.Goals as goal
 pub returns : goal.returns
 returns c =
     capturing_made c.args.circuit.now _ c.in_ok-capturers.ensures c.in_ok-captured.ensures
-    c.in_ok-reached.ensures (omega (arith, c.in_ok-registers.ensures.room, c.len.ensures))
-    (omega (arith, c.in_ok-registers.ensures.small, c.len.ensures)) c.in_ok-waiting.ensures
+    c.in_ok-reached.ensures (omega (arith, c.in_ok-found.ensures.room, c.len.ensures))
+    (omega (arith, c.in_ok-found.ensures.small, c.len.ensures))
