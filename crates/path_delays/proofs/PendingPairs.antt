@@ -51,10 +51,10 @@ module _ {circuit : Circuit} {from : ℕ} {registers : List ℕ}
           | inr later ↦ elim (cases_eq found.0 place) [
             | inl same ↦ absurd (omega (arith, rw same at found.2))
             | inr differs ↦ absurd (omega (
-                arith,
-                reached.ascending place found.0 0 (omega arith) found.1,
-                found.2,
-              ))
+              arith,
+              reached.ascending place found.0 0 (omega arith) found.1,
+              found.2,
+            ))
           ]
         ]) listed
 

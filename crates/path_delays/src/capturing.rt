@@ -54,8 +54,7 @@ impl Capturing {
         walk.reached_among(&self.captured, &mut self.reached);
         let mut next = 0;
         while let Some(signal) = self.reached.take_lowest(next) {
-            self.found
-                .insert_all(self.capturers.group(signal as usize));
+            self.found.insert_all(self.capturers.group(signal as usize));
             next = signal + 1;
         }
         self.found.take_all(&mut self.registers)?;
