@@ -1,22 +1,25 @@
 -- The pairs that are kept, while the one on top is renewed.
-use Rattle.std.proofs.Common.{◌≡◌, ◌⊎◌, ℕ, zero, suc, ◌<◌, ◌≤◌, Bool, true, false, cond, Option, Some, None, List, [], ◌∷◌, ◌++◌, ℤ, ◌<ℤ◌, inl, inr, refl, sym, ap, subst, ◌∙◌, arith}
+use Rattle.std.proofs.Common.{◌≡◌, ◌⊎◌, ℕ, zero, suc, ◌<◌, ◌≤◌, ◌+◌, Bool, true, false, cond, Option, Some, None, List, [], ◌∷◌, ◌++◌, ℤ, pos, ◌<ℤ◌, length, inl, inr, refl, sym, ap, subst, ◌∙◌, arith}
 use Rattle.std.specs.List.{All, Contains, slice_get, sum_by}
 use Rattle.std.specs.List.Sorted.{IsPermutation}
-use Rattle.std.specs.Option.{option_to_list, option_and_then, option_map_or}
+use Rattle.std.specs.Option.{IfSome, option_to_list, option_and_then, option_map_or}
 use Rattle.std.specs.Ordering.{int_eq}
 use Rattle.std.specs.Bool.{nat_lt}
 use Rattle.std.proofs.lemmas.Bool.{cases_lt, lt-ltb, le-ltb, ltb-true}
 use Rattle.std.proofs.lemmas.Bool.Decides.{Decides-int_eq}
-use Rattle.std.proofs.lemmas.List.Elements.{All-contains, Contains-append_right}
-use Rattle.std.proofs.lemmas.List.Sorted.{Contains-permutation, sum_by-IsPermutation}
-use Rattle.std.proofs.lemmas.List.Sums.{sum_by-cons}
+use Rattle.std.proofs.lemmas.Int.{ints}
+use Rattle.std.proofs.lemmas.Option.{slice_get_within}
+use Rattle.std.proofs.lemmas.List.Elements.{All-cons, All-contains, All-nil, Contains-append_right}
+use Rattle.std.proofs.lemmas.List.Sorted.{Contains-permutation, IsPermutation-cons, IsPermutation-refl, IsPermutation-trans, sum_by-IsPermutation}
+use Rattle.std.proofs.lemmas.List.Sums.{sum_by-append, sum_by-cons}
 use Rattle.tilted_rect.specs.declared.cluster.Cluster.{Cluster}
 use Rattle.tilted_rect.specs.ClusterSets.{cost_of}
 use Rattle.topology.specs.declared.live.Live.{Live}
 use Rattle.topology.specs.declared.pair.Pair.{Pair}
-use Rattle.topology.specs.Pairs.{IsBefore, IsAtMost, IsReplaced}
-use Rattle.topology.specs.LiveClusters.{HasCluster, IsPair, IsKept, IsKeptWith, IsNearest, IsCovered, AreCovered, owner_of, other_of}
-use Rattle.topology.proofs.NearLemmas.{before_along, sides}
+use Rattle.topology.specs.declared.waiting.Waiting.{Waiting}
+use Rattle.topology.specs.Pairs.{ComesFirst, IsBefore, IsAtMost, IsReplaced}
+use Rattle.topology.specs.LiveClusters.{HasCluster, IsPair, IsKept, IsKeptWith, IsNearest, IsCovered, AreCovered, AreSearched, AreWaiting, IsFirstOf, owner_of, other_of}
+use Rattle.topology.proofs.NearLemmas.{before_along, cost_least, sides}
 
 -- ---- the next number
 
@@ -119,14 +122,14 @@ next_nearest live top next node least first held cost = record {
 
 -- ---- every pair is covered
 
--- the one on top is before all pairs
-pub top_least : (live : Live) (kept : List Pair) (top : Pair) → AreCovered live kept
-    → All (λ other. ¬ IsBefore other top) kept
-    → (pair : Pair) → IsPair live pair → ¬ IsBefore pair top
-top_least live kept top covered least pair is = λ before.
-    let found = covered pair is in
+-- the one on top is before all pairs that are covered
+top_first : (sinks : ℕ) (kept : List Pair) (pair : Pair)
+    → IfSome (slice_get kept 0) (λ top. All (λ other. ¬ IsBefore other top) kept)
+    → IsCovered sinks kept pair → IsAtMost (slice_get kept 0) pair
+top_first sinks [] pair least found = absurd (omega (arith, found.among.1))
+top_first sinks (top ∷ rest) pair least found = λ before.
     before_along pair found.least top before
-    (All-contains (λ other. ¬ IsBefore other top) kept found.least least found.among)
+    (All-contains (λ other. ¬ IsBefore other top) (top ∷ rest) found.least least found.among)
     found.at_most
 
 contains_cases : (head pair : Pair) (rest : List Pair) → Contains (head ∷ rest) pair
@@ -135,11 +138,12 @@ contains_cases head pair rest (zero, within, found) = inl found
 contains_cases head pair rest (suc k, within, found) = inr (k, omega arith, found)
 
 -- the owner of the one on top keeps another instead
-pub replaced_covers : (live : Live) (old new : List Pair) (top : Pair) (found : Option Pair)
-    → slice_get old 0 ≡ Some top → AreCovered live old → IsReplaced old new found
-    → IsNearest live (owner_of live.sinks top) found → AreCovered live new
-replaced_covers live old new top found on_top covered replaced nearest = λ pair is.
-    let was = covered pair is in
+pub replaced_covers : (live : Live) (from : ℕ) (old new : List Pair) (top : Pair)
+    (found : Option Pair)
+    → slice_get old 0 ≡ Some top → AreCovered live from old → IsReplaced old new found
+    → IsNearest live (owner_of live.sinks top) found → AreCovered live from new
+replaced_covers live from old new top found on_top covered replaced nearest = λ pair is within.
+    let was = covered pair is within in
     elim (contains_cases replaced.top was.least replaced.rest
     (Contains-permutation old (replaced.top ∷ replaced.rest) was.least replaced.before was.among)) [
       | inl here ↦ at found replaced.after nearest.bound nearest.there pair is
@@ -284,12 +288,154 @@ replaced_fewer live old new top found on_top none replaced nearest =
           sum_by-IsPermutation (broken live) (next ∷ replaced.rest) new after,
         )
 
--- where none is kept there is no pair
-pub none_covered : (live : Live) (kept : List Pair) (pair : Pair) → AreCovered live kept
-    → None ≡ slice_get kept 0 → ¬ IsPair live pair
-none_covered live kept pair covered none is =
-    at kept none (covered pair is).least (covered pair is).among
+-- ---- the nodes that wait
+
+-- pairs that are there aren't broken up
+none_broken : (live : Live) (found : List Pair) → All (IsPair live) found
+    → broken_pairs live found ≡ 0
+none_broken live [] pairs = refl
+none_broken live (pair ∷ found) pairs =
+    let whole : broken live pair ≡ 0 = ap (λ b. cond b 0 1)
+    (pair_whole live pair (pairs 0 pair (omega arith))) in
+    omega (
+      arith,
+      whole,
+      sum_by-cons (broken live) pair found,
+      none_broken live found (λ k d within. pairs (suc k) d (omega (arith, within))),
+    )
+
+pub searched_broken : (live : Live) (waiting : Waiting) (old new : List Pair)
+    → AreSearched live waiting old new → broken_pairs live new ≡ broken_pairs live old
+searched_broken live waiting old new held = omega (
+  arith,
+  sum_by-IsPermutation (broken live) (held.found ++ old) new held.kept,
+  sum_by-append (broken live) held.found old,
+  none_broken live held.found held.pairs,
+)
+
+-- before the first of them is searched
+pub search_starts : (live : Live) (waiting : Waiting) (kept : List Pair) → AreWaiting live waiting
+    → AreCovered live waiting.from kept → AreSearched live waiting kept kept
+search_starts live waiting kept waits covered = record {
+  found = [];
+  pairs = All-nil (IsPair live);
+  kept = IsPermutation-refl kept;
+  waits = waits;
+  covered = covered;
+}
+
+-- one more keeps the cheapest of its pairs
+pub search_next : (live : Live) (waiting next : Waiting) (old now new : List Pair)
+    (nearest : Option Pair) → AreSearched live waiting old now
+    → waiting.from < length live.clusters → next.from ≡ waiting.from + 1
+    → next.lowest ≡ waiting.lowest → IsNearest live waiting.from nearest
+    → IsPermutation (option_to_list nearest ++ now) new → AreSearched live next old new
+search_next live waiting next old now new nearest held below from lowest is moved = record {
+  found = option_to_list nearest ++ held.found;
+  pairs = pairs_of nearest is.there;
+  kept = IsPermutation-trans ((option_to_list nearest ++ held.found) ++ old)
+      (option_to_list nearest ++ now) new (with_found nearest) moved;
+  waits = record {
+    made = omega (arith, held.waits.made, from);
+    within = omega (arith, below, from);
+    lowest = λ node unjoined. omega (arith, lowest, held.waits.lowest node unjoined);
+  };
+  covered = λ pair there within. elim
+      (cases_lt (owner_of live.sinks pair) waiting.from) [
+        | inl before ↦
+            let was = held.covered pair there before in
+            record {
+              least = was.least;
+              among = Contains-permutation (option_to_list nearest ++ now) new was.least moved
+                  (Contains-append_right (option_to_list nearest) now was.least was.among);
+              owner = was.owner;
+              at_most = was.at_most;
+            }
+        | inr behind ↦ by_nearest nearest is.bound is.there moved pair there
+            (omega (arith, within, behind, from))
+      ];
+}
   where
-    at : (xs : List Pair) → None ≡ slice_get xs 0 → (x : Pair) → Contains xs x → ⊥
-    at [] none x among = omega (arith, among.1)
-    at (y ∷ ys) none x among = absurd (cc)
+    pairs_of : (o : Option Pair)
+        → ((pair : Pair) → o ≡ Some pair → IsKept live waiting.from pair)
+        → All (IsPair live) (option_to_list o ++ held.found)
+    pairs_of None there = held.pairs
+    pairs_of (Some pair) there = All-cons (IsPair live) pair held.found (there pair refl).pair
+        held.pairs
+
+    with_found : (o : Option Pair)
+        → IsPermutation ((option_to_list o ++ held.found) ++ old) (option_to_list o ++ now)
+    with_found None = held.kept
+    with_found (Some pair) = IsPermutation-cons pair (held.found ++ old) now held.kept
+
+    by_nearest : (o : Option Pair)
+        → ((pair : Pair) → IsKept live waiting.from pair → IsAtMost o pair)
+        → ((pair : Pair) → o ≡ Some pair → IsKept live waiting.from pair)
+        → IsPermutation (option_to_list o ++ now) new
+        → (pair : Pair) → IsPair live pair → owner_of live.sinks pair ≡ waiting.from
+        → IsCovered live.sinks new pair
+    by_nearest None bound there moved pair here owner = absurd (bound pair (record
+        { pair = here; owner = owner }))
+    by_nearest (Some least) bound there moved pair here owner = record {
+      least = least;
+      among = Contains-permutation (least ∷ now) new least moved (0, omega arith, refl);
+      owner = (there least refl).owner ∙ sym owner;
+      at_most = bound pair (record { pair = here; owner = owner });
+    }
+
+-- where none waits, the one on top is before all pairs
+pub none_waits : (live : Live) (from : ℕ) (kept : List Pair) → length live.clusters ≤ from
+    → IfSome (slice_get kept 0) (λ top. All (λ other. ¬ IsBefore other top) kept)
+    → AreCovered live from kept → IsFirstOf live (slice_get kept 0)
+none_waits live from kept past least covered = λ pair is. top_first live.sinks kept pair least
+    (covered pair is (elim (sides live.sinks pair _ _ refl refl) [
+      | inl (first, _) ↦ omega (
+        arith,
+        first,
+        past,
+        is.ordered,
+        slice_get_within live.clusters pair.second is.other is.second.cluster,
+      )
+      | inr (_, second) ↦ omega (
+        arith,
+        second,
+        past,
+        slice_get_within live.clusters pair.second is.other is.second.cluster,
+      )
+    ]))
+
+-- and where it isn't after the bound on the pairs of those that wait
+pub none_is_due : (live : Live) (waiting : Waiting) (kept : List Pair) (bound : Pair)
+    → AreWaiting live waiting → bound.cost ≡ pos 0 → bound.first ≡ waiting.lowest
+    → bound.second ≡ waiting.from
+    → IfSome (slice_get kept 0) (λ top. All (λ other. ¬ IsBefore other top) kept)
+    → ¬ ComesFirst (Some bound) (slice_get kept 0)
+    → AreCovered live waiting.from kept → IsFirstOf live (slice_get kept 0)
+none_is_due live waiting kept bound waits cost first second least not_first covered = λ pair is.
+    elim (cases_lt (owner_of live.sinks pair) waiting.from) [
+      | inl before ↦ top_first live.sinks kept pair least (covered pair is before)
+      | inr behind ↦ at (slice_get kept 0) not_first pair
+          (not_before pair is (elim (cases_lt pair.second waiting.from) [
+            | inl below ↦ absurd (elim (sides live.sinks pair _ _ refl refl) [
+              | inl (owner, _) ↦ omega (arith, owner, behind, below, is.ordered)
+              | inr (_, owner) ↦ omega (arith, owner, behind, below)
+            ])
+            | inr above ↦ above
+          ]))
+    ]
+  where
+    not_before : (pair : Pair) → IsPair live pair → waiting.from ≤ pair.second
+        → ¬ IsBefore pair bound
+    not_before pair is above before = elim before [
+      | inl less ↦ omega (arith, ints, less, cost, is.cost, cost_least is.one is.other)
+      | inr (_, lower) ↦ elim lower [
+        | inl below ↦ omega (arith, below, first, waits.lowest pair.first is.first.unjoined)
+        | inr (_, below) ↦ omega (arith, below, second, above)
+      ]
+    ]
+
+    at : (o : Option Pair) → ¬ ComesFirst (Some bound) o → (pair : Pair) → ¬ IsBefore pair bound
+        → IsAtMost o pair
+    at None not_first pair apart = absurd (not_first (λ within. within))
+    at (Some top) not_first pair apart = λ before. not_first
+        (λ within. before_along pair bound top before within apart)

@@ -22,8 +22,9 @@ use Rattle.tilted_rect.specs.ClusterSets.{IsCluster}
 use Rattle.tilted_rect.proofs.ExtremeLemmas.{append_is_union}
 use Rattle.topology.specs.declared.live.Live.{Live}
 use Rattle.topology.specs.declared.pair.Pair.{Pair}
+use Rattle.topology.specs.declared.waiting.Waiting.{Waiting}
 use Rattle.topology.specs.Pairs.{IsBefore, merge_of}
-use Rattle.topology.specs.LiveClusters.{HasCluster, IsPair, IsCheapestPair, IsOrdered, IsAdded, IsJoined, IsCovered, AreCovered, AreLive, WereCheapest, AreFirstSinks, AreFirstCovered, owner_of}
+use Rattle.topology.specs.LiveClusters.{HasCluster, IsPair, IsCheapestPair, IsOrdered, IsAdded, IsJoined, IsCovered, AreCovered, AreLive, AreWaiting, WereCheapest, AreFirstSinks, AreFirstCovered, owner_of}
 use Rattle.topology.proofs.ListLemmas.{pushed_before, pushed_last, pushed_cases, set_other, was_set}
 use Rattle.topology.proofs.MergeLemmas.{as_one, cheapest_is, node_live}
 use Rattle.topology.proofs.NearLemmas.{cost_least}
@@ -333,47 +334,52 @@ module _ {sinks : List Sink} {merges : List Merge} {old new : Live} {pair : Pair
               (true ∷ []),
         )
 
-    -- the pairs with the node made are covered by a lower bound of them
-    pub joined_covers : (kept next : List Pair) (bound : Pair) → bound.cost ≡ pos 0
-        → bound.first ≡ 0 → bound.second ≡ length sinks + length merges
-        → IsPermutation (bound ∷ kept) next → AreCovered old kept → AreCovered new next
-    joined_covers kept next bound cost first second moved covered = λ other is.
-        elim (pair_was other is) [
-          | inl last ↦ record {
-            least = bound;
-            among = Contains-permutation (bound ∷ kept) next bound moved (0, omega arith, refl);
-            owner = behind new.sinks bound (omega (arith, second, joined.sinks, held.sinks_is))
-                ∙ second ∙ sym (last ∙ made)
-                ∙ sym (behind new.sinks other
-                (omega (arith, last, made, joined.sinks, held.sinks_is)));
-            at_most = λ before. not_before other before (sym cost) (sym first)
-                (last ∙ made ∙ sym second)
-                (subst (λ z. pos 0 ≤ℤ z) (sym is.cost) (cost_least is.one is.other));
+    -- pairs stay covered, as the node made waits
+    pub joined_covers : (from : ℕ) (kept : List Pair) → from ≤ length old.clusters
+        → length sinks ≤ from → AreCovered old from kept → AreCovered new from kept
+    joined_covers from kept within past covered = λ other is below. elim (pair_was other is) [
+      | inl last ↦ absurd (omega (
+        arith,
+        behind new.sinks other (omega (arith, last, within, past, joined.sinks, held.sinks_is)),
+        below,
+        last,
+        within,
+      ))
+      | inr was ↦
+          let found = covered other was
+          (subst (λ n. owner_of n other < from) joined.sinks below) in
+          record {
+            least = found.least;
+            among = found.among;
+            owner = subst (λ n. owner_of n found.least ≡ owner_of n other) (sym joined.sinks)
+                found.owner;
+            at_most = found.at_most;
           }
-          | inr was ↦
-              let found = covered other was in
-              record {
-                least = found.least;
-                among = Contains-permutation (bound ∷ kept) next found.least moved
-                    (Contains-append_right (bound ∷ []) kept found.least found.among);
-                owner = subst (λ n. owner_of n found.least ≡ owner_of n other) (sym joined.sinks)
-                    found.owner;
-                at_most = found.at_most;
-              }
-        ]
+    ]
       where
         behind : (sinks : ℕ) (pair : Pair) → sinks ≤ pair.second → owner_of sinks pair ≡ pair.second
         behind sinks pair from = rw (le-ltb pair.second sinks from) refl
 
-        not_before : (other : Pair) → IsBefore other bound → pos 0 ≡ bound.cost → 0 ≡ bound.first
-            → other.second ≡ bound.second → pos 0 ≤ℤ other.cost → ⊥
-        not_before other before cost first second least = elim before [
-          | inl less ↦ omega (arith, ints, less, cost, least)
-          | inr (_, lower) ↦ elim lower [
-            | inl below ↦ omega (arith, below, first)
-            | inr (_, below) ↦ omega (arith, below, second)
-          ]
-        ]
+    -- and so does that node with those that wait
+    pub joined_waits : (waiting : Waiting) → AreWaiting old waiting → AreWaiting new waiting
+    joined_waits waiting waits = record {
+      made = omega (arith, waits.made, joined.sinks);
+      within = omega (
+        arith,
+        waits.within,
+        ap length joined.clusters,
+        length-append old.clusters (joined.both ∷ []),
+      );
+      lowest = λ node unjoined. elim (still_cases node unjoined) [
+        | inl last ↦ omega (
+          arith,
+          last,
+          waits.lowest pair.first is_pair.first.unjoined,
+          slice_get_within old.clusters pair.first is_pair.one is_pair.first.cluster,
+        )
+        | inr (was, _, _) ↦ waits.lowest node was
+      ];
+    }
 
 -- ---- before the first merge
 
@@ -416,9 +422,10 @@ first_covered sinks register kept next bound cost first second moved covered = �
       ]
     ]
 
-pub all_covered : (sinks : List Sink) (live : Live) (kept : List Pair) → AreLive sinks [] live
-    → AreFirstCovered (length sinks) (length sinks) kept → AreCovered live kept
-all_covered sinks live kept held covered = λ pair is.
+pub all_covered : (sinks : List Sink) (live : Live) (from : ℕ) (kept : List Pair)
+    → AreLive sinks [] live → AreFirstCovered (length sinks) (length sinks) kept
+    → AreCovered live from kept
+all_covered sinks live from kept held covered = λ pair is below.
     let within : pair.second < length sinks = omega
     (arith, (node_live held pair.second is.other is.second).made) in
     subst (λ n. IsCovered n kept pair) (sym held.sinks_is)
@@ -429,10 +436,31 @@ all_covered sinks live kept held covered = λ pair is.
 
 -- all is right after so many merges
 pub record IsMerging (sinks : List Sink) (merges : List Merge) (clusters : Live)
-    (kept : List Pair) : Type 0 where
+    (waiting : Waiting) (kept : List Pair) : Type 0 where
   pub live : AreLive sinks merges clusters
   pub cheapest : WereCheapest sinks merges
-  pub covered : AreCovered clusters kept
+  pub waits : AreWaiting clusters waiting
+  pub covered : AreCovered clusters waiting.from kept
+
+-- before the first
+pub merging_starts : (sinks : List Sink) (merges : List Merge) (live : Live) (waiting : Waiting)
+    (kept : List Pair) → merges ≡ [] → AreLive sinks [] live → waiting.from ≡ length sinks
+    → waiting.lowest ≡ 0 → AreFirstCovered (length sinks) (length sinks) kept
+    → IsMerging sinks merges live waiting kept × (1 ≡ length merges + 1)
+merging_starts sinks merges live waiting kept none held from lowest covered =
+    subst (λ xs. IsMerging sinks xs live waiting kept × (1 ≡ length xs + 1)) (sym none) (
+      record {
+        live = held;
+        cheapest = λ place merge here. absurd (cc);
+        waits = record {
+          made = omega (arith, from, held.sinks_is);
+          within = omega (arith, from, held.count);
+          lowest = λ node unjoined. omega (arith, lowest);
+        };
+        covered = all_covered sinks live waiting.from kept held covered;
+      },
+      omega arith,
+    )
 
 -- one merge more
 pub were_cheapest : (sinks : List Sink) (merges : List Merge) (merge : Merge)
@@ -450,19 +478,19 @@ were_cheapest sinks merges merge held cheapest = λ place next here.
     ]
 
 pub merging_next : (sinks : List Sink) (merges : List Merge) (old new : Live)
-    (kept chosen next : List Pair) (pair bound : Pair) → IsMerging sinks merges old kept
-    → AreCovered old chosen → IsCheapestPair old pair → IsJoined old new pair
-    → bound ≡ record { cost = pos 0; first = 0; second = length sinks + length merges }
-    → IsPermutation (bound ∷ chosen) next → IsMerging sinks (merges ++ merge_of pair ∷ []) new next
-merging_next sinks merges old new kept chosen next pair bound held covered cheapest joined made
-    moved = record {
+    (before waiting : Waiting) (kept chosen : List Pair) (pair : Pair)
+    → IsMerging sinks merges old before kept → AreWaiting old waiting
+    → AreCovered old waiting.from chosen → IsCheapestPair old pair → IsJoined old new pair
+    → IsMerging sinks (merges ++ merge_of pair ∷ []) new waiting chosen
+merging_next sinks merges old new before waiting kept chosen pair held waits covered cheapest
+    joined = record {
       live = merged_live held.live joined cheapest.pair
           (λ place merge here. (held.cheapest place merge here).merges);
       cheapest = were_cheapest sinks merges (merge_of pair) held.cheapest
           (cheapest_is held.live pair cheapest);
-      covered = joined_covers held.live joined cheapest.pair chosen next bound
-          (ap (λ (p : Pair). p.cost) made) (ap (λ (p : Pair). p.first) made)
-          (ap (λ (p : Pair). p.second) made) moved covered;
+      waits = joined_waits held.live joined cheapest.pair waiting waits;
+      covered = joined_covers held.live joined cheapest.pair waiting.from chosen waits.within
+          (omega (arith, waits.made, held.live.sinks_is)) covered;
     }
 
 -- while more than one cluster is left a pair is found

@@ -1,5 +1,6 @@
 -- The clusters that no merge joins yet, and which pairs of them are kept.
-use Rattle.std.specs.Prelude.{◌≡◌, ◌↔◌, ◌⊎◌, ℕ, ◌<◌, ◌≤◌, ◌+◌, true, false, Option, Some, List, [], ◌∷◌, ◌++◌, Contains, count_by, length, take, slice_get, slice_set, slice_index_or, ℤ, pos, ◌+ℤ◌, ◌≤ℤ◌, nat_lt, if◌then◌else◌, ◌^◌}
+use Rattle.std.specs.Prelude.{◌≡◌, ◌↔◌, ◌⊎◌, ℕ, ◌<◌, ◌≤◌, ◌+◌, true, false, Option, Some, List, [], ◌∷◌, ◌++◌, All, Contains, count_by, length, take, slice_get, slice_set, slice_index_or, ℤ, pos, ◌+ℤ◌, ◌≤ℤ◌, nat_lt, if◌then◌else◌, ◌^◌}
+use Rattle.std.specs.List.Sorted.{IsPermutation}
 use Rattle.std.specs.Option.{option_map_or}
 use Rattle.cts_model.specs.placement.Points.{IsBelow}
 use Rattle.tilted_rect.specs.declared.cluster.Cluster.{Cluster}
@@ -11,6 +12,7 @@ use Rattle.cts_model.specs.tree.Regions.{IsUnion}
 use Rattle.tilted_rect.specs.ClusterSets.{IsCluster, cost_of}
 use Rattle.topology.specs.declared.live.Live.{Live}
 use Rattle.topology.specs.declared.pair.Pair.{Pair}
+use Rattle.topology.specs.declared.waiting.Waiting.{Waiting}
 use Rattle.topology.specs.Pairs.{IsAtMost, IsBefore}
 
 -- ---- pairs
@@ -95,9 +97,32 @@ pub record IsCovered (sinks : ℕ) (kept : List Pair) (pair : Pair) : Type 0 whe
   pub owner : owner_of sinks least ≡ owner_of sinks pair
   pub at_most : ¬ IsBefore pair least
 
--- so it is for each pair of two clusters
-abbrev pub AreCovered : Live → (kept : List Pair) → Type 0
-AreCovered live kept = (pair : Pair) → IsPair live pair → IsCovered live.sinks kept pair
+-- so it is for each pair of a node below that number
+abbrev pub AreCovered : Live → (from : ℕ) → (kept : List Pair) → Type 0
+AreCovered live from kept = (pair : Pair) → IsPair live pair → owner_of live.sinks pair < from
+    → IsCovered live.sinks kept pair
+
+-- a merge joins every node below that one
+abbrev pub AreJoinedBelow : Live → (lowest : ℕ) → Type 0
+AreJoinedBelow live lowest = (node : ℕ) → slice_get live.unjoined node ≡ Some true → lowest ≤ node
+
+-- nodes that merges made wait, and all those behind them
+pub record AreWaiting (live : Live) (waiting : Waiting) : Type 0 where
+  pub made : live.sinks ≤ waiting.from
+  pub within : waiting.from ≤ length live.clusters
+  pub lowest : AreJoinedBelow live waiting.lowest
+
+-- the pairs of nodes that waited are kept too
+pub record AreSearched (live : Live) (waiting : Waiting) (old new : List Pair) : Type 0 where
+  pub found : List Pair
+  pub pairs : All (IsPair live) found
+  pub kept : IsPermutation (found ++ old) new
+  pub waits : AreWaiting live waiting
+  pub covered : AreCovered live waiting.from new
+
+-- no pair of two clusters is to be merged before that one
+abbrev pub IsFirstOf : Live → (first : Option Pair) → Type 0
+IsFirstOf live first = (pair : Pair) → IsPair live pair → IsAtMost first pair
 
 -- the pair is of two clusters, and none is to be merged before it
 pub record IsCheapestPair (live : Live) (cheapest : Pair) : Type 0 where

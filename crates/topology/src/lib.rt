@@ -5,5 +5,6 @@ mod live;
 mod merging;
 mod pair;
 mod queue;
+mod waiting;
 
 pub use merging::greedy;

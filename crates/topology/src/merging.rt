@@ -1,12 +1,13 @@
-ghost use Rattle.std.specs.Prelude.{◌≡◌, ◌≤◌, [], length, pos, IfOk, IfSome, IsNone};
+ghost use Rattle.std.specs.Prelude.{◌≡◌, ◌≤◌, ◌<◌, [], length, pos, slice_get, IfOk, IfSome, IsNone, IsTrue, OnOk};
 ghost use Rattle.cts_model.specs.tree.GreedyMerges.{IsGreedy};
 ghost use Rattle.cts_model.specs.tree.Sinks.{AreTreeSinks};
 ghost use Rattle.topology.specs.declared.pair.Pair.{Pair};
-ghost use Rattle.topology.specs.LiveClusters.{AreCovered, AreFirstCovered, AreLive, IsCheapestPair, IsOrdered, IsPair};
+ghost use Rattle.topology.specs.LiveClusters.{AreCovered, AreFirstCovered, AreJoinedBelow, AreLive, AreSearched, AreWaiting, IsCheapestPair, IsFirstOf, IsOrdered, IsPair};
 
 use crate::live::Live;
-use crate::pair::Pair;
+use crate::pair::{Pair, comes_first};
 use crate::queue::Queue;
+use crate::waiting::Waiting;
 use cts_base::{Listed, NoMemory};
 use cts_model::{Sink, Topology};
 use std::alloc::Global;
@@ -23,12 +24,15 @@ pub fn greedy(alloc: Global, sinks: &[Sink]) -> Result<Topology, NoMemory>
 {
     let mut live = sink_clusters(alloc, sinks)?;
     let mut queue = first_bounds(alloc, sinks.len() as u32)?;
+    let mut waiting = Waiting {
+        from: sinks.len() as u32,
+        lowest: 0,
+    };
     let mut merges = Listed::new(alloc);
-    for node in sinks.len()..2 * sinks.len() - 1 {
-        let pair = cheapest(&live, &mut queue).unwrap();
+    for _merge in 1..sinks.len() {
+        let pair = cheapest(&live, &mut queue, &mut waiting)?.unwrap();
         merges.push(pair.merge())?;
         live.join(&pair)?;
-        queue.push(bound(0, node as u32))?;
     }
     Ok(Topology { merges })
 }
@@ -70,18 +74,66 @@ fn first_bounds(alloc: Global, sinks: u32) -> Result<Queue, NoMemory>
 
 // The pair that is to be merged next. Pairs that were broken up by a merge are renewed where they
 // come first.
-fn cheapest(live: &Live, queue: &mut Queue) -> Option<Pair>
+fn cheapest(live: &Live, queue: &mut Queue, waiting: &mut Waiting) -> Result<Option<Pair>, NoMemory>
     requires ordered { IsOrdered live.now }
-    requires covered { AreCovered live.now queue.old }
-    ensures found { IfSome result (IsCheapestPair live.now) }
-    ensures none { IsNone result → (pair : Pair) → ¬ IsPair live.now pair }
-    ensures covered { AreCovered live.now queue.new }
+    requires waiting { AreWaiting live.now waiting.old }
+    requires covered { AreCovered live.now waiting.old.from queue.old }
+    ensures found { IfOk result (λ found. IfSome found (IsCheapestPair live.now)) }
+    ensures none { IfOk result (λ found. IsNone found → (pair : Pair) → ¬ IsPair live.now pair) }
+    ensures waiting { OnOk result (AreWaiting live.now waiting.new) }
+    ensures covered { OnOk result (AreCovered live.now waiting.new.from queue.new) }
 {
-    while let Some(pair) = queue.first() {
+    while let Some(pair) = first(live, queue, waiting)? {
         if live.has(&pair) {
-            return Some(pair);
+            return Ok(Some(pair));
         }
         queue.replace_first(live.renewed(&pair));
     }
-    None
+    Ok(None)
+}
+
+// A pair that no other is to be merged before, of those that are kept. Nodes that wait are searched
+// as long as they might have one.
+fn first(live: &Live, queue: &mut Queue, waiting: &mut Waiting) -> Result<Option<Pair>, NoMemory>
+    requires ordered { IsOrdered live.now }
+    requires waiting { AreWaiting live.now waiting.old }
+    requires covered { AreCovered live.now waiting.old.from queue.old }
+    ensures value { IfOk result (λ first. first ≡ slice_get queue.new 0) }
+    ensures first { IfOk result (IsFirstOf live.now) }
+    ensures searched { OnOk result (AreSearched live.now waiting.new queue.old queue.new) }
+{
+    waiting.lowest = lowest(live, waiting.lowest);
+    while is_due(live, queue, waiting) {
+        queue.push_found(live.nearest(waiting.from))?;
+        waiting.from += 1;
+    }
+    Ok(queue.first())
+}
+
+// The lowest node that no merge joins yet, from one on below which there are none.
+fn lowest(live: &Live, from: u32) -> u32
+    requires ordered { IsOrdered live.now }
+    requires joined { AreJoinedBelow live.now from }
+    ensures { AreJoinedBelow live.now result }
+{
+    match live.next_unjoined(from) {
+        Some(node) => node,
+        None => from,
+    }
+}
+
+// Whether a node that waits might have a pair that is to be merged before all that are kept.
+fn is_due(live: &Live, queue: &Queue, waiting: &Waiting) -> bool
+    requires ordered { IsOrdered live.now }
+    requires waiting { AreWaiting live.now waiting.now }
+    requires covered { AreCovered live.now waiting.now.from queue.now }
+    ensures within { IsTrue result → waiting.now.from < length live.now.clusters }
+    ensures first { ¬ IsTrue result → IsFirstOf live.now (slice_get queue.now 0) }
+{
+    let top = queue.first();
+    if live.count() <= waiting.from {
+        return false;
+    }
+    let least = bound(waiting.lowest, waiting.from);
+    comes_first(&Some(least), &top)
 }

@@ -42,8 +42,8 @@ pub(crate) fn keep_cheaper(kept: &mut Option<Pair>, other: &Option<Pair>)
     }
 }
 
-// Whether the one pair is there and to be merged before the other.
-fn comes_first(pair: &Option<Pair>, kept: &Option<Pair>) -> bool
+/// Whether the one pair is there and to be merged before the other.
+pub(crate) fn comes_first(pair: &Option<Pair>, kept: &Option<Pair>) -> bool
     ensures { IsTrue result ↔ ComesFirst pair.now kept.now }
 {
     match (pair, kept) {

@@ -1,5 +1,6 @@
 ghost use Rattle.std.specs.Prelude.{◌≡◌, ◌++◌, ◌∷◌, ◌<◌, [], All, IfSome, OnOk, length, slice_get, List, map, None, Some};
 ghost use Rattle.std.specs.List.Sorted.{IsPermutation};
+ghost use Rattle.std.specs.Option.{option_to_list};
 ghost use Rattle.std.specs.BinaryHeap.{IsHeap, heap_items};
 ghost use Rattle.std.proofs.Props.{props};
 ghost use Rattle.topology.specs.declared.pair.Pair.{Pair};
@@ -41,6 +42,16 @@ impl Queue {
     {
         self.heap.push(Reverse(pair))?;
         Ok(())
+    }
+
+    /// Keeps one pair more, if there is one.
+    pub(crate) fn push_found(&mut self, pair: Option<Pair>) -> Result<(), NoMemory>
+        ensures { OnOk result (IsPermutation (option_to_list pair ++ self.old) self.new) }
+    {
+        match pair {
+            Some(pair) => self.push(pair),
+            None => Ok(()),
+        }
     }
 
     /// The pair that is to be merged first.

@@ -1,29 +1,36 @@
-use Rattle.std.proofs.Common.{true≢false, sym, ◌∙◌}
-use Rattle.topology.proofs.CoverLemmas.{none_covered, replaced_covers, replaced_fewer, top_least}
+use Rattle.std.proofs.Common.{◌≡◌, ◌<◌, Some, true≢false, sym, subst, ◌∙◌}
+use Rattle.std.specs.List.{slice_get}
+use Rattle.topology.specs.LiveClusters.{IsFirstOf}
+use Rattle.topology.proofs.CoverLemmas.{broken_pairs, replaced_covers, replaced_fewer, searched_broken}
 use Rattle.topology.proofs.merging.cheapest.Goals as goal
 
 pub returns-then-has-clause-found : goal.returns-then-has-clause-found
 returns-then-has-clause-found c = record {
   pair = c.has.ensures.0 c.if-has.true;
-  least = top_least c.args.live.now c.loop-pair.queue c.in-Some.pair c.loop-pair.invariant
-      c.in-Some.ensures.least;
+  least = subst (λ o. IsFirstOf c.args.live.now o) c.in-Some.is c.in_ok-pair.ensures.first;
 }
 
 pub renewed-requires-clause-least : goal.renewed-requires-clause-least
-renewed-requires-clause-least c = top_least c.args.live.now c.loop-pair.queue c.in-Some.pair
-    c.loop-pair.invariant c.in-Some.ensures.least
+renewed-requires-clause-least c =
+    subst (λ o. IsFirstOf c.args.live.now o) c.in-Some.is c.in_ok-pair.ensures.first
 
 pub loop-pair-smaller : goal.loop-pair-smaller
-loop-pair-smaller c = replaced_fewer c.args.live.now c.loop-pair.queue c.replace_first.new.self
-    c.in-Some.pair c.renewed.result (sym c.in-Some.ensures.value)
+loop-pair-smaller c =
+    let live = c.args.live.now in
+    let searched = c.in_ok-pair.ensures.searched in
+    subst (λ count. broken_pairs live c.replace_first.new.self < count)
+    (searched_broken live c.first.new.waiting c.loop-pair.queue c.first.new.queue searched)
+    (replaced_fewer live c.first.new.queue c.replace_first.new.self c.in-Some.pair c.renewed.result
+    (sym c.in_ok-pair.ensures.value ∙ c.in-Some.is)
     (λ is. true≢false (sym (c.has.ensures.1 is) ∙ c.if-has.false)) c.replace_first.ensures
-    c.renewed.ensures
+    c.renewed.ensures)
 
 pub loop-pair-preserved : goal.loop-pair-preserved
-loop-pair-preserved c = replaced_covers c.args.live.now c.loop-pair.queue c.replace_first.new.self
-    c.in-Some.pair c.renewed.result (sym c.in-Some.ensures.value) c.loop-pair.invariant
-    c.replace_first.ensures c.renewed.ensures
-
-pub returns-clause-none : goal.returns-clause-none
-returns-clause-none c = λ none pair is. none_covered c.args.live.now c.loop-pair.queue pair
-    c.loop-pair.invariant c.in_default.ensures.value is
+loop-pair-preserved c =
+    let searched = c.in_ok-pair.ensures.searched in (
+      searched.waits,
+      replaced_covers c.args.live.now c.first.new.waiting.from c.first.new.queue
+          c.replace_first.new.self c.in-Some.pair c.renewed.result
+          (sym c.in_ok-pair.ensures.value ∙ c.in-Some.is) searched.covered c.replace_first.ensures
+          c.renewed.ensures,
+    )

@@ -1,10 +1,10 @@
-use Rattle.topology.specs.LiveClusters.{AreCovered}
+use Rattle.topology.specs.LiveClusters.{AreCovered, AreWaiting}
 use Rattle.topology.proofs.CoverLemmas.{broken_pairs}
 use Rattle.topology.proofs.merging.cheapest.Given as goal
 
--- every pair is covered
+-- every pair of a node that doesn't wait is covered
 abbrev pub invariant-loop-pair : goal.invariant-loop-pair
-invariant-loop-pair l = AreCovered l.live l.queue
+invariant-loop-pair l = AreWaiting l.live l.waiting × AreCovered l.live l.waiting.from l.queue
 
 -- how many pairs are broken up
 abbrev pub decreases-loop-pair : goal.decreases-loop-pair
