@@ -19,7 +19,7 @@ use Rattle.topology.specs.declared.pair.Pair.{Pair}
 use Rattle.topology.specs.declared.waiting.Waiting.{Waiting}
 use Rattle.topology.specs.Pairs.{ComesFirst, IsBefore, IsAtMost, IsReplaced}
 use Rattle.topology.specs.LiveClusters.{HasCluster, IsPair, IsKept, IsKeptWith, IsNearest, IsCovered, AreCovered, AreSearched, AreWaiting, IsFirstOf, owner_of, other_of}
-use Rattle.topology.proofs.NearLemmas.{before_along, cost_least, sides}
+use Rattle.topology.proofs.NearLemmas.{before_along, cost_least, other_unjoined, sides}
 
 -- ---- the next number
 
@@ -103,7 +103,7 @@ next_nearest live top next node least first held cost = record {
           arith,
           below,
           held.other,
-          first (other_of live.sinks pair) (other_unjoined pair kept) behind,
+          first (other_of live.sinks pair) (other_unjoined live (owner_of live.sinks top) pair kept) behind,
         )
   ];
   there = λ pair is. subst (IsKept live (owner_of live.sinks top)) (one_pair next pair is)
@@ -112,13 +112,6 @@ next_nearest live top next node least first held cost = record {
   where
     one_pair : (one other : Pair) → Some one ≡ Some other → one ≡ other
     one_pair one other is = cc
-
-    other_unjoined : (pair : Pair) → IsKept live (owner_of live.sinks top) pair
-        → slice_get live.unjoined (other_of live.sinks pair) ≡ Some true
-    other_unjoined pair kept = elim (sides live.sinks pair _ _ kept.owner refl) [
-      | inl (_, second) ↦ ap (slice_get live.unjoined) (sym second) ∙ kept.pair.second.unjoined
-      | inr (first, _) ↦ ap (slice_get live.unjoined) (sym first) ∙ kept.pair.first.unjoined
-    ]
 
 -- ---- every pair is covered
 

@@ -25,7 +25,7 @@ use Rattle.topology.specs.declared.pair.Pair.{Pair}
 use Rattle.topology.specs.declared.waiting.Waiting.{Waiting}
 use Rattle.topology.specs.Pairs.{IsBefore, merge_of}
 use Rattle.topology.specs.LiveClusters.{HasCluster, IsPair, IsCheapestPair, IsOrdered, IsAdded, IsJoined, IsCovered, AreCovered, AreLive, AreWaiting, WereCheapest, AreFirstSinks, AreFirstCovered, owner_of}
-use Rattle.topology.proofs.ListLemmas.{pushed_before, pushed_last, pushed_cases, set_other, was_set}
+use Rattle.topology.proofs.ListLemmas.{false_true, pushed_before, pushed_last, pushed_cases, set_other, was_set}
 use Rattle.topology.proofs.MergeLemmas.{as_one, cheapest_is, node_live}
 use Rattle.topology.proofs.NearLemmas.{cost_least}
 
@@ -158,9 +158,6 @@ live_made sinks merges merge each first second = record {
           differs (get_or merges k d).second
               (omega (arith, within, second_made sinks merges each k (get_or merges k d) here)),
         )
-
-false_true : false ≢ true
-false_true is = absurd (cc)
 
 module _ {sinks : List Sink} {merges : List Merge} {old new : Live} {pair : Pair}
     (held : AreLive sinks merges old) (joined : IsJoined old new pair) where

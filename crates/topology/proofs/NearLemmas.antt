@@ -7,7 +7,6 @@ use Rattle.std.proofs.lemmas.List.{get_or_default}
 use Rattle.std.specs.Option.{IsSomeAnd, option_map_or}
 use Rattle.std.proofs.lemmas.Bool.{cases_lt}
 use Rattle.std.proofs.lemmas.Int.{ints, clamps}
-use Rattle.std.proofs.lemmas.Option.{slice_get_within}
 use Rattle.cts_model.specs.placement.Points.{IsBelow}
 use Rattle.tilted_rect.specs.declared.cluster.Cluster.{Cluster}
 use Rattle.tilted_rect.specs.ClusterSets.{cost_of}
@@ -111,6 +110,14 @@ sides sinks pair owner node = at (nat_lt pair.second sinks)
         ⊎ ((pair.first ≡ node) × (pair.second ≡ owner))
     at true is other_is = inl (is, other_is)
     at false is other_is = inr (other_is, is)
+
+-- no merge joins the other
+pub other_unjoined : (live : Live) (owner : ℕ) (pair : Pair) → IsKept live owner pair
+    → slice_get live.unjoined (other_of live.sinks pair) ≡ Some true
+other_unjoined live owner pair kept = elim (sides live.sinks pair owner _ kept.owner refl) [
+  | inl (_, second) ↦ ap (slice_get live.unjoined) (sym second) ∙ kept.pair.second.unjoined
+  | inr (first, _) ↦ ap (slice_get live.unjoined) (sym first) ∙ kept.pair.first.unjoined
+]
 
 pub one_cluster : (one other : Cluster) → Some one ≡ Some other → one ≡ other
 one_cluster one other is = cc
@@ -282,7 +289,7 @@ pub looked_both : (live : Live) (owner from : ℕ) (middle found : Option Pair) 
 looked_both live owner from middle found ordered up down = record {
   bound = λ pair held.
       let node = other_of live.sinks pair in
-      let (place, below, here) = ordered.all node (node_made pair held) in
+      let (place, below, here) = ordered.all node (other_unjoined live owner pair held) in
       let with_it : IsKeptWith live owner (slice_index_or live.order.items place 0) pair = record {
         kept = held;
         other = sym (placed live.order.items place node below here);
@@ -303,15 +310,6 @@ looked_both live owner from middle found ordered up down = record {
     placed : (items : List ℕ) (place node : ℕ) → place < length items
         → get_or items place node ≡ node → slice_index_or items place 0 ≡ node
     placed items place node below here = get_or_default items place 0 node below ∙ here
-
-    node_made : (pair : Pair) → IsKept live owner pair
-        → other_of live.sinks pair < length live.clusters
-    node_made pair held = elim (sides live.sinks pair owner _ held.owner refl) [
-      | inl (_, second) ↦ subst (λ n. n < length live.clusters) second
-          (slice_get_within live.clusters pair.second held.pair.other held.pair.second.cluster)
-      | inr (first, _) ↦ subst (λ n. n < length live.clusters) first
-          (slice_get_within live.clusters pair.first held.pair.one held.pair.first.cluster)
-    ]
 
 -- where the node has no cluster it keeps no pair
 pub none_nearest : (live : Live) (owner : ℕ)

@@ -65,13 +65,14 @@ low_of clusters node = option_map_or (λ cluster. cluster.region.ulo) (slice_get
 abbrev pub low_at : List Cluster → List ℕ → (place : ℕ) → ℤ
 low_at clusters order place = low_of clusters (slice_index_or order place 0)
 
--- each node is in the order, by the least u of its region, and no region is wider than that
+-- each node that no merge joins is in the order, by the least u of its region, and no region is
+-- wider than that
 pub record IsOrdered (live : Live) : Type 0 where
   pub lens : length live.unjoined ≡ length live.clusters
   pub few : length live.clusters < 2 ^ 32
   pub within : (place : ℕ) → place < length live.order.items
       → slice_index_or live.order.items place 0 < length live.clusters
-  pub all : (node : ℕ) → node < length live.clusters → Contains live.order.items node
+  pub all : (node : ℕ) → slice_get live.unjoined node ≡ Some true → Contains live.order.items node
   pub ascending : (place later : ℕ) → place ≤ later → later < length live.order.items
       → low_at live.clusters live.order.items place
       ≤ℤ low_at live.clusters live.order.items later
@@ -136,6 +137,13 @@ pub record IsAdded (old new : Live) (cluster : Cluster) : Type 0 where
   pub sinks : new.sinks ≡ old.sinks
   pub clusters : new.clusters ≡ old.clusters ++ cluster ∷ []
   pub unjoined : new.unjoined ≡ old.unjoined ++ true ∷ []
+  pub ordered : IsOrdered new
+
+-- a merge joins that node
+pub record IsLeft (old new : Live) (node : ℕ) : Type 0 where
+  pub sinks : new.sinks ≡ old.sinks
+  pub clusters : new.clusters ≡ old.clusters
+  pub unjoined : new.unjoined ≡ slice_set old.unjoined node false
   pub ordered : IsOrdered new
 
 -- the two clusters of a pair are merged into one of a node more

@@ -1,5 +1,4 @@
-use Rattle.std.proofs.Common.{◌≡◌, ◌<◌, Some, true≢false, sym, subst, ◌∙◌}
-use Rattle.std.specs.List.{slice_get}
+use Rattle.std.proofs.Common.{◌<◌, true≢false, sym, subst, ◌∙◌}
 use Rattle.topology.specs.LiveClusters.{IsFirstOf}
 use Rattle.topology.proofs.CoverLemmas.{broken_pairs, replaced_covers, replaced_fewer, searched_broken}
 use Rattle.topology.proofs.merging.cheapest.Goals as goal

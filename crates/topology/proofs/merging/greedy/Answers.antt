@@ -1,4 +1,4 @@
-use Rattle.std.proofs.Common.{◌≡◌, ◌+◌, ◌++◌, ◌∷◌, [], length, length-append, ap, refl, sym, subst, ◌∙◌, arith}
+use Rattle.std.proofs.Common.{◌++◌, ◌∷◌, [], length, length-append, ap, refl, sym, subst, ◌∙◌, arith}
 use Rattle.std.specs.Option.{IfSome}
 use Rattle.topology.specs.LiveClusters.{IsCheapestPair}
 use Rattle.topology.proofs.JoinLemmas.{IsMerging, merging_next, merging_starts, some_found}
