@@ -19,7 +19,7 @@ use Rattle.topology.specs.declared.pair.Pair.{Pair}
 use Rattle.topology.specs.declared.waiting.Waiting.{Waiting}
 use Rattle.topology.specs.Pairs.{ComesFirst, IsBefore, IsAtMost, IsReplaced}
 use Rattle.topology.specs.LiveClusters.{HasCluster, IsPair, IsKept, IsKeptWith, IsNearest, IsCovered, AreCovered, AreSearched, AreWaiting, IsFirstOf, owner_of, other_of}
-use Rattle.topology.proofs.NearLemmas.{before_along, cost_least, other_unjoined, sides}
+use Rattle.topology.proofs.NearLemmas.{before_along, cost_least, lower_from, other_unjoined, sides}
 
 -- ---- the next number
 
@@ -40,37 +40,6 @@ lower_is s p q e f ordered = elim (cases_lt q s) [
   | inr from ↦ rw (le-ltb q s from) (elim (cases_lt f s) [
     | inl below ↦ rw (lt-ltb f s below) (λ same lower. inl (omega (arith, same, ordered)))
     | inr other_from ↦ rw (le-ltb f s other_from) (λ same lower. inl lower)
-  ])
-]
-
-lower_from : (s p q e f : ℕ) → p < q → e < f → cond (nat_lt q s) p q ≡ cond (nat_lt f s) e f
-    → (p < e) ⊎ ((p ≡ e) × (q < f)) → cond (nat_lt q s) q p < cond (nat_lt f s) f e
-lower_from s p q e f ordered other_ordered = elim (cases_lt q s) [
-  | inl below ↦ rw (lt-ltb q s below) (elim (cases_lt f s) [
-    | inl other_below ↦ rw (lt-ltb f s other_below) (λ same lower. elim lower [
-      | inl first ↦ absurd (omega (arith, same, first))
-      | inr (_, second) ↦ second
-    ])
-    | inr from ↦ rw (le-ltb f s from) (λ same lower. absurd (omega (
-      arith,
-      same,
-      below,
-      from,
-      ordered,
-    )))
-  ])
-  | inr from ↦ rw (le-ltb q s from) (elim (cases_lt f s) [
-    | inl below ↦ rw (lt-ltb f s below) (λ same lower. absurd (omega (
-      arith,
-      same,
-      below,
-      from,
-      other_ordered,
-    )))
-    | inr other_from ↦ rw (le-ltb f s other_from) (λ same lower. elim lower [
-      | inl first ↦ first
-      | inr (_, second) ↦ absurd (omega (arith, same, second))
-    ])
   ])
 ]
 

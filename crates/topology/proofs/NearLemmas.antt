@@ -5,7 +5,7 @@ use Rattle.std.specs.List.{slice_get, slice_index_or}
 use Rattle.std.specs.Bool.{nat_lt}
 use Rattle.std.proofs.lemmas.List.{get_or_default}
 use Rattle.std.specs.Option.{IsSomeAnd, option_map_or}
-use Rattle.std.proofs.lemmas.Bool.{cases_lt}
+use Rattle.std.proofs.lemmas.Bool.{cases_lt, lt-ltb, le-ltb}
 use Rattle.std.proofs.lemmas.Int.{ints, clamps}
 use Rattle.cts_model.specs.placement.Points.{IsBelow}
 use Rattle.tilted_rect.specs.declared.cluster.Cluster.{Cluster}
@@ -14,7 +14,7 @@ use Rattle.tilted_rect.specs.Intervals.{between}
 use Rattle.topology.specs.declared.live.Live.{Live}
 use Rattle.topology.specs.declared.pair.Pair.{Pair}
 use Rattle.topology.specs.Pairs.{IsBefore, IsAtMost, IsCheaperOf}
-use Rattle.topology.specs.LiveClusters.{HasCluster, IsPair, IsKept, IsKeptWith, IsLooked, IsNearest, IsOrdered, low_of, low_at, owner_of, other_of}
+use Rattle.topology.specs.LiveClusters.{HasCluster, IsPair, IsKept, IsKeptWith, IsLooked, IsNearest, IsOrdered, IsPast, low_of, low_at, owner_of, other_of}
 
 -- ---- the order of pairs
 
@@ -167,6 +167,38 @@ kept_apart live owner node pair cluster held has = elim
     turned : {one other : Cluster} {cost : ℤ} → IsApart one other cost → IsApart other one cost
     turned is = record { up = is.down; down = is.up }
 
+-- of pairs with one owner that of the lower other is the lower
+pub lower_from : (s p q e f : ℕ) → p < q → e < f → cond (nat_lt q s) p q ≡ cond (nat_lt f s) e f
+    → (p < e) ⊎ ((p ≡ e) × (q < f)) → cond (nat_lt q s) q p < cond (nat_lt f s) f e
+lower_from s p q e f ordered other_ordered = elim (cases_lt q s) [
+  | inl below ↦ rw (lt-ltb q s below) (elim (cases_lt f s) [
+    | inl other_below ↦ rw (lt-ltb f s other_below) (λ same lower. elim lower [
+      | inl first ↦ absurd (omega (arith, same, first))
+      | inr (_, second) ↦ second
+    ])
+    | inr from ↦ rw (le-ltb f s from) (λ same lower. absurd (omega (
+      arith,
+      same,
+      below,
+      from,
+      ordered,
+    )))
+  ])
+  | inr from ↦ rw (le-ltb q s from) (elim (cases_lt f s) [
+    | inl below ↦ rw (lt-ltb f s below) (λ same lower. absurd (omega (
+      arith,
+      same,
+      below,
+      from,
+      other_ordered,
+    )))
+    | inr other_from ↦ rw (le-ltb f s other_from) (λ same lower. elim lower [
+      | inl first ↦ first
+      | inr (_, second) ↦ absurd (omega (arith, same, second))
+    ])
+  ])
+]
+
 -- ---- the search
 
 pub low_is : (live : Live) (node : ℕ) (cluster : Cluster)
@@ -226,6 +258,45 @@ module _ {live : Live} {owner : ℕ} where
     there = held.there;
   }
 
+  -- where those that are as near have higher numbers
+  pub look_passes : (IsPassed IsWanted : ℕ → Type 0) (old now : Option Pair) (gap : ℤ) (node : ℕ)
+      → IsLooked live owner IsPassed old now
+      → ((pair : Pair) → now ≡ Some pair → IsKept live owner pair)
+      → IsSomeAnd now (λ pair. IsPast live.sinks pair gap node)
+      → ((other : ℕ) → IsWanted other → IsPassed other ⊎ ((pair : Pair)
+      → other < length live.order.items
+      → IsKeptWith live owner (slice_index_or live.order.items other 0) pair
+      → (gap ≤ℤ pair.cost) × (pair.cost ≡ gap → node ≤ other_of live.sinks pair)))
+      → IsLooked live owner IsWanted old now
+  look_passes IsPassed IsWanted old now gap node held kept past rest = record {
+    stays = held.stays;
+    bound = λ other pair wanted below with_it. elim (rest other wanted) [
+      | inl before ↦ held.bound other pair before below with_it
+      | inr far ↦
+          let (apart, behind) = far pair below with_it in
+          at now kept past pair with_it.kept apart behind
+    ];
+    there = held.there;
+  }
+    where
+      at : (o : Option Pair) → ((pair : Pair) → o ≡ Some pair → IsKept live owner pair)
+          → IsSomeAnd o (λ pair. IsPast live.sinks pair gap node)
+          → (pair : Pair) → IsKept live owner pair → gap ≤ℤ pair.cost
+          → (pair.cost ≡ gap → node ≤ other_of live.sinks pair) → IsAtMost o pair
+      at None kept past pair has apart behind = absurd past
+      at (Some found) kept (inl less) pair has apart behind =
+          less_is_at_most (Some found) pair gap less apart
+      at (Some found) kept (inr (same, lower)) pair has apart behind = λ before. elim before [
+        | inl less ↦ omega (arith, ints, less, same, apart)
+        | inr (cost, first) ↦ omega (
+          arith,
+          lower,
+          behind (cost ∙ same),
+          lower_from live.sinks pair.first pair.second found.first found.second has.pair.ordered
+              (kept found refl).pair.ordered (has.owner ∙ sym (kept found refl).owner) first,
+        )
+      ]
+
   -- where all were looked at
   pub look_ends : (IsPassed IsWanted : ℕ → Type 0) (old now : Option Pair)
       → IsLooked live owner IsPassed old now
@@ -249,6 +320,36 @@ module _ {live : Live} {owner : ℕ} where
         let (found, here, is) = kept_apart live owner _ pair cluster with_it has in
         let low = low_is live (slice_index_or live.order.items other 0) found here in
         omega (arith, ints, is.up, low, ordered.ascending place other from below)
+
+    -- and those as far have no lower number
+    pub behind_above : (place other : ℕ) (pair : Pair) → place ≤ other
+        → other < length live.order.items
+        → IsKeptWith live owner (slice_index_or live.order.items other 0) pair
+        → pair.cost ≡ (low_at live.clusters live.order.items place -ℤ cluster.region.uhi)
+        → slice_index_or live.order.items place 0 ≤ other_of live.sinks pair
+    behind_above place other pair from below with_it same = elim (cases_lt place other) [
+      | inl before ↦
+          let (found, here, is) = kept_apart live owner _ pair cluster with_it has in
+          let low = low_is live (slice_index_or live.order.items other 0) found here in
+          let equal : low_at live.clusters live.order.items place
+          ≡ low_at live.clusters live.order.items other =
+          as_low (low_at live.clusters live.order.items place)
+          (low_at live.clusters live.order.items other) found.region.ulo cluster.region.uhi pair.cost
+          same low is.up (ordered.ascending place other from below) in
+          omega (arith, with_it.other, ordered.numbered place other before below equal)
+      | inr to ↦
+          let here : slice_index_or live.order.items place 0
+          ≡ slice_index_or live.order.items other 0 =
+          ap (λ k. slice_index_or live.order.items k 0) (one_place place other from to) in
+          omega (arith, with_it.other, here)
+    ]
+      where
+        one_place : (a b : ℕ) → a ≤ b → b ≤ a → a ≡ b
+        one_place a b to from = omega (arith, to, from)
+
+        as_low : (a b ulo uhi cost : ℤ) → cost ≡ (a -ℤ uhi) → b ≡ ulo → (ulo -ℤ uhi) ≤ℤ cost
+            → a ≤ℤ b → a ≡ b
+        as_low a b ulo uhi cost same low up to = omega (arith, ints, same, low, up, to)
 
     -- and from a place downwards
     pub far_below : (place other : ℕ) (pair : Pair) → other ≤ place

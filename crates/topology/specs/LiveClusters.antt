@@ -1,5 +1,5 @@
 -- The clusters that no merge joins yet, and which pairs of them are kept.
-use Rattle.std.specs.Prelude.{◌≡◌, ◌↔◌, ◌⊎◌, ℕ, ◌<◌, ◌≤◌, ◌+◌, true, false, Option, Some, List, [], ◌∷◌, ◌++◌, All, Contains, count_by, length, take, slice_get, slice_set, slice_index_or, ℤ, pos, ◌+ℤ◌, ◌≤ℤ◌, nat_lt, if◌then◌else◌, ◌^◌}
+use Rattle.std.specs.Prelude.{◌≡◌, ◌↔◌, ◌⊎◌, ℕ, ◌<◌, ◌≤◌, ◌+◌, true, false, Option, Some, List, [], ◌∷◌, ◌++◌, All, Contains, count_by, length, take, slice_get, slice_set, slice_index_or, ℤ, pos, ◌+ℤ◌, ◌≤ℤ◌, ◌<ℤ◌, nat_lt, if◌then◌else◌, ◌^◌}
 use Rattle.std.specs.List.Sorted.{IsPermutation}
 use Rattle.std.specs.Option.{option_map_or}
 use Rattle.cts_model.specs.placement.Points.{IsBelow}
@@ -65,8 +65,8 @@ low_of clusters node = option_map_or (λ cluster. cluster.region.ulo) (slice_get
 abbrev pub low_at : List Cluster → List ℕ → (place : ℕ) → ℤ
 low_at clusters order place = low_of clusters (slice_index_or order place 0)
 
--- each node that no merge joins is in the order, by the least u of its region, and no region is
--- wider than that
+-- each node that no merge joins is in the order, by the least u of its region and then by number,
+-- and no region is wider than that
 pub record IsOrdered (live : Live) : Type 0 where
   pub lens : length live.unjoined ≡ length live.clusters
   pub few : length live.clusters < 2 ^ 32
@@ -76,9 +76,23 @@ pub record IsOrdered (live : Live) : Type 0 where
   pub ascending : (place later : ℕ) → place ≤ later → later < length live.order.items
       → low_at live.clusters live.order.items place
       ≤ℤ low_at live.clusters live.order.items later
+  pub numbered : (place later : ℕ) → place < later → later < length live.order.items
+      → low_at live.clusters live.order.items place ≡ low_at live.clusters live.order.items later
+      → slice_index_or live.order.items place 0 < slice_index_or live.order.items later 0
   pub below : IsBelow (10 ^ 34) live.widest
   pub wide : (node : ℕ) (cluster : Cluster) → slice_get live.clusters node ≡ Some cluster
       → cluster.region.uhi ≤ℤ (cluster.region.ulo +ℤ live.widest)
+
+-- the node at a place stands before another, whose region begins there
+abbrev pub StandsBefore : Live → (place : ℕ) → (low : ℤ) → (node : ℕ) → Type 0
+StandsBefore live place low node = (low_at live.clusters live.order.items place <ℤ low)
+    ⊎ ((low_at live.clusters live.order.items place ≡ low)
+    × (slice_index_or live.order.items place 0 < node))
+
+-- the pair costs less than a gap, or as much and with a node below that one
+abbrev pub IsPast : (sinks : ℕ) → Pair → (gap : ℤ) → (node : ℕ) → Type 0
+IsPast sinks pair gap node = (pair.cost <ℤ gap)
+    ⊎ ((pair.cost ≡ gap) × (other_of sinks pair < node))
 
 -- of the pairs that are kept at a node, with others at places passed, none is to be merged before
 -- the one that is found

@@ -33,3 +33,7 @@ loop-pair-preserved c =
           (sym c.in_ok-pair.ensures.value ∙ c.in-Some.is) searched.covered c.replace_first.ensures
           c.renewed.ensures,
     )
+
+pub returns-clause-none : goal.returns-clause-none
+returns-clause-none c = λ none pair is.
+    subst (λ o. IsFirstOf c.args.live.now o) c.in_default.is c.in_ok-pair.ensures.first pair is
