@@ -9,8 +9,8 @@ use Rattle.std.proofs.lemmas.Bool.{cases_lt, lt-ltb, le-ltb, ltb-true}
 use Rattle.std.proofs.lemmas.Bool.Decides.{Decides-int_eq}
 use Rattle.std.proofs.lemmas.Int.{ints}
 use Rattle.std.proofs.lemmas.Option.{slice_get_within}
-use Rattle.std.proofs.lemmas.List.Elements.{All-cons, All-contains, All-nil, Contains-append_right}
-use Rattle.std.proofs.lemmas.List.Sorted.{Contains-permutation, IsPermutation-cons, IsPermutation-refl, IsPermutation-trans, sum_by-IsPermutation}
+use Rattle.std.proofs.lemmas.List.Elements.{All-cons, All-contains, Contains-append_right}
+use Rattle.std.proofs.lemmas.List.Sorted.{Contains-permutation, IsPermutation-cons, IsPermutation-trans, sum_by-IsPermutation}
 use Rattle.std.proofs.lemmas.List.Sums.{sum_by-append, sum_by-cons}
 use Rattle.tilted_rect.specs.declared.cluster.Cluster.{Cluster}
 use Rattle.tilted_rect.specs.ClusterSets.{cost_of}
@@ -72,7 +72,8 @@ next_nearest live top next node least first held cost = record {
           arith,
           below,
           held.other,
-          first (other_of live.sinks pair) (other_unjoined live (owner_of live.sinks top) pair kept) behind,
+          first (other_of live.sinks pair)
+              (other_unjoined live (owner_of live.sinks top) pair kept) behind,
         )
   ];
   there = λ pair is. subst (IsKept live (owner_of live.sinks top)) (one_pair next pair is)
@@ -274,17 +275,6 @@ searched_broken live waiting old new held = omega (
   sum_by-append (broken live) held.found old,
   none_broken live held.found held.pairs,
 )
-
--- before the first of them is searched
-pub search_starts : (live : Live) (waiting : Waiting) (kept : List Pair) → AreWaiting live waiting
-    → AreCovered live waiting.from kept → AreSearched live waiting kept kept
-search_starts live waiting kept waits covered = record {
-  found = [];
-  pairs = All-nil (IsPair live);
-  kept = IsPermutation-refl kept;
-  waits = waits;
-  covered = covered;
-}
 
 -- one more keeps the cheapest of its pairs
 pub search_next : (live : Live) (waiting next : Waiting) (old now new : List Pair)

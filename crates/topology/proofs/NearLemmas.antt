@@ -334,8 +334,8 @@ module _ {live : Live} {owner : ℕ} where
           let equal : low_at live.clusters live.order.items place
           ≡ low_at live.clusters live.order.items other =
           as_low (low_at live.clusters live.order.items place)
-          (low_at live.clusters live.order.items other) found.region.ulo cluster.region.uhi pair.cost
-          same low is.up (ordered.ascending place other from below) in
+          (low_at live.clusters live.order.items other) found.region.ulo cluster.region.uhi
+          pair.cost same low is.up (ordered.ascending place other from below) in
           omega (arith, with_it.other, ordered.numbered place other before below equal)
       | inr to ↦
           let here : slice_index_or live.order.items place 0
