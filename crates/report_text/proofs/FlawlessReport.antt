@@ -33,8 +33,8 @@ use Rattle.cts_model.specs.text.PrintedLines.{text_of}
 use Rattle.report_text.proofs.GridLemmas.{grid_bounds}
 use Rattle.report_text.proofs.LineReading.{line_passed}
 use Rattle.report_text.proofs.ReportWords.{AreLines}
-use Rattle.report_text.proofs.TimingFlawless.{constraint_flawless, count_flawless, cycle_flawless, floor_flawless, lead_flawless, path_flawless, period_flawless, register_flawless, version_flawless}
-use Rattle.report_text.proofs.TreeValues.{plain_merge, plain_node, plain_source, plain_total}
+use Rattle.report_text.proofs.TimingLines.{constraint_plain, count_plain, cycle_plain, floor_plain, lead_plain, path_plain, period_plain, register_plain, version_plain}
+use Rattle.report_text.proofs.TreeLines.{merge_plain, node_plain, source_plain, total_plain}
 
 -- ---- lines side by side with forms
 
@@ -107,7 +107,7 @@ module _ (circuit : Circuit) (scale : Scale) where
       → IsFlawless circuit scale (form.Count word count) (count_line (keyword_text word) count')
   counted_flawless word count count' same less =
       subst (λ n. IsFlawless circuit scale (form.Count word count)
-      (count_line (keyword_text word) n)) (sym same) (count_flawless circuit scale word count less)
+      (count_line (keyword_text word) n)) (sym same) (count_plain circuit scale word count less)
 
   -- ---- what shows the period
 
@@ -127,9 +127,9 @@ module _ (circuit : Circuit) (scale : Scale) where
       absurd (omega (arith, as_many))
   pathed_flawless (constraint ∷ cycle) (path ∷ paths) as_many printed signals few =
       let here = printed 0 constraint (omega arith) in (
-        constraint_flawless circuit scale constraint here.0 here.1,
+        constraint_plain circuit scale constraint here.0 here.1,
         (
-          path_flawless circuit scale path (signals 0 path (omega arith))
+          path_plain circuit scale path (signals 0 path (omega arith))
               (few 0 path (omega arith)),
           pathed_flawless cycle paths (omega (arith, as_many))
               (λ i d within. printed (suc i) d (omega (arith, within)))
@@ -146,20 +146,20 @@ module _ (circuit : Circuit) (scale : Scale) where
       → AreFlawless (form.Show ∷ cycle_forms version (cycle_length shown))
       (period_show_lines version circuit shown paths)
   shown_flawless First (Cycle cycle) paths as_many among small signals few = (
-    cycle_flawless circuit scale (length cycle) small.0 small.1,
+    cycle_plain circuit scale (length cycle) small.0 small.1,
     same_flawless IsPrinted form.Constraint (line_for circuit) (length cycle) cycle refl
         (λ i d within. (among i d within, small.2 i d within))
-        (λ constraint is. constraint_flawless circuit scale constraint is.0 is.1),
+        (λ constraint is. constraint_plain circuit scale constraint is.0 is.1),
   )
   shown_flawless First Floor paths as_many among small signals few =
-      (floor_flawless circuit scale, tt)
+      (floor_plain circuit scale, tt)
   shown_flawless Second (Cycle cycle) paths as_many among small signals few = (
-    cycle_flawless circuit scale (length cycle) small.0 small.1,
+    cycle_plain circuit scale (length cycle) small.0 small.1,
     pathed_flawless cycle paths as_many (λ i d within. (among i d within, small.2 i d within))
         signals few,
   )
   shown_flawless Second Floor paths as_many among small signals few =
-      (floor_flawless circuit scale, tt)
+      (floor_plain circuit scale, tt)
 
   -- ---- the leads
 
@@ -174,7 +174,7 @@ module _ (circuit : Circuit) (scale : Scale) where
   leads_flawless First count (lead ∷ leads) as_many printed = absurd (omega (arith, as_many))
   leads_flawless Second count leads as_many printed =
       same_flawless IsPrintedLead form.Lead (lead_line circuit) count leads as_many printed
-      (λ lead is. lead_flawless circuit scale lead is.0 is.1)
+      (λ lead is. lead_plain circuit scale lead is.0 is.1)
 
 -- ---- the whole report
 
@@ -232,8 +232,8 @@ module _ (circuit : Circuit) (tech : Tech) (report : Report) (size : IsOfSize ci
       let slack = get_or report.slacks place (record { setup = None; hold = None }) in
       subst (λ den. IsFlawless circuit scale (form.Register place) (register_line circuit den place
       (arrival_of report.schedule.at place) slack)) (sym bounds.timing.den)
-      (register_flawless circuit scale place (arrival_of report.schedule.at place) slack within
-      report.period.lowest.some_den bounds.timing.period.low
+      (register_plain circuit scale place
+      (record { arrival = arrival_of report.schedule.at place; slack = slack }) small within
       (bounds.timing.arrivals place (pos 0) (omega (arith, within, size.arrivals)))
       (bounds.timing.slacks place (record { setup = None; hold = None })
       (omega (arith, within, size.slacks))))
@@ -244,7 +244,7 @@ module _ (circuit : Circuit) (tech : Tech) (report : Report) (size : IsOfSize ci
       (merge_line_at circuit report place)
   merge_fits place within =
       let node = length report.schedule.at + place in
-      plain_merge circuit scale node (merge_line_at circuit report place) (record {
+      merge_plain circuit scale node (merge_line_at circuit report place) (record {
         merge = get_or report.topology.merges place (record { first = 0; second = 0 });
         reach = number_at report.tree.reach node;
         show = get_or report.shows place Root;
@@ -270,7 +270,7 @@ module _ (circuit : Circuit) (tech : Tech) (report : Report) (size : IsOfSize ci
   source_fits =
       let merges = length report.topology.merges in
       let last : merges + 0 ≡ merges = omega arith in
-      plain_source circuit scale (source_line circuit report) (record {
+      source_plain circuit scale (source_line circuit report) (record {
         reach = number_at report.tree.reach (source_of (length report.schedule.at));
         show = get_or report.shows merges Root;
       }) small (record {
@@ -292,7 +292,7 @@ module _ (circuit : Circuit) (tech : Tech) (report : Report) (size : IsOfSize ci
   node_fits : (node : ℕ) → node < length report.tree.length
       → IsFlawless circuit scale (form.Node node) (node_line_at circuit report node)
   node_fits node within =
-      plain_node circuit scale node (node_line_at circuit report node) (record {
+      node_plain circuit scale node (node_line_at circuit report node) (record {
         place = get_or report.tree.place node origin;
         length = number_at report.tree.length node;
         wire = get_or report.wires node no_wire;
@@ -330,9 +330,9 @@ module _ (circuit : Circuit) (tech : Tech) (report : Report) (size : IsOfSize ci
       let node_forms : List Form = form.Source ∷ form.Count word.Nodes (2 * count - 1)
       ∷ map form.Node (range_with_len 0 (2 * count - 1)) in
       let prefix_are : AreFlawless circuit scale prefix_forms prefix = (
-        version_flawless circuit scale report.version,
+        version_plain circuit scale report.version,
         (
-          period_flawless circuit scale report.period bounds.timing.period,
+          period_plain circuit scale report.period bounds.timing.period,
           shown_flawless circuit scale report.version report.shown report.paths size.paths
               size.period_show bounds.timing.cycle size.each_path bounds.timing.paths,
         ),
@@ -374,7 +374,7 @@ module _ (circuit : Circuit) (tech : Tech) (report : Report) (size : IsOfSize ci
         ),
       ) in
       let total_are : AreFlawless circuit scale (form.Total ∷ []) total =
-      (plain_total circuit scale report.total small bounds.tree.total, tt) in
+      (total_plain circuit scale report.total small bounds.tree.total, tt) in
       let after_are =
       both_flawless circuit scale (((register_forms ++ leads_forms) ++ merge_forms) ++ node_forms)
       (form.Total ∷ []) (((registers ++ leads) ++ merges) ++ nodes) total

@@ -1,4 +1,6 @@
-mod PlainWords
+mod SpelledFields
+mod TreeLines
+mod TimingLines
 mod GridLemmas
 pub mod LineLemmas
 mod NumberWords
@@ -10,8 +12,7 @@ mod OneRecord
 mod OneTiming
 mod OneTree
 pub mod ReportWords
-mod TreeValues
-mod LineWords
+mod ReadWires
 mod WordBytes
 mod NameNumbers
 mod RegisterNames
@@ -21,7 +22,6 @@ mod FractionFlaws
 mod CoprimeFactors
 mod FieldWords
 mod TimingDenoted
-mod TimingFlawless
 mod LineCuts
 mod WalkLemmas
 mod LineReading
@@ -34,8 +34,6 @@ mod BodyLemmas
 mod PartLemmas
 mod AssemblyLemmas
 mod PartsDenoted
-mod TimingFound
-mod TreeFound
 mod PassedLines
 mod PassedSections
 mod PassedTexts

@@ -23,9 +23,8 @@ use Rattle.report_text.specs.Walks.{Left, ReadsLine, DenotesTimed}
 use Rattle.report_text.proofs.BodyLemmas.{leads_given, merge_forms, node_forms, register_forms}
 use Rattle.report_text.proofs.PassedLines.{IsSound, Passed, steps_passed, denoted_passed}
 use Rattle.report_text.proofs.RowLemmas.{no_rows, one_form, pathed_next, rows_next}
-use Rattle.report_text.proofs.TimingFound.{constraint_found, lead_found, path_found, timed_found}
-use Rattle.report_text.proofs.TimingDenoted.{count_denoted}
-use Rattle.report_text.proofs.TreeFound.{merge_found, node_found, source_found, total_found}
+use Rattle.report_text.proofs.TimingLines.{constraint_found, count_found, lead_found, path_found, timed_found}
+use Rattle.report_text.proofs.TreeLines.{merge_found, node_found, source_found, total_found}
 use Rattle.report_text.proofs.WalkLemmas.{read_none}
 
 -- a line without a flaw is that of a row
@@ -129,7 +128,7 @@ module _ (circuit : Circuit) (scale : Scale) where
       let line = denoted_passed circuit scale (form.Count keyword count)
       (map due (range_with_len first count) ++ more)
       (λ words (denoted : ℕ). words ≡ count_line (keyword_text keyword) count) old
-      (λ words some flawless. (0, count_denoted circuit scale keyword count words few flawless))
+      (λ words some flawless. (0, count_found circuit scale keyword count words few flawless))
       sound in
       let rows = rows_passed due Says first count more line.new found line.rest in
       record {
@@ -191,8 +190,8 @@ module _ (circuit : Circuit) (scale : Scale) where
       (merge_forms count ++ (form.Source ∷ node_forms count ++ last)) timings.new timings.rest in
       let merged = counted_passed word.Merges form.Merge (SaysMerge circuit scale.grid) count
       (count - 1) (form.Source ∷ node_forms count ++ last) (omega (arith, few))
-      (λ number words within some. merge_found circuit scale number words small
-      (omega (arith, few, within))) leads.new leads.rest in
+      (λ number words within some flawless. (_, (merge_found circuit scale number words small
+      (omega (arith, few, within)) flawless).says)) leads.new leads.rest in
       let source = denoted_passed circuit scale form.Source (node_forms count ++ last)
       (SaysSource circuit scale.grid) merged.new
       (λ words there. source_found circuit scale words small) merged.rest in

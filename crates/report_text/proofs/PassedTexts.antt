@@ -31,7 +31,7 @@ use Rattle.report_text.proofs.PartLemmas.{denoted_cycle, denoted_scale, denoted_
 use Rattle.report_text.proofs.PartsDenoted.{parts_spelled}
 use Rattle.report_text.proofs.PassedLines.{IsSound, Passed, denoted_passed}
 use Rattle.report_text.proofs.PassedSections.{body_passed, cycle_passed, pathed_passed}
-use Rattle.report_text.proofs.TimingFound.{period_found, show_found, version_found}
+use Rattle.report_text.proofs.TimingLines.{period_found, show_found, version_found}
 use Rattle.report_text.proofs.WalkLemmas.{read_none}
 
 -- the heading

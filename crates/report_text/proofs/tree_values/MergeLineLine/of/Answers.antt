@@ -1,67 +1,77 @@
-use Rattle.std.proofs.Common.{ℕ, List, [], map, Bor, get_or, to_z, of_z, sym, subst, arith}
-use mir.Syntax.{w128}
-use Rattle.report_text.proofs.NumberWords.{kept_spelled}
-use Rattle.report_text.specs.Fields.{NamesRegister}
-use Rattle.report_text.specs.Values.{SpellsNumber, SpellsRegister, SpellsSteps}
-use Rattle.report_text.proofs.LineWords.{merge_words}
-use Rattle.report_text.proofs.TreeValues.{says_merge}
+use Rattle.std.proofs.Common.{◌^◌, Bor, List, ℕ, map, sym, ◌∙◌, subst, arith}
+use Rattle.cts_model.specs.declared.tree.Show.TheVariants.{Pair}
+use Rattle.report_text.specs.Values.{SaysMerge}
+use Rattle.report_text.proofs.OneName.{one_register}
+use Rattle.report_text.proofs.SpelledFields.{number_same, steps_kept, word_is}
+use Rattle.report_text.proofs.TreeLines.{length_spelled, merge_found}
 use Rattle.report_text.proofs.tree_values.MergeLineLine.of.Goals as goal
 
 pub number_of-first-requires : goal.number_of-first-requires
 number_of-first-requires c =
-    let line = merge_words c.args.rules.now c.args._number c.args.words.now (omega arith)
+    let line = merge_found c.args.rules.now.circuit.now c.args.rules.now.scale c.args._number
+    (map (λ word. word.now) c.args.words.now) c.args.rules.now.small (omega arith)
     c.requires.flawless in
-    let (number, high, spells) = line.first in
-    (number, subst (λ w. SpellsNumber w number) (sym c.word_at.ensures) spells)
+    (line.first, (omega (arith, line.says.merge.first),
+    word_is 1 c.word_at.ensures line.says.words_are))
 
 pub number_of-second-requires : goal.number_of-second-requires
 number_of-second-requires c =
-    let line = merge_words c.args.rules.now c.args._number c.args.words.now (omega arith)
+    let line = merge_found c.args.rules.now.circuit.now c.args.rules.now.scale c.args._number
+    (map (λ word. word.now) c.args.words.now) c.args.rules.now.small (omega arith)
     c.requires.flawless in
-    let (number, high, spells) = line.second in
-    (number, subst (λ w. SpellsNumber w number) (sym c.word_at-2.ensures) spells)
+    (line.second, (omega (arith, line.says.merge.second),
+    word_is 2 c.word_at-2.ensures line.says.words_are))
 
 pub length_of-reach-requires : goal.length_of-reach-requires
 length_of-reach-requires c =
-    let line = merge_words c.args.rules.now c.args._number c.args.words.now (omega arith)
+    let scale = c.args.rules.now.scale in
+    let line = merge_found c.args.rules.now.circuit.now scale c.args._number
+    (map (λ word. word.now) c.args.words.now) c.args.rules.now.small (omega arith)
     c.requires.flawless in
-    let (steps, low, spells) = line.reach in (
-      steps,
-      subst (λ w. SpellsSteps c.args.rules.now.scale.grid w steps) (sym c.word_at-3.ensures)
-          spells,
-    )
+    (line.reach, length_spelled scale.grid (10 ^ 32) c.word_at-3.result.now line.reach (omega arith)
+    line.says.reach (word_is 3 c.word_at-3.ensures line.says.words_are))
 
 pub known_register-left-requires : goal.known_register-left-requires
 known_register-left-requires c =
-    let line = merge_words c.args.rules.now c.args._number c.args.words.now (omega arith)
+    let line = merge_found c.args.rules.now.circuit.now c.args.rules.now.scale c.args._number
+    (map (λ word. word.now) c.args.words.now) c.args.rules.now.small (omega arith)
     c.requires.flawless in
-    subst (NamesRegister c.args.rules.now.circuit.now) (sym c.word_at-4.ensures) line.left
+    (line.left, line.says.among.0, sym (word_is 5 c.word_at-4.ensures line.says.words_are))
 
 pub known_register-right-requires : goal.known_register-right-requires
 known_register-right-requires c =
-    let line = merge_words c.args.rules.now c.args._number c.args.words.now (omega arith)
+    let line = merge_found c.args.rules.now.circuit.now c.args.rules.now.scale c.args._number
+    (map (λ word. word.now) c.args.words.now) c.args.rules.now.small (omega arith)
     c.requires.flawless in
-    subst (NamesRegister c.args.rules.now.circuit.now) (sym c.word_at-5.ensures) line.right
+    (line.right, line.says.among.1, sym (word_is 6 c.word_at-5.ensures line.says.words_are))
 
 pub returns : goal.returns
 returns c =
     let circuit = c.args.rules.now.circuit.now in
     let scale = c.args.rules.now.scale in
     let small = c.args.rules.now.small in
-    let words : List (List ℕ) = map (λ (word : Bor (List ℕ)). word.now) c.args.words.now in
-    let line = merge_words c.args.rules.now c.args._number c.args.words.now (omega arith)
+    let words = map (λ (word : Bor (List ℕ)). word.now) c.args.words.now in
+    let line = merge_found circuit scale c.args._number words small (omega arith)
     c.requires.flawless in
-    says_merge circuit scale c.args._number words c.number_of-first.result
-    c.number_of-second.result (to_z w128 (of_z w128 c.length_of-reach.result))
-    c.known_register-left.result c.known_register-right.result small line
-    (subst (λ w. SpellsNumber w c.number_of-first.result) c.word_at.ensures
-    c.number_of-first.ensures)
-    (subst (λ w. SpellsNumber w c.number_of-second.result) c.word_at-2.ensures
-    c.number_of-second.ensures)
-    (kept_spelled scale.grid (get_or words 3 []) c.length_of-reach.result
-    (subst (λ w. SpellsSteps scale.grid w c.length_of-reach.result) c.word_at-3.ensures
-    c.length_of-reach.ensures))
-    (subst (λ w. SpellsRegister circuit w c.known_register-left.result) c.word_at-4.ensures
-    c.known_register-left.ensures)
-    (subst (λ w. SpellsRegister circuit w c.known_register-right.result) c.word_at-5.ensures
-    c.known_register-right.ensures)
+    let are = line.says.words_are in
+    let first = number_same c.word_at.result.now line.first c.number_of-first.result
+    (omega (arith, line.says.merge.first), word_is 1 c.word_at.ensures are)
+    c.number_of-first.ensures in
+    let second = number_same c.word_at-2.result.now line.second c.number_of-second.result
+    (omega (arith, line.says.merge.second), word_is 2 c.word_at-2.ensures are)
+    c.number_of-second.ensures in
+    let reach = steps_kept scale.grid c.word_at-3.result.now line.reach c.length_of-reach.result
+    small.some_grid small.small_grid (length_spelled scale.grid (10 ^ 32) c.word_at-3.result.now
+    line.reach (omega arith) line.says.reach (word_is 3 c.word_at-3.ensures are))
+    c.length_of-reach.ensures in
+    let left = one_register circuit line.left c.known_register-left.result line.says.among.0
+    c.known_register-left.ensures.0
+    (sym (word_is 5 c.word_at-4.ensures are) ∙ sym c.known_register-left.ensures.1) in
+    let right = one_register circuit line.right c.known_register-right.result line.says.among.1
+    c.known_register-right.ensures.0
+    (sym (word_is 6 c.word_at-5.ensures are) ∙ sym c.known_register-right.ensures.1) in
+    subst (SaysMerge circuit scale.grid c.args._number words) (λ i. record {
+      merge = record { first = first i; second = second i };
+      reach = reach i;
+      show = Pair (left i) (right i);
+    }) line.says

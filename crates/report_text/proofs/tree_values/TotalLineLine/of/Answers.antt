@@ -1,29 +1,27 @@
-use Rattle.std.proofs.Common.{ℕ, List, [], map, Bor, get_or, to_z, of_z, sym, subst}
-use mir.Syntax.{w128}
-use Rattle.report_text.proofs.NumberWords.{kept_spelled}
-use Rattle.report_text.specs.Values.{SpellsSteps}
-use Rattle.report_text.proofs.TreeValues.{total_line, says_total}
+use Rattle.std.proofs.Common.{◌^◌, map, subst, arith}
+use Rattle.report_text.specs.Values.{SaysTotal}
+use Rattle.report_text.proofs.SpelledFields.{steps_kept, word_is}
+use Rattle.report_text.proofs.TreeLines.{length_spelled, total_found}
 use Rattle.report_text.proofs.tree_values.TotalLineLine.of.Goals as goal
 
 pub length_of-length-requires : goal.length_of-length-requires
 length_of-length-requires c =
-    let words : List (List ℕ) = map (λ (word : Bor (List ℕ)). word.now) c.args.words.now in
-    let line = total_line c.args.rules.now.circuit.now c.args.rules.now.scale words
-    c.args.rules.now.small c.requires.flawless in
-    let (steps, below, spells) = line.total in (
-      steps,
-      subst (λ w. SpellsSteps c.args.rules.now.scale.grid w steps) (sym c.word_at.ensures)
-          spells,
+    let rules = c.args.rules.now in
+    let (total, says) = total_found rules.circuit.now rules.scale
+    (map (λ word. word.now) c.args.words.now) rules.small c.requires.flawless in (
+      total,
+      length_spelled rules.scale.grid (10 ^ 36) c.word_at.result.now total (omega arith) says.small
+          (word_is 1 c.word_at.ensures says.words_are),
     )
 
 pub returns : goal.returns
 returns c =
-    let scale = c.args.rules.now.scale in
-    let words : List (List ℕ) = map (λ (word : Bor (List ℕ)). word.now) c.args.words.now in
-    let line = total_line c.args.rules.now.circuit.now scale words c.args.rules.now.small
+    let rules = c.args.rules.now in
+    let words = map (λ word. word.now) c.args.words.now in
+    let (total, says) = total_found rules.circuit.now rules.scale words rules.small
     c.requires.flawless in
-    says_total scale words (to_z w128 (of_z w128 c.length_of-length.result))
-    c.args.rules.now.small line
-    (kept_spelled scale.grid (get_or words 1 []) c.length_of-length.result
-    (subst (λ w. SpellsSteps scale.grid w c.length_of-length.result) c.word_at.ensures
-    c.length_of-length.ensures))
+    let spells = length_spelled rules.scale.grid (10 ^ 36) c.word_at.result.now total (omega arith)
+    says.small (word_is 1 c.word_at.ensures says.words_are) in
+    subst (SaysTotal rules.scale.grid words) (steps_kept rules.scale.grid c.word_at.result.now total
+    c.length_of-length.result rules.small.some_grid rules.small.small_grid spells
+    c.length_of-length.ensures) says

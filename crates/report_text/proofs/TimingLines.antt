@@ -1,0 +1,418 @@
+-- A line of the timing without a flaw is that of a value, and the line of a value within the bounds
+-- has no flaw.
+use Rattle.std.proofs.Common.{◌≡◌, ◌<◌, ◌≤◌, ◌-◌, ◌^◌, ◌⊎◌, ℕ, zero, suc, pos, Bool, true, false, cond, inl, inr, List, [], ◌∷◌, All, map, replicate, length, Option, Some, None, codes, refl, sym, ap, ◌∙◌, subst, arith}
+use Rattle.std.proofs.lemmas.Bool.{false_from_ne_true}
+use Rattle.std.proofs.lemmas.Fmt.{decimal_digit}
+use Rattle.std.proofs.lemmas.Int.{ints}
+use Rattle.std.proofs.lemmas.List.{length-map}
+use Rattle.std.proofs.lemmas.List.Elements.{All-cons, All-nil}
+use Rattle.std.proofs.lemmas.Slice.Eq.{bytes_eq-Decides}
+use Rattle.std.specs.Fmt.{signed_decimal}
+use Rattle.std.specs.List.{AllByRecursion}
+use Rattle.std.specs.Str.{bytes_eq}
+use Rattle.cts_base.specs.declared.fraction.Fraction.{Fraction}
+use Rattle.cts_base.proofs.FractionReading.{few_digits}
+use Rattle.cts_base.proofs.OneNumberText.{no_fraction_minus, one_number_text}
+use Rattle.cts_model.specs.declared.circuit.Circuit.{Circuit}
+use Rattle.cts_model.specs.declared.constraint.Constraint.{Constraint}
+use Rattle.cts_model.specs.declared.report.Version.{Version}
+use Rattle.cts_model.specs.declared.report.Version.TheVariants.{First, Second}
+use Rattle.cts_model.specs.declared.schedule.Lead.{Lead}
+use Rattle.cts_model.specs.declared.schedule.Lead.TheVariants.{Zero, Tight}
+use Rattle.cts_model.specs.declared.schedule.Slack.{Slack}
+use Rattle.cts_model.specs.placement.Points.{IsBelow}
+use Rattle.cts_model.specs.text.PrintedLines.{Words, count_line, constraint_line, floor_line, line_for, period_line, register_line}
+use Rattle.cts_model.specs.report.ReportBounds.{IsBetweenRegisters, HasSmallWeight, LeadsAmong, IsSmallLead}
+use Rattle.cts_model.specs.report.ReportLines.{lead_line, path_line, signal_name, version_line}
+use Rattle.cts_model.specs.timing.Schedules.{IsSmallPeriod}
+use Rattle.cts_model.specs.timing.Slacks.{AreSmallSlacks}
+use Rattle.report_text.specs.declared.field.Field.{Field}
+use Rattle.report_text.specs.declared.field.Field.TheVariants as field
+use Rattle.report_text.specs.declared.field.Keyword.{Keyword}
+use Rattle.report_text.specs.declared.field.Keyword.TheVariants as word
+use Rattle.report_text.specs.declared.form.Form.TheVariants as form
+use Rattle.report_text.specs.declared.form.Scale.{Scale}
+use Rattle.report_text.specs.declared.timing_values.Timed.{Timed}
+use Rattle.report_text.specs.Fields.{EachWord, LineHasFlaw}
+use Rattle.report_text.specs.Forms.{constraint_fields, is_word, register_fields, slack_field}
+use Rattle.report_text.specs.Keywords.{keyword_text}
+use Rattle.report_text.specs.TimingValues.{IsFlawless, DenotesConstraint, DenotesLead, DenotesPath, DenotesPeriod, DenotesShow}
+use Rattle.report_text.specs.Values.{IsSmallScale}
+use Rattle.report_text.specs.Walks.{DenotesTimed, DenotesVersion}
+use Rattle.report_text.proofs.SpelledFields.{AreSpelled, IsSmallField, IsSpelled, begins, ends, line_plain, line_spelled, put, small_number}
+
+-- ---- the first lines
+
+-- the fields of a cycle's count, and of what shows the period, by whether the floor does
+abbrev cycle_fields : List Field
+cycle_fields = field.Word word.Cycle ∷ field.Number 1 9999 ∷ []
+
+abbrev shown_fields : (floor : Bool) → List Field
+shown_fields floor = cond floor (field.Word word.Floor ∷ []) cycle_fields
+
+module _ (circuit : Circuit) (scale : Scale) where
+  pub version_found : (words : Words) → IsFlawless circuit scale form.Version words
+      → (version : Version) × DenotesVersion words version
+  version_found words flawless =
+      let a = begins (line_spelled circuit (field.Word word.Cts ∷ field.Version ∷ []) words
+      (tt, (tt, tt)) flawless) in
+      let b = begins a.rest in
+      elim b.here [
+        | inl first ↦ (First, put a.is a.here (put b.is first (ends b.rest)))
+        | inr second ↦ (Second, put a.is a.here (put b.is second (ends b.rest)))
+      ]
+
+  pub version_plain : (version : Version)
+      → IsFlawless circuit scale form.Version (version_line version)
+  version_plain First = line_plain circuit (field.Word word.Cts ∷ field.Version ∷ [])
+      (version_line First) (tt, (tt, tt)) (refl, (inl refl, tt))
+  version_plain Second = line_plain circuit (field.Word word.Cts ∷ field.Version ∷ [])
+      (version_line Second) (tt, (tt, tt)) (refl, (inr refl, tt))
+
+  pub period_found : (words : Words) → IsFlawless circuit scale form.Period words
+      → (period : Fraction) × DenotesPeriod words period
+  period_found words flawless =
+      let a = begins (line_spelled circuit (field.Word word.Period ∷ field.Period ∷ []) words
+      (tt, (tt, tt)) flawless) in
+      let b = begins a.rest in
+      let (period, small, is) = b.here in
+      (period, record { line = put a.is a.here (put b.is is (ends b.rest)); small = small })
+
+  pub period_plain : (period : Fraction) → IsSmallPeriod period
+      → IsFlawless circuit scale form.Period (period_line period)
+  period_plain period small = line_plain circuit (field.Word word.Period ∷ field.Period ∷ [])
+      (period_line period) (tt, (tt, tt)) (refl, ((period, small, refl), tt))
+
+  pub show_found : (words : Words) → IsFlawless circuit scale form.Show words
+      → (count : Option ℕ) × DenotesShow words count
+  show_found words flawless = at (is_word words 0 word.Floor) flawless
+    where
+      at : (floor : Bool) → LineHasFlaw circuit (shown_fields floor) words None
+          → (count : Option ℕ) × DenotesShow words count
+      at true flawless =
+          let a = begins (line_spelled circuit (shown_fields true) words (tt, tt) flawless) in
+          (None, put a.is a.here (ends a.rest))
+      at false flawless =
+          let a = begins (line_spelled circuit cycle_fields words (tt, (omega arith, tt))
+          flawless) in
+          let b = begins a.rest in
+          let (count, some, few, is) = b.here in
+          (Some count, (put a.is a.here (put b.is is (ends b.rest)), some, few))
+
+  pub floor_plain : IsFlawless circuit scale form.Show floor_line
+  floor_plain = line_plain circuit (shown_fields true) floor_line (tt, tt) (refl, tt)
+
+  pub cycle_plain : (count : ℕ) → 1 ≤ count → count ≤ 9999
+      → IsFlawless circuit scale form.Show (count_line (codes "cycle") count)
+  cycle_plain count some few = line_plain circuit cycle_fields (count_line (codes "cycle") count)
+      (tt, (omega arith, tt)) (refl, ((count, some, few, refl), tt))
+
+  -- how many lines follow: the words are just these
+  pub count_found : (keyword : Keyword) (count : ℕ) (words : Words) → count < 10 ^ 37
+      → IsFlawless circuit scale (form.Count keyword count) words
+      → words ≡ count_line (keyword_text keyword) count
+  count_found keyword count words less flawless =
+      let a = begins (line_spelled circuit (field.Word keyword ∷ field.Exactly count ∷ []) words
+      (tt, (less, tt)) flawless) in
+      let b = begins a.rest in
+      put a.is a.here (put b.is b.here (ends b.rest))
+
+  pub count_plain : (keyword : Keyword) (count : ℕ) → count < 10 ^ 37
+      → IsFlawless circuit scale (form.Count keyword count)
+      (count_line (keyword_text keyword) count)
+  count_plain keyword count less = line_plain circuit (field.Word keyword ∷ field.Exactly count ∷ [])
+      (count_line (keyword_text keyword) count) (tt, (less, tt)) (refl, (refl, tt))
+
+-- ---- a constraint
+
+-- the words of a constraint
+constraint_of : (circuit : Circuit) (words : Words) → AreSpelled circuit constraint_fields words
+    → (constraint : Constraint) × DenotesConstraint circuit words constraint
+constraint_of circuit words line =
+    let a = begins line in
+    let b = begins a.rest in
+    let c = begins b.rest in
+    let d = begins c.rest in
+    let (launch, low, name) = b.here in
+    let (capture, low', name') = c.here in
+    let (weight, below, is) = d.here in
+    let after = put b.is (sym name) (put c.is (sym name') (put d.is is (ends d.rest))) in
+    elim a.here [
+      | inl setup ↦ (
+        record { setup = true; tail = launch; head = capture; weight = weight },
+        record {
+          line = put a.is setup after;
+          registers = record { tail = low; head = low' };
+          weight = below;
+        },
+      )
+      | inr hold ↦ (
+        record { setup = false; tail = capture; head = launch; weight = weight },
+        record {
+          line = put a.is hold after;
+          registers = record { tail = low'; head = low };
+          weight = below;
+        },
+      )
+    ]
+
+pub constraint_found : (circuit : Circuit) (scale : Scale) (words : Words)
+    → IsFlawless circuit scale form.Constraint words
+    → (constraint : Constraint) × DenotesConstraint circuit words constraint
+constraint_found circuit scale words flawless =
+    constraint_of circuit words
+    (line_spelled circuit constraint_fields words (tt, (tt, (tt, (tt, tt)))) flawless)
+
+constraint_spelled : (circuit : Circuit) (constraint : Constraint)
+    → IsBetweenRegisters (length circuit.registers) constraint → HasSmallWeight constraint
+    → EachWord (IsSpelled circuit) constraint_fields (line_for circuit constraint)
+constraint_spelled circuit constraint between small = at constraint.setup
+  where
+    at : (setup : Bool) → EachWord (IsSpelled circuit) constraint_fields (cond setup
+        (constraint_line (codes "setup") circuit constraint.tail constraint.head constraint.weight)
+        (constraint_line (codes "hold") circuit constraint.head constraint.tail constraint.weight))
+    at true = (
+      inl refl,
+      (
+        (constraint.tail, between.tail, refl),
+        ((constraint.head, between.head, refl), ((constraint.weight, small, refl), tt)),
+      ),
+    )
+    at false = (
+      inr refl,
+      (
+        (constraint.head, between.head, refl),
+        ((constraint.tail, between.tail, refl), ((constraint.weight, small, refl), tt)),
+      ),
+    )
+
+pub constraint_plain : (circuit : Circuit) (scale : Scale) (constraint : Constraint)
+    → IsBetweenRegisters (length circuit.registers) constraint → HasSmallWeight constraint
+    → IsFlawless circuit scale form.Constraint (line_for circuit constraint)
+constraint_plain circuit scale constraint between small =
+    line_plain circuit constraint_fields (line_for circuit constraint) (tt, (tt, (tt, (tt, tt))))
+    (constraint_spelled circuit constraint between small)
+
+-- ---- a lead
+
+-- its fields, with a constraint, and by whether it has none
+abbrev tight_fields : List Field
+tight_fields = field.Word word.Lead ∷ field.Number 1 9999 ∷ constraint_fields
+
+abbrev led_fields : (first : Bool) → List Field
+led_fields first = cond first (field.Word word.Lead ∷ field.Word word.Zero ∷ []) tight_fields
+
+small_tight : AllByRecursion IsSmallField tight_fields
+small_tight = (tt, (omega arith, (tt, (tt, (tt, (tt, tt))))))
+
+pub lead_found : (circuit : Circuit) (scale : Scale) (words : Words)
+    → IsFlawless circuit scale form.Lead words → (lead : Lead) × DenotesLead circuit words lead
+lead_found circuit scale words flawless = at (is_word words 1 word.Zero) flawless
+  where
+    at : (zero : Bool) → LineHasFlaw circuit (led_fields zero) words None
+        → (lead : Lead) × DenotesLead circuit words lead
+    at true flawless =
+        let a = begins (line_spelled circuit (led_fields true) words (tt, (tt, tt)) flawless) in
+        let b = begins a.rest in (
+          Zero,
+          record {
+            line = put a.is a.here (put b.is b.here (ends b.rest));
+            registers = tt;
+            small = tt;
+          },
+        )
+    at false flawless =
+        let a = begins (line_spelled circuit tight_fields words small_tight flawless) in
+        let b = begins a.rest in
+        let (depth, some, few, is) = b.here in
+        let (constraint, denoted) = constraint_of circuit b.more b.rest in (
+          Tight depth constraint,
+          record {
+            line = put a.is a.here (put b.is is denoted.line);
+            registers = denoted.registers;
+            small = (some, few, denoted.weight);
+          },
+        )
+
+-- the digits of a number above 0 aren't those of 0
+not_zero : (number : ℕ) → 1 ≤ number → number ≤ 9999
+    → bytes_eq (signed_decimal (pos number)) (codes "0") ≡ false
+not_zero number some few =
+    false_from_ne_true (bytes_eq (signed_decimal (pos number)) (codes "0"))
+    (λ same.
+    let is = one_number_text (pos number) (pos 0) (omega (arith, few)) (omega arith)
+    ((bytes_eq-Decides (signed_decimal (pos number)) (codes "0")).0 same
+    ∙ sym (decimal_digit 0 (omega arith))) in
+    omega (arith, ints, is, some))
+
+pub lead_plain : (circuit : Circuit) (scale : Scale) (lead : Lead)
+    → LeadsAmong (length circuit.registers) lead → IsSmallLead lead
+    → IsFlawless circuit scale form.Lead (lead_line circuit lead)
+lead_plain circuit scale Zero among small = line_plain circuit (led_fields true)
+    (lead_line circuit Zero) (tt, (tt, tt)) (refl, (refl, tt))
+lead_plain circuit scale (Tight depth constraint) among (some, few, weight) =
+    let line : Words = lead_line circuit (Tight depth constraint) in
+    subst (λ zero. LineHasFlaw circuit (led_fields zero) line None)
+    (sym (not_zero depth some few))
+    (line_plain circuit tight_fields line small_tight
+    (refl, ((depth, some, few, refl), constraint_spelled circuit constraint among weight)))
+
+-- ---- a register
+
+small_register : (scale : Scale) (register : ℕ) → IsSmallScale scale
+    → AllByRecursion IsSmallField (register_fields scale register)
+small_register scale register small =
+    let slack : IsSmallField (slack_field scale) = (small.some_den, small.small_den, refl) in
+    (tt, ((small.some_den, small.small_den, omega arith), (slack, (slack, tt))))
+
+pub timed_found : (circuit : Circuit) (scale : Scale) (register : ℕ) (words : Words)
+    → IsSmallScale scale → IsFlawless circuit scale (form.Register register) words
+    → (timed : Timed) × DenotesTimed circuit scale register words timed
+timed_found circuit scale register words small flawless =
+    let a = begins (line_spelled circuit (register_fields scale register) words
+    (small_register scale register small) flawless) in
+    let b = begins a.rest in
+    let c = begins b.rest in
+    let d = begins c.rest in
+    let (arrival, below, is) = b.here in
+    let (setup, setup_small, setup_is) = c.here in
+    let (hold, hold_small, hold_is) = d.here in (
+      record { arrival = arrival; slack = record { setup = setup; hold = hold } },
+      record {
+        line = put a.is (sym a.here.1) (put b.is is (put c.is setup_is
+            (put d.is hold_is (ends d.rest))));
+        small = below;
+        slacks = record { setup = setup_small; hold = hold_small };
+      },
+    )
+
+pub register_plain : (circuit : Circuit) (scale : Scale) (register : ℕ) (timed : Timed)
+    → IsSmallScale scale → register < length circuit.registers → IsBelow (10 ^ 19) timed.arrival
+    → AreSmallSlacks scale.den timed.slack
+    → IsFlawless circuit scale (form.Register register)
+    (register_line circuit scale.den register timed.arrival timed.slack)
+register_plain circuit scale register timed small among below slacks =
+    line_plain circuit (register_fields scale register)
+    (register_line circuit scale.den register timed.arrival timed.slack)
+    (small_register scale register small) (
+      ((register, among, refl), refl),
+      (
+        (timed.arrival, below, refl),
+        ((timed.slack.setup, slacks.setup, refl), ((timed.slack.hold, slacks.hold, refl), tt)),
+      ),
+    )
+
+-- ---- a path
+
+-- its fields, by whether it is printed, with so many signals
+abbrev way_fields : (dash : Bool) (count : ℕ) → List Field
+way_fields dash count = cond dash (field.Word word.Path ∷ field.Word word.Dash ∷ [])
+    (field.Word word.Path ∷ field.Counted count 65536 ∷ replicate count field.Signal)
+
+small_signals : (count : ℕ) → AllByRecursion IsSmallField (replicate count field.Signal)
+small_signals zero = tt
+small_signals (suc count) = (tt, small_signals count)
+
+-- words that are names of signals
+record AreSignals (circuit : Circuit) (count : ℕ) (words : Words) : Type 0 where
+  signals : List ℕ
+  many : length signals ≡ count
+  within : All (λ number. number < length circuit.signals) signals
+  are : words ≡ map (signal_name circuit) signals
+
+signals_found : (circuit : Circuit) (count : ℕ) (words : Words)
+    → AreSpelled circuit (replicate count field.Signal) words → AreSignals circuit count words
+signals_found circuit zero words line = record {
+  signals = [];
+  many = refl;
+  within = All-nil (λ number. number < length circuit.signals);
+  are = ends line;
+}
+signals_found circuit (suc count) words line =
+    let a = begins line in
+    let (signal, low, name) = a.here in
+    let more = signals_found circuit count a.more a.rest in
+    record {
+      signals = signal ∷ more.signals;
+      many = ap suc more.many;
+      within = All-cons (λ number. number < length circuit.signals) signal more.signals low
+          more.within;
+      are = put a.is (sym name) more.are;
+    }
+
+pub path_found : (circuit : Circuit) (scale : Scale) (words : Words)
+    → IsFlawless circuit scale form.Path words
+    → (path : List ℕ) × DenotesPath circuit words path
+path_found circuit scale words flawless = at (is_word words 1 word.Dash) flawless
+  where
+    at : (dash : Bool) → LineHasFlaw circuit (way_fields dash (length words - 2)) words None
+        → (path : List ℕ) × DenotesPath circuit words path
+    at true flawless =
+        let a = begins (line_spelled circuit (way_fields true 0) words (tt, (tt, tt)) flawless) in
+        let b = begins a.rest in (
+          [],
+          record {
+            line = put a.is a.here (put b.is b.here (ends b.rest));
+            signals = All-nil (λ number. number < length circuit.signals);
+            few = omega arith;
+          },
+        )
+    at false flawless =
+        let count = length words - 2 in
+        let a = begins (line_spelled circuit (way_fields false count) words
+        (tt, (omega arith, small_signals count)) flawless) in
+        let b = begins a.rest in
+        let (some, few, is) = b.here in
+        let named = signals_found circuit count b.more b.rest in
+        let number = is ∙ ap (λ n. signed_decimal (pos n)) (sym named.many) in (
+          named.signals,
+          record {
+            line = printed named.signals (omega (arith, some, named.many))
+                (put a.is a.here (put b.is number named.are));
+            signals = named.within;
+            few = omega (arith, few, named.many);
+          },
+        )
+      where
+        printed : (path : List ℕ) → 1 ≤ length path
+            → words ≡ codes "path" ∷ signed_decimal (pos (length path))
+            ∷ map (signal_name circuit) path
+            → words ≡ path_line circuit path
+        printed [] some is = absurd (omega (arith, some))
+        printed (first ∷ more) some is = is
+
+-- the digits of a number aren't a dash
+not_dash : (number : ℕ) → number < 10 ^ 37
+    → bytes_eq (signed_decimal (pos number)) (codes "-") ≡ false
+not_dash number less =
+    false_from_ne_true (bytes_eq (signed_decimal (pos number)) (codes "-"))
+    (λ same. no_fraction_minus (pos number) (pos 1)
+    (few_digits (pos number) (small_number number less))
+    ((bytes_eq-Decides (signed_decimal (pos number)) (codes "-")).0 same))
+
+signals_spelled : (circuit : Circuit) (path : List ℕ)
+    → All (λ number. number < length circuit.signals) path
+    → EachWord (IsSpelled circuit) (replicate (length path) field.Signal)
+    (map (signal_name circuit) path)
+signals_spelled circuit [] within = tt
+signals_spelled circuit (number ∷ path) within = (
+  (number, within 0 0 (omega arith), refl),
+  signals_spelled circuit path (λ k d less. within (suc k) d (omega (arith, less))),
+)
+
+pub path_plain : (circuit : Circuit) (scale : Scale) (path : List ℕ)
+    → All (λ number. number < length circuit.signals) path → length path ≤ 65536
+    → IsFlawless circuit scale form.Path (path_line circuit path)
+path_plain circuit scale [] within few = line_plain circuit (way_fields true 0)
+    (path_line circuit []) (tt, (tt, tt)) (refl, (refl, tt))
+path_plain circuit scale (first ∷ more) within few =
+    let path : List ℕ = first ∷ more in
+    let line : Words = path_line circuit path in
+    let count : length path ≡ length line - 2 =
+    omega (arith, length-map path (signal_name circuit)) in
+    let plain = line_plain circuit (way_fields false (length path)) line
+    (tt, (omega arith, small_signals (length path)))
+    (refl, ((omega arith, few, refl), signals_spelled circuit path within)) in
+    subst (λ (dash : Bool). LineHasFlaw circuit (way_fields dash (length line - 2)) line None)
+    (sym (not_dash (length path) (omega (arith, few))))
+    (subst (λ n. LineHasFlaw circuit (way_fields false n) line None) count plain)
