@@ -20,8 +20,6 @@ pub mod FlawLemmas
 mod NamedRegisters
 mod FractionFlaws
 mod CoprimeFactors
-mod FieldWords
-mod TimingDenoted
 mod LineCuts
 mod WalkLemmas
 mod LineReading

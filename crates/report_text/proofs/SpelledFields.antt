@@ -113,6 +113,23 @@ pub steps_kept : (over : ℤ) (word : List ℕ) (steps read : ℤ) → pos 1 ≤
 steps_kept over word steps read some small spells other =
     steps_same over word steps read some small spells other ∙ sym (held_same read other.0)
 
+pub number_kept : (number read : ℤ) → HasSizeBelow (10 ^ 37) number → read ≡ number
+    → number ≡ to_z w128 (of_z w128 read)
+number_kept number read small same =
+    sym (held_same number small) ∙ ap (λ n. to_z w128 (of_z w128 n)) (sym same)
+
+-- the numbers of a small period are small
+pub small_period : (period : Fraction) → IsSmallPeriod period
+    → HaveSmallSizes period.num period.den
+small_period period small =
+    let some = period.lowest.some_den in
+    let from = small.from_zero in
+    let below = small.small in
+    let low = small.low in (
+      record { above = omega (arith, ints, from); below = omega (arith, ints, below) },
+      record { above = omega (arith, ints, some); below = omega (arith, ints, low) },
+    )
+
 -- ---- slacks
 
 -- a dash is no number and no quotient: it has neither digits nor a slash
@@ -257,23 +274,18 @@ module _ (circuit : Circuit) where
   period_plain period small =
       let num = period.num in
       let den = period.den in
-      let some = period.lowest.some_den in
-      let from = small.from_zero in
-      let below = small.small in
-      let low = small.low in
-      let sizes : HaveSmallSizes num den = (
-        record { above = omega (arith, ints, from); below = omega (arith, ints, below) },
-        record { above = omega (arith, ints, some); below = omega (arith, ints, low) },
-      ) in
+      let sizes = small_period period small in
       let text = fraction_text num den in
       let spells = fraction_spelled text num den (few_digits num sizes.0) (few_digits den sizes.1)
-      some refl in (
-        (num, den, (spells, λ _. period.lowest), from),
+      period.lowest.some_den refl in (
+        (num, den, (spells, λ _. period.lowest), small.from_zero),
         tt,
         tt,
         λ num' den' other.
-            let same = one_quotient text num den num' den' spells other in
-            (subst (λ n. n <ℤ pos (10 ^ 18)) same.0 below, subst (λ d. d ≤ℤ pos 4097) same.1 low),
+            let same = one_quotient text num den num' den' spells other in (
+              subst (λ n. n <ℤ pos (10 ^ 18)) same.0 small.small,
+              subst (λ d. d ≤ℤ pos 4097) same.1 small.low,
+            ),
       )
 
   steps_plain : (over : ℤ) (bound : ℕ) (steps : ℤ) → pos 1 ≤ℤ over

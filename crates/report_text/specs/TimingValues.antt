@@ -14,8 +14,7 @@ use Rattle.cts_model.specs.timing.Schedules.{IsSmallPeriod}
 use Rattle.cts_model.specs.timing.Slacks.{AreSmallSlacks}
 use Rattle.report_text.specs.declared.form.Form.{Form}
 use Rattle.report_text.specs.declared.form.Scale.{Scale}
-use Rattle.report_text.specs.declared.field.Field.TheVariants as field
-use Rattle.report_text.specs.Fields.{LineHasFlaw, IsFormed, IsWholeSteps, AreFewSteps}
+use Rattle.report_text.specs.Fields.{LineHasFlaw}
 use Rattle.report_text.specs.Forms.{fields_of}
 
 -- the words are a line of that form without a flaw
@@ -61,9 +60,3 @@ pub record DenotesLead (circuit : Circuit) (words : Words) (lead : Lead) : Type 
   pub line : words ≡ lead_line circuit lead
   pub registers : LeadsAmong (length circuit.registers) lead
   pub small : IsSmallLead lead
-
--- a word that may stand for a slack: its form is right, and so many steps are within their bound
-pub record IsSlackWord (den : ℤ) (word : List ℕ) : Type 0 where
-  pub form : IsFormed (field.Slack den (pos (10 ^ 20))) word
-  pub whole : IsWholeSteps den word
-  pub few : AreFewSteps den (pos (10 ^ 20)) word

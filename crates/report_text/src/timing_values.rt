@@ -1,14 +1,15 @@
 //! What the lines of a report's timing say.
 
-ghost use Rattle.std.specs.Prelude.{◌≡◌, ◌^◌, ◌<◌, ℤ, All, IfOk, codes, length, map};
+ghost use Rattle.std.specs.Prelude.{◌≡◌, ◌^◌, ◌<◌, ◌≤ℤ◌, ℤ, pos, All, IfOk, Option, codes, length, map};
 ghost use Rattle.std.specs.Str.{bytes_eq};
+ghost use Rattle.cts_base.specs.declared.fraction.Fraction as fractions;
 ghost use Rattle.cts_base.specs.Fractions.{HasSizeBelow, fraction_text};
 ghost use Rattle.cts_base.specs.NumberTexts.{SpellsWhole, HaveSmallSizes};
 ghost use Rattle.cts_model.specs.text.PrintedLines.{slack_text};
 ghost use Rattle.cts_model.specs.timing.Slacks.{IsSmallSlack};
 ghost use Rattle.report_text.specs.declared.form.Form.TheVariants as form;
-ghost use Rattle.report_text.specs.Fields.{IsFractionForm, NamesSignal};
-ghost use Rattle.report_text.specs.TimingValues.{IsFlawless, DenotesPeriod, DenotesShow, DenotesConstraint, DenotesPath, NamesSignals, DenotesLead, IsSlackWord};
+ghost use Rattle.report_text.specs.Fields.{NamesSignal};
+ghost use Rattle.report_text.specs.TimingValues.{IsFlawless, DenotesPeriod, DenotesShow, DenotesConstraint, DenotesPath, NamesSignals, DenotesLead};
 ghost use Rattle.report_text.specs.Walks.{DenotesTimed, DenotesVersion};
 
 use crate::field::Keyword;
@@ -70,8 +71,8 @@ impl Line for PeriodLine {
 
 // The fraction that a word spells.
 fn fraction_of(word: &[u8]) -> Fraction
-    ensures { (num den : ℤ) → IsFractionForm word.now num den → HaveSmallSizes num den
-        → (result.num ≡ num) × (result.den ≡ den) × (word.now ≡ fraction_text num den) }
+    ensures { (fraction : fractions.Fraction) → HaveSmallSizes fraction.num fraction.den
+        → word.now ≡ fraction_text fraction.num fraction.den → result ≡ fraction }
 {
     match read_fraction(word) {
         Ok(fraction) => fraction,
@@ -228,8 +229,9 @@ impl Line for Timed {
 
 // The slack in ticks that a word spells, or none.
 fn slack_of(word: &[u8]) -> Option<Fraction>
-    ensures { (den : ℤ) → IsSlackWord den word.now
-        → (word.now ≡ slack_text result) × IsSmallSlack den result }
+    ensures { (over : ℤ) (slack : Option fractions.Fraction) → pos 1 ≤ℤ over
+        → HasSizeBelow (10 ^ 37) over → IsSmallSlack over slack
+        → word.now ≡ slack_text slack → result ≡ slack }
 {
     match read_fraction(word) {
         Ok(fraction) => Some(fraction),

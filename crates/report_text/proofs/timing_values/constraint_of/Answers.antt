@@ -1,49 +1,59 @@
-use Rattle.std.proofs.Common.{ℕ, List, map, sym, ap, ◌∙◌, subst, codes, arith}
+use Rattle.std.proofs.Common.{◌^◌, ◌≡◌, ℤ, Bool, Bor, List, ℕ, true, false, map, to_z, of_z, sym, ap, ◌∙◌, subst, codes, arith}
+use mir.Syntax.{w128}
 use Rattle.std.specs.Str.{bytes_eq}
-use Rattle.report_text.specs.declared.field.Field.TheVariants as field
-use Rattle.report_text.specs.Fields.{IsKnown, NamesRegister}
-use Rattle.report_text.specs.Forms.{constraint_fields}
-use Rattle.report_text.specs.Values.{SpellsRegister}
-use Rattle.report_text.proofs.FieldWords.{each_at}
-use Rattle.report_text.proofs.TimingDenoted.{IsWeightOf, setup_denoted, hold_denoted}
+use Rattle.cts_base.specs.NumberTexts.{SpellsWhole}
+use Rattle.report_text.proofs.NumberWords.{spelled_whole}
+use Rattle.report_text.proofs.OneName.{one_register}
+use Rattle.report_text.proofs.SpelledFields.{number_kept, size_below, word_is}
+use Rattle.report_text.proofs.TimingLines.{constraint_parts, constraint_read}
 use Rattle.report_text.proofs.timing_values.constraint_of.Goals as goal
 
 pub known_register-launch-requires : goal.known_register-launch-requires
 known_register-launch-requires c =
-    subst (NamesRegister c.args.rules.now.circuit.now) (sym c.word_at.ensures)
-    (each_at (IsKnown c.args.rules.now.circuit.now) constraint_fields
-    (map (λ word. word.now) c.args.words.now) c.requires.1 1 field.Kind (omega arith))
+    let found = constraint_parts c.args.rules.now.circuit.now c.args.rules.now.scale
+    (map (λ word. word.now) c.args.words.now) c.requires in
+    (found.launch, found.launches, sym (word_is 1 c.word_at.ensures found.line))
 
 pub known_register-capture-requires : goal.known_register-capture-requires
 known_register-capture-requires c =
-    subst (NamesRegister c.args.rules.now.circuit.now) (sym c.word_at-2.ensures)
-    (each_at (IsKnown c.args.rules.now.circuit.now) constraint_fields
-    (map (λ word. word.now) c.args.words.now) c.requires.1 2 field.Kind (omega arith))
+    let found = constraint_parts c.args.rules.now.circuit.now c.args.rules.now.scale
+    (map (λ word. word.now) c.args.words.now) c.requires in
+    (found.capture, found.captures, sym (word_is 2 c.word_at-2.ensures found.line))
 
 pub returns-then-is_setup : goal.returns-then-is_setup
 returns-then-is_setup c =
     let circuit = c.args.rules.now.circuit.now in
-    let (formed, known, fit, within) = c.requires in
-    setup_denoted circuit (map (λ word. word.now) c.args.words.now) c.known_register-launch.result
-    c.known_register-capture.result c.weight_of-weight.result formed within
-    (subst (λ w. SpellsRegister circuit w c.known_register-launch.result) c.word_at.ensures
-    c.known_register-launch.ensures)
-    (subst (λ w. SpellsRegister circuit w c.known_register-capture.result) c.word_at-2.ensures
-    c.known_register-capture.ensures)
-    (subst (IsWeightOf c.weight_of-weight.result) c.word_at-3.ensures c.weight_of-weight.ensures)
-    (ap (λ (w : List ℕ). bytes_eq w (codes "setup")) (sym c.word_at-4.ensures)
-    ∙ sym c.is_setup.ensures ∙ c.if-is_setup.true)
+    let found = constraint_parts circuit c.args.rules.now.scale
+    (map (λ word. word.now) c.args.words.now) c.requires in
+    let launch = one_register circuit found.launch c.known_register-launch.result found.launches
+    c.known_register-launch.ensures.0
+    (sym (word_is 1 c.word_at.ensures found.line) ∙ sym c.known_register-launch.ensures.1) in
+    let capture = one_register circuit found.capture c.known_register-capture.result found.captures
+    c.known_register-capture.ensures.0
+    (sym (word_is 2 c.word_at-2.ensures found.line) ∙ sym c.known_register-capture.ensures.1) in
+    let small = size_below (10 ^ 12) found.weight (omega arith) found.small in
+    let weight = number_kept found.weight c.weight_of-weight.result small
+    (c.weight_of-weight.ensures found.weight (subst (λ w. SpellsWhole w found.weight)
+    (sym (word_is 3 c.word_at-3.ensures found.line)) (spelled_whole found.weight small)) small) in
+    constraint_read found c.known_register-launch.result c.known_register-capture.result _ launch
+    capture weight true (ap (λ w. bytes_eq w (codes "setup"))
+    (sym (word_is 0 c.word_at-4.ensures found.line)) ∙ sym c.is_setup.ensures ∙ c.if-is_setup.true)
 
 pub returns-else-is_setup : goal.returns-else-is_setup
 returns-else-is_setup c =
     let circuit = c.args.rules.now.circuit.now in
-    let (formed, known, fit, within) = c.requires in
-    hold_denoted circuit (map (λ word. word.now) c.args.words.now) c.known_register-launch.result
-    c.known_register-capture.result c.weight_of-weight.result formed within
-    (subst (λ w. SpellsRegister circuit w c.known_register-launch.result) c.word_at.ensures
-    c.known_register-launch.ensures)
-    (subst (λ w. SpellsRegister circuit w c.known_register-capture.result) c.word_at-2.ensures
-    c.known_register-capture.ensures)
-    (subst (IsWeightOf c.weight_of-weight.result) c.word_at-3.ensures c.weight_of-weight.ensures)
-    (ap (λ (w : List ℕ). bytes_eq w (codes "setup")) (sym c.word_at-4.ensures)
-    ∙ sym c.is_setup.ensures ∙ c.if-is_setup.false)
+    let found = constraint_parts circuit c.args.rules.now.scale
+    (map (λ word. word.now) c.args.words.now) c.requires in
+    let launch = one_register circuit found.launch c.known_register-launch.result found.launches
+    c.known_register-launch.ensures.0
+    (sym (word_is 1 c.word_at.ensures found.line) ∙ sym c.known_register-launch.ensures.1) in
+    let capture = one_register circuit found.capture c.known_register-capture.result found.captures
+    c.known_register-capture.ensures.0
+    (sym (word_is 2 c.word_at-2.ensures found.line) ∙ sym c.known_register-capture.ensures.1) in
+    let small = size_below (10 ^ 12) found.weight (omega arith) found.small in
+    let weight = number_kept found.weight c.weight_of-weight.result small
+    (c.weight_of-weight.ensures found.weight (subst (λ w. SpellsWhole w found.weight)
+    (sym (word_is 3 c.word_at-3.ensures found.line)) (spelled_whole found.weight small)) small) in
+    constraint_read found c.known_register-launch.result c.known_register-capture.result _ launch
+    capture weight false (ap (λ w. bytes_eq w (codes "setup"))
+    (sym (word_is 0 c.word_at-4.ensures found.line)) ∙ sym c.is_setup.ensures ∙ c.if-is_setup.false)

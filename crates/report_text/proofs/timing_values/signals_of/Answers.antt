@@ -1,7 +1,7 @@
 use Rattle.std.proofs.Common.{map, sym, subst, []}
 use Rattle.std.proofs.lemmas.List.{take_all}
 use Rattle.report_text.specs.TimingValues.{NamesSignals}
-use Rattle.report_text.proofs.TimingDenoted.{known_at, no_signals, next_signal}
+use Rattle.report_text.proofs.TimingLines.{known_at, no_signals, next_signal}
 use Rattle.report_text.proofs.timing_values.signals_of.Goals as goal
 
 pub loop-word-init : goal.loop-word-init

@@ -1,9 +1,12 @@
-use Rattle.std.proofs.Common.{◌^◌, pos, ◌≤ℤ◌, map, sym, ◌∙◌, subst}
+use Rattle.std.proofs.Common.{◌^◌, ◌≤ℤ◌, Bor, List, ℕ, pos, map, to_z, of_z, sym, ◌∙◌, subst, arith}
+use mir.Syntax.{w128}
 use Rattle.cts_base.specs.Fractions.{HasSizeBelow}
 use Rattle.cts_base.proofs.FractionReading.{held_same}
-use Rattle.report_text.specs.TimingValues.{IsSlackWord, DenotesArrival}
 use Rattle.report_text.specs.Values.{SpellsSteps}
-use Rattle.report_text.proofs.TimingDenoted.{arrival_denoted, setup_word, hold_word, register_denoted}
+use Rattle.report_text.specs.Walks.{DenotesTimed}
+use Rattle.report_text.proofs.SpelledFields.{steps_kept, word_is}
+use Rattle.report_text.proofs.TimingLines.{timed_found}
+use Rattle.report_text.proofs.TreeLines.{length_spelled}
 use Rattle.report_text.proofs.timing_values.TimedLine.of.Goals as goal
 
 pub steps_of-arrival-requires-clause-some : goal.steps_of-arrival-requires-clause-some
@@ -20,37 +23,36 @@ steps_of-arrival-requires-clause-small c =
 
 pub steps_of-arrival-requires-clause-word : goal.steps_of-arrival-requires-clause-word
 steps_of-arrival-requires-clause-word c =
-    let scale = c.args.rules.now.scale in
-    let small = c.args.rules.now.small in
-    let (steps, below, spells) = arrival_denoted c.args.rules.now.circuit.now scale c.args._number
-    (map (λ word. word.now) c.args.words.now) c.requires.flawless small.some_den in (
-      steps,
-      subst (λ den. SpellsSteps den c.word_at.result.now steps)
-          (sym (held_same scale.den small.small_den))
-          (subst (λ w. SpellsSteps scale.den w steps) (sym c.word_at.ensures) spells),
+    let rules = c.args.rules.now in
+    let den = rules.scale.den in
+    let (timed, says) = timed_found rules.circuit.now rules.scale c.args._number
+    (map (λ word. word.now) c.args.words.now) rules.small c.requires.flawless in (
+      timed.arrival,
+      subst (λ d. SpellsSteps d c.word_at.result.now timed.arrival)
+          (sym (held_same den rules.small.small_den))
+          (length_spelled den (10 ^ 19) c.word_at.result.now timed.arrival (omega arith) says.small
+          (word_is 1 c.word_at.ensures says.line)),
     )
 
 pub returns : goal.returns
 returns c =
-    let circuit = c.args.rules.now.circuit.now in
-    let scale = c.args.rules.now.scale in
-    let small = c.args.rules.now.small in
-    let words = map (λ word. word.now) c.args.words.now in
-    let flawless = c.requires.flawless in
-    let register = c.args._number in
-    let spells = subst (λ den. SpellsSteps den c.word_at.result.now c.steps_of-arrival.result)
-    (held_same scale.den small.small_den) c.steps_of-arrival.ensures in
-    let setup = c.slack_of-setup.ensures scale.den
-    (subst (IsSlackWord scale.den) (sym c.word_at-2.ensures)
-    (setup_word circuit scale register words flawless)) in
-    let hold = c.slack_of-hold.ensures scale.den
-    (subst (IsSlackWord scale.den) (sym c.word_at-3.ensures)
-    (hold_word circuit scale register words flawless)) in
-    subst (λ arrival. DenotesArrival circuit scale.den register words arrival
-    (record { setup = c.slack_of-setup.result; hold = c.slack_of-hold.result }))
-    (sym (held_same c.steps_of-arrival.result spells.0))
-    (register_denoted circuit scale register words flawless small.some_den small.small_den
-    c.steps_of-arrival.result
-    (record { setup = c.slack_of-setup.result; hold = c.slack_of-hold.result })
-    (subst (λ w. SpellsSteps scale.den w c.steps_of-arrival.result) c.word_at.ensures spells)
-    (sym c.word_at-2.ensures ∙ setup.0, setup.1) (sym c.word_at-3.ensures ∙ hold.0, hold.1))
+    let rules = c.args.rules.now in
+    let den = rules.scale.den in
+    let small = rules.small in
+    let words = map (λ (word : Bor (List ℕ)). word.now) c.args.words.now in
+    let (timed, says) = timed_found rules.circuit.now rules.scale c.args._number words small
+    c.requires.flawless in
+    let arrival = steps_kept den c.word_at.result.now timed.arrival c.steps_of-arrival.result
+    small.some_den small.small_den
+    (length_spelled den (10 ^ 19) c.word_at.result.now timed.arrival (omega arith) says.small
+    (word_is 1 c.word_at.ensures says.line))
+    (subst (λ d. SpellsSteps d c.word_at.result.now c.steps_of-arrival.result)
+    (held_same den small.small_den) c.steps_of-arrival.ensures) in
+    let setup = c.slack_of-setup.ensures den timed.slack.setup small.some_den small.small_den
+    says.slacks.setup (word_is 2 c.word_at-2.ensures says.line) in
+    let hold = c.slack_of-hold.ensures den timed.slack.hold small.some_den small.small_den
+    says.slacks.hold (word_is 3 c.word_at-3.ensures says.line) in
+    subst (DenotesTimed rules.circuit.now rules.scale c.args._number words) (λ i. record {
+      arrival = arrival i;
+      slack = record { setup = sym setup i; hold = sym hold i };
+    }) says
