@@ -1,5 +1,6 @@
 pub mod Laws
 pub mod Pieces
+pub mod OneProof
 pub mod Keywords
 pub mod Fields
 pub mod Forms

@@ -16,6 +16,7 @@ mod name_set;
 mod names;
 mod number;
 mod period;
+mod printed;
 mod reader;
 mod report;
 mod rules;

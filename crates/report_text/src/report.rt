@@ -4,6 +4,7 @@ ghost use Rattle.cts_model.specs.text.PrintedLines.{text_of};
 ghost use Rattle.cts_model.specs.report.ReportBounds.{IsOfSize, IsWithinBounds};
 ghost use Rattle.cts_model.specs.report.ReportLines.{report_lines};
 
+use crate::printed::Printed;
 use crate::timing::push_timing;
 use crate::tree::push_tree;
 use cts_base::NoMemory;
@@ -17,8 +18,9 @@ pub fn write_report(alloc: Global, report: &Report, circuit: &Circuit) -> Result
     ensures spelled { IfOk result (λ text.
         text.items ≡ text_of (report_lines circuit.now report.now)) }
 {
+    let printed = Printed { circuit, report };
     let mut out = Vec::new(alloc);
-    push_timing(&mut out, circuit, report)?;
-    push_tree(&mut out, circuit, report)?;
+    push_timing(&mut out, &printed)?;
+    push_tree(&mut out, &printed)?;
     Ok(out)
 }

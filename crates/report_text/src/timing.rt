@@ -4,29 +4,30 @@ ghost use Rattle.std.specs.Prelude.{◌≡◌, ◌<◌, ◌≤ℤ◌, ◌^◌, �
 ghost use Rattle.cts_model.specs.declared.report.Version.TheVariants.{Second};
 ghost use Rattle.cts_base.specs.Fractions.{HasSizeBelow, quotient_text};
 ghost use Rattle.cts_model.specs.text.PrintedLines.{line_of, text_of, count_line, register_line, slack_text};
-ghost use Rattle.cts_model.specs.report.ReportBounds.{IsOfSize, HasTimingBounds, IsBetweenRegisters, ShowsPeriodAmong, LeadsAmong, cycle_length};
+ghost use Rattle.cts_model.specs.report.ReportBounds.{HasTimingBounds, IsBetweenRegisters, ShowsPeriodAmong, LeadsAmong, cycle_length};
 ghost use Rattle.cts_model.specs.report.ReportLines.{version_line, path_line, pathed_lines, period_show_lines, register_line_at, lead_line, lines_below, timing_lines, signal_name};
 ghost use Rattle.cts_model.specs.timing.Schedules.{arrival_of};
 ghost use Rattle.report_text.specs.Pieces.{suffix};
 
 use crate::line::{push_count, push_line, push_line_for, push_number, push_word};
 use crate::period::{push_period, push_show};
+use crate::printed::Printed;
 use cts_base::{Fraction, Listed, NoMemory, push_fraction, push_quotient};
-use cts_model::{Circuit, Constraint, Lead, PeriodShow, Report, Schedule, Slack, Version};
+use cts_model::{Circuit, Constraint, Lead, PeriodShow, Schedule, Slack, Version};
 
 /// Appends the lines from the first to the leads.
-pub fn push_timing(out: &mut Vec<u8>, circuit: &Circuit, report: &Report) -> Result<(), NoMemory>
-    requires size { IsOfSize circuit.now report.now }
-    requires bounds { HasTimingBounds report.now }
-    ensures { OnOk result (out.new.items
-        ≡ out.old.items ++ text_of (timing_lines circuit.now report.now)) }
+pub fn push_timing(out: &mut Vec<u8>, printed: &Printed) -> Result<(), NoMemory>
+    requires { HasTimingBounds printed.now.report.now }
+    ensures { OnOk result (out.new.items ≡ out.old.items
+        ++ text_of (timing_lines printed.now.circuit.now printed.now.report.now)) }
 {
+    let report = printed.report;
     push_version(out, report.version)?;
     push_period(out, report.period)?;
-    push_show_of(out, circuit, report)?;
+    push_show_of(out, printed)?;
     push_count(out, b"registers", report.schedule.at.len())?;
-    push_registers(out, circuit, report)?;
-    push_leads(out, circuit, report.leads.as_slice())
+    push_registers(out, printed)?;
+    push_leads(out, printed.circuit, report.leads.as_slice())
 }
 
 // Appends the first line.
@@ -40,11 +41,13 @@ fn push_version(out: &mut Vec<u8>, version: Version) -> Result<(), NoMemory>
 }
 
 // Appends the lines of what shows the period, in the second version with paths.
-fn push_show_of(out: &mut Vec<u8>, circuit: &Circuit, report: &Report) -> Result<(), NoMemory>
-    requires size { IsOfSize circuit.now report.now }
+fn push_show_of(out: &mut Vec<u8>, printed: &Printed) -> Result<(), NoMemory>
     ensures { OnOk result (out.new.items ≡ out.old.items ++ text_of
-        (period_show_lines report.now.version circuit.now report.now.shown report.now.paths)) }
+        (period_show_lines printed.now.report.now.version printed.now.circuit.now
+        printed.now.report.now.shown printed.now.report.now.paths)) }
 {
+    let circuit = printed.circuit;
+    let report = printed.report;
     match report.version {
         Version::First => push_show(out, circuit, &report.shown),
         Version::Second => {
@@ -131,14 +134,14 @@ pub(crate) fn signal_name(circuit: &Circuit, number: usize) -> &[u8]
 }
 
 // Appends the line of each register.
-fn push_registers(out: &mut Vec<u8>, circuit: &Circuit, report: &Report) -> Result<(), NoMemory>
-    requires size { IsOfSize circuit.now report.now }
-    requires bounds { HasTimingBounds report.now }
+fn push_registers(out: &mut Vec<u8>, printed: &Printed) -> Result<(), NoMemory>
+    requires { HasTimingBounds printed.now.report.now }
     ensures { OnOk result (out.new.items ≡ out.old.items ++ text_of
-        (lines_below (register_line_at circuit.now report.now) (length report.now.schedule.at))) }
+        (lines_below (register_line_at printed.now.circuit.now printed.now.report.now)
+        (length printed.now.report.now.schedule.at))) }
 {
-    for register in 0..report.schedule.at.len() {
-        push_register_at(out, circuit, report, register)?;
+    for register in 0..printed.report.schedule.at.len() {
+        push_register_at(out, printed, register)?;
     }
     Ok(())
 }
@@ -146,18 +149,16 @@ fn push_registers(out: &mut Vec<u8>, circuit: &Circuit, report: &Report) -> Resu
 // Appends the line of the register with that number.
 fn push_register_at(
     out: &mut Vec<u8>,
-    circuit: &Circuit,
-    report: &Report,
+    printed: &Printed,
     register: usize,
 ) -> Result<(), NoMemory>
-    requires within { register < length circuit.now.registers }
-    requires size { IsOfSize circuit.now report.now }
-    requires bounds { HasTimingBounds report.now }
-    ensures { OnOk result (out.new.items
-        ≡ out.old.items ++ line_of (register_line_at circuit.now report.now register)) }
+    requires within { register < length printed.now.circuit.now.registers }
+    requires bounds { HasTimingBounds printed.now.report.now }
+    ensures { OnOk result (out.new.items ≡ out.old.items
+        ++ line_of (register_line_at printed.now.circuit.now printed.now.report.now register)) }
 {
-    let slack = report.slacks.as_slice()[register];
-    push_register(out, circuit, &report.schedule, slack, register)
+    let slack = printed.report.slacks.as_slice()[register];
+    push_register(out, printed.circuit, &printed.report.schedule, slack, register)
 }
 
 /// Appends the line of a register: its arrival and its slacks, in ticks.
@@ -227,7 +228,8 @@ fn push_leads(out: &mut Vec<u8>, circuit: &Circuit, leads: &[Lead]) -> Result<()
 // Appends the line of a lead.
 fn push_lead(out: &mut Vec<u8>, circuit: &Circuit, lead: Lead) -> Result<(), NoMemory>
     requires { LeadsAmong (length circuit.now.registers) lead }
-    ensures { OnOk result (out.new.items ≡ out.old.items ++ line_of (lead_line circuit.now lead)) }
+    ensures { OnOk result (out.new.items
+        ≡ out.old.items ++ line_of (lead_line circuit.now lead)) }
 {
     match lead {
         Lead::Zero => push_line(out, b"lead", &[b"0"]),

@@ -5,40 +5,38 @@ ghost use Rattle.cts_model.specs.declared.tree.Show.TheVariants.{Root};
 ghost use Rattle.std.specs.List.{flat_map};
 ghost use Rattle.cts_model.specs.placement.Points.{IsBelow, IsPointBelow};
 ghost use Rattle.cts_model.specs.text.PrintedLines.{line_of, text_of};
-ghost use Rattle.cts_model.specs.report.ReportBounds.{IsOfSize, IsSmallWire, ShowsAmong};
+ghost use Rattle.cts_model.specs.report.ReportBounds.{IsSmallWire, ShowsAmong};
 ghost use Rattle.cts_model.specs.report.ReportLines.{length_text, lines_below, merge_line_at, merge_words, no_wire, node_line_at, number_at, point_words, show_words, source_line, tree_lines, wire_words};
 ghost use Rattle.report_text.specs.Pieces.{suffix, HasSmallLengths};
 ghost use Rattle.report_text.specs.WireLines.{wire_line};
 
 use crate::line::{push_count, push_node, push_number, push_word};
+use crate::printed::Printed;
 use cts_base::{NoMemory, push_quotient};
 use cts_model::{Circuit, Merge, Point, Report, Show, Wire};
 
 /// Appends the lines from the merges to the last.
-pub fn push_tree(out: &mut Vec<u8>, circuit: &Circuit, report: &Report) -> Result<(), NoMemory>
-    requires size { IsOfSize circuit.now report.now }
-    requires small { HasSmallLengths report.now }
+pub fn push_tree(out: &mut Vec<u8>, printed: &Printed) -> Result<(), NoMemory>
     ensures { OnOk result (out.new.items
-        ≡ out.old.items ++ text_of (tree_lines circuit.now report.now)) }
+        ≡ out.old.items ++ text_of (tree_lines printed.now.circuit.now printed.now.report.now)) }
 {
-    push_count(out, b"merges", report.topology.merges.len())?;
-    push_merges(out, circuit, report)?;
-    push_source(out, circuit, report)?;
-    push_count(out, b"nodes", report.tree.length.len())?;
-    push_nodes(out, circuit, report)?;
-    push_total(out, report)?;
+    push_count(out, b"merges", printed.report.topology.merges.len())?;
+    push_merges(out, printed)?;
+    push_source(out, printed)?;
+    push_count(out, b"nodes", printed.report.tree.length.len())?;
+    push_nodes(out, printed)?;
+    push_total(out, printed.report)?;
     Ok(())
 }
 
 // Appends the line of each merge.
-fn push_merges(out: &mut Vec<u8>, circuit: &Circuit, report: &Report) -> Result<(), NoMemory>
-    requires size { IsOfSize circuit.now report.now }
-    requires small { HasSmallLengths report.now }
+fn push_merges(out: &mut Vec<u8>, printed: &Printed) -> Result<(), NoMemory>
     ensures { OnOk result (out.new.items ≡ out.old.items ++ text_of (lines_below
-        (merge_line_at circuit.now report.now) (length report.now.topology.merges))) }
+        (merge_line_at printed.now.circuit.now printed.now.report.now)
+        (length printed.now.report.now.topology.merges))) }
 {
-    for place in 0..report.topology.merges.len() {
-        push_merge(out, circuit, report, place)?;
+    for place in 0..printed.report.topology.merges.len() {
+        push_merge(out, printed, place)?;
     }
     Ok(())
 }
@@ -46,75 +44,68 @@ fn push_merges(out: &mut Vec<u8>, circuit: &Circuit, report: &Report) -> Result<
 // Appends the line of a merge: what it joins, its reach and what shows it.
 fn push_merge(
     out: &mut Vec<u8>,
-    circuit: &Circuit,
-    report: &Report,
+    printed: &Printed,
     place: usize,
 ) -> Result<(), NoMemory>
-    requires within { place < length report.now.topology.merges }
-    requires size { IsOfSize circuit.now report.now }
-    requires small { HasSmallLengths report.now }
-    ensures { OnOk result (out.new.items
-        ≡ out.old.items ++ line_of (merge_line_at circuit.now report.now place)) }
+    requires within { place < length printed.now.report.now.topology.merges }
+    ensures { OnOk result (out.new.items ≡ out.old.items
+        ++ line_of (merge_line_at printed.now.circuit.now printed.now.report.now place)) }
 {
-    let node = report.schedule.at.len() + place;
-    let merge = report.topology.merges.as_slice()[place];
-    push_merge_line(out, circuit, report, node, merge, show_at(report, place))
+    let node = printed.report.schedule.at.len() + place;
+    let merge = printed.report.topology.merges.as_slice()[place];
+    push_merge_line(out, printed, node, merge, show_at(printed, place))
 }
 
 // Appends the line of a merge that makes a node and is shown so.
 fn push_merge_line(
     out: &mut Vec<u8>,
-    circuit: &Circuit,
-    report: &Report,
+    printed: &Printed,
     node: usize,
     merge: Merge,
     show: Show,
 ) -> Result<(), NoMemory>
-    requires within { node < length report.now.tree.reach }
-    requires show { ShowsAmong (length circuit.now.registers) show }
-    requires small { HasSmallLengths report.now }
-    ensures { OnOk result (out.new.items
-        ≡ out.old.items ++ line_of (merge_words circuit.now report.now node merge show)) }
+    requires within { node < length printed.now.report.now.tree.reach }
+    requires show { ShowsAmong (length printed.now.circuit.now.registers) show }
+    ensures { OnOk result (out.new.items ≡ out.old.items ++ line_of
+        (merge_words printed.now.circuit.now printed.now.report.now node merge show)) }
 {
     push_node(out, node)?;
     push_number(out, merge.first as usize)?;
     push_number(out, merge.second as usize)?;
-    push_reach(out, report, node)?;
-    push_shown(out, circuit, show)?;
+    push_reach(out, printed, node)?;
+    push_shown(out, printed.circuit, show)?;
     out.push(b'\n')?;
     Ok(())
 }
 
 // Appends the line of the source: its reach and what shows it.
-fn push_source(out: &mut Vec<u8>, circuit: &Circuit, report: &Report) -> Result<(), NoMemory>
-    requires size { IsOfSize circuit.now report.now }
-    requires small { HasSmallLengths report.now }
+fn push_source(out: &mut Vec<u8>, printed: &Printed) -> Result<(), NoMemory>
     ensures { OnOk result (out.new.items
-        ≡ out.old.items ++ line_of (source_line circuit.now report.now)) }
+        ≡ out.old.items ++ line_of (source_line printed.now.circuit.now printed.now.report.now)) }
 {
     out.extend_from_slice(b"source")?;
-    push_reach(out, report, 2 * report.schedule.at.len() - 1)?;
-    push_shown(out, circuit, show_at(report, report.topology.merges.len()))?;
+    push_reach(out, printed, 2 * printed.report.schedule.at.len() - 1)?;
+    push_shown(out, printed.circuit, show_at(printed, printed.report.topology.merges.len()))?;
     out.push(b'\n')?;
     Ok(())
 }
 
 // Appends the reach of a node.
-fn push_reach(out: &mut Vec<u8>, report: &Report, node: usize) -> Result<(), NoMemory>
-    requires within { node < length report.now.tree.reach }
-    requires small { HasSmallLengths report.now }
+fn push_reach(out: &mut Vec<u8>, printed: &Printed, node: usize) -> Result<(), NoMemory>
+    requires within { node < length printed.now.report.now.tree.reach }
     ensures { OnOk result (out.new.items ≡ out.old.items
-        ++ suffix (length_text report.now (number_at report.now.tree.reach node) ∷ [])) }
+        ++ suffix (length_text printed.now.report.now
+        (number_at printed.now.report.now.tree.reach node) ∷ [])) }
 {
-    push_length(out, report, report.tree.reach.as_slice()[node])
+    push_length(out, printed, printed.report.tree.reach.as_slice()[node])
 }
 
 // What shows the reach of a merge, or after all of them that of the source.
-fn show_at(report: &Report, place: usize) -> Show
-    requires { place < length report.now.shows }
-    ensures { result ≡ slice_index_or report.now.shows place Root }
+fn show_at(printed: &Printed, place: usize) -> Show
+    requires { place < length printed.now.report.now.shows }
+    ensures { result ≡ slice_index_or printed.now.report.now.shows place Root }
 {
-    report.shows.as_slice()[place]
+    printed.report.shows.as_slice()[place]
 }
 
 // Appends what shows a reach.
@@ -138,14 +129,13 @@ fn push_shown(out: &mut Vec<u8>, circuit: &Circuit, show: Show) -> Result<(), No
 }
 
 // Appends the line of each node but the source.
-fn push_nodes(out: &mut Vec<u8>, circuit: &Circuit, report: &Report) -> Result<(), NoMemory>
-    requires size { IsOfSize circuit.now report.now }
-    requires small { HasSmallLengths report.now }
+fn push_nodes(out: &mut Vec<u8>, printed: &Printed) -> Result<(), NoMemory>
     ensures { OnOk result (out.new.items ≡ out.old.items ++ text_of
-        (lines_below (node_line_at circuit.now report.now) (length report.now.tree.length))) }
+        (lines_below (node_line_at printed.now.circuit.now printed.now.report.now)
+        (length printed.now.report.now.tree.length))) }
 {
-    for node in 0..report.tree.length.len() {
-        push_node_line(out, circuit, report, node)?;
+    for node in 0..printed.report.tree.length.len() {
+        push_node_line(out, printed, node)?;
     }
     Ok(())
 }
@@ -153,76 +143,70 @@ fn push_nodes(out: &mut Vec<u8>, circuit: &Circuit, report: &Report) -> Result<(
 // Appends the line of a node: its place, the length of its edge and the drawn wire.
 fn push_node_line(
     out: &mut Vec<u8>,
-    circuit: &Circuit,
-    report: &Report,
+    printed: &Printed,
     node: usize,
 ) -> Result<(), NoMemory>
-    requires within { node < length report.now.tree.length }
-    requires size { IsOfSize circuit.now report.now }
-    requires small { HasSmallLengths report.now }
-    ensures { OnOk result (out.new.items
-        ≡ out.old.items ++ line_of (node_line_at circuit.now report.now node)) }
+    requires within { node < length printed.now.report.now.tree.length }
+    ensures { OnOk result (out.new.items ≡ out.old.items
+        ++ line_of (node_line_at printed.now.circuit.now printed.now.report.now node)) }
 {
     push_node(out, node)?;
-    push_point(out, report, report.tree.place.as_slice()[node])?;
-    push_edge(out, report, node)?;
-    push_wire(out, report, wire_at(report, node))?;
+    push_point(out, printed, printed.report.tree.place.as_slice()[node])?;
+    push_edge(out, printed, node)?;
+    push_wire(out, printed, wire_at(printed, node))?;
     out.push(b'\n')?;
     Ok(())
 }
 
 // Appends the length of a node's edge.
-fn push_edge(out: &mut Vec<u8>, report: &Report, node: usize) -> Result<(), NoMemory>
-    requires within { node < length report.now.tree.length }
-    requires small { HasSmallLengths report.now }
+fn push_edge(out: &mut Vec<u8>, printed: &Printed, node: usize) -> Result<(), NoMemory>
+    requires within { node < length printed.now.report.now.tree.length }
     ensures { OnOk result (out.new.items ≡ out.old.items
-        ++ suffix (length_text report.now (number_at report.now.tree.length node) ∷ [])) }
+        ++ suffix (length_text printed.now.report.now
+        (number_at printed.now.report.now.tree.length node) ∷ [])) }
 {
-    push_length(out, report, report.tree.length.as_slice()[node])
+    push_length(out, printed, printed.report.tree.length.as_slice()[node])
 }
 
 // The drawn wire of a node's edge.
-fn wire_at(report: &Report, node: usize) -> Wire
-    requires within { node < length report.now.wires }
-    requires wires { All IsSmallWire report.now.wires }
-    ensures value { result ≡ slice_index_or report.now.wires node no_wire }
+fn wire_at(printed: &Printed, node: usize) -> Wire
+    requires { node < length printed.now.report.now.wires }
+    ensures value { result ≡ slice_index_or printed.now.report.now.wires node no_wire }
     ensures small { IsSmallWire result }
 {
-    report.wires.as_slice()[node]
+    printed.report.wires.as_slice()[node]
 }
 
 // Appends a drawn wire: how many points it has, and the points.
-fn push_wire(out: &mut Vec<u8>, report: &Report, wire: Wire) -> Result<(), NoMemory>
+fn push_wire(out: &mut Vec<u8>, printed: &Printed, wire: Wire) -> Result<(), NoMemory>
     requires wire { IsSmallWire wire }
-    requires small { HasSmallLengths report.now }
-    ensures { OnOk result (out.new.items ≡ out.old.items ++ suffix (wire_words report.now wire)) }
+    ensures { OnOk result (out.new.items
+        ≡ out.old.items ++ suffix (wire_words printed.now.report.now wire)) }
 {
     push_number(out, wire.used as usize)?;
-    push_points(out, report, wire.corners.split_at(wire.used as usize).0)
+    push_points(out, printed, wire.corners.split_at(wire.used as usize).0)
 }
 
 // Appends points.
-fn push_points(out: &mut Vec<u8>, report: &Report, points: &[Point]) -> Result<(), NoMemory>
+fn push_points(out: &mut Vec<u8>, printed: &Printed, points: &[Point]) -> Result<(), NoMemory>
     requires points { All (IsPointBelow (10 ^ 32)) points.now }
-    requires small { HasSmallLengths report.now }
     ensures { OnOk result (out.new.items
-        ≡ out.old.items ++ suffix (flat_map (point_words report.now) points.now)) }
+        ≡ out.old.items ++ suffix (flat_map (point_words printed.now.report.now) points.now)) }
 {
     for point in points {
-        push_point(out, report, *point)?;
+        push_point(out, printed, *point)?;
     }
     Ok(())
 }
 
 // Appends the two coordinates of a point.
-fn push_point(out: &mut Vec<u8>, report: &Report, point: Point) -> Result<(), NoMemory>
+fn push_point(out: &mut Vec<u8>, printed: &Printed, point: Point) -> Result<(), NoMemory>
     requires point { IsPointBelow (10 ^ 32) point }
-    requires small { HasSmallLengths report.now }
     ensures { OnOk result (out.new.items
-        ≡ out.old.items ++ suffix (point_words report.now point)) }
+        ≡ out.old.items ++ suffix (point_words printed.now.report.now point)) }
 {
-    push_length(out, report, point.x)?;
-    push_length(out, report, point.y)
+    push_length(out, printed, point.x)?;
+    push_length(out, printed, point.y)
 }
 
 /// Appends the last line of a report, the length of all edges in length units.
@@ -249,13 +233,12 @@ pub fn push_wire_length(out: &mut Vec<u8>, grid: i128, steps: i128) -> Result<()
 }
 
 // Appends a length, given in grid steps, in length units.
-fn push_length(out: &mut Vec<u8>, report: &Report, steps: i128) -> Result<(), NoMemory>
-    requires steps { IsBelow (10 ^ 36) steps }
-    requires small { HasSmallLengths report.now }
+fn push_length(out: &mut Vec<u8>, printed: &Printed, steps: i128) -> Result<(), NoMemory>
+    requires { IsBelow (10 ^ 36) steps }
     ensures { OnOk result (out.new.items
-        ≡ out.old.items ++ suffix (length_text report.now steps ∷ [])) }
+        ≡ out.old.items ++ suffix (length_text printed.now.report.now steps ∷ [])) }
 {
     out.push(b' ')?;
-    push_quotient(out, steps, report.grid)?;
+    push_quotient(out, steps, printed.report.grid)?;
     Ok(())
 }

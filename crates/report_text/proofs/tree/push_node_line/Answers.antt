@@ -6,7 +6,7 @@ use Rattle.report_text.proofs.tree.push_node_line.Goals as goal
 
 pub returns : goal.returns
 returns c =
-    let report = c.args.report.now in
+    let report = c.args.printed.now.report.now in
     let place = point_words report (slice_index_or report.tree.place c.args.node origin) in
     let length = length_text report (number_at report.tree.length c.args.node) in
     let wire = wire_words report (slice_index_or report.wires c.args.node no_wire) in

@@ -9,4 +9,4 @@ abbrev pub invariant-loop-point : goal.invariant-loop-point
 invariant-loop-point l =
     l.out.items
     ≡ l.fn.out.items
-    ++ suffix (flat_map (point_words l.report) (take l.point-index l.points))
+    ++ suffix (flat_map (point_words l.printed.report.now) (take l.point-index l.points))

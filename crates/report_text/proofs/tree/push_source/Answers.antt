@@ -7,10 +7,10 @@ use Rattle.report_text.proofs.tree.push_source.Goals as goal
 
 pub returns : goal.returns
 returns c =
-    let report = c.args.report.now in
+    let report = c.args.printed.now.report.now in
     let reach = length_text report
     (number_at report.tree.reach (source_of (length report.schedule.at))) in
-    let words = show_words c.args.circuit.now
+    let words = show_words c.args.printed.now.circuit.now
     (slice_index_or report.shows (length report.topology.merges) Root) in
     let begun = c.extend_from_slice.new.self.items in
     let shown = after_more begun _ _ (reach ∷ []) words

@@ -6,8 +6,8 @@ use Rattle.report_text.proofs.tree.push_tree.Goals as goal
 
 pub returns : goal.returns
 returns c =
-    let report = c.args.report.now in
-    let circuit = c.args.circuit.now in
+    let report = c.args.printed.now.report.now in
+    let circuit = c.args.printed.now.circuit.now in
     let merges = count_line (codes "merges") (length report.topology.merges) in
     let merge_lines = lines_below (merge_line_at circuit report) (length report.topology.merges) in
     let source = source_line circuit report in
