@@ -223,28 +223,6 @@ steps_read word over steps read some small spells each =
     × ((f.num *ℤ int_div over f.den) ≡ steps)) (λ _. ⊥))
     (sym (each fraction has.small.0 has.small.1 same)) (has.small.1, has.small.0, has.back)
 
--- what the code computes of the fraction are the steps
-pub steps_computed : (over steps num den num' den' : ℤ) → HasSizeBelow (10 ^ 37) over
-    → HasSizeBelow (10 ^ 37) num → HasSizeBelow (10 ^ 37) den → pos 1 ≤ℤ den
-    → (num *ℤ int_div over den) ≡ steps → num' ≡ num → den' ≡ den
-    → to_z w128 (of_z w128 num')
-    *ℤ to_z w128 (of_z w128 (int_div (to_z w128 (of_z w128 over)) (to_z w128 (of_z w128 den'))))
-    ≡ steps
-steps_computed over steps num den num' den' small small_num small_den some back same same' =
-    rw (same, same') (ap₂ (λ a b. a *ℤ b) (held_same num small_num)
-    (quotient_is over den (fits over small) (fits den small_den) some) ∙ back)
-
--- and the code can divide for them
-pub quotient_fits : (over den den' : ℤ) → HasSizeBelow (10 ^ 37) over → HasSizeBelow (10 ^ 37) den
-    → pos 1 ≤ℤ den → den' ≡ den
-    → (0 < of_z w128 den')
-    × FitsSigned w128 (int_div (to_z w128 (of_z w128 over)) (to_z w128 (of_z w128 den')))
-quotient_fits over den den' small small_den some same =
-    let held = held_same den small_den in
-    let positive : 0 < of_z w128 den = omega (arith, ints, some, held) in
-    let quotient = quot_fits w128 over den (fits over small) (omega (arith, ints, some)) in
-    rw same (positive, rw (held_same over small, held) quotient)
-
 -- the steps as the code passes them are the same
 pub kept_spelled : (over : ℤ) (word : List ℕ) (steps : ℤ) → SpellsSteps over word steps
     → SpellsSteps over word (to_z w128 (of_z w128 steps))

@@ -213,7 +213,7 @@ module _ (circuit : Circuit) where
       (words_from 2 _ _ same))
 
   -- signals are determined by their names
-  pub one_signals : (path other : List ℕ) → All (λ n. n < length circuit.signals) path
+  one_signals : (path other : List ℕ) → All (λ n. n < length circuit.signals) path
       → All (λ n. n < length circuit.signals) other
       → map (signal_name circuit) path ≡ map (signal_name circuit) other → path ≡ other
   one_signals [] [] within within' same = refl

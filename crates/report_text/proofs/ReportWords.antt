@@ -51,71 +51,19 @@ constraint_is circuit constraint = at constraint.setup
         else constraint_line
         (codes "hold") circuit constraint.head constraint.tail constraint.weight)
     at true = (
-      (omega arith, (omega arith, (omega arith, (omega arith, (omega arith, tt))))),
+      search arith,
       (
         register_word circuit constraint.tail,
         (register_word circuit constraint.head, (number_word constraint.weight, tt)),
       ),
     )
     at false = (
-      (omega arith, (omega arith, (omega arith, (omega arith, tt)))),
+      search arith,
       (
         register_word circuit constraint.head,
         (register_word circuit constraint.tail, (number_word constraint.weight, tt)),
       ),
     )
-
--- the words that are fixed
-word_of_path : IsWord (codes "path")
-word_of_path = (omega arith, (omega arith, (omega arith, (omega arith, tt))))
-
-word_of_lead : IsWord (codes "lead")
-word_of_lead = (omega arith, (omega arith, (omega arith, (omega arith, tt))))
-
-word_of_wire : IsWord (codes "wire")
-word_of_wire = (omega arith, (omega arith, (omega arith, (omega arith, tt))))
-
-word_of_cycle : IsWord (codes "cycle")
-word_of_cycle = (omega arith, (omega arith, (omega arith, (omega arith, (omega arith, tt)))))
-
-word_of_floor : IsWord (codes "floor")
-word_of_floor = (omega arith, (omega arith, (omega arith, (omega arith, (omega arith, tt)))))
-
-word_of_nodes : IsWord (codes "nodes")
-word_of_nodes = (omega arith, (omega arith, (omega arith, (omega arith, (omega arith, tt)))))
-
-word_of_merges : IsWord (codes "merges")
-word_of_merges =
-    (omega arith, (omega arith, (omega arith, (omega arith, (omega arith, (omega arith, tt))))))
-
-word_of_source : IsWord (codes "source")
-word_of_source =
-    (omega arith, (omega arith, (omega arith, (omega arith, (omega arith, (omega arith, tt))))))
-
-word_of_period : IsWord (codes "period")
-word_of_period =
-    (omega arith, (omega arith, (omega arith, (omega arith, (omega arith, (omega arith, tt))))))
-
-word_of_registers : IsWord (codes "registers")
-word_of_registers = (
-  omega arith,
-  (
-    omega arith,
-    (
-      omega arith,
-      (
-        omega arith,
-        (
-          omega arith,
-          (
-            omega arith,
-            (omega arith, (omega arith, (omega arith, tt))),
-          ),
-        ),
-      ),
-    ),
-  ),
-)
 
 -- the words of a line
 line_words : (words : Words) → IsLine words → AreWords words
@@ -124,9 +72,9 @@ line_words (word ∷ words) is = is
 
 -- the lines of a cycle's constraints and their paths
 path_is : (circuit : Circuit) (path : List ℕ) → IsLine (path_line circuit path)
-path_is circuit [] = (word_of_path, ((omega arith, tt), tt))
+path_is circuit [] = (search arith, ((omega arith, tt), tt))
 path_is circuit (first ∷ more) = (
-  word_of_path,
+  search arith,
   (
     number_word (pos (length (first ∷ more))),
     mapped IsWord (signal_name circuit) (first ∷ more) (signal_word circuit),
@@ -145,21 +93,21 @@ pathed_are circuit (constraint ∷ cycle) (path ∷ paths) =
 shown_are : (version : Version) (circuit : Circuit) (shown : PeriodShow) (paths : List (List ℕ))
     → AreLines (period_show_lines version circuit shown paths)
 shown_are First circuit (Cycle cycle) paths = (
-  (word_of_cycle, (number_word (pos (length cycle)), tt)),
+  (search arith, (number_word (pos (length cycle)), tt)),
   mapped IsLine (line_for circuit) cycle (constraint_is circuit),
 )
-shown_are First circuit Floor paths = ((word_of_floor, tt), tt)
+shown_are First circuit Floor paths = ((search arith, tt), tt)
 shown_are Second circuit (Cycle cycle) paths = (
-  (word_of_cycle, (number_word (pos (length cycle)), tt)),
+  (search arith, (number_word (pos (length cycle)), tt)),
   pathed_are circuit cycle paths,
 )
-shown_are Second circuit Floor paths = ((word_of_floor, tt), tt)
+shown_are Second circuit Floor paths = ((search arith, tt), tt)
 
 -- that of a lead
 lead_is : (circuit : Circuit) (lead : Lead) → IsLine (lead_line circuit lead)
-lead_is circuit Zero = (word_of_lead, ((omega arith, tt), tt))
+lead_is circuit Zero = (search arith, ((omega arith, tt), tt))
 lead_is circuit (Tight depth constraint) = (
-  word_of_lead,
+  search arith,
   (
     number_word (pos depth),
     line_words (line_for circuit constraint)
@@ -181,8 +129,8 @@ register_is circuit report register =
 
 -- the first line
 version_is : (version : Version) → IsLine (version_line version)
-version_is First = ((omega arith, (omega arith, (omega arith, tt))), ((omega arith, tt), tt))
-version_is Second = ((omega arith, (omega arith, (omega arith, tt))), ((omega arith, tt), tt))
+version_is First = search arith
+version_is Second = search arith
 
 -- the line of a count
 count_is : (word : List ℕ) (count : ℕ) → IsWord word → IsLine (count_line word count)
@@ -200,15 +148,14 @@ timing_are circuit report =
       version_is report.version,
       (
         (
-          word_of_period,
+          search arith,
           (fraction_word report.period.num report.period.den, tt),
         ),
         shown_are report.version circuit report.shown report.paths,
       ),
     ) in
     let registers_are : AreLines (count ∷ registers) = (
-      count_is (codes "registers") (length report.schedule.at)
-          word_of_registers,
+      count_is (codes "registers") (length report.schedule.at) (search arith),
       mapped IsLine (register_line_at circuit report)
           (range_with_len 0 (length report.schedule.at)) (register_is circuit report),
     ) in
@@ -219,14 +166,14 @@ timing_are circuit report =
 -- the words for what shows a reach
 show_are : (circuit : Circuit) (show : Show) → AreWords (show_words circuit show)
 show_are circuit (Pair first second) = (
-  (omega arith, (omega arith, (omega arith, (omega arith, tt)))),
+  search arith,
   (register_word circuit first, (register_word circuit second, tt)),
 )
 show_are circuit (Sink register) = (
-  (omega arith, (omega arith, (omega arith, (omega arith, tt)))),
+  search arith,
   (register_word circuit register, tt),
 )
-show_are circuit Root = ((omega arith, (omega arith, (omega arith, (omega arith, tt)))), tt)
+show_are circuit Root = (search arith, tt)
 
 -- the line of a merge
 merge_is : (circuit : Circuit) (report : Report) (place : ℕ)
@@ -250,7 +197,7 @@ merge_is circuit report place =
 -- the line of the source
 source_is : (circuit : Circuit) (report : Report) → IsLine (source_line circuit report)
 source_is circuit report = (
-  word_of_source,
+  search arith,
   (
     quotient_word (number_at report.tree.reach (source_of (length report.schedule.at)))
         report.grid,
@@ -296,21 +243,21 @@ tree_are circuit report =
     let back = source_line circuit report ∷ count_line (codes "nodes") nodes
     ∷ lines_below (node_line_at circuit report) nodes in
     let prefix_are : AreLines prefix = (
-      count_is (codes "merges") merges word_of_merges,
+      count_is (codes "merges") merges (search arith),
       mapped IsLine (merge_line_at circuit report) (range_with_len 0 merges)
           (merge_is circuit report),
     ) in
     let back_are : AreLines back = (
       source_is circuit report,
       (
-        count_is (codes "nodes") nodes word_of_nodes,
+        count_is (codes "nodes") nodes (search arith),
         mapped IsLine (node_line_at circuit report) (range_with_len 0 nodes)
             (node_is circuit report),
       ),
     ) in
     appended IsLine (prefix ++ back) ((codes "wire" ∷ length_text report report.total ∷ []) ∷ [])
     (appended IsLine prefix back prefix_are back_are)
-    ((word_of_wire, (quotient_word report.total report.grid, tt)), tt)
+    ((search arith, (quotient_word report.total report.grid, tt)), tt)
 
 -- the lines of a report are lines
 pub report_lines_are : (circuit : Circuit) (report : Report)

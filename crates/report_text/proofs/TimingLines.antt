@@ -4,8 +4,8 @@ use Rattle.std.proofs.Common.{◌≡◌, ◌<◌, ◌≤◌, ◌-◌, ◌+◌, �
 use Rattle.std.proofs.lemmas.Bool.{false_from_ne_true}
 use Rattle.std.proofs.lemmas.Fmt.{decimal_digit}
 use Rattle.std.proofs.lemmas.Int.{ints}
-use Rattle.std.proofs.lemmas.List.{get_or-map, length-map, map_push, take_more}
-use Rattle.std.proofs.lemmas.List.Elements.{All-cons, All-map, All-nil, All-push}
+use Rattle.std.proofs.lemmas.List.{get_or-map, length-map}
+use Rattle.std.proofs.lemmas.List.Elements.{All-cons, All-nil}
 use Rattle.std.proofs.lemmas.Slice.Eq.{bytes_eq-Decides}
 use Rattle.std.specs.Fmt.{signed_decimal}
 use Rattle.std.specs.List.{AllByRecursion}
@@ -37,13 +37,12 @@ use Rattle.report_text.specs.declared.field.Keyword.TheVariants as word
 use Rattle.report_text.specs.declared.form.Form.TheVariants as form
 use Rattle.report_text.specs.declared.form.Scale.{Scale}
 use Rattle.report_text.specs.declared.timing_values.Timed.{Timed}
-use Rattle.report_text.specs.Fields.{EachWord, LineHasFlaw, NamesSignal}
+use Rattle.report_text.specs.Fields.{EachWord, LineHasFlaw}
 use Rattle.report_text.specs.Forms.{constraint_fields, is_word, register_fields, slack_field}
 use Rattle.report_text.specs.Keywords.{keyword_text}
 use Rattle.report_text.specs.TimingValues.{IsFlawless, DenotesConstraint, DenotesLead, DenotesPath, DenotesPeriod, DenotesShow, NamesSignals}
-use Rattle.report_text.specs.Values.{IsSmallScale}
+use Rattle.report_text.specs.Values.{IsSmallScale, SpellsSignal}
 use Rattle.report_text.specs.Walks.{DenotesTimed, DenotesVersion}
-use Rattle.report_text.proofs.OneField.{one_signals}
 use Rattle.report_text.proofs.SpelledFields.{AreSpelled, IsSmallField, IsSpelled, begins, ends, line_plain, line_spelled, put, small_number, small_slack}
 
 -- ---- the first lines
@@ -557,66 +556,32 @@ path_plain circuit scale (first ∷ more) within few =
 
 -- ---- what is read of a path
 
--- no signals have no names
-pub no_signals : (circuit : Circuit) → NamesSignals circuit [] []
-no_signals circuit = record {
-  names_are = refl;
-  within = λ k d within. absurd (omega (arith, within));
-}
-
--- one more signal
-more_signals : (circuit : Circuit) (names : Words) (signals : List ℕ) (name : List ℕ)
-    (signal : ℕ) → NamesSignals circuit names signals
-    → (signal < length circuit.signals) × (signal_name circuit signal ≡ name)
-    → NamesSignals circuit (names ++ name ∷ []) (signals ++ signal ∷ [])
-more_signals circuit names signals name signal named one = record {
-  names_are = map_push (signal_name circuit) signals signal
-      ∙ ap₂ (λ ns n. ns ++ n ∷ []) named.names_are one.1;
-  within = All-push (λ number. number < length circuit.signals) signals signal named.within one.0;
-}
-
--- the next of some names is known
-pub known_at : {X : Type 0} (name : X → List ℕ) (circuit : Circuit) (items : List X)
-    (place : ℕ) (default : X) → place < length items → All (NamesSignal circuit) (map name items)
-    → NamesSignal circuit (name (get_or items place default))
-known_at name circuit items place default within known =
-    subst (NamesSignal circuit) (get_or-map name items place default (name default) within)
-    (known place (name default) (omega (arith, length-map items name, within)))
-
--- and its signal is one more
-pub next_signal : {X : Type 0} (name : X → List ℕ) (circuit : Circuit) (items : List X)
-    (place : ℕ) (default : X) (signals new : List ℕ) (signal : ℕ) → place < length items
-    → (signal < length circuit.signals)
-    × (signal_name circuit signal ≡ name (get_or items place default))
-    → NamesSignals circuit (map name (take place items)) signals
-    → new ≡ signals ++ signal ∷ []
-    → NamesSignals circuit (map name (take (place + 1) items)) new
-next_signal name circuit items place default signals new signal within one named is =
-    subst (λ ns. NamesSignals circuit ns new)
-    (sym (ap (map name) (take_more items place default within)
-    ∙ map_push name (take place items) (get_or items place default)))
-    (subst (NamesSignals circuit (map name (take place items)
-    ++ name (get_or items place default) ∷ [])) (sym is)
-    (more_signals circuit (map name (take place items)) signals
-    (name (get_or items place default)) signal named one))
-
 -- the words of a path after the second are the names of its signals
-path_names : (circuit : Circuit) (words : Words) (path : List ℕ) → words ≡ path_line circuit path
-    → drop 2 words ≡ map (signal_name circuit) path
-path_names circuit words [] line = ap (drop 2) line
-path_names circuit words (first ∷ more) line = ap (drop 2) line
+pub path_named : (circuit : Circuit) (words : Words) (path : List ℕ)
+    → DenotesPath circuit words path → NamesSignals circuit (drop 2 words) path
+path_named circuit words path says =
+    record { names_are = sym (at path says.line); within = says.signals }
+  where
+    at : (path : List ℕ) → words ≡ path_line circuit path
+        → drop 2 words ≡ map (signal_name circuit) path
+    at [] line = ap (drop 2) line
+    at (first ∷ more) line = ap (drop 2) line
 
-pub path_known : (circuit : Circuit) (words : Words) (path : List ℕ)
-    → DenotesPath circuit words path → All (NamesSignal circuit) (drop 2 words)
-path_known circuit words path says =
-    subst (All (NamesSignal circuit)) (sym (path_names circuit words path says.line))
-    (All-map (NamesSignal circuit) (signal_name circuit) path
-    (λ place default within. (get_or path place default, says.signals place default within, refl)))
-
-pub path_read : (circuit : Circuit) (words : Words) (path read : List ℕ)
-    → DenotesPath circuit words path → NamesSignals circuit (drop 2 words) read
-    → DenotesPath circuit words read
-path_read circuit words path read says named =
-    subst (DenotesPath circuit words)
-    (one_signals circuit path read says.signals named.within
-    (sym (path_names circuit words path says.line) ∙ sym named.names_are)) says
+-- the name at a place of some is that of the signal there
+pub named_at : {X : Type 0} (name : X → List ℕ) (circuit : Circuit) (items : List X)
+    (path : List ℕ) (place : ℕ) (default : X) → place < length items
+    → NamesSignals circuit (map name items) path
+    → SpellsSignal circuit (name (get_or items place default)) (get_or path place 0)
+named_at name circuit items path place default within named =
+    let long : length path ≡ length items = omega (
+      arith,
+      length-map path (signal_name circuit),
+      ap (λ (l : Words). length l) named.names_are,
+      length-map items name,
+    ) in
+    let there : place < length path = omega (arith, long, within) in (
+      named.within place 0 there,
+      sym (get_or-map (signal_name circuit) path place 0 [] there)
+          ∙ ap (λ (l : Words). get_or l place []) named.names_are
+          ∙ get_or-map name items place default [] within,
+    )

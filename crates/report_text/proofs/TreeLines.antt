@@ -26,11 +26,10 @@ use Rattle.report_text.specs.declared.form.Scale.{Scale}
 use Rattle.report_text.specs.declared.tree_values.MergeLine.{MergeLine}
 use Rattle.report_text.specs.declared.tree_values.NodeLine.{NodeLine}
 use Rattle.report_text.specs.declared.tree_values.SourceLine.{SourceLine}
-use Rattle.report_text.specs.Fields.{EachWord, LineHasFlaw, NamesRegister}
+use Rattle.report_text.specs.Fields.{EachWord, LineHasFlaw}
 use Rattle.report_text.specs.Forms.{has_points, is_word, length_field, merge_fields, node_fields, pointed_fields, points_of, total_fields}
 use Rattle.report_text.specs.TimingValues.{IsFlawless}
-use Rattle.report_text.specs.Values.{HasCorners, IsLengthWord, IsSinkOf, IsSmallScale, SaysMerge, SaysNode, SaysSource, SaysTotal, SaysWire, SpellsPoint, SpellsSteps, coordinates, merged_line, placed_line, sourced_line}
-use Rattle.report_text.proofs.OneName.{one_register}
+use Rattle.report_text.specs.Values.{HasCorners, IsLengthWord, IsSmallScale, SaysMerge, SaysNode, SaysSource, SaysTotal, SaysWire, SpellsPoint, SpellsRegister, SpellsSteps, coordinates, merged_line, placed_line, sourced_line}
 use Rattle.report_text.proofs.WordBytes.{both}
 use Rattle.report_text.proofs.RegisterNames.{named_register}
 use Rattle.report_text.proofs.SpelledFields.{AreSpelled, IsSmallField, IsSpelled, begins, ends, line_plain, line_spelled, put, size_below, steps_same, word_is}
@@ -220,25 +219,11 @@ source_plain circuit scale words line small says =
         (tt, (small_length scale small, (tt, tt)))
         (refl, ((line.reach, says.reach, refl), (refl, tt)))
 
--- the register that shows the source, where the root doesn't
-pub sink_named : (circuit : Circuit) (grid : ℤ) (words : Words) (line : SourceLine)
-    → SaysSource circuit grid words line → is_word words 2 word.Root ≡ false
-    → NamesRegister circuit (get_or words 3 [])
-sink_named circuit grid words line says none = at line.show says.show says.among says.words_are
-  where
-    at : (show : Show) → IsSourceShow show → ShowsAmong (length circuit.registers) show
-        → words ≡ sourced_line circuit grid (record { reach = line.reach; show = show })
-        → NamesRegister circuit (get_or words 3 [])
-    at (Pair left right) is among are = absurd is
-    at (Sink register) is among are = (register, among, sym (word_is 3 refl are))
-    at Root is among are =
-        let root = sym (ap (λ (w : Words). is_word w 2 word.Root) are) in
-        let bad : true ≡ false = root ∙ none in cc
-
 -- what is read for what shows it
 pub show_same : (circuit : Circuit) (grid : ℤ) (words : Words) (line : SourceLine) (read : Show)
     → SaysSource circuit grid words line → (is_word words 2 word.Root ≡ true → read ≡ Root)
-    → (is_word words 2 word.Root ≡ false → IsSinkOf circuit (get_or words 3 []) read)
+    → ((register : ℕ) → is_word words 2 word.Root ≡ false
+    → SpellsRegister circuit (get_or words 3 []) register → read ≡ Sink register)
     → line.show ≡ read
 show_same circuit grid words line read says root sink =
     at line.show says.show says.among says.words_are
@@ -247,11 +232,8 @@ show_same circuit grid words line read says root sink =
         → words ≡ sourced_line circuit grid (record { reach = line.reach; show = show })
         → show ≡ read
     at (Pair left right) is among are = absurd is
-    at (Sink register) is among are =
-        let (other, same, (within, name)) = sink (ap (λ (w : Words). is_word w 2 word.Root) are) in
-        let one = one_register circuit register other among within
-        (sym (word_is 3 refl are) ∙ sym name) in
-        ap Sink one ∙ sym same
+    at (Sink register) is among are = sym (sink register
+        (ap (λ (w : Words). is_word w 2 word.Root) are) (among, sym (word_is 3 refl are)))
     at Root is among are = sym (root (ap (λ (w : Words). is_word w 2 word.Root) are))
 
 -- ---- a node

@@ -6,13 +6,11 @@ use Rattle.cts_base.specs.Fractions.{HasSizeBelow, quotient_text}
 use Rattle.cts_model.specs.declared.circuit.Circuit.{Circuit}
 use Rattle.cts_model.specs.declared.place.Point.{Point}
 use Rattle.cts_model.specs.declared.tree.Wire.{Wire}
-use Rattle.cts_model.specs.declared.tree.Show.{Show}
-use Rattle.cts_model.specs.declared.tree.Show.TheVariants.{Sink}
 use Rattle.cts_model.specs.netlist.Paths.{register_name}
 use Rattle.cts_model.specs.placement.Points.{IsBelow, IsPointBelow}
 use Rattle.cts_model.specs.text.PrintedLines.{Words}
 use Rattle.cts_model.specs.report.ReportBounds.{IsMergeShow, IsSmallMerge, IsSmallWire, IsSourceShow, ShowsAmong}
-use Rattle.cts_model.specs.report.ReportLines.{origin, show_words}
+use Rattle.cts_model.specs.report.ReportLines.{origin, show_words, signal_name}
 use Rattle.report_text.specs.declared.form.Scale.{Scale}
 use Rattle.report_text.specs.Forms.{points_of}
 use Rattle.report_text.specs.declared.tree_values.MergeLine.{MergeLine}
@@ -32,10 +30,10 @@ abbrev pub SpellsRegister : Circuit → List ℕ → ℕ → Type 0
 SpellsRegister circuit word register =
     (register < length circuit.registers) × (register_name circuit register ≡ word)
 
--- the show is of the sink that the word names
-abbrev pub IsSinkOf : Circuit → List ℕ → Show → Type 0
-IsSinkOf circuit word show =
-    (register : ℕ) × (show ≡ Sink register) × SpellsRegister circuit word register
+-- the word is the name of that signal
+abbrev pub SpellsSignal : Circuit → List ℕ → ℕ → Type 0
+SpellsSignal circuit word number =
+    (number < length circuit.signals) × (signal_name circuit number ≡ word)
 
 -- there are steps, and few enough for their words
 pub record IsSmallScale (scale : Scale) : Type 0 where

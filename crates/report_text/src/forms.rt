@@ -220,7 +220,6 @@ fn has_points(words: usize, points: usize) -> bool
 
 // The fields of a node whose edge has so many points.
 fn node_fields(alloc: Global, scale: Scale, node: u32, points: u32) -> Result<Vec<Field>, NoMemory>
-    requires { points < 6 }
     ensures { IfOk result (λ fields. fields.items ≡ node_fields scale node points) }
 {
     let length = length_field(scale);

@@ -1,16 +1,14 @@
 //! The numbers of registers and signals whose names are known.
 
-ghost use Rattle.std.specs.Prelude.{◌≡◌, ◌<◌, length};
-ghost use Rattle.cts_model.specs.report.ReportLines.{signal_name};
-ghost use Rattle.report_text.specs.Fields.{NamesRegister, NamesSignal};
-ghost use Rattle.report_text.specs.Values.{SpellsRegister};
+ghost use Rattle.std.specs.Prelude.{◌≡◌, ℕ};
+ghost use Rattle.report_text.specs.Values.{SpellsRegister, SpellsSignal};
 
 use crate::rules::Rules;
 
 /// The number of the register of a name that is known.
 pub(crate) fn known_register(rules: &Rules, name: &[u8]) -> u32
-    requires { NamesRegister rules.now.circuit.now name.now }
-    ensures { SpellsRegister rules.now.circuit.now name.now result }
+    ensures { (register : ℕ) → SpellsRegister rules.now.circuit.now name.now register
+        → result ≡ register }
 {
     match rules.register(name) {
         Some(register) => register,
@@ -20,9 +18,8 @@ pub(crate) fn known_register(rules: &Rules, name: &[u8]) -> u32
 
 /// The number of the signal of a name that is known.
 pub(crate) fn known_signal(rules: &Rules, name: &[u8]) -> u32
-    requires { NamesSignal rules.now.circuit.now name.now }
-    ensures { (result < length rules.now.circuit.now.signals)
-        × (signal_name rules.now.circuit.now result ≡ name.now) }
+    ensures { (number : ℕ) → SpellsSignal rules.now.circuit.now name.now number
+        → result ≡ number }
 {
     match rules.signal(name) {
         Some(number) => number,

@@ -178,24 +178,11 @@ pub fn push_register(
         schedule.now.den register (arrival_of schedule.now.at register) slack)) }
 {
     out.extend_from_slice(circuit.register_name(register))?;
-    push_arrival(out, schedule, register)?;
+    out.push(b' ')?;
+    push_quotient(out, schedule.at.as_slice()[register], schedule.den)?;
     push_slack(out, slack.setup)?;
     push_slack(out, slack.hold)?;
     out.push(b'\n')?;
-    Ok(())
-}
-
-// Appends an arrival in ticks after other words.
-fn push_arrival(out: &mut Vec<u8>, schedule: &Schedule, register: usize) -> Result<(), NoMemory>
-    requires within { register < length schedule.now.at }
-    requires some_den { pos 1 ≤ℤ schedule.now.den }
-    requires small_den { HasSizeBelow (10 ^ 37) schedule.now.den }
-    requires small { HasSizeBelow (10 ^ 37) (arrival_of schedule.now.at register) }
-    ensures { OnOk result (out.new.items ≡ out.old.items ++ suffix
-        (quotient_text (arrival_of schedule.now.at register) schedule.now.den ∷ [])) }
-{
-    out.push(b' ')?;
-    push_quotient(out, schedule.at.as_slice()[register], schedule.den)?;
     Ok(())
 }
 

@@ -1,6 +1,6 @@
 //! What the lines of a report's timing say.
 
-ghost use Rattle.std.specs.Prelude.{◌≡◌, ◌^◌, ◌<◌, ◌≤ℤ◌, ℤ, pos, All, IfOk, Option, codes, length, map};
+ghost use Rattle.std.specs.Prelude.{◌≡◌, ◌^◌, ◌<◌, ◌≤ℤ◌, ℕ, ℤ, pos, IfOk, List, Option, codes, length, map};
 ghost use Rattle.std.specs.Str.{bytes_eq};
 ghost use Rattle.cts_base.specs.declared.fraction.Fraction as fractions;
 ghost use Rattle.cts_base.specs.Fractions.{HasSizeBelow, fraction_text};
@@ -8,7 +8,6 @@ ghost use Rattle.cts_base.specs.NumberTexts.{SpellsWhole, HaveSmallSizes};
 ghost use Rattle.cts_model.specs.text.PrintedLines.{slack_text};
 ghost use Rattle.cts_model.specs.timing.Slacks.{IsSmallSlack};
 ghost use Rattle.report_text.specs.declared.form.Form.TheVariants as form;
-ghost use Rattle.report_text.specs.Fields.{NamesSignal};
 ghost use Rattle.report_text.specs.TimingValues.{IsFlawless, DenotesPeriod, DenotesShow, DenotesConstraint, DenotesPath, NamesSignals, DenotesLead};
 ghost use Rattle.report_text.specs.Walks.{DenotesTimed, DenotesVersion};
 
@@ -187,9 +186,9 @@ impl Line for PathLine {
 
 // The signals of these names.
 fn signals_of(rules: &Rules, words: &[&[u8]]) -> Result<Listed<u32>, NoMemory>
-    requires { All (NamesSignal rules.now.circuit.now) (map (λ word. word.now) words.now) }
-    ensures { IfOk result
-        (NamesSignals rules.now.circuit.now (map (λ word. word.now) words.now)) }
+    ensures { IfOk result (λ signals.
+        (path : List ℕ) → NamesSignals rules.now.circuit.now (map (λ word. word.now) words.now) path
+        → signals ≡ path) }
 {
     let mut path = Listed::new(rules.alloc);
     for word in words {

@@ -5,9 +5,8 @@ ghost use Rattle.cts_model.specs.declared.tree.Show.TheVariants as show;
 ghost use Rattle.report_text.specs.declared.field.Keyword.TheVariants as word;
 ghost use Rattle.report_text.specs.declared.form.Form.TheVariants as form;
 ghost use Rattle.report_text.specs.declared.form.Scale as scales;
-ghost use Rattle.report_text.specs.Fields.{NamesRegister};
 ghost use Rattle.report_text.specs.Forms.{is_word, points_of};
-ghost use Rattle.report_text.specs.Values.{HasCorners, IsCorner, IsLengthWord, IsSinkOf, SaysMerge, SaysNode, SaysSource, SaysTotal, SaysWire, SpellsPoint, SpellsSteps};
+ghost use Rattle.report_text.specs.Values.{HasCorners, IsCorner, IsLengthWord, SaysMerge, SaysNode, SaysSource, SaysTotal, SaysWire, SpellsPoint, SpellsRegister, SpellsSteps};
 
 use crate::field::Keyword;
 use crate::form::Form;
@@ -81,12 +80,11 @@ impl Line for SourceLine {
 
 // What shows the source's reach.
 fn source_show(rules: &Rules, words: &[&[u8]]) -> Show
-    requires { is_word (map (λ word. word.now) words.now) 2 word.Root ≡ false
-        → NamesRegister rules.now.circuit.now (get_or (map (λ word. word.now) words.now) 3 []) }
     ensures root { is_word (map (λ word. word.now) words.now) 2 word.Root ≡ true
         → result ≡ show.Root }
-    ensures sink { is_word (map (λ word. word.now) words.now) 2 word.Root ≡ false
-        → IsSinkOf rules.now.circuit.now (get_or (map (λ word. word.now) words.now) 3 []) result }
+    ensures sink { (register : ℕ) → is_word (map (λ word. word.now) words.now) 2 word.Root ≡ false
+        → SpellsRegister rules.now.circuit.now (get_or (map (λ word. word.now) words.now) 3 [])
+        register → result ≡ show.Sink register }
 {
     if is_word(words, 2, Keyword::Root) {
         return Show::Root;
@@ -168,7 +166,8 @@ fn corner_at(rules: &Rules, words: &[&[u8]], place: usize) -> Point
 // The point that the words at a place and after it tell.
 fn point_at(rules: &Rules, words: &[&[u8]], place: usize) -> Point
     requires place { place ≤ 13 }
-    requires x { IsLengthWord rules.now.scale.grid (get_or (map (λ word. word.now) words.now) place []) }
+    requires x { IsLengthWord rules.now.scale.grid
+        (get_or (map (λ word. word.now) words.now) place []) }
     requires y { IsLengthWord rules.now.scale.grid
         (get_or (map (λ word. word.now) words.now) (place + 1) []) }
     ensures { SpellsPoint rules.now.scale.grid (get_or (map (λ word. word.now) words.now) place [])

@@ -8,6 +8,7 @@ ghost use Rattle.report_text.specs.JudgedFractions.{IsNegativeQuotient, HasSteps
 use crate::field::{Flaw, Keyword};
 use crate::judging::keyword::is_word;
 use crate::judging::large_flaw;
+use crate::number::steps_each;
 use cts_base::{Fraction, NumberFault, Quotient, read_fraction, read_quotient};
 
 /// What is wrong with a word that is to be a period.
@@ -92,13 +93,6 @@ fn divides(fraction: Fraction, over: i128) -> bool
     ensures { IsTrue result ↔ (int_rem over fraction.den ≡ pos 0) }
 {
     over % fraction.den() == 0
-}
-
-// A number over the denominator.
-fn steps_each(fraction: Fraction, over: i128) -> i128
-    ensures { result ≡ int_div over fraction.den }
-{
-    over / fraction.den()
 }
 
 // Whether the numerator times a number over the denominator is below the bound in size.

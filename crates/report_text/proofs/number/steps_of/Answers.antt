@@ -1,41 +1,25 @@
-use Rattle.std.proofs.Common.{FitsSigned, to_z, of_z, Ok, Err, sym, subst}
+use Rattle.std.proofs.Common.{◌^◌, ◌<ℤ◌, neg_ℤ, pos, Ok, Err, sym, ap, ◌∙◌, subst}
 use mir.Syntax.{w128}
-use Rattle.cts_base.proofs.FractionReading.{held_same}
-use Rattle.report_text.specs.Values.{SpellsSteps}
-use Rattle.report_text.proofs.NumberWords.{fits, steps_computed, steps_read, quotient_fits}
+use Rattle.std.proofs.lemmas.Int.{to_z-of_z}
+use Rattle.std.specs.Int.RustNames.{int_div}
+use Rattle.report_text.proofs.NumberWords.{steps_read}
 use Rattle.report_text.proofs.number.steps_of.Goals as goal
 
-pub nonzero_div-result : goal.nonzero_div-result
-nonzero_div-result c =
-    let (steps, spells) = c.requires.word in
-    let (small_den, small_num, back) = steps_read c.args.word.now c.args.over steps
-    (Ok c.in-Ok.fraction) c.requires.some c.requires.small spells c.in-Ok.ensures.spelled in
-    quotient_fits c.args.over c.in-Ok.fraction.den c.den.result c.requires.small small_den
-    c.in-Ok.fraction.lowest.some_den c.den.ensures.value
-
-pub overflow_mul-result : goal.overflow_mul-result
-overflow_mul-result c =
-    let (steps, spells) = c.requires.word in
-    let (small_den, small_num, back) = steps_read c.args.word.now c.args.over steps
-    (Ok c.in-Ok.fraction) c.requires.some c.requires.small spells c.in-Ok.ensures.spelled in
-    subst (FitsSigned w128) (sym (steps_computed c.args.over steps c.in-Ok.fraction.num
-    c.in-Ok.fraction.den c.num.result c.den.result c.requires.small small_num small_den
-    c.in-Ok.fraction.lowest.some_den back c.num.ensures.value c.den.ensures.value))
-    (fits steps spells.0)
-
 pub returns-in-Ok : goal.returns-in-Ok
-returns-in-Ok c =
-    let (steps, spells) = c.requires.word in
+returns-in-Ok c steps some small spells =
     let (small_den, small_num, back) = steps_read c.args.word.now c.args.over steps
-    (Ok c.in-Ok.fraction) c.requires.some c.requires.small spells c.in-Ok.ensures.spelled in
-    subst (λ n. SpellsSteps c.args.over c.args.word.now (to_z w128 (of_z w128 n)))
-    (sym (steps_computed c.args.over steps c.in-Ok.fraction.num
-    c.in-Ok.fraction.den c.num.result c.den.result c.requires.small small_num small_den
-    c.in-Ok.fraction.lowest.some_den back c.num.ensures.value c.den.ensures.value))
-    (subst (SpellsSteps c.args.over c.args.word.now) (sym (held_same steps spells.0)) spells)
+    (Ok c.in-Ok.fraction) some small spells c.in-Ok.ensures.spelled in
+    let num = to_z-of_z w128 c.num.result (record { sfits = c.num.type_inv })
+    ∙ c.num.ensures.value in
+    let times = to_z-of_z w128 c.steps_each.result (record { sfits = c.steps_each.type_inv })
+    ∙ c.steps_each.ensures
+    ∙ ap (λ o. int_div o c.in-Ok.fraction.den) (to_z-of_z w128 c.args.over c.ranges.over) in
+    let product = rw (num, times) at c.product_of.ensures in
+    to_z-of_z w128 c.product_of.result (record { sfits = c.product_of.type_inv })
+    ∙ product (subst (λ n. neg_ℤ (pos (10 ^ 37)) <ℤ n) (sym back) spells.0.above)
+    (subst (λ n. n <ℤ pos (10 ^ 37)) (sym back) spells.0.below) ∙ back
 
 pub returns-in-Err : goal.returns-in-Err
-returns-in-Err c =
-    let (steps, spells) = c.requires.word in
-    absurd (steps_read c.args.word.now c.args.over steps
-    (Err c.in-Err.field-0) c.requires.some c.requires.small spells c.in-Err.ensures.spelled)
+returns-in-Err c steps some small spells =
+    absurd (steps_read c.args.word.now c.args.over steps (Err c.in-Err.field-0) some small spells
+    c.in-Err.ensures.spelled)

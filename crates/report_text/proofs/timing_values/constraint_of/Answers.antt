@@ -3,34 +3,19 @@ use mir.Syntax.{w128}
 use Rattle.std.specs.Str.{bytes_eq}
 use Rattle.cts_base.specs.NumberTexts.{SpellsWhole}
 use Rattle.report_text.proofs.NumberWords.{spelled_whole}
-use Rattle.report_text.proofs.OneName.{one_register}
 use Rattle.report_text.proofs.SpelledFields.{number_kept, size_below, word_is}
 use Rattle.report_text.proofs.TimingLines.{constraint_parts, constraint_read}
 use Rattle.report_text.proofs.timing_values.constraint_of.Goals as goal
-
-pub known_register-launch-requires : goal.known_register-launch-requires
-known_register-launch-requires c =
-    let found = constraint_parts c.args.rules.now.circuit.now c.args.rules.now.scale
-    (map (λ word. word.now) c.args.words.now) c.requires in
-    (found.launch, found.launches, sym (word_is 1 c.word_at.ensures found.line))
-
-pub known_register-capture-requires : goal.known_register-capture-requires
-known_register-capture-requires c =
-    let found = constraint_parts c.args.rules.now.circuit.now c.args.rules.now.scale
-    (map (λ word. word.now) c.args.words.now) c.requires in
-    (found.capture, found.captures, sym (word_is 2 c.word_at-2.ensures found.line))
 
 pub returns-then-is_setup : goal.returns-then-is_setup
 returns-then-is_setup c =
     let circuit = c.args.rules.now.circuit.now in
     let found = constraint_parts circuit c.args.rules.now.scale
     (map (λ word. word.now) c.args.words.now) c.requires in
-    let launch = one_register circuit found.launch c.known_register-launch.result found.launches
-    c.known_register-launch.ensures.0
-    (sym (word_is 1 c.word_at.ensures found.line) ∙ sym c.known_register-launch.ensures.1) in
-    let capture = one_register circuit found.capture c.known_register-capture.result found.captures
-    c.known_register-capture.ensures.0
-    (sym (word_is 2 c.word_at-2.ensures found.line) ∙ sym c.known_register-capture.ensures.1) in
+    let launch = sym (c.known_register-launch.ensures found.launch
+    (found.launches, sym (word_is 1 c.word_at.ensures found.line))) in
+    let capture = sym (c.known_register-capture.ensures found.capture
+    (found.captures, sym (word_is 2 c.word_at-2.ensures found.line))) in
     let small = size_below (10 ^ 12) found.weight (omega arith) found.small in
     let weight = number_kept found.weight c.weight_of-weight.result small
     (c.weight_of-weight.ensures found.weight (subst (λ w. SpellsWhole w found.weight)
@@ -44,12 +29,10 @@ returns-else-is_setup c =
     let circuit = c.args.rules.now.circuit.now in
     let found = constraint_parts circuit c.args.rules.now.scale
     (map (λ word. word.now) c.args.words.now) c.requires in
-    let launch = one_register circuit found.launch c.known_register-launch.result found.launches
-    c.known_register-launch.ensures.0
-    (sym (word_is 1 c.word_at.ensures found.line) ∙ sym c.known_register-launch.ensures.1) in
-    let capture = one_register circuit found.capture c.known_register-capture.result found.captures
-    c.known_register-capture.ensures.0
-    (sym (word_is 2 c.word_at-2.ensures found.line) ∙ sym c.known_register-capture.ensures.1) in
+    let launch = sym (c.known_register-launch.ensures found.launch
+    (found.launches, sym (word_is 1 c.word_at.ensures found.line))) in
+    let capture = sym (c.known_register-capture.ensures found.capture
+    (found.captures, sym (word_is 2 c.word_at-2.ensures found.line))) in
     let small = size_below (10 ^ 12) found.weight (omega arith) found.small in
     let weight = number_kept found.weight c.weight_of-weight.result small
     (c.weight_of-weight.ensures found.weight (subst (λ w. SpellsWhole w found.weight)

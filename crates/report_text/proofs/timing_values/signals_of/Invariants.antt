@@ -1,8 +1,9 @@
-use Rattle.std.proofs.Common.{map, take}
+use Rattle.std.proofs.Common.{◌≡◌, List, ℕ, map, take}
 use Rattle.report_text.specs.TimingValues.{NamesSignals}
 use Rattle.report_text.proofs.timing_values.signals_of.Given as goal
 
--- the signals of the names so far
+-- the first signals of those that have the names
 abbrev pub invariant-loop-word : goal.invariant-loop-word
-invariant-loop-word l =
-    NamesSignals l.rules.circuit.now (map (λ word. word.now) (take l.word-index l.words)) l.path
+invariant-loop-word l = (path : List ℕ)
+    → NamesSignals l.rules.circuit.now (map (λ word. word.now) l.words) path
+    → l.path ≡ take l.word-index path

@@ -1,7 +1,6 @@
-use Rattle.std.proofs.Common.{◌^◌, Bor, List, ℕ, map, sym, ◌∙◌, subst, arith}
+use Rattle.std.proofs.Common.{◌^◌, Bor, List, ℕ, map, sym, subst, arith}
 use Rattle.cts_model.specs.declared.tree.Show.TheVariants.{Pair}
 use Rattle.report_text.specs.Values.{SaysMerge}
-use Rattle.report_text.proofs.OneName.{one_register}
 use Rattle.report_text.proofs.SpelledFields.{number_same, steps_kept, word_is}
 use Rattle.report_text.proofs.TreeLines.{length_spelled, merge_found}
 use Rattle.report_text.proofs.tree_values.MergeLineLine.of.Goals as goal
@@ -31,20 +30,6 @@ length_of-reach-requires c =
     (line.reach, length_spelled scale.grid (10 ^ 32) c.word_at-3.result.now line.reach (omega arith)
     line.says.reach (word_is 3 c.word_at-3.ensures line.says.words_are))
 
-pub known_register-left-requires : goal.known_register-left-requires
-known_register-left-requires c =
-    let line = merge_found c.args.rules.now.circuit.now c.args.rules.now.scale c.args._number
-    (map (λ word. word.now) c.args.words.now) c.args.rules.now.small (omega arith)
-    c.requires.flawless in
-    (line.left, line.says.among.0, sym (word_is 5 c.word_at-4.ensures line.says.words_are))
-
-pub known_register-right-requires : goal.known_register-right-requires
-known_register-right-requires c =
-    let line = merge_found c.args.rules.now.circuit.now c.args.rules.now.scale c.args._number
-    (map (λ word. word.now) c.args.words.now) c.args.rules.now.small (omega arith)
-    c.requires.flawless in
-    (line.right, line.says.among.1, sym (word_is 6 c.word_at-5.ensures line.says.words_are))
-
 pub returns : goal.returns
 returns c =
     let circuit = c.args.rules.now.circuit.now in
@@ -64,14 +49,12 @@ returns c =
     small.some_grid small.small_grid (length_spelled scale.grid (10 ^ 32) c.word_at-3.result.now
     line.reach (omega arith) line.says.reach (word_is 3 c.word_at-3.ensures are))
     c.length_of-reach.ensures in
-    let left = one_register circuit line.left c.known_register-left.result line.says.among.0
-    c.known_register-left.ensures.0
-    (sym (word_is 5 c.word_at-4.ensures are) ∙ sym c.known_register-left.ensures.1) in
-    let right = one_register circuit line.right c.known_register-right.result line.says.among.1
-    c.known_register-right.ensures.0
-    (sym (word_is 6 c.word_at-5.ensures are) ∙ sym c.known_register-right.ensures.1) in
+    let left = c.known_register-left.ensures line.left
+    (line.says.among.0, sym (word_is 5 c.word_at-4.ensures are)) in
+    let right = c.known_register-right.ensures line.right
+    (line.says.among.1, sym (word_is 6 c.word_at-5.ensures are)) in
     subst (SaysMerge circuit scale.grid c.args._number words) (λ i. record {
       merge = record { first = first i; second = second i };
       reach = reach i;
-      show = Pair (left i) (right i);
+      show = Pair (sym left i) (sym right i);
     }) line.says

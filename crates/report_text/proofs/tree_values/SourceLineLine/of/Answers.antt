@@ -1,7 +1,7 @@
 use Rattle.std.proofs.Common.{◌^◌, Bor, List, ℕ, map, subst, arith}
 use Rattle.report_text.specs.Values.{SaysSource}
 use Rattle.report_text.proofs.SpelledFields.{steps_kept, word_is}
-use Rattle.report_text.proofs.TreeLines.{length_spelled, show_same, sink_named, source_found}
+use Rattle.report_text.proofs.TreeLines.{length_spelled, show_same, source_found}
 use Rattle.report_text.proofs.tree_values.SourceLineLine.of.Goals as goal
 
 pub length_of-reach-requires : goal.length_of-reach-requires
@@ -11,14 +11,6 @@ length_of-reach-requires c =
     (map (λ word. word.now) c.args.words.now) rules.small c.requires.flawless in
     (line.reach, length_spelled rules.scale.grid (10 ^ 32) c.word_at.result.now line.reach
     (omega arith) says.reach (word_is 1 c.word_at.ensures says.words_are))
-
-pub source_show-show-requires : goal.source_show-show-requires
-source_show-show-requires c test =
-    let rules = c.args.rules.now in
-    let words = map (λ (word : Bor (List ℕ)). word.now) c.args.words.now in
-    let (line, says) = source_found rules.circuit.now rules.scale words rules.small
-    c.requires.flawless in
-    sink_named rules.circuit.now rules.scale.grid words line says test
 
 pub returns : goal.returns
 returns c =
