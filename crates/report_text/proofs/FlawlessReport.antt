@@ -1,5 +1,5 @@
 -- The lines of a report within its bounds have no flaw by the forms that are due.
-use Rattle.std.proofs.Common.{◌≡◌, ◌<◌, ◌≤◌, ◌+◌, ◌-◌, ◌*◌, ◌^◌, ℕ, zero, suc, pos, Bool, true, false, cond, List, [], ◌∷◌, ◌++◌, All, None, map, replicate, get_or, length, codes, refl, sym, ap, ◌∙◌, subst, append_assoc, arith}
+use Rattle.std.proofs.Common.{◌≡◌, ◌<◌, ◌≤◌, ◌+◌, ◌-◌, ◌*◌, ◌^◌, ℕ, zero, suc, pos, List, [], ◌∷◌, ◌++◌, All, None, map, replicate, get_or, length, codes, refl, sym, ap, ◌∙◌, subst, append_assoc, arith}
 use Rattle.std.proofs.lemmas.Int.{ints}
 use Rattle.std.proofs.lemmas.List.{get_or-drop, get_or-take, length-drop, length-take}
 use Rattle.std.specs.List.{range_with_len}
@@ -13,7 +13,6 @@ use Rattle.cts_model.specs.declared.report.Version.TheVariants.{First, Second}
 use Rattle.cts_model.specs.declared.schedule.Lead.{Lead}
 use Rattle.cts_model.specs.declared.tech.Tech.{Tech}
 use Rattle.cts_model.specs.declared.tree.Show.TheVariants.{Root}
-use Rattle.cts_model.specs.netlist.Circuits.{has_host}
 use Rattle.cts_model.specs.text.PrintedLines.{Words, count_line, line_for, period_line, register_line}
 use Rattle.cts_model.specs.report.ReportBounds.{IsBetweenRegisters, ShowsPeriodAmong, LeadsAmong, HasSmallWeight, HasSmallWeights, IsSmallLead, IsSourceShow, IsMergeShow, IsOfSize, IsWithinBounds, cycle_length, count_in}
 use Rattle.cts_model.specs.report.ReportLines.{length_text, lead_line, lines_below, merge_line_at, no_wire, node_line_at, number_at, origin, pathed_lines, period_show_lines, register_line_at, report_lines, source_line, version_line}
@@ -32,6 +31,7 @@ use Rattle.report_text.specs.Values.{IsSmallScale}
 use Rattle.cts_model.specs.text.PrintedLines.{text_of}
 use Rattle.report_text.proofs.GridLemmas.{grid_bounds}
 use Rattle.report_text.proofs.LineReading.{line_passed}
+use Rattle.report_text.proofs.OneName.{few_registers}
 use Rattle.report_text.proofs.ReportWords.{AreLines}
 use Rattle.report_text.proofs.TimingLines.{constraint_plain, count_plain, cycle_plain, floor_plain, lead_plain, path_plain, period_plain, register_plain, version_plain}
 use Rattle.report_text.proofs.TreeLines.{merge_plain, node_plain, source_plain, total_plain}
@@ -202,11 +202,7 @@ module _ (circuit : Circuit) (tech : Tech) (report : Report) (size : IsOfSize ci
   count = length circuit.registers
 
   few : count ≤ 4097
-  few = at (has_host circuit.signals) circuit.valid.few_registers
-    where
-      at : (host : Bool) → count ≤ 4096 + cond host 1 0 → count ≤ 4097
-      at true few = omega (arith, few)
-      at false few = omega (arith, few)
+  few = few_registers circuit
 
   small : IsSmallScale scale
   small =

@@ -1,5 +1,5 @@
 -- Each word has a flaw by its field or has none, and so each line has.
-use Rattle.std.proofs.Common.{◌≡◌, ◌↔◌, ◌⊎◌, ◌^◌, ℕ, ℤ, pos, negsuc, ◌≤ℤ◌, ◌<ℤ◌, ◌+ℤ◌, ◌*ℤ◌, Bool, true, false, true≢false, IsTrue, inl, inr, List, [], ◌∷◌, Option, Some, None, codes, refl, sym, subst, ◌∙◌, arith}
+use Rattle.std.proofs.Common.{◌≡◌, ◌↔◌, ◌⊎◌, ◌^◌, ℕ, ℤ, pos, ◌≤ℤ◌, ◌<ℤ◌, ◌+ℤ◌, ◌*ℤ◌, Bool, true, false, true≢false, IsTrue, inl, inr, List, [], ◌∷◌, Option, Some, None, codes, refl, sym, subst, ◌∙◌, arith}
 use Rattle.std.specs.Int.RustNames.{int_div, int_rem}
 use Rattle.std.specs.List.{position}
 use Rattle.std.specs.Str.{bytes_eq}
@@ -7,8 +7,7 @@ use Rattle.std.proofs.lemmas.Bool.{cases_lt}
 use Rattle.std.proofs.lemmas.Int.{ints, by_lt_z}
 use Rattle.cts_base.specs.Fractions.{HasSizeBelow, IsLowest}
 use Rattle.cts_base.specs.NumberTexts.{HaveSmallSizes, SpellsQuotient, SpellsWhole}
-use Rattle.cts_base.proofs.OneNumberText.{slash_differs}
-use Rattle.cts_base.proofs.OneSpelling.{one_quotient, one_whole, plain_no_minus}
+use Rattle.cts_base.proofs.OneSpelling.{one_quotient, one_whole}
 use Rattle.cts_model.specs.declared.circuit.Circuit.{Circuit}
 use Rattle.cts_model.specs.netlist.Paths.{register_name}
 use Rattle.report_text.specs.declared.field.Field.{Field}
@@ -25,6 +24,7 @@ use Rattle.report_text.proofs.FlawLemmas.{sooner_of}
 use Rattle.report_text.proofs.FractionFlaws.{negative_refused, period_refused, period_denoted, slack_denoted, steps_fit, steps_refused, steps_denoted, steps_unfit}
 use Rattle.report_text.proofs.NameNumbers.{register_denoted, signal_denoted}
 use Rattle.report_text.proofs.OneName.{one_register}
+use Rattle.report_text.proofs.SpelledFields.{no_quotient_dash}
 use Rattle.report_text.proofs.SpelledNumbers.{OrNot, fraction_or_not, quotient_or_not, same_text, same_whole, size_or_not, whole_or_not}
 
 module _ (circuit : Circuit) where
@@ -242,21 +242,11 @@ module _ (circuit : Circuit) where
             period_denoted text num den spells small lowest positive within is circuit,
           )
 
-  -- a minus alone is no number and no quotient
-  no_whole_minus : (value : ℤ) → SpellsWhole (codes "-") value → ⊥
-  no_whole_minus (pos number) spells = plain_no_minus (codes "-") spells.0 refl
-  no_whole_minus (negsuc less) spells = omega (arith, spells.1.0.0.0)
-
-  no_quotient_minus : (num den : ℤ) → SpellsQuotient (codes "-") num den → ⊥
-  no_quotient_minus num den (inl one) = no_whole_minus num one.1
-  no_quotient_minus num den (inr (some, (prefix, back, split, above, below))) =
-      slash_differs (codes "-") prefix back ((λ is. omega (arith, is)), tt) split
-
   slack_judged : (over bound : ℤ) (text : List ℕ) → Judged (field.Slack over bound) text
   slack_judged over bound text = elim (same_text text (codes "-")) [
     | inl dash ↦
         let none = subst (λ (t : List ℕ). (num den : ℤ) → SpellsQuotient t num den → ⊥)
-        (sym dash) no_quotient_minus in (
+        (sym dash) no_quotient_dash in (
           None,
           (
             inl dash,

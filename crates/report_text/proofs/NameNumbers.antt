@@ -17,7 +17,7 @@ use Rattle.cts_model.specs.netlist.Circuits.{has_host}
 use Rattle.cts_model.specs.netlist.Paths.{register_name}
 use Rattle.cts_model.specs.report.ReportLines.{signal_name}
 use Rattle.report_text.specs.NamesOf.{register_names, signal_names, DenotesRegister, DenotesSignal}
-use Rattle.report_text.proofs.OneName.{one_register, one_signal}
+use Rattle.report_text.proofs.OneName.{few_registers, one_register, one_signal}
 
 -- ---- keys
 
@@ -148,12 +148,7 @@ pub registers_few : (circuit : Circuit) (names : List (List ℕ)) (register : �
 registers_few circuit names register within are =
     let long : length names ≡ register =
     ap length are ∙ length-map-range_with_len (register_name circuit) 0 register in
-    at (has_host circuit.signals) long circuit.valid.few_registers
-  where
-    at : (host : Bool) → length names ≡ register
-        → length circuit.registers ≤ 4096 + cond host 1 0 → length names < 65537
-    at true long few = omega (arith, long, within)
-    at false long few = omega (arith, long, within)
+    omega (arith, long, within, few_registers circuit)
 
 pub signals_few : (circuit : Circuit) (names : List (List ℕ)) (number : ℕ)
     → number < length circuit.signals

@@ -1,8 +1,8 @@
 -- The word of a number and the number: whole numbers, and fractions that are whole steps.
-use Rattle.std.proofs.Common.{◌≡◌, ◌<◌, ◌≤◌, ◌*◌, ◌/◌, ◌^◌, ℕ, suc, ℤ, pos, negsuc, neg_ℤ, ◌+ℤ◌, ◌*ℤ◌, ◌≤ℤ◌, ◌<ℤ◌, nat_abs, List, Result, Ok, MatchResult, FitsSigned, of_z, to_z, refl, sym, ap, ap₂, ◌∙◌, subst, arith}
+use Rattle.std.proofs.Common.{◌≡◌, ◌<◌, ◌≤◌, ◌*◌, ◌/◌, ◌^◌, ℕ, suc, ℤ, pos, negsuc, neg_ℤ, ◌+ℤ◌, ◌*ℤ◌, ◌≤ℤ◌, ◌<ℤ◌, nat_abs, List, Result, Ok, MatchResult, FitsSigned, of_z, to_z, refl, sym, ap, ◌∙◌, subst, arith}
 use mir.Syntax.{w128}
 use Rattle.std.proofs.Math.Nat.{mul-div_cancel, mul-div_cancel'}
-use Rattle.std.proofs.lemmas.Int.{ints, quot_fits}
+use Rattle.std.proofs.lemmas.Int.{ints}
 use Rattle.std.specs.Fmt.{signed_decimal}
 use Rattle.std.specs.Int.{◌∣◌}
 use Rattle.std.specs.Int.RustNames.{int_div}
@@ -13,7 +13,7 @@ use Rattle.cts_base.specs.NumberTexts.{SpellsWhole, SpellsQuotient, HaveSmallSiz
 use Rattle.cts_base.proofs.FractionReading.{few_digits, held_same, kept_same}
 use Rattle.cts_base.proofs.GreatestDivisors.{up_to_second, quotient_text_is}
 use Rattle.cts_base.proofs.OneSpelling.{one_quotient, one_whole, whole_text, whole_spelled, quotient_text_spelled, fraction_spelled}
-use Rattle.cts_base.proofs.Quotients.{int_div-le, lowest_quotients, negative, quotient_is, same_value}
+use Rattle.cts_base.proofs.Quotients.{int_div-le, lowest_quotients, negative, same_value}
 use Rattle.cts_model.specs.placement.Points.{IsBelow}
 use Rattle.report_text.proofs.CoprimeFactors.{one_number_of_steps}
 use Rattle.report_text.specs.Fields.{IsFractionForm, AreSteps, IsWholeSteps, AreFewSteps}

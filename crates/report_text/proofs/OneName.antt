@@ -1,11 +1,11 @@
 -- A circuit's signals and registers are determined by their names.
-use Rattle.std.proofs.Common.{◌≡◌, ◌<◌, ◌≤◌, ◌+◌, ℕ, suc, zero, Bool, true, false, if◌then◌else◌, List, [], ◌∷◌, Some, None, get_or, length, inl, inr, refl, sym, ◌∙◌, arith}
+use Rattle.std.proofs.Common.{◌≡◌, ◌<◌, ◌≤◌, ◌+◌, ℕ, suc, zero, Bool, true, false, cond, if◌then◌else◌, List, [], ◌∷◌, Some, None, get_or, length, inl, inr, refl, sym, ◌∙◌, arith}
 use Rattle.std.specs.List.{filter_map, enumerate_from, cons_option}
 use Rattle.std.proofs.lemmas.Bool.{cases_lt}
 use Rattle.std.proofs.lemmas.Option.{slice_get_cases, slice_get-get_or, slice_get_within}
 use Rattle.cts_model.specs.declared.signal.Signal.{Signal}
 use Rattle.cts_model.specs.declared.circuit.Circuit.{Circuit}
-use Rattle.cts_model.specs.netlist.Circuits.{register_number}
+use Rattle.cts_model.specs.netlist.Circuits.{has_host, register_number}
 use Rattle.cts_model.specs.netlist.Kinds.{is_register}
 use Rattle.cts_model.specs.netlist.Paths.{register_name}
 use Rattle.cts_model.specs.report.ReportLines.{signal_name}
@@ -58,6 +58,15 @@ rising first (signal ∷ signals) place later before within =
     at true zero (suc later) before within rest low = omega (arith, low later (omega arith))
     at true (suc place) (suc later) before within rest low =
         rest place later (omega arith) (omega arith)
+
+-- there are at most 4,097 registers
+pub few_registers : (circuit : Circuit) → length circuit.registers ≤ 4097
+few_registers circuit = at (has_host circuit.signals) circuit.valid.few_registers
+  where
+    at : (host : Bool) → length circuit.registers ≤ 4096 + cond host 1 0
+        → length circuit.registers ≤ 4097
+    at true few = omega (arith, few)
+    at false few = omega (arith, few)
 
 -- what is printed for a signal is its name
 signal_name_is : (circuit : Circuit) (number : ℕ) (default : Signal)

@@ -1,5 +1,5 @@
 -- A text without a fault spells a report.
-use Rattle.std.proofs.Common.{◌≡◌, ◌≤◌, ◌+◌, ◌==◌, ℕ, suc, Bool, true, false, cond, Option, Some, None, List, [], ◌∷◌, ◌++◌, length, if◌then◌else◌, refl, sym, ap, ◌∙◌, subst, append-nil, arith}
+use Rattle.std.proofs.Common.{◌≡◌, ◌==◌, ℕ, suc, false, Option, Some, None, List, [], ◌∷◌, ◌++◌, length, if◌then◌else◌, refl, sym, ap, ◌∙◌, subst, append-nil, arith}
 use Rattle.std.proofs.lemmas.Bool.{ne_eqb}
 use Rattle.std.proofs.lemmas.Option.{none-some}
 use Rattle.cts_model.specs.declared.circuit.Circuit.{Circuit}
@@ -8,7 +8,6 @@ use Rattle.cts_model.specs.declared.report.Report.{Report}
 use Rattle.cts_model.specs.declared.report.Version.{Version}
 use Rattle.cts_model.specs.declared.report.Version.TheVariants.{First, Second}
 use Rattle.cts_model.specs.declared.tech.Tech.{Tech}
-use Rattle.cts_model.specs.netlist.Circuits.{has_host}
 use Rattle.cts_model.specs.report.ReportBounds.{Spells}
 use Rattle.report_text.specs.declared.fault.ReportFault.TheVariants.{Extra}
 use Rattle.report_text.specs.declared.form.Form.{Form}
@@ -27,6 +26,7 @@ use Rattle.report_text.specs.DenotedReports.{report_denoted}
 use Rattle.report_text.specs.Walks.{Left, DenotesVersion}
 use Rattle.report_text.proofs.GridLemmas.{scale_small}
 use Rattle.report_text.proofs.HeadingLemmas.{cycle_shown, heading_read, pathed_shown}
+use Rattle.report_text.proofs.OneName.{few_registers}
 use Rattle.report_text.proofs.PartLemmas.{denoted_cycle, denoted_scale, denoted_version}
 use Rattle.report_text.proofs.PartsDenoted.{parts_spelled}
 use Rattle.report_text.proofs.PassedLines.{IsSound, Passed, denoted_passed}
@@ -149,15 +149,6 @@ nothing_left circuit scale left sound = at left.text sound
         ne_eqb (suc (length text)) 0 (λ none. omega (arith, none)) in
         absurd (none-some (Extra left.line)
         (is ∙ ap (λ b. if b then None else Some (Extra left.line)) some))
-
--- there are at most 4,097 registers
-few_registers : (circuit : Circuit) → length circuit.registers ≤ 4097
-few_registers circuit = at (has_host circuit.signals) circuit.valid.few_registers
-  where
-    at : (host : Bool) → length circuit.registers ≤ 4096 + cond host 1 0
-        → length circuit.registers ≤ 4097
-    at true few = omega (arith, few)
-    at false few = omega (arith, few)
 
 -- all lines
 parts_passed : (circuit : Circuit) (tech : Tech) (text : List ℕ) → HasFault circuit tech text None

@@ -1,6 +1,6 @@
 -- What each word of a line without a flaw is: the word of a value that its field admits. A line has
 -- no flaw just where each of its words is one.
-use Rattle.std.proofs.Common.{◌≡◌, ◌<◌, ◌≤◌, ◌^◌, ◌⊎◌, ℕ, zero, suc, ℤ, pos, negsuc, neg_ℤ, ◌≤ℤ◌, ◌<ℤ◌, ◌+ℤ◌, nat_abs, to_z, of_z, inl, inr, List, [], ◌∷◌, replicate, get_or, length, Option, Some, None, codes, refl, sym, ap, ◌∙◌, subst, arith}
+use Rattle.std.proofs.Common.{◌≡◌, ◌<◌, ◌≤◌, ◌^◌, ◌⊎◌, ℕ, ℤ, pos, negsuc, neg_ℤ, ◌≤ℤ◌, ◌<ℤ◌, ◌+ℤ◌, nat_abs, to_z, of_z, inl, inr, List, [], ◌∷◌, get_or, length, Option, Some, None, codes, refl, sym, ap, ◌∙◌, subst, arith}
 use mir.Syntax.{w128}
 use Rattle.std.proofs.lemmas.Int.{ints}
 use Rattle.std.specs.Fmt.{signed_decimal}
@@ -20,7 +20,7 @@ use Rattle.cts_model.specs.timing.Schedules.{IsSmallPeriod}
 use Rattle.cts_model.specs.timing.Slacks.{IsSmallSlack}
 use Rattle.report_text.specs.declared.field.Field.{Field}
 use Rattle.report_text.specs.declared.field.Field.TheVariants as field
-use Rattle.report_text.specs.Fields.{EachWord, AreFewSteps, AreSteps, IsFormed, IsFractionForm, IsWholeSteps, LineHasFlaw, NamesRegister, NamesSignal, WordHasFlaw}
+use Rattle.report_text.specs.Fields.{EachWord, AreFewSteps, AreSteps, IsFractionForm, IsWholeSteps, LineHasFlaw, NamesRegister, NamesSignal, WordHasFlaw}
 use Rattle.report_text.specs.Keywords.{keyword_text}
 use Rattle.report_text.specs.Values.{SpellsNumber, SpellsSteps}
 use Rattle.report_text.proofs.CoprimeFactors.{one_number_of_steps}
@@ -175,9 +175,10 @@ slack_spelled over word (inr (num, den, form)) whole few =
 pub small_slack : (over : ℤ) (slack : Fraction) → pos 1 ≤ℤ over → HasSizeBelow (10 ^ 37) over
     → IsSmallSlack over (Some slack) → HaveSmallSizes slack.num slack.den
 small_slack over slack some low small =
-    let sizes = lowest_sizes small.0 over slack some small.1 in
-    (sized slack.num small.0 sizes.0 (size_below (10 ^ 20) small.0 (omega arith) small.2),
-    sized slack.den over sizes.1 low)
+    let sizes = lowest_sizes small.0 over slack some small.1 in (
+      sized slack.num small.0 sizes.0 (size_below (10 ^ 20) small.0 (omega arith) small.2),
+      sized slack.den over sizes.1 low,
+    )
   where
     sized : (a b : ℤ) → nat_abs a ≤ nat_abs b → HasSizeBelow (10 ^ 37) b
         → HasSizeBelow (10 ^ 37) a

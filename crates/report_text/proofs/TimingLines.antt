@@ -1,6 +1,6 @@
 -- A line of the timing without a flaw is that of a value, and the line of a value within the bounds
 -- has no flaw.
-use Rattle.std.proofs.Common.{◌≡◌, ◌<◌, ◌≤◌, ◌-◌, ◌+◌, ◌++◌, ◌^◌, ◌⊎◌, ◌≤ℤ◌, ℕ, zero, suc, ℤ, pos, Bool, true, false, true≢false, cond, inl, inr, List, [], ◌∷◌, All, map, replicate, take, drop, get_or, length, Option, Some, None, Result, Ok, Err, IfOk, MatchResult, codes, refl, sym, ap, ap₂, ◌∙◌, subst, arith}
+use Rattle.std.proofs.Common.{◌≡◌, ◌<◌, ◌≤◌, ◌-◌, ◌^◌, ◌⊎◌, ◌≤ℤ◌, ℕ, zero, suc, ℤ, pos, Bool, true, false, true≢false, cond, inl, inr, List, [], ◌∷◌, All, map, replicate, drop, get_or, length, Option, Some, None, Result, Ok, Err, IfOk, MatchResult, codes, refl, sym, ap, ◌∙◌, subst, arith}
 use Rattle.std.proofs.lemmas.Bool.{false_from_ne_true}
 use Rattle.std.proofs.lemmas.Fmt.{decimal_digit}
 use Rattle.std.proofs.lemmas.Int.{ints}
@@ -22,7 +22,6 @@ use Rattle.cts_model.specs.declared.report.Version.{Version}
 use Rattle.cts_model.specs.declared.report.Version.TheVariants.{First, Second}
 use Rattle.cts_model.specs.declared.schedule.Lead.{Lead}
 use Rattle.cts_model.specs.declared.schedule.Lead.TheVariants.{Zero, Tight}
-use Rattle.cts_model.specs.declared.schedule.Slack.{Slack}
 use Rattle.cts_model.specs.netlist.Paths.{register_name}
 use Rattle.cts_model.specs.placement.Points.{IsBelow}
 use Rattle.cts_model.specs.text.PrintedLines.{Words, count_line, constraint_line, floor_line, line_for, period_line, register_line, slack_text}
@@ -233,8 +232,11 @@ constraint_read {circuit} {words} found launch capture weight launch_is capture_
 
 denoted : {circuit : Circuit} {words : Words} → FoundConstraint circuit words
     → (constraint : Constraint) × DenotesConstraint circuit words constraint
-denoted found = (_, constraint_read found found.launch found.capture found.weight refl refl refl
-    (bytes_eq found.word (codes "setup")) refl)
+denoted found = (
+  _,
+  constraint_read found found.launch found.capture found.weight refl refl refl
+      (bytes_eq found.word (codes "setup")) refl,
+)
 
 pub constraint_found : (circuit : Circuit) (scale : Scale) (words : Words)
     → IsFlawless circuit scale form.Constraint words

@@ -1,6 +1,6 @@
 -- A line of the tree without a flaw is that of a value, and the line of a value within the bounds has
 -- no flaw.
-use Rattle.std.proofs.Common.{◌≡◌, ◌<◌, ◌≤◌, ◌+◌, ◌*◌, ◌-◌, ◌^◌, ◌==◌, ◌&&◌, ◌++◌, nat_le, suc, zero, replicate, drop, take, ap₂, All, Bool, if◌then◌else◌, ℕ, ℤ, pos, ◌≤ℤ◌, List, [], ◌∷◌, get_or, length, None, true, false, refl, sym, ap, ◌∙◌, subst, codes, arith}
+use Rattle.std.proofs.Common.{◌≡◌, ◌<◌, ◌≤◌, ◌+◌, ◌*◌, ◌-◌, ◌^◌, ◌==◌, ◌&&◌, ◌++◌, nat_le, suc, zero, replicate, drop, take, ap₂, All, Bool, if◌then◌else◌, ℕ, ℤ, pos, List, [], ◌∷◌, get_or, length, None, true, false, refl, sym, ap, ◌∙◌, subst, codes, arith}
 use Rattle.std.proofs.lemmas.Bool.{le-leb, leb-true}
 use Rattle.std.proofs.lemmas.Bool.Decides.{Decides-eqb}
 use Rattle.std.proofs.lemmas.List.{drop_at, get_or-drop, length-append, length-drop, length-replicate, length-take, take_at}

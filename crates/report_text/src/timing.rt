@@ -147,18 +147,20 @@ fn push_registers(out: &mut Vec<u8>, printed: &Printed) -> Result<(), NoMemory>
 }
 
 // Appends the line of the register with that number.
-fn push_register_at(
-    out: &mut Vec<u8>,
-    printed: &Printed,
-    register: usize,
-) -> Result<(), NoMemory>
+fn push_register_at(out: &mut Vec<u8>, printed: &Printed, register: usize) -> Result<(), NoMemory>
     requires within { register < length printed.now.circuit.now.registers }
     requires bounds { HasTimingBounds printed.now.report.now }
     ensures { OnOk result (out.new.items ≡ out.old.items
         ++ line_of (register_line_at printed.now.circuit.now printed.now.report.now register)) }
 {
     let slack = printed.report.slacks.as_slice()[register];
-    push_register(out, printed.circuit, &printed.report.schedule, slack, register)
+    push_register(
+        out,
+        printed.circuit,
+        &printed.report.schedule,
+        slack,
+        register,
+    )
 }
 
 /// Appends the line of a register: its arrival and its slacks, in ticks.

@@ -42,11 +42,7 @@ fn push_merges(out: &mut Vec<u8>, printed: &Printed) -> Result<(), NoMemory>
 }
 
 // Appends the line of a merge: what it joins, its reach and what shows it.
-fn push_merge(
-    out: &mut Vec<u8>,
-    printed: &Printed,
-    place: usize,
-) -> Result<(), NoMemory>
+fn push_merge(out: &mut Vec<u8>, printed: &Printed, place: usize) -> Result<(), NoMemory>
     requires within { place < length printed.now.report.now.topology.merges }
     ensures { OnOk result (out.new.items ≡ out.old.items
         ++ line_of (merge_line_at printed.now.circuit.now printed.now.report.now place)) }
@@ -85,7 +81,11 @@ fn push_source(out: &mut Vec<u8>, printed: &Printed) -> Result<(), NoMemory>
 {
     out.extend_from_slice(b"source")?;
     push_reach(out, printed, 2 * printed.report.schedule.at.len() - 1)?;
-    push_shown(out, printed.circuit, show_at(printed, printed.report.topology.merges.len()))?;
+    push_shown(
+        out,
+        printed.circuit,
+        show_at(printed, printed.report.topology.merges.len()),
+    )?;
     out.push(b'\n')?;
     Ok(())
 }
@@ -141,11 +141,7 @@ fn push_nodes(out: &mut Vec<u8>, printed: &Printed) -> Result<(), NoMemory>
 }
 
 // Appends the line of a node: its place, the length of its edge and the drawn wire.
-fn push_node_line(
-    out: &mut Vec<u8>,
-    printed: &Printed,
-    node: usize,
-) -> Result<(), NoMemory>
+fn push_node_line(out: &mut Vec<u8>, printed: &Printed, node: usize) -> Result<(), NoMemory>
     requires within { node < length printed.now.report.now.tree.length }
     ensures { OnOk result (out.new.items ≡ out.old.items
         ++ line_of (node_line_at printed.now.circuit.now printed.now.report.now node)) }

@@ -1,5 +1,4 @@
-use Rattle.std.proofs.Common.{◌^◌, ◌≡◌, ℤ, Bool, Bor, List, ℕ, true, false, map, to_z, of_z, sym, ap, ◌∙◌, subst, codes, arith}
-use mir.Syntax.{w128}
+use Rattle.std.proofs.Common.{◌^◌, true, false, map, sym, ap, ◌∙◌, subst, codes, arith}
 use Rattle.std.specs.Str.{bytes_eq}
 use Rattle.cts_base.specs.NumberTexts.{SpellsWhole}
 use Rattle.report_text.proofs.NumberWords.{spelled_whole}

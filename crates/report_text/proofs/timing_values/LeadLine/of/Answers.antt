@@ -1,4 +1,4 @@
-use Rattle.std.proofs.Common.{Bor, List, ℕ, drop, map, sym, ap, ◌∙◌, subst, arith}
+use Rattle.std.proofs.Common.{drop, map, sym, ap, ◌∙◌, subst, arith}
 use Rattle.report_text.specs.declared.form.Form.TheVariants as form
 use Rattle.report_text.specs.TimingValues.{IsFlawless, DenotesConstraint}
 use Rattle.report_text.proofs.SpelledFields.{number_same, word_is}

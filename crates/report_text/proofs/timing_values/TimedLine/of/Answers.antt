@@ -1,5 +1,4 @@
-use Rattle.std.proofs.Common.{◌^◌, ◌≤ℤ◌, Bor, List, ℕ, pos, map, to_z, of_z, sym, ◌∙◌, subst, arith}
-use mir.Syntax.{w128}
+use Rattle.std.proofs.Common.{◌^◌, ◌≤ℤ◌, Bor, List, ℕ, pos, map, sym, subst, arith}
 use Rattle.cts_base.specs.Fractions.{HasSizeBelow}
 use Rattle.cts_base.proofs.FractionReading.{held_same}
 use Rattle.report_text.specs.Values.{SpellsSteps}

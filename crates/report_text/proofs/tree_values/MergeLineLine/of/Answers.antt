@@ -9,26 +9,36 @@ pub number_of-first-requires : goal.number_of-first-requires
 number_of-first-requires c =
     let line = merge_found c.args.rules.now.circuit.now c.args.rules.now.scale c.args._number
     (map (λ word. word.now) c.args.words.now) c.args.rules.now.small (omega arith)
-    c.requires.flawless in
-    (line.first, (omega (arith, line.says.merge.first),
-    word_is 1 c.word_at.ensures line.says.words_are))
+    c.requires.flawless in (
+      line.first,
+      (
+        omega (arith, line.says.merge.first),
+        word_is 1 c.word_at.ensures line.says.words_are,
+      ),
+    )
 
 pub number_of-second-requires : goal.number_of-second-requires
 number_of-second-requires c =
     let line = merge_found c.args.rules.now.circuit.now c.args.rules.now.scale c.args._number
     (map (λ word. word.now) c.args.words.now) c.args.rules.now.small (omega arith)
-    c.requires.flawless in
-    (line.second, (omega (arith, line.says.merge.second),
-    word_is 2 c.word_at-2.ensures line.says.words_are))
+    c.requires.flawless in (
+      line.second,
+      (
+        omega (arith, line.says.merge.second),
+        word_is 2 c.word_at-2.ensures line.says.words_are,
+      ),
+    )
 
 pub length_of-reach-requires : goal.length_of-reach-requires
 length_of-reach-requires c =
     let scale = c.args.rules.now.scale in
     let line = merge_found c.args.rules.now.circuit.now scale c.args._number
     (map (λ word. word.now) c.args.words.now) c.args.rules.now.small (omega arith)
-    c.requires.flawless in
-    (line.reach, length_spelled scale.grid (10 ^ 32) c.word_at-3.result.now line.reach (omega arith)
-    line.says.reach (word_is 3 c.word_at-3.ensures line.says.words_are))
+    c.requires.flawless in (
+      line.reach,
+      length_spelled scale.grid (10 ^ 32) c.word_at-3.result.now line.reach (omega arith)
+          line.says.reach (word_is 3 c.word_at-3.ensures line.says.words_are),
+    )
 
 pub returns : goal.returns
 returns c =

@@ -21,23 +21,31 @@ says rules node words below some flawless =
 pub point_at-place-requires-clause-x : goal.point_at-place-requires-clause-x
 point_at-place-requires-clause-x c =
     let (line, is) = says c.args.rules.now c.args._number c.args.words.now (omega arith)
-    c.requires.some c.requires.flawless in
-    (line.place.x, is.place.x, length_spelled c.args.rules.now.scale.grid (10 ^ 32) _ line.place.x
-    (omega arith) is.place.x (word_is 1 refl is.words_are))
+    c.requires.some c.requires.flawless in (
+      line.place.x,
+      is.place.x,
+      length_spelled c.args.rules.now.scale.grid (10 ^ 32) _ line.place.x
+          (omega arith) is.place.x (word_is 1 refl is.words_are),
+    )
 
 pub point_at-place-requires-clause-y : goal.point_at-place-requires-clause-y
 point_at-place-requires-clause-y c =
     let (line, is) = says c.args.rules.now c.args._number c.args.words.now (omega arith)
-    c.requires.some c.requires.flawless in
-    (line.place.y, is.place.y, length_spelled c.args.rules.now.scale.grid (10 ^ 32) _ line.place.y
-    (omega arith) is.place.y (word_is 2 refl is.words_are))
+    c.requires.some c.requires.flawless in (
+      line.place.y,
+      is.place.y,
+      length_spelled c.args.rules.now.scale.grid (10 ^ 32) _ line.place.y
+          (omega arith) is.place.y (word_is 2 refl is.words_are),
+    )
 
 pub length_of-length-requires : goal.length_of-length-requires
 length_of-length-requires c =
     let (line, is) = says c.args.rules.now c.args._number c.args.words.now (omega arith)
-    c.requires.some c.requires.flawless in
-    (line.length, length_spelled c.args.rules.now.scale.grid (10 ^ 32) c.word_at.result.now
-    line.length (omega arith) is.edge (word_is 3 c.word_at.ensures is.words_are))
+    c.requires.some c.requires.flawless in (
+      line.length,
+      length_spelled c.args.rules.now.scale.grid (10 ^ 32) c.word_at.result.now
+          line.length (omega arith) is.edge (word_is 3 c.word_at.ensures is.words_are),
+    )
 
 pub wire_of-wire-requires : goal.wire_of-wire-requires
 wire_of-wire-requires c =

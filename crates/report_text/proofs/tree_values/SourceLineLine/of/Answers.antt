@@ -8,9 +8,11 @@ pub length_of-reach-requires : goal.length_of-reach-requires
 length_of-reach-requires c =
     let rules = c.args.rules.now in
     let (line, says) = source_found rules.circuit.now rules.scale
-    (map (λ word. word.now) c.args.words.now) rules.small c.requires.flawless in
-    (line.reach, length_spelled rules.scale.grid (10 ^ 32) c.word_at.result.now line.reach
-    (omega arith) says.reach (word_is 1 c.word_at.ensures says.words_are))
+    (map (λ word. word.now) c.args.words.now) rules.small c.requires.flawless in (
+      line.reach,
+      length_spelled rules.scale.grid (10 ^ 32) c.word_at.result.now line.reach
+          (omega arith) says.reach (word_is 1 c.word_at.ensures says.words_are),
+    )
 
 pub returns : goal.returns
 returns c =
