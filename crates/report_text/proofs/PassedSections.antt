@@ -184,7 +184,8 @@ module _ (circuit : Circuit) (scale : Scale) where
       (form.Source ∷ node_forms count) (form.Total ∷ []) more) sound in
       let timings = counted_passed word.Registers form.Register (DenotesTimed circuit scale) 0 count
       (lead_forms version count ++ (merge_forms count ++ (form.Source ∷ node_forms count ++ last)))
-      (omega (arith, few)) (λ number words within some. timed_found circuit scale number words small)
+      (omega (arith, few)) (λ number words within some. timed_found circuit scale number words
+      small)
       old apart in
       let leads = version_leads_passed version count
       (merge_forms count ++ (form.Source ∷ node_forms count ++ last)) timings.new timings.rest in

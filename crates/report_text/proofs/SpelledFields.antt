@@ -216,7 +216,8 @@ spelled circuit field.Weight word small ((value, spells), known, fit, within) =
     let above = few.above in
     let below = few.below in
     let below12 : IsBelow (10 ^ 12) value = record { above = above; below = below } in
-    (value, below12, whole_word word value (size_below (10 ^ 12) value (omega arith) below12) spells)
+    (value, below12, whole_word word value (size_below (10 ^ 12) value (omega arith) below12)
+    spells)
 spelled circuit field.Period word small ((num, den, form, from), known, fit, within) =
     let (low, few) = within num den form.0 in
     let some = quotient_some word num den form.0 in
@@ -245,7 +246,8 @@ module _ (circuit : Circuit) where
   number_plain : (least most number : ℕ) → most < 10 ^ 37 → least ≤ number → number ≤ most
       → WordHasFlaw circuit (field.Number least most) (signed_decimal (pos number)) None
   number_plain least most number small low high =
-      let spells = spelled_whole (pos number) (small_number number (omega (arith, high, small))) in (
+      let spells = spelled_whole (pos number) (small_number number (omega (arith, high, small))) in
+      (
         (pos number, spells, omega (arith, ints, low)),
         tt,
         tt,
@@ -436,7 +438,8 @@ begins {circuit} {due} {fields} {words} line = at words line.each
         → Begins circuit due fields words
     at [] each = absurd each
     at (word ∷ more) each =
-        record { word = word; more = more; is = refl; here = each.0; rest = record { each = each.1 } }
+        let rest : AreSpelled circuit fields more = record { each = each.1 } in
+        record { word = word; more = more; is = refl; here = each.0; rest = rest }
 
 -- after the last there are none
 pub ends : {circuit : Circuit} {words : Words} → AreSpelled circuit [] words → words ≡ []

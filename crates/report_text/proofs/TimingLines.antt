@@ -123,7 +123,8 @@ module _ (circuit : Circuit) (scale : Scale) where
   pub count_plain : (keyword : Keyword) (count : ℕ) → count < 10 ^ 37
       → IsFlawless circuit scale (form.Count keyword count)
       (count_line (keyword_text keyword) count)
-  count_plain keyword count less = line_plain circuit (field.Word keyword ∷ field.Exactly count ∷ [])
+  count_plain keyword count less =
+      line_plain circuit (field.Word keyword ∷ field.Exactly count ∷ [])
       (count_line (keyword_text keyword) count) (tt, (less, tt)) (refl, (refl, tt))
 
 -- what shows the period, by whether the floor does
@@ -193,8 +194,8 @@ pub constraint_read : {circuit : Circuit} {words : Words} (found : FoundConstrai
       head = cond setup capture launch;
       weight = weight;
     })
-constraint_read {circuit} {words} found launch capture weight launch_is capture_is weight_is setup is =
-    at setup is
+constraint_read {circuit} {words} found launch capture weight launch_is capture_is weight_is setup
+    is = at setup is
   where
     line : (word : List ℕ) → found.word ≡ word
         → words ≡ constraint_line word circuit launch capture weight

@@ -1,5 +1,5 @@
--- A line of the tree without a flaw is that of a value, and the line of a value within the bounds has
--- no flaw.
+-- A line of the tree without a flaw is that of a value, and the line of a value within the bounds
+-- has no flaw.
 use Rattle.std.proofs.Common.{◌≡◌, ◌<◌, ◌≤◌, ◌+◌, ◌*◌, ◌-◌, ◌^◌, ◌==◌, ◌&&◌, ◌++◌, nat_le, suc, zero, replicate, drop, take, ap₂, All, Bool, if◌then◌else◌, ℕ, ℤ, pos, List, [], ◌∷◌, get_or, length, None, true, false, refl, sym, ap, ◌∙◌, subst, codes, arith}
 use Rattle.std.proofs.lemmas.Bool.{le-leb, leb-true}
 use Rattle.std.proofs.lemmas.Bool.Decides.{Decides-eqb}

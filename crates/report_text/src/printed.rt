@@ -4,8 +4,8 @@ ghost use Rattle.report_text.specs.Pieces.{HasSmallLengths};
 
 use cts_model::{Circuit, Report};
 
-/// A report that is printed over its circuit: its lists are as long as the circuit has them, and its
-/// lengths are within their bounds.
+/// A report that is printed over its circuit: its lists are as long as the circuit has them, and
+/// its lengths are within their bounds.
 #[derive(Drop)]
 pub(crate) struct Printed<'a> {
     pub circuit: &'a Circuit,

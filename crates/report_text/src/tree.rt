@@ -81,11 +81,8 @@ fn push_source(out: &mut Vec<u8>, printed: &Printed) -> Result<(), NoMemory>
 {
     out.extend_from_slice(b"source")?;
     push_reach(out, printed, 2 * printed.report.schedule.at.len() - 1)?;
-    push_shown(
-        out,
-        printed.circuit,
-        show_at(printed, printed.report.topology.merges.len()),
-    )?;
+    let merges = printed.report.topology.merges.len();
+    push_shown(out, printed.circuit, show_at(printed, merges))?;
     out.push(b'\n')?;
     Ok(())
 }

@@ -7,4 +7,5 @@ use Rattle.report_text.proofs.timing.push_registers.Given as goal
 abbrev pub invariant-loop-register : goal.invariant-loop-register
 invariant-loop-register l =
     l.out.items
-    ≡ l.fn.out.items ++ text_of (lines_below (register_line_at l.printed.circuit.now l.printed.report.now) l.register)
+    ≡ l.fn.out.items ++ text_of
+    (lines_below (register_line_at l.printed.circuit.now l.printed.report.now) l.register)

@@ -15,6 +15,6 @@ returns c =
     let begun = c.extend_from_slice.new.self.items in
     let shown = after_more begun _ _ (reach ∷ []) words
     (rw c.len.ensures at c.in_ok-push_reach.ensures)
-    (rw (c.show_at.ensures, c.len-2.ensures) at c.in_ok-push_shown.ensures) in
+    (rw (c.show_at.ensures, c.len-merges.ensures) at c.in_ok-push_shown.ensures) in
     whole_line c.args.out.now.items begun _ _ (codes "source") (reach ∷ words)
     c.in_ok-extend_from_slice.ensures.items shown c.in_ok-push.ensures.items

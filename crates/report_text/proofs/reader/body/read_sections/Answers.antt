@@ -57,7 +57,8 @@ returns-in_err-timings-clause-fault c =
     passed_on c.from_residual.result fault
     (Stops circuit scale (forms_after c.args.version c.args.count) c.args.cursor.now)
     c.from_residual.ensures.1
-    (first_stops circuit scale c.args.version c.args.count c.args.cursor.now fault c.in_err-timings.ensures.fault)
+    (first_stops circuit scale c.args.version c.args.count c.args.cursor.now fault
+    c.in_err-timings.ensures.fault)
 
 pub returns-in_err-leads-clause-fault : goal.returns-in_err-leads-clause-fault
 returns-in_err-leads-clause-fault c =

@@ -24,17 +24,20 @@ read-requires-3 c =
 pub returns-in_err-version-clause-fault : goal.returns-in_err-version-clause-fault
 returns-in_err-version-clause-fault c =
     passed_on c.from_residual.result c.in_err-version.field-0.0
-    (λ fault. (scale : Scale) → Stops c.args.rules.now.circuit.now scale heading_forms c.args.cursor.now
+    (λ fault. (scale : Scale) → Stops c.args.rules.now.circuit.now scale heading_forms
+    c.args.cursor.now
     fault) c.from_residual.ensures.1
     (λ scale. stop_before c.args.rules.now.circuit.now scale (form.Version ∷ [])
     (form.Period ∷ form.Show ∷ []) c.args.cursor.now c.in_err-version.field-0.0
-    (stop_line c.args.rules.now.circuit.now scale form.Version c.args.cursor.now c.in_err-version.field-0.0
+    (stop_line c.args.rules.now.circuit.now scale form.Version c.args.cursor.now
+    c.in_err-version.field-0.0
     c.in_err-version.ensures.fault))
 
 pub returns-in_err-period-clause-fault : goal.returns-in_err-period-clause-fault
 returns-in_err-period-clause-fault c =
     passed_on c.from_residual-in_err-period.result c.in_err-period.field-0.0
-    (λ fault. (scale : Scale) → Stops c.args.rules.now.circuit.now scale heading_forms c.args.cursor.now
+    (λ fault. (scale : Scale) → Stops c.args.rules.now.circuit.now scale heading_forms
+    c.args.cursor.now
     fault) c.from_residual-in_err-period.ensures.1
     (λ scale. version_then c.in_ok-version.ensures.ok scale (form.Period ∷ form.Show ∷ [])
     c.in_err-period.field-0.0
@@ -46,7 +49,8 @@ returns-in_err-period-clause-fault c =
 pub returns-in_err-show-clause-fault : goal.returns-in_err-show-clause-fault
 returns-in_err-show-clause-fault c =
     passed_on c.from_residual-in_err-show.result c.in_err-show.field-0.0
-    (λ fault. (scale : Scale) → Stops c.args.rules.now.circuit.now scale heading_forms c.args.cursor.now
+    (λ fault. (scale : Scale) → Stops c.args.rules.now.circuit.now scale heading_forms
+    c.args.cursor.now
     fault) c.from_residual-in_err-show.ensures.1
     (λ scale. version_then c.in_ok-version.ensures.ok scale (form.Period ∷ form.Show ∷ [])
     c.in_err-show.field-0.0

@@ -38,21 +38,25 @@ read-requires-in-loop-place c =
 pub returns-in_err-constraint-clause-fault : goal.returns-in_err-constraint-clause-fault
 returns-in_err-constraint-clause-fault c =
     passed_on c.from_residual.result c.in_err-constraint.field-0.0
-    (Stops c.args.rules.now.circuit.now c.args.rules.now.scale (cycle_forms version.Second c.args.count)
+    (Stops c.args.rules.now.circuit.now c.args.rules.now.scale
+    (cycle_forms version.Second c.args.count)
     c.args.cursor.now) c.from_residual.ensures.1
     (next_stops (cycle_forms version.Second) (λ n. form.Constraint ∷ form.Path ∷ []) pathed_step
     c.loop-place._place c.args.count _ c.args.cursor.now c.loop-place.cursor
     c.in_err-constraint.field-0.0 c.loop-place-test.true c.loop-place.invariant.lines
-    (stop_before c.args.rules.now.circuit.now c.args.rules.now.scale (form.Constraint ∷ []) (form.Path ∷ [])
+    (stop_before c.args.rules.now.circuit.now c.args.rules.now.scale (form.Constraint ∷ [])
+    (form.Path ∷ [])
     c.loop-place.cursor c.in_err-constraint.field-0.0
-    (stop_line c.args.rules.now.circuit.now c.args.rules.now.scale form.Constraint c.loop-place.cursor
+    (stop_line c.args.rules.now.circuit.now c.args.rules.now.scale form.Constraint
+    c.loop-place.cursor
     c.in_err-constraint.field-0.0 c.in_err-constraint.ensures.fault)))
 
 pub returns-in_err-path-clause-fault : goal.returns-in_err-path-clause-fault
 returns-in_err-path-clause-fault c =
     let next = c.in_ok-constraint.ensures.ok in
     passed_on c.from_residual-in_err-path.result c.in_err-path.field-0.0
-    (Stops c.args.rules.now.circuit.now c.args.rules.now.scale (cycle_forms version.Second c.args.count)
+    (Stops c.args.rules.now.circuit.now c.args.rules.now.scale
+    (cycle_forms version.Second c.args.count)
     c.args.cursor.now) c.from_residual-in_err-path.ensures.1
     (next_stops (cycle_forms version.Second) (λ n. form.Constraint ∷ form.Path ∷ []) pathed_step
     c.loop-place._place c.args.count _ c.args.cursor.now c.loop-place.cursor

@@ -24,7 +24,8 @@ returns c =
     rules.small.some_grid rules.small.small_grid (length_spelled rules.scale.grid (10 ^ 32)
     c.word_at.result.now line.reach (omega arith) says.reach
     (word_is 1 c.word_at.ensures says.words_are)) c.length_of-reach.ensures in
-    let show = show_same rules.circuit.now rules.scale.grid words line c.source_show-show.result says
+    let show = show_same rules.circuit.now rules.scale.grid words line c.source_show-show.result
+    says
     c.source_show-show.ensures.root c.source_show-show.ensures.sink in
     subst (SaysSource rules.circuit.now rules.scale.grid words)
     (λ i. record { reach = reach i; show = show i }) says
