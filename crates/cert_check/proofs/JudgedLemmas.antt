@@ -1,20 +1,23 @@
 -- Judgements one after the other: what is left where all before hold, and that all hold where a
 -- report is shown.
-use Rattle.std.proofs.Common.{◌≡◌, ℕ, ap, inl, inr}
-use Rattle.std.specs.Prelude.{Result, Ok, Err}
+use Rattle.std.proofs.Common.{◌≡◌, ℕ, ap, inl, inr, refl}
+use Rattle.std.specs.Prelude.{IsErrAnd, Result, Ok, Err}
 use Rattle.cts_model.specs.declared.problem.Problem.{Problem}
 use Rattle.cts_model.specs.declared.report.Report.{Report}
 use Rattle.cts_model.specs.report.Shown.{AtEach, IsShown, IsShownTiming, IsShownTree, sinks_in, source_in}
+use Rattle.cert_check.specs.declared.judge.Judge.{Judge}
 use Rattle.cert_check.specs.declared.verdict.Reason.{Reason}
 use Rattle.cert_check.specs.declared.verdict.Stop.{Stop}
 use Rattle.cert_check.specs.declared.verdict.Stop.TheVariants.{At, NoMemory}
 use Rattle.cert_check.specs.declared.verdict.Verdict.{Verdict}
 use Rattle.cert_check.specs.declared.verdict.Verdict.TheVariants.{Shown, Not}
 use Rattle.cert_check.specs.Judged.{Decides, Judged, JudgedOnce, Judges, JudgesOnce}
+use Rattle.cert_check.specs.JudgedReports.{JudgedPeriod, JudgedTree}
 use Rattle.cert_check.specs.Verdicts.{IsVerdict}
+use Rattle.cert_check.proofs.FirstPlaces.{passed_on}
 
 -- what is shown isn't refused
-not_shown : {verdict : Verdict} {reason : Reason} → verdict ≡ Not reason → verdict ≡ Shown → ⊥
+pub not_shown : {verdict : Verdict} {reason : Reason} → verdict ≡ Not reason → verdict ≡ Shown → ⊥
 not_shown is shown = cc
 
 module _ {places : ℕ} {Holds : ℕ → Type 0} {reason : ℕ → Reason} {verdict : Verdict}
@@ -23,6 +26,14 @@ module _ {places : ℕ} {Holds : ℕ → Type 0} {reason : ℕ → Reason} {verd
   judged_next : Judged places Holds reason verdict Next → AtEach places Holds → Next
   judged_next (inl (place, first, is)) all = absurd (first.fails (all place first.within))
   judged_next (inr (all, next)) also = next
+
+  -- so it does with another verdict that has the same reason, if any
+  pub judged_then : {other : Verdict} {More : Type 0}
+      → ((why : Reason) → verdict ≡ Not why → other ≡ Not why)
+      → Judged places Holds reason verdict Next → (Next → More)
+      → Judged places Holds reason other More
+  judged_then kept (inl (place, first, is)) next = inl (place, first, kept (reason place) is)
+  judged_then kept (inr (all, more)) next = inr (all, next more)
 
   -- it does where the report is shown
   judged_holds : Judged places Holds reason verdict Next → verdict ≡ Shown
@@ -36,6 +47,12 @@ module _ {Holds : Type 0} {reason : Reason} {verdict : Verdict} {Next : Type 0} 
   once_next (inl (fails, is)) holds = absurd (fails holds)
   once_next (inr (holds, next)) also = next
 
+  pub once_then : {other : Verdict} {More : Type 0}
+      → ((why : Reason) → verdict ≡ Not why → other ≡ Not why)
+      → JudgedOnce Holds reason verdict Next → (Next → More) → JudgedOnce Holds reason other More
+  once_then kept (inl (fails, is)) next = inl (fails, kept reason is)
+  once_then kept (inr (holds, more)) next = inr (holds, next more)
+
   once_holds : JudgedOnce Holds reason verdict Next → verdict ≡ Shown → Holds × Next
   once_holds (inl (fails, is)) shown = absurd (not_shown is shown)
   once_holds (inr (holds, next)) shown = (holds, next)
@@ -47,6 +64,57 @@ pub decides_after : {T : Type 0} (Later Sooner : Verdict → Type 0) (result : R
 decides_after Later Sooner (Ok done) after decided = after Shown decided
 decides_after Later Sooner (Err (At reason)) after decided = after (Not reason) decided
 decides_after Later Sooner (Err NoMemory) after decided = tt
+
+-- what is shown has no reason that another verdict hasn't
+pub kept_shown : (other : Verdict) (why : Reason) → Shown ≡ Not why → other ≡ Not why
+kept_shown other why is = absurd (not_shown is refl)
+
+-- what is judged after the period, and after the tree
+pub period_then : (judge : Judge) {verdict other : Verdict} {Next More : Type 0}
+    → ((why : Reason) → verdict ≡ Not why → other ≡ Not why)
+    → JudgedPeriod judge verdict Next → (Next → More) → JudgedPeriod judge other More
+period_then judge kept judged next =
+    once_then kept judged (λ joined. judged_then kept joined (λ given. judged_then kept given
+    (λ value. once_then kept value (λ meets. judged_then kept meets next))))
+
+pub tree_then : (judge : Judge) {verdict other : Verdict} {Next More : Type 0}
+    → ((why : Reason) → verdict ≡ Not why → other ≡ Not why)
+    → JudgedTree judge verdict Next → (Next → More) → JudgedTree judge other More
+tree_then judge kept judged next =
+    judged_then kept judged (λ drawn. judged_then kept drawn (λ skewed. judged_then kept skewed
+    (λ reached. judged_then kept reached (λ total. once_then kept total next))))
+
+-- what stops several judgements stops them among others
+pub stops_after : (Later Sooner : Verdict → Type 0) (result : Result (Unit {0}) Stop) (stop : Stop)
+    → IsErrAnd result (λ passed. passed ≡ stop)
+    → ((why : Reason) → Later (Not why) → Sooner (Not why))
+    → Decides Later {T = Unit {0}} (Err stop) → Decides Sooner result
+stops_after Later Sooner result stop is after decided =
+    passed_on (Decides Sooner) result stop is (at stop after decided)
+  where
+    at : (stop : Stop) → ((why : Reason) → Later (Not why) → Sooner (Not why))
+        → Decides Later {T = Unit {0}} (Err stop) → Decides Sooner {T = Unit {0}} (Err stop)
+    at (At why) after decided = after why decided
+    at NoMemory after decided = tt
+
+-- the last judgement decides
+pub last_places : {T : Type 0} (places : ℕ) (Holds : ℕ → Type 0) (reason : ℕ → Reason)
+    (IsVerdict : Verdict → Type 0) (result : Result T Stop) → Judges places Holds reason result
+    → ((verdict : Verdict) → Judged places Holds reason verdict (verdict ≡ Shown)
+    → IsVerdict verdict) → Decides IsVerdict result
+last_places places Holds reason IsVerdict (Ok done) all after = after Shown (inr (all, refl))
+last_places places Holds reason IsVerdict (Err (At given)) (place, first, is) after =
+    after (Not given) (inl (place, first, ap Not is))
+last_places places Holds reason IsVerdict (Err NoMemory) none after = tt
+
+pub last_once : {T : Type 0} (Holds : Type 0) (reason : Reason) (IsVerdict : Verdict → Type 0)
+    (result : Result T Stop) → JudgesOnce Holds reason result
+    → ((verdict : Verdict) → JudgedOnce Holds reason verdict (verdict ≡ Shown)
+    → IsVerdict verdict) → Decides IsVerdict result
+last_once Holds reason IsVerdict (Ok done) holds after = after Shown (inr (holds, refl))
+last_once Holds reason IsVerdict (Err (At given)) (fails, is) after =
+    after (Not given) (inl (fails, ap Not is))
+last_once Holds reason IsVerdict (Err NoMemory) none after = tt
 
 -- what stops a judgement decides
 pub stops_once : (Holds : Type 0) (reason : Reason) (Next : Verdict → Type 0)

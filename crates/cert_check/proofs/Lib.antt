@@ -5,12 +5,11 @@ mod MarkLemmas
 mod EdgeLemmas
 mod ShapeLemmas
 mod ConstraintTests
-mod CountLemmas
+mod ClimbLemmas
 mod DownLemmas
 mod FirstPlaces
 mod GivenLemmas
 mod KeptNumbers
-mod OrderLemmas
 mod ProductLemmas
 mod ReachLemmas
 mod ShowLemmas

@@ -1,6 +1,7 @@
 -- The size of a product.
-use Rattle.std.proofs.Common.{◌≤◌, ◌*◌, ◌^◌, ℕ, ℤ, pos, negsuc, ◌*ℤ◌, neg_ℤ, ◌≤ℤ◌, arith}
-use Rattle.std.proofs.lemmas.Int.{ints, unsigned_abs-mul}
+use Rattle.std.proofs.Common.{◌≡◌, ◌≤◌, ◌*◌, ◌^◌, ℕ, ℤ, pos, negsuc, ◌*ℤ◌, neg_ℤ, ◌≤ℤ◌, FitsSigned, to_z, of_z, arith}
+use mir.Syntax.{w128}
+use Rattle.std.proofs.lemmas.Int.{ints, to_z-of_z, unsigned_abs-mul}
 use Rattle.std.proofs.lemmas.Nat.{mul-le}
 use Rattle.std.specs.Prelude.{unsigned_abs}
 use Rattle.cts_model.specs.placement.Points.{IsBelow}
@@ -29,3 +30,12 @@ product_small a b small_a small_b =
     ) in
     let both = within_size (10 ^ 20 * 10 ^ 16) (a *ℤ b) size in
     record { above = omega (arith, ints, both.0); below = omega (arith, ints, both.1) }
+
+-- so it is kept as it is
+pub product_kept : (a b : ℤ) → IsBelow (10 ^ 20) a → IsBelow (10 ^ 16) b → FitsSigned w128 a
+    → FitsSigned w128 b
+    → to_z w128 (of_z w128 (to_z w128 (of_z w128 a) *ℤ to_z w128 (of_z w128 b))) ≡ a *ℤ b
+product_kept a b small_a small_b fits_a fits_b =
+    let small = product_small a b small_a small_b in
+    rw (to_z-of_z w128 a fits_a, to_z-of_z w128 b fits_b)
+    (to_z-of_z w128 (a *ℤ b) (omega (arith, ints, small.above, small.below)))

@@ -1,6 +1,6 @@
 -- What true slacks say of the period, and of those that are printed.
 use Rattle.std.proofs.Common.{◌≡◌, ◌<◌, ◌↔◌, ◌*◌, ◌/◌, ℕ, suc, ℤ, pos, negsuc, ◌-ℤ◌, ◌*ℤ◌, ◌≤ℤ◌, List, Option, Some, None, sym, ap, subst, ◌∙◌, arith}
-use Rattle.std.specs.Prelude.{nat_abs}
+use Rattle.std.specs.Prelude.{IfSome, nat_abs, slice_get}
 use Rattle.std.proofs.Math.Nat.{mul-div_cancel, mul_right_comm}
 use Rattle.std.proofs.lemmas.Int.{ints}
 use Rattle.cts_base.specs.declared.fraction.Fraction.{Fraction}
@@ -8,11 +8,12 @@ use Rattle.cts_base.proofs.OneFraction.{one_fraction, other_sign}
 use Rattle.cts_model.specs.declared.circuit.Circuit.{Circuit}
 use Rattle.cts_model.specs.declared.schedule.Slack.{Slack}
 use Rattle.cts_model.specs.declared.tech.Tech.{Tech}
-use Rattle.cts_model.specs.report.Judgements.{MeetsAt}
+use Rattle.cts_model.specs.report.Judgements.{HasSlack, MeetsAt}
 use Rattle.cts_model.specs.netlist.Paths.{IsPath}
 use Rattle.cts_model.specs.timing.Schedules.{arrival_of}
 use Rattle.cts_model.specs.timing.Slacks.{IsSlack, IsSlackOf, hold_spare, setup_spare}
 use Rattle.cert_check.specs.ComparedSlacks.{AreOneSlack, HasSlackRoom, IsFromZero}
+use Rattle.cert_check.proofs.MarkLemmas.{some_if}
 
 -- ---- fractions that are numbers over a scale
 
@@ -155,7 +156,7 @@ module _ (circuit : Circuit) (tech : Tech) (period : Fraction) (at : List ℤ) (
       )
 
   -- other slacks are right exactly where they are these
-  pub same_slack : (slack : Slack)
+  same_slack : (slack : Slack)
       → (AreOneSlack slack.setup own.setup × AreOneSlack slack.hold own.hold)
       ↔ IsSlack circuit tech (nat_abs period.den) period.num (arrival_of at) register slack
   same_slack slack =
@@ -168,3 +169,15 @@ module _ (circuit : Circuit) (tech : Tech) (period : Fraction) (at : List ℤ) (
         λ both. record { setup = setup.0 both.0; hold = hold.0 both.1 },
         λ right. (setup.1 right.setup, hold.1 right.hold),
       )
+
+  -- so it is with those that are printed for the register
+  pub prints_slack : (slacks : List Slack) (slack : Slack)
+      → slice_get slacks register ≡ Some slack
+      → (AreOneSlack slack.setup own.setup × AreOneSlack slack.hold own.hold)
+      ↔ HasSlack circuit tech period at slacks register
+  prints_slack slacks slack there = (
+    λ both. subst (λ found. IfSome found (IsSlack circuit tech (nat_abs period.den) period.num
+        (arrival_of at) register)) (sym there) ((same_slack slack).0 both),
+    λ right. (same_slack slack).1 (some_if (slice_get slacks register) (IsSlack circuit tech
+        (nat_abs period.den) period.num (arrival_of at) register) slack right there),
+  )

@@ -4,8 +4,8 @@ pub mod TightLeads
 pub mod SmallSinks
 pub mod GivenConstraints
 pub mod Judged
+pub mod JudgedReports
 pub mod ReachParts
-pub mod SinkOrders
 pub mod Verdicts
 pub mod Parents
 pub mod DrawnParts

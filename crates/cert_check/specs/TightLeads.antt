@@ -1,10 +1,11 @@
 -- The constraints of tight leads.
-use Rattle.std.specs.Prelude.{◌↔◌, Bool, IsTrue, List, [], ◌∷◌}
+use Rattle.std.specs.Prelude.{◌≡◌, ◌↔◌, ℕ, Bool, IsTrue, List, [], ◌∷◌}
 use Rattle.cts_model.specs.declared.circuit.Circuit.{Circuit}
 use Rattle.cts_model.specs.declared.constraint.Constraint.{Constraint}
 use Rattle.cts_model.specs.declared.schedule.Lead.{Lead}
 use Rattle.cts_model.specs.declared.schedule.Lead.TheVariants.{Zero, Tight}
 use Rattle.cts_model.specs.declared.tech.Tech.{Tech}
+use Rattle.cts_model.specs.report.ReportBounds.{HasSmallWeight, IsBetweenRegisters}
 use Rattle.cts_model.specs.timing.Constraints.{IsConstraintOf}
 
 -- the constraints of those leads that have one
@@ -18,3 +19,9 @@ abbrev pub IsTested : Circuit → Tech → Lead → (given : Bool) → Type 0
 IsTested circuit tech Zero given = Unit {0}
 IsTested circuit tech (Tight depth constraint) given =
     IsTrue given ↔ IsConstraintOf circuit tech constraint
+
+-- a small constraint between registers that have leads and arrivals
+pub record FitsLeads (leads arrivals : ℕ) (constraint : Constraint) : Type 0 where
+  pub among : IsBetweenRegisters leads constraint
+  pub all : leads ≡ arrivals
+  pub small : HasSmallWeight constraint

@@ -2,11 +2,11 @@ ghost use Rattle.std.specs.Prelude.{◌≡◌, ◌↔◌, IfOk};
 ghost use Rattle.cts_model.specs.report.ReportBounds.{IsOfSize, IsWithinBounds};
 ghost use Rattle.cts_model.specs.report.SaidReports.{ShowsWhatItSays};
 ghost use Rattle.cts_model.specs.report.Shown.{IsShown, ShowsLeast, cycle_of};
-ghost use Rattle.cts_model.specs.timing.Slacks.{AreSlacks};
 ghost use Rattle.gate_order.specs.LevelParts.{IsLevelsOf};
 ghost use Rattle.cert_check.specs.declared.verdict.Verdict.{Verdict};
 ghost use Rattle.cert_check.specs.Judged.{Decides};
-ghost use Rattle.cert_check.specs.Verdicts.{EmbeddingJudged, IsVerdict, IsVerdictBy, ReachesJudged, RestJudged};
+ghost use Rattle.cert_check.specs.JudgedReports.{HasSlacks, JudgedPeriod, JudgedRest, JudgedTree};
+ghost use Rattle.cert_check.specs.Verdicts.{IsVerdict, IsVerdictBy};
 
 use crate::Verdict;
 use crate::judge::Judge;
@@ -20,7 +20,8 @@ use gate_order::{LevelFault, Levels, levels};
 use std::alloc::Global;
 use timing_report::slacks;
 
-/// What a report of a problem comes to. About linear in the sizes of the circuit and of the report.
+/// What a report of a problem comes to. About linear in the sizes of the circuit and of the report,
+/// besides a climb up the tree from each sink that shows a reach.
 pub fn check(alloc: Global, problem: &Problem, report: &Report) -> Result<Verdict, NoMemory>
     requires size { IsOfSize problem.now.circuit report.now }
     requires bounds { IsWithinBounds problem.now.tech report.now }
@@ -72,73 +73,53 @@ fn judge_report(alloc: Global, problem: &Problem, report: &Report) -> Result<(),
 // All judgements, in their order.
 fn judge_all(alloc: Global, judge: &Judge, levels: &Levels, slacks: &[Slack]) -> Result<(), Stop>
     requires levels { IsLevelsOf judge.now.problem.now.circuit levels.now }
-    requires slacks { AreSlacks judge.now.problem.now.circuit judge.now.problem.now.tech
-        judge.now.report.now.period judge.now.report.now.schedule slacks.now }
+    requires slacks { HasSlacks judge.now slacks.now }
     ensures { Decides (IsVerdictBy judge.now.problem.now judge.now.report.now judge.now.cycle.now
         judge.now.sinks.now judge.now.source) result }
 {
-    judge.judge_floor()?;
-    judge.judge_joins(alloc)?;
-    judge.judge_constraints(alloc, levels)?;
-    judge.judge_value()?;
-    judge.judge_schedule(slacks)?;
-    judge_embedding(alloc, judge, levels, slacks)
-}
-
-// Those from the embedding on.
-fn judge_embedding(
-    alloc: Global,
-    judge: &Judge,
-    levels: &Levels,
-    slacks: &[Slack],
-) -> Result<(), Stop>
-    requires levels { IsLevelsOf judge.now.problem.now.circuit levels.now }
-    requires slacks { AreSlacks judge.now.problem.now.circuit judge.now.problem.now.tech
-        judge.now.report.now.period judge.now.report.now.schedule slacks.now }
-    ensures { Decides (λ verdict. EmbeddingJudged judge.now.report.now judge.now.sinks.now
-        judge.now.source verdict (ReachesJudged judge.now.report.now judge.now.sinks.now
-        judge.now.source verdict (RestJudged judge.now.problem.now judge.now.report.now
-        judge.now.cycle.now verdict (verdict ≡ Verdict.Shown)))) result }
-{
+    judge_period(alloc, judge, levels, slacks)?;
     judge.judge_shape(alloc)?;
     let parents = parents_of(alloc, &judge.merges())?;
     let tree = ShapedTree {
         judge: *judge,
         parents,
     };
+    judge_tree(alloc, &tree)?;
+    judge_rest(alloc, judge, levels, slacks)
+}
+
+// The period, what shows it, and the schedule.
+fn judge_period(alloc: Global, judge: &Judge, levels: &Levels, slacks: &[Slack]) -> Result<(), Stop>
+    requires levels { IsLevelsOf judge.now.problem.now.circuit levels.now }
+    requires slacks { HasSlacks judge.now slacks.now }
+    ensures { Decides
+        (λ verdict. JudgedPeriod judge.now verdict (verdict ≡ Verdict.Shown)) result }
+{
+    judge.judge_floor()?;
+    judge.judge_joins(alloc)?;
+    judge.judge_constraints(alloc, levels)?;
+    judge.judge_value()?;
+    judge.judge_schedule(slacks)
+}
+
+// The edges of a tree whose nodes are judged, its skews, its reaches and its wire.
+fn judge_tree(alloc: Global, tree: &ShapedTree) -> Result<(), Stop>
+    ensures { Decides
+        (λ verdict. JudgedTree tree.now.judge verdict (verdict ≡ Verdict.Shown)) result }
+{
     tree.judge_lengths()?;
     tree.judge_wires()?;
-    judge_tree(alloc, &tree, levels, slacks)
-}
-
-// Those from the skews on.
-fn judge_tree(
-    alloc: Global,
-    tree: &ShapedTree,
-    levels: &Levels,
-    slacks: &[Slack],
-) -> Result<(), Stop>
-    requires levels { IsLevelsOf tree.now.judge.problem.now.circuit levels.now }
-    requires slacks { AreSlacks tree.now.judge.problem.now.circuit tree.now.judge.problem.now.tech
-        tree.now.judge.report.now.period tree.now.judge.report.now.schedule slacks.now }
-    ensures { Decides (λ verdict. ReachesJudged tree.now.judge.report.now
-        tree.now.judge.sinks.now tree.now.judge.source verdict
-        (RestJudged tree.now.judge.problem.now tree.now.judge.report.now
-        tree.now.judge.cycle.now verdict (verdict ≡ Verdict.Shown))) result }
-{
     tree.judge_skews(alloc)?;
-    tree.judge_reaches(alloc)?;
-    tree.judge.judge_total()?;
-    judge_rest(alloc, &tree.judge, levels, slacks)
+    tree.judge_reaches()?;
+    tree.judge.judge_total()
 }
 
-// Those from the slacks on.
+// The slacks, the paths and the leads.
 fn judge_rest(alloc: Global, judge: &Judge, levels: &Levels, slacks: &[Slack]) -> Result<(), Stop>
     requires levels { IsLevelsOf judge.now.problem.now.circuit levels.now }
-    requires slacks { AreSlacks judge.now.problem.now.circuit judge.now.problem.now.tech
-        judge.now.report.now.period judge.now.report.now.schedule slacks.now }
-    ensures { Decides (λ verdict. RestJudged judge.now.problem.now judge.now.report.now
-        judge.now.cycle.now verdict (verdict ≡ Verdict.Shown)) result }
+    requires slacks { HasSlacks judge.now slacks.now }
+    ensures { Decides
+        (λ verdict. JudgedRest judge.now verdict (verdict ≡ Verdict.Shown)) result }
 {
     judge.judge_slacks(slacks)?;
     judge.judge_paths()?;

@@ -10,11 +10,11 @@ use std::alloc::Global;
 impl Judge<'_> {
     ghost use Rattle.cert_check.specs.declared.verdict.Reason.TheVariants.{CycleBroken};
     ghost use Rattle.cert_check.specs.Judged.{Judges};
+    ghost use Rattle.cert_check.specs.JudgedReports.{Together};
 
     /// Whether the cycle holds together at each place.
     pub(crate) fn judge_joins(&self, alloc: Global) -> Result<(), Stop>
-        ensures { Judges (length self.now.cycle.now) (HoldsTogether self.now.cycle.now) CycleBroken
-            result }
+        ensures { Judges (length self.now.cycle.now) (Together self.now) CycleBroken result }
     {
         let mut seen = vec![in alloc; false; self.problem.circuit.registers.len()]?;
         for place in 0..self.cycle.len() {

@@ -3,56 +3,44 @@ ghost use Rattle.cts_model.specs.tree.Embeddings.{AreWiresDown};
 ghost use Rattle.cts_model.specs.placement.Points.{IsBelow};
 ghost use Rattle.cts_model.specs.report.ReportLines.{number_at};
 
-use crate::merges::Merges;
+use crate::shaped::ShapedTree;
 use cts_base::{Listed, NoMemory};
-use cts_model::Merge;
 use std::alloc::Global;
 
-/// How long the wire is from the source down to each node, where the edges are of these lengths.
-/// One pass over the merges.
-pub(crate) fn wires_down(
-    alloc: Global,
-    merges: &Merges,
-    lengths: &[i128],
-) -> Result<Vec<i128>, NoMemory>
-    requires all { length lengths.now + 1 ≡ 2 * merges.now.sinks }
-    requires small { All (IsBelow (10 ^ 32)) lengths.now }
-    ensures wires { IfOk result (λ wires. AreWiresDown merges.now.sinks merges.now.list.now
-        (number_at lengths.now) (number_at wires.items)) }
-    ensures all { IfOk result (λ wires. length wires.items ≡ 2 * merges.now.sinks) }
-    ensures small { IfOk result (λ wires. All (IsBelow (10 ^ 36)) wires.items) }
-{
-    let Merges { sinks, list, .. } = *merges;
-    let mut wires = Listed::from_vec(vec![in alloc; 0; 2 * sinks]?);
-    wires.set(2 * sinks - 2, lengths[2 * sinks - 2]);
-    for done in 0..list.len() {
-        let place = list.len() - 1 - done;
-        hand_down(&mut wires, lengths, list[place], sinks + place);
+impl ShapedTree<'_> {
+    /// How long the wire is from the source down to each node, where the edges are of these
+    /// lengths. One pass over the nodes.
+    pub(crate) fn wires_down(&self, alloc: Global, lengths: &[i128]) -> Result<Vec<i128>, NoMemory>
+        requires all { length lengths.now + 1 ≡ 2 * length self.now.judge.sinks.now }
+        requires small { All (IsBelow (10 ^ 32)) lengths.now }
+        ensures wires { IfOk result (λ wires. AreWiresDown (length self.now.judge.sinks.now)
+            self.now.judge.report.now.topology.merges (number_at lengths.now)
+            (number_at wires.items)) }
+        ensures all { IfOk result
+            (λ wires. length wires.items ≡ 2 * length self.now.judge.sinks.now) }
+        ensures small { IfOk result (λ wires. All (IsBelow (10 ^ 36)) wires.items) }
+    {
+        let mut wires = Listed::from_vec(vec![in alloc; 0; 2 * self.judge.sinks.len()]?);
+        for done in 0..lengths.len() {
+            let node = lengths.len() - 1 - done;
+            hand_down(&mut wires, lengths, self.parent_of(node), node);
+        }
+        Ok(wires.into_vec())
     }
-    Ok(wires.into_vec())
 }
 
-// The wires down to the two nodes that a merge joins, from that to what it makes.
-fn hand_down(wires: &mut Listed<i128>, lengths: &[i128], merge: Merge, node: usize)
-    requires node { node < length wires.old }
-    requires first { merge.first < length lengths.now }
-    requires second { merge.second < length lengths.now }
+// The wire down to a node, from that to its parent.
+fn hand_down(wires: &mut Listed<i128>, lengths: &[i128], parent: usize, node: usize)
+    requires parent { parent < length wires.old }
+    requires node { node < length lengths.now }
     requires all { length lengths.now ≤ length wires.old }
     requires wires { All (IsBelow (10 ^ 36)) wires.old }
     requires lengths { All (IsBelow (10 ^ 32)) lengths.now }
-    ensures { wires.new ≡ slice_set (slice_set wires.old
-        merge.first (number_at wires.old node +ℤ number_at lengths.now merge.first))
-        merge.second (number_at wires.old node +ℤ number_at lengths.now merge.second) }
+    ensures { wires.new ≡ slice_set wires.old node
+        (number_at wires.old parent +ℤ number_at lengths.now node) }
 {
-    let wire = wires.as_slice()[node];
-    wires.set(
-        merge.first as usize,
-        sum(wire, lengths[merge.first as usize]),
-    );
-    wires.set(
-        merge.second as usize,
-        sum(wire, lengths[merge.second as usize]),
-    );
+    let wire = wires.as_slice()[parent];
+    wires.set(node, sum(wire, lengths[node]));
 }
 
 /// The sum of two lengths.

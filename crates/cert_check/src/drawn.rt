@@ -12,25 +12,45 @@ pub(crate) fn is_drawn(wire: &Wire, from: Point, to: Point, long: i128) -> bool
     ensures { IsTrue result ↔ IsDrawn from to long (take wire.now.used wire.now.corners) }
 {
     let (points, _) = wire.corners.split_at(wire.used as usize);
-    are_drawn(points, from, to, long)
+    let way = Way { points };
+    way.is_drawn(from, to, long)
 }
 
-// Whether points are those of a wire of that length from the one place to the other.
-fn are_drawn(points: &[Point], from: Point, to: Point, long: i128) -> bool
-    requires some { 1 ≤ length points.now }
-    requires few { length points.now ≤ 5 }
-    requires small { All (IsPointBelow (10 ^ 32)) points.now }
-    ensures { IsTrue result ↔ IsDrawn from to long points.now }
-{
-    are_ends(points, from, to) && is_way(points, long)
+// The points of a way.
+#[derive(Clone, Copy)]
+struct Way<'a> {
+    points: &'a [Point],
+    ghost some: { 1 ≤ length points.now },
+    ghost few: { length points.now ≤ 5 },
+    ghost small: { All (IsPointBelow (10 ^ 32)) points.now },
 }
 
-// Whether points begin at the one place and end at the other.
-fn are_ends(points: &[Point], from: Point, to: Point) -> bool
-    requires { 1 ≤ length points.now }
-    ensures { IsTrue result ↔ AreEnds from to points.now }
-{
-    is_same(points[0], from) && is_same(points[points.len() - 1], to)
+impl Way<'_> {
+    // Whether they are those of a wire of that length from the one place to the other.
+    fn is_drawn(&self, from: Point, to: Point, long: i128) -> bool
+        ensures { IsTrue result ↔ IsDrawn from to long self.now.points.now }
+    {
+        self.are_ends(from, to) && self.is_way(long)
+    }
+
+    // Whether they begin at the one place and end at the other.
+    fn are_ends(&self, from: Point, to: Point) -> bool
+        ensures { IsTrue result ↔ AreEnds from to self.now.points.now }
+    {
+        let points = self.points;
+        is_same(points[0], from) && is_same(points[points.len() - 1], to)
+    }
+
+    // Whether they are those of a way of that length along x and y that shares no points with
+    // itself.
+    fn is_way(&self, long: i128) -> bool
+        ensures { IsTrue result ↔ IsWay long self.now.points.now }
+    {
+        match self.points {
+            [] => false,
+            [first, more @ ..] => is_free(*first, more) && is_long(*first, more, long),
+        }
+    }
 }
 
 // Whether two points are one.
@@ -38,19 +58,6 @@ fn is_same(one: Point, other: Point) -> bool
     ensures { IsTrue result ↔ (one ≡ other) }
 {
     one == other
-}
-
-// Whether points are those of a way of that length along x and y that shares no points with itself.
-fn is_way(points: &[Point], long: i128) -> bool
-    requires some { 1 ≤ length points.now }
-    requires few { length points.now ≤ 5 }
-    requires small { All (IsPointBelow (10 ^ 32)) points.now }
-    ensures { IsTrue result ↔ IsWay long points.now }
-{
-    match points {
-        [] => false,
-        [first, more @ ..] => is_free(*first, more) && is_long(*first, more, long),
-    }
 }
 
 // Whether the way from a point through others is straight from each to the next and shares no

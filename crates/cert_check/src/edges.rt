@@ -1,7 +1,7 @@
 ghost use Rattle.std.specs.Prelude.{◌<◌, ◌↔◌, ◌^◌, ◌≤ℤ◌, All, IsTrue, length};
 ghost use Rattle.cts_model.specs.tree.Embeddings.{embedding_of};
-ghost use Rattle.cts_model.specs.report.Judgements.{IsDrawnEdge, IsLongEnough};
 ghost use Rattle.cts_model.specs.placement.Points.{IsPointBelow, distance};
+ghost use Rattle.cert_check.specs.JudgedReports.{Drawn, LongEnough};
 
 use crate::drawn::is_drawn;
 use crate::shaped::ShapedTree;
@@ -14,9 +14,8 @@ impl ShapedTree<'_> {
 
     /// Whether each edge is as long as the way between its ends, or longer.
     pub(crate) fn judge_lengths(&self) -> Result<(), Stop>
-        ensures { Judges (length self.now.judge.report.now.tree.length) (IsLongEnough
-            (length self.now.judge.sinks.now) self.now.judge.report.now.topology.merges
-            (embedding_of self.now.judge.report.now.tree)) TooShort result }
+        ensures { Judges (length self.now.judge.report.now.tree.length)
+            (LongEnough self.now.judge) TooShort result }
     {
         for edge in 0..self.parents.len() {
             if !self.is_long_enough(edge) {
@@ -29,19 +28,15 @@ impl ShapedTree<'_> {
     // Whether an edge is as long as the way between its ends, or longer.
     fn is_long_enough(&self, edge: usize) -> bool
         requires { edge < length self.now.parents.items }
-        ensures { IsTrue result ↔ IsLongEnough (length self.now.judge.sinks.now)
-            self.now.judge.report.now.topology.merges
-            (embedding_of self.now.judge.report.now.tree) edge }
+        ensures { IsTrue result ↔ LongEnough self.now.judge edge }
     {
-        reaches(&self.judge.report.tree, self.parents[edge] as usize, edge)
+        reaches(&self.judge.report.tree, self.parent_of(edge), edge)
     }
 
     /// Whether the points of each edge are those of a wire of its length between its ends.
     pub(crate) fn judge_wires(&self) -> Result<(), Stop>
-        ensures { Judges (length self.now.judge.report.now.tree.length) (IsDrawnEdge
-            (length self.now.judge.sinks.now) self.now.judge.report.now.topology.merges
-            (embedding_of self.now.judge.report.now.tree) self.now.judge.report.now.wires) WireSum
-            result }
+        ensures { Judges (length self.now.judge.report.now.tree.length) (Drawn self.now.judge)
+            WireSum result }
     {
         for edge in 0..self.parents.len() {
             if !self.is_drawn_edge(edge) {
@@ -54,14 +49,12 @@ impl ShapedTree<'_> {
     // Whether the points of an edge are those of a wire of its length between its ends.
     fn is_drawn_edge(&self, edge: usize) -> bool
         requires { edge < length self.now.parents.items }
-        ensures { IsTrue result ↔ IsDrawnEdge (length self.now.judge.sinks.now)
-            self.now.judge.report.now.topology.merges
-            (embedding_of self.now.judge.report.now.tree) self.now.judge.report.now.wires edge }
+        ensures { IsTrue result ↔ Drawn self.now.judge edge }
     {
         let tree = &self.judge.report.tree;
         let places = tree.place.as_slice();
         let wire = &self.judge.report.wires.as_slice()[edge];
-        let from = places[self.parents[edge] as usize];
+        let from = places[self.parent_of(edge)];
         is_drawn(wire, from, places[edge], tree.length.as_slice()[edge])
     }
 }

@@ -15,16 +15,15 @@ use cts_model::{Circuit, Constraint, Tech};
 
 impl Judge<'_> {
     ghost use Rattle.cts_model.specs.declared.report.Version.TheVariants.{Second};
-    ghost use Rattle.cts_model.specs.report.Judgements.{IsGivenPath};
     ghost use Rattle.cert_check.specs.declared.verdict.Reason.TheVariants.{PathBroken};
     ghost use Rattle.cert_check.specs.Judged.{Judges};
+    ghost use Rattle.cert_check.specs.JudgedReports.{GivenPath};
 
     /// Whether the path at each place of the cycle, if it is printed, gives the constraint its
     /// weight.
     pub(crate) fn judge_paths(&self) -> Result<(), Stop>
         ensures { Judges (length self.now.cycle.now) (λ place. self.now.report.now.version ≡ Second
-            → IsGivenPath self.now.problem.now.circuit self.now.problem.now.tech self.now.cycle.now
-            self.now.report.now.paths place) PathBroken result }
+            → GivenPath self.now place) PathBroken result }
     {
         for place in 0..self.report.paths.len() {
             if !self.is_given_path(place) {
@@ -37,8 +36,7 @@ impl Judge<'_> {
     // Whether the path at a place gives the constraint there its weight.
     fn is_given_path(&self, place: usize) -> bool
         requires { place < length self.now.report.now.paths }
-        ensures { IsTrue result ↔ IsGivenPath self.now.problem.now.circuit
-            self.now.problem.now.tech self.now.cycle.now self.now.report.now.paths place }
+        ensures { IsTrue result ↔ GivenPath self.now place }
     {
         let shown = ShownPath {
             circuit: &self.problem.circuit,

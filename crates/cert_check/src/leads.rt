@@ -1,12 +1,12 @@
 ghost use Rattle.std.specs.Prelude.{◌≡◌, ◌<◌, ◌≤◌, ◌↔◌, ◌^◌, ◌++◌, ◌∷◌, [], pos, ◌-ℤ◌, ◌*ℤ◌, IfOk, IsTrue, length};
 ghost use Rattle.cts_model.specs.timing.Constraints.{IsConstraintOf, count_of};
-ghost use Rattle.cts_model.specs.report.Judgements.{IsEarliest};
 ghost use Rattle.cts_model.specs.timing.Leads.{IsLedBy, IsTight, ShowsEarliest, depth_of, lead_at};
 ghost use Rattle.cts_model.specs.placement.Points.{IsBelow};
-ghost use Rattle.cts_model.specs.report.ReportBounds.{HasSmallWeight, IsBetweenRegisters, IsSmallLead, LeadsAmong};
+ghost use Rattle.cts_model.specs.report.ReportBounds.{IsSmallLead, LeadsAmong};
 ghost use Rattle.cts_model.specs.timing.Schedules.{IsSmallPeriod, arrival_of};
 ghost use Rattle.gate_order.specs.LevelParts.{IsLevelsOf};
-ghost use Rattle.cert_check.specs.TightLeads.{IsTested, tight_constraints};
+ghost use Rattle.cert_check.specs.JudgedReports.{Earliest};
+ghost use Rattle.cert_check.specs.TightLeads.{FitsLeads, IsTested, tight_constraints};
 
 use crate::down::are_same;
 use crate::judge::Judge;
@@ -27,10 +27,8 @@ impl Judge<'_> {
     pub(crate) fn judge_leads(&self, alloc: Global, levels: &Levels) -> Result<(), Stop>
         requires { IsLevelsOf self.now.problem.now.circuit levels.now }
         ensures { Judges (length self.now.problem.now.circuit.registers)
-            (λ register. self.now.report.now.version ≡ Second
-            → IsEarliest self.now.problem.now.circuit self.now.problem.now.tech
-            self.now.report.now.period self.now.report.now.schedule.at self.now.report.now.leads
-            register) NotLeast result }
+            (λ register. self.now.report.now.version ≡ Second → Earliest self.now register)
+            NotLeast result }
     {
         let leads = self.report.leads.as_slice();
         if leads.is_empty() {
@@ -55,9 +53,7 @@ impl Judge<'_> {
         requires register { register < length self.now.report.now.leads }
         requires given { IsTested self.now.problem.now.circuit self.now.problem.now.tech
             (lead_at self.now.report.now.leads register) given }
-        ensures { IsTrue result ↔ IsEarliest self.now.problem.now.circuit
-            self.now.problem.now.tech self.now.report.now.period self.now.report.now.schedule.at
-            self.now.report.now.leads register }
+        ensures { IsTrue result ↔ Earliest self.now register }
     {
         self.arrival(register) >= 0 && self.shows_earliest(register, given)
     }
@@ -80,10 +76,8 @@ impl Judge<'_> {
     // Whether a tight constraint leads to a register, and takes so many, where a test says whether
     // it is one of the circuit.
     fn is_led(&self, register: usize, depth: u32, constraint: &Constraint, given: bool) -> bool
-        requires among { IsBetweenRegisters (length self.now.report.now.leads) constraint.now }
-        requires all { length self.now.report.now.leads
-            ≡ length self.now.report.now.schedule.at }
-        requires small { HasSmallWeight constraint.now }
+        requires fits { FitsLeads (length self.now.report.now.leads)
+            (length self.now.report.now.schedule.at) constraint.now }
         requires given { IsTrue given ↔ IsConstraintOf self.now.problem.now.circuit
             self.now.problem.now.tech constraint.now }
         ensures { IsTrue result ↔ IsLedBy (IsConstraintOf self.now.problem.now.circuit
@@ -111,10 +105,8 @@ impl Judge<'_> {
 
     // Whether the head's arrival is just what a constraint asks.
     fn is_tight(&self, constraint: &Constraint) -> bool
-        requires among { IsBetweenRegisters (length self.now.report.now.leads) constraint.now }
-        requires all { length self.now.report.now.leads
-            ≡ length self.now.report.now.schedule.at }
-        requires small { HasSmallWeight constraint.now }
+        requires { FitsLeads (length self.now.report.now.leads)
+            (length self.now.report.now.schedule.at) constraint.now }
         ensures { IsTrue result ↔ IsTight self.now.report.now.period
             self.now.report.now.schedule.at constraint.now }
     {

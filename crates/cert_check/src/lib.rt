@@ -2,8 +2,8 @@
 //! are the least, whoever made it.
 #![tactic(auto)]
 
-mod below;
 mod checking;
+mod climb;
 mod cycle;
 mod delay;
 mod down;
@@ -14,7 +14,6 @@ mod judge;
 mod leads;
 mod merges;
 mod of_circuit;
-mod order;
 mod parents;
 mod path;
 mod period;

@@ -18,12 +18,12 @@ use std::alloc::Global;
 impl Judge<'_> {
     ghost use Rattle.cert_check.specs.declared.verdict.Reason.TheVariants.{NotOfCircuit};
     ghost use Rattle.cert_check.specs.Judged.{Judges};
+    ghost use Rattle.cert_check.specs.JudgedReports.{OfCircuit};
 
     /// Whether the constraint at each place of the cycle is one of the circuit.
     pub(crate) fn judge_constraints(&self, alloc: Global, levels: &Levels) -> Result<(), Stop>
         requires { IsLevelsOf self.now.problem.now.circuit levels.now }
-        ensures { Judges (length self.now.cycle.now) (IsOfCircuit self.now.problem.now.circuit
-            self.now.problem.now.tech self.now.cycle.now) NotOfCircuit result }
+        ensures { Judges (length self.now.cycle.now) (OfCircuit self.now) NotOfCircuit result }
     {
         let delays = self.delays_of(alloc, levels, self.cycle)?;
         for place in 0..self.cycle.len() {

@@ -1,19 +1,41 @@
 ghost use Rattle.std.specs.Prelude.{◌≡◌, ◌<◌, ◌≤◌, ◌+◌, ◌*◌, ◌^◌, ◌↔◌, IsTrue, pos, All, IfOk, length, slice_index_or};
 ghost use Rattle.cts_model.specs.tree.Embeddings.{AreWiresDown, embedding_of, total_length, total_wire};
-ghost use Rattle.cts_model.specs.report.Judgements.{IsReachShown, IsSkewed};
 ghost use Rattle.cts_model.specs.placement.Points.{IsBelow};
 ghost use Rattle.cts_model.specs.report.ReportLines.{number_at};
-ghost use Rattle.cert_check.specs.ReachParts.{IsLevel};
-ghost use Rattle.cert_check.specs.SmallSinks.{IsSmallSink};
+ghost use Rattle.cts_model.specs.tree.Topologies.{IsTopology};
+ghost use Rattle.cert_check.specs.JudgedReports.{HasReach, Skewed};
 
-use crate::below::{sizes_of, starts_of};
-use crate::down::{are_same, difference, wires_down};
+use crate::down::{are_same, difference};
 use crate::judge::Judge;
-use crate::order::{OrderedTree, SinkOrder};
 use crate::shaped::ShapedTree;
 use crate::verdict::{Reason, Stop};
-use cts_model::Sink;
 use std::alloc::Global;
+
+/// A report with how long the wire is from the source of its tree down to each node.
+#[derive(Clone, Copy)]
+struct WiredTree<'a> {
+    judge: Judge<'a>,
+    wires: &'a [i128],
+    ghost topology: { IsTopology (length judge.sinks.now)
+        judge.report.now.topology.merges },
+    ghost down: { AreWiresDown (length judge.sinks.now) judge.report.now.topology.merges
+        (number_at judge.report.now.tree.length) (number_at wires.now) },
+    ghost all: { length wires.now ≡ 2 * length judge.sinks.now },
+    ghost small: { All (IsBelow (10 ^ 36)) wires.now },
+}
+
+impl WiredTree<'_> {
+    // Whether the wires down to a register and to the first one differ as their offsets do.
+    fn is_skewed(&self, register: usize) -> bool
+        requires { register < length self.now.judge.sinks.now }
+        ensures { IsTrue result ↔ Skewed self.now.judge register }
+    {
+        let first = self.judge.sinks[0];
+        let sink = self.judge.sinks[register];
+        let wire = difference(self.wires[register], self.wires[0]);
+        are_same(wire, difference(first.offset, sink.offset))
+    }
+}
 
 impl ShapedTree<'_> {
     ghost use Rattle.cert_check.specs.declared.verdict.Reason.TheVariants.{SkewDiffers, Unshown};
@@ -21,52 +43,31 @@ impl ShapedTree<'_> {
 
     /// Whether the wires down to each register and to the first one differ as scheduled.
     pub(crate) fn judge_skews(&self, alloc: Global) -> Result<(), Stop>
-        ensures { Judges (length self.now.judge.sinks.now) (IsSkewed self.now.judge.sinks.now
-            self.now.judge.report.now.topology.merges
-            (embedding_of self.now.judge.report.now.tree)) SkewDiffers result }
+        ensures { Judges (length self.now.judge.sinks.now) (Skewed self.now.judge) SkewDiffers
+            result }
     {
         let lengths = self.judge.report.tree.length.as_slice();
-        let wires = wires_down(alloc, &self.judge.merges(), lengths)?;
+        let wires = self.wires_down(alloc, lengths)?;
+        let tree = WiredTree {
+            judge: self.judge,
+            wires: wires.as_slice(),
+        };
         for register in 0..self.judge.sinks.len() {
-            if !self.is_skewed(wires.as_slice(), register) {
+            if !tree.is_skewed(register) {
                 return Err(Stop::At(Reason::SkewDiffers(register as u32)));
             }
         }
         Ok(())
     }
 
-    // Whether the wires down to a register and to the first one differ as their offsets do.
-    fn is_skewed(&self, wires: &[i128], register: usize) -> bool
-        requires wires { AreWiresDown (length self.now.judge.sinks.now)
-            self.now.judge.report.now.topology.merges
-            (number_at self.now.judge.report.now.tree.length) (number_at wires.now) }
-        requires all { length wires.now ≡ 2 * length self.now.judge.sinks.now }
-        requires small { All (IsBelow (10 ^ 36)) wires.now }
-        requires register { register < length self.now.judge.sinks.now }
-        ensures { IsTrue result ↔ IsSkewed self.now.judge.sinks.now
-            self.now.judge.report.now.topology.merges
-            (embedding_of self.now.judge.report.now.tree) register }
-    {
-        is_level(self.judge.sinks, wires, register)
-    }
-
     /// Whether the reach of each merge and of the source is shown.
-    pub(crate) fn judge_reaches(&self, alloc: Global) -> Result<(), Stop>
-        ensures { Judges (2 * length self.now.judge.sinks.now) (IsReachShown
-            self.now.judge.sinks.now self.now.judge.report.now.topology.merges
-            self.now.judge.source (embedding_of self.now.judge.report.now.tree)
-            (number_at self.now.judge.report.now.tree.reach) self.now.judge.report.now.shows)
-            Unshown result }
+    pub(crate) fn judge_reaches(&self) -> Result<(), Stop>
+        ensures { Judges (2 * length self.now.judge.sinks.now) (HasReach self.now.judge) Unshown
+            result }
     {
-        let merges = self.judge.merges();
-        let sizes = sizes_of(alloc, &merges)?;
-        let starts = starts_of(alloc, &merges, sizes.as_slice())?;
-        let tree = OrderedTree {
-            judge: self.judge,
-            order: SinkOrder { starts, sizes },
-        };
-        for node in merges.sinks..2 * merges.sinks {
-            if !tree.is_reach_shown(node) {
+        let sinks = self.judge.sinks.len();
+        for node in sinks..2 * sinks {
+            if !self.is_reach_shown(node) {
                 return Err(Stop::At(Reason::Unshown(node as u32)));
             }
         }
@@ -89,20 +90,6 @@ impl Judge<'_> {
             Err(Stop::At(Reason::Total))
         }
     }
-}
-
-// Whether the wires down to a register and to the first one differ as their offsets do.
-fn is_level(sinks: &[Sink], wires: &[i128], register: usize) -> bool
-    requires register { register < length sinks.now }
-    requires all { length wires.now ≡ 2 * length sinks.now }
-    requires wires { All (IsBelow (10 ^ 36)) wires.now }
-    requires sinks { All IsSmallSink sinks.now }
-    ensures { IsTrue result ↔ IsLevel sinks.now (number_at wires.now) register }
-{
-    let first = sinks[0];
-    let sink = sinks[register];
-    let wire = difference(wires[register], wires[0]);
-    are_same(wire, difference(first.offset, sink.offset))
 }
 
 // How long the edges of a tree are together.

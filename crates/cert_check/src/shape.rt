@@ -1,11 +1,10 @@
 ghost use Rattle.std.specs.Prelude.{◌≡◌, ◌↔◌, ◌<◌, ◌≤◌, ◌+◌, ◌*◌, ◌^◌, IfOk, IsTrue, length};
-ghost use Rattle.cts_model.specs.tree.Embeddings.{embedding_of};
 ghost use Rattle.cts_model.specs.tree.Topologies.{IsTopology, source_of};
-ghost use Rattle.cts_model.specs.report.Judgements.{HasShape};
 ghost use Rattle.cts_model.specs.placement.Points.{IsPointBelow, rotated};
 ghost use Rattle.cert_check.specs.declared.verdict.Reason.TheVariants.{TreeShape};
 ghost use Rattle.cert_check.specs.Judged.{Judges, JudgesOnce};
 ghost use Rattle.cert_check.specs.EmbeddingParts.{IsOfUnmarked, JoinsAt, StandsAt};
+ghost use Rattle.cert_check.specs.JudgedReports.{Shaped, tree_of};
 
 use crate::judge::Judge;
 use crate::sinks::rotated;
@@ -16,9 +15,7 @@ use std::alloc::Global;
 impl Judge<'_> {
     /// Whether each node is as the topology and the given places have it.
     pub(crate) fn judge_shape(&self, alloc: Global) -> Result<(), Stop>
-        ensures shape { Judges (2 * length self.now.sinks.now) (HasShape self.now.sinks.now
-            self.now.report.now.topology.merges self.now.source
-            (embedding_of self.now.report.now.tree)) TreeShape result }
+        ensures shape { Judges (2 * length self.now.sinks.now) (Shaped self.now) TreeShape result }
         ensures topology { IfOk result (λ done. IsTopology (length self.now.sinks.now)
             self.now.report.now.topology.merges) }
     {
@@ -33,8 +30,8 @@ impl Judge<'_> {
 
     // Whether each sink is at its given place.
     fn judge_sinks(&self) -> Result<(), Stop>
-        ensures { Judges (length self.now.sinks.now) (StandsAt self.now.sinks.now
-            (embedding_of self.now.report.now.tree)) TreeShape result }
+        ensures { Judges (length self.now.sinks.now)
+            (StandsAt self.now.sinks.now (tree_of self.now)) TreeShape result }
     {
         for register in 0..self.sinks.len() {
             if !self.stands(register, self.sinks[register].at) {
@@ -46,7 +43,7 @@ impl Judge<'_> {
 
     // Whether the source is at its given place.
     fn judge_source(&self) -> Result<(), Stop>
-        ensures { JudgesOnce (rotated ((embedding_of self.now.report.now.tree).place
+        ensures { JudgesOnce (rotated ((tree_of self.now).place
             (source_of (length self.now.sinks.now))) ≡ self.now.source)
             (TreeShape (source_of (length self.now.sinks.now))) result }
     {
@@ -61,8 +58,7 @@ impl Judge<'_> {
     // Whether a node is the point with these rotated coordinates.
     fn stands(&self, node: usize, at: Uv) -> bool
         requires { node < 2 * length self.now.sinks.now }
-        ensures { IsTrue result
-            ↔ (rotated ((embedding_of self.now.report.now.tree).place node) ≡ at) }
+        ensures { IsTrue result ↔ (rotated ((tree_of self.now).place node) ≡ at) }
     {
         rotated(self.report.tree.place.as_slice()[node]) == at
     }

@@ -1,20 +1,19 @@
 ghost use Rattle.std.specs.Prelude.{◌≡◌, ◌<◌, ◌≤◌, ◌+◌, ◌*◌, ◌^◌, ◌↔◌, ◌+ℤ◌, IsTrue, IsSomeAnd, Some, length, slice_get};
-ghost use Rattle.cts_model.specs.tree.Embeddings.{embedding_of};
-ghost use Rattle.cts_model.specs.report.Judgements.{IsReachShown};
 ghost use Rattle.cts_model.specs.placement.Points.{IsBelow, IsUvBelow, apart, rotated_distance};
 ghost use Rattle.cts_model.specs.tree.Regions.{span};
 ghost use Rattle.cts_model.specs.report.ReportBounds.{ShowsAmong};
 ghost use Rattle.cts_model.specs.report.ReportLines.{number_at};
 ghost use Rattle.cts_model.specs.tree.ShownReaches.{IsPairShow, ShowsMerge, ShowsSource};
 ghost use Rattle.cts_model.specs.tree.Topologies.{numbers_below, root_of, source_of};
+ghost use Rattle.cert_check.specs.JudgedReports.{HasReach};
 ghost use Rattle.cert_check.specs.SmallSinks.{IsSmallSink};
 
 use crate::down::{are_same, difference, sum};
 use crate::judge::Judge;
-use crate::order::OrderedTree;
+use crate::shaped::ShapedTree;
 use cts_model::{Merge, Show, Sink, Uv};
 
-impl OrderedTree<'_> {
+impl ShapedTree<'_> {
     ghost use Rattle.cert_check.specs.ReachParts.{IsMergeShown};
 
     /// Whether the reach of a merge or of the source is that of each node below it with the length
@@ -22,10 +21,7 @@ impl OrderedTree<'_> {
     pub(crate) fn is_reach_shown(&self, node: usize) -> bool
         requires above { length self.now.judge.sinks.now ≤ node }
         requires node { node < 2 * length self.now.judge.sinks.now }
-        ensures { IsTrue result ↔ IsReachShown self.now.judge.sinks.now
-            self.now.judge.report.now.topology.merges self.now.judge.source
-            (embedding_of self.now.judge.report.now.tree)
-            (number_at self.now.judge.report.now.tree.reach) self.now.judge.report.now.shows node }
+        ensures { IsTrue result ↔ HasReach self.now.judge node }
     {
         let sinks = self.judge.sinks.len();
         if node + 1 == 2 * sinks {

@@ -1,7 +1,6 @@
 ghost use Rattle.std.specs.Prelude.{◌≡◌, ◌<◌, ◌↔◌, IsTrue, Some, length, slice_get};
-ghost use Rattle.cts_model.specs.report.Judgements.{HasSlack, MeetsAt};
-ghost use Rattle.cts_model.specs.timing.Slacks.{AreSlacks};
 ghost use Rattle.cert_check.specs.ComparedSlacks.{AreOneSlack, HasSlackRoom, IsFromZero};
+ghost use Rattle.cert_check.specs.JudgedReports.{HasSlacks, Meets, Spares};
 
 use crate::judge::Judge;
 use crate::verdict::{Reason, Stop};
@@ -14,59 +13,31 @@ impl Judge<'_> {
 
     /// Whether the paths that end at each register meet the period, by the slacks that there are.
     pub(crate) fn judge_schedule(&self, slacks: &[Slack]) -> Result<(), Stop>
-        requires { AreSlacks self.now.problem.now.circuit self.now.problem.now.tech
-            self.now.report.now.period self.now.report.now.schedule slacks.now }
-        ensures { Judges (length self.now.problem.now.circuit.registers)
-            (MeetsAt self.now.problem.now.circuit self.now.problem.now.tech
-            self.now.report.now.period self.now.report.now.schedule.at) ScheduleMisses result }
+        requires { HasSlacks self.now slacks.now }
+        ensures { Judges (length self.now.problem.now.circuit.registers) (Meets self.now)
+            ScheduleMisses result }
     {
         for register in 0..slacks.len() {
-            if !self.meets(slacks, register) {
+            if !has_room(slack_at(slacks, register)) {
                 return Err(Stop::At(Reason::ScheduleMisses(register as u32)));
             }
         }
         Ok(())
     }
 
-    // Whether the paths that end at a register meet the period.
-    fn meets(&self, slacks: &[Slack], register: usize) -> bool
-        requires slacks { AreSlacks self.now.problem.now.circuit self.now.problem.now.tech
-            self.now.report.now.period self.now.report.now.schedule slacks.now }
-        requires register { register < length slacks.now }
-        ensures { IsTrue result ↔ MeetsAt self.now.problem.now.circuit self.now.problem.now.tech
-            self.now.report.now.period self.now.report.now.schedule.at register }
-    {
-        has_room(slack_at(slacks, register))
-    }
-
     /// Whether the printed slacks of each register are those that there are.
     pub(crate) fn judge_slacks(&self, slacks: &[Slack]) -> Result<(), Stop>
-        requires { AreSlacks self.now.problem.now.circuit self.now.problem.now.tech
-            self.now.report.now.period self.now.report.now.schedule slacks.now }
-        ensures { Judges (length self.now.problem.now.circuit.registers)
-            (HasSlack self.now.problem.now.circuit self.now.problem.now.tech
-            self.now.report.now.period self.now.report.now.schedule.at
-            self.now.report.now.slacks) SlackDiffers result }
+        requires { HasSlacks self.now slacks.now }
+        ensures { Judges (length self.now.problem.now.circuit.registers) (Spares self.now)
+            SlackDiffers result }
     {
         for register in 0..slacks.len() {
-            if !self.prints_slack(slacks, register) {
+            let printed = slack_at(self.report.slacks.as_slice(), register);
+            if !are_one_slack(printed, slack_at(slacks, register)) {
                 return Err(Stop::At(Reason::SlackDiffers(register as u32)));
             }
         }
         Ok(())
-    }
-
-    // Whether the printed slacks of a register are those that it has.
-    fn prints_slack(&self, slacks: &[Slack], register: usize) -> bool
-        requires slacks { AreSlacks self.now.problem.now.circuit self.now.problem.now.tech
-            self.now.report.now.period self.now.report.now.schedule slacks.now }
-        requires register { register < length slacks.now }
-        ensures { IsTrue result ↔ HasSlack self.now.problem.now.circuit self.now.problem.now.tech
-            self.now.report.now.period self.now.report.now.schedule.at
-            self.now.report.now.slacks register }
-    {
-        let printed = slack_at(self.report.slacks.as_slice(), register);
-        are_one_slack(printed, slack_at(slacks, register))
     }
 }
 

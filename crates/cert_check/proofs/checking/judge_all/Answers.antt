@@ -1,72 +1,58 @@
 -- What all before hold leaves to the next.
-use Rattle.std.proofs.Common.{◌≡◌, length, inr}
-use Rattle.cts_model.specs.report.Judgements.{GivesPeriod, MeetsAt}
-use Rattle.cert_check.specs.declared.verdict.Reason.TheVariants.{CycleValue, ScheduleMisses}
+use Rattle.std.proofs.Common.{◌≡◌, ◌*◌, length, inr, refl}
+use Rattle.cert_check.specs.declared.verdict.Reason.TheVariants.{TreeShape}
 use Rattle.cert_check.specs.declared.verdict.Verdict.TheVariants.{Shown}
 use Rattle.cert_check.specs.Judged.{Decides}
-use Rattle.cert_check.specs.Verdicts.{EmbeddingJudged, IsVerdictBy, ReachesJudged, RestJudged}
+use Rattle.cert_check.specs.JudgedReports.{JudgedPeriod, JudgedRest, JudgedTree, Shaped}
+use Rattle.cert_check.specs.Verdicts.{IsVerdictBy}
 use Rattle.cert_check.proofs.FirstPlaces.{passed_on}
-use Rattle.cert_check.proofs.JudgedLemmas.{decides_after, stops_once, stops_places}
+use Rattle.cert_check.proofs.JudgedLemmas.{decides_after, kept_shown, not_shown, period_then, stops_after, stops_places, tree_then}
 use Rattle.cert_check.proofs.checking.judge_all.Goals as goal
 
-pub returns-in_err-judge_value : goal.returns-in_err-judge_value
-returns-in_err-judge_value c =
-    let problem = c.args.judge.now.problem.now in
-    let report = c.args.judge.now.report.now in
-    let cycle = c.args.judge.now.cycle.now in
-    let sinks = c.args.judge.now.sinks.now in
-    let source = c.args.judge.now.source in
-    let stop = c.in_err-judge_value.field-0.0 in
-    passed_on (Decides (IsVerdictBy problem report cycle sinks source))
-    c.from_residual-in_err-judge_value.result stop c.from_residual-in_err-judge_value.ensures.1
-    (stops_once (GivesPeriod problem.tech report.period report.shown) CycleValue _
-    (IsVerdictBy problem report cycle sinks source) stop c.in_err-judge_value.ensures
-    (λ verdict judged. inr (
-      c.in_ok-judge_floor.ensures,
-      inr (c.in_ok-judge_joins.ensures, inr (c.in_ok-judge_constraints.ensures, judged)),
-    )))
+pub returns-in_err-judge_period : goal.returns-in_err-judge_period
+returns-in_err-judge_period c =
+    let judge = c.args.judge.now in
+    stops_after (λ verdict. JudgedPeriod judge verdict (verdict ≡ Shown))
+    (IsVerdictBy judge.problem.now judge.report.now judge.cycle.now judge.sinks.now judge.source)
+    c.from_residual.result c.in_err-judge_period.field-0.0
+    c.from_residual.ensures.1
+    (λ why judged. period_then judge (λ other is. is) judged (λ is. absurd (not_shown refl is)))
+    c.in_err-judge_period.ensures
 
-pub returns-in_err-judge_schedule : goal.returns-in_err-judge_schedule
-returns-in_err-judge_schedule c =
-    let problem = c.args.judge.now.problem.now in
-    let report = c.args.judge.now.report.now in
-    let cycle = c.args.judge.now.cycle.now in
-    let sinks = c.args.judge.now.sinks.now in
-    let source = c.args.judge.now.source in
-    let stop = c.in_err-judge_schedule.field-0.0 in
-    passed_on (Decides (IsVerdictBy problem report cycle sinks source))
-    c.from_residual-in_err-judge_schedule.result stop
-    c.from_residual-in_err-judge_schedule.ensures.1
-    (stops_places (length problem.circuit.registers)
-    (MeetsAt problem.circuit problem.tech report.period report.schedule.at) ScheduleMisses _
-    (IsVerdictBy problem report cycle sinks source) stop c.in_err-judge_schedule.ensures
-    (λ verdict judged. inr (
-      c.in_ok-judge_floor.ensures,
-      inr (
-        c.in_ok-judge_joins.ensures,
-        inr (c.in_ok-judge_constraints.ensures, inr (c.in_ok-judge_value.ensures, judged)),
-      ),
-    )))
+pub returns-in_err-judge_shape : goal.returns-in_err-judge_shape
+returns-in_err-judge_shape c =
+    let judge = c.args.judge.now in
+    let stop = c.in_err-judge_shape.field-0.0 in
+    passed_on (Decides (IsVerdictBy judge.problem.now judge.report.now judge.cycle.now
+    judge.sinks.now judge.source)) c.from_residual-in_err-judge_shape.result stop
+    c.from_residual-in_err-judge_shape.ensures.1
+    (stops_places (2 * length judge.sinks.now) (Shaped judge) TreeShape _
+    (IsVerdictBy judge.problem.now judge.report.now judge.cycle.now judge.sinks.now judge.source)
+    stop c.in_err-judge_shape.ensures.shape
+    (λ verdict judged. period_then judge (kept_shown verdict) c.in_ok-judge_period.ensures
+    (λ _. judged)))
+
+pub returns-in_err-judge_tree : goal.returns-in_err-judge_tree
+returns-in_err-judge_tree c =
+    let judge = c.args.judge.now in
+    stops_after (λ verdict. JudgedTree judge verdict (verdict ≡ Shown))
+    (IsVerdictBy judge.problem.now judge.report.now judge.cycle.now judge.sinks.now judge.source)
+    c.from_residual-in_err-judge_tree.result c.in_err-judge_tree.field-0.0
+    c.from_residual-in_err-judge_tree.ensures.1
+    (λ why judged. period_then judge (kept_shown _) c.in_ok-judge_period.ensures
+    (λ _. inr (
+      c.in_ok-judge_shape.ensures.shape,
+      tree_then judge (λ other is. is) judged (λ is. absurd (not_shown refl is)),
+    ))) c.in_err-judge_tree.ensures
 
 pub returns : goal.returns
 returns c =
-    let problem = c.args.judge.now.problem.now in
-    let report = c.args.judge.now.report.now in
-    let cycle = c.args.judge.now.cycle.now in
-    let sinks = c.args.judge.now.sinks.now in
-    let source = c.args.judge.now.source in
-    decides_after (λ verdict. EmbeddingJudged report sinks source verdict
-    (ReachesJudged report sinks source verdict
-    (RestJudged problem report cycle verdict (verdict ≡ Shown))))
-    (IsVerdictBy problem report cycle sinks source)
-    c.judge_embedding.result
-    (λ verdict next. inr (
-      c.in_ok-judge_floor.ensures,
-      inr (
-        c.in_ok-judge_joins.ensures,
-        inr (
-          c.in_ok-judge_constraints.ensures,
-          inr (c.in_ok-judge_value.ensures, inr (c.in_ok-judge_schedule.ensures, next)),
-        ),
-      ),
-    )) c.judge_embedding.ensures
+    let judge = c.args.judge.now in
+    decides_after (λ verdict. JudgedRest judge verdict (verdict ≡ Shown))
+    (IsVerdictBy judge.problem.now judge.report.now judge.cycle.now judge.sinks.now judge.source)
+    c.judge_rest.result
+    (λ verdict rest. period_then judge (kept_shown verdict) c.in_ok-judge_period.ensures
+    (λ _. inr (
+      c.in_ok-judge_shape.ensures.shape,
+      tree_then judge (kept_shown verdict) c.in_ok-judge_tree.ensures (λ _. rest),
+    ))) c.judge_rest.ensures

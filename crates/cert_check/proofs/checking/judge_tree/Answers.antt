@@ -1,22 +1,36 @@
 -- What all before hold leaves to the next.
-use Rattle.std.proofs.Common.{◌≡◌, inr}
+use Rattle.std.proofs.Common.{◌≡◌, ◌*◌, length, inr}
+use Rattle.cts_model.specs.tree.Embeddings.{total_wire}
+use Rattle.cert_check.specs.declared.verdict.Reason.TheVariants.{Total, Unshown}
 use Rattle.cert_check.specs.declared.verdict.Verdict.TheVariants.{Shown}
-use Rattle.cert_check.specs.Verdicts.{ReachesJudged, RestJudged}
-use Rattle.cert_check.proofs.JudgedLemmas.{decides_after}
+use Rattle.cert_check.specs.Judged.{Decides}
+use Rattle.cert_check.specs.JudgedReports.{HasReach, JudgedTree, tree_of}
+use Rattle.cert_check.proofs.FirstPlaces.{passed_on}
+use Rattle.cert_check.proofs.JudgedLemmas.{last_once, stops_places}
 use Rattle.cert_check.proofs.checking.judge_tree.Goals as goal
+
+pub returns-in_err-judge_reaches : goal.returns-in_err-judge_reaches
+returns-in_err-judge_reaches c =
+    let judge = c.args.tree.now.judge in
+    let stop = c.in_err-judge_reaches.field-0.0 in
+    passed_on (Decides (λ verdict. JudgedTree judge verdict (verdict ≡ Shown)))
+    c.from_residual-in_err-judge_reaches.result stop c.from_residual-in_err-judge_reaches.ensures.1
+    (stops_places (2 * length judge.sinks.now) (HasReach judge) Unshown _
+    (λ verdict. JudgedTree judge verdict (verdict ≡ Shown)) stop c.in_err-judge_reaches.ensures
+    (λ verdict judged. inr (
+      c.in_ok-judge_lengths.ensures,
+      inr (c.in_ok-judge_wires.ensures, inr (c.in_ok-judge_skews.ensures, judged)),
+    )))
 
 pub returns : goal.returns
 returns c =
-    let problem = c.args.tree.now.judge.problem.now in
-    let report = c.args.tree.now.judge.report.now in
-    let cycle = c.args.tree.now.judge.cycle.now in
-    let sinks = c.args.tree.now.judge.sinks.now in
-    let source = c.args.tree.now.judge.source in
-    decides_after (λ verdict. RestJudged problem report cycle verdict (verdict ≡ Shown))
-    (λ verdict. ReachesJudged report sinks source verdict
-    (RestJudged problem report cycle verdict (verdict ≡ Shown)))
-    c.judge_rest.result
-    (λ verdict next. inr (
-      c.in_ok-judge_skews.ensures,
-      inr (c.in_ok-judge_reaches.ensures, inr (c.in_ok-judge_total.ensures, next)),
-    )) c.judge_rest.ensures
+    let judge = c.args.tree.now.judge in
+    last_once (judge.report.now.total ≡ total_wire (length judge.sinks.now) (tree_of judge)) Total
+    (λ verdict. JudgedTree judge verdict (verdict ≡ Shown)) c.judge_total.result
+    c.judge_total.ensures (λ verdict judged. inr (
+      c.in_ok-judge_lengths.ensures,
+      inr (
+        c.in_ok-judge_wires.ensures,
+        inr (c.in_ok-judge_skews.ensures, inr (c.in_ok-judge_reaches.ensures, judged)),
+      ),
+    ))

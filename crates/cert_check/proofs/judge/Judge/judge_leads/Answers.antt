@@ -2,8 +2,9 @@
 use Rattle.std.proofs.Common.{◌≡◌, ◌↔◌, ◌∷◌, [], All, IsTrue, length, take, get_or, refl, rules, ap, subst, sym, ◌∙◌, arith}
 use Rattle.std.proofs.lemmas.List.{length-append}
 use Rattle.cts_model.specs.declared.schedule.Lead.TheVariants.{Zero}
-use Rattle.cts_model.specs.report.Judgements.{IsEarliest, IsOfCircuit}
+use Rattle.cts_model.specs.report.Judgements.{IsOfCircuit}
 use Rattle.cts_model.specs.report.ReportBounds.{IsBetweenRegisters}
+use Rattle.cert_check.specs.JudgedReports.{Earliest}
 use Rattle.cert_check.specs.TightLeads.{tight_constraints}
 use Rattle.cert_check.proofs.FirstPlaces.{denied, each_more}
 use Rattle.cert_check.proofs.JudgeFacts.{listed_count, listed_second, second_count}
@@ -42,9 +43,7 @@ loop-register-init c = record {
 
 pub loop-register-preserved : goal.loop-register-preserved
 loop-register-preserved c =
-    let problem = c.args.self.now.problem.now in
-    let report = c.args.self.now.report.now in
-    let leads = report.leads in
+    let leads = c.args.self.now.report.now.leads in
     let register = c.loop-register.register in
     let before = c.loop-register.invariant in
     let low = rw c.as_slice-leads.ensures at c.loop-register-test.true in
@@ -60,8 +59,8 @@ loop-register-preserved c =
             (tight_constraints (get_or leads register Zero ∷ [])),
       );
       few = omega (arith, before.few, c.constraint_count-tight.ensures.small);
-      each = each_more (IsEarliest problem.circuit problem.tech report.period report.schedule.at
-          leads) register before.each (c.is_earliest.ensures.0 c.if-not-is_earliest.false);
+      each = each_more (Earliest c.args.self.now) register before.each
+          (c.is_earliest.ensures.0 c.if-not-is_earliest.false);
     }
 
 pub returns-then-is_empty : goal.returns-then-is_empty
@@ -81,10 +80,9 @@ returns-then-is_empty c place within second =
 pub returns-then-not-is_earliest : goal.returns-then-not-is_earliest
 returns-then-not-is_earliest c =
     let self = c.args.self.now in
-    let problem = self.problem.now in
     let report = self.report.now in
     let register = c.loop-register.register in
-    let registers = length problem.circuit.registers in
+    let registers = length self.problem.now.circuit.registers in
     let low = rw c.as_slice-leads.ensures at c.loop-register-test.true in
     let second = listed_second report.version registers (length report.leads) register
     self.size.leads low in
@@ -93,9 +91,8 @@ returns-then-not-is_earliest c =
       register,
       record {
         within = omega (arith, low, count);
-        fails = λ holds. denied (IsEarliest problem.circuit problem.tech report.period
-            report.schedule.at report.leads register) c.is_earliest.result c.is_earliest.ensures
-            c.if-not-is_earliest.true (holds second);
+        fails = λ holds. denied (Earliest self register) c.is_earliest.result
+            c.is_earliest.ensures c.if-not-is_earliest.true (holds second);
         before = λ place earlier also. c.loop-register.invariant.each place earlier;
       },
       refl,

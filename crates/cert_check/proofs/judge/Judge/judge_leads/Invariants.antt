@@ -1,7 +1,7 @@
 -- The leads so far show that nothing is earlier, and so many of their constraints are passed.
 use Rattle.std.proofs.Common.{◌≡◌, ◌≤◌}
-use Rattle.cts_model.specs.report.Judgements.{IsEarliest}
 use Rattle.cts_model.specs.report.Shown.{AtEach}
+use Rattle.cert_check.specs.JudgedReports.{Earliest}
 use Rattle.cert_check.proofs.TightLemmas.{tight_before}
 use Rattle.cert_check.proofs.judge.Judge.judge_leads.Given as goal
 
@@ -9,6 +9,5 @@ abbrev pub invariant-loop-register : goal.invariant-loop-register
 invariant-loop-register l = record {
   passed : l.tight ≡ tight_before l.self.report.now.leads l.register;
   few : l.tight ≤ l.register;
-  each : AtEach l.register (IsEarliest l.self.problem.now.circuit l.self.problem.now.tech
-      l.self.report.now.period l.self.report.now.schedule.at l.self.report.now.leads);
+  each : AtEach l.register (Earliest l.self);
 }

@@ -1,13 +1,39 @@
--- One more.
-use Rattle.cts_model.specs.report.Judgements.{HasSlack}
-use Rattle.cert_check.proofs.FirstPlaces.{each_more}
+-- The slacks are those of the register, and so are the printed ones.
+use Rattle.std.proofs.Common.{refl, arith}
+use Rattle.cert_check.specs.ComparedSlacks.{AreOneSlack}
+use Rattle.cert_check.specs.JudgedReports.{Spares}
+use Rattle.cert_check.proofs.FirstPlaces.{denied, each_more}
+use Rattle.cert_check.proofs.SlackLemmas.{prints_slack}
 use Rattle.cert_check.proofs.judge.Judge.judge_slacks.Goals as goal
 
 pub loop-register-preserved : goal.loop-register-preserved
 loop-register-preserved c =
     let self = c.args.self.now in
-    let problem = self.problem.now in
-    let report = self.report.now in
-    each_more (HasSlack problem.circuit problem.tech report.period report.schedule.at
-    report.slacks) c.loop-register.register
-    c.loop-register.invariant (c.prints_slack.ensures.0 c.if-not-prints_slack.false)
+    let register = c.loop-register.register in
+    let own = c.slack_at.result in
+    let law = prints_slack self.problem.now.circuit self.problem.now.tech self.report.now.period
+    self.report.now.schedule.at register own (c.requires.each register own c.slack_at.ensures)
+    self.report.now.slacks c.slack_at-printed.result
+    (rw c.as_slice.ensures at c.slack_at-printed.ensures) in
+    each_more (Spares self) register c.loop-register.invariant
+    (law.0 (c.are_one_slack.ensures.0 c.if-not-are_one_slack.false))
+
+pub returns-then-not-are_one_slack : goal.returns-then-not-are_one_slack
+returns-then-not-are_one_slack c =
+    let self = c.args.self.now in
+    let register = c.loop-register.register in
+    let own = c.slack_at.result in
+    let printed = c.slack_at-printed.result in
+    let law = prints_slack self.problem.now.circuit self.problem.now.tech self.report.now.period
+    self.report.now.schedule.at register own (c.requires.each register own c.slack_at.ensures)
+    self.report.now.slacks printed (rw c.as_slice.ensures at c.slack_at-printed.ensures) in (
+      register,
+      record {
+        within = omega (arith, c.loop-register-test.true, c.requires.registers);
+        fails = λ spares. denied (AreOneSlack printed.setup own.setup
+            × AreOneSlack printed.hold own.hold) c.are_one_slack.result c.are_one_slack.ensures
+            c.if-not-are_one_slack.true (law.1 spares);
+        before = c.loop-register.invariant;
+      },
+      refl,
+    )

@@ -5,6 +5,15 @@ use Rattle.cts_model.specs.timing.Leads.{ShowsEarliest}
 use Rattle.cert_check.specs.TightLeads.{IsTested}
 use Rattle.cert_check.proofs.judge.Judge.shows_earliest.Goals as goal
 
+pub is_led-requires-clause-fits : goal.is_led-requires-clause-fits
+is_led-requires-clause-fits c =
+    let small = rw c.in-Tight.is at c.lead.ensures.small in
+    record {
+      among = rw c.in-Tight.is at c.lead.ensures.among;
+      all = c.lead.ensures.all;
+      small = small.2;
+    }
+
 pub is_led-requires-clause-given : goal.is_led-requires-clause-given
 is_led-requires-clause-given c =
     let problem = c.args.self.now.problem.now in

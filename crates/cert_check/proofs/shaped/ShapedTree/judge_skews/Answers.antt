@@ -1,14 +1,29 @@
 -- One more.
-use Rattle.cts_model.specs.report.Judgements.{IsSkewed}
-use Rattle.cts_model.specs.tree.Embeddings.{embedding_of}
+use Rattle.std.proofs.Common.{◌≡◌, ◌*◌, ◌^◌, All, length, subst, sym}
+use Rattle.cts_model.specs.placement.Points.{IsBelow}
+use Rattle.cts_model.specs.report.ReportLines.{number_at}
+use Rattle.cts_model.specs.tree.Embeddings.{AreWiresDown}
+use Rattle.cert_check.specs.JudgedReports.{Skewed}
 use Rattle.cert_check.proofs.FirstPlaces.{each_more}
 use Rattle.cert_check.proofs.shaped.ShapedTree.judge_skews.Goals as goal
 
 pub loop-register-preserved : goal.loop-register-preserved
-loop-register-preserved c =
-    let self = c.args.self.now.judge in
-    let problem = self.problem.now in
-    let report = self.report.now in
-    each_more (IsSkewed self.sinks.now report.topology.merges (embedding_of report.tree))
-    c.loop-register.register
-    c.loop-register.invariant (c.is_skewed.ensures.0 c.if-not-is_skewed.false)
+loop-register-preserved c = each_more (Skewed c.args.self.now.judge) c.loop-register.register c.loop-register.invariant
+    (c.is_skewed.ensures.0 c.if-not-is_skewed.false)
+
+pub invariant_of-tree : goal.invariant_of-tree
+invariant_of-tree c =
+    let self = c.args.self.now in
+    let sinks = length self.judge.sinks.now in
+    let merges = self.judge.report.now.topology.merges in
+    let are = sym c.as_slice.ensures.value in
+    record {
+      topology = self.are.topology;
+      down = subst (λ wires. AreWiresDown sinks merges
+          (number_at self.judge.report.now.tree.length) (number_at wires)) are
+          (subst (λ lengths. AreWiresDown sinks merges (number_at lengths)
+          (number_at c.in_ok-wires.wires.items)) c.as_slice-lengths.ensures
+          c.in_ok-wires.ensures.wires);
+      all = subst (λ wires. length wires ≡ 2 * sinks) are c.in_ok-wires.ensures.all;
+      small = subst (All (IsBelow (10 ^ 36))) are c.in_ok-wires.ensures.small;
+    }

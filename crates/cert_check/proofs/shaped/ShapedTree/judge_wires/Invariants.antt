@@ -1,11 +1,7 @@
 -- The edges so far are drawn.
-use Rattle.cts_model.specs.report.Judgements.{IsDrawnEdge}
 use Rattle.cts_model.specs.report.Shown.{AtEach}
-use Rattle.cts_model.specs.tree.Embeddings.{embedding_of}
-use Rattle.std.proofs.Common.{length}
+use Rattle.cert_check.specs.JudgedReports.{Drawn}
 use Rattle.cert_check.proofs.shaped.ShapedTree.judge_wires.Given as goal
 
 abbrev pub invariant-loop-edge : goal.invariant-loop-edge
-invariant-loop-edge l = AtEach l.edge (IsDrawnEdge (length l.self.judge.sinks.now)
-    l.self.judge.report.now.topology.merges (embedding_of l.self.judge.report.now.tree)
-    l.self.judge.report.now.wires)
+invariant-loop-edge l = AtEach l.edge (Drawn l.self.judge)

@@ -1,0 +1,37 @@
+-- What all before hold leaves to the next.
+use Rattle.std.proofs.Common.{◌≡◌, length, inr}
+use Rattle.cts_model.specs.report.Judgements.{GivesPeriod}
+use Rattle.cert_check.specs.declared.verdict.Reason.TheVariants.{CycleValue, ScheduleMisses}
+use Rattle.cert_check.specs.declared.verdict.Verdict.TheVariants.{Shown}
+use Rattle.cert_check.specs.Judged.{Decides}
+use Rattle.cert_check.specs.JudgedReports.{JudgedPeriod, Meets}
+use Rattle.cert_check.proofs.FirstPlaces.{passed_on}
+use Rattle.cert_check.proofs.JudgedLemmas.{last_places, stops_once}
+use Rattle.cert_check.proofs.checking.judge_period.Goals as goal
+
+pub returns-in_err-judge_value : goal.returns-in_err-judge_value
+returns-in_err-judge_value c =
+    let judge = c.args.judge.now in
+    let stop = c.in_err-judge_value.field-0.0 in
+    passed_on (Decides (λ verdict. JudgedPeriod judge verdict (verdict ≡ Shown)))
+    c.from_residual-in_err-judge_value.result stop c.from_residual-in_err-judge_value.ensures.1
+    (stops_once (GivesPeriod judge.problem.now.tech judge.report.now.period
+    judge.report.now.shown) CycleValue _
+    (λ verdict. JudgedPeriod judge verdict (verdict ≡ Shown)) stop c.in_err-judge_value.ensures
+    (λ verdict judged. inr (
+      c.in_ok-judge_floor.ensures,
+      inr (c.in_ok-judge_joins.ensures, inr (c.in_ok-judge_constraints.ensures, judged)),
+    )))
+
+pub returns : goal.returns
+returns c =
+    let judge = c.args.judge.now in
+    last_places (length judge.problem.now.circuit.registers) (Meets judge) ScheduleMisses
+    (λ verdict. JudgedPeriod judge verdict (verdict ≡ Shown)) c.judge_schedule.result
+    c.judge_schedule.ensures (λ verdict judged. inr (
+      c.in_ok-judge_floor.ensures,
+      inr (
+        c.in_ok-judge_joins.ensures,
+        inr (c.in_ok-judge_constraints.ensures, inr (c.in_ok-judge_value.ensures, judged)),
+      ),
+    ))
