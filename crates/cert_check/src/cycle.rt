@@ -2,6 +2,7 @@ ghost use Rattle.std.specs.Prelude.{◌≡◌, ◌<◌, ◌≤◌, ◌↔◌, Al
 ghost use Rattle.cts_model.specs.report.Judgements.{HoldsTogether, next_place};
 ghost use Rattle.cert_check.specs.CyclePlaces.{AreTailsBefore};
 
+use crate::item::item_at;
 use crate::judge::Judge;
 use crate::verdict::{Reason, Stop};
 use cts_model::Constraint;
@@ -21,7 +22,7 @@ impl Judge<'_> {
             if !holds_together(self.cycle, place, seen.as_slice()) {
                 return Err(Stop::At(Reason::CycleBroken(place as u32)));
             }
-            let tail = constraint_at(self.cycle, place).tail;
+            let tail = item_at(self.cycle, place).tail;
             seen[tail as usize] = true;
         }
         Ok(())
@@ -36,17 +37,9 @@ fn holds_together(cycle: &[Constraint], place: usize, seen: &[bool]) -> bool
     requires seen { AreTailsBefore cycle.now place seen.now }
     ensures { IsTrue result ↔ HoldsTogether cycle.now place }
 {
-    let constraint = constraint_at(cycle, place);
-    let next = constraint_at(cycle, next_place(cycle.len(), place));
+    let constraint = item_at(cycle, place);
+    let next = item_at(cycle, next_place(cycle.len(), place));
     constraint.head == next.tail && !seen[constraint.tail as usize]
-}
-
-/// The constraint at a place.
-pub(crate) fn constraint_at(constraints: &[Constraint], place: usize) -> Constraint
-    requires { place < length constraints.now }
-    ensures { slice_get constraints.now place ≡ Some result }
-{
-    constraints[place]
 }
 
 // The place after one in a round of so many.

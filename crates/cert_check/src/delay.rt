@@ -7,7 +7,7 @@ ghost use Rattle.cts_model.specs.placement.Points.{IsBelow};
 ghost use Rattle.cts_model.specs.table.Tables.{IsGateDelay, IsWithin};
 ghost use Rattle.cert_check.specs.WalkedPaths.{delay_by, gate_delay_by, through_by};
 
-use crate::path::signal_at;
+use crate::item::item_at;
 use cts_model::{Circuit, GateDelay, Kind, Signal, Tech};
 
 /// The greatest or the least delay of a path, in ticks.
@@ -57,17 +57,8 @@ fn added(circuit: &Circuit, tech: &Tech, sum: i128, gate: u32, greatest: bool) -
         (gate_delay_by greatest tech.now (slice_get circuit.now.signals gate)) }
     ensures small { IsBelow (2 ^ 82) result }
 {
-    sum + i128::from(delay_at(circuit, tech, gate, greatest))
-}
-
-// The greatest or the least delay of the gate of a number.
-fn delay_at(circuit: &Circuit, tech: &Tech, gate: u32, greatest: bool) -> i64
-    requires { IsGate circuit.now.signals gate }
-    ensures value { result
-        ≡ gate_delay_by greatest tech.now (slice_get circuit.now.signals gate) }
-    ensures small { IsBelow (2 ^ 64) result }
-{
-    gate_delay(tech, signal_at(circuit, gate), greatest)
+    let signal = item_at(circuit.signals.as_slice(), gate as usize);
+    sum + i128::from(gate_delay(tech, signal, greatest))
 }
 
 // The greatest or the least delay of a gate.

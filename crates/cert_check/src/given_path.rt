@@ -5,12 +5,11 @@ ghost use Rattle.cts_model.specs.netlist.Paths.{IsGate, IsPath};
 ghost use Rattle.cts_model.specs.placement.Points.{IsBelow};
 ghost use Rattle.cts_model.specs.report.ReportBounds.{IsBetweenRegisters};
 
-use crate::cycle::constraint_at;
 use crate::delay::path_delay;
+use crate::item::item_at;
 use crate::judge::Judge;
 use crate::path::is_path;
 use crate::verdict::{Reason, Stop};
-use cts_base::Listed;
 use cts_model::{Circuit, Constraint, Tech};
 
 impl Judge<'_> {
@@ -41,8 +40,8 @@ impl Judge<'_> {
         let shown = ShownPath {
             circuit: &self.problem.circuit,
             tech: &self.problem.tech,
-            constraint: constraint_at(self.cycle, place),
-            path: path_at(self.report.paths.as_slice(), place),
+            constraint: *item_at(self.cycle, place),
+            path: item_at(self.report.paths.as_slice(), place).as_slice(),
         };
         shown.is_given()
     }
@@ -132,12 +131,4 @@ impl ShownPath<'_> {
     {
         self.tech.hold - path_delay(self.circuit, self.tech, self.path, false)
     }
-}
-
-// The path at a place.
-fn path_at(paths: &[Listed<u32>], place: usize) -> &[u32]
-    requires { place < length paths.now }
-    ensures { slice_get paths.now place ≡ Some result.now }
-{
-    paths[place].as_slice()
 }

@@ -10,6 +10,7 @@ mod down;
 mod drawn;
 mod edges;
 mod given_path;
+mod item;
 mod judge;
 mod leads;
 mod merges;

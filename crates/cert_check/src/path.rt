@@ -3,7 +3,8 @@ ghost use Rattle.cts_model.specs.netlist.Kinds as kinds;
 ghost use Rattle.cts_model.specs.netlist.Paths.{Captures, IsPath, Launches, Reads};
 ghost use Rattle.cert_check.specs.WalkedPaths.{LeadsTo};
 
-use cts_model::{Circuit, Kind, Signal};
+use crate::item::item_at;
+use cts_model::{Circuit, Kind};
 
 /// Whether signals are a path from one register to another.
 pub(crate) fn is_path(circuit: &Circuit, from: u32, to: u32, path: &[u32]) -> bool
@@ -41,7 +42,7 @@ fn reads(circuit: &Circuit, gate: u32, read: u32) -> bool
     requires { gate < length circuit.now.signals }
     ensures { IsTrue result ↔ Reads circuit.now.signals gate read }
 {
-    let signal = signal_at(circuit, gate);
+    let signal = item_at(circuit.signals.as_slice(), gate as usize);
     signal.kind.is_gate() && signal.fan_in.as_slice().contains(&read)
 }
 
@@ -64,7 +65,7 @@ fn launches(circuit: &Circuit, register: u32, number: u32) -> bool
     ensures { IsTrue result ↔ Launches circuit.now register number }
 {
     if is_host(circuit.register_signal(register as usize).kind) {
-        is_input(signal_at(circuit, number).kind)
+        is_input(item_at(circuit.signals.as_slice(), number as usize).kind)
     } else {
         is_of_number(circuit, register, number)
     }
@@ -90,12 +91,4 @@ fn is_of_number(circuit: &Circuit, register: u32, number: u32) -> bool
     ensures { IsTrue result ↔ (slice_get circuit.now.registers register ≡ Some number) }
 {
     circuit.registers.as_slice()[register as usize] == number
-}
-
-/// The signal of a number.
-pub(crate) fn signal_at(circuit: &Circuit, number: u32) -> &Signal
-    requires { number < length circuit.now.signals }
-    ensures { slice_get circuit.now.signals number ≡ Some result.now }
-{
-    &circuit.signals.as_slice()[number as usize]
 }

@@ -9,6 +9,7 @@ ghost use Rattle.cert_check.specs.JudgedReports.{HasReach};
 ghost use Rattle.cert_check.specs.SmallSinks.{IsSmallSink};
 
 use crate::down::{are_same, difference, sum};
+use crate::item::item_at;
 use crate::judge::Judge;
 use crate::shaped::ShapedTree;
 use cts_model::{Merge, Show, Sink, Uv};
@@ -37,9 +38,9 @@ impl ShapedTree<'_> {
         ensures { IsTrue result
             ↔ IsMergeShown self.now.judge.sinks.now self.now.judge.report.now place }
     {
-        let merge = merge_at(self.judge.report.topology.merges.as_slice(), place);
+        let merge = item_at(self.judge.report.topology.merges.as_slice(), place);
         let node = self.judge.sinks.len() + place;
-        self.judge.is_over_both(node, merge) && self.shows_merge(place)
+        self.judge.is_over_both(node, *merge) && self.shows_merge(place)
     }
 
     // Whether the show of a merge, of its own sinks, gives its reach.
@@ -164,14 +165,6 @@ impl Judge<'_> {
             Show::Root => are_same(reach, self.reach(nodes - 2)),
         }
     }
-}
-
-// The merge at a place.
-fn merge_at(merges: &[Merge], place: usize) -> Merge
-    requires { place < length merges.now }
-    ensures { slice_get merges.now place ≡ Some result }
-{
-    merges[place]
 }
 
 // Whether twice a reach is the span of two sinks.

@@ -2,6 +2,7 @@ ghost use Rattle.std.specs.Prelude.{◌≡◌, ◌<◌, ◌↔◌, IsTrue, Some,
 ghost use Rattle.cert_check.specs.ComparedSlacks.{AreOneSlack, HasSlackRoom, IsFromZero};
 ghost use Rattle.cert_check.specs.JudgedReports.{HasSlacks, Meets, Spares};
 
+use crate::item::item_at;
 use crate::judge::Judge;
 use crate::verdict::{Reason, Stop};
 use cts_base::Fraction;
@@ -18,7 +19,7 @@ impl Judge<'_> {
             ScheduleMisses result }
     {
         for register in 0..slacks.len() {
-            if !has_room(slack_at(slacks, register)) {
+            if !has_room(*item_at(slacks, register)) {
                 return Err(Stop::At(Reason::ScheduleMisses(register as u32)));
             }
         }
@@ -32,21 +33,13 @@ impl Judge<'_> {
             SlackDiffers result }
     {
         for register in 0..slacks.len() {
-            let printed = slack_at(self.report.slacks.as_slice(), register);
-            if !are_one_slack(printed, slack_at(slacks, register)) {
+            let printed = item_at(self.report.slacks.as_slice(), register);
+            if !are_one_slack(*printed, *item_at(slacks, register)) {
                 return Err(Stop::At(Reason::SlackDiffers(register as u32)));
             }
         }
         Ok(())
     }
-}
-
-// The slacks of a register.
-fn slack_at(slacks: &[Slack], register: usize) -> Slack
-    requires { register < length slacks.now }
-    ensures { slice_get slacks.now register ≡ Some result }
-{
-    slacks[register]
 }
 
 // Whether neither slack of a register is below 0.

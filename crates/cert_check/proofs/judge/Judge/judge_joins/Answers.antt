@@ -16,8 +16,8 @@ loop-place-preserved c =
     let registers = length self.problem.now.circuit.registers in
     let holds : IsTrue c.holds_together.result = search rules in
     walked_next registers self.cycle.now c.loop-place.place c.loop-place.seen.items
-    c.constraint_at-tail.result c.constraint_at-tail.ensures
+    c.item_at.result.now c.item_at.ensures
     (at_place (λ constraint. constraint.tail < registers) self.cycle.now c.loop-place.place
-    c.constraint_at-tail.result
+    c.item_at.result.now
     (λ place default within. (self.among place default within).tail)
-    c.constraint_at-tail.ensures) c.loop-place.invariant (c.holds_together.ensures.0 holds)
+    c.item_at.ensures) c.loop-place.invariant (c.holds_together.ensures.0 holds)

@@ -11,17 +11,17 @@ use Rattle.cert_check.proofs.shaped.ShapedTree.is_merge_shown.Goals as goal
 pub is_over_both-requires-clause-first : goal.is_over_both-requires-clause-first
 is_over_both-requires-clause-first c =
     let self = c.args.self.now.judge in
-    let here = rw c.as_slice.ensures at c.merge_at-merge.ensures in
+    let here = rw c.as_slice.ensures at c.item_at-merge.ensures in
     let made = first_made (length self.sinks.now) self.report.now.topology.merges
-    c.args.self.now.are.topology.each c.args.place c.merge_at-merge.result here in
+    c.args.self.now.are.topology.each c.args.place c.item_at-merge.result.now here in
     omega (arith, made, c.args.self.now.are.topology.all, c.requires)
 
 pub is_over_both-requires-clause-second : goal.is_over_both-requires-clause-second
 is_over_both-requires-clause-second c =
     let self = c.args.self.now.judge in
-    let here = rw c.as_slice.ensures at c.merge_at-merge.ensures in
+    let here = rw c.as_slice.ensures at c.item_at-merge.ensures in
     let made = second_made (length self.sinks.now) self.report.now.topology.merges
-    c.args.self.now.are.topology.each c.args.place c.merge_at-merge.result here in
+    c.args.self.now.are.topology.each c.args.place c.item_at-merge.result.now here in
     omega (arith, made, c.args.self.now.are.topology.all, c.requires)
 
 pub returns-then-is_over_both : goal.returns-then-is_over_both
@@ -29,7 +29,7 @@ returns-then-is_over_both c =
     let self = c.args.self.now.judge in
     let tree = self.report.now.tree in
     let node = length self.sinks.now + c.args.place in
-    let here = sym (rw c.as_slice.ensures at c.merge_at-merge.ensures) in
+    let here = sym (rw c.as_slice.ensures at c.item_at-merge.ensures) in
     let both = c.is_over_both.ensures.0 c.if-is_over_both.true in (
       λ test. record {
         first = subst (λ found. IfSome found (λ merge. IsReachOver tree node merge.first)) here
@@ -46,8 +46,8 @@ returns-else-is_over_both c =
     let self = c.args.self.now.judge in
     let tree = self.report.now.tree in
     let node = length self.sinks.now + c.args.place in
-    let merge = c.merge_at-merge.result in
-    let here = rw c.as_slice.ensures at c.merge_at-merge.ensures in (
+    let merge = c.item_at-merge.result.now in
+    let here = rw c.as_slice.ensures at c.item_at-merge.ensures in (
       λ holds. absurd (false≢true (sym c.if-is_over_both.false ∙ holds)),
       λ shown. absurd (denied (IsReachOver tree node merge.first
           × IsReachOver tree node merge.second) c.is_over_both.result c.is_over_both.ensures
