@@ -33,7 +33,7 @@ max_cases x y = (at (lt_z y x), omega (arith, ints, clamps), omega (arith, ints,
     at false = inr refl
 
 -- one gate more at the end
-Follows-push : (signals : List Signal) (first : ℕ) (gates : List ℕ) (last gate : ℕ)
+pub Follows-push : (signals : List Signal) (first : ℕ) (gates : List ℕ) (last gate : ℕ)
     → Follows signals first gates last → Reads signals gate last
     → Follows signals first (gates ++ gate ∷ []) gate
 Follows-push signals first [] last gate same reads =

@@ -4,9 +4,10 @@ mod NetworkLemmas
 mod Hands
 mod LaneLemmas
 mod Chains
+mod CarryLemmas
 mod Rooms
+mod LaunchLemmas
 mod SetListing
-mod Launching
 mod WalkSteps
 mod CapturedLemmas
 mod ReachedPairs

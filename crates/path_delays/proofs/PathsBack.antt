@@ -16,7 +16,7 @@ use Rattle.path_delays.specs.Reaches.{IsChain, IsReach}
 use Rattle.path_delays.specs.WalkParts.{sums_to, HasReach}
 use Rattle.path_delays.specs.ExtremePaths.{delay_by, extreme_of, IsNoFurther, IsExtremePath, IsFurthest}
 use Rattle.path_delays.proofs.ExtremeDelays.{own_by, gate_by, through_by, delay_is, delay_push, IsReachBy, reach_by, same_extreme, no_further_than, no_further_after}
-use Rattle.path_delays.proofs.Launching.{launched_at}
+use Rattle.path_delays.proofs.LaunchLemmas.{launched_at}
 use Rattle.path_delays.proofs.NetworkLemmas.{reads_within}
 use Rattle.path_delays.proofs.ReachedPairs.{captured_within, chain_of_path}
 

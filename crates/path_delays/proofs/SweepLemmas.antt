@@ -1,36 +1,36 @@
 -- The sweep over the signals: what registers launch, then gate after gate, then what is captured.
-use Rattle.std.proofs.Common.{◌≡◌, ◌≢◌, ◌+◌, ◌*◌, ◌^◌, ◌<◌, ◌⊎◌, ℕ, pos, ◌+ℤ◌, ◌*ℤ◌, Bool, true, false, IsTrue, List, [], ◌∷◌, ◌++◌, length, take, set, get_or, All, Contains, MatchBool, Option, Some, None, IsSomeAnd, inl, inr, refl, sym, ◌∙◌, ap, subst, arith}
+use Rattle.std.proofs.Common.{◌≡◌, ◌≢◌, ◌+◌, ◌*◌, ◌^◌, ◌<◌, ◌⊎◌, ℕ, ℤ, pos, ◌+ℤ◌, ◌*ℤ◌, Bool, true, false, IsTrue, List, [], ◌∷◌, ◌++◌, length, take, set, get_or, replicate, All, Contains, MatchBool, Option, Some, None, IsSomeAnd, inl, inr, refl, sym, ◌∙◌, ap, subst, arith}
 use Rattle.std.specs.Prelude.{nat_abs}
 use Rattle.std.specs.List.{slice_get}
-use Rattle.std.specs.Option.{IfSome, option_and_then, option_map, option_map_or}
-use Rattle.std.proofs.lemmas.Bool.{cases_eq, cases_lt, true≢false}
+use Rattle.std.specs.Option.{IfSome, option_and_then, option_map}
+use Rattle.std.proofs.lemmas.Bool.{cases_eq, cases_lt}
 use Rattle.std.proofs.lemmas.Int.{ints}
-use Rattle.std.proofs.lemmas.List.{length-set, get_or-set_same, get_or-set_other, take_more, take_all}
+use Rattle.std.proofs.lemmas.List.{length-replicate, get_or-replicate, get_or_past, length-set, get_or-set_same, get_or-set_other, get_or-take, length-take-le, take_more, take_all}
 use Rattle.std.proofs.lemmas.List.Elements.{Contains-push_cases}
 use Rattle.std.proofs.lemmas.Option.{same_Some, slice_get_within, slice_get_read, slice_get-get_or, get_or_from_slice_get}
 use Rattle.cts_model.specs.declared.signal.Signal.{Signal}
 use Rattle.cts_model.specs.declared.circuit.Circuit.{Circuit}
 use Rattle.cts_model.specs.declared.schedule.Schedule.{Schedule}
 use Rattle.cts_model.specs.declared.tech.Tech.{Tech}
-use Rattle.cts_model.specs.timing.Delays.{least_gate_delay, greatest_gate_delay}
-use Rattle.cts_model.specs.netlist.Kinds.{is_gate, is_host, is_input, is_valid}
-use Rattle.cts_model.specs.netlist.Paths.{IsGate, IsInput, Reads, Launches, Captures, register_signal}
+use Rattle.cts_model.specs.timing.Delays.{least_through, greatest_through, least_delay, greatest_delay}
+use Rattle.cts_model.specs.netlist.Kinds.{is_gate, is_host, is_valid}
+use Rattle.cts_model.specs.netlist.Paths.{IsGate, IsInput, Reads, Launches, Captures}
 use Rattle.cts_model.specs.timing.Schedules.{arrival_of}
 use Rattle.gate_order.specs.Orders.{IsTopologicalOrder}
-use Rattle.gate_order.proofs.Rings.{follows_joined}
 use Rattle.gate_order.proofs.ReadLemmas.{IsGate-from_Reads, gate_within}
+use Rattle.path_delays.specs.declared.sums.Sums.{Sums}
 use Rattle.path_delays.specs.declared.window.Window.{Window}
+use Rattle.path_delays.specs.CapturedSums.{either_sums}
+use Rattle.path_delays.specs.Carrying.{along, AreCarried, AreExtremesIfAny, AreLaunchedBy, AreShownBy, Comes, IsJoinedAt, StartsToo, gate_sums_at}
 use Rattle.path_delays.specs.Networks.{gate_sums}
-use Rattle.path_delays.specs.Reaches.{IsChain}
+use Rattle.path_delays.specs.SumParts.{AreAround, sums_through}
 use Rattle.path_delays.specs.Windows.{window_along, IsHullIfAny, IsWindowBelow, ComesTo, AreWindows}
-use Rattle.path_delays.specs.WindowParts.{window_after, either_window, window_at, IsGateWindow, ComesCaptured, AreCaptures, start_window, ComesOf, is_input_at, AreInputsStarted, ComesAt, window_limit, IsPassed, AreLaunched, ArePassed}
-use Rattle.path_delays.proofs.ExtremeDelays.{delay_push}
-use Rattle.path_delays.proofs.HullLemmas.{hull_same, hull_itself, hull_either, hull_after, hull_of_hulls, hull_below}
-use Rattle.path_delays.proofs.Launching.{launched_at, launched_within, host_launches, register_launches}
+use Rattle.path_delays.specs.WindowParts.{window_after, either_window, window_at, AreBelow, ComesFrom, IsGateWindow, ComesCaptured, AreCaptures, start_window, ComesAt, window_limit, sums_of, sums_in, scaled_delay, AreSwept, StartsBelow, NoneHanded, HandedToPassed, AreLaunched, ArePassed}
+use Rattle.path_delays.proofs.CarryLemmas.{IsHandedBy, carried_end, carried_joined, carried_none, carried_same, shown_start, shown_through, starts_here, starts_next, starts_still}
+use Rattle.path_delays.proofs.HullLemmas.{hull_same, hull_of_hulls, hull_below}
 use Rattle.path_delays.proofs.NetworkLemmas.{few_gates}
-use Rattle.path_delays.proofs.PathsBack.{last_of}
 use Rattle.path_delays.proofs.ReachedPairs.{chain_of_path, path_of_chain, read_within}
-use Rattle.path_delays.proofs.WindowLemmas.{moved, below_wider, either_below}
+use Rattle.path_delays.proofs.WindowLemmas.{moved, below_wider, below_either}
 
 -- what launches a signal is a register
 launcher_within : (circuit : Circuit) (from number : ℕ) → Launches circuit from number
@@ -81,224 +81,201 @@ next_read circuit order place gate signal sorted low read signal_read =
       reads = read_within circuit gate signal within signal_read;
     }
 
--- no window
-abbrev nothing : Option Window
-nothing = None
+-- what stands as sums is that of a window
+window_there : (known : Option Window) (sums : Sums) → option_map sums_of known ≡ Some sums
+    → (window : Window) × (known ≡ Some window) × (sums_of window ≡ sums)
+window_there None sums here = absurd cc
+window_there (Some window) sums here = (window, refl, same_Some (sums_of window) sums here)
+
+-- of two windows the sums become what the sums of both become
+sums_of_either : (known found : Option Window) → option_map sums_of (either_window known found)
+    ≡ either_sums (option_map sums_of known) (option_map sums_of found)
+sums_of_either None None = refl
+sums_of_either None (Some found) = refl
+sums_of_either (Some known) None = refl
+sums_of_either (Some known) (Some found) = refl
+
+module _ (old new : List (Option Window)) (signal : ℕ) (found : Option Window)
+    (within : signal < length old)
+    (put : new ≡ set old signal (either_window (window_at old signal) found)) where
+  abbrev either : Option Window
+  either = either_window (window_at old signal) found
+
+  -- what is put at a signal is joined there
+  pub put_joined : IsJoinedAt signal (option_map sums_of found) (sums_in old) (sums_in new)
+  put_joined = record {
+    here = ap (option_map sums_of) (ap (λ list. get_or list signal None) put
+        ∙ get_or-set_same old signal either None within)
+        ∙ sums_of_either (window_at old signal) found;
+    others = λ other apart. ap (option_map sums_of) (ap (λ list. get_or list other None) put
+        ∙ get_or-set_other old signal other either None apart);
+  }
+
+  pub put_covers : length new ≡ length old
+  put_covers = ap length put ∙ length-set old signal either
+
+  -- and as small as what stood there
+  pub put_small : (bound : ℕ) → AreBelow bound old
+      → ((window : Window) → found ≡ Some window → IsWindowBelow bound window)
+      → AreBelow bound new
+  put_small bound before now number window here = elim (cases_eq number signal) [
+    | inl same ↦ below_either bound (window_at old signal) found window (before signal) now
+        (sym (get_or-set_same old signal either None within)
+        ∙ (sym (ap (λ list. get_or list signal None) put) ∙ (ap (window_at new) (sym same) ∙ here)))
+    | inr apart ↦ before number window
+        (sym (get_or-set_other old signal number either None apart)
+        ∙ (sym (ap (λ list. get_or list number None) put) ∙ here))
+  ]
 
 module _ (circuit : Circuit) (tech : Tech) (schedule : Schedule) where
-  -- a register's window is put at a signal that it launches; at others all stays
-  abbrev pub IsPut : (from : ℕ) (old new : List (Option Window)) (signal : ℕ) → Type 0
-  IsPut from old new signal =
-      (Launches circuit from signal × (window_at new signal ≡ either_window (window_at old signal)
-      (Some (start_window tech schedule from))))
-      ⊎ ((Launches circuit from signal → ⊥) × (window_at new signal ≡ window_at old signal))
+  abbrev delay : ℕ → Sums
+  delay = scaled_delay circuit tech schedule
 
-  module _ (from : ℕ) (old new : List (Option Window))
-      (launched : AreLaunched circuit tech schedule from old) where
-    -- so what one register more launches is started
-    pub launched_next : length new ≡ length old
-        → IsWindowBelow (window_limit 0) (start_window tech schedule from)
-        → ((signal : ℕ) → IsPut from old new signal)
-        → AreLaunched circuit tech schedule (from + 1) new
-    launched_next covers below puts = record {
-      covers = covers ∙ launched.covers;
-      each = λ signal any. each signal (puts signal);
-      small = λ signal window here. elim (puts signal) [
-        | inl put ↦ either_below (window_limit 0) (window_at old signal)
-            (start_window tech schedule from) window (launched.small signal) below
-            (sym put.1 ∙ here)
-        | inr other ↦ launched.small signal window (sym other.1 ∙ here)
-      ];
+  abbrev signals : List Signal
+  signals = circuit.signals
+
+  -- nothing is launched where nothing stands
+  pub launched_none : (count : ℕ) → count ≡ length circuit.signals
+      → AreLaunched circuit tech schedule 0 (replicate count None)
+  launched_none count covers = record {
+    covers = length-replicate count nothing ∙ covers;
+    carried = carried_none signals delay (StartsBelow circuit tech schedule 0) NoneHanded
+        (sums_in (replicate count None))
+        (λ signal start (from, low, launches, same). absurd (omega (arith, low)))
+        (λ signal. ap (option_map sums_of) (none signal));
+    small = λ signal window here. let missing = none signal in absurd cc;
+  }
+    where
+      nothing : Option Window
+      nothing = None
+
+      none : (signal : ℕ) → window_at (replicate count None) signal ≡ None
+      none signal = elim (cases_lt signal count) [
+        | inl low ↦ get_or-replicate count signal nothing nothing low
+        | inr past ↦ get_or_past (replicate count nothing) signal nothing
+            (omega (arith, past, length-replicate count nothing))
+      ]
+
+  -- the signals that a register launches, so far
+  module _ (from : ℕ) (launched : List ℕ) where
+    abbrev start : Sums
+    start = sums_of (start_window tech schedule from)
+
+    abbrev pub Begun : ℕ → ℕ → Sums → Type 0
+    Begun place = StartsToo (StartsBelow circuit tech schedule from) (take place launched) start
+
+    -- none yet
+    pub begun_none : (windows : List (Option Window)) → AreLaunched circuit tech schedule from windows
+        → AreSwept circuit tech schedule 0 (Begun 0) NoneHanded windows
+    begun_none windows are = record {
+      covers = are.covers;
+      carried = carried_same signals delay (StartsBelow circuit tech schedule from) (Begun 0)
+          NoneHanded NoneHanded (sums_in windows) (sums_in windows)
+          (λ signal sums starts. inl starts)
+          (λ signal sums starts. elim starts [
+            | inl before ↦ before
+            | inr listed ↦ absurd (none_listed signal listed.0)
+          ])
+          (λ read gate sums here none reads. none) (λ signal. refl) are.carried;
+      small = are.small;
     }
       where
-        start : Window
-        start = start_window tech schedule from
+        none_listed : (signal : ℕ) → Contains (take 0 launched) signal → ⊥
+        none_listed signal (place, within, here) = absurd (omega arith)
 
-        each : (signal : ℕ) → IsPut from old new signal
-            → IsHullIfAny (ComesOf circuit tech schedule (from + 1) signal) (window_at new signal)
-        each signal (inl (launches, put)) = rw put
-            (hull_same (λ window. ComesOf circuit tech schedule from signal window
-            ⊎ (Some start ≡ Some window)) (ComesOf circuit tech schedule (from + 1) signal)
-            (λ window comes. elim comes [
-              | inl before ↦ (before.0, omega arith, before.2, before.3)
-              | inr same ↦ (from, omega arith, launches, same_Some start window same)
-            ])
-            (λ window (register, low, launching, same). elim (cases_eq register from) [
-              | inl last ↦ inr (ap (λ w. Some w) (subst
-                  (λ r. start_window tech schedule r ≡ window) last same))
-              | inr earlier ↦ inl (register, omega arith, launching, same)
-            ])
-            (either_window (window_at old signal) (Some start))
-            (hull_either (ComesOf circuit tech schedule from signal)
-            (λ window. Some start ≡ Some window) (window_at old signal) (Some start)
-            (launched.each signal tt) (hull_itself (Some start))))
-        each signal (inr (none, same)) = rw same
-            (hull_same (ComesOf circuit tech schedule from signal)
-            (ComesOf circuit tech schedule (from + 1) signal)
-            (λ window (register, low, launching, start_is).
-            (register, omega arith, launching, start_is))
-            (λ window (register, low, launching, start_is). elim (cases_eq register from) [
-              | inl last ↦ absurd (none (subst (λ r. Launches circuit r signal) last launching))
-              | inr earlier ↦ (register, omega arith, launching, start_is)
-            ])
-            (window_at old signal) (launched.each signal tt))
-
-    -- a register that isn't the host launches its own signal
-    pub own_launched : (register : Signal) (own : ℕ) → register_signal circuit from ≡ Some register
-        → is_host register.kind ≡ false
-        → slice_get circuit.registers from ≡ Some own
+    -- one more
+    pub begun_next : (place : ℕ) (old new : List (Option Window)) → place < length launched
+        → get_or launched place 0 < length old
         → IsWindowBelow (window_limit 0) (start_window tech schedule from)
-        → new ≡ set old own (either_window (window_at old own)
+        → new ≡ set old (get_or launched place 0)
+        (either_window (window_at old (get_or launched place 0))
         (Some (start_window tech schedule from)))
-        → AreLaunched circuit tech schedule (from + 1) new
-    own_launched register own here other listed below is =
-        launched_next (ap length is ∙ length-set old own put) below puts
+        → AreSwept circuit tech schedule 0 (Begun place) NoneHanded old
+        → AreSwept circuit tech schedule 0 (Begun (place + 1)) NoneHanded new
+    begun_next place old new low within below put are = record {
+      covers = put_covers old new signal found within put ∙ are.covers;
+      carried = carried_joined signals delay (Begun place) (Begun (place + 1)) NoneHanded NoneHanded
+          signal (Some start) (sums_in old) (sums_in new) (put_joined old new signal found within put)
+          (starts_still (StartsBelow circuit tech schedule from) launched start place low)
+          (starts_next (StartsBelow circuit tech schedule from) launched start place low)
+          (λ sums here. subst (AreShownBy (Comes signals delay (Begun (place + 1)) signal))
+          (same_Some start sums here)
+          (shown_start signals delay (Begun (place + 1)) signal start
+          (starts_here (StartsBelow circuit tech schedule from) launched start place low)))
+          (λ read gate none reads. absurd none) are.carried;
+      small = put_small old new signal found within put (window_limit 0) are.small
+          (λ window here. subst (IsWindowBelow (window_limit 0))
+          (same_Some (start_window tech schedule from) window here) below);
+    }
       where
-        put : Option Window
-        put = either_window (window_at old own) (Some (start_window tech schedule from))
+        signal : ℕ
+        signal = get_or launched place 0
 
-        launches : Launches circuit from own
-        launches = (register_launches circuit from register here other own).1 listed
+        found : Option Window
+        found = Some (start_window tech schedule from)
 
-        within : own < length old
-        within = omega (arith, launched_within circuit from own launches, launched.covers)
-
-        puts : (signal : ℕ) → IsPut from old new signal
-        puts signal = elim (cases_eq signal own) [
-          | inl same ↦ subst (IsPut from old new) (sym same)
-              (inl (
-                launches,
-                ap (λ w. get_or w own None) is
-                    ∙ get_or-set_same old own put None within,
-              ))
-          | inr apart ↦ inr (
-            λ launch. apart (same_Some signal own
-                (sym ((register_launches circuit from register here other signal).0 launch)
-                ∙ listed)),
-            ap (λ w. get_or w signal None) is ∙ get_or-set_other old own signal put None apart,
-          )
-        ]
-
-    -- and the host the inputs
-    pub inputs_launched : (register : Signal) → register_signal circuit from ≡ Some register
-        → is_host register.kind ≡ true
-        → IsWindowBelow (window_limit 0) (start_window tech schedule from)
-        → AreInputsStarted circuit (start_window tech schedule from)
-        (length circuit.signals) old new
-        → AreLaunched circuit tech schedule (from + 1) new
-    inputs_launched register here host below started = launched_next started.covers below puts
+    -- all of them
+    pub begun_all : (windows : List (Option Window)) → AreLaunchedBy circuit from launched
+        → AreSwept circuit tech schedule 0 (Begun (length launched)) NoneHanded windows
+        → AreLaunched circuit tech schedule (from + 1) windows
+    begun_all windows all are = record {
+      covers = are.covers;
+      carried = carried_same signals delay (Begun (length launched))
+          (StartsBelow circuit tech schedule (from + 1)) NoneHanded NoneHanded (sums_in windows)
+          (sums_in windows)
+          (λ signal sums starts. elim starts [
+            | inl before ↦ (before.0, omega (arith, before.1), before.2, before.3)
+            | inr listed ↦ (from, omega arith, (all signal).0 (whole signal listed.0), listed.1)
+          ])
+          (λ signal sums (register, low, launches, same). elim (cases_eq register from) [
+            | inl last ↦ inr (
+              part signal ((all signal).1 (subst (λ r. Launches circuit r signal) last launches)),
+              subst (λ r. sums ≡ sums_of (start_window tech schedule r)) last same,
+            )
+            | inr earlier ↦ inl (register, omega arith, launches, same)
+          ])
+          (λ read gate sums here none reads. none) (λ signal. refl) are.carried;
+      small = are.small;
+    }
       where
-        input_of : (signal : ℕ) → IsInput circuit signal → is_input_at circuit signal ≡ true
-        input_of signal is_one = at (slice_get circuit.signals signal) is_one
-          where
-            at : (o : Option Signal) → IsSomeAnd o (λ s. IsTrue (is_input s.kind))
-                → option_map_or (λ s. is_input s.kind) o false ≡ true
-            at None none = absurd none
-            at (Some s) one = one
+        whole : (signal : ℕ) → Contains (take (length launched) launched) signal
+            → Contains launched signal
+        whole signal = subst (λ list. Contains list signal)
+            (take_all (length launched) launched (omega arith))
 
-        is_input_of : (signal : ℕ) → is_input_at circuit signal ≡ true → IsInput circuit signal
-        is_input_of signal passes = at (slice_get circuit.signals signal) passes
-          where
-            at : (o : Option Signal) → option_map_or (λ s. is_input s.kind) o false ≡ true
-                → IsSomeAnd o (λ s. IsTrue (is_input s.kind))
-            at None e = cc e
-            at (Some s) e = e
+        part : (signal : ℕ) → Contains launched signal
+            → Contains (take (length launched) launched) signal
+        part signal = subst (λ list. Contains list signal)
+            (sym (take_all (length launched) launched (omega arith)))
 
-        launches : (signal : ℕ) → (b : Bool) → is_input_at circuit signal ≡ b
-            → signal < length circuit.signals → IsPut from old new signal
-        launches signal true passes low = inl (
-          (host_launches circuit from register here host signal).1 (is_input_of signal passes),
-          rw passes at (started.each signal low),
-        )
-        launches signal false fails low = inr (
-          λ launch. true≢false (sym (input_of signal
-              ((host_launches circuit from register here host signal).0 launch)) ∙ fails),
-          rw fails at (started.each signal low),
-        )
-
-        puts : (signal : ℕ) → IsPut from old new signal
-        puts signal = elim (cases_lt signal (length circuit.signals)) [
-          | inl low ↦ launches signal (is_input_at circuit signal) refl low
-          | inr past ↦ inr (
-            λ launch. absurd (omega
-                (arith, launched_within circuit from signal launch)),
-            started.others signal past,
-          )
-        ]
-
-  -- what registers launch has come to all signals that are no gates
+  -- what registers launch is there, and no gate is passed yet
   pub passed_none : (order : List ℕ) (windows : List (Option Window))
       → AreLaunched circuit tech schedule (length circuit.registers) windows
       → ArePassed circuit tech schedule order 0 windows
-  passed_none order windows launched = record {
-    covers = launched.covers;
-    each = λ signal passed. hull_same (ComesOf circuit tech schedule
-        (length circuit.registers) signal) (ComesAt circuit tech schedule signal)
-        (λ window (from, low, launches, same).
-        (from, signal ∷ [], (launches, refl), alone from signal ∙ same))
-        (λ window (from, chain, is_chain, same). back signal passed window from chain is_chain same)
-        (window_at windows signal) (launched.each signal tt);
-    small = launched.small;
+  passed_none order windows are = record {
+    covers = are.covers;
+    carried = carried_same signals delay Starts Starts NoneHanded (HandedToPassed order 0)
+        (sums_in windows) (sums_in windows) (λ signal sums starts. starts)
+        (λ signal sums starts. starts)
+        (λ read gate sums here (place, within, listed) reads. absurd (omega arith))
+        (λ signal. refl) are.carried;
+    small = are.small;
   }
     where
-      scale : ℕ
-      scale = nat_abs schedule.den
+      Starts : ℕ → Sums → Type 0
+      Starts = StartsBelow circuit tech schedule (length circuit.registers)
 
-      alone : (from signal : ℕ) → window_along circuit tech scale (arrival_of schedule.at) from
-          (signal ∷ []) ≡ start_window tech schedule from
-      alone from signal =
-          let least : tech.least +ℤ pos 0 ≡ tech.least = omega (arith, ints) in
-          let greatest : tech.greatest +ℤ pos 0 ≡ tech.greatest = omega (arith, ints) in
-          λ i. record {
-            earliest = arrival_of schedule.at from +ℤ (pos scale *ℤ least i);
-            latest = arrival_of schedule.at from +ℤ (pos scale *ℤ greatest i);
-          }
-
-      none_taken : (signal : ℕ) → Contains (take 0 order) signal → ⊥
-      none_taken signal (place, within, here) = absurd (omega arith)
-
-      back : (signal : ℕ) → IsPassed circuit order 0 signal
-          → (window : Window) (from : ℕ) (chain : List ℕ) → IsChain circuit from signal chain
-          → window_along circuit tech scale (arrival_of schedule.at) from chain ≡ window
-          → ComesOf circuit tech schedule (length circuit.registers) signal window
-      back signal passed window from [] none same = absurd none
-      back signal passed window from (first ∷ gates) (launches, follows) same =
-          elim (last_of circuit first gates signal follows) [
-            | inl end ↦ (
-              from,
-              launcher_within circuit from first launches,
-              subst (Launches circuit from) end.1 launches,
-              sym (alone from first) ∙ ap (λ rest. window_along circuit tech scale
-                  (arrival_of schedule.at) from (first ∷ rest)) (sym end.0) ∙ same,
-            )
-            | inr suffix ↦ absurd (none_taken signal
-                (passed (IsGate-from_Reads circuit.signals signal suffix.read suffix.reads)))
-          ]
-
-  -- the windows after a gate are those of chains with the gate at their end
+  -- a gate that is passed takes what all that it reads hands to it
   module _ (gate : ℕ) (signal : Signal) (here : slice_get circuit.signals gate ≡ Some signal)
       (is_one : is_gate signal.kind ≡ true) where
     abbrev scale : ℕ
     scale = nat_abs schedule.den
 
-    abbrev along : ℕ → List ℕ → Window
-    along = window_along circuit tech scale (arrival_of schedule.at)
+    abbrev own : Sums
+    own = gate_sums_at circuit tech gate
 
-    -- one gate more moves a chain's window by the gate's delay
-    along-push : (from first : ℕ) (prefix : List ℕ)
-        → window_after scale (gate_sums tech signal) (along from (first ∷ prefix)) ≡ along from
-        (first ∷ prefix ++ gate ∷ [])
-    along-push from first prefix =
-        let least = delay_push false circuit tech first prefix gate in
-        let greatest = delay_push true circuit tech first prefix gate in
-        let least_is : (gate_sums tech signal).least ≡ least_gate_delay tech
-        (slice_get circuit.signals gate) = rw (here, is_one) refl in
-        let greatest_is : (gate_sums tech signal).greatest ≡ greatest_gate_delay tech
-        (slice_get circuit.signals gate) = rw (here, is_one) refl in
-        let early = moved scale (arrival_of schedule.at from) _ _ _ (rw (← least_is) at least) in
-        let late = moved scale (arrival_of schedule.at from) _ _ _
-        (rw (← greatest_is) at greatest) in
-        λ i. record { earliest = early i; latest = late i }
+    own_is : gate_sums tech signal ≡ own
+    own_is = rw (here, is_one) refl
 
     -- what the gate reads is its fan-in
     reads_of : (read : ℕ) → Contains signal.fan_in read → Reads circuit.signals gate read
@@ -307,126 +284,239 @@ module _ (circuit : Circuit) (tech : Tech) (schedule : Schedule) where
     listed_of : (read : ℕ) → Reads circuit.signals gate read → Contains signal.fan_in read
     listed_of read reads = (rw here at reads).1
 
-    -- what comes at what the gate reads
-    abbrev ComesRead : Window → Type 0
-    ComesRead window = (read : ℕ) × Contains signal.fan_in read
-        × ComesAt circuit tech schedule read window
+    module _ (windows : List (Option Window)) (found : Option Window)
+        (of : IsGateWindow windows signal.fan_in scale own found) where
+      -- the window is shown where what the gate reads is
+      gate_shown : (Starts : ℕ → Sums → Type 0)
+          → ((read : ℕ) (sums : Sums) → sums_in windows read ≡ Some sums
+          → AreShownBy (Comes signals delay Starts read) sums)
+          → (sums : Sums) → option_map sums_of found ≡ Some sums
+          → AreShownBy (Comes signals delay Starts gate) sums
+      gate_shown Starts shown sums there =
+          at of.read of.hull (ap (option_map sums_of) (sym of.suffix) ∙ there)
+        where
+          at : (read : Option Window) → IsHullIfAny (ComesFrom windows signal.fan_in) read
+              → option_map sums_of (option_map (window_after scale own) read) ≡ Some sums
+              → AreShownBy (Comes signals delay Starts gate) sums
+          at None none equal = absurd cc
+          at (Some hull) is equal =
+              let first = shown_through signals delay Starts is.first_comes.0 gate
+              (sums_of is.first) (reads_of is.first_comes.0 is.first_comes.1)
+              (shown is.first_comes.0 (sums_of is.first)
+              (ap (option_map sums_of) is.first_comes.2)) in
+              let last = shown_through signals delay Starts is.last_comes.0 gate
+              (sums_of is.last) (reads_of is.last_comes.0 is.last_comes.1)
+              (shown is.last_comes.0 (sums_of is.last)
+              (ap (option_map sums_of) is.last_comes.2)) in
+              subst (AreShownBy (Comes signals delay Starts gate))
+              (same_Some (sums_of (window_after scale own hull)) sums equal)
+              (record {
+                least = (
+                  first.least.0,
+                  first.least.1,
+                  first.least.2 ∙ ap (λ time. time +ℤ (delay gate).least) is.earliest,
+                );
+                greatest = (
+                  last.greatest.0,
+                  last.greatest.1,
+                  last.greatest.2 ∙ ap (λ time. time +ℤ (delay gate).greatest) is.latest,
+                );
+              })
 
-    -- comes after it
-    forth : (window inner : Window) (read from : ℕ) (chain : List ℕ) → Contains signal.fan_in read
-        → IsChain circuit from read chain → along from chain ≡ inner
-        → window_after scale (gate_sums tech signal) inner ≡ window
-        → ComesAt circuit tech schedule gate window
-    forth window inner read from [] listed none same suffix = absurd none
-    forth window inner read from (first ∷ prefix) listed is_chain same suffix = (
-      from,
-      first ∷ prefix ++ gate ∷ [],
-      (
-        is_chain.0,
-        follows_joined circuit.signals prefix (gate ∷ []) first read gate is_chain.1
-            (reads_of read listed, refl),
-      ),
-      sym (along-push from first prefix) ∙ ap (window_after scale (gate_sums tech signal)) same
-          ∙ suffix,
-    )
+      -- and around what each of them hands on
+      gate_around : (read : ℕ) → Contains signal.fan_in read → (sums : Sums)
+          → sums_in windows read ≡ Some sums
+          → AreAround (option_map sums_of found) (sums_through sums (delay gate))
+      gate_around read listed sums there =
+          let known = window_there (window_at windows read) sums there in
+          subst (λ s. AreAround (option_map sums_of found) (sums_through s (delay gate))) known.2
+          (subst (λ o. AreAround (option_map sums_of o)
+          (sums_through (sums_of known.0) (delay gate))) (sym of.suffix)
+          (at known.0 known.1 of.read of.hull))
+        where
+          at : (window : Window) → window_at windows read ≡ Some window
+              → (known : Option Window) → IsHullIfAny (ComesFrom windows signal.fan_in) known
+              → AreAround (option_map sums_of (option_map (window_after scale own) known))
+              (sums_through (sums_of window) (delay gate))
+          at window stands None none = absurd (none window (read, listed, stands))
+          at window stands (Some hull) is =
+              let inside = is.each window (read, listed, stands) in
+              record {
+                least = omega (arith, ints, inside.earliest);
+                greatest = omega (arith, ints, inside.latest);
+              }
 
-    -- and nothing else does
-    back : (window : Window) (from : ℕ) (chain : List ℕ) → IsChain circuit from gate chain
-        → along from chain ≡ window
-        → (inner : Window) × ComesRead inner
-        × (window_after scale (gate_sums tech signal) inner ≡ window)
-    back window from [] none same = absurd none
-    back window from (first ∷ gates) (launches, follows) same =
-        elim (last_of circuit first gates gate follows) [
-          | inl end ↦ absurd (launches_no_gate from (subst (Launches circuit from) end.1 launches))
-          | inr suffix ↦ (
-            along from (first ∷ suffix.prefix),
-            (
-              suffix.read,
-              listed_of suffix.read suffix.reads,
-              (from, first ∷ suffix.prefix, (launches, suffix.follows), refl),
-            ),
-            along-push from first suffix.prefix
-                ∙ ap (λ rest. along from (first ∷ rest)) (sym suffix.is) ∙ same,
-          )
-        ]
-      where
-        launches_no_gate : (register : ℕ) → Launches circuit register gate → ⊥
-        launches_no_gate register launched =
-            let found = launched_at circuit register gate launched in
-            let same_one : found.0 ≡ signal = same_Some found.0 signal (sym found.1 ∙ here) in
-            true≢false (sym is_one ∙ ap (λ (s : Signal). is_gate s.kind) (sym same_one) ∙ found.2)
+    -- no gate is passed before one that it reads
+    module _ (order : List ℕ) (place : ℕ) (sorted : IsTopologicalOrder circuit.signals order)
+        (there : slice_get order place ≡ Some gate) where
+      after_itself : (next : ℕ) → Contains (take (place + 1) order) next
+          → Reads circuit.signals next gate → ⊥
+      after_itself next (k, within, stands) reads =
+          let inside = slice_get_within order place gate there in
+          let low : k < place + 1 =
+          omega (arith, length-take-le (place + 1) order (omega (arith, inside))) in
+          let k_stands : get_or order k next ≡ next =
+          sym (get_or-take (place + 1) order k next low) ∙ stands in
+          let earlier = sorted.after k next gate
+          (slice_get-get_or order k next (omega (arith, inside)) ∙ ap (λ n. Some n) k_stands) reads
+          (rw here is_one) in
+          let before : earlier.0 < k =
+          omega (arith, earlier.1, length-take-le k order (omega (arith, inside, low))) in
+          let first : get_or order earlier.0 gate ≡ gate =
+          sym (get_or-take k order earlier.0 gate before) ∙ earlier.2 in
+          let second : get_or order place gate ≡ gate =
+          get_or_from_slice_get order place gate gate there in
+          sorted.once earlier.0 place gate (omega (arith, before, low)) inside
+          (first ∙ sym second)
 
-    -- so the gate's window is the hull of what comes there
-    gate_hull : (windows : List (Option Window)) (found : Option Window)
-        → ((read : ℕ) → Contains signal.fan_in read
-        → IsHullIfAny (ComesAt circuit tech schedule read) (window_at windows read))
-        → IsGateWindow windows signal.fan_in scale (gate_sums tech signal) found
-        → IsHullIfAny (ComesAt circuit tech schedule gate) found
-    gate_hull windows found hulls of = rw of.suffix
-        (at of.read (hull_of_hulls windows (Contains signal.fan_in)
-        (ComesAt circuit tech schedule) hulls of.read of.hull))
-      where
-        at : (read : Option Window) → IsHullIfAny ComesRead read
-            → IsHullIfAny (ComesAt circuit tech schedule gate)
-            (option_map (window_after scale (gate_sums tech signal)) read)
-        at None none = λ window (from, chain, is_chain, same).
-            let read = back window from chain is_chain same in
-            none read.0 read.1
-        at (Some hull) is = hull_same (λ window. (inner : Window) × ComesRead inner
-            × (window_after scale (gate_sums tech signal) inner ≡ window))
-            (ComesAt circuit tech schedule gate)
-            (λ window (inner, (read, listed, (from, chain, is_chain, same)), suffix). forth window
-            inner read from chain listed is_chain same suffix)
-            (λ window (from, chain, is_chain, same). back window from chain is_chain same)
-            (Some (window_after scale (gate_sums tech signal) hull))
-            (hull_after ComesRead scale (gate_sums tech signal) hull is)
+      pub passed_next : (old new : List (Option Window)) (found : Option Window)
+          → IsGateWindow old signal.fan_in scale (gate_sums tech signal) found
+          → ((window : Window) → found ≡ Some window
+          → IsWindowBelow (window_limit (place + 1)) window)
+          → new ≡ set old gate (either_window (window_at old gate) found)
+          → ArePassed circuit tech schedule order place old
+          → ArePassed circuit tech schedule order (place + 1) new
+      passed_next old new found of below put are = record {
+        covers = put_covers old new gate found within put ∙ are.covers;
+        carried = carried_joined signals delay Starts Starts (HandedToPassed order place)
+            (HandedToPassed order (place + 1)) gate (option_map sums_of found) (sums_in old)
+            (sums_in new) (put_joined old new gate found within put) (λ one start starts. starts)
+            (λ one start starts. inl starts) (gate_shown old found is Starts are.carried.shown)
+            (λ read next listed reads. hands read next listed reads) are.carried;
+        small = put_small old new gate found within put (window_limit (place + 1))
+            (λ number window stands. below_wider (window_limit place) (window_limit (place + 1))
+            window (omega arith) (are.small number window stands)) below;
+      }
+        where
+          Starts : ℕ → Sums → Type 0
+          Starts = StartsBelow circuit tech schedule (length circuit.registers)
 
-    -- and the gate is passed
-    pub passed_next : (order : List ℕ) (place : ℕ) (windows : List (Option Window))
-        (found : Option Window) → IsTopologicalOrder circuit.signals order
-        → slice_get order place ≡ Some gate
-        → IsGateWindow windows signal.fan_in scale (gate_sums tech signal) found
-        → ((window : Window) → found ≡ Some window
-        → IsWindowBelow (window_limit (place + 1)) window)
-        → ArePassed circuit tech schedule order place windows
-        → ArePassed circuit tech schedule order (place + 1) (set windows gate found)
-    passed_next order place windows found sorted there of below so_far = record {
-      covers = length-set windows gate found ∙ so_far.covers;
-      each = λ signal_number passed. elim (cases_eq signal_number gate) [
-        | inl same ↦ subst (λ n. IsHullIfAny (ComesAt circuit tech schedule n)
-            (window_at (set windows gate found) n)) (sym same)
-            (rw (get_or-set_same windows gate found nothing within)
-            (gate_hull windows found (λ read listed. so_far.each read
-            (sorted.after place gate read there (reads_of read listed))) of))
-        | inr apart ↦ rw (get_or-set_other windows gate signal_number found nothing apart)
-            (so_far.each signal_number (λ is_gate_too. earlier signal_number apart
-            (passed is_gate_too)))
-      ];
-      small = λ number window is. elim (cases_eq number gate) [
-        | inl same ↦ below window (sym (get_or-set_same windows gate found nothing within)
-            ∙ (ap (window_at (set windows gate found)) (sym same) ∙ is))
-        | inr apart ↦ below_wider (window_limit place) (window_limit (place + 1)) window
-            (omega arith) (so_far.small number window
-            (sym (get_or-set_other windows gate number found nothing apart) ∙ is))
-      ];
-    }
-      where
-        within : gate < length windows
-        within = omega (arith, slice_get_within circuit.signals gate signal here, so_far.covers)
+          within : gate < length old
+          within = omega (arith, slice_get_within circuit.signals gate signal here, are.covers)
 
-        earlier : (number : ℕ) → number ≢ gate → Contains (take (place + 1) order) number
-            → Contains (take place order) number
-        earlier number apart listed =
-            let last = take_more order place gate (slice_get_within order place gate there) in
-            let is : take (place + 1) order ≡ take place order ++ gate ∷ [] = last
-            ∙ ap (λ g. take place order ++ g ∷ [])
-            (get_or_from_slice_get order place gate gate there) in
-            elim (Contains-push_cases (take place order) gate number
-            (subst (λ l. Contains l number) is listed)) [
-              | inl before ↦ before
-              | inr same ↦ absurd (apart (sym same))
-            ]
+          is : IsGateWindow old signal.fan_in scale own found
+          is = subst (λ sums. IsGateWindow old signal.fan_in scale sums found) own_is of
+
+          pushed : take (place + 1) order ≡ take place order ++ gate ∷ []
+          pushed = take_more order place gate (slice_get_within order place gate there)
+              ∙ ap (λ g. take place order ++ g ∷ []) (get_or_from_slice_get order place gate gate there)
+
+          hands : (read next : ℕ) → HandedToPassed order (place + 1) read next
+              → Reads circuit.signals next read
+              → IsHandedBy signals delay (HandedToPassed order place) gate
+              (option_map sums_of found) (sums_in old) read next
+          hands read next listed reads = record {
+            apart = λ same. after_itself next listed (subst (Reads circuit.signals next) same reads);
+            counts = elim (Contains-push_cases (take place order) gate next
+                (subst (λ l. Contains l next) pushed listed)) [
+              | inl earlier ↦ inl earlier
+              | inr last ↦ inr (
+                sym last,
+                λ sums stands. subst (λ n. AreAround (option_map sums_of found)
+                    (sums_through sums (delay n))) last
+                    (gate_around old found is read (listed_of read
+                    (subst (λ n. Reads circuit.signals n read) (sym last) reads)) sums stands),
+              )
+            ];
+          }
+
+  -- a chain's delays over the scale are what its gates add up to
+  along_is : (start : Sums) (gates : List ℕ) → along delay start gates
+      ≡ record {
+        least = start.least +ℤ (pos (nat_abs schedule.den) *ℤ least_through circuit tech gates);
+        greatest =
+            start.greatest +ℤ (pos (nat_abs schedule.den) *ℤ greatest_through circuit tech gates);
+      }
+  along_is start [] = λ i. record {
+    least = nothing_more start.least i;
+    greatest = nothing_more start.greatest i;
+  }
+    where
+      nothing_more : (time : ℤ) → time ≡ time +ℤ (pos (nat_abs schedule.den) *ℤ pos 0)
+      nothing_more time = omega (arith, ints)
+  along_is start (gate ∷ gates) =
+      let rest = along_is (sums_through start (delay gate)) gates in
+      let least = moved (nat_abs schedule.den) start.least (gate_sums_at circuit tech gate).least
+      (least_through circuit tech gates) (least_through circuit tech (gate ∷ gates)) refl in
+      let greatest = moved (nat_abs schedule.den) start.greatest
+      (gate_sums_at circuit tech gate).greatest (greatest_through circuit tech gates)
+      (greatest_through circuit tech (gate ∷ gates)) refl in
+      rest ∙ (λ i. record { least = least i; greatest = greatest i })
+
+  -- a window in the two words
+  abbrev window_from : Sums → Window
+  window_from sums = record { earliest = sums.least; latest = sums.greatest }
+
+  abbrev begin : ℕ → Sums
+  begin from = sums_of (start_window tech schedule from)
+
+  abbrev AllStart : ℕ → Sums → Type 0
+  AllStart = StartsBelow circuit tech schedule (length circuit.registers)
+
+  -- a chain's window is what comes over its gates
+  chain_along : (from first : ℕ) (gates : List ℕ)
+      → sums_of (window_along circuit tech (nat_abs schedule.den) (arrival_of schedule.at) from
+      (first ∷ gates)) ≡ along delay (begin from) gates
+  chain_along from first gates =
+      let least = moved (nat_abs schedule.den) (arrival_of schedule.at from) tech.least
+      (least_through circuit tech gates) (least_delay circuit tech (first ∷ gates)) refl in
+      let greatest = moved (nat_abs schedule.den) (arrival_of schedule.at from) tech.greatest
+      (greatest_through circuit tech gates) (greatest_delay circuit tech (first ∷ gates)) refl in
+      sym (along_is (begin from) gates
+      ∙ (λ i. record { least = least i; greatest = greatest i }))
+
+  -- so what comes to a signal has a chain's window
+  chain_of_comes : (signal : ℕ) (sums : Sums) → Comes signals delay AllStart signal sums
+      → ComesAt circuit tech schedule signal (window_from sums)
+  chain_of_comes signal sums comes =
+      let from = comes.starts.0 in (
+        from,
+        comes.first ∷ comes.gates,
+        (comes.starts.2, comes.follows),
+        ap window_from (chain_along from comes.first comes.gates
+            ∙ (ap (λ (start : Sums). along delay start comes.gates) (sym comes.starts.3)
+            ∙ comes.ends)),
+      )
+
+  -- and each chain's window comes to its end
+  comes_of_chain : (signal : ℕ) (window : Window) → ComesAt circuit tech schedule signal window
+      → Comes signals delay AllStart signal (sums_of window)
+  comes_of_chain signal window (from, [], none, same) = absurd none
+  comes_of_chain signal window (from, first ∷ gates, (launches, follows), same) = record {
+    first = first;
+    start = begin from;
+    starts = (from, launcher_within circuit from first launches, launches, refl);
+    gates = gates;
+    follows = follows;
+    ends = sym (chain_along from first gates) ∙ ap sums_of same;
+  }
+
+  -- with all gates passed, the hull of all that comes stands at each signal
+  hull_at : (order : List ℕ) (windows : List (Option Window))
+      → IsTopologicalOrder circuit.signals order
+      → ArePassed circuit tech schedule order (length order) windows → (signal : ℕ)
+      → IsHullIfAny (ComesAt circuit tech schedule signal) (window_at windows signal)
+  hull_at order windows sorted passed signal = found (window_at windows signal)
+      (carried_end signals delay AllStart (HandedToPassed order (length order)) (sums_in windows)
+      passed.carried (λ read gate sums stands reads.
+      rw (take_all (length order) order (omega arith))
+      (sorted.all gate (IsGate-from_Reads circuit.signals gate read reads))) signal)
+    where
+      found : (known : Option Window)
+          → AreExtremesIfAny (Comes signals delay AllStart signal) (option_map sums_of known)
+          → IsHullIfAny (ComesAt circuit tech schedule signal) known
+      found None none = λ window comes. none (sums_of window) (comes_of_chain signal window comes)
+      found (Some hull) is = record {
+        each = λ window comes.
+            let around = is.around (sums_of window) (comes_of_chain signal window comes) in
+            record { earliest = around.least; latest = around.greatest };
+        first = window_from is.shown.least.0;
+        first_comes = chain_of_comes signal is.shown.least.0 is.shown.least.1;
+        earliest = is.shown.least.2;
+        last = window_from is.shown.greatest.0;
+        last_comes = chain_of_comes signal is.shown.greatest.0 is.shown.greatest.1;
+        latest = is.shown.greatest.2;
+      }
 
   -- with all gates passed, the hull over what a register captures is over all paths to it
   pub windows_are : (order : List ℕ) (windows captured : List (Option Window))
@@ -471,6 +561,4 @@ module _ (circuit : Circuit) (tech : Tech) (schedule : Schedule) where
           (chain.0, chain.2, (from, path, chain.1, same)))
           window
           (hull_of_hulls windows (Captures circuit register) (ComesAt circuit tech schedule)
-          (λ signal captures. passed.each signal
-          (λ is_one. rw (take_all (length order) order (omega arith))
-          (sorted.all signal is_one))) window is)
+          (λ signal captures. hull_at order windows sorted passed signal) window is)

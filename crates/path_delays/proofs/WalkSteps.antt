@@ -30,13 +30,14 @@ use Rattle.path_delays.specs.NumberSets.{IsLowestTaken}
 use Rattle.path_delays.specs.Networks.{IsNetworkOf, gate_sums, weight_of, weight_at}
 use Rattle.path_delays.specs.Handing.{delay_at, rank_at, lane_at, lanes_at, sums_at, waits_at, IsCleared, IsMarked, IsHanded, AreHanded, IsHandedOn, IsStarted}
 use Rattle.path_delays.specs.Reaches.{IsChain, AreShown, IsReach}
-use Rattle.path_delays.specs.Walking.{start_sums, limit_at, IsDue, AllBelowBut, IsSpread, IsSpreadBelow, IsBegun, Stays, IsLaunched}
+use Rattle.path_delays.specs.Carrying.{start_sums}
+use Rattle.path_delays.specs.Walking.{limit_at, IsDue, AllBelowBut, IsSpread, IsSpreadBelow, IsBegun, Stays, IsLaunched}
 use Rattle.path_delays.proofs.NetworkLemmas.{weights_within}
 use Rattle.path_delays.proofs.DelayLemmas.{gate_within}
 use Rattle.path_delays.proofs.Chains.{shown_start, shown_through, around_itself, around_joined, around_known}
 use Rattle.path_delays.proofs.LaneLemmas.{bounded_higher, bounded_joined, bounded_some, bounded_through, none_missing, shown_bounded, some_is, some_mapped}
 use Rattle.path_delays.proofs.Rooms.{within_higher, rank_within}
-use Rattle.path_delays.proofs.Launching.{launched_within, launched_lowest}
+use Rattle.path_delays.proofs.LaunchLemmas.{launched_within, launched_lowest}
 
 -- sums around sums that are around others are around those
 around_around : (known : Option Sums) (between inner : Sums) → AreAround known between

@@ -2,7 +2,6 @@
 use Rattle.std.proofs.Common.{◌≡◌, ◌+◌, ◌*◌, ◌<◌, ◌≤◌, ◌^◌, ℕ, ℤ, pos, ◌+ℤ◌, ◌*ℤ◌, Bool, true, false, cond, IsTrue, ◌⊎◌, List, [], ◌∷◌, ◌++◌, length, set, Option, Some, None, inl, inr, refl, sym, ◌∙◌, ap, subst, arith}
 use Rattle.std.specs.Int.{w64, w128}
 use Rattle.std.specs.List.{slice_get}
-use Rattle.std.specs.Option.{option_map_or}
 use Rattle.std.proofs.Math.Nat.{mul-add}
 use Rattle.std.proofs.lemmas.Bool.{cases_eq, cases_lt}
 use Rattle.std.proofs.lemmas.Int.{ints, to_z-of_z}
@@ -21,7 +20,7 @@ use Rattle.path_delays.specs.declared.window.Window.{Window}
 use Rattle.path_delays.specs.Windows.{IsHullIfAny, IsWindowBelow}
 use Rattle.path_delays.specs.Networks.{gate_sums, weight_of}
 use Rattle.path_delays.specs.SumParts.{AreWithin}
-use Rattle.path_delays.specs.WindowParts.{merged_windows, either_window, window_at, is_input_at, AreInputsStarted, AreCaptures, ComesCaptured}
+use Rattle.path_delays.specs.WindowParts.{merged_windows, either_window, window_at, AreCaptures, ComesCaptured}
 use Rattle.path_delays.proofs.CaptureLemmas.{few_inputs}
 use Rattle.path_delays.proofs.DelayLemmas.{gate_within}
 use Rattle.path_delays.proofs.Rooms.{within_higher}
@@ -84,44 +83,6 @@ below_wider bound wider window low below = record {
   };
 }
 
--- one signal more, and a window is put there if it is an input
-pub inputs_next : (circuit : Circuit) (window : Window) (number : ℕ) (signal : Signal)
-    (old now next : List (Option Window)) → slice_get circuit.signals number ≡ Some signal
-    → number < length now
-    → next ≡ cond (is_input signal.kind)
-    (set now number (either_window (window_at now number) (Some window))) now
-    → AreInputsStarted circuit window number old now
-    → AreInputsStarted circuit window (number + 1) old next
-inputs_next circuit window number signal old now next here within is so_far =
-    rw is (at (is_input signal.kind) (ap
-    (λ o. option_map_or (λ (s : Signal). is_input s.kind) o false) here))
-  where
-    put : Option Window
-    put = either_window (window_at now number) (Some window)
-
-    at : (b : Bool) → is_input_at circuit number ≡ b
-        → AreInputsStarted circuit window (number + 1) old (cond b (set now number put) now)
-    at true input = record {
-      covers = length-set now number put ∙ so_far.covers;
-      each = λ other below. elim (cases_eq other number) [
-        | inl same ↦ rw (same, input) (get_or-set_same now number put None within
-            ∙ ap (λ o. either_window o (Some window)) (so_far.others number (omega arith)))
-        | inr apart ↦ get_or-set_other now number other put None apart
-            ∙ so_far.each other (omega arith)
-      ];
-      others = λ other beyond.
-          get_or-set_other now number other put None (λ same. absurd (omega (arith, same)))
-          ∙ so_far.others other (omega arith);
-    }
-    at false input = record {
-      covers = so_far.covers;
-      each = λ other below. elim (cases_eq other number) [
-        | inl same ↦ rw (same, input) (so_far.others number (omega arith))
-        | inr apart ↦ so_far.each other (omega arith)
-      ];
-      others = λ other beyond. so_far.others other (omega arith);
-    }
-
 -- the merged window of two small ones is small
 merged_below : (bound : ℕ) (first second : Window) → IsWindowBelow bound first
     → IsWindowBelow bound second → IsWindowBelow bound (merged_windows first second)
@@ -136,18 +97,16 @@ merged_below bound first second one other = record {
   ];
 }
 
--- so it is where the first may be missing is small
-pub either_below : (bound : ℕ) (known : Option Window) (found window : Window)
-    → ((old : Window) → known ≡ Some old → IsWindowBelow bound old) → IsWindowBelow bound found
-    → either_window known (Some found) ≡ Some window → IsWindowBelow bound window
-either_below bound known found window before now is = at known before is
-  where
-    at : (o : Option Window) → ((old : Window) → o ≡ Some old → IsWindowBelow bound old)
-        → either_window o (Some found) ≡ Some window → IsWindowBelow bound window
-    at None was same = subst (IsWindowBelow bound) (same_Some found window same) now
-    at (Some old) was same = subst (IsWindowBelow bound)
-        (same_Some (merged_windows old found) window same)
-        (merged_below bound old found (was old refl) now)
+-- so it is where each of the two may be missing
+pub below_either : (bound : ℕ) (known found : Option Window) (window : Window)
+    → ((old : Window) → known ≡ Some old → IsWindowBelow bound old)
+    → ((now : Window) → found ≡ Some now → IsWindowBelow bound now)
+    → either_window known found ≡ Some window → IsWindowBelow bound window
+below_either bound None found window before now is = now window is
+below_either bound (Some known) None window before now is = before window is
+below_either bound (Some known) (Some found) window before now is = subst (IsWindowBelow bound)
+    (same_Some (merged_windows known found) window is)
+    (merged_below bound known found (before known refl) (now found refl))
 
 -- a gate's delays are small
 pub gate_small : (tech : Tech) (signal : Signal) → is_gate signal.kind ≡ true

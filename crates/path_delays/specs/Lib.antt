@@ -9,6 +9,7 @@ pub mod WalkParts
 pub mod Captured
 pub mod Capturings
 pub mod CapturedSums
+pub mod Carrying
 pub mod JoinedPairs
 pub mod ExtremePaths
 pub mod TimedCircuits

@@ -10,12 +10,9 @@ use Rattle.path_delays.specs.declared.network.Network.{Network}
 use Rattle.path_delays.specs.declared.reach.Reach.{Reach}
 use Rattle.path_delays.specs.SumParts.{AreAround, AreBounded, sums_through}
 use Rattle.path_delays.specs.Networks.{weight_at}
+use Rattle.path_delays.specs.Carrying.{start_sums}
 use Rattle.path_delays.specs.Handing.{delay_at, lane_at, lanes_at, rank_at, sums_at, waits_at}
 use Rattle.path_delays.specs.Reaches.{AreShown, IsReach}
-
--- the sums to what a register launches
-abbrev pub start_sums : Tech → Sums
-start_sums tech = record { least = tech.least; greatest = tech.greatest }
 
 -- no sum to a signal of this rank is more
 abbrev pub limit_at : List Signal → List ℕ → ℕ → ℕ

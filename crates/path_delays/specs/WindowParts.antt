@@ -1,15 +1,15 @@
 -- Windows of signals: how they move after a gate, and how several become one.
-use Rattle.std.specs.Prelude.{Bool, false, if◌then◌else◌, ◌≡◌, ◌<◌, ◌≤◌, ◌+◌, ◌*◌, ◌^◌, ℕ, pos, ◌+ℤ◌, ◌*ℤ◌, List, length, take, Contains, Option, Some, None, nat_abs, slice_get, slice_index_or}
-use Rattle.std.specs.Option.{option_map, option_map_or}
+use Rattle.std.specs.Prelude.{◌≡◌, ◌<◌, ◌≤◌, ◌+◌, ◌*◌, ◌^◌, ℕ, pos, ◌+ℤ◌, ◌*ℤ◌, List, length, take, Contains, Option, Some, None, nat_abs, slice_get, slice_index_or}
+use Rattle.std.specs.Option.{option_map}
 use Rattle.std.specs.Int.{int_min, int_max}
 use Rattle.cts_model.specs.declared.circuit.Circuit.{Circuit}
 use Rattle.cts_model.specs.declared.tech.Tech.{Tech}
 use Rattle.cts_model.specs.declared.schedule.Schedule.{Schedule}
-use Rattle.cts_model.specs.netlist.Kinds.{is_input}
-use Rattle.cts_model.specs.netlist.Paths.{IsGate, Launches, Captures}
+use Rattle.cts_model.specs.netlist.Paths.{Captures}
 use Rattle.cts_model.specs.timing.Schedules.{arrival_of}
 use Rattle.path_delays.specs.declared.sums.Sums.{Sums}
 use Rattle.path_delays.specs.declared.window.Window.{Window}
+use Rattle.path_delays.specs.Carrying.{AreCarried, StartsOf, gate_sums_at}
 use Rattle.path_delays.specs.Reaches.{IsChain}
 use Rattle.path_delays.specs.Windows.{window_along, IsHullIfAny, IsWindowBelow}
 
@@ -68,25 +68,6 @@ start_window tech schedule from = record {
   latest = arrival_of schedule.at from +ℤ (pos (nat_abs schedule.den) *ℤ tech.greatest);
 }
 
--- a register below a number launches the signal
-abbrev pub ComesOf : Circuit → Tech → Schedule → (below : ℕ) → (signal : ℕ) → Window → Type 0
-ComesOf circuit tech schedule below signal window = (from : ℕ) × (from < below)
-    × Launches circuit from signal × (start_window tech schedule from ≡ window)
-
--- the signal of this number is a primary input
-abbrev pub is_input_at : Circuit → ℕ → Bool
-is_input_at circuit number =
-    option_map_or (λ signal. is_input signal.kind) (slice_get circuit.signals number) false
-
--- the window is put at each input below a number, beside what stands there
-pub record AreInputsStarted (circuit : Circuit) (window : Window) (below : ℕ)
-    (old new : List (Option Window)) : Type 0 where
-  pub covers : length new ≡ length old
-  pub each : (number : ℕ) → number < below → window_at new number
-      ≡ (if is_input_at circuit number then either_window (window_at old number) (Some window)
-      else window_at old number)
-  pub others : (number : ℕ) → below ≤ number → window_at new number ≡ window_at old number
-
 -- some chain to the signal has this window
 abbrev pub ComesAt : Circuit → Tech → Schedule → (signal : ℕ) → Window → Type 0
 ComesAt circuit tech schedule signal window = (from : ℕ) × (chain : List ℕ)
@@ -103,29 +84,54 @@ abbrev pub AreBelow : (bound : ℕ) → List (Option Window) → Type 0
 AreBelow bound windows = (signal : ℕ) (window : Window) → window_at windows signal ≡ Some window
     → IsWindowBelow bound window
 
--- at each signal that is final stands the hull of what comes there
-pub record AreHulls (circuit : Circuit) (passed : ℕ) (IsFinal : ℕ → Type 0)
-    (Comes : ℕ → Window → Type 0) (windows : List (Option Window)) : Type 0 where
+-- the two times of a window as sums
+abbrev pub sums_of : Window → Sums
+sums_of window = record { least = window.earliest; greatest = window.latest }
+
+-- and what so stands at a signal
+abbrev pub sums_in : List (Option Window) → ℕ → Option Sums
+sums_in windows signal = option_map sums_of (window_at windows signal)
+
+-- delays over a scale
+abbrev pub scaled_sums : (scale : ℕ) → Sums → Sums
+scaled_sums scale delay = record {
+  least = pos scale *ℤ delay.least;
+  greatest = pos scale *ℤ delay.greatest;
+}
+
+abbrev pub scaled_delay : Circuit → Tech → Schedule → ℕ → Sums
+scaled_delay circuit tech schedule gate =
+    scaled_sums (nat_abs schedule.den) (gate_sums_at circuit tech gate)
+
+-- windows are carried from these starts, with so many gates passed
+pub record AreSwept (circuit : Circuit) (tech : Tech) (schedule : Schedule) (passed : ℕ)
+    (Starts : ℕ → Sums → Type 0) (Handed : ℕ → ℕ → Type 0)
+    (windows : List (Option Window)) : Type 0 where
   pub covers : length windows ≡ length circuit.signals
-  pub each : (signal : ℕ) → IsFinal signal → IsHullIfAny (Comes signal) (window_at windows signal)
+  pub carried : AreCarried circuit.signals (scaled_delay circuit tech schedule) Starts Handed
+      (sums_in windows)
   pub small : AreBelow (window_limit passed) windows
 
--- each signal is final, at the start
-abbrev pub IsAny : ℕ → Type 0
-IsAny signal = Unit {0}
+-- each register below a number starts at its arrival, and its own delay after it
+abbrev pub StartsBelow : Circuit → Tech → Schedule → (below : ℕ) → ℕ → Sums → Type 0
+StartsBelow circuit tech schedule below =
+    StartsOf circuit (λ from. from < below) (λ from. sums_of (start_window tech schedule from))
 
--- the signal is no gate, or one of those that are passed
-abbrev pub IsPassed : Circuit → List ℕ → ℕ → ℕ → Type 0
-IsPassed circuit order passed signal =
-    IsGate circuit.signals signal → Contains (take passed order) signal
+-- nothing is handed on yet
+abbrev pub NoneHanded : ℕ → ℕ → Type 0
+NoneHanded read gate = ⊥
+
+-- to these gates all that they read has handed what comes there
+abbrev pub HandedToPassed : (order : List ℕ) → (passed : ℕ) → ℕ → ℕ → Type 0
+HandedToPassed order passed read gate = Contains (take passed order) gate
 
 -- the windows stand at what the registers below a number launch
 abbrev pub AreLaunched : Circuit → Tech → Schedule → (below : ℕ) → List (Option Window) → Type 0
 AreLaunched circuit tech schedule below =
-    AreHulls circuit 0 IsAny (ComesOf circuit tech schedule below)
+    AreSwept circuit tech schedule 0 (StartsBelow circuit tech schedule below) NoneHanded
 
--- and at all signals but the gates that aren't passed
+-- and so many gates of the order are passed
 abbrev pub ArePassed : Circuit → Tech → Schedule → (order : List ℕ) → (passed : ℕ)
     → List (Option Window) → Type 0
-ArePassed circuit tech schedule order passed =
-    AreHulls circuit passed (IsPassed circuit order passed) (ComesAt circuit tech schedule)
+ArePassed circuit tech schedule order passed = AreSwept circuit tech schedule passed
+    (StartsBelow circuit tech schedule (length circuit.registers)) (HandedToPassed order passed)

@@ -9,6 +9,7 @@ mod extreme_path;
 mod fault;
 mod gate_delays;
 mod lanes;
+mod launching;
 mod network;
 mod number_set;
 mod pair;

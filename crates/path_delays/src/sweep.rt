@@ -1,18 +1,18 @@
-ghost use Rattle.std.specs.Prelude.{◌≡◌, ◌<◌, ◌≤◌, ◌+◌, ◌*◌, ◌^◌, ℕ, if◌then◌else◌, All, IfOk, IsTrue, Some, length, nat_abs, slice_get, slice_set};
-ghost use Rattle.cts_model.specs.netlist.Kinds as kinds;
+ghost use Rattle.std.specs.Prelude.{◌≡◌, ◌<◌, ◌≤◌, ◌+◌, ◌*◌, ◌^◌, ℕ, All, IfOk, IsTrue, Some, length, nat_abs, slice_get, slice_set};
 ghost use Rattle.cts_model.specs.netlist.Kinds.{is_gate, is_valid};
 ghost use Rattle.cts_model.specs.table.Tables.{IsWithin};
 ghost use Rattle.gate_order.specs.LevelParts.{IsLevelsOf};
 ghost use Rattle.path_delays.specs.declared.window.Window.{Window};
+ghost use Rattle.path_delays.specs.Carrying.{AreInputs};
 ghost use Rattle.path_delays.specs.Networks.{gate_sums};
 ghost use Rattle.path_delays.specs.Windows.{AreWindows, IsHullIfAny, IsSmallSchedule, IsWindowBelow};
-ghost use Rattle.path_delays.specs.WindowParts.{AreBelow, AreCaptures, AreInputsStarted, AreLaunched, ArePassed, ComesFrom, IsGateWindow, either_window, start_window, window_at, window_limit};
+ghost use Rattle.path_delays.specs.WindowParts.{AreBelow, AreCaptures, AreLaunched, ArePassed, ComesFrom, IsGateWindow, either_window, start_window, window_at, window_limit};
 
 use crate::gate_delays::gate_delay;
-use crate::walk::{is_host, is_input, start_sums};
+use crate::launching::{input_signals, launched, start_sums};
 use crate::window::Window;
 use cts_base::{Listed, NoMemory};
-use cts_model::{Circuit, Kind, Schedule, Signal, Tech};
+use cts_model::{Circuit, Schedule, Signal, Tech};
 use gate_order::Levels;
 use std::alloc::Global;
 
@@ -31,8 +31,9 @@ pub fn arrivals(
     requires registers { length schedule.now.at ≡ length circuit.now.registers }
     ensures { IfOk result (AreWindows circuit.now tech.now schedule.now) }
 {
+    let inputs = input_signals(alloc, circuit)?;
     let mut windows = vec![in alloc; None; circuit.signals.len()]?;
-    launch_all(&mut windows, circuit, tech, schedule);
+    launch_all(&mut windows, circuit, inputs.as_slice(), tech, schedule);
     pass_gates(&mut windows, circuit, levels, tech, schedule);
     captured_windows(alloc, circuit, windows.as_slice())
 }
@@ -41,9 +42,11 @@ pub fn arrivals(
 fn launch_all(
     windows: &mut Vec<Option<Window>>,
     circuit: &Circuit,
+    inputs: &[u32],
     tech: &Tech,
     schedule: &Schedule,
 )
+    requires inputs { AreInputs circuit.now inputs.now }
     requires schedule { IsSmallSchedule schedule.now }
     requires registers { length schedule.now.at ≡ length circuit.now.registers }
     requires launched { AreLaunched circuit.now tech.now schedule.now 0 windows.old.items }
@@ -51,18 +54,20 @@ fn launch_all(
         (length circuit.now.registers) windows.new.items }
 {
     for from in 0..circuit.registers.len() {
-        launch(windows, circuit, tech, schedule, from);
+        launch(windows, circuit, inputs, tech, schedule, from);
     }
 }
 
-// Starts at what a register launches: its own signal, or for the host each input.
+// Starts at each signal that a register launches.
 fn launch(
     windows: &mut Vec<Option<Window>>,
     circuit: &Circuit,
+    inputs: &[u32],
     tech: &Tech,
     schedule: &Schedule,
     from: usize,
 )
+    requires inputs { AreInputs circuit.now inputs.now }
     requires schedule { IsSmallSchedule schedule.now }
     requires registers { length schedule.now.at ≡ length circuit.now.registers }
     requires from { from < length circuit.now.registers }
@@ -70,11 +75,8 @@ fn launch(
     ensures { AreLaunched circuit.now tech.now schedule.now (from + 1) windows.new.items }
 {
     let window = started(tech, schedule, from);
-    if is_host(circuit.register_signal(from).kind) {
-        start_inputs(windows, circuit, window);
-    } else {
-        let signal = circuit.registers.as_slice()[from];
-        start(windows, signal, window);
+    for signal in launched(circuit, inputs, from) {
+        put(windows, *signal, Some(window));
     }
 }
 
@@ -93,38 +95,14 @@ fn started(tech: &Tech, schedule: &Schedule, from: usize) -> Window
     edge.suffix(start_sums(tech), schedule.den)
 }
 
-// Starts at each input.
-fn start_inputs(windows: &mut Vec<Option<Window>>, circuit: &Circuit, window: Window)
-    requires { length windows.old.items ≡ length circuit.now.signals }
-    ensures { AreInputsStarted circuit.now window (length circuit.now.signals)
-        windows.old.items windows.new.items }
-{
-    for (number, signal) in circuit.signals.as_slice().iter().enumerate() {
-        start_input(windows, signal.kind, number as u32, window);
-    }
-}
-
-// Starts at a signal, if it is an input.
-fn start_input(windows: &mut Vec<Option<Window>>, kind: Kind, number: u32, window: Window)
-    requires { number < length windows.old.items }
-    ensures { windows.new.items ≡ (if kinds.is_input kind
-        then slice_set windows.old.items number
-        (either_window (window_at windows.old.items number) (Some window))
-        else windows.old.items) }
-{
-    if is_input(kind) {
-        start(windows, number, window);
-    }
-}
-
-// Puts a window at a signal, beside what stands there.
-fn start(windows: &mut Vec<Option<Window>>, number: u32, window: Window)
+// Puts what is found at a signal, beside what stands there.
+fn put(windows: &mut Vec<Option<Window>>, number: u32, found: Option<Window>)
     requires { number < length windows.old.items }
     ensures { windows.new.items ≡ slice_set windows.old.items number
-        (either_window (window_at windows.old.items number) (Some window)) }
+        (either_window (window_at windows.old.items number) found) }
 {
     let known = windows[number as usize];
-    windows[number as usize] = Window::either(known, Some(window));
+    windows[number as usize] = Window::either(known, found);
 }
 
 // Puts its window at each gate, in the order of the levels.
@@ -145,7 +123,7 @@ fn pass_gates(
     for gate in levels.gates() {
         let signal = &circuit.signals.as_slice()[*gate as usize];
         let window = gate_window(windows.as_slice(), signal, tech, schedule.den);
-        windows[*gate as usize] = window;
+        put(windows, *gate, window);
     }
 }
 

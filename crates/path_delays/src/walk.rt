@@ -1,15 +1,13 @@
 ghost use Rattle.std.specs.Prelude.{◌≡◌, ◌<◌, ◌≤◌, ◌↔◌, ℕ, All, IfOk, length};
-ghost use Rattle.cts_model.specs.netlist.Kinds as kinds;
 ghost use Rattle.cts_model.specs.netlist.Paths.{IsInput, Launches};
-ghost use Rattle.path_delays.specs.SumParts.{AreWithin, delay_limit};
-ghost use Rattle.path_delays.specs.Walking as walking;
 
+use crate::launching::{is_host, is_input, start_sums};
 use crate::network::Network;
 use crate::number_set::NumberSet;
 use crate::reach::Reach;
 use crate::sums::Sums;
 use cts_base::NoMemory;
-use cts_model::{Circuit, Kind, Tech};
+use cts_model::{Circuit, Tech};
 use gate_order::Levels;
 use std::alloc::Global;
 
@@ -160,29 +158,4 @@ impl Reach {
             }
         }
     }
-}
-
-/// The sums to what a register launches.
-pub(crate) fn start_sums(tech: &Tech) -> Sums
-    ensures sums { result ≡ walking.start_sums tech.now }
-    ensures within { AreWithin 1000000 result }
-{
-    Sums {
-        least: tech.least as i64,
-        greatest: tech.greatest as i64,
-    }
-}
-
-/// Whether it is the host.
-pub(crate) fn is_host(kind: Kind) -> bool
-    ensures { result ≡ kinds.is_host kind }
-{
-    matches!(kind, Kind::Host)
-}
-
-/// Whether it is a primary input.
-pub(crate) fn is_input(kind: Kind) -> bool
-    ensures { result ≡ kinds.is_input kind }
-{
-    matches!(kind, Kind::Input)
 }

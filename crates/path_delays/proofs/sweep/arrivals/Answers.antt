@@ -1,18 +1,24 @@
 -- From nothing to what is launched, over all gates, to what is captured.
-use Rattle.std.proofs.Common.{length}
+use Rattle.std.proofs.Common.{rules, ◌≡◌, None, length, replicate}
 use Rattle.std.proofs.lemmas.Result.{IfOk-weaker}
 use Rattle.path_delays.specs.Windows.{AreWindows}
 use Rattle.path_delays.specs.WindowParts.{AreCaptures}
-use Rattle.path_delays.proofs.SweepLemmas.{windows_are}
+use Rattle.path_delays.proofs.SweepLemmas.{launched_none, windows_are}
 use Rattle.path_delays.proofs.sweep.arrivals.Goals as goal
 
 pub returns : goal.returns
 returns c =
     let circuit = c.args.circuit.now in
     IfOk-weaker c.captured_windows.result
-    (AreCaptures circuit c.as_slice.result.now (length circuit.registers))
+    (AreCaptures circuit c.as_slice-2.result.now (length circuit.registers))
     (AreWindows circuit c.args.tech.now c.args.schedule.now)
     (λ captured are. windows_are circuit c.args.tech.now c.args.schedule.now c.args.levels.now
-    c.as_slice.result.now captured c.requires.levels
-    (rw c.as_slice.ensures.value c.pass_gates.ensures) are)
+    c.as_slice-2.result.now captured c.requires.levels
+    (rw c.as_slice-2.ensures.value c.pass_gates.ensures) are)
     c.captured_windows.ensures
+
+pub launch_all-requires-clause-launched : goal.launch_all-requires-clause-launched
+launch_all-requires-clause-launched c =
+    let none : c.in_ok-windows.windows.items ≡ replicate c.len.result None = search rules in
+    let covers : c.len.result ≡ length c.args.circuit.now.signals = search rules in
+    rw none (launched_none c.args.circuit.now c.args.tech.now c.args.schedule.now c.len.result covers)

@@ -1,25 +1,48 @@
--- A register launches its own signal, and the host each input.
-use Rattle.std.proofs.Common.{◌∙◌, sym}
-use Rattle.std.proofs.lemmas.Option.{slice_get-get_or}
-use Rattle.path_delays.proofs.SweepLemmas.{own_launched, inputs_launched}
+-- One signal more, and all of them.
+use Rattle.std.proofs.Common.{◌≡◌, length, get_or, subst, arith}
+use Rattle.std.proofs.lemmas.List.Elements.{Contains-get_or}
+use Rattle.path_delays.specs.WindowParts.{AreSwept, NoneHanded}
+use Rattle.path_delays.proofs.LaunchLemmas.{launched_within}
+use Rattle.path_delays.proofs.SweepLemmas.{Begun, begun_all, begun_next, begun_none}
 use Rattle.path_delays.proofs.sweep.launch.Goals as goal
 
-pub returns-then-is_host : goal.returns-then-is_host
-returns-then-is_host c =
-    inputs_launched c.args.circuit.now c.args.tech.now c.args.schedule.now c.args.from
-    c.args.windows.now.items _ c.requires.launched
-    c.register_signal.result.now c.register_signal.ensures
-    (sym c.is_host.ensures ∙ c.if-is_host.true)
-    (rw c.started-window.ensures.started at c.started-window.ensures.small)
-    (rw c.started-window.ensures.started at c.start_inputs.ensures)
+pub loop-signal-init : goal.loop-signal-init
+loop-signal-init c = begun_none c.args.circuit.now c.args.tech.now c.args.schedule.now c.args.from
+    c.launched-signal-items.result.now c.args.windows.now.items c.requires.launched
 
-pub returns-else-is_host : goal.returns-else-is_host
-returns-else-is_host c =
-    let circuit = c.args.circuit.now in
-    own_launched circuit c.args.tech.now c.args.schedule.now c.args.from c.args.windows.now.items _
-    c.requires.launched
-    c.register_signal.result.now _ c.register_signal.ensures
-    (sym c.is_host.ensures ∙ c.if-is_host.false)
-    (rw c.as_slice.ensures (slice_get-get_or circuit.registers c.args.from 0 c.requires.from))
+pub put-requires : goal.put-requires
+put-requires c =
+    let launched = c.launched-signal-items.result.now in
+    let signal = get_or launched c.loop-signal.signal-index 0 in
+    omega (
+      arith,
+      launched_within c.args.circuit.now c.args.from signal ((c.launched-signal-items.ensures
+          signal).0 (Contains-get_or launched c.loop-signal.signal-index 0 c.loop-signal-test.true)),
+      c.loop-signal.invariant.covers,
+    )
+
+pub loop-signal-preserved : goal.loop-signal-preserved
+loop-signal-preserved c =
+    let launched = c.launched-signal-items.result.now in
+    let signal = get_or launched c.loop-signal.signal-index 0 in
+    begun_next c.args.circuit.now c.args.tech.now c.args.schedule.now c.args.from launched
+    c.loop-signal.signal-index c.loop-signal.windows.items c.put.new.windows.items
+    c.loop-signal-test.true
+    (omega (
+      arith,
+      launched_within c.args.circuit.now c.args.from signal ((c.launched-signal-items.ensures
+          signal).0 (Contains-get_or launched c.loop-signal.signal-index 0 c.loop-signal-test.true)),
+      c.loop-signal.invariant.covers,
+    ))
     (rw c.started-window.ensures.started at c.started-window.ensures.small)
-    (rw c.started-window.ensures.started at c.start.ensures)
+    (rw c.started-window.ensures.started at c.put.ensures) c.loop-signal.invariant
+
+pub returns : goal.returns
+returns c =
+    let launched = c.launched-signal-items.result.now in
+    let all : c.loop-signal.signal-index ≡ length launched = omega arith in
+    begun_all c.args.circuit.now c.args.tech.now c.args.schedule.now c.args.from launched
+    c.loop-signal.windows.items c.launched-signal-items.ensures
+    (subst (λ n. AreSwept c.args.circuit.now c.args.tech.now c.args.schedule.now 0
+    (Begun c.args.circuit.now c.args.tech.now c.args.schedule.now c.args.from launched n)
+    NoneHanded c.loop-signal.windows.items) all c.loop-signal.invariant)

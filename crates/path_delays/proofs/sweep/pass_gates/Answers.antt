@@ -61,8 +61,8 @@ gate_window-window-requires-clause-small c signal window here =
     (omega (arith, low, few_gates c.args.circuit.now c.args.levels.now c.requires.levels))
     (c.loop-gate.invariant.small signal window (rw c.as_slice-in-loop-gate.ensures.value at here))
 
-pub index_mut-requires : goal.index_mut-requires
-index_mut-requires c =
+pub put-requires : goal.put-requires
+put-requires c =
     let order = c.gates-gate-items.result.now in
     let place = c.loop-gate.gate-index in
     omega (
@@ -72,7 +72,6 @@ index_mut-requires c =
           (rw c.gates-gate-items.ensures at c.loop-gate-test.true)
           (ap (λ l. get_or l place 0) c.gates-gate-items.ensures),
       c.loop-gate.invariant.covers,
-      c.loop-gate.windows.ok.0,
     )
 
 pub loop-gate-preserved : goal.loop-gate-preserved
@@ -86,9 +85,8 @@ loop-gate-preserved c =
     (ap (λ l. get_or l place 0) c.gates-gate-items.ensures)
     (rw c.as_slice.ensures at c.index-as_slice-gate.is) in
     passed_next c.args.circuit.now c.args.tech.now c.args.schedule.now gate
-    c.index-as_slice-gate.result read.here read.is_one
-    c.args.levels.now place c.loop-gate.windows.items c.gate_window-window.result c.requires.levels
-    read.stands
+    c.index-as_slice-gate.result read.here read.is_one c.args.levels.now place c.requires.levels
+    read.stands c.loop-gate.windows.items c.put.new.windows.items c.gate_window-window.result
     (rw (
       c.as_slice-in-loop-gate.ensures.value,
       kept_ticks c.args.schedule.now.den c.requires.schedule.den (omega arith),
@@ -97,7 +95,7 @@ loop-gate-preserved c =
     (λ window same. subst (λ n. IsWindowBelow n window) (omega arith)
     (c.gate_window-window.ensures.small (window_limit place) window
     (rw c.as_slice-in-loop-gate.ensures.value c.loop-gate.invariant.small) same))
-    c.loop-gate.invariant
+    c.put.ensures c.loop-gate.invariant
 
 pub returns : goal.returns
 returns c =

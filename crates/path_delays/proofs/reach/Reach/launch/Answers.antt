@@ -2,7 +2,7 @@
 use Rattle.std.proofs.Common.{◌≡◌, ◌∙◌, false, sym}
 use Rattle.std.proofs.lemmas.Option.{slice_get-get_or}
 use Rattle.cts_model.specs.netlist.Kinds.{is_host}
-use Rattle.path_delays.proofs.Launching.{host_launches, register_launches}
+use Rattle.path_delays.proofs.LaunchLemmas.{host_launches, register_launches}
 use Rattle.path_delays.proofs.WalkSteps.{all_bounded, IsLaunched-register}
 use Rattle.path_delays.proofs.reach.Reach.launch.Goals as goal
 

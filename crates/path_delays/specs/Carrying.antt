@@ -1,0 +1,91 @@
+-- Sums that are carried from where they start, over gates, to all that they reach.
+use Rattle.std.specs.Prelude.{◌≡◌, ◌≢◌, ◌<◌, ◌⊎◌, ◌↔◌, ℕ, List, [], ◌∷◌, Option, Some, None, Contains, slice_get}
+use Rattle.cts_model.specs.declared.signal.Signal.{Signal}
+use Rattle.cts_model.specs.declared.circuit.Circuit.{Circuit}
+use Rattle.cts_model.specs.declared.tech.Tech.{Tech}
+use Rattle.cts_model.specs.netlist.Paths.{Follows, IsInput, Launches, Reads}
+use Rattle.cts_model.specs.timing.Delays.{least_gate_delay, greatest_gate_delay}
+use Rattle.path_delays.specs.declared.sums.Sums.{Sums}
+use Rattle.path_delays.specs.SumParts.{AreAround, IsAround, sums_through}
+use Rattle.path_delays.specs.CapturedSums.{either_sums}
+
+-- the sums at the end of gates, one after the other
+abbrev pub along : (delay : ℕ → Sums) → Sums → List ℕ → Sums
+along delay start [] = start
+along delay start (gate ∷ gates) = along delay (sums_through start (delay gate)) gates
+
+-- the sums come to a signal: from a start, over gates that read one another
+pub record Comes (signals : List Signal) (delay : ℕ → Sums) (Starts : ℕ → Sums → Type 0)
+    (signal : ℕ) (sums : Sums) : Type 0 where
+  pub first : ℕ
+  pub start : Sums
+  pub starts : Starts first start
+  pub gates : List ℕ
+  pub follows : Follows signals first gates signal
+  pub ends : along delay start gates ≡ sums
+
+-- of what comes one has the least sum, and one the greatest
+pub record AreShownBy (Come : Sums → Type 0) (sums : Sums) : Type 0 where
+  pub least : (one : Sums) × Come one × (one.least ≡ sums.least)
+  pub greatest : (one : Sums) × Come one × (one.greatest ≡ sums.greatest)
+
+-- the least and the greatest of all that comes
+pub record AreExtremesOf (Come : Sums → Type 0) (sums : Sums) : Type 0 where
+  pub shown : AreShownBy Come sums
+  pub around : (one : Sums) → Come one → IsAround sums one
+
+-- nothing exactly where nothing comes
+abbrev pub AreExtremesIfAny : (Sums → Type 0) → Option Sums → Type 0
+AreExtremesIfAny Come None = (one : Sums) → Come one → ⊥
+AreExtremesIfAny Come (Some sums) = AreExtremesOf Come sums
+
+-- what stands at each signal comes there; what starts counts, and so does what a signal has handed
+-- to a gate that reads it
+pub record AreCarried (signals : List Signal) (delay : ℕ → Sums) (Starts : ℕ → Sums → Type 0)
+    (Handed : ℕ → ℕ → Type 0) (at : ℕ → Option Sums) : Type 0 where
+  pub shown : (signal : ℕ) (sums : Sums) → at signal ≡ Some sums
+      → AreShownBy (Comes signals delay Starts signal) sums
+  pub started : (signal : ℕ) (start : Sums) → Starts signal start → AreAround (at signal) start
+  pub handed : (read gate : ℕ) → Handed read gate → Reads signals gate read → (sums : Sums)
+      → at read ≡ Some sums → AreAround (at gate) (sums_through sums (delay gate))
+
+-- more stands at one signal, and elsewhere what stood there
+pub record IsJoinedAt (signal : ℕ) (found : Option Sums) (old new : ℕ → Option Sums)
+    : Type 0 where
+  pub here : new signal ≡ either_sums (old signal) found
+  pub others : (other : ℕ) → other ≢ signal → new other ≡ old other
+
+-- these registers start at what they launch, each with its own sums
+abbrev pub StartsOf : Circuit → (IsOne : ℕ → Type 0) → (start : ℕ → Sums) → ℕ → Sums → Type 0
+StartsOf circuit IsOne start signal sums =
+    (from : ℕ) × IsOne from × Launches circuit from signal × (sums ≡ start from)
+
+-- as before, and at these signals too
+abbrev pub StartsToo : (ℕ → Sums → Type 0) → List ℕ → Sums → ℕ → Sums → Type 0
+StartsToo Starts signals start signal sums =
+    Starts signal sums ⊎ (Contains signals signal × (sums ≡ start))
+
+-- these are the primary inputs
+abbrev pub AreInputs : Circuit → List ℕ → Type 0
+AreInputs circuit inputs = (signal : ℕ) → Contains inputs signal ↔ IsInput circuit signal
+
+-- these are the primary inputs below a number
+abbrev pub AreInputsBelow : Circuit → (below : ℕ) → List ℕ → Type 0
+AreInputsBelow circuit below inputs =
+    (signal : ℕ) → Contains inputs signal ↔ ((signal < below) × IsInput circuit signal)
+
+-- these are the signals that a register launches
+abbrev pub AreLaunchedBy : Circuit → (from : ℕ) → List ℕ → Type 0
+AreLaunchedBy circuit from launched =
+    (signal : ℕ) → Contains launched signal ↔ Launches circuit from signal
+
+-- the sums to what a register launches
+abbrev pub start_sums : Tech → Sums
+start_sums tech = record { least = tech.least; greatest = tech.greatest }
+
+-- the least and the greatest delay of the gate of a number
+abbrev pub gate_sums_at : Circuit → Tech → ℕ → Sums
+gate_sums_at circuit tech gate = record {
+  least = least_gate_delay tech (slice_get circuit.signals gate);
+  greatest = greatest_gate_delay tech (slice_get circuit.signals gate);
+}
