@@ -1,6 +1,7 @@
 -- What is carried from starts over gates: how it grows at one signal, and that in the end the least
 -- and the greatest of all that comes stand at each.
 use Rattle.std.proofs.Common.{◌≡◌, ◌≢◌, ◌+ℤ◌, ℕ, ◌⊎◌, List, [], ◌∷◌, ◌++◌, take, get_or, length, ◌<◌, ◌+◌, Contains, Option, Some, None, inl, inr, refl, sym, ◌∙◌, ap, subst, arith}
+use Rattle.std.specs.Option.{option_map}
 use Rattle.std.proofs.lemmas.Bool.{cases_eq}
 use Rattle.std.proofs.lemmas.Int.{ints}
 use Rattle.std.proofs.lemmas.List.{take_more}
@@ -143,6 +144,19 @@ module _ (signals : List Signal) (delay : ℕ → Sums) where
     );
   }
 
+  -- also where nothing may stand there
+  pub shown_passed : (Starts : ℕ → Sums → Type 0) (read gate : ℕ) (known : Option Sums)
+      → Reads signals gate read
+      → ((sums : Sums) → known ≡ Some sums → AreShownBy (Comes signals delay Starts read) sums)
+      → (sums : Sums)
+      → option_map (λ (one : Sums). sums_through one (delay gate)) known ≡ Some sums
+      → AreShownBy (Comes signals delay Starts gate) sums
+  shown_passed Starts read gate None reads shown sums none = absurd cc
+  shown_passed Starts read gate (Some known) reads shown sums here =
+      subst (AreShownBy (Comes signals delay Starts gate))
+      (same_Some (sums_through known (delay gate)) sums here)
+      (shown_through Starts read gate known reads (shown known refl))
+
   -- what comes from some starts comes from more
   pub comes_more : (Starts Later : ℕ → Sums → Type 0)
       → ((signal : ℕ) (start : Sums) → Starts signal start → Later signal start)
@@ -284,6 +298,31 @@ module _ (signals : List Signal) (delay : ℕ → Sums) where
           around = λ one comes. subst (λ o. AreAround o one) here (around one comes);
         }
 
+-- a list that is taken one item further has what it had
+pub listed_still : (signals : List ℕ) (place one : ℕ) → place < length signals
+    → Contains (take place signals) one → Contains (take (place + 1) signals) one
+listed_still signals place one low listed =
+    subst (λ list. Contains list one) (sym (take_more signals place 0 low))
+    (Contains-append_left (take place signals) (get_or signals place 0 ∷ []) one listed)
+
+-- and the next item
+pub listed_here : (signals : List ℕ) (place : ℕ) → place < length signals
+    → Contains (take (place + 1) signals) (get_or signals place 0)
+listed_here signals place low =
+    subst (λ list. Contains list (get_or signals place 0)) (sym (take_more signals place 0 low))
+    (Contains-push (take place signals) (get_or signals place 0))
+
+-- and no other
+pub listed_next : (signals : List ℕ) (place one : ℕ) → place < length signals
+    → Contains (take (place + 1) signals) one
+    → Contains (take place signals) one ⊎ (one ≡ get_or signals place 0)
+listed_next signals place one low listed =
+    elim (Contains-push_cases (take place signals) (get_or signals place 0) one
+    (subst (λ list. Contains list one) (take_more signals place 0 low) listed)) [
+      | inl earlier ↦ inl earlier
+      | inr last ↦ inr (sym last)
+    ]
+
 -- one signal more starts too
 pub starts_still : (Starts : ℕ → Sums → Type 0) (signals : List ℕ) (start : Sums) (place : ℕ)
     → place < length signals → (one : ℕ) (sums : Sums)
@@ -291,11 +330,7 @@ pub starts_still : (Starts : ℕ → Sums → Type 0) (signals : List ℕ) (star
     → StartsToo Starts (take (place + 1) signals) start one sums
 starts_still Starts signals start place low one sums starts = elim starts [
   | inl before ↦ inl before
-  | inr listed ↦ inr (
-    subst (λ list. Contains list one) (sym (take_more signals place 0 low))
-        (Contains-append_left (take place signals) (get_or signals place 0 ∷ []) one listed.0),
-    listed.1,
-  )
+  | inr listed ↦ inr (listed_still signals place one low listed.0, listed.1)
 ]
 
 -- and no other does
@@ -306,11 +341,10 @@ pub starts_next : (Starts : ℕ → Sums → Type 0) (signals : List ℕ) (start
     ⊎ ((one ≡ get_or signals place 0) × AreAround (Some start) sums)
 starts_next Starts signals start place low one sums starts = elim starts [
   | inl before ↦ inl (inl before)
-  | inr listed ↦ elim (Contains-push_cases (take place signals) (get_or signals place 0) one
-      (subst (λ list. Contains list one) (take_more signals place 0 low) listed.0)) [
+  | inr listed ↦ elim (listed_next signals place one low listed.0) [
     | inl earlier ↦ inl (inr (earlier, listed.1))
     | inr last ↦ inr (
-      sym last,
+      last,
       subst (AreAround (Some start)) (sym listed.1) (around_itself start),
     )
   ]
@@ -320,8 +354,4 @@ starts_next Starts signals start place low one sums starts = elim starts [
 pub starts_here : (Starts : ℕ → Sums → Type 0) (signals : List ℕ) (start : Sums) (place : ℕ)
     → place < length signals
     → StartsToo Starts (take (place + 1) signals) start (get_or signals place 0) start
-starts_here Starts signals start place low = inr (
-  subst (λ list. Contains list (get_or signals place 0)) (sym (take_more signals place 0 low))
-      (Contains-push (take place signals) (get_or signals place 0)),
-  refl,
-)
+starts_here Starts signals start place low = inr (listed_here signals place low, refl)

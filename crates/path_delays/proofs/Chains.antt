@@ -1,18 +1,13 @@
 -- Chains of gates that grow at their end, and what they add up to.
-use Rattle.std.proofs.Common.{◌≡◌, ◌+◌, ◌≤◌, ℕ, ℤ, ◌+ℤ◌, ◌≤ℤ◌, Bool, true, false, cond, List, [], ◌∷◌, ◌++◌, Option, Some, None, inl, inr, ◌⊎◌, refl, sym, ◌∙◌, subst, arith}
-use Rattle.std.specs.List.{slice_get}
+use Rattle.std.proofs.Common.{◌≡◌, ◌+◌, ◌≤◌, ℕ, ℤ, ◌≤ℤ◌, Bool, true, false, cond, List, [], ◌∷◌, ◌++◌, Option, Some, None, inl, inr, ◌⊎◌, refl, sym, subst, arith}
 use Rattle.std.specs.Int.{int_min, int_max}
 use Rattle.std.specs.Int.Signed.{lt_z}
 use Rattle.std.proofs.lemmas.Int.{ints, clamps}
 use Rattle.cts_model.specs.declared.signal.Signal.{Signal}
-use Rattle.cts_model.specs.declared.circuit.Circuit.{Circuit}
-use Rattle.cts_model.specs.declared.tech.Tech.{Tech}
-use Rattle.cts_model.specs.netlist.Paths.{Reads, Follows, Launches}
+use Rattle.cts_model.specs.netlist.Paths.{Reads, Follows}
 use Rattle.cts_model.specs.table.Tables.{IsWithin}
-use Rattle.cts_model.specs.timing.Delays.{least_gate_delay, greatest_gate_delay, least_through, greatest_through, least_delay, greatest_delay}
 use Rattle.path_delays.specs.declared.sums.Sums.{Sums}
 use Rattle.path_delays.specs.SumParts.{AreWithin, IsAround, AreAround, joined_sums, sums_through}
-use Rattle.path_delays.specs.Reaches.{IsChain, AreShown}
 
 -- the lesser of two numbers is one of them, and no greater than either
 pub min_cases : (x y : ℤ)
@@ -40,84 +35,6 @@ Follows-push signals first [] last gate same reads =
     (subst (Reads signals gate) (sym same) reads, refl)
 Follows-push signals first (next ∷ gates) last gate (here, rest) reads =
     (here, Follows-push signals next gates last gate rest reads)
-
-module _ (circuit : Circuit) (tech : Tech) where
-  -- and what it adds
-  least-push : (gates : List ℕ) (gate : ℕ)
-      → least_through circuit tech (gates ++ gate ∷ [])
-      ≡ least_through circuit tech gates +ℤ least_gate_delay tech (slice_get circuit.signals gate)
-  least-push [] gate = omega (arith, ints)
-  least-push (first ∷ gates) gate = omega (arith, ints, least-push gates gate)
-
-  greatest-push : (gates : List ℕ) (gate : ℕ)
-      → greatest_through circuit tech (gates ++ gate ∷ []) ≡ greatest_through circuit tech gates
-      +ℤ greatest_gate_delay tech (slice_get circuit.signals gate)
-  greatest-push [] gate = omega (arith, ints)
-  greatest-push (first ∷ gates) gate = omega (arith, ints, greatest-push gates gate)
-
-  -- a chain with one gate more at its end
-  record IsLonger (from : ℕ) (chain : List ℕ) (gate : ℕ) : Type 0 where
-    longer : List ℕ
-    is_chain : IsChain circuit from gate longer
-    least : least_delay circuit tech longer
-        ≡ least_delay circuit tech chain +ℤ least_gate_delay tech (slice_get circuit.signals gate)
-    greatest : greatest_delay circuit tech longer ≡ greatest_delay circuit tech chain
-        +ℤ greatest_gate_delay tech (slice_get circuit.signals gate)
-
-  chain-push : (from signal gate : ℕ) (chain : List ℕ) → IsChain circuit from signal chain
-      → Reads circuit.signals gate signal → IsLonger from chain gate
-  chain-push from signal gate [] none reads = absurd none
-  chain-push from signal gate (first ∷ gates) (launched, follows) reads = record {
-    longer = first ∷ (gates ++ gate ∷ []);
-    is_chain = (launched, Follows-push circuit.signals first gates signal gate follows reads);
-    least = omega (arith, ints, least-push gates gate);
-    greatest = omega (arith, ints, greatest-push gates gate);
-  }
-
-  -- what a register launches is shown by itself
-  pub shown_start : (from signal : ℕ) → Launches circuit from signal
-      → AreShown circuit tech from signal (record { least = tech.least; greatest = tech.greatest })
-  shown_start from signal launched = record {
-    least = (signal ∷ [], (launched, refl), omega (arith, ints));
-    greatest = (signal ∷ [], (launched, refl), omega (arith, ints));
-  }
-
-  -- the sums after one more gate are shown by longer chains
-  pub shown_through : (from signal gate : ℕ) (sums delay : Sums)
-      → delay.least ≡ least_gate_delay tech (slice_get circuit.signals gate)
-      → delay.greatest ≡ greatest_gate_delay tech (slice_get circuit.signals gate)
-      → Reads circuit.signals gate signal → AreShown circuit tech from signal sums
-      → AreShown circuit tech from gate (sums_through sums delay)
-  shown_through from signal gate sums delay least_is greatest_is reads shown =
-      let least = chain-push from signal gate shown.least.0 shown.least.1 reads in
-      let greatest = chain-push from signal gate shown.greatest.0 shown.greatest.1 reads in
-      record {
-        least = (least.longer, least.is_chain, omega (arith, ints, least.least, shown.least.2));
-        greatest = (
-          greatest.longer,
-          greatest.is_chain,
-          omega (arith, ints, greatest.greatest, shown.greatest.2),
-        );
-      }
-
-  -- of two sums that are shown, the least and the greatest are
-  pub shown_joined : (from signal : ℕ) (known : Option Sums) (sums : Sums)
-      → ((old : Sums) → known ≡ Some old → AreShown circuit tech from signal old)
-      → AreShown circuit tech from signal sums
-      → AreShown circuit tech from signal (joined_sums known sums)
-  shown_joined from signal None sums before shown = shown
-  shown_joined from signal (Some old) sums before shown =
-      let was = before old refl in
-      record {
-        least = elim (min_cases old.least sums.least).0 [
-          | inl first ↦ (was.least.0, was.least.1, was.least.2 ∙ sym first)
-          | inr second ↦ (shown.least.0, shown.least.1, shown.least.2 ∙ sym second)
-        ];
-        greatest = elim (max_cases old.greatest sums.greatest).0 [
-          | inl first ↦ (was.greatest.0, was.greatest.1, was.greatest.2 ∙ sym first)
-          | inr second ↦ (shown.greatest.0, shown.greatest.1, shown.greatest.2 ∙ sym second)
-        ];
-      }
 
 -- sums are around themselves
 pub around_itself : (sums : Sums) → IsAround sums sums

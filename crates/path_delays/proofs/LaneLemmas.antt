@@ -1,18 +1,18 @@
 -- Sums in lanes: that they keep within their limits, and what is shown of them.
-use Rattle.std.proofs.Common.{◌≡◌, ◌+◌, ◌≤◌, ℕ, pos, ◌≤ℤ◌, List, length, get_or, Option, Some, None, inl, inr, refl, sym, subst, arith}
-use Rattle.std.specs.Prelude.{IsSome}
-use Rattle.std.specs.Option.{option_map}
+use Rattle.std.proofs.Common.{cond, ◌≡◌, ◌+◌, ◌≤◌, ℕ, pos, ◌≤ℤ◌, Bool, true, false, List, length, get_or, Option, Some, None, inl, inr, refl, sym, ◌∙◌, ap, subst, arith}
+use Rattle.std.specs.Prelude.{IsSome, int_lt}
+use Rattle.std.specs.Option.{option_and_then, option_map}
 use Rattle.std.proofs.lemmas.Bool.{cases_lt}
 use Rattle.std.proofs.lemmas.List.{get_or_past, get_or_default}
 use Rattle.std.proofs.lemmas.Int.{clamps, ints}
 use Rattle.std.proofs.lemmas.Option.{same_Some}
-use Rattle.cts_model.specs.declared.circuit.Circuit.{Circuit}
-use Rattle.cts_model.specs.declared.tech.Tech.{Tech}
+use Rattle.path_delays.specs.declared.lanes.Lanes.{Lanes}
 use Rattle.path_delays.specs.declared.sums.Sums.{Sums}
-use Rattle.path_delays.specs.Reaches.{AreShown}
-use Rattle.path_delays.specs.SumParts.{AreBounded, AreMissing, AreWithin, delay_limit, joined_sums, merged_sums, no_sums, sums_through}
+use Rattle.path_delays.specs.CapturedSums.{either_sums}
+use Rattle.path_delays.specs.LaneParts.{lane_of}
+use Rattle.path_delays.specs.SumParts.{AreBounded, AreMissing, AreWithin, delay_limit, joined_sums, merged_sums, no_sums, some_sums, sums_through}
 use Rattle.path_delays.proofs.Rooms.{within_higher}
-use Rattle.path_delays.proofs.Chains.{shown_joined, within_joined, within_through}
+use Rattle.path_delays.proofs.Chains.{within_joined, within_through}
 
 -- what is there
 pub some_is : {X : Type 0} (o : Option X) → IsSome o → (x : X) × (o ≡ Some x)
@@ -47,17 +47,22 @@ bounded_higher limit higher sums more bounded = elim bounded [
   })
 ]
 
+-- nothing is there after a delay more where nothing was
+missing_through : (limit more higher : ℕ) (sums delay : Sums) → limit + more ≤ higher
+    → AreMissing limit sums → AreWithin more delay → AreMissing higher (sums_through sums delay)
+missing_through limit more higher sums delay room missing small = record {
+  least_above = omega (arith, ints, missing.least_above, small.least.above);
+  least_below = omega (arith, ints, missing.least_below, small.least.below);
+  greatest_above = omega (arith, ints, missing.greatest_above, small.greatest.above);
+  greatest_below = omega (arith, ints, missing.greatest_below, small.greatest.below);
+}
+
 -- a delay more keeps within a limit that is higher by so much
 pub bounded_through : (limit more higher : ℕ) (sums delay : Sums) → limit + more ≤ higher
     → AreBounded limit sums → AreWithin more delay → AreBounded higher (sums_through sums delay)
 bounded_through limit more higher sums delay room bounded small = elim bounded [
   | inl within ↦ inl (within_through limit more higher sums delay room within small)
-  | inr missing ↦ inr (record {
-    least_above = omega (arith, ints, missing.least_above, small.least.above);
-    least_below = omega (arith, ints, missing.least_below, small.least.below);
-    greatest_above = omega (arith, ints, missing.greatest_above, small.greatest.above);
-    greatest_below = omega (arith, ints, missing.greatest_below, small.greatest.below);
-  })
+  | inr missing ↦ inr (missing_through limit more higher sums delay room missing small)
 ]
 
 -- what is bounded by the limit of all delays is there where it isn't below 0
@@ -94,6 +99,16 @@ within_merged limit some none within missing = (
   },
 )
 
+-- merged sums of which both are missing are
+missing_merged : (limit : ℕ) (known sums : Sums) → AreMissing limit known → AreMissing limit sums
+    → AreMissing limit (merged_sums known sums)
+missing_merged limit known sums was missing = record {
+  least_above = omega (arith, ints, clamps, was.least_above, missing.least_above);
+  least_below = omega (arith, ints, clamps, was.least_below, missing.least_below);
+  greatest_above = omega (arith, ints, clamps, was.greatest_above, missing.greatest_above);
+  greatest_below = omega (arith, ints, clamps, was.greatest_below, missing.greatest_below);
+}
+
 -- what is bounded is joined within the bounds
 pub bounded_joined : (limit : ℕ) (known : Option Sums) (sums : Sums)
     → ((old : Sums) → known ≡ Some old → AreBounded limit old) → AreBounded limit sums
@@ -107,12 +122,7 @@ bounded_joined limit (Some old) sums before bounded = elim (before old refl) [
   ]
   | inr was ↦ elim bounded [
     | inl within ↦ inl (within_merged limit sums old within was).1
-    | inr missing ↦ inr (record {
-      least_above = omega (arith, ints, clamps, was.least_above, missing.least_above);
-      least_below = omega (arith, ints, clamps, was.least_below, missing.least_below);
-      greatest_above = omega (arith, ints, clamps, was.greatest_above, missing.greatest_above);
-      greatest_below = omega (arith, ints, clamps, was.greatest_below, missing.greatest_below);
-    })
+    | inr missing ↦ inr (missing_merged limit old sums was missing)
   ]
 ]
 
@@ -134,42 +144,109 @@ merged_same limit some none few within missing = (
     same_sums first second least greatest =
         λ i. record { least = least i; greatest = greatest i }
 
--- joined sums that are there are shown, where each of the two is that is there
-pub shown_bounded : (circuit : Circuit) (tech : Tech) (from signal limit : ℕ)
-    (known : Option Sums) (sums : Sums) → limit ≤ delay_limit
+-- sums within a limit are there
+pub some_within : (limit : ℕ) (sums : Sums) → AreWithin limit sums → some_sums sums ≡ Some sums
+some_within limit sums within = at (int_lt sums.greatest (pos 0)) refl
+  where
+    at : (below : Bool) → int_lt sums.greatest (pos 0) ≡ below
+        → cond below None (Some sums) ≡ Some sums
+    at true below = absurd (omega (arith, ints, below, within.greatest.above))
+    at false some = refl
+
+-- and missing ones are not
+some_missing : (limit : ℕ) (sums : Sums) → limit ≤ delay_limit → AreMissing limit sums
+    → some_sums sums ≡ None
+some_missing limit sums few missing = at (int_lt sums.greatest (pos 0)) refl
+  where
+    at : (below : Bool) → int_lt sums.greatest (pos 0) ≡ below
+        → cond below None (Some sums) ≡ None
+    at true below = refl
+    at false some = absurd (omega (arith, ints, some, missing.greatest_below))
+
+-- what is there is as it stands, and isn't below 0
+pub some_is_there : (sums entry : Sums) → some_sums sums ≡ Some entry
+    → (sums ≡ entry) × (pos 0 ≤ℤ sums.greatest)
+some_is_there sums entry some = at (int_lt sums.greatest (pos 0)) refl some
+  where
+    at : (below : Bool) → int_lt sums.greatest (pos 0) ≡ below
+        → cond below None (Some sums) ≡ Some entry
+        → (sums ≡ entry) × (pos 0 ≤ℤ sums.greatest)
+    at true below none = absurd cc
+    at false not_below same = (same_Some sums entry same, omega (arith, ints, not_below))
+
+-- of two sums that may be missing those that are there become one
+pub some_merged : (limit : ℕ) (known sums : Sums) → limit ≤ delay_limit → AreBounded limit known
+    → AreBounded limit sums
+    → some_sums (merged_sums known sums) ≡ either_sums (some_sums known) (some_sums sums)
+some_merged limit known sums few bounded_known bounded = elim bounded_known [
+  | inl was ↦ elim bounded [
+    | inl within ↦
+        some_within limit (merged_sums known sums) (within_joined limit (Some known) sums
+        (λ entry same. subst (AreWithin limit) (same_Some known entry same) was) within)
+        ∙ sym (both (Some known) (Some sums) (some_within limit known was)
+        (some_within limit sums within))
+    | inr missing ↦
+        ap some_sums (merged_same limit known sums few was missing).0
+        ∙ (some_within limit known was
+        ∙ sym (both (Some known) None (some_within limit known was)
+        (some_missing limit sums few missing)))
+  ]
+  | inr was ↦ elim bounded [
+    | inl within ↦
+        ap some_sums (merged_same limit sums known few within was).1
+        ∙ (some_within limit sums within
+        ∙ sym (both None (Some sums) (some_missing limit known few was)
+        (some_within limit sums within)))
+    | inr missing ↦
+        some_missing limit (merged_sums known sums) few
+        (missing_merged limit known sums was missing)
+        ∙ sym (both None None (some_missing limit known few was)
+        (some_missing limit sums few missing))
+  ]
+]
+  where
+    both : (first second : Option Sums) → some_sums known ≡ first → some_sums sums ≡ second
+        → either_sums (some_sums known) (some_sums sums) ≡ either_sums first second
+    both first second first_is second_is =
+        ap (λ o. either_sums o (some_sums sums)) first_is ∙ ap (either_sums first) second_is
+
+-- also where the first isn't reached
+pub some_joined : (limit : ℕ) (known : Option Sums) (sums : Sums) → limit ≤ delay_limit
     → ((old : Sums) → known ≡ Some old → AreBounded limit old) → AreBounded limit sums
-    → ((old : Sums) → known ≡ Some old → pos 0 ≤ℤ old.greatest
-    → AreShown circuit tech from signal old)
-    → (pos 0 ≤ℤ sums.greatest → AreShown circuit tech from signal sums)
-    → pos 0 ≤ℤ (joined_sums known sums).greatest
-    → AreShown circuit tech from signal (joined_sums known sums)
-shown_bounded circuit tech from signal limit None sums few before bounded old_shown shown some =
-    shown some
-shown_bounded circuit tech from signal limit (Some old) sums few before bounded old_shown shown
-    some = elim (before old refl) [
-      | inl was ↦
-          let known_shown = old_shown old refl was.greatest.above in
-          elim bounded [
-            | inl within ↦ shown_joined circuit tech from signal (Some old) sums
-                (λ entry same.
-                subst (AreShown circuit tech from signal) (same_Some old entry same) known_shown)
-                (shown within.greatest.above)
-            | inr missing ↦ subst (AreShown circuit tech from signal)
-                (sym (merged_same limit old sums few was missing).0) known_shown
-          ]
-      | inr was ↦ elim bounded [
-        | inl within ↦ subst (AreShown circuit tech from signal)
-            (sym (merged_same limit sums old few within was).1) (shown within.greatest.above)
-        | inr missing ↦ absurd (omega (
-          arith,
-          ints,
-          clamps,
-          some,
-          was.greatest_below,
-          missing.greatest_below,
-        ))
-      ]
-    ]
+    → some_sums (joined_sums known sums)
+    ≡ either_sums (option_and_then some_sums known) (some_sums sums)
+some_joined limit None sums few before bounded = alone (some_sums sums)
+  where
+    alone : (o : Option Sums) → o ≡ either_sums None o
+    alone None = refl
+    alone (Some entry) = refl
+some_joined limit (Some old) sums few before bounded =
+    some_merged limit old sums few (before old refl) bounded
+
+-- a delay more is added to what is there
+pub some_through : (limit more higher : ℕ) (sums delay : Sums) → limit + more ≤ higher
+    → higher ≤ delay_limit → AreBounded limit sums → AreWithin more delay
+    → some_sums (sums_through sums delay)
+    ≡ option_map (λ (one : Sums). sums_through one delay) (some_sums sums)
+some_through limit more higher sums delay room few bounded small = elim bounded [
+  | inl within ↦
+      some_within higher (sums_through sums delay)
+      (within_through limit more higher sums delay room within small)
+      ∙ ap (option_map (λ (one : Sums). sums_through one delay))
+      (sym (some_within limit sums within))
+  | inr missing ↦
+      some_missing higher (sums_through sums delay) few
+      (missing_through limit more higher sums delay room missing small)
+      ∙ ap (option_map (λ (one : Sums). sums_through one delay))
+      (sym (some_missing limit sums (omega (arith, room, few)) missing))
+]
+
+-- what is there in a lane is reached
+pub lanes_there : (known : Option Lanes) (lane : ℕ) (sums : Sums)
+    → option_and_then some_sums (option_map (λ (lanes : Lanes). lane_of lanes lane) known)
+    ≡ Some sums → IsSome known
+lanes_there None lane sums none = absurd cc
+lanes_there (Some lanes) lane sums here = refl
 
 -- what is bounded in a list with room is so where it is read with zeros past its end
 pub bounded_read : (limit : ℕ) (sums : List Sums) (lane : ℕ)

@@ -13,8 +13,8 @@ use Rattle.cts_model.specs.netlist.Kinds.{is_gate, is_host, is_input, is_registe
 use Rattle.cts_model.specs.netlist.Paths.{IsInput, Launches, register_signal}
 use Rattle.cts_model.proofs.CircuitLemmas.{IsRegisterAt, registered}
 use Rattle.cts_model.proofs.TopologyLemmas.{some_and}
-use Rattle.path_delays.specs.Carrying.{AreInputs, AreInputsBelow, AreLaunchedBy}
-use Rattle.path_delays.specs.Networks.{AreRanks}
+use Rattle.path_delays.specs.Carrying.{AreLaunchedBy}
+use Rattle.path_delays.specs.Networks.{AreInputs, AreInputsBelow, AreRanks}
 
 -- a primary input is no gate
 input_is_no_gate : (kind : Kind) → is_input kind ≡ true → is_gate kind ≡ false

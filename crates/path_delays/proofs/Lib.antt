@@ -1,6 +1,7 @@
 mod NumberSetLemmas
 mod DelayLemmas
 mod NetworkLemmas
+mod NetworkDelays
 mod Hands
 mod LaneLemmas
 mod Chains
@@ -9,6 +10,8 @@ mod Rooms
 mod LaunchLemmas
 mod SetListing
 mod WalkSteps
+mod WalkStarts
+mod WalkEnds
 mod CapturedLemmas
 mod ReachedPairs
 mod CaptureLemmas

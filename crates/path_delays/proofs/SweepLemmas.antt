@@ -28,6 +28,7 @@ use Rattle.path_delays.specs.Windows.{window_along, IsHullIfAny, IsWindowBelow, 
 use Rattle.path_delays.specs.WindowParts.{window_after, either_window, window_at, AreBelow, ComesFrom, IsGateWindow, ComesCaptured, AreCaptures, start_window, ComesAt, window_limit, sums_of, sums_in, scaled_delay, AreSwept, StartsBelow, NoneHanded, HandedToPassed, AreLaunched, ArePassed}
 use Rattle.path_delays.proofs.CarryLemmas.{IsHandedBy, carried_end, carried_joined, carried_none, carried_same, shown_start, shown_through, starts_here, starts_next, starts_still}
 use Rattle.path_delays.proofs.HullLemmas.{hull_same, hull_of_hulls, hull_below}
+use Rattle.path_delays.proofs.NetworkDelays.{gate_sums_are}
 use Rattle.path_delays.proofs.NetworkLemmas.{few_gates}
 use Rattle.path_delays.proofs.ReachedPairs.{chain_of_path, path_of_chain, read_within}
 use Rattle.path_delays.proofs.WindowLemmas.{moved, below_wider, below_either}
@@ -275,7 +276,7 @@ module _ (circuit : Circuit) (tech : Tech) (schedule : Schedule) where
     own = gate_sums_at circuit tech gate
 
     own_is : gate_sums tech signal ≡ own
-    own_is = rw (here, is_one) refl
+    own_is = gate_sums_are circuit tech gate signal here is_one
 
     -- what the gate reads is its fan-in
     reads_of : (read : ℕ) → Contains signal.fan_in read → Reads circuit.signals gate read

@@ -1,9 +1,9 @@
 -- Sums that are carried from where they start, over gates, to all that they reach.
-use Rattle.std.specs.Prelude.{◌≡◌, ◌≢◌, ◌<◌, ◌⊎◌, ◌↔◌, ℕ, List, [], ◌∷◌, Option, Some, None, Contains, slice_get}
+use Rattle.std.specs.Prelude.{◌≡◌, ◌≢◌, ◌⊎◌, ◌↔◌, ℕ, List, [], ◌∷◌, Option, Some, None, Contains, slice_get}
 use Rattle.cts_model.specs.declared.signal.Signal.{Signal}
 use Rattle.cts_model.specs.declared.circuit.Circuit.{Circuit}
 use Rattle.cts_model.specs.declared.tech.Tech.{Tech}
-use Rattle.cts_model.specs.netlist.Paths.{Follows, IsInput, Launches, Reads}
+use Rattle.cts_model.specs.netlist.Paths.{Follows, Launches, Reads}
 use Rattle.cts_model.specs.timing.Delays.{least_gate_delay, greatest_gate_delay}
 use Rattle.path_delays.specs.declared.sums.Sums.{Sums}
 use Rattle.path_delays.specs.SumParts.{AreAround, IsAround, sums_through}
@@ -64,15 +64,6 @@ StartsOf circuit IsOne start signal sums =
 abbrev pub StartsToo : (ℕ → Sums → Type 0) → List ℕ → Sums → ℕ → Sums → Type 0
 StartsToo Starts signals start signal sums =
     Starts signal sums ⊎ (Contains signals signal × (sums ≡ start))
-
--- these are the primary inputs
-abbrev pub AreInputs : Circuit → List ℕ → Type 0
-AreInputs circuit inputs = (signal : ℕ) → Contains inputs signal ↔ IsInput circuit signal
-
--- these are the primary inputs below a number
-abbrev pub AreInputsBelow : Circuit → (below : ℕ) → List ℕ → Type 0
-AreInputsBelow circuit below inputs =
-    (signal : ℕ) → Contains inputs signal ↔ ((signal < below) × IsInput circuit signal)
 
 -- these are the signals that a register launches
 abbrev pub AreLaunchedBy : Circuit → (from : ℕ) → List ℕ → Type 0

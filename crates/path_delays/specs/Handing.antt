@@ -9,7 +9,7 @@ use Rattle.path_delays.specs.declared.network.Network.{Network}
 use Rattle.path_delays.specs.declared.reach.Reach.{Reach}
 use Rattle.path_delays.specs.NumberSets.{has_number}
 use Rattle.path_delays.specs.LaneParts.{lane_of}
-use Rattle.path_delays.specs.SumParts.{AreWithin, delay_limit, joined_sums, no_sums, some_sums, sums_through}
+use Rattle.path_delays.specs.SumParts.{AreWithin, delay_limit, joined_sums, merged_sums, no_sums, some_sums, sums_through}
 
 -- the sums in all lanes to a signal, if the walk reached it
 abbrev pub lanes_at : Reach → ℕ → Option Lanes
@@ -53,10 +53,12 @@ pub record IsSameRoom (old new : Reach) : Type 0 where
   pub reached : length new.reached.words.items ≡ length old.reached.words.items
   pub waiting : length new.waiting.words.items ≡ length old.waiting.words.items
 
--- a signal gets sums in a lane, where it isn't reached none in the others, and all else stays
+-- sums are joined at a signal in a lane, where it isn't reached none stand in the others, and all
+-- else stays
 pub record IsMarked (lane signal : ℕ) (sums : Sums) (old new : Reach) : Type 0 where
   pub room : IsSameRoom old new
-  pub at : lane_at new lane signal ≡ Some sums
+  pub at : lane_at new lane signal
+      ≡ Some (merged_sums (unwrap_or (lane_at old lane signal) no_sums) sums)
   pub beside : (other : ℕ) → other ≢ lane
       → lane_at new other signal ≡ Some (unwrap_or (lane_at old other signal) no_sums)
   pub others : (other : ℕ) → other ≢ signal → lanes_at new other ≡ lanes_at old other
@@ -86,7 +88,8 @@ IsHandedOn network signal old new = (given : Lanes) → lanes_at old signal ≡ 
 -- the signal gets sums in a lane and hands them on
 abbrev pub IsStarted : Network → (lane signal : ℕ) → Sums → Reach → Reach → Type 0
 IsStarted network lane signal sums old new =
-    (between : Reach) × IsMarked lane signal sums old between × IsHandedOn network signal between new
+    (between : Reach) × IsMarked lane signal sums old between
+    × IsHandedOn network signal between new
 
 -- nothing is reached
 pub record IsCleared (reach : Reach) : Type 0 where

@@ -1,6 +1,6 @@
 -- What walks over a circuit go by: the readers of each signal, the order of the gates and their
 -- delays.
-use Rattle.std.specs.Prelude.{◌≡◌, ◌<◌, ◌≤◌, ◌+◌, ◌-◌, ◌*◌, ℕ, pos, List, [], length, map, take, All, Contains, Some, if◌then◌else◌, slice_get, slice_index}
+use Rattle.std.specs.Prelude.{◌≡◌, ◌<◌, ◌≤◌, ◌+◌, ◌-◌, ◌*◌, ◌↔◌, ℕ, pos, List, [], length, map, take, All, Contains, Some, if◌then◌else◌, slice_get, slice_index}
 use Rattle.std.specs.List.{sum_by}
 use Rattle.std.specs.Option.{option_map_or}
 use Rattle.cts_model.specs.declared.signal.Signal.{Signal}
@@ -8,7 +8,7 @@ use Rattle.cts_model.specs.declared.circuit.Circuit.{Circuit}
 use Rattle.cts_model.specs.declared.tech.Tech.{Tech}
 use Rattle.cts_model.specs.netlist.Kinds.{is_gate}
 use Rattle.cts_model.specs.netlist.Circuits.{gate_inputs}
-use Rattle.cts_model.specs.netlist.Paths.{IsGate, Reads}
+use Rattle.cts_model.specs.netlist.Paths.{IsGate, IsInput, Reads}
 use Rattle.cts_model.specs.timing.Delays.{least_gate_delay, greatest_gate_delay}
 use Rattle.gate_order.specs.declared.groups.Groups.{Groups}
 use Rattle.gate_order.specs.GroupParts.{bounds_of, group_of}
@@ -72,9 +72,20 @@ weight_of signal = 1000000 + 1000 * gate_inputs signal
 abbrev pub weight_at : List Signal → ℕ → ℕ
 weight_at signals number = option_map_or weight_of (slice_get signals number) 0
 
+-- these are the primary inputs
+abbrev pub AreInputs : Circuit → List ℕ → Type 0
+AreInputs circuit inputs = (signal : ℕ) → Contains inputs signal ↔ IsInput circuit signal
+
+-- these are the primary inputs below a number
+abbrev pub AreInputsBelow : Circuit → (below : ℕ) → List ℕ → Type 0
+AreInputsBelow circuit below inputs =
+    (signal : ℕ) → Contains inputs signal ↔ ((signal < below) × IsInput circuit signal)
+
+-- the readers, the ranks, the delays and the inputs of a circuit
 pub record IsNetworkOf (circuit : Circuit) (tech : Tech) (network : Network) : Type 0 where
   pub readers : AreReaders circuit.signals network.readers
   pub ranks : AreRanks circuit.signals network.order.items network.ranks.items
   pub once : sum_by (weight_at circuit.signals) network.order.items
       ≤ sum_by weight_of circuit.signals
   pub delays : network.delays.items ≡ map (gate_sums tech) circuit.signals
+  pub inputs : AreInputs circuit network.inputs.items

@@ -24,13 +24,14 @@ impl Lanes {
         }
     }
 
-    /// Puts sums into a lane.
-    pub(crate) fn put(&mut self, lane: usize, sums: Sums)
+    /// In one lane the least and the greatest of both.
+    pub(crate) fn join(&mut self, lane: usize, sums: Sums)
         requires { lane < 8 }
-        ensures at { lane_of self.new lane ≡ sums }
-        ensures others { (other : ℕ) → other ≢ lane → lane_of self.new other ≡ lane_of self.old other }
+        ensures at { lane_of self.new lane ≡ merged_sums (lane_of self.old lane) sums }
+        ensures others { (other : ℕ) → other ≢ lane
+            → lane_of self.new other ≡ lane_of self.old other }
     {
-        self.sums[lane] = sums;
+        self.sums[lane] = self.sums[lane].merged(sums);
     }
 
     /// Becomes the sums after one more gate.

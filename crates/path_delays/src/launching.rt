@@ -1,7 +1,8 @@
 ghost use Rattle.std.specs.Prelude.{◌≡◌, ◌<◌, ◌++◌, if◌then◌else◌, [], ◌∷◌, IfOk, OnOk, length};
 ghost use Rattle.cts_model.specs.netlist.Kinds as kinds;
 ghost use Rattle.path_delays.specs.Carrying as carrying;
-ghost use Rattle.path_delays.specs.Carrying.{AreInputs, AreLaunchedBy};
+ghost use Rattle.path_delays.specs.Carrying.{AreLaunchedBy};
+ghost use Rattle.path_delays.specs.Networks.{AreInputs};
 ghost use Rattle.path_delays.specs.SumParts.{AreWithin};
 
 use crate::sums::Sums;
@@ -55,15 +56,15 @@ pub(crate) fn start_sums(tech: &Tech) -> Sums
     }
 }
 
-/// Whether it is the host.
-pub(crate) fn is_host(kind: Kind) -> bool
+// Whether it is the host.
+fn is_host(kind: Kind) -> bool
     ensures { result ≡ kinds.is_host kind }
 {
     matches!(kind, Kind::Host)
 }
 
-/// Whether it is a primary input.
-pub(crate) fn is_input(kind: Kind) -> bool
+// Whether it is a primary input.
+fn is_input(kind: Kind) -> bool
     ensures { result ≡ kinds.is_input kind }
 {
     matches!(kind, Kind::Input)

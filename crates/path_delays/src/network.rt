@@ -1,6 +1,7 @@
 ghost use Rattle.std.specs.Prelude.{◌≡◌, ◌≢◌, ◌<◌, ◌++◌, ◌^◌, IfOk, OnOk, All, AllPairs, length};
 
 use crate::gate_delays::gate_delays;
+use crate::launching::input_signals;
 use crate::sums::Sums;
 use cts_base::NoMemory;
 use cts_model::{Circuit, Signal, Tech};
@@ -18,13 +19,15 @@ pub(crate) struct Network {
     pub(crate) ranks: Vec<u32>,
     /// The least and the greatest delay of each gate.
     pub(crate) delays: Vec<Sums>,
+    /// The primary inputs.
+    pub(crate) inputs: Vec<u32>,
 }
 
 impl Network {
     ghost use Rattle.gate_order.specs.LevelParts.{IsLevelsOf};
     ghost use Rattle.path_delays.specs.Networks.{AreAllReads, ArePlaces, IsNetworkOf, all_reads_by};
 
-    /// The network of a circuit: one pass over its inputs, and one over its gates.
+    /// The network of a circuit: passes over its inputs and its gates.
     pub(crate) fn new(
         alloc: Global,
         circuit: &Circuit,
@@ -41,11 +44,13 @@ impl Network {
         let order = Vec::from_slice(alloc, levels.gates())?;
         let ranks = Network::places(alloc, signals, order.as_slice())?;
         let delays = gate_delays(alloc, circuit, tech)?;
+        let inputs = input_signals(alloc, circuit)?;
         Ok(Network {
             readers,
             order,
             ranks,
             delays,
+            inputs,
         })
     }
 

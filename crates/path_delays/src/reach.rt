@@ -120,6 +120,6 @@ impl Reach {
             self.reached.insert(signal);
             self.lanes[signal as usize] = Lanes::none();
         }
-        self.lanes[signal as usize].put(lane, sums);
+        self.lanes[signal as usize].join(lane, sums);
     }
 }

@@ -3,8 +3,7 @@ ghost use Rattle.cts_model.specs.netlist.Kinds.{is_gate, is_valid};
 ghost use Rattle.cts_model.specs.table.Tables.{IsWithin};
 ghost use Rattle.gate_order.specs.LevelParts.{IsLevelsOf};
 ghost use Rattle.path_delays.specs.declared.window.Window.{Window};
-ghost use Rattle.path_delays.specs.Carrying.{AreInputs};
-ghost use Rattle.path_delays.specs.Networks.{gate_sums};
+ghost use Rattle.path_delays.specs.Networks.{AreInputs, gate_sums};
 ghost use Rattle.path_delays.specs.Windows.{AreWindows, IsHullIfAny, IsSmallSchedule, IsWindowBelow};
 ghost use Rattle.path_delays.specs.WindowParts.{AreBelow, AreCaptures, AreLaunched, ArePassed, ComesFrom, IsGateWindow, either_window, start_window, window_at, window_limit};
 

@@ -1,7 +1,6 @@
-ghost use Rattle.std.specs.Prelude.{◌≡◌, ◌<◌, ◌≤◌, ◌↔◌, ℕ, All, IfOk, length};
-ghost use Rattle.cts_model.specs.netlist.Paths.{IsInput, Launches};
+ghost use Rattle.std.specs.Prelude.{◌≡◌, ◌<◌, ◌≤◌, ◌+◌, All, IfOk, length};
 
-use crate::launching::{is_host, is_input, start_sums};
+use crate::launching::{launched, start_sums};
 use crate::network::Network;
 use crate::number_set::NumberSet;
 use crate::reach::Reach;
@@ -77,7 +76,7 @@ impl Walk {
 impl Reach {
     ghost use Rattle.path_delays.specs.Networks.{IsNetworkOf};
     ghost use Rattle.path_delays.specs.Handing.{HasReachRoom, IsCleared};
-    ghost use Rattle.path_delays.specs.Walking.{AreLaunched, HaveReached, IsLaunched, IsSpreadBelow};
+    ghost use Rattle.path_delays.specs.Walking.{HaveReached, IsSpreadBelow};
 
     // Reaches all that registers reach: each gate hands on its sums when no lower rank waits.
     fn reach_all(&mut self, network: &Network, circuit: &Circuit, tech: &Tech, registers: &[u32])
@@ -104,58 +103,39 @@ impl Reach {
         requires clear { IsCleared self.old }
         requires few { length registers.now ≤ 8 }
         requires registers { All (λ from. from < length circuit.now.registers) registers.now }
-        ensures spread { IsSpreadBelow circuit.now network.now 1 self.new }
-        ensures launched { AreLaunched circuit.now tech.now registers.now self.new }
+        ensures spread { IsSpreadBelow circuit.now tech.now network.now registers.now
+            (length registers.now) 1 self.new }
         ensures room { HasReachRoom network.now self.new }
     {
-        for (lane, from) in registers.iter().enumerate() {
-            self.launch(network, circuit, tech, lane, *from);
+        for lane in 0..registers.len() {
+            self.launch(network, circuit, tech, registers, lane);
         }
     }
 
-    // Starts at all that a register launches: its own signal, or for the host each input.
-    fn launch(&mut self, network: &Network, circuit: &Circuit, tech: &Tech, lane: usize, from: u32)
-        requires network { IsNetworkOf circuit.now tech.now network.now }
-        requires room { HasReachRoom network.now self.old }
-        requires lane { lane < 8 }
-        requires from { from < length circuit.now.registers }
-        requires spread { IsSpreadBelow circuit.now network.now 1 self.old }
-        ensures spread { IsSpreadBelow circuit.now network.now 1 self.new }
-        ensures launched { IsLaunched circuit.now tech.now from lane self.old self.new }
-        ensures room { HasReachRoom network.now self.new }
-    {
-        if is_host(circuit.register_signal(from as usize).kind) {
-            self.start_inputs(network, circuit, tech, lane, from);
-        } else {
-            let signal = circuit.registers.as_slice()[from as usize];
-            self.start(network, lane, signal, start_sums(tech));
-        }
-    }
-
-    // Starts at each input.
-    fn start_inputs(
+    // Starts in a lane at each signal that its register launches.
+    fn launch(
         &mut self,
         network: &Network,
         circuit: &Circuit,
         tech: &Tech,
+        registers: &[u32],
         lane: usize,
-        from: u32,
     )
         requires network { IsNetworkOf circuit.now tech.now network.now }
         requires room { HasReachRoom network.now self.old }
-        requires lane { lane < 8 }
-        requires spread { IsSpreadBelow circuit.now network.now 1 self.old }
-        requires host { (number : ℕ)
-            → Launches circuit.now from number ↔ IsInput circuit.now number }
-        ensures spread { IsSpreadBelow circuit.now network.now 1 self.new }
-        ensures launched { IsLaunched circuit.now tech.now from lane self.old self.new }
+        requires few { length registers.now ≤ 8 }
+        requires registers { All (λ from. from < length circuit.now.registers) registers.now }
+        requires lane { lane < length registers.now }
+        requires spread { IsSpreadBelow circuit.now tech.now network.now registers.now lane 1
+            self.old }
+        ensures spread { IsSpreadBelow circuit.now tech.now network.now registers.now (lane + 1) 1
+            self.new }
         ensures room { HasReachRoom network.now self.new }
     {
         let sums = start_sums(tech);
-        for (number, signal) in circuit.signals.as_slice().iter().enumerate() {
-            if is_input(signal.kind) {
-                self.start(network, lane, number as u32, sums);
-            }
+        let from = registers[lane] as usize;
+        for signal in launched(circuit, network.inputs.as_slice(), from) {
+            self.start(network, lane, *signal, sums);
         }
     }
 }

@@ -1,5 +1,5 @@
 -- The inputs passed so far.
-use Rattle.path_delays.specs.Carrying.{AreInputsBelow}
+use Rattle.path_delays.specs.Networks.{AreInputsBelow}
 use Rattle.path_delays.proofs.launching.input_signals.Given as goal
 
 abbrev pub invariant-loop-number : goal.invariant-loop-number

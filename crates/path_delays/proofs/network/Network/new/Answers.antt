@@ -22,4 +22,5 @@ returns-clause-network c =
           (rw (c.len-signals.ensures, c.as_slice-2.ensures.value, order) at c.in_ok-ranks.ensures));
       once = rw order (weights_once circuit.signals c.args.levels.now c.requires.once);
       delays = c.in_ok-delays.ensures;
+      inputs = c.in_ok-inputs.ensures;
     }

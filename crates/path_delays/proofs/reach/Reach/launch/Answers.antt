@@ -1,40 +1,66 @@
--- A register launches its own signal, and the host each input.
-use Rattle.std.proofs.Common.{◌≡◌, ◌∙◌, false, sym}
+-- One signal more, and all of them.
+use Rattle.std.proofs.Common.{◌≡◌, ◌+◌, length, take, get_or, refl, sym, subst, arith}
+use Rattle.std.proofs.lemmas.List.Elements.{Contains-get_or}
 use Rattle.std.proofs.lemmas.Option.{slice_get-get_or}
-use Rattle.cts_model.specs.netlist.Kinds.{is_host}
-use Rattle.path_delays.proofs.LaunchLemmas.{host_launches, register_launches}
-use Rattle.path_delays.proofs.WalkSteps.{all_bounded, IsLaunched-register}
+use Rattle.path_delays.specs.Handing.{HasReachRoom}
+use Rattle.path_delays.specs.Walking.{AllBelow, IsSpread}
+use Rattle.path_delays.proofs.LaunchLemmas.{launched_within}
+use Rattle.path_delays.proofs.WalkStarts.{BegunIn, begun_all, begun_next, begun_none}
+use Rattle.path_delays.proofs.WalkSteps.{all_bounded}
 use Rattle.path_delays.proofs.reach.Reach.launch.Goals as goal
 
-pub start_inputs-requires-clause-host : goal.start_inputs-requires-clause-host
-start_inputs-requires-clause-host c =
-    host_launches c.args.circuit.now c.args.from c.register_signal.result.now
-    c.register_signal.ensures (sym c.is_host.ensures ∙ c.if-is_host.true)
+pub launched-signal-items-requires-clause-inputs : goal.launched-signal-items-requires-clause-inputs
+launched-signal-items-requires-clause-inputs c =
+    rw c.as_slice.ensures.value c.requires.network.inputs
+
+pub loop-signal-init : goal.loop-signal-init
+loop-signal-init c = record {
+  spread = begun_none c.args.circuit.now c.args.tech.now c.args.network.now c.requires.network
+      c.args.registers.now c.args.lane _ c.launched-signal-items.result.now
+      c.launched-signal-items.ensures c.args.self.now c.requires.spread;
+  room = c.requires.room;
+}
+
+pub start-requires-clause-signal : goal.start-requires-clause-signal
+start-requires-clause-signal c =
+    let launched = c.launched-signal-items.result.now in
+    let signal = get_or launched c.loop-signal.signal-index 0 in
+    omega (
+      arith,
+      launched_within c.args.circuit.now _ signal ((c.launched-signal-items.ensures
+          signal).0 (Contains-get_or launched c.loop-signal.signal-index 0 c.loop-signal-test.true)),
+      c.requires.network.ranks.covers,
+    )
 
 pub start-requires-clause-small : goal.start-requires-clause-small
-start-requires-clause-small c = all_bounded c.args.circuit.now c.args.tech.now c.args.network.now
-    c.requires.network c.args.self.now 1 _ c.requires.spread _
+start-requires-clause-small c =
+    all_bounded c.args.circuit.now c.args.tech.now c.args.network.now c.requires.network _
+    c.loop-signal.self 1 _ c.loop-signal.invariant.spread _
 
-pub returns-else-is_host-clause-spread : goal.returns-else-is_host-clause-spread
-returns-else-is_host-clause-spread c =
-    let circuit = c.args.circuit.now in
-    let other : is_host c.register_signal.result.now.kind ≡ false =
-    sym c.is_host.ensures ∙ c.if-is_host.false in
-    (IsLaunched-register circuit c.args.tech.now c.args.network.now c.requires.network
-    c.args.self.now c.start.new.self c.args.from c.args.lane _ c.requires.lane
-    (register_launches circuit c.args.from c.register_signal.result.now
-    c.register_signal.ensures other)
-    (rw c.as_slice.ensures (slice_get-get_or circuit.registers c.args.from 0 c.requires.from))
-    (rw c.start_sums.ensures.sums at c.start.ensures.started) c.requires.spread).0
+pub loop-signal-preserved : goal.loop-signal-preserved
+loop-signal-preserved c = record {
+  spread = begun_next c.args.circuit.now c.args.tech.now c.args.network.now c.requires.network
+      c.args.registers.now c.args.lane _ c.launched-signal-items.result.now
+      c.launched-signal-items.ensures c.loop-signal.self c.start.new.self
+      c.loop-signal.signal-index (omega (arith, c.requires.few, c.requires.lane))
+      c.loop-signal-test.true (rw c.start_sums-sums.ensures.sums at c.start.ensures.started)
+      c.loop-signal.invariant.spread;
+  room = c.start.ensures.room;
+}
 
-pub returns-else-is_host-clause-launched : goal.returns-else-is_host-clause-launched
-returns-else-is_host-clause-launched c =
-    let circuit = c.args.circuit.now in
-    let other : is_host c.register_signal.result.now.kind ≡ false =
-    sym c.is_host.ensures ∙ c.if-is_host.false in
-    (IsLaunched-register circuit c.args.tech.now c.args.network.now c.requires.network
-    c.args.self.now c.start.new.self c.args.from c.args.lane _ c.requires.lane
-    (register_launches circuit c.args.from c.register_signal.result.now
-    c.register_signal.ensures other)
-    (rw c.as_slice.ensures (slice_get-get_or circuit.registers c.args.from 0 c.requires.from))
-    (rw c.start_sums.ensures.sums at c.start.ensures.started) c.requires.spread).1
+pub returns : goal.returns
+returns c =
+    let launched = c.launched-signal-items.result.now in
+    let all : c.loop-signal.signal-index ≡ length launched = omega arith in
+    record {
+      spread = begun_all c.args.circuit.now c.args.tech.now c.args.network.now c.requires.network
+          c.args.registers.now c.args.lane _ launched c.launched-signal-items.ensures
+          c.loop-signal.self
+          (slice_get-get_or c.args.registers.now c.args.lane 0 c.requires.lane)
+          (subst (λ n. IsSpread c.args.circuit.now c.args.tech.now c.args.network.now
+          (BegunIn c.args.circuit.now c.args.tech.now c.args.registers.now c.args.lane
+          (take n launched))
+          (AllBelow c.args.network.now 1) 1 c.loop-signal.self) all
+          c.loop-signal.invariant.spread);
+      room = c.loop-signal.invariant.room;
+    }

@@ -3,9 +3,11 @@ use Rattle.std.proofs.Common.{◌≡◌, ◌+◌, ℕ, length, refl, arith}
 use Rattle.std.proofs.lemmas.Option.{slice_get_within}
 use Rattle.path_delays.specs.declared.reach.Reach.{Reach}
 use Rattle.path_delays.specs.Handing.{lanes_at, rank_at}
+use Rattle.path_delays.specs.Walking.{StartsIn}
 use Rattle.path_delays.proofs.Hands.{HasReachRoom-same}
 use Rattle.path_delays.proofs.LaneLemmas.{some_is}
-use Rattle.path_delays.proofs.WalkSteps.{all_bounded, next_gate, next_within, IsSpread-taken, IsSpread-on, Stays-same, reach_shown}
+use Rattle.path_delays.proofs.WalkEnds.{reach_shown}
+use Rattle.path_delays.proofs.WalkSteps.{all_bounded, next_gate, next_within, IsSpread-taken, IsSpread-on}
 use Rattle.path_delays.proofs.reach.Reach.reach_all.Goals as goal
 
 pub index-requires : goal.index-requires
@@ -36,7 +38,7 @@ hand_on-requires-clause-reached c =
 
 pub hand_on-requires-clause-small : goal.hand_on-requires-clause-small
 hand_on-requires-clause-small c =
-    all_bounded c.args.circuit.now c.args.tech.now c.args.network.now c.requires.network
+    all_bounded c.args.circuit.now c.args.tech.now c.args.network.now c.requires.network _
     c.loop-next.self c.loop-next.rank _ c.loop-next.invariant.spread c.index.result.now
 
 pub loop-next-smaller : goal.loop-next-smaller
@@ -54,6 +56,7 @@ loop-next-preserved c =
     let circuit = c.args.circuit.now in
     let tech = c.args.tech.now in
     let network = c.args.network.now in
+    let registers = c.args.registers.now in
     let is = c.requires.network in
     let gate = c.index.result.now in
     let due = c.loop-next.invariant.spread.due c.in-Some.next c.in-Some.ensures.some.held in
@@ -64,36 +67,34 @@ loop-next-preserved c =
       lanes = c.loop-next.self.lanes;
       waiting = c.take_lowest.new.self;
     } in
-    let pending = IsSpread-taken circuit tech network is c.loop-next.self taken c.loop-next.rank
-    c.in-Some.next gate c.loop-next.invariant.counted due.after c.in-Some.ensures.some
-    (λ (signal : ℕ). refl) next.rank c.loop-next.invariant.spread in
+    let Starts = StartsIn circuit tech registers (length registers) in
+    let pending = IsSpread-taken circuit tech network is Starts c.loop-next.self taken
+    c.loop-next.rank c.in-Some.next gate c.loop-next.invariant.counted due.after
+    c.in-Some.ensures.some (λ (signal : ℕ). refl) next.rank c.loop-next.invariant.spread in
     let given = some_is (lanes_at c.loop-next.self gate) next.reached in
     let one_more : rank_at network gate + 1 ≡ c.in-Some.next + 1 = omega (arith, next.rank) in
-    let on = IsSpread-on circuit tech network is taken c.hand_on.new.self (c.in-Some.next + 1) gate
-    given.0 one_more next.inside given.1 pending c.hand_on.ensures.on in
     record {
-      spread = on.0;
-      launched = λ lane from here. on.1 lane
-          (omega (arith, slice_get_within c.args.registers.now lane from here, c.requires.few))
-          from (length circuit.signals)
-          (Stays-same circuit tech network is c.loop-next.self taken (λ (signal : ℕ). refl) lane from
-          (length circuit.signals) (c.loop-next.invariant.launched lane from here));
+      spread = IsSpread-on circuit tech network is Starts taken c.hand_on.new.self
+          (c.in-Some.next + 1) gate given.0 one_more next.inside given.1 pending
+          c.hand_on.ensures.on;
       room = c.hand_on.ensures.room;
       counted = omega arith;
     }
 
 pub returns : goal.returns
 returns c =
+    let registers = c.args.registers.now in
     let taken : Reach = record {
       reached = c.loop-next.self.reached;
       lanes = c.loop-next.self.lanes;
       waiting = c.take_lowest.new.self;
     } in
     record {
-      reach = λ lane from signal here. reach_shown c.args.circuit.now c.args.tech.now
-          c.args.network.now c.requires.network c.loop-next.self c.loop-next.rank from lane
-          (omega (arith, slice_get_within c.args.registers.now lane from here, c.requires.few))
-          c.loop-next.invariant.spread (c.loop-next.invariant.launched lane from here)
+      reach = λ lane from signal here.
+          let within = slice_get_within registers lane from here in
+          reach_shown c.args.circuit.now c.args.tech.now registers from lane here within
+          c.args.network.now c.requires.network c.loop-next.self c.loop-next.rank
+          (omega (arith, within, c.requires.few)) c.loop-next.invariant.spread
           c.in_default.ensures.none signal;
       room = HasReachRoom-same c.args.network.now c.loop-next.self taken
           (record { lanes = refl; reached = refl; waiting = c.in_default.ensures.covers })

@@ -1,14 +1,12 @@
--- All signals below the rank have handed on their sums, and all that is launched stays begun; the
--- rank is no more than one beyond the order.
+-- All registers start, and all signals below the rank have handed on their sums.
 use Rattle.std.proofs.Common.{◌+◌, ◌-◌, ◌≤◌, length}
 use Rattle.path_delays.specs.Handing.{HasReachRoom}
-use Rattle.path_delays.specs.Walking.{AreLaunched, IsSpreadBelow}
+use Rattle.path_delays.specs.Walking.{IsSpreadBelow}
 use Rattle.path_delays.proofs.reach.Reach.reach_all.Given as goal
 
 abbrev pub invariant-loop-next : goal.invariant-loop-next
 invariant-loop-next l = record {
-  spread : IsSpreadBelow l.circuit l.network l.rank l.self;
-  launched : AreLaunched l.circuit l.tech l.registers l.self;
+  spread : IsSpreadBelow l.circuit l.tech l.network l.registers (length l.registers) l.rank l.self;
   room : HasReachRoom l.network l.self;
   counted : 1 ≤ l.rank;
 }

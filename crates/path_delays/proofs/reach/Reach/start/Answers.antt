@@ -1,5 +1,5 @@
 -- What stands at the signal is bounded, in its lane and beside it.
-use Rattle.path_delays.proofs.WalkSteps.{marked_bounded}
+use Rattle.path_delays.proofs.WalkStarts.{marked_bounded}
 use Rattle.path_delays.proofs.reach.Reach.start.Goals as goal
 
 pub hand_on-requires-clause-small : goal.hand_on-requires-clause-small

@@ -1,0 +1,361 @@
+-- Where a walk starts: at nothing, at a signal that is marked in a lane, and at all that a register
+-- launches.
+use Rattle.std.proofs.Common.{◌≡◌, ◌≢◌, ◌+◌, ◌<◌, ◌≤◌, ℕ, true, List, [], length, take, get_or, Contains, Option, Some, None, inl, inr, ◌⊎◌, refl, sym, ◌∙◌, ap, subst, arith}
+use Rattle.std.specs.Prelude.{IsSome}
+use Rattle.std.specs.Option.{option_and_then, option_map, unwrap_or}
+use Rattle.std.specs.List.{slice_get}
+use Rattle.std.proofs.lemmas.Bool.{cases_eq, cases_lt, true≢false}
+use Rattle.std.proofs.lemmas.List.{get_or_default, take_all}
+use Rattle.std.proofs.lemmas.Option.{same_Some}
+use Rattle.cts_model.specs.declared.circuit.Circuit.{Circuit}
+use Rattle.cts_model.specs.declared.tech.Tech.{Tech}
+use Rattle.cts_model.specs.netlist.Paths.{Launches, Reads}
+use Rattle.path_delays.specs.declared.lanes.Lanes.{Lanes}
+use Rattle.path_delays.specs.declared.sums.Sums.{Sums}
+use Rattle.path_delays.specs.declared.network.Network.{Network}
+use Rattle.path_delays.specs.declared.reach.Reach.{Reach}
+use Rattle.path_delays.specs.CapturedSums.{either_sums}
+use Rattle.path_delays.specs.Carrying.{AreCarried, AreLaunchedBy, AreShownBy, Comes, IsJoinedAt, gate_sums_at, start_sums}
+use Rattle.path_delays.specs.LaneParts.{AllBounded, lane_of}
+use Rattle.path_delays.specs.SumParts.{AreAround, AreBounded, AreWithin, delay_limit, merged_sums, no_sums, some_sums}
+use Rattle.path_delays.specs.Networks.{IsNetworkOf}
+use Rattle.path_delays.specs.Handing.{rank_at, lane_at, lanes_at, sums_at, waits_at, IsCleared, IsMarked, IsStarted}
+use Rattle.path_delays.specs.Walking.{limit_at, AllBelow, AllBelowBut, IsSpread, IsSpreadBelow, StartsIn}
+use Rattle.path_delays.proofs.CarryLemmas.{IsHandedBy, carried_joined, carried_none, carried_same, listed_here, listed_next, listed_still, shown_start}
+use Rattle.path_delays.proofs.Chains.{around_itself}
+use Rattle.path_delays.proofs.LaneLemmas.{bounded_joined, none_missing, some_is, some_mapped, some_merged, some_within}
+use Rattle.path_delays.proofs.LaunchLemmas.{launched_lowest, launched_within}
+use Rattle.path_delays.proofs.NetworkDelays.{limit_within}
+use Rattle.path_delays.proofs.Rooms.{within_higher}
+use Rattle.path_delays.proofs.WalkSteps.{IsSpread-on}
+
+-- what stood there, or nothing, is bounded
+stood_bounded : (limit : ℕ) (known : Option Sums)
+    → ((entry : Sums) → known ≡ Some entry → AreBounded limit entry)
+    → AreBounded limit (unwrap_or known no_sums)
+stood_bounded limit None before = inr (none_missing limit)
+stood_bounded limit (Some entry) before = before entry refl
+
+-- and is there where it was
+stood_some : (known : Option Sums)
+    → some_sums (unwrap_or known no_sums) ≡ option_and_then some_sums known
+stood_some None = refl
+stood_some (Some entry) = refl
+
+-- what stands at a signal that is marked is bounded where what stood there was
+marked_within : (limit : ℕ) (old new : Reach) (lane signal : ℕ) (sums : Sums)
+    → IsMarked lane signal sums old new → AreBounded limit sums → (other : ℕ)
+    → ((entry : Sums) → lane_at old other signal ≡ Some entry → AreBounded limit entry)
+    → (entry : Sums) → lane_at new other signal ≡ Some entry → AreBounded limit entry
+marked_within limit old new lane signal sums marked bounded other before entry here =
+    elim (cases_eq other lane) [
+      | inl same ↦
+          let stood : Sums = unwrap_or (lane_at old lane signal) no_sums in
+          let equal : Some (merged_sums stood sums) ≡ Some entry =
+          sym marked.at ∙ (ap (λ k. lane_at new k signal) (sym same) ∙ here) in
+          subst (AreBounded limit) (same_Some (merged_sums stood sums) entry equal)
+          (bounded_joined limit (Some stood) sums (λ was is. subst (AreBounded limit)
+          (same_Some stood was is) (stood_bounded limit (lane_at old lane signal)
+          (λ one there. before one (ap (λ k. lane_at old k signal) same ∙ there)))) bounded)
+      | inr apart ↦
+          let stood : Sums = unwrap_or (lane_at old other signal) no_sums in
+          subst (AreBounded limit)
+          (same_Some stood entry (sym (marked.beside other apart) ∙ here))
+          (stood_bounded limit (lane_at old other signal) before)
+    ]
+
+-- so all its lanes are
+pub marked_bounded : (old new : Reach) (lane signal : ℕ) (sums : Sums)
+    → AreWithin delay_limit sums → IsMarked lane signal sums old new
+    → ((given : Lanes) → lanes_at old signal ≡ Some given → AllBounded delay_limit given)
+    → (given : Lanes) → lanes_at new signal ≡ Some given → AllBounded delay_limit given
+marked_bounded old new lane signal sums within marked before given here other low =
+    marked_within delay_limit old new lane signal sums marked (inl within) other
+    (λ entry there. at (lanes_at old signal) refl entry there) (lane_of given other)
+    (ap (option_map (λ (lanes : Lanes). lane_of lanes other)) here)
+  where
+    at : (known : Option Lanes) → lanes_at old signal ≡ known → (entry : Sums)
+        → option_map (λ (lanes : Lanes). lane_of lanes other) (lanes_at old signal) ≡ Some entry
+        → AreBounded delay_limit entry
+    at None none entry equal = absurd (let missing = rw none at equal in cc)
+    at (Some lanes) there entry equal = subst (AreBounded delay_limit)
+        (same_Some (lane_of lanes other) entry (rw there at equal)) (before lanes there other low)
+
+-- as before, and at a signal in a lane too
+pub record StartsMore (lane signal : ℕ) (start : Sums) (Starts Later : ℕ → ℕ → Sums → Type 0)
+    : Type 0 where
+  pub still : (other one : ℕ) (sums : Sums) → Starts other one sums → Later other one sums
+  pub here : Later lane signal start
+  pub each : (one : ℕ) (sums : Sums) → Later lane one sums
+      → Starts lane one sums ⊎ ((one ≡ signal) × AreAround (Some start) sums)
+  pub beside : (other one : ℕ) (sums : Sums) → other ≢ lane → Later other one sums
+      → Starts other one sums
+
+-- as far as a lane, and in it at these signals too
+abbrev pub BegunIn : Circuit → Tech → (registers : List ℕ) → (lane : ℕ) → (launched : List ℕ)
+    → ℕ → ℕ → Sums → Type 0
+BegunIn circuit tech registers lane launched other one sums =
+    StartsIn circuit tech registers lane other one sums
+    ⊎ ((other ≡ lane) × Contains launched one × (sums ≡ start_sums tech))
+
+-- nothing is listed in an empty list
+none_listed : (one : ℕ) → Contains [] one → ⊥
+none_listed one (k, inside, here) = absurd (omega arith)
+
+module _ (circuit : Circuit) (tech : Tech) (network : Network)
+    (is : IsNetworkOf circuit tech network) where
+  abbrev delay : ℕ → Sums
+  delay = gate_sums_at circuit tech
+
+  -- nothing is reached: nothing is wrong
+  pub IsSpread-none : (registers : List ℕ) (reach : Reach) → IsCleared reach
+      → IsSpreadBelow circuit tech network registers 0 1 reach
+  IsSpread-none registers reach clear = record {
+    limited = λ lane signal sums low here. absurd (nothing lane signal sums here);
+    carried = λ lane low. carried_none circuit.signals delay
+        (StartsIn circuit tech registers 0 lane) (AllBelow network 1) (sums_at reach lane)
+        (λ signal start (from, (below, listed), launches, same). absurd (omega (arith, below)))
+        (λ signal. ap (option_and_then some_sums) (none_at lane signal));
+    waits = λ signal reached later. let none = clear.none signal in cc;
+    due = λ other waits. absurd (true≢false (sym waits ∙ clear.idle other));
+  }
+    where
+      none_at : (lane signal : ℕ) → lane_at reach lane signal ≡ None
+      none_at lane signal =
+          ap (option_map (λ (lanes : Lanes). lane_of lanes lane)) (clear.none signal)
+
+      nothing : (lane signal : ℕ) (sums : Sums) → lane_at reach lane signal ≡ Some sums → ⊥
+      nothing lane signal sums here = let none = none_at lane signal in cc
+
+  -- the same starts are said in other words
+  starts_same : (Starts Later : ℕ → ℕ → Sums → Type 0) (reach : Reach)
+      → ((lane one : ℕ) (sums : Sums) → Starts lane one sums → Later lane one sums)
+      → ((lane one : ℕ) (sums : Sums) → Later lane one sums → Starts lane one sums)
+      → IsSpread circuit tech network Starts (AllBelow network 1) 1 reach
+      → IsSpread circuit tech network Later (AllBelow network 1) 1 reach
+  starts_same Starts Later reach to back spread = record {
+    limited = spread.limited;
+    carried = λ lane low. carried_same circuit.signals delay (Starts lane) (Later lane)
+        (AllBelow network 1) (AllBelow network 1) (sums_at reach lane) (sums_at reach lane)
+        (to lane) (back lane) (λ read gate sums here below reads. below) (λ signal. refl)
+        (spread.carried lane low);
+    waits = spread.waits;
+    due = spread.due;
+  }
+
+  module _ (old new : Reach) (lane signal : ℕ) (low : lane < 8)
+      (marked : IsMarked lane signal (start_sums tech) old new)
+      (lowest : rank_at network signal ≡ 0) (Starts Later : ℕ → ℕ → Sums → Type 0)
+      (more : StartsMore lane signal (start_sums tech) Starts Later)
+      (so_far : IsSpread circuit tech network Starts (AllBelow network 1) 1 old) where
+    abbrev start : Sums
+    start = start_sums tech
+
+    abbrev limit : ℕ → ℕ
+    limit number = limit_at circuit.signals network.order.items (rank_at network number)
+
+    start_within : AreWithin (limit signal) start
+    start_within = within_higher 1000000 (limit signal) start (omega arith)
+        (record { least = tech.valid.least_within; greatest = tech.valid.greatest_within })
+
+    -- what stands at other signals stays
+    apart_same : (other number : ℕ) → number ≢ signal
+        → lane_at new other number ≡ lane_at old other number
+    apart_same other number differs =
+        ap (option_map (λ (lanes : Lanes). lane_of lanes other)) (marked.others number differs)
+
+    counted : (other : ℕ) → 1 ≤ rank_at network other → other ≢ signal
+    counted other higher same = absurd (omega (arith, lowest, ap (rank_at network) same))
+
+    limited : (other number : ℕ) (sums : Sums) → other < 8 → lane_at new other number ≡ Some sums
+        → AreBounded (limit number) sums
+    limited other number sums other_low here = elim (cases_eq number signal) [
+      | inl same ↦ subst (λ n. AreBounded (limit n) sums) (sym same)
+          (marked_within (limit signal) old new lane signal start marked (inl start_within) other
+          (λ entry. so_far.limited other signal entry other_low) sums
+          (ap (lane_at new other) (sym same) ∙ here))
+      | inr apart ↦ so_far.limited other number sums other_low
+          (sym (apart_same other number apart) ∙ here)
+    ]
+
+    -- in its lane the start is joined at the signal
+    joined_here : IsJoinedAt signal (Some start) (sums_at old lane) (sums_at new lane)
+    joined_here = record {
+      here =
+          let stood : Sums = unwrap_or (lane_at old lane signal) no_sums in
+          ap (option_and_then some_sums) marked.at
+          ∙ (some_merged (limit signal) stood start
+          (limit_within circuit tech network is (rank_at network signal))
+          (stood_bounded (limit signal) (lane_at old lane signal)
+          (λ entry. so_far.limited lane signal entry low)) (inl start_within)
+          ∙ (ap (λ o. either_sums o (some_sums start)) (stood_some (lane_at old lane signal))
+          ∙ ap (either_sums (sums_at old lane signal))
+          (some_within (limit signal) start start_within)));
+      others = λ other differs. ap (option_and_then some_sums) (apart_same lane other differs);
+    }
+
+    -- and in the others all stays
+    same_beside : (other : ℕ) → other ≢ lane → (number : ℕ)
+        → sums_at new other number ≡ sums_at old other number
+    same_beside other differs number = elim (cases_eq number signal) [
+      | inl same ↦ subst (λ n. sums_at new other n ≡ sums_at old other n) (sym same)
+          (ap (option_and_then some_sums) (marked.beside other differs)
+          ∙ stood_some (lane_at old other signal))
+      | inr apart ↦ ap (option_and_then some_sums) (apart_same other number apart)
+    ]
+
+    -- it is reached
+    marked_there : IsSome (lanes_at new signal)
+    marked_there = some_mapped (λ lanes. lane_of lanes lane) (lanes_at new signal)
+        (merged_sums (unwrap_or (lane_at old lane signal) no_sums) start) marked.at
+
+    -- a signal that is started in a lane still has to hand on what stands there
+    IsSpread-marked : IsSpread circuit tech network Later (AllBelowBut network 1 signal []) 1 new
+    IsSpread-marked = record {
+      limited = limited;
+      carried = λ other other_low. elim (cases_eq other lane) [
+        | inl same ↦ subst (λ k. AreCarried circuit.signals delay (Later k)
+            (AllBelowBut network 1 signal []) (sums_at new k)) (sym same)
+            (carried_joined circuit.signals delay (Starts lane) (Later lane) (AllBelow network 1)
+            (AllBelowBut network 1 signal []) signal (Some start) (sums_at old lane)
+            (sums_at new lane) joined_here (more.still lane) more.each
+            (λ sums is_start. subst (AreShownBy (Comes circuit.signals delay (Later lane) signal))
+            (same_Some start sums is_start)
+            (shown_start circuit.signals delay (Later lane) signal start more.here)) hands
+            (so_far.carried lane low))
+        | inr differs ↦ carried_same circuit.signals delay (Starts other) (Later other)
+            (AllBelow network 1) (AllBelowBut network 1 signal []) (sums_at old other)
+            (sums_at new other) (more.still other) (λ one sums. more.beside other one sums differs)
+            (λ read gate sums here (below, listed) reads. below) (same_beside other differs)
+            (so_far.carried other other_low)
+      ];
+      waits = λ number reached later. marked.waits (rank_at network number)
+          ∙ so_far.waits number
+          (subst (λ (o : Option Lanes). IsSome o) (marked.others number (counted number later))
+          reached) later;
+      due = λ other waits.
+          let was = so_far.due other (sym (marked.waits other) ∙ waits) in
+          record {
+            after = was.after;
+            gate = was.gate;
+            here = was.here;
+            reached = subst (λ (o : Option Lanes). IsSome o)
+                (sym (marked.others was.gate
+                (counted was.gate (omega (arith, was.after, was.here))))) was.reached;
+          };
+    }
+      where
+        hands : (read gate : ℕ) → AllBelowBut network 1 signal [] read gate
+            → Reads circuit.signals gate read
+            → IsHandedBy circuit.signals delay (AllBelow network 1) signal (Some start)
+            (sums_at old lane) read gate
+        hands read gate (below, listed) reads = record {
+          apart = λ same. none_listed gate (listed same);
+          counts = inl below;
+        }
+
+  -- a signal of the lowest rank that is started in a lane has handed on what stands there
+  pub IsSpread-started : (old new : Reach) (lane signal : ℕ) → lane < 8
+      → IsStarted network lane signal (start_sums tech) old new → signal < length circuit.signals
+      → rank_at network signal ≡ 0 → (Starts Later : ℕ → ℕ → Sums → Type 0)
+      → StartsMore lane signal (start_sums tech) Starts Later
+      → IsSpread circuit tech network Starts (AllBelow network 1) 1 old
+      → IsSpread circuit tech network Later (AllBelow network 1) 1 new
+  IsSpread-started old new lane signal low (between, marked, on) inside lowest Starts Later more
+      so_far =
+      let there = some_is (lanes_at between signal)
+      (marked_there old between lane signal low marked lowest Starts Later more so_far) in
+      IsSpread-on circuit tech network is Later between new 1 signal there.0 (omega arith) inside
+      there.1 (IsSpread-marked old between lane signal low marked lowest Starts Later more so_far) on
+
+  -- the signals that the register of a lane launches, so far
+  module _ (registers : List ℕ) (lane from : ℕ) (launched : List ℕ)
+      (all : AreLaunchedBy circuit from launched) where
+    abbrev Begun : ℕ → ℕ → ℕ → Sums → Type 0
+    Begun place = BegunIn circuit tech registers lane (take place launched)
+
+    -- none yet
+    pub begun_none : (reach : Reach) → IsSpreadBelow circuit tech network registers lane 1 reach
+        → IsSpread circuit tech network (Begun 0) (AllBelow network 1) 1 reach
+    begun_none reach spread = starts_same (StartsIn circuit tech registers lane) (Begun 0) reach
+        (λ other one sums starts. inl starts)
+        (λ other one sums starts. elim starts [
+          | inl before ↦ before
+          | inr listed ↦ absurd (none_listed one listed.1)
+        ]) spread
+
+    -- one more
+    begun_more : (place : ℕ) → place < length launched → StartsMore lane (get_or launched place 0)
+        (start_sums tech) (Begun place) (Begun (place + 1))
+    begun_more place low = record {
+      still = λ other one sums starts. elim starts [
+        | inl before ↦ inl before
+        | inr listed ↦
+            inr (listed.0, listed_still launched place one low listed.1, listed.2)
+      ];
+      here = inr (refl, listed_here launched place low, refl);
+      each = λ one sums starts. elim starts [
+        | inl before ↦ inl (inl before)
+        | inr listed ↦ elim (listed_next launched place one low listed.1) [
+          | inl earlier ↦ inl (inr (listed.0, earlier, listed.2))
+          | inr last ↦ inr (
+            last,
+            subst (AreAround (Some (start_sums tech))) (sym listed.2)
+                (around_itself (start_sums tech)),
+          )
+        ]
+      ];
+      beside = λ other one sums differs starts. elim starts [
+        | inl before ↦ inl before
+        | inr listed ↦ absurd (differs listed.0)
+      ];
+    }
+
+    pub begun_next : (old new : Reach) (place : ℕ) → lane < 8 → place < length launched
+        → IsStarted network lane (get_or launched place 0) (start_sums tech) old new
+        → IsSpread circuit tech network (Begun place) (AllBelow network 1) 1 old
+        → IsSpread circuit tech network (Begun (place + 1)) (AllBelow network 1) 1 new
+    begun_next old new place low inside started so_far =
+        let signal = get_or launched place 0 in
+        let launches : Launches circuit from signal = (all signal).0 (place, inside, get_or_same) in
+        IsSpread-started old new lane signal low started
+        (launched_within circuit from signal launches)
+        (launched_lowest circuit from signal network.order.items network.ranks.items is.ranks
+        launches) (Begun place) (Begun (place + 1)) (begun_more place inside) so_far
+      where
+        get_or_same : get_or launched place (get_or launched place 0) ≡ get_or launched place 0
+        get_or_same = get_or_default launched place (get_or launched place 0) 0 inside
+
+    -- all of them
+    pub begun_all : (reach : Reach) → slice_get registers lane ≡ Some from
+        → IsSpread circuit tech network (Begun (length launched)) (AllBelow network 1) 1 reach
+        → IsSpreadBelow circuit tech network registers (lane + 1) 1 reach
+    begun_all reach here = starts_same (Begun (length launched))
+        (StartsIn circuit tech registers (lane + 1)) reach
+        (λ other one sums starts. elim starts [
+          | inl (register, (below, listed), launches, same) ↦
+              (register, (omega (arith, below), listed), launches, same)
+          | inr (same, listed, is_start) ↦ (
+            from,
+            (omega (arith, same), ap (slice_get registers) same ∙ here),
+            (all one).0 (subst (λ list. Contains list one) whole listed),
+            is_start,
+          )
+        ])
+        (λ other one sums (register, (below, listed), launches, same).
+        elim (cases_lt other lane) [
+          | inl earlier ↦ inl (register, (earlier, listed), launches, same)
+          | inr later ↦
+              let last : other ≡ lane = omega (arith, below, later) in
+              let own : register ≡ from = same_Some register from
+              (sym listed ∙ (ap (slice_get registers) last ∙ here)) in
+              inr (
+                last,
+                subst (λ list. Contains list one) (sym whole)
+                    ((all one).1 (subst (λ r. Launches circuit r one) own launches)),
+                same,
+              )
+        ])
+      where
+        whole : take (length launched) launched ≡ launched
+        whole = take_all (length launched) launched (omega arith)
