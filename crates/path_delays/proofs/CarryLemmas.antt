@@ -12,7 +12,7 @@ use Rattle.cts_model.specs.netlist.Paths.{Follows, Reads}
 use Rattle.path_delays.specs.declared.sums.Sums.{Sums}
 use Rattle.path_delays.specs.SumParts.{AreAround, IsAround, joined_sums, merged_sums, sums_through}
 use Rattle.path_delays.specs.CapturedSums.{either_sums}
-use Rattle.path_delays.specs.Carrying.{along, AreCarried, AreExtremesIfAny, AreShownBy, Comes, IsJoinedAt, StartsToo}
+use Rattle.path_delays.specs.Carrying.{along, AreCarried, AreExtremesIfAny, AreShownBy, Comes, IsJoinedAt, StandsAt}
 use Rattle.path_delays.proofs.Chains.{Follows-push, around_itself, around_joined, around_known, min_cases, max_cases}
 
 -- sums around sums that are around others are around those
@@ -84,6 +84,32 @@ shown_more Come More more sums shown = record {
   least = (shown.least.0, more shown.least.0 shown.least.1, shown.least.2);
   greatest = (shown.greatest.0, more shown.greatest.0 shown.greatest.1, shown.greatest.2);
 }
+
+-- extremes are shown, and around all that comes; where nothing stands nothing comes
+extremes_made : (Come : Sums → Type 0) (known : Option Sums)
+    → ((sums : Sums) → known ≡ Some sums → AreShownBy Come sums)
+    → ((one : Sums) → Come one → AreAround known one) → AreExtremesIfAny Come known
+extremes_made Come None shown around = around
+extremes_made Come (Some sums) shown around = record { shown = shown sums refl; around = around }
+
+extremes_shown : (Come : Sums → Type 0) (known : Option Sums) → AreExtremesIfAny Come known
+    → (sums : Sums) → known ≡ Some sums → AreShownBy Come sums
+extremes_shown Come None none sums here = absurd cc
+extremes_shown Come (Some known) are sums here =
+    subst (AreShownBy Come) (same_Some known sums here) are.shown
+
+extremes_around : (Come : Sums → Type 0) (known : Option Sums) → AreExtremesIfAny Come known
+    → (one : Sums) → Come one → AreAround known one
+extremes_around Come None none one comes = none one comes
+extremes_around Come (Some known) are one comes = are.around one comes
+
+-- the same have the same extremes
+pub extremes_same : (Come Other : Sums → Type 0) (known : Option Sums)
+    → ((one : Sums) → Come one → Other one) → ((one : Sums) → Other one → Come one)
+    → AreExtremesIfAny Come known → AreExtremesIfAny Other known
+extremes_same Come Other known to back are = extremes_made Other known
+    (λ sums here. shown_more Come Other to sums (extremes_shown Come known are sums here))
+    (λ one other. extremes_around Come known are one (back one other))
 
 module _ (signals : List Signal) (delay : ℕ → Sums) where
   -- one gate more adds its delay
@@ -157,45 +183,30 @@ module _ (signals : List Signal) (delay : ℕ → Sums) where
       (same_Some (sums_through known (delay gate)) sums here)
       (shown_through Starts read gate known reads (shown known refl))
 
-  -- what comes from some starts comes from more
-  pub comes_more : (Starts Later : ℕ → Sums → Type 0)
-      → ((signal : ℕ) (start : Sums) → Starts signal start → Later signal start)
-      → (signal : ℕ) (sums : Sums) → Comes signals delay Starts signal sums
-      → Comes signals delay Later signal sums
-  comes_more Starts Later more signal sums comes = record {
-    first = comes.first;
-    start = comes.start;
-    starts = more comes.first comes.start comes.starts;
-    gates = comes.gates;
-    follows = comes.follows;
-    ends = comes.ends;
-  }
-
-  -- nothing stands where nothing starts
-  pub carried_none : (Starts : ℕ → Sums → Type 0) (Handed : ℕ → ℕ → Type 0)
-      (at : ℕ → Option Sums) → ((signal : ℕ) (start : Sums) → Starts signal start → ⊥)
-      → ((signal : ℕ) → at signal ≡ None) → AreCarried signals delay Starts Handed at
-  carried_none Starts Handed at never none = record {
+  -- nothing stands where nothing has begun
+  pub carried_none : (Starts Begun : ℕ → Sums → Type 0) (Handed : ℕ → ℕ → Type 0)
+      (at : ℕ → Option Sums) → ((signal : ℕ) (start : Sums) → Begun signal start → ⊥)
+      → ((signal : ℕ) → at signal ≡ None) → AreCarried signals delay Starts Begun Handed at
+  carried_none Starts Begun Handed at never none = record {
     shown = λ signal sums here. let empty = none signal in absurd cc;
-    started = λ signal start starts. absurd (never signal start starts);
+    started = λ signal start starts begun. absurd (never signal start begun);
     handed = λ read gate given reads sums here. let empty = none read in absurd cc;
   }
 
-  -- the same sums are carried where as much starts, and no more is handed on
-  pub carried_same : (Starts Later : ℕ → Sums → Type 0) (Handed Now : ℕ → ℕ → Type 0)
+  -- the same sums are carried where no more has begun, and no more is handed on
+  pub carried_same : (Starts Begun Later : ℕ → Sums → Type 0) (Handed Now : ℕ → ℕ → Type 0)
       (old new : ℕ → Option Sums)
-      → ((signal : ℕ) (start : Sums) → Starts signal start → Later signal start)
-      → ((signal : ℕ) (start : Sums) → Later signal start → Starts signal start)
+      → ((signal : ℕ) (start : Sums) → Starts signal start → Later signal start
+      → Begun signal start)
       → ((read gate : ℕ) (sums : Sums) → old read ≡ Some sums → Now read gate
       → Reads signals gate read → Handed read gate)
       → ((signal : ℕ) → new signal ≡ old signal)
-      → AreCarried signals delay Starts Handed old → AreCarried signals delay Later Now new
-  carried_same Starts Later Handed Now old new to back fewer same carried = record {
-    shown = λ signal sums here. shown_more (Comes signals delay Starts signal)
-        (Comes signals delay Later signal) (comes_more Starts Later to signal) sums
-        (carried.shown signal sums (sym (same signal) ∙ here));
-    started = λ signal start starts. subst (λ o. AreAround o start) (sym (same signal))
-        (carried.started signal start (back signal start starts));
+      → AreCarried signals delay Starts Begun Handed old
+      → AreCarried signals delay Starts Later Now new
+  carried_same Starts Begun Later Handed Now old new back fewer same carried = record {
+    shown = λ signal sums here. carried.shown signal sums (sym (same signal) ∙ here);
+    started = λ signal start starts later. subst (λ o. AreAround o start) (sym (same signal))
+        (carried.started signal start starts (back signal start starts later));
     handed = λ read gate now reads sums here.
         let was : old read ≡ Some sums = sym (same read) ∙ here in
         subst (λ o. AreAround o (sums_through sums (delay gate))) (sym (same gate))
@@ -209,7 +220,7 @@ module _ (signals : List Signal) (delay : ℕ → Sums) where
     pub counts : Handed read gate ⊎ ((gate ≡ signal) × ((sums : Sums) → old read ≡ Some sums
         → AreAround found (sums_through sums (delay gate))))
 
-  module _ (Starts Later : ℕ → Sums → Type 0) (Handed Now : ℕ → ℕ → Type 0) (signal : ℕ)
+  module _ (Starts Begun Later : ℕ → Sums → Type 0) (Handed Now : ℕ → ℕ → Type 0) (signal : ℕ)
       (found : Option Sums) (old new : ℕ → Option Sums)
       (joined : IsJoinedAt signal found old new) where
     -- what was around something still is
@@ -228,24 +239,23 @@ module _ (signals : List Signal) (delay : ℕ → Sums) where
         (either_found (old signal) found inner around)
 
     -- more comes to one signal, which hasn't handed on anything yet
-    pub carried_joined : ((one : ℕ) (start : Sums) → Starts one start → Later one start)
-        → ((one : ℕ) (start : Sums) → Later one start
-        → Starts one start ⊎ ((one ≡ signal) × AreAround found start))
+    pub carried_joined : ((one : ℕ) (start : Sums) → Starts one start → Later one start
+        → Begun one start ⊎ ((one ≡ signal) × AreAround found start))
         → ((sums : Sums) → found ≡ Some sums
-        → AreShownBy (Comes signals delay Later signal) sums)
+        → AreShownBy (Comes signals delay Starts signal) sums)
         → ((read gate : ℕ) → Now read gate → Reads signals gate read
         → IsHandedBy Handed signal found old read gate)
-        → AreCarried signals delay Starts Handed old → AreCarried signals delay Later Now new
-    carried_joined still starts shown hands before = record {
+        → AreCarried signals delay Starts Begun Handed old
+        → AreCarried signals delay Starts Later Now new
+    carried_joined begins shown hands before = record {
       shown = λ one sums here. elim (cases_eq one signal) [
-        | inl same ↦ subst (λ n. AreShownBy (Comes signals delay Later n) sums) (sym same)
-            (shown_either (Comes signals delay Later signal) (old signal) found
-            (λ was is. more signal was (before.shown signal was is)) shown sums
-            (sym joined.here ∙ (ap new (sym same) ∙ here)))
-        | inr apart ↦ more one sums (before.shown one sums (sym (joined.others one apart) ∙ here))
+        | inl same ↦ subst (λ n. AreShownBy (Comes signals delay Starts n) sums) (sym same)
+            (shown_either (Comes signals delay Starts signal) (old signal) found
+            (before.shown signal) shown sums (sym joined.here ∙ (ap new (sym same) ∙ here)))
+        | inr apart ↦ before.shown one sums (sym (joined.others one apart) ∙ here)
       ];
-      started = λ one start later. elim (starts one start later) [
-        | inl was ↦ kept one start (before.started one start was)
+      started = λ one start starts later. elim (begins one start starts later) [
+        | inl was ↦ kept one start (before.started one start starts was)
         | inr now ↦ subst (λ n. AreAround (new n) start) (sym now.0) (found_counts start now.1)
       ];
       handed = λ read gate now reads sums here.
@@ -258,14 +268,60 @@ module _ (signals : List Signal) (delay : ℕ → Sums) where
                 (sym last.0) (found_counts (sums_through sums (delay gate)) (last.1 sums was))
           ];
     }
-      where
-        more : (one : ℕ) (sums : Sums) → AreShownBy (Comes signals delay Starts one) sums
-            → AreShownBy (Comes signals delay Later one) sums
-        more one = shown_more (Comes signals delay Starts one) (Comes signals delay Later one)
-            (comes_more Starts Later still one)
+  -- a gate takes what stands at all that it reads, after its delay
+  module _ (Starts : ℕ → Sums → Type 0) (at : ℕ → Option Sums) (gate : ℕ) (IsRead : ℕ → Type 0)
+      (known : Option Sums) (are : AreExtremesIfAny (StandsAt at IsRead) known) where
+    abbrev after : Option Sums
+    after = option_map (λ (one : Sums). sums_through one (delay gate)) known
 
-  module _ (Starts : ℕ → Sums → Type 0) (Handed : ℕ → ℕ → Type 0) (at : ℕ → Option Sums)
-      (carried : AreCarried signals delay Starts Handed at)
+    -- that is shown where what stands there is
+    pub gate_shown : ((read : ℕ) → IsRead read → Reads signals gate read)
+        → ((read : ℕ) (sums : Sums) → at read ≡ Some sums
+        → AreShownBy (Comes signals delay Starts read) sums)
+        → (sums : Sums) → after ≡ Some sums → AreShownBy (Comes signals delay Starts gate) sums
+    gate_shown reads shown = by known are
+      where
+        by : (o : Option Sums) → AreExtremesIfAny (StandsAt at IsRead) o → (sums : Sums)
+            → option_map (λ (one : Sums). sums_through one (delay gate)) o ≡ Some sums
+            → AreShownBy (Comes signals delay Starts gate) sums
+        by None none sums here = absurd cc
+        by (Some found) is sums here =
+            let (low, (first, is_first, at_first), least) = is.shown.least in
+            let (high, (last, is_last, at_last), greatest) = is.shown.greatest in
+            let from_low =
+            shown_through Starts first gate low (reads first is_first) (shown first low at_first) in
+            let from_high =
+            shown_through Starts last gate high (reads last is_last) (shown last high at_last) in
+            subst (AreShownBy (Comes signals delay Starts gate))
+            (same_Some (sums_through found (delay gate)) sums here)
+            (record {
+              least = (
+                from_low.least.0,
+                from_low.least.1,
+                from_low.least.2 ∙ ap (λ time. time +ℤ (delay gate).least) least,
+              );
+              greatest = (
+                from_high.greatest.0,
+                from_high.greatest.1,
+                from_high.greatest.2 ∙ ap (λ time. time +ℤ (delay gate).greatest) greatest,
+              );
+            })
+
+    -- and around what each of them hands on
+    pub gate_around : (read : ℕ) → IsRead read → (sums : Sums) → at read ≡ Some sums
+        → AreAround after (sums_through sums (delay gate))
+    gate_around read is_one sums stands = by known are
+      where
+        by : (o : Option Sums) → AreExtremesIfAny (StandsAt at IsRead) o
+            → AreAround (option_map (λ (one : Sums). sums_through one (delay gate)) o)
+            (sums_through sums (delay gate))
+        by None none = none sums (read, is_one, stands)
+        by (Some found) is =
+            around_through found sums (delay gate) (is.around sums (read, is_one, stands))
+
+  module _ (Starts Begun : ℕ → Sums → Type 0) (Handed : ℕ → ℕ → Type 0) (at : ℕ → Option Sums)
+      (carried : AreCarried signals delay Starts Begun Handed at)
+      (begun : (signal : ℕ) (start : Sums) → Starts signal start → Begun signal start)
       (all : (read gate : ℕ) (sums : Sums) → at read ≡ Some sums → Reads signals gate read
       → Handed read gate) where
     -- no gates lead beyond what stands at their end
@@ -283,36 +339,73 @@ module _ (signals : List Signal) (delay : ℕ → Sums) where
     -- where all is handed on, the least and the greatest of all that comes stand at each signal
     pub carried_end : (signal : ℕ)
         → AreExtremesIfAny (Comes signals delay Starts signal) (at signal)
-    carried_end signal = found (at signal) refl
-      where
-        around : (one : Sums) → Comes signals delay Starts signal one → AreAround (at signal) one
-        around one comes = subst (AreAround (at signal)) comes.ends
-            (beyond comes.first comes.gates signal comes.start
-            (carried.started comes.first comes.start comes.starts) comes.follows)
+    carried_end signal = extremes_made (Comes signals delay Starts signal) (at signal)
+        (carried.shown signal) (λ one comes. subst (AreAround (at signal)) comes.ends
+        (beyond comes.first comes.gates signal comes.start
+        (carried.started comes.first comes.start comes.starts
+        (begun comes.first comes.start comes.starts)) comes.follows))
 
-        found : (known : Option Sums) → at signal ≡ known
-            → AreExtremesIfAny (Comes signals delay Starts signal) known
-        found None none = λ one comes. subst (λ o. AreAround o one) none (around one comes)
-        found (Some sums) here = record {
-          shown = carried.shown signal sums here;
-          around = λ one comes. subst (λ o. AreAround o one) here (around one comes);
+-- the least and the greatest with those of one signal more
+pub extremes_next : (at : ℕ → Option Sums) (signals : List ℕ) (signal : ℕ) (known : Option Sums)
+    → AreExtremesIfAny (StandsAt at (Contains signals)) known
+    → AreExtremesIfAny (StandsAt at (Contains (signals ++ signal ∷ [])))
+    (either_sums known (at signal))
+extremes_next at signals signal known are = extremes_made More (either_sums known (at signal))
+    (shown_either More known (at signal)
+    (λ sums is. shown_more (StandsAt at (Contains signals)) More
+    (λ one (other, listed, stands).
+    (other, Contains-append_left signals (signal ∷ []) other listed, stands)) sums
+    (extremes_shown (StandsAt at (Contains signals)) known are sums is))
+    (λ sums is. record {
+      least = (sums, (signal, Contains-push signals signal, is), refl);
+      greatest = (sums, (signal, Contains-push signals signal, is), refl);
+    }))
+    (λ one (other, listed, stands). elim (Contains-push_cases signals signal other listed) [
+      | inl before ↦ either_known known (at signal) one
+          (extremes_around (StandsAt at (Contains signals)) known are one (other, before, stands))
+      | inr last ↦ either_found known (at signal) one
+          (subst (λ o. AreAround o one) (sym (ap at last ∙ stands)) (around_itself one))
+    ])
+  where
+    More : Sums → Type 0
+    More = StandsAt at (Contains (signals ++ signal ∷ []))
+
+-- the extremes of extremes are those of all that comes
+pub extremes_of_extremes : (at : ℕ → Option Sums) (IsOne : ℕ → Type 0)
+    (Come : ℕ → Sums → Type 0) (known : Option Sums)
+    → ((signal : ℕ) → AreExtremesIfAny (Come signal) (at signal))
+    → AreExtremesIfAny (StandsAt at IsOne) known
+    → AreExtremesIfAny (λ sums. (signal : ℕ) × IsOne signal × Come signal sums) known
+extremes_of_extremes at IsOne Come known each are =
+    extremes_made (λ sums. (signal : ℕ) × IsOne signal × Come signal sums) known shown
+    (λ one (signal, is_one, comes).
+    let stood = there (at signal) one (extremes_around (Come signal) (at signal) (each signal) one
+    comes) in
+    around_around known stood.0 one
+    (extremes_around (StandsAt at IsOne) known are stood.0 (signal, is_one, stood.1)) stood.2)
+  where
+    shown : (sums : Sums) → known ≡ Some sums
+        → AreShownBy (λ sums. (signal : ℕ) × IsOne signal × Come signal sums) sums
+    shown sums is =
+        let by = extremes_shown (StandsAt at IsOne) known are sums is in
+        let (low, (first, is_first, at_first), least) = by.least in
+        let (high, (last, is_last, at_last), greatest) = by.greatest in
+        let from_low = extremes_shown (Come first) (at first) (each first) low at_first in
+        let from_high = extremes_shown (Come last) (at last) (each last) high at_last in
+        record {
+          least = (
+            from_low.least.0,
+            (first, is_first, from_low.least.1),
+            from_low.least.2 ∙ least,
+          );
+          greatest = (
+            from_high.greatest.0,
+            (last, is_last, from_high.greatest.1),
+            from_high.greatest.2 ∙ greatest,
+          );
         }
 
--- a list that is taken one item further has what it had
-pub listed_still : (signals : List ℕ) (place one : ℕ) → place < length signals
-    → Contains (take place signals) one → Contains (take (place + 1) signals) one
-listed_still signals place one low listed =
-    subst (λ list. Contains list one) (sym (take_more signals place 0 low))
-    (Contains-append_left (take place signals) (get_or signals place 0 ∷ []) one listed)
-
--- and the next item
-pub listed_here : (signals : List ℕ) (place : ℕ) → place < length signals
-    → Contains (take (place + 1) signals) (get_or signals place 0)
-listed_here signals place low =
-    subst (λ list. Contains list (get_or signals place 0)) (sym (take_more signals place 0 low))
-    (Contains-push (take place signals) (get_or signals place 0))
-
--- and no other
+-- a list that is taken one item further has no other than that
 pub listed_next : (signals : List ℕ) (place one : ℕ) → place < length signals
     → Contains (take (place + 1) signals) one
     → Contains (take place signals) one ⊎ (one ≡ get_or signals place 0)
@@ -322,36 +415,3 @@ listed_next signals place one low listed =
       | inl earlier ↦ inl earlier
       | inr last ↦ inr (sym last)
     ]
-
--- one signal more starts too
-pub starts_still : (Starts : ℕ → Sums → Type 0) (signals : List ℕ) (start : Sums) (place : ℕ)
-    → place < length signals → (one : ℕ) (sums : Sums)
-    → StartsToo Starts (take place signals) start one sums
-    → StartsToo Starts (take (place + 1) signals) start one sums
-starts_still Starts signals start place low one sums starts = elim starts [
-  | inl before ↦ inl before
-  | inr listed ↦ inr (listed_still signals place one low listed.0, listed.1)
-]
-
--- and no other does
-pub starts_next : (Starts : ℕ → Sums → Type 0) (signals : List ℕ) (start : Sums) (place : ℕ)
-    → place < length signals → (one : ℕ) (sums : Sums)
-    → StartsToo Starts (take (place + 1) signals) start one sums
-    → StartsToo Starts (take place signals) start one sums
-    ⊎ ((one ≡ get_or signals place 0) × AreAround (Some start) sums)
-starts_next Starts signals start place low one sums starts = elim starts [
-  | inl before ↦ inl (inl before)
-  | inr listed ↦ elim (listed_next signals place one low listed.0) [
-    | inl earlier ↦ inl (inr (earlier, listed.1))
-    | inr last ↦ inr (
-      last,
-      subst (AreAround (Some start)) (sym listed.1) (around_itself start),
-    )
-  ]
-]
-
--- and it does
-pub starts_here : (Starts : ℕ → Sums → Type 0) (signals : List ℕ) (start : Sums) (place : ℕ)
-    → place < length signals
-    → StartsToo Starts (take (place + 1) signals) start (get_or signals place 0) start
-starts_here Starts signals start place low = inr (listed_here signals place low, refl)

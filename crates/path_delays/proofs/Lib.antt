@@ -23,6 +23,5 @@ mod PairWalk
 mod PairCounts
 mod PendingPairs
 mod BetweenLemmas
-mod HullLemmas
 pub mod WindowLemmas
 mod SweepLemmas

@@ -17,7 +17,7 @@ use Rattle.path_delays.specs.SumParts.{AreWithin, IsAround, delay_limit, some_su
 use Rattle.path_delays.specs.Networks.{IsNetworkOf}
 use Rattle.path_delays.specs.Handing.{rank_at, lane_at, lanes_at, sums_at, waits_at}
 use Rattle.path_delays.specs.Reaches.{IsChain, IsReach}
-use Rattle.path_delays.specs.Walking.{AllBelow, IsSpreadBelow, StartsIn, limit_at}
+use Rattle.path_delays.specs.Walking.{AllBelow, IsSpreadBelow, LanesBelow, StartsIn, limit_at}
 use Rattle.path_delays.proofs.CarryLemmas.{carried_end}
 use Rattle.path_delays.proofs.LaneLemmas.{bounded_higher, bounded_some, lanes_there, some_is_there}
 use Rattle.path_delays.proofs.NetworkDelays.{limit_within}
@@ -46,10 +46,9 @@ module _ (circuit : Circuit) (tech : Tech) where
       along_is (sums_through start (delay gate)) gates
       ∙ (λ i. record { least = least i; greatest = greatest i })
 
-  module _ (registers : List ℕ) (from lane : ℕ) (here : slice_get registers lane ≡ Some from)
-      (within : lane < length registers) where
+  module _ (registers : List ℕ) (from lane : ℕ) (here : slice_get registers lane ≡ Some from) where
     abbrev Starts : ℕ → Sums → Type 0
-    Starts = StartsIn circuit tech registers (length registers) lane
+    Starts = StartsIn circuit tech registers lane
 
     -- both delays of a chain come to its end
     abbrev chain_sums : List ℕ → Sums
@@ -64,7 +63,7 @@ module _ (circuit : Circuit) (tech : Tech) where
     comes_of_chain signal (first ∷ gates) (launches, follows) = record {
       first = first;
       start = start_sums tech;
-      starts = (from, (within, here), launches, refl);
+      starts = (from, here, launches, refl);
       gates = gates;
       follows = follows;
       ends = along_is (start_sums tech) gates;
@@ -74,7 +73,7 @@ module _ (circuit : Circuit) (tech : Tech) where
     chain_of_comes : (signal : ℕ) (sums : Sums) → Comes circuit.signals delay Starts signal sums
         → (chain : List ℕ) × IsChain circuit from signal chain × (chain_sums chain ≡ sums)
     chain_of_comes signal sums comes =
-        let (register, (below, listed), launches, same) = comes.starts in
+        let (register, listed, launches, same) = comes.starts in
         let own : register ≡ from = same_Some register from (sym listed ∙ here) in (
           comes.first ∷ comes.gates,
           (subst (λ r. IsChain circuit r signal (comes.first ∷ comes.gates)) own
@@ -115,14 +114,15 @@ module _ (circuit : Circuit) (tech : Tech) where
 
     -- where no rank waits, the sums in the lane are those
     pub reach_shown : (network : Network) → IsNetworkOf circuit tech network → (reach : Reach)
-        (rank : ℕ) → lane < 8
+        (rank : ℕ) → lane < length registers → lane < 8
         → IsSpreadBelow circuit tech network registers (length registers) rank reach
         → ((other : ℕ) → waits_at reach other ≡ false) → (signal : ℕ)
         → IsReach circuit tech from signal (sums_at reach lane signal)
-    reach_shown network is reach rank low spread idle signal =
+    reach_shown network is reach rank within low spread idle signal =
         reach_of_comes signal (sums_at reach lane signal)
-        (carried_end circuit.signals delay Starts (AllBelow network rank) (sums_at reach lane)
-        (spread.carried lane low) all signal) small
+        (carried_end circuit.signals delay Starts (LanesBelow (length registers) lane)
+        (AllBelow network rank) (sums_at reach lane) (spread.carried lane low)
+        (λ one start starts. within) all signal) small
       where
         -- all that is reached has handed on its sums
         all : (read gate : ℕ) (sums : Sums) → sums_at reach lane read ≡ Some sums

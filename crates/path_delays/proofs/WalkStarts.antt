@@ -5,7 +5,8 @@ use Rattle.std.specs.Prelude.{IsSome}
 use Rattle.std.specs.Option.{option_and_then, option_map, unwrap_or}
 use Rattle.std.specs.List.{slice_get}
 use Rattle.std.proofs.lemmas.Bool.{cases_eq, cases_lt, true≢false}
-use Rattle.std.proofs.lemmas.List.{get_or_default, take_all}
+use Rattle.std.proofs.lemmas.List.{take_all}
+use Rattle.std.proofs.lemmas.List.Elements.{Contains-get_or}
 use Rattle.std.proofs.lemmas.Option.{same_Some}
 use Rattle.cts_model.specs.declared.circuit.Circuit.{Circuit}
 use Rattle.cts_model.specs.declared.tech.Tech.{Tech}
@@ -20,8 +21,8 @@ use Rattle.path_delays.specs.LaneParts.{AllBounded, lane_of}
 use Rattle.path_delays.specs.SumParts.{AreAround, AreBounded, AreWithin, delay_limit, merged_sums, no_sums, some_sums}
 use Rattle.path_delays.specs.Networks.{IsNetworkOf}
 use Rattle.path_delays.specs.Handing.{rank_at, lane_at, lanes_at, sums_at, waits_at, IsCleared, IsMarked, IsStarted}
-use Rattle.path_delays.specs.Walking.{limit_at, AllBelow, AllBelowBut, IsSpread, IsSpreadBelow, StartsIn}
-use Rattle.path_delays.proofs.CarryLemmas.{IsHandedBy, carried_joined, carried_none, carried_same, listed_here, listed_next, listed_still, shown_start}
+use Rattle.path_delays.specs.Walking.{limit_at, AllBelow, AllBelowBut, BegunIn, IsSpread, IsSpreadBelow, LanesBelow, StartsIn}
+use Rattle.path_delays.proofs.CarryLemmas.{IsHandedBy, carried_joined, carried_none, carried_same, listed_next, shown_start}
 use Rattle.path_delays.proofs.Chains.{around_itself}
 use Rattle.path_delays.proofs.LaneLemmas.{bounded_joined, none_missing, some_is, some_mapped, some_merged, some_within}
 use Rattle.path_delays.proofs.LaunchLemmas.{launched_lowest, launched_within}
@@ -81,23 +82,6 @@ marked_bounded old new lane signal sums within marked before given here other lo
     at (Some lanes) there entry equal = subst (AreBounded delay_limit)
         (same_Some (lane_of lanes other) entry (rw there at equal)) (before lanes there other low)
 
--- as before, and at a signal in a lane too
-pub record StartsMore (lane signal : ℕ) (start : Sums) (Starts Later : ℕ → ℕ → Sums → Type 0)
-    : Type 0 where
-  pub still : (other one : ℕ) (sums : Sums) → Starts other one sums → Later other one sums
-  pub here : Later lane signal start
-  pub each : (one : ℕ) (sums : Sums) → Later lane one sums
-      → Starts lane one sums ⊎ ((one ≡ signal) × AreAround (Some start) sums)
-  pub beside : (other one : ℕ) (sums : Sums) → other ≢ lane → Later other one sums
-      → Starts other one sums
-
--- as far as a lane, and in it at these signals too
-abbrev pub BegunIn : Circuit → Tech → (registers : List ℕ) → (lane : ℕ) → (launched : List ℕ)
-    → ℕ → ℕ → Sums → Type 0
-BegunIn circuit tech registers lane launched other one sums =
-    StartsIn circuit tech registers lane other one sums
-    ⊎ ((other ≡ lane) × Contains launched one × (sums ≡ start_sums tech))
-
 -- nothing is listed in an empty list
 none_listed : (one : ℕ) → Contains [] one → ⊥
 none_listed one (k, inside, here) = absurd (omega arith)
@@ -113,8 +97,8 @@ module _ (circuit : Circuit) (tech : Tech) (network : Network)
   IsSpread-none registers reach clear = record {
     limited = λ lane signal sums low here. absurd (nothing lane signal sums here);
     carried = λ lane low. carried_none circuit.signals delay
-        (StartsIn circuit tech registers 0 lane) (AllBelow network 1) (sums_at reach lane)
-        (λ signal start (from, (below, listed), launches, same). absurd (omega (arith, below)))
+        (StartsIn circuit tech registers lane) (LanesBelow 0 lane) (AllBelow network 1)
+        (sums_at reach lane) (λ signal start below. absurd (omega (arith, below)))
         (λ signal. ap (option_and_then some_sums) (none_at lane signal));
     waits = λ signal reached later. let none = clear.none signal in cc;
     due = λ other waits. absurd (true≢false (sym waits ∙ clear.idle other));
@@ -127,27 +111,33 @@ module _ (circuit : Circuit) (tech : Tech) (network : Network)
       nothing : (lane signal : ℕ) (sums : Sums) → lane_at reach lane signal ≡ Some sums → ⊥
       nothing lane signal sums here = let none = none_at lane signal in cc
 
-  -- the same starts are said in other words
-  starts_same : (Starts Later : ℕ → ℕ → Sums → Type 0) (reach : Reach)
-      → ((lane one : ℕ) (sums : Sums) → Starts lane one sums → Later lane one sums)
-      → ((lane one : ℕ) (sums : Sums) → Later lane one sums → Starts lane one sums)
-      → IsSpread circuit tech network Starts (AllBelow network 1) 1 reach
-      → IsSpread circuit tech network Later (AllBelow network 1) 1 reach
-  starts_same Starts Later reach to back spread = record {
+  -- what has begun is said in other words
+  begun_same : (registers : List ℕ) (Begun Later : ℕ → ℕ → Sums → Type 0) (reach : Reach)
+      → ((lane one : ℕ) (sums : Sums) → StartsIn circuit tech registers lane one sums
+      → Later lane one sums → Begun lane one sums)
+      → IsSpread circuit tech network registers Begun (AllBelow network 1) 1 reach
+      → IsSpread circuit tech network registers Later (AllBelow network 1) 1 reach
+  begun_same registers Begun Later reach back spread = record {
     limited = spread.limited;
-    carried = λ lane low. carried_same circuit.signals delay (Starts lane) (Later lane)
-        (AllBelow network 1) (AllBelow network 1) (sums_at reach lane) (sums_at reach lane)
-        (to lane) (back lane) (λ read gate sums here below reads. below) (λ signal. refl)
-        (spread.carried lane low);
+    carried = λ lane low. carried_same circuit.signals delay (StartsIn circuit tech registers lane)
+        (Begun lane) (Later lane) (AllBelow network 1) (AllBelow network 1) (sums_at reach lane)
+        (sums_at reach lane) (back lane) (λ read gate sums here below reads. below)
+        (λ signal. refl) (spread.carried lane low);
     waits = spread.waits;
     due = spread.due;
   }
 
   module _ (old new : Reach) (lane signal : ℕ) (low : lane < 8)
       (marked : IsMarked lane signal (start_sums tech) old new)
-      (lowest : rank_at network signal ≡ 0) (Starts Later : ℕ → ℕ → Sums → Type 0)
-      (more : StartsMore lane signal (start_sums tech) Starts Later)
-      (so_far : IsSpread circuit tech network Starts (AllBelow network 1) 1 old) where
+      (lowest : rank_at network signal ≡ 0) (registers : List ℕ)
+      (starts : StartsIn circuit tech registers lane signal (start_sums tech))
+      (Begun Later : ℕ → ℕ → Sums → Type 0)
+      (more : (other one : ℕ) (sums : Sums) → Later other one sums
+      → Begun other one sums ⊎ ((other ≡ lane) × (one ≡ signal)))
+      (so_far : IsSpread circuit tech network registers Begun (AllBelow network 1) 1 old) where
+    abbrev Starts : ℕ → ℕ → Sums → Type 0
+    Starts = StartsIn circuit tech registers
+
     abbrev start : Sums
     start = start_sums tech
 
@@ -210,22 +200,27 @@ module _ (circuit : Circuit) (tech : Tech) (network : Network)
         (merged_sums (unwrap_or (lane_at old lane signal) no_sums) start) marked.at
 
     -- a signal that is started in a lane still has to hand on what stands there
-    IsSpread-marked : IsSpread circuit tech network Later (AllBelowBut network 1 signal []) 1 new
+    IsSpread-marked : IsSpread circuit tech network registers Later
+        (AllBelowBut network 1 signal []) 1 new
     IsSpread-marked = record {
       limited = limited;
       carried = λ other other_low. elim (cases_eq other lane) [
-        | inl same ↦ subst (λ k. AreCarried circuit.signals delay (Later k)
+        | inl same ↦ subst (λ k. AreCarried circuit.signals delay (Starts k) (Later k)
             (AllBelowBut network 1 signal []) (sums_at new k)) (sym same)
-            (carried_joined circuit.signals delay (Starts lane) (Later lane) (AllBelow network 1)
-            (AllBelowBut network 1 signal []) signal (Some start) (sums_at old lane)
-            (sums_at new lane) joined_here (more.still lane) more.each
-            (λ sums is_start. subst (AreShownBy (Comes circuit.signals delay (Later lane) signal))
+            (carried_joined circuit.signals delay (Starts lane) (Begun lane) (Later lane)
+            (AllBelow network 1) (AllBelowBut network 1 signal []) signal (Some start)
+            (sums_at old lane) (sums_at new lane) joined_here begins
+            (λ sums is_start. subst (AreShownBy (Comes circuit.signals delay (Starts lane) signal))
             (same_Some start sums is_start)
-            (shown_start circuit.signals delay (Later lane) signal start more.here)) hands
+            (shown_start circuit.signals delay (Starts lane) signal start starts)) hands
             (so_far.carried lane low))
-        | inr differs ↦ carried_same circuit.signals delay (Starts other) (Later other)
-            (AllBelow network 1) (AllBelowBut network 1 signal []) (sums_at old other)
-            (sums_at new other) (more.still other) (λ one sums. more.beside other one sums differs)
+        | inr differs ↦ carried_same circuit.signals delay (Starts other) (Begun other)
+            (Later other) (AllBelow network 1) (AllBelowBut network 1 signal [])
+            (sums_at old other) (sums_at new other)
+            (λ one sums starts later. elim (more other one sums later) [
+              | inl before ↦ before
+              | inr here ↦ absurd (differs here.0)
+            ])
             (λ read gate sums here (below, listed) reads. below) (same_beside other differs)
             (so_far.carried other other_low)
       ];
@@ -245,6 +240,16 @@ module _ (circuit : Circuit) (tech : Tech) (network : Network)
           };
     }
       where
+        begins : (one : ℕ) (sums : Sums) → Starts lane one sums → Later lane one sums
+            → Begun lane one sums ⊎ ((one ≡ signal) × AreAround (Some start) sums)
+        begins one sums (from, is_one, launches, same) later = elim (more lane one sums later) [
+          | inl before ↦ inl before
+          | inr here ↦ inr (
+            here.1,
+            subst (AreAround (Some start)) (sym same) (around_itself start),
+          )
+        ]
+
         hands : (read gate : ℕ) → AllBelowBut network 1 signal [] read gate
             → Reads circuit.signals gate read
             → IsHandedBy circuit.signals delay (AllBelow network 1) signal (Some start)
@@ -257,105 +262,78 @@ module _ (circuit : Circuit) (tech : Tech) (network : Network)
   -- a signal of the lowest rank that is started in a lane has handed on what stands there
   pub IsSpread-started : (old new : Reach) (lane signal : ℕ) → lane < 8
       → IsStarted network lane signal (start_sums tech) old new → signal < length circuit.signals
-      → rank_at network signal ≡ 0 → (Starts Later : ℕ → ℕ → Sums → Type 0)
-      → StartsMore lane signal (start_sums tech) Starts Later
-      → IsSpread circuit tech network Starts (AllBelow network 1) 1 old
-      → IsSpread circuit tech network Later (AllBelow network 1) 1 new
-  IsSpread-started old new lane signal low (between, marked, on) inside lowest Starts Later more
-      so_far =
+      → rank_at network signal ≡ 0 → (registers : List ℕ)
+      → StartsIn circuit tech registers lane signal (start_sums tech)
+      → (Begun Later : ℕ → ℕ → Sums → Type 0)
+      → ((other one : ℕ) (sums : Sums) → Later other one sums
+      → Begun other one sums ⊎ ((other ≡ lane) × (one ≡ signal)))
+      → IsSpread circuit tech network registers Begun (AllBelow network 1) 1 old
+      → IsSpread circuit tech network registers Later (AllBelow network 1) 1 new
+  IsSpread-started old new lane signal low (between, marked, on) inside lowest registers starts
+      Begun Later more so_far =
       let there = some_is (lanes_at between signal)
-      (marked_there old between lane signal low marked lowest Starts Later more so_far) in
-      IsSpread-on circuit tech network is Later between new 1 signal there.0 (omega arith) inside
-      there.1 (IsSpread-marked old between lane signal low marked lowest Starts Later more so_far) on
+      (marked_there old between lane signal low marked lowest registers starts Begun Later more
+      so_far) in
+      IsSpread-on circuit tech network is registers Later between new 1 signal there.0 (omega arith)
+      inside there.1
+      (IsSpread-marked old between lane signal low marked lowest registers starts Begun Later more
+      so_far) on
 
   -- the signals that the register of a lane launches, so far
-  module _ (registers : List ℕ) (lane from : ℕ) (launched : List ℕ)
-      (all : AreLaunchedBy circuit from launched) where
-    abbrev Begun : ℕ → ℕ → ℕ → Sums → Type 0
-    Begun place = BegunIn circuit tech registers lane (take place launched)
-
+  module _ (registers : List ℕ) (lane from : ℕ) (here : slice_get registers lane ≡ Some from)
+      (launched : List ℕ) (all : AreLaunchedBy circuit from launched) where
     -- none yet
     pub begun_none : (reach : Reach) → IsSpreadBelow circuit tech network registers lane 1 reach
-        → IsSpread circuit tech network (Begun 0) (AllBelow network 1) 1 reach
-    begun_none reach spread = starts_same (StartsIn circuit tech registers lane) (Begun 0) reach
-        (λ other one sums starts. inl starts)
-        (λ other one sums starts. elim starts [
+        → IsSpread circuit tech network registers (BegunIn lane (take 0 launched))
+        (AllBelow network 1) 1 reach
+    begun_none reach spread = begun_same registers (LanesBelow lane)
+        (BegunIn lane (take 0 launched)) reach
+        (λ other one sums starts begun. elim begun [
           | inl before ↦ before
           | inr listed ↦ absurd (none_listed one listed.1)
         ]) spread
 
     -- one more
-    begun_more : (place : ℕ) → place < length launched → StartsMore lane (get_or launched place 0)
-        (start_sums tech) (Begun place) (Begun (place + 1))
-    begun_more place low = record {
-      still = λ other one sums starts. elim starts [
-        | inl before ↦ inl before
-        | inr listed ↦
-            inr (listed.0, listed_still launched place one low listed.1, listed.2)
-      ];
-      here = inr (refl, listed_here launched place low, refl);
-      each = λ one sums starts. elim starts [
-        | inl before ↦ inl (inl before)
-        | inr listed ↦ elim (listed_next launched place one low listed.1) [
-          | inl earlier ↦ inl (inr (listed.0, earlier, listed.2))
-          | inr last ↦ inr (
-            last,
-            subst (AreAround (Some (start_sums tech))) (sym listed.2)
-                (around_itself (start_sums tech)),
-          )
-        ]
-      ];
-      beside = λ other one sums differs starts. elim starts [
-        | inl before ↦ inl before
-        | inr listed ↦ absurd (differs listed.0)
-      ];
-    }
-
     pub begun_next : (old new : Reach) (place : ℕ) → lane < 8 → place < length launched
         → IsStarted network lane (get_or launched place 0) (start_sums tech) old new
-        → IsSpread circuit tech network (Begun place) (AllBelow network 1) 1 old
-        → IsSpread circuit tech network (Begun (place + 1)) (AllBelow network 1) 1 new
+        → IsSpread circuit tech network registers (BegunIn lane (take place launched))
+        (AllBelow network 1) 1 old
+        → IsSpread circuit tech network registers (BegunIn lane (take (place + 1) launched))
+        (AllBelow network 1) 1 new
     begun_next old new place low inside started so_far =
         let signal = get_or launched place 0 in
-        let launches : Launches circuit from signal = (all signal).0 (place, inside, get_or_same) in
+        let launches : Launches circuit from signal =
+        (all signal).0 (Contains-get_or launched place 0 inside) in
         IsSpread-started old new lane signal low started
         (launched_within circuit from signal launches)
         (launched_lowest circuit from signal network.order.items network.ranks.items is.ranks
-        launches) (Begun place) (Begun (place + 1)) (begun_more place inside) so_far
-      where
-        get_or_same : get_or launched place (get_or launched place 0) ≡ get_or launched place 0
-        get_or_same = get_or_default launched place (get_or launched place 0) 0 inside
+        launches) registers (from, here, launches, refl) (BegunIn lane (take place launched))
+        (BegunIn lane (take (place + 1) launched))
+        (λ other one sums begun. elim begun [
+          | inl before ↦ inl (inl before)
+          | inr listed ↦ elim (listed_next launched place one inside listed.1) [
+            | inl earlier ↦ inl (inr (listed.0, earlier))
+            | inr last ↦ inr (listed.0, last)
+          ]
+        ]) so_far
 
     -- all of them
-    pub begun_all : (reach : Reach) → slice_get registers lane ≡ Some from
-        → IsSpread circuit tech network (Begun (length launched)) (AllBelow network 1) 1 reach
+    pub begun_all : (reach : Reach) → IsSpread circuit tech network registers
+        (BegunIn lane (take (length launched) launched)) (AllBelow network 1) 1 reach
         → IsSpreadBelow circuit tech network registers (lane + 1) 1 reach
-    begun_all reach here = starts_same (Begun (length launched))
-        (StartsIn circuit tech registers (lane + 1)) reach
-        (λ other one sums starts. elim starts [
-          | inl (register, (below, listed), launches, same) ↦
-              (register, (omega (arith, below), listed), launches, same)
-          | inr (same, listed, is_start) ↦ (
-            from,
-            (omega (arith, same), ap (slice_get registers) same ∙ here),
-            (all one).0 (subst (λ list. Contains list one) whole listed),
-            is_start,
-          )
-        ])
-        (λ other one sums (register, (below, listed), launches, same).
+    begun_all reach = begun_same registers (BegunIn lane (take (length launched) launched))
+        (LanesBelow (lane + 1)) reach
+        (λ other one sums (register, listed, launches, same) below.
         elim (cases_lt other lane) [
-          | inl earlier ↦ inl (register, (earlier, listed), launches, same)
+          | inl earlier ↦ inl earlier
           | inr later ↦
               let last : other ≡ lane = omega (arith, below, later) in
               let own : register ≡ from = same_Some register from
               (sym listed ∙ (ap (slice_get registers) last ∙ here)) in
               inr (
                 last,
-                subst (λ list. Contains list one) (sym whole)
+                subst (λ list. Contains list one)
+                    (sym (take_all (length launched) launched (omega arith)))
                     ((all one).1 (subst (λ r. Launches circuit r one) own launches)),
-                same,
               )
         ])
-      where
-        whole : take (length launched) launched ≡ launched
-        whole = take_all (length launched) launched (omega arith)

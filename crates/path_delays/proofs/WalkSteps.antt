@@ -24,7 +24,7 @@ use Rattle.path_delays.specs.SumParts.{AreAround, AreBounded, delay_limit, joine
 use Rattle.path_delays.specs.NumberSets.{IsLowestTaken}
 use Rattle.path_delays.specs.Networks.{IsNetworkOf, weight_at}
 use Rattle.path_delays.specs.Handing.{delay_at, rank_at, lane_at, lanes_at, sums_at, waits_at, IsHanded, AreHanded, IsHandedOn}
-use Rattle.path_delays.specs.Walking.{limit_at, AllBelow, AllBelowBut, IsDue, IsSpread}
+use Rattle.path_delays.specs.Walking.{limit_at, AllBelow, AllBelowBut, IsDue, IsSpread, StartsIn}
 use Rattle.path_delays.proofs.CarryLemmas.{IsHandedBy, carried_joined, carried_same, shown_passed}
 use Rattle.path_delays.proofs.Chains.{around_itself}
 use Rattle.path_delays.proofs.LaneLemmas.{bounded_higher, bounded_joined, bounded_through, some_joined, some_mapped, some_through, lanes_there}
@@ -63,7 +63,11 @@ module _ (circuit : Circuit) (tech : Tech) (network : Network)
       })
 
 module _ (circuit : Circuit) (tech : Tech) (network : Network)
-    (is : IsNetworkOf circuit tech network) (Starts : ℕ → ℕ → Sums → Type 0) where
+    (is : IsNetworkOf circuit tech network) (registers : List ℕ)
+    (Begun : ℕ → ℕ → Sums → Type 0) where
+  abbrev Starts : ℕ → ℕ → Sums → Type 0
+  Starts = StartsIn circuit tech registers
+
   abbrev delay : ℕ → Sums
   delay = gate_sums_at circuit tech
 
@@ -72,7 +76,7 @@ module _ (circuit : Circuit) (tech : Tech) (network : Network)
 
   -- what stands in the lanes is bounded
   pub all_bounded : (reach : Reach) (rank : ℕ) (Handed : ℕ → ℕ → Type 0)
-      → IsSpread circuit tech network Starts Handed rank reach → (signal : ℕ) (given : Lanes)
+      → IsSpread circuit tech network registers Begun Handed rank reach → (signal : ℕ) (given : Lanes)
       → lanes_at reach signal ≡ Some given → AllBounded delay_limit given
   all_bounded reach rank Handed spread signal given here lane low =
       bounded_higher (limit signal) delay_limit (lane_of given lane)
@@ -84,7 +88,7 @@ module _ (circuit : Circuit) (tech : Tech) (network : Network)
   module _ (old new : Reach) (given : Lanes) (gate rank pending : ℕ) (gates : List ℕ)
       (hands : IsHanded network given gate old new) (next : rank_at network pending + 1 ≡ rank)
       (reads : Reads circuit.signals gate pending) (held : lanes_at old pending ≡ Some given)
-      (so_far : IsSpread circuit tech network Starts (AllBelowBut network rank pending gates) rank
+      (so_far : IsSpread circuit tech network registers Begun (AllBelowBut network rank pending gates) rank
       old) where
     is_one : IsGate circuit.signals gate
     is_one = IsGate-from_Reads circuit.signals gate pending reads
@@ -235,17 +239,16 @@ module _ (circuit : Circuit) (tech : Tech) (network : Network)
         (so_far.waits gate (subst (λ (o : Option Lanes). IsSome o) (sym before) refl) higher)
 
     -- so one reader more is handed what it reads
-    IsSpread-handed : IsSpread circuit tech network Starts
+    IsSpread-handed : IsSpread circuit tech network registers Begun
         (AllBelowBut network rank pending (gates ++ gate ∷ [])) rank new
         × (lanes_at new pending ≡ Some given)
     IsSpread-handed = (
       record {
         limited = limited;
-        carried = λ lane low. carried_joined circuit.signals delay (Starts lane) (Starts lane)
+        carried = λ lane low. carried_joined circuit.signals delay (Starts lane) (Begun lane) (Begun lane)
             (AllBelowBut network rank pending gates)
             (AllBelowBut network rank pending (gates ++ gate ∷ [])) gate (found lane)
-            (sums_at old lane) (sums_at new lane) (joined_at lane low) (λ one start starts. starts)
-            (λ one start starts. inl starts)
+            (sums_at old lane) (sums_at new lane) (joined_at lane low) (λ one start starts begun. inl begun)
             (shown_passed circuit.signals delay (Starts lane) pending gate
             (sums_at old lane pending) reads ((so_far.carried lane low).shown pending))
             (handed_by lane) (so_far.carried lane low);
@@ -281,21 +284,21 @@ module _ (circuit : Circuit) (tech : Tech) (network : Network)
       → rank_at network pending + 1 ≡ rank
       → ((gate : ℕ) → Contains more gate → Reads circuit.signals gate pending)
       → lanes_at old pending ≡ Some given
-      → IsSpread circuit tech network Starts (AllBelowBut network rank pending gates) rank old
+      → IsSpread circuit tech network registers Begun (AllBelowBut network rank pending gates) rank old
       → AreHanded network given more old new
-      → IsSpread circuit tech network Starts (AllBelowBut network rank pending (gates ++ more)) rank
+      → IsSpread circuit tech network registers Begun (AllBelowBut network rank pending (gates ++ more)) rank
       new
   all_handed old new given rank pending gates [] next reads held so_far same =
-      subst (λ list. IsSpread circuit tech network Starts (AllBelowBut network rank pending list)
+      subst (λ list. IsSpread circuit tech network registers Begun (AllBelowBut network rank pending list)
       rank new) (sym (append-nil gates))
-      (subst (λ reach. IsSpread circuit tech network Starts
+      (subst (λ reach. IsSpread circuit tech network registers Begun
       (AllBelowBut network rank pending gates) rank reach) same so_far)
   all_handed old new given rank pending gates (gate ∷ more) next reads held so_far
       (between, first, rest) =
       let here = reads gate (0, omega arith, refl) in
       let step =
       IsSpread-handed old between given gate rank pending gates first next here held so_far in
-      subst (λ list. IsSpread circuit tech network Starts (AllBelowBut network rank pending list)
+      subst (λ list. IsSpread circuit tech network registers Begun (AllBelowBut network rank pending list)
       rank new) (append_assoc gates (gate ∷ []) more)
       (all_handed between new given rank pending (gates ++ gate ∷ []) more next
       (λ other (k, inside, here). reads other (suc k, omega arith, here)) step.1 step.0 rest)
@@ -304,9 +307,9 @@ module _ (circuit : Circuit) (tech : Tech) (network : Network)
   pub IsSpread-on : (old new : Reach) (rank pending : ℕ) (given : Lanes)
       → rank_at network pending + 1 ≡ rank → pending < length circuit.signals
       → lanes_at old pending ≡ Some given
-      → IsSpread circuit tech network Starts (AllBelowBut network rank pending []) rank old
+      → IsSpread circuit tech network registers Begun (AllBelowBut network rank pending []) rank old
       → IsHandedOn network pending old new
-      → IsSpread circuit tech network Starts (AllBelow network rank) rank new
+      → IsSpread circuit tech network registers Begun (AllBelow network rank) rank new
   IsSpread-on old new rank pending given next inside held so_far handed_on =
       let readers = group_of network.readers pending in
       let all = all_handed old new given rank pending [] readers next
@@ -314,9 +317,9 @@ module _ (circuit : Circuit) (tech : Tech) (network : Network)
       (handed_on given held) in
       record {
         limited = all.limited;
-        carried = λ lane low. carried_same circuit.signals delay (Starts lane) (Starts lane)
-            (AllBelowBut network rank pending readers) (AllBelow network rank) (sums_at new lane)
-            (sums_at new lane) (λ signal start starts. starts) (λ signal start starts. starts)
+        carried = λ lane low. carried_same circuit.signals delay (Starts lane) (Begun lane)
+            (Begun lane) (AllBelowBut network rank pending readers) (AllBelow network rank)
+            (sums_at new lane) (sums_at new lane) (λ signal start starts begun. begun)
             (λ read gate sums here below reads. (
               below,
               λ same. subst (λ n. Contains (group_of network.readers n) gate) same
@@ -330,14 +333,14 @@ module _ (circuit : Circuit) (tech : Tech) (network : Network)
   pub IsSpread-taken : (old new : Reach) (rank next gate : ℕ) → 1 ≤ rank → rank ≤ next
       → IsLowestTaken old.waiting.words.items new.waiting.words.items next
       → ((signal : ℕ) → lanes_at new signal ≡ lanes_at old signal) → rank_at network gate ≡ next
-      → IsSpread circuit tech network Starts (AllBelow network rank) rank old
-      → IsSpread circuit tech network Starts (AllBelowBut network (next + 1) gate []) (next + 1) new
+      → IsSpread circuit tech network registers Begun (AllBelow network rank) rank old
+      → IsSpread circuit tech network registers Begun (AllBelowBut network (next + 1) gate []) (next + 1) new
   IsSpread-taken old new rank next gate counted after taken same rank_is so_far = record {
     limited = λ lane signal sums low here.
         so_far.limited lane signal sums low (sym (lane_same lane signal) ∙ here);
-    carried = λ lane low. carried_same circuit.signals delay (Starts lane) (Starts lane)
-        (AllBelow network rank) (AllBelowBut network (next + 1) gate []) (sums_at old lane)
-        (sums_at new lane) (λ signal start starts. starts) (λ signal start starts. starts)
+    carried = λ lane low. carried_same circuit.signals delay (Starts lane) (Begun lane)
+        (Begun lane) (AllBelow network rank) (AllBelowBut network (next + 1) gate [])
+        (sums_at old lane) (sums_at new lane) (λ signal start starts begun. begun)
         (λ read other sums here (below, listed) reads. lower lane read other sums below listed here)
         (λ signal. ap (option_and_then some_sums) (lane_same lane signal))
         (so_far.carried lane low);

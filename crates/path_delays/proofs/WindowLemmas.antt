@@ -2,6 +2,7 @@
 use Rattle.std.proofs.Common.{◌≡◌, ◌+◌, ◌*◌, ◌<◌, ◌≤◌, ◌^◌, ℕ, ℤ, pos, ◌+ℤ◌, ◌*ℤ◌, Bool, true, false, cond, IsTrue, ◌⊎◌, List, [], ◌∷◌, ◌++◌, length, set, Option, Some, None, inl, inr, refl, sym, ◌∙◌, ap, subst, arith}
 use Rattle.std.specs.Int.{w64, w128}
 use Rattle.std.specs.List.{slice_get}
+use Rattle.std.specs.Option.{option_map}
 use Rattle.std.proofs.Math.Nat.{mul-add}
 use Rattle.std.proofs.lemmas.Bool.{cases_eq, cases_lt}
 use Rattle.std.proofs.lemmas.Int.{ints, to_z-of_z}
@@ -14,13 +15,17 @@ use Rattle.cts_model.specs.declared.kind.Kind.{Kind}
 use Rattle.cts_model.specs.declared.kind.Kind.TheVariants.{Host}
 use Rattle.cts_model.specs.declared.tech.Tech.{Tech}
 use Rattle.cts_model.specs.netlist.Circuits.{gate_inputs}
+use Rattle.cts_model.specs.netlist.Paths.{Captures}
 use Rattle.cts_model.specs.placement.Points.{IsBelow}
 use Rattle.cts_model.specs.table.Tables.{IsWithin}
 use Rattle.path_delays.specs.declared.window.Window.{Window}
-use Rattle.path_delays.specs.Windows.{IsHullIfAny, IsWindowBelow}
+use Rattle.path_delays.specs.declared.sums.Sums.{Sums}
+use Rattle.path_delays.specs.CapturedSums.{either_sums}
+use Rattle.path_delays.specs.Carrying.{AreExtremesIfAny, StandsAt}
+use Rattle.path_delays.specs.Windows.{IsWindowBelow}
 use Rattle.path_delays.specs.Networks.{gate_sums, weight_of}
 use Rattle.path_delays.specs.SumParts.{AreWithin}
-use Rattle.path_delays.specs.WindowParts.{merged_windows, either_window, window_at, AreCaptures, ComesCaptured}
+use Rattle.path_delays.specs.WindowParts.{merged_windows, either_window, window_at, AreBelow, AreCaptures, sums_in, sums_of}
 use Rattle.path_delays.proofs.CaptureLemmas.{few_inputs}
 use Rattle.path_delays.proofs.DelayLemmas.{gate_within}
 use Rattle.path_delays.proofs.Rooms.{within_higher}
@@ -108,6 +113,37 @@ below_either bound (Some known) (Some found) window before now is = subst (IsWin
     (same_Some (merged_windows known found) window is)
     (merged_below bound known found (before known refl) (now found refl))
 
+-- what stands as sums is that of a window
+window_there : (known : Option Window) (sums : Sums) → option_map sums_of known ≡ Some sums
+    → (window : Window) × (known ≡ Some window) × (sums_of window ≡ sums)
+window_there None sums here = absurd cc
+window_there (Some window) sums here = (window, refl, same_Some (sums_of window) sums here)
+
+-- the least and the greatest of small windows are small
+pub extremes_below : (windows : List (Option Window)) (IsOne : ℕ → Type 0) (bound : ℕ)
+    (hull : Window)
+    → AreExtremesIfAny (StandsAt (sums_in windows) IsOne) (option_map sums_of (Some hull))
+    → AreBelow bound windows → IsWindowBelow bound hull
+extremes_below windows IsOne bound hull are small =
+    let (low, (first, is_first, at_first), least) = are.shown.least in
+    let (high, (last, is_last, at_last), greatest) = are.shown.greatest in
+    let early = window_there (window_at windows first) low at_first in
+    let late = window_there (window_at windows last) high at_last in
+    record {
+      earliest = subst (IsBelow bound) (ap (λ (s : Sums). s.least) early.2 ∙ least)
+          (small first early.0 early.1).earliest;
+      latest = subst (IsBelow bound) (ap (λ (s : Sums). s.greatest) late.2 ∙ greatest)
+          (small last late.0 late.1).latest;
+    }
+
+-- of two windows the sums become what the sums of both become
+pub sums_of_either : (known found : Option Window) → option_map sums_of (either_window known found)
+    ≡ either_sums (option_map sums_of known) (option_map sums_of found)
+sums_of_either None None = refl
+sums_of_either None (Some found) = refl
+sums_of_either (Some known) None = refl
+sums_of_either (Some known) (Some found) = refl
+
 -- a gate's delays are small
 pub gate_small : (tech : Tech) (signal : Signal) → is_gate signal.kind ≡ true
     → IsTrue (is_valid signal.kind (length signal.fan_in))
@@ -142,16 +178,19 @@ pushed_cases xs x y place here =
 -- one register more
 pub captures_next : (circuit : Circuit) (windows captured : List (Option Window)) (register : ℕ)
     (found : Option Window)
-    → IsHullIfAny (ComesCaptured circuit windows register) found
+    → AreExtremesIfAny (StandsAt (sums_in windows) (Captures circuit register))
+    (option_map sums_of found)
     → AreCaptures circuit windows register captured
     → AreCaptures circuit windows (register + 1) (captured ++ found ∷ [])
-captures_next circuit windows captured register found hull so_far = record {
+captures_next circuit windows captured register found extremes so_far = record {
   registers = omega (arith, length_push captured found, so_far.registers);
   each = λ place window here. elim (pushed_cases captured found window place here) [
     | inl before ↦ so_far.each place window before
     | inr last ↦
         let same : register ≡ place = sym (last.0 ∙ so_far.registers) in
-        subst (λ n. IsHullIfAny (ComesCaptured circuit windows n) window) same
-        (subst (IsHullIfAny (ComesCaptured circuit windows register)) last.1 hull)
+        subst (λ n. AreExtremesIfAny (StandsAt (sums_in windows) (Captures circuit n))
+        (option_map sums_of window)) same
+        (subst (λ o. AreExtremesIfAny (StandsAt (sums_in windows) (Captures circuit register))
+        (option_map sums_of o)) last.1 extremes)
   ];
 }

@@ -39,13 +39,15 @@ abbrev pub AreExtremesIfAny : (Sums → Type 0) → Option Sums → Type 0
 AreExtremesIfAny Come None = (one : Sums) → Come one → ⊥
 AreExtremesIfAny Come (Some sums) = AreExtremesOf Come sums
 
--- what stands at each signal comes there; what starts counts, and so does what a signal has handed
--- to a gate that reads it
-pub record AreCarried (signals : List Signal) (delay : ℕ → Sums) (Starts : ℕ → Sums → Type 0)
-    (Handed : ℕ → ℕ → Type 0) (at : ℕ → Option Sums) : Type 0 where
+-- what stands at each signal comes there; what has begun of the starts counts, and so does what a
+-- signal has handed to a gate that reads it
+pub record AreCarried (signals : List Signal) (delay : ℕ → Sums)
+    (Starts Begun : ℕ → Sums → Type 0) (Handed : ℕ → ℕ → Type 0)
+    (at : ℕ → Option Sums) : Type 0 where
   pub shown : (signal : ℕ) (sums : Sums) → at signal ≡ Some sums
       → AreShownBy (Comes signals delay Starts signal) sums
-  pub started : (signal : ℕ) (start : Sums) → Starts signal start → AreAround (at signal) start
+  pub started : (signal : ℕ) (start : Sums) → Starts signal start → Begun signal start
+      → AreAround (at signal) start
   pub handed : (read gate : ℕ) → Handed read gate → Reads signals gate read → (sums : Sums)
       → at read ≡ Some sums → AreAround (at gate) (sums_through sums (delay gate))
 
@@ -60,10 +62,9 @@ abbrev pub StartsOf : Circuit → (IsOne : ℕ → Type 0) → (start : ℕ → 
 StartsOf circuit IsOne start signal sums =
     (from : ℕ) × IsOne from × Launches circuit from signal × (sums ≡ start from)
 
--- as before, and at these signals too
-abbrev pub StartsToo : (ℕ → Sums → Type 0) → List ℕ → Sums → ℕ → Sums → Type 0
-StartsToo Starts signals start signal sums =
-    Starts signal sums ⊎ (Contains signals signal × (sums ≡ start))
+-- these sums stand at one of the signals
+abbrev pub StandsAt : (at : ℕ → Option Sums) → (IsOne : ℕ → Type 0) → Sums → Type 0
+StandsAt at IsOne sums = (signal : ℕ) × IsOne signal × (at signal ≡ Some sums)
 
 -- these are the signals that a register launches
 abbrev pub AreLaunchedBy : Circuit → (from : ℕ) → List ℕ → Type 0

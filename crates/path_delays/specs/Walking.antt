@@ -1,5 +1,5 @@
 -- How far a walk has come that hands sums from rank to rank.
-use Rattle.std.specs.Prelude.{◌≡◌, ◌<◌, ◌≤◌, ◌+◌, ℕ, true, List, take, Contains, Some, IsSome, slice_get}
+use Rattle.std.specs.Prelude.{◌≡◌, ◌<◌, ◌≤◌, ◌+◌, ◌⊎◌, ℕ, true, List, take, Contains, Some, IsSome, slice_get}
 use Rattle.std.specs.List.{sum_by}
 use Rattle.cts_model.specs.declared.signal.Signal.{Signal}
 use Rattle.cts_model.specs.declared.circuit.Circuit.{Circuit}
@@ -33,33 +33,39 @@ abbrev pub AllBelowBut : Network → ℕ → ℕ → List ℕ → ℕ → ℕ �
 AllBelowBut network rank pending gates read gate =
     (rank_at network read < rank) × (read ≡ pending → Contains gates gate)
 
+-- in a lane its register starts alone
+abbrev pub StartsIn : Circuit → Tech → (registers : List ℕ) → (lane : ℕ) → ℕ → Sums → Type 0
+StartsIn circuit tech registers lane =
+    StartsOf circuit (λ from. slice_get registers lane ≡ Some from) (λ from. start_sums tech)
+
 -- sums are carried in each lane, and none are beyond the limit of their rank; what is reached and
 -- isn't below this rank waits
-pub record IsSpread (circuit : Circuit) (tech : Tech) (network : Network)
-    (Starts : (lane : ℕ) → ℕ → Sums → Type 0) (Handed : ℕ → ℕ → Type 0) (rank : ℕ)
+pub record IsSpread (circuit : Circuit) (tech : Tech) (network : Network) (registers : List ℕ)
+    (Begun : (lane : ℕ) → ℕ → Sums → Type 0) (Handed : ℕ → ℕ → Type 0) (rank : ℕ)
     (reach : Reach) : Type 0 where
   pub limited : (lane signal : ℕ) (sums : Sums) → lane < 8 → lane_at reach lane signal ≡ Some sums
       → AreBounded (limit_at circuit.signals network.order.items (rank_at network signal)) sums
   pub carried : (lane : ℕ) → lane < 8
-      → AreCarried circuit.signals (gate_sums_at circuit tech) (Starts lane) Handed
-      (sums_at reach lane)
+      → AreCarried circuit.signals (gate_sums_at circuit tech)
+      (StartsIn circuit tech registers lane) (Begun lane) Handed (sums_at reach lane)
   pub waits : (signal : ℕ) → IsSome (lanes_at reach signal) → rank ≤ rank_at network signal
       → waits_at reach (rank_at network signal) ≡ true
   pub due : (other : ℕ) → waits_at reach other ≡ true → IsDue network reach rank other
 
--- in each lane below a number its register starts alone
-abbrev pub StartsIn : Circuit → Tech → (registers : List ℕ) → (below lane : ℕ) → ℕ → Sums
-    → Type 0
-StartsIn circuit tech registers below lane =
-    StartsOf circuit (λ from. (lane < below) × (slice_get registers lane ≡ Some from))
-    (λ from. start_sums tech)
+-- all lanes below a number have begun
+abbrev pub LanesBelow : (below lane : ℕ) → ℕ → Sums → Type 0
+LanesBelow below lane signal sums = lane < below
 
--- so many registers start, and all signals below a rank have handed on their sums
+-- and in one lane these signals
+abbrev pub BegunIn : (lane : ℕ) → (launched : List ℕ) → ℕ → ℕ → Sums → Type 0
+BegunIn lane launched other signal sums =
+    (other < lane) ⊎ ((other ≡ lane) × Contains launched signal)
+
+-- so many registers have begun, and all signals below a rank have handed on their sums
 abbrev pub IsSpreadBelow : Circuit → Tech → Network → (registers : List ℕ) → (begun rank : ℕ)
     → Reach → Type 0
 IsSpreadBelow circuit tech network registers begun rank =
-    IsSpread circuit tech network (StartsIn circuit tech registers begun) (AllBelow network rank)
-    rank
+    IsSpread circuit tech network registers (LanesBelow begun) (AllBelow network rank) rank
 
 -- each lane has the sums to all that its register reaches
 abbrev pub HaveReached : Circuit → Tech → List ℕ → Reach → Type 0

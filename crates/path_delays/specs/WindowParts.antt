@@ -1,5 +1,5 @@
 -- Windows of signals: how they move after a gate, and how several become one.
-use Rattle.std.specs.Prelude.{◌≡◌, ◌<◌, ◌≤◌, ◌+◌, ◌*◌, ◌^◌, ℕ, pos, ◌+ℤ◌, ◌*ℤ◌, List, length, take, Contains, Option, Some, None, nat_abs, slice_get, slice_index_or}
+use Rattle.std.specs.Prelude.{◌≡◌, ◌<◌, ◌≤◌, ◌+◌, ◌*◌, ◌^◌, ◌⊎◌, ℕ, pos, ◌+ℤ◌, ◌*ℤ◌, List, length, take, Contains, Option, Some, None, nat_abs, slice_get, slice_index_or}
 use Rattle.std.specs.Option.{option_map}
 use Rattle.std.specs.Int.{int_min, int_max}
 use Rattle.cts_model.specs.declared.circuit.Circuit.{Circuit}
@@ -9,9 +9,8 @@ use Rattle.cts_model.specs.netlist.Paths.{Captures}
 use Rattle.cts_model.specs.timing.Schedules.{arrival_of}
 use Rattle.path_delays.specs.declared.sums.Sums.{Sums}
 use Rattle.path_delays.specs.declared.window.Window.{Window}
-use Rattle.path_delays.specs.Carrying.{AreCarried, StartsOf, gate_sums_at}
-use Rattle.path_delays.specs.Reaches.{IsChain}
-use Rattle.path_delays.specs.Windows.{window_along, IsHullIfAny, IsWindowBelow}
+use Rattle.path_delays.specs.Carrying.{AreCarried, AreExtremesIfAny, StandsAt, StartsOf, gate_sums_at}
+use Rattle.path_delays.specs.Windows.{IsWindowBelow}
 
 -- the window after a delay
 abbrev pub window_after : (scale : ℕ) → Sums → Window → Window
@@ -37,53 +36,6 @@ either_window (Some known) (Some found) = Some (merged_windows known found)
 abbrev pub window_at : List (Option Window) → ℕ → Option Window
 window_at windows signal = slice_index_or windows signal None
 
--- one of these signals has this window
-abbrev pub ComesFrom : List (Option Window) → List ℕ → Window → Type 0
-ComesFrom windows signals window =
-    (signal : ℕ) × Contains signals signal × (window_at windows signal ≡ Some window)
-
--- the hull of what a gate reads, after the gate's delay
-pub record IsGateWindow (windows : List (Option Window)) (reads : List ℕ) (scale : ℕ) (delay : Sums)
-    (found : Option Window) : Type 0 where
-  pub read : Option Window
-  pub hull : IsHullIfAny (ComesFrom windows reads) read
-  pub suffix : found ≡ option_map (window_after scale delay) read
-
--- a signal that the register captures has this window
-abbrev pub ComesCaptured : Circuit → List (Option Window) → ℕ → Window → Type 0
-ComesCaptured circuit windows register window =
-    (signal : ℕ) × Captures circuit register signal × (window_at windows signal ≡ Some window)
-
--- at each register below a number the hull of what it captures
-pub record AreCaptures (circuit : Circuit) (windows : List (Option Window)) (below : ℕ)
-    (captured : List (Option Window)) : Type 0 where
-  pub registers : length captured ≡ below
-  pub each : (register : ℕ) (window : Option Window) → slice_get captured register ≡ Some window
-      → IsHullIfAny (ComesCaptured circuit windows register) window
-
--- the window at what a register launches
-abbrev pub start_window : Tech → Schedule → ℕ → Window
-start_window tech schedule from = record {
-  earliest = arrival_of schedule.at from +ℤ (pos (nat_abs schedule.den) *ℤ tech.least);
-  latest = arrival_of schedule.at from +ℤ (pos (nat_abs schedule.den) *ℤ tech.greatest);
-}
-
--- some chain to the signal has this window
-abbrev pub ComesAt : Circuit → Tech → Schedule → (signal : ℕ) → Window → Type 0
-ComesAt circuit tech schedule signal window = (from : ℕ) × (chain : List ℕ)
-    × IsChain circuit from signal chain
-    × (window_along circuit tech (nat_abs schedule.den)
-    (arrival_of schedule.at) from chain ≡ window)
-
--- no window is beyond, when so many gates are passed
-abbrev pub window_limit : (passed : ℕ) → ℕ
-window_limit passed = 10 ^ 19 + (passed + 1) * 10 ^ 10
-
--- the windows at all signals are
-abbrev pub AreBelow : (bound : ℕ) → List (Option Window) → Type 0
-AreBelow bound windows = (signal : ℕ) (window : Window) → window_at windows signal ≡ Some window
-    → IsWindowBelow bound window
-
 -- the two times of a window as sums
 abbrev pub sums_of : Window → Sums
 sums_of window = record { least = window.earliest; greatest = window.latest }
@@ -103,19 +55,59 @@ abbrev pub scaled_delay : Circuit → Tech → Schedule → ℕ → Sums
 scaled_delay circuit tech schedule gate =
     scaled_sums (nat_abs schedule.den) (gate_sums_at circuit tech gate)
 
--- windows are carried from these starts, with so many gates passed
-pub record AreSwept (circuit : Circuit) (tech : Tech) (schedule : Schedule) (passed : ℕ)
-    (Starts : ℕ → Sums → Type 0) (Handed : ℕ → ℕ → Type 0)
-    (windows : List (Option Window)) : Type 0 where
-  pub covers : length windows ≡ length circuit.signals
-  pub carried : AreCarried circuit.signals (scaled_delay circuit tech schedule) Starts Handed
-      (sums_in windows)
-  pub small : AreBelow (window_limit passed) windows
+-- the least and the greatest of what a gate reads, after the gate's delay
+pub record IsGateWindow (windows : List (Option Window)) (reads : List ℕ) (scale : ℕ) (delay : Sums)
+    (found : Option Window) : Type 0 where
+  pub read : Option Window
+  pub extremes : AreExtremesIfAny (StandsAt (sums_in windows) (Contains reads))
+      (option_map sums_of read)
+  pub suffix : found ≡ option_map (window_after scale delay) read
+
+-- at each register below a number the least and the greatest of what it captures
+pub record AreCaptures (circuit : Circuit) (windows : List (Option Window)) (below : ℕ)
+    (captured : List (Option Window)) : Type 0 where
+  pub registers : length captured ≡ below
+  pub each : (register : ℕ) (window : Option Window) → slice_get captured register ≡ Some window
+      → AreExtremesIfAny (StandsAt (sums_in windows) (Captures circuit register))
+      (option_map sums_of window)
+
+-- the window at what a register launches
+abbrev pub start_window : Tech → Schedule → ℕ → Window
+start_window tech schedule from = record {
+  earliest = arrival_of schedule.at from +ℤ (pos (nat_abs schedule.den) *ℤ tech.least);
+  latest = arrival_of schedule.at from +ℤ (pos (nat_abs schedule.den) *ℤ tech.greatest);
+}
+
+-- no window is beyond, when so many gates are passed
+abbrev pub window_limit : (passed : ℕ) → ℕ
+window_limit passed = 10 ^ 19 + (passed + 1) * 10 ^ 10
+
+-- the windows at all signals are
+abbrev pub AreBelow : (bound : ℕ) → List (Option Window) → Type 0
+AreBelow bound windows = (signal : ℕ) (window : Window) → window_at windows signal ≡ Some window
+    → IsWindowBelow bound window
 
 -- each register below a number starts at its arrival, and its own delay after it
 abbrev pub StartsBelow : Circuit → Tech → Schedule → (below : ℕ) → ℕ → Sums → Type 0
 StartsBelow circuit tech schedule below =
     StartsOf circuit (λ from. from < below) (λ from. sums_of (start_window tech schedule from))
+
+-- and the next one at these signals
+abbrev pub BegunTo : Circuit → Tech → Schedule → (from : ℕ) → (launched : List ℕ) → ℕ → Sums
+    → Type 0
+BegunTo circuit tech schedule from launched signal sums =
+    StartsBelow circuit tech schedule from signal sums
+    ⊎ (Contains launched signal × (sums ≡ sums_of (start_window tech schedule from)))
+
+-- windows are carried from all registers, as far as these have begun, with so many gates passed
+pub record AreSwept (circuit : Circuit) (tech : Tech) (schedule : Schedule) (passed : ℕ)
+    (Begun : ℕ → Sums → Type 0) (Handed : ℕ → ℕ → Type 0)
+    (windows : List (Option Window)) : Type 0 where
+  pub covers : length windows ≡ length circuit.signals
+  pub carried : AreCarried circuit.signals (scaled_delay circuit tech schedule)
+      (StartsBelow circuit tech schedule (length circuit.registers)) Begun Handed
+      (sums_in windows)
+  pub small : AreBelow (window_limit passed) windows
 
 -- nothing is handed on yet
 abbrev pub NoneHanded : ℕ → ℕ → Type 0

@@ -1,11 +1,13 @@
-ghost use Rattle.std.specs.Prelude.{◌≡◌, ◌<◌, ◌≤◌, ◌+◌, ◌*◌, ◌^◌, ℕ, All, IfOk, IsTrue, Some, length, nat_abs, slice_get, slice_set};
+ghost use Rattle.std.specs.Prelude.{◌≡◌, ◌<◌, ◌≤◌, ◌+◌, ◌*◌, ◌^◌, ℕ, All, Contains, IfOk, IsTrue, Some, length, nat_abs, slice_get, slice_set};
+ghost use Rattle.std.specs.Option.{option_map};
 ghost use Rattle.cts_model.specs.netlist.Kinds.{is_gate, is_valid};
 ghost use Rattle.cts_model.specs.table.Tables.{IsWithin};
 ghost use Rattle.gate_order.specs.LevelParts.{IsLevelsOf};
 ghost use Rattle.path_delays.specs.declared.window.Window.{Window};
+ghost use Rattle.path_delays.specs.Carrying.{AreExtremesIfAny, StandsAt};
 ghost use Rattle.path_delays.specs.Networks.{AreInputs, gate_sums};
-ghost use Rattle.path_delays.specs.Windows.{AreWindows, IsHullIfAny, IsSmallSchedule, IsWindowBelow};
-ghost use Rattle.path_delays.specs.WindowParts.{AreBelow, AreCaptures, AreLaunched, ArePassed, ComesFrom, IsGateWindow, either_window, start_window, window_at, window_limit};
+ghost use Rattle.path_delays.specs.Windows.{AreWindows, IsSmallSchedule, IsWindowBelow};
+ghost use Rattle.path_delays.specs.WindowParts.{AreBelow, AreCaptures, AreLaunched, ArePassed, IsGateWindow, either_window, start_window, sums_in, sums_of, window_at, window_limit};
 
 use crate::gate_delays::gate_delay;
 use crate::launching::{input_signals, launched, start_sums};
@@ -150,7 +152,8 @@ fn gate_window(
 // The window over some signals.
 fn merged_windows(windows: &[Option<Window>], signals: &[u32]) -> Option<Window>
     requires { All (λ number. number < length windows.now) signals.now }
-    ensures { IsHullIfAny (ComesFrom windows.now signals.now) result }
+    ensures { AreExtremesIfAny (StandsAt (sums_in windows.now) (Contains signals.now))
+        (option_map sums_of result) }
 {
     let mut merged = None;
     for signal in signals {

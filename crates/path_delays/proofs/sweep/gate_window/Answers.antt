@@ -1,27 +1,23 @@
 -- The gate's window is that of what it reads, moved by the gate's delay.
-use Rattle.std.proofs.Common.{◌+◌, ◌*◌, ◌^◌, Some, None, ap, refl, subst, arith}
+use Rattle.std.proofs.Common.{◌+◌, ◌*◌, ◌^◌, Contains, Some, None, ap, refl, subst, arith}
 use Rattle.std.proofs.lemmas.Option.{same_Some}
 use Rattle.path_delays.specs.declared.window.Window.{Window}
 use Rattle.path_delays.specs.Windows.{IsWindowBelow}
-use Rattle.path_delays.specs.WindowParts.{ComesFrom}
-use Rattle.path_delays.proofs.HullLemmas.{hull_below}
-use Rattle.path_delays.proofs.WindowLemmas.{gate_small, kept_ticks}
+use Rattle.path_delays.proofs.WindowLemmas.{extremes_below, gate_small, kept_ticks}
 use Rattle.path_delays.proofs.sweep.gate_window.Goals as goal
 
 pub returns-in_err-read-clause-suffix : goal.returns-in_err-read-clause-suffix
 returns-in_err-read-clause-suffix c =
     rw c.from_residual.ensures (record {
       read = None;
-      hull =
-          rw c.as_slice.ensures at c.in_err-read.ensures;
+      extremes = rw c.as_slice.ensures at c.in_err-read.ensures;
       suffix = refl;
     })
 
 pub suffix-requires-clause-window : goal.suffix-requires-clause-window
 suffix-requires-clause-window c =
-    hull_below (ComesFrom c.args.windows.now c.as_slice.result.now)
-    (2 * 10 ^ 19) c.in_ok-read.read c.in_ok-read.ensures
-    (λ window (signal, listed, here). c.requires.small signal window here)
+    extremes_below c.args.windows.now (Contains c.as_slice.result.now) (2 * 10 ^ 19)
+    c.in_ok-read.read c.in_ok-read.ensures c.requires.small
 
 pub suffix-requires-clause-delay : goal.suffix-requires-clause-delay
 suffix-requires-clause-delay c =
@@ -31,7 +27,7 @@ suffix-requires-clause-delay c =
 pub returns-clause-suffix : goal.returns-clause-suffix
 returns-clause-suffix c = record {
   read = Some c.in_ok-read.read;
-  hull = rw c.as_slice.ensures at c.in_ok-read.ensures;
+  extremes = rw c.as_slice.ensures at c.in_ok-read.ensures;
   suffix = ap (λ (window : Window). Some window)
       (rw (c.gate_delay.ensures, kept_ticks c.args.scale c.requires.scale (omega arith)) at
       c.suffix.ensures.suffix);
@@ -40,7 +36,5 @@ returns-clause-suffix c = record {
 pub returns-clause-small : goal.returns-clause-small
 returns-clause-small c bound window below same =
     subst (IsWindowBelow (bound + 10 ^ 10)) (same_Some c.suffix.result window same)
-    (c.suffix.ensures.small bound (hull_below
-    (ComesFrom c.args.windows.now c.as_slice.result.now) bound c.in_ok-read.read
-    c.in_ok-read.ensures
-    (λ other (signal, listed, here). below signal other here)))
+    (c.suffix.ensures.small bound (extremes_below c.args.windows.now
+    (Contains c.as_slice.result.now) bound c.in_ok-read.read c.in_ok-read.ensures below))

@@ -1,14 +1,15 @@
 -- One signal more, and all of them.
-use Rattle.std.proofs.Common.{◌≡◌, length, get_or, subst, arith}
+use Rattle.std.proofs.Common.{◌≡◌, length, take, get_or, subst, arith}
 use Rattle.std.proofs.lemmas.List.Elements.{Contains-get_or}
-use Rattle.path_delays.specs.WindowParts.{AreSwept, NoneHanded}
+use Rattle.path_delays.specs.WindowParts.{AreSwept, BegunTo, NoneHanded}
 use Rattle.path_delays.proofs.LaunchLemmas.{launched_within}
-use Rattle.path_delays.proofs.SweepLemmas.{Begun, begun_all, begun_next, begun_none}
+use Rattle.path_delays.proofs.SweepLemmas.{begun_all, begun_next, begun_none}
 use Rattle.path_delays.proofs.sweep.launch.Goals as goal
 
 pub loop-signal-init : goal.loop-signal-init
 loop-signal-init c = begun_none c.args.circuit.now c.args.tech.now c.args.schedule.now c.args.from
-    c.launched-signal-items.result.now c.args.windows.now.items c.requires.launched
+    c.launched-signal-items.result.now c.launched-signal-items.ensures c.args.windows.now.items
+    c.requires.launched
 
 pub put-requires : goal.put-requires
 put-requires c =
@@ -26,8 +27,8 @@ loop-signal-preserved c =
     let launched = c.launched-signal-items.result.now in
     let signal = get_or launched c.loop-signal.signal-index 0 in
     begun_next c.args.circuit.now c.args.tech.now c.args.schedule.now c.args.from launched
-    c.loop-signal.signal-index c.loop-signal.windows.items c.put.new.windows.items
-    c.loop-signal-test.true
+    c.launched-signal-items.ensures c.loop-signal.signal-index c.loop-signal.windows.items
+    c.put.new.windows.items c.requires.from c.loop-signal-test.true
     (omega (
       arith,
       launched_within c.args.circuit.now c.args.from signal ((c.launched-signal-items.ensures
@@ -42,7 +43,7 @@ returns c =
     let launched = c.launched-signal-items.result.now in
     let all : c.loop-signal.signal-index ≡ length launched = omega arith in
     begun_all c.args.circuit.now c.args.tech.now c.args.schedule.now c.args.from launched
-    c.loop-signal.windows.items c.launched-signal-items.ensures
+    c.launched-signal-items.ensures c.loop-signal.windows.items
     (subst (λ n. AreSwept c.args.circuit.now c.args.tech.now c.args.schedule.now 0
-    (Begun c.args.circuit.now c.args.tech.now c.args.schedule.now c.args.from launched n)
+    (BegunTo c.args.circuit.now c.args.tech.now c.args.schedule.now c.args.from (take n launched))
     NoneHanded c.loop-signal.windows.items) all c.loop-signal.invariant)

@@ -1,8 +1,11 @@
 -- The window over the signals passed so far.
-use Rattle.std.proofs.Common.{take}
-use Rattle.path_delays.specs.Windows.{IsHullIfAny}
-use Rattle.path_delays.specs.WindowParts.{ComesFrom}
+use Rattle.std.proofs.Common.{Contains, take}
+use Rattle.std.specs.Option.{option_map}
+use Rattle.path_delays.specs.Carrying.{AreExtremesIfAny, StandsAt}
+use Rattle.path_delays.specs.WindowParts.{sums_in, sums_of}
 use Rattle.path_delays.proofs.sweep.merged_windows.Given as goal
 
 abbrev pub invariant-loop-signal : goal.invariant-loop-signal
-invariant-loop-signal l = IsHullIfAny (ComesFrom l.windows (take l.signal-index l.signals)) l.merged
+invariant-loop-signal l = AreExtremesIfAny
+    (StandsAt (sums_in l.windows) (Contains (take l.signal-index l.signals)))
+    (option_map sums_of l.merged)

@@ -3,9 +3,9 @@ use Rattle.std.proofs.Common.{◌≡◌, ◌+◌, length, take, get_or, refl, sy
 use Rattle.std.proofs.lemmas.List.Elements.{Contains-get_or}
 use Rattle.std.proofs.lemmas.Option.{slice_get-get_or}
 use Rattle.path_delays.specs.Handing.{HasReachRoom}
-use Rattle.path_delays.specs.Walking.{AllBelow, IsSpread}
+use Rattle.path_delays.specs.Walking.{AllBelow, BegunIn, IsSpread}
 use Rattle.path_delays.proofs.LaunchLemmas.{launched_within}
-use Rattle.path_delays.proofs.WalkStarts.{BegunIn, begun_all, begun_next, begun_none}
+use Rattle.path_delays.proofs.WalkStarts.{begun_all, begun_next, begun_none}
 use Rattle.path_delays.proofs.WalkSteps.{all_bounded}
 use Rattle.path_delays.proofs.reach.Reach.launch.Goals as goal
 
@@ -16,7 +16,9 @@ launched-signal-items-requires-clause-inputs c =
 pub loop-signal-init : goal.loop-signal-init
 loop-signal-init c = record {
   spread = begun_none c.args.circuit.now c.args.tech.now c.args.network.now c.requires.network
-      c.args.registers.now c.args.lane _ c.launched-signal-items.result.now
+      c.args.registers.now c.args.lane _
+      (slice_get-get_or c.args.registers.now c.args.lane 0 c.requires.lane)
+      c.launched-signal-items.result.now
       c.launched-signal-items.ensures c.args.self.now c.requires.spread;
   room = c.requires.room;
 }
@@ -34,13 +36,15 @@ start-requires-clause-signal c =
 
 pub start-requires-clause-small : goal.start-requires-clause-small
 start-requires-clause-small c =
-    all_bounded c.args.circuit.now c.args.tech.now c.args.network.now c.requires.network _
+    all_bounded c.args.circuit.now c.args.tech.now c.args.network.now c.requires.network _ _
     c.loop-signal.self 1 _ c.loop-signal.invariant.spread _
 
 pub loop-signal-preserved : goal.loop-signal-preserved
 loop-signal-preserved c = record {
   spread = begun_next c.args.circuit.now c.args.tech.now c.args.network.now c.requires.network
-      c.args.registers.now c.args.lane _ c.launched-signal-items.result.now
+      c.args.registers.now c.args.lane _
+      (slice_get-get_or c.args.registers.now c.args.lane 0 c.requires.lane)
+      c.launched-signal-items.result.now
       c.launched-signal-items.ensures c.loop-signal.self c.start.new.self
       c.loop-signal.signal-index (omega (arith, c.requires.few, c.requires.lane))
       c.loop-signal-test.true (rw c.start_sums-sums.ensures.sums at c.start.ensures.started)
@@ -54,12 +58,11 @@ returns c =
     let all : c.loop-signal.signal-index ≡ length launched = omega arith in
     record {
       spread = begun_all c.args.circuit.now c.args.tech.now c.args.network.now c.requires.network
-          c.args.registers.now c.args.lane _ launched c.launched-signal-items.ensures
-          c.loop-signal.self
-          (slice_get-get_or c.args.registers.now c.args.lane 0 c.requires.lane)
+          c.args.registers.now c.args.lane _
+          (slice_get-get_or c.args.registers.now c.args.lane 0 c.requires.lane) launched
+          c.launched-signal-items.ensures c.loop-signal.self
           (subst (λ n. IsSpread c.args.circuit.now c.args.tech.now c.args.network.now
-          (BegunIn c.args.circuit.now c.args.tech.now c.args.registers.now c.args.lane
-          (take n launched))
+          c.args.registers.now (BegunIn c.args.lane (take n launched))
           (AllBelow c.args.network.now 1) 1 c.loop-signal.self) all
           c.loop-signal.invariant.spread);
       room = c.loop-signal.invariant.room;

@@ -1,14 +1,13 @@
 -- The signals passed so far start in the lane.
 use Rattle.std.proofs.Common.{take}
 use Rattle.path_delays.specs.Handing.{HasReachRoom}
-use Rattle.path_delays.specs.Walking.{AllBelow, IsSpread}
-use Rattle.path_delays.proofs.WalkStarts.{BegunIn}
+use Rattle.path_delays.specs.Walking.{AllBelow, BegunIn, IsSpread}
 use Rattle.path_delays.proofs.reach.Reach.launch.Given as goal
 
 abbrev pub invariant-loop-signal : goal.invariant-loop-signal
 invariant-loop-signal l = record {
-  spread : IsSpread l.circuit l.tech l.network
-      (BegunIn l.circuit l.tech l.registers l.lane (take l.signal-index l.signal-items))
+  spread : IsSpread l.circuit l.tech l.network l.registers
+      (BegunIn l.lane (take l.signal-index l.signal-items))
       (AllBelow l.network 1) 1 l.self;
   room : HasReachRoom l.network l.self;
 }

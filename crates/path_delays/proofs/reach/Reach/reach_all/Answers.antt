@@ -3,7 +3,7 @@ use Rattle.std.proofs.Common.{◌≡◌, ◌+◌, ℕ, length, refl, arith}
 use Rattle.std.proofs.lemmas.Option.{slice_get_within}
 use Rattle.path_delays.specs.declared.reach.Reach.{Reach}
 use Rattle.path_delays.specs.Handing.{lanes_at, rank_at}
-use Rattle.path_delays.specs.Walking.{StartsIn}
+use Rattle.path_delays.specs.Walking.{LanesBelow}
 use Rattle.path_delays.proofs.Hands.{HasReachRoom-same}
 use Rattle.path_delays.proofs.LaneLemmas.{some_is}
 use Rattle.path_delays.proofs.WalkEnds.{reach_shown}
@@ -38,7 +38,7 @@ hand_on-requires-clause-reached c =
 
 pub hand_on-requires-clause-small : goal.hand_on-requires-clause-small
 hand_on-requires-clause-small c =
-    all_bounded c.args.circuit.now c.args.tech.now c.args.network.now c.requires.network _
+    all_bounded c.args.circuit.now c.args.tech.now c.args.network.now c.requires.network _ _
     c.loop-next.self c.loop-next.rank _ c.loop-next.invariant.spread c.index.result.now
 
 pub loop-next-smaller : goal.loop-next-smaller
@@ -67,14 +67,14 @@ loop-next-preserved c =
       lanes = c.loop-next.self.lanes;
       waiting = c.take_lowest.new.self;
     } in
-    let Starts = StartsIn circuit tech registers (length registers) in
-    let pending = IsSpread-taken circuit tech network is Starts c.loop-next.self taken
+    let Begun = LanesBelow (length registers) in
+    let pending = IsSpread-taken circuit tech network is registers Begun c.loop-next.self taken
     c.loop-next.rank c.in-Some.next gate c.loop-next.invariant.counted due.after
     c.in-Some.ensures.some (λ (signal : ℕ). refl) next.rank c.loop-next.invariant.spread in
     let given = some_is (lanes_at c.loop-next.self gate) next.reached in
     let one_more : rank_at network gate + 1 ≡ c.in-Some.next + 1 = omega (arith, next.rank) in
     record {
-      spread = IsSpread-on circuit tech network is Starts taken c.hand_on.new.self
+      spread = IsSpread-on circuit tech network is registers Begun taken c.hand_on.new.self
           (c.in-Some.next + 1) gate given.0 one_more next.inside given.1 pending
           c.hand_on.ensures.on;
       room = c.hand_on.ensures.room;
@@ -92,8 +92,8 @@ returns c =
     record {
       reach = λ lane from signal here.
           let within = slice_get_within registers lane from here in
-          reach_shown c.args.circuit.now c.args.tech.now registers from lane here within
-          c.args.network.now c.requires.network c.loop-next.self c.loop-next.rank
+          reach_shown c.args.circuit.now c.args.tech.now registers from lane here
+          c.args.network.now c.requires.network c.loop-next.self c.loop-next.rank within
           (omega (arith, within, c.requires.few)) c.loop-next.invariant.spread
           c.in_default.ensures.none signal;
       room = HasReachRoom-same c.args.network.now c.loop-next.self taken
