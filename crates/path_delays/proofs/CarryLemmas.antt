@@ -10,8 +10,7 @@ use Rattle.std.proofs.lemmas.Option.{same_Some}
 use Rattle.cts_model.specs.declared.signal.Signal.{Signal}
 use Rattle.cts_model.specs.netlist.Paths.{Follows, Reads}
 use Rattle.path_delays.specs.declared.sums.Sums.{Sums}
-use Rattle.path_delays.specs.SumParts.{AreAround, IsAround, joined_sums, merged_sums, sums_through}
-use Rattle.path_delays.specs.CapturedSums.{either_sums}
+use Rattle.path_delays.specs.SumParts.{AreAround, IsAround, either_sums, joined_sums, merged_sums, sums_through}
 use Rattle.path_delays.specs.Carrying.{along, AreCarried, AreExtremesIfAny, AreShownBy, Comes, IsJoinedAt, StandsAt}
 use Rattle.path_delays.proofs.Chains.{Follows-push, around_itself, around_joined, around_known, min_cases, max_cases}
 
@@ -344,6 +343,15 @@ module _ (signals : List Signal) (delay : ℕ → Sums) where
         (beyond comes.first comes.gates signal comes.start
         (carried.started comes.first comes.start comes.starts
         (begun comes.first comes.start comes.starts)) comes.follows))
+
+-- where there are none, nothing stands at any signal
+pub nothing_at : (at : ℕ → Option Sums) (IsOne : ℕ → Type 0)
+    → AreExtremesIfAny (StandsAt at IsOne) None → (signal : ℕ) → IsOne signal → at signal ≡ None
+nothing_at at IsOne none signal is_one = by (at signal) refl
+  where
+    by : (known : Option Sums) → at signal ≡ known → at signal ≡ None
+    by None here = here
+    by (Some sums) here = absurd (none sums (signal, is_one, here))
 
 -- the least and the greatest with those of one signal more
 pub extremes_next : (at : ℕ → Option Sums) (signals : List ℕ) (signal : ℕ) (known : Option Sums)

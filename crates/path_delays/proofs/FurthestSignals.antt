@@ -7,7 +7,7 @@ use Rattle.path_delays.specs.declared.sums.Sums.{Sums}
 use Rattle.path_delays.specs.declared.walk.Walk.{Walk}
 use Rattle.path_delays.specs.SumParts.{IsAround}
 use Rattle.path_delays.specs.WalkParts.{sums_to}
-use Rattle.path_delays.specs.CapturedSums.{AreSumsOver}
+use Rattle.path_delays.specs.Carrying.{AreExtremesOf, StandsAt}
 use Rattle.path_delays.specs.ExtremePaths.{extreme_of, IsNoFurther, IsFurthest}
 
 -- the walk found this extreme at the signal
@@ -27,7 +27,7 @@ no_further_around true sums entry around = around.greatest
 no_further_around false sums entry around = around.least
 
 module _ (walk : Walk) (signals : List ℕ) (greatest : Bool) (sums : Sums)
-    (over : AreSumsOver walk 0 signals sums) where
+    (are : AreExtremesOf (StandsAt (sums_to walk 0) (Contains signals)) sums) where
   -- a signal where the walk found the extreme is the furthest
   pub furthest_found : (signal : ℕ) → Contains signals signal
       → FitsAt walk greatest (extreme_of greatest sums) signal
@@ -41,7 +41,7 @@ module _ (walk : Walk) (signals : List ℕ) (greatest : Bool) (sums : Sums)
         here = found.1;
         furthest = λ other entry is_one there.
             subst (IsNoFurther greatest (extreme_of greatest entry)) (sym found.2)
-            (no_further_around greatest sums entry (over.around other entry is_one there));
+            (no_further_around greatest sums entry (are.around entry (other, is_one, there)));
       }
 
   -- and there is one
@@ -50,16 +50,14 @@ module _ (walk : Walk) (signals : List ℕ) (greatest : Bool) (sums : Sums)
   some_fits none = at greatest none
     where
       at : (b : Bool) → NoneFitsBefore walk signals b (extreme_of b sums) (length signals) → ⊥
-      at true none = none over.greatest_listed.0 over.greatest_listed.1
-          (subst (FitsAt walk true sums.greatest)
-          (sym over.greatest_listed.2
-          ∙ get_or_default signals over.greatest_listed.0 over.greatest_at 0 over.greatest_listed.1)
-          over.greatest_found)
-      at false none = none over.least_listed.0 over.least_listed.1
-          (subst (FitsAt walk false sums.least)
-          (sym over.least_listed.2
-          ∙ get_or_default signals over.least_listed.0 over.least_at 0 over.least_listed.1)
-          over.least_found)
+      at true none =
+          let (high, (last, (place, within, stands), at_last), greatest_is) = are.shown.greatest in
+          none place within (subst (FitsAt walk true sums.greatest)
+          (sym stands ∙ get_or_default signals place last 0 within) (rw at_last greatest_is))
+      at false none =
+          let (low, (first, (place, within, stands), at_first), least_is) = are.shown.least in
+          none place within (subst (FitsAt walk false sums.least)
+          (sym stands ∙ get_or_default signals place first 0 within) (rw at_first least_is))
 
 -- one signal more at which it didn't
 pub none_fits_next : (walk : Walk) (signals : List ℕ) (greatest : Bool) (extreme : ℤ) (count : ℕ)

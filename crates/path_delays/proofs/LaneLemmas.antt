@@ -8,9 +8,8 @@ use Rattle.std.proofs.lemmas.Int.{clamps, ints}
 use Rattle.std.proofs.lemmas.Option.{same_Some}
 use Rattle.path_delays.specs.declared.lanes.Lanes.{Lanes}
 use Rattle.path_delays.specs.declared.sums.Sums.{Sums}
-use Rattle.path_delays.specs.CapturedSums.{either_sums}
 use Rattle.path_delays.specs.LaneParts.{lane_of}
-use Rattle.path_delays.specs.SumParts.{AreBounded, AreMissing, AreWithin, delay_limit, joined_sums, merged_sums, no_sums, some_sums, sums_through}
+use Rattle.path_delays.specs.SumParts.{AreBounded, AreMissing, AreWithin, delay_limit, either_sums, joined_sums, merged_sums, no_sums, some_sums, sums_through}
 use Rattle.path_delays.proofs.Rooms.{within_higher}
 use Rattle.path_delays.proofs.Chains.{within_joined, within_through}
 

@@ -12,7 +12,6 @@ mod SetListing
 mod WalkSteps
 mod WalkStarts
 mod WalkEnds
-mod CapturedLemmas
 mod ReachedPairs
 mod CaptureLemmas
 mod CapturingLemmas

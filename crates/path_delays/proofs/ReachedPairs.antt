@@ -11,13 +11,12 @@ use Rattle.cts_model.specs.declared.tech.Tech.{Tech}
 use Rattle.cts_model.specs.declared.timing.PairDelay.{PairDelay}
 use Rattle.cts_model.specs.netlist.Paths.{register_signal, Captures, IsPath}
 use Rattle.cts_model.specs.timing.Delays.{least_delay, greatest_delay}
-use Rattle.cts_model.proofs.TopologyLemmas.{some_and}
 use Rattle.path_delays.specs.declared.sums.Sums.{Sums}
 use Rattle.path_delays.specs.declared.walk.Walk.{Walk}
 use Rattle.path_delays.specs.Reaches.{IsChain, AreExtreme, IsReach}
 use Rattle.path_delays.specs.WalkParts.{sums_to, HasReach}
 use Rattle.path_delays.specs.Captured.{AreCapturedBy}
-use Rattle.path_delays.specs.CapturedSums.{AreSumsOver, AreCaptured}
+use Rattle.path_delays.specs.Carrying.{AreExtremesOf, StandsAt}
 use Rattle.path_delays.specs.JoinedPairs.{IsDelayBetween}
 
 -- what a signal reads are signals of the circuit
@@ -74,17 +73,19 @@ module _ (circuit : Circuit) (tech : Tech) (from to lane : ℕ) (walk : Walk) (c
       subst (IsReach circuit tech from signal) nothing (reach.each signal) chain is_chain
 
   -- so no path joins the registers, where it found nothing at any
-  pub no_path : AreCaptured walk lane captured None → (path : List ℕ) → IsPath circuit from to path → ⊥
+  pub no_path : ((signal : ℕ) → Contains captured signal → sums_to walk lane signal ≡ None)
+      → (path : List ℕ) → IsPath circuit from to path → ⊥
   no_path none path is_path =
       let chain = chain_of_path circuit from to path is_path in
       no_chain chain.0 path (none chain.0 ((exact chain.0).1 chain.2)) chain.1
 
-  -- the delays of a path lie within the sums over all captured signals
-  path_within : (sums : Sums) → AreSumsOver walk lane captured sums → (path : List ℕ)
+  -- the delays of a path lie within the extremes at all captured signals
+  path_within : (sums : Sums)
+      → AreExtremesOf (StandsAt (sums_to walk lane) (Contains captured)) sums → (path : List ℕ)
       → IsPath circuit from to path
       → (sums.least ≤ℤ least_delay circuit tech path)
       × (greatest_delay circuit tech path ≤ℤ sums.greatest)
-  path_within sums over path is_path =
+  path_within sums are path is_path =
       let chain = chain_of_path circuit from to path is_path in
       let listed = (exact chain.0).1 chain.2 in
       at chain.0 listed chain.1 (sums_to walk lane chain.0) refl
@@ -95,24 +96,23 @@ module _ (circuit : Circuit) (tech : Tech) (from to lane : ℕ) (walk : Walk) (c
           × (greatest_delay circuit tech path ≤ℤ sums.greatest)
       at last listed is_chain None nothing = absurd (no_chain last path nothing is_chain)
       at last listed is_chain (Some entry) here =
-          let around = over.around last entry listed here in
+          let around = are.around entry (last, listed, here) in
           let reaches = reached last entry here in
           let low = reaches.least path is_chain in
           let high = reaches.greatest path is_chain in
           (omega (arith, ints, around.least), omega (arith, ints, around.greatest))
 
-  -- the sums over all captured signals are the delays between the registers
-  pub delays_between : (sums : Sums) (pair : PairDelay) → AreSumsOver walk lane captured sums
+  -- those extremes are the delays between the registers
+  pub delays_between : (sums : Sums) (pair : PairDelay)
+      → AreExtremesOf (StandsAt (sums_to walk lane) (Contains captured)) sums
       → pair.from ≡ from → pair.to ≡ to → pair.least ≡ sums.least → pair.greatest ≡ sums.greatest
       → IsDelayBetween circuit tech from to pair
-  delays_between sums pair over from_is to_is least_is greatest_is =
-      let least_entry =
-      some_and (sums_to walk lane over.least_at) (λ entry. entry.least ≡ sums.least) over.least_found in
-      let least_reach = reached over.least_at least_entry.0 least_entry.1 in
+  delays_between sums pair are from_is to_is least_is greatest_is =
+      let (low, (first, first_listed, at_first), least) = are.shown.least in
+      let (high, (last, last_listed, at_last), greatest) = are.shown.greatest in
+      let least_reach = reached first low at_first in
       let least_chain = least_reach.shown.least in
-      let greatest_entry = some_and (sums_to walk lane over.greatest_at)
-      (λ entry. entry.greatest ≡ sums.greatest) over.greatest_found in
-      let greatest_reach = reached over.greatest_at greatest_entry.0 greatest_entry.1 in
+      let greatest_reach = reached last high at_last in
       let greatest_chain = greatest_reach.shown.greatest in
       let here : (path : List ℕ) → IsPath circuit from to path
       → IsPath circuit pair.from pair.to path = λ path is_path. rw (from_is, to_is) is_path in
@@ -124,22 +124,22 @@ module _ (circuit : Circuit) (tech : Tech) (from to lane : ℕ) (walk : Walk) (c
         delays = record {
           least_shown = (
             least_chain.0,
-            here least_chain.0 (path_of_chain circuit from to over.least_at least_chain.0
-                least_chain.1 ((exact over.least_at).0 over.least_listed)),
-            least_chain.2 ∙ least_entry.2 ∙ sym least_is,
+            here least_chain.0 (path_of_chain circuit from to first least_chain.0 least_chain.1
+                ((exact first).0 first_listed)),
+            least_chain.2 ∙ least ∙ sym least_is,
           );
-          least = λ path is_path. rw least_is (path_within sums over path (there path is_path)).0;
+          least = λ path is_path. rw least_is (path_within sums are path (there path is_path)).0;
           greatest_shown = (
             greatest_chain.0,
-            here greatest_chain.0 (path_of_chain circuit from to over.greatest_at greatest_chain.0
-                greatest_chain.1 ((exact over.greatest_at).0 over.greatest_listed)),
-            greatest_chain.2 ∙ greatest_entry.2 ∙ sym greatest_is,
+            here greatest_chain.0 (path_of_chain circuit from to last greatest_chain.0
+                greatest_chain.1 ((exact last).0 last_listed)),
+            greatest_chain.2 ∙ greatest ∙ sym greatest_is,
           );
           greatest =
-              λ path is_path. rw greatest_is (path_within sums over path (there path is_path)).1;
+              λ path is_path. rw greatest_is (path_within sums are path (there path is_path)).1;
         };
         small = record {
-          least = rw (least_is, ← least_entry.2) least_reach.within.least;
-          greatest = rw (greatest_is, ← greatest_entry.2) greatest_reach.within.greatest;
+          least = rw (least_is, ← least) least_reach.within.least;
+          greatest = rw (greatest_is, ← greatest) greatest_reach.within.greatest;
         };
       }

@@ -20,10 +20,9 @@ use Rattle.gate_order.specs.Orders.{IsTopologicalOrder}
 use Rattle.gate_order.proofs.ReadLemmas.{IsGate-from_Reads, gate_within}
 use Rattle.path_delays.specs.declared.sums.Sums.{Sums}
 use Rattle.path_delays.specs.declared.window.Window.{Window}
-use Rattle.path_delays.specs.CapturedSums.{either_sums}
 use Rattle.path_delays.specs.Carrying.{along, AreCarried, AreExtremesIfAny, AreLaunchedBy, AreShownBy, Comes, IsJoinedAt, StandsAt, gate_sums_at}
 use Rattle.path_delays.specs.Networks.{gate_sums}
-use Rattle.path_delays.specs.SumParts.{AreAround, sums_through}
+use Rattle.path_delays.specs.SumParts.{AreAround, either_sums, sums_through}
 use Rattle.path_delays.specs.Windows.{window_along, IsHullIfAny, IsWindowBelow, ComesTo, AreWindows}
 use Rattle.path_delays.specs.WindowParts.{window_after, either_window, window_at, AreBelow, IsGateWindow, AreCaptures, BegunTo, start_window, window_limit, sums_of, sums_in, scaled_delay, AreSwept, StartsBelow, NoneHanded, HandedToPassed, AreLaunched, ArePassed}
 use Rattle.path_delays.proofs.CarryLemmas.{IsHandedBy, carried_end, carried_joined, carried_none, carried_same, extremes_of_extremes, gate_around, gate_shown, listed_next, shown_start}

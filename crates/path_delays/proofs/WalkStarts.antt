@@ -15,10 +15,9 @@ use Rattle.path_delays.specs.declared.lanes.Lanes.{Lanes}
 use Rattle.path_delays.specs.declared.sums.Sums.{Sums}
 use Rattle.path_delays.specs.declared.network.Network.{Network}
 use Rattle.path_delays.specs.declared.reach.Reach.{Reach}
-use Rattle.path_delays.specs.CapturedSums.{either_sums}
 use Rattle.path_delays.specs.Carrying.{AreCarried, AreLaunchedBy, AreShownBy, Comes, IsJoinedAt, gate_sums_at, start_sums}
 use Rattle.path_delays.specs.LaneParts.{AllBounded, lane_of}
-use Rattle.path_delays.specs.SumParts.{AreAround, AreBounded, AreWithin, delay_limit, merged_sums, no_sums, some_sums}
+use Rattle.path_delays.specs.SumParts.{AreAround, AreBounded, AreWithin, delay_limit, either_sums, merged_sums, no_sums, some_sums}
 use Rattle.path_delays.specs.Networks.{IsNetworkOf}
 use Rattle.path_delays.specs.Handing.{rank_at, lane_at, lanes_at, sums_at, waits_at, IsCleared, IsMarked, IsStarted}
 use Rattle.path_delays.specs.Walking.{limit_at, AllBelow, AllBelowBut, BegunIn, IsSpread, IsSpreadBelow, LanesBelow, StartsIn}

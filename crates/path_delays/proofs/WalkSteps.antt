@@ -17,10 +17,9 @@ use Rattle.path_delays.specs.declared.lanes.Lanes.{Lanes}
 use Rattle.path_delays.specs.declared.sums.Sums.{Sums}
 use Rattle.path_delays.specs.declared.network.Network.{Network}
 use Rattle.path_delays.specs.declared.reach.Reach.{Reach}
-use Rattle.path_delays.specs.CapturedSums.{either_sums}
 use Rattle.path_delays.specs.Carrying.{AreShownBy, Comes, IsJoinedAt, gate_sums_at}
 use Rattle.path_delays.specs.LaneParts.{AllBounded, lane_of}
-use Rattle.path_delays.specs.SumParts.{AreAround, AreBounded, delay_limit, joined_sums, some_sums, sums_through}
+use Rattle.path_delays.specs.SumParts.{AreAround, AreBounded, delay_limit, either_sums, joined_sums, some_sums, sums_through}
 use Rattle.path_delays.specs.NumberSets.{IsLowestTaken}
 use Rattle.path_delays.specs.Networks.{IsNetworkOf, weight_at}
 use Rattle.path_delays.specs.Handing.{delay_at, rank_at, lane_at, lanes_at, sums_at, waits_at, IsHanded, AreHanded, IsHandedOn}

@@ -20,11 +20,10 @@ use Rattle.cts_model.specs.placement.Points.{IsBelow}
 use Rattle.cts_model.specs.table.Tables.{IsWithin}
 use Rattle.path_delays.specs.declared.window.Window.{Window}
 use Rattle.path_delays.specs.declared.sums.Sums.{Sums}
-use Rattle.path_delays.specs.CapturedSums.{either_sums}
 use Rattle.path_delays.specs.Carrying.{AreExtremesIfAny, StandsAt}
 use Rattle.path_delays.specs.Windows.{IsWindowBelow}
 use Rattle.path_delays.specs.Networks.{gate_sums, weight_of}
-use Rattle.path_delays.specs.SumParts.{AreWithin}
+use Rattle.path_delays.specs.SumParts.{AreWithin, either_sums}
 use Rattle.path_delays.specs.WindowParts.{merged_windows, either_window, window_at, AreBelow, AreCaptures, sums_in, sums_of}
 use Rattle.path_delays.proofs.CaptureLemmas.{few_inputs}
 use Rattle.path_delays.proofs.DelayLemmas.{gate_within}

@@ -6,8 +6,7 @@ use Rattle.cts_model.specs.declared.tech.Tech.{Tech}
 use Rattle.cts_model.specs.netlist.Paths.{Follows, Launches, Reads}
 use Rattle.cts_model.specs.timing.Delays.{least_gate_delay, greatest_gate_delay}
 use Rattle.path_delays.specs.declared.sums.Sums.{Sums}
-use Rattle.path_delays.specs.SumParts.{AreAround, IsAround, sums_through}
-use Rattle.path_delays.specs.CapturedSums.{either_sums}
+use Rattle.path_delays.specs.SumParts.{AreAround, IsAround, either_sums, sums_through}
 
 -- the sums at the end of gates, one after the other
 abbrev pub along : (delay : ℕ → Sums) → Sums → List ℕ → Sums

@@ -23,6 +23,11 @@ abbrev pub joined_sums : Option Sums → Sums → Sums
 joined_sums None sums = sums
 joined_sums (Some known) sums = merged_sums known sums
 
+-- the least and the greatest of two, of which each may be missing
+abbrev pub either_sums : Option Sums → Option Sums → Option Sums
+either_sums known None = known
+either_sums known (Some sums) = Some (joined_sums known sums)
+
 -- both are from 0 to a limit
 pub record AreWithin (limit : ℕ) (sums : Sums) : Type 0 where
   pub least : IsWithin 0 limit sums.least

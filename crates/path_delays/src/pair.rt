@@ -1,10 +1,11 @@
-ghost use Rattle.std.specs.Prelude.{◌≡◌, ◌<◌, length, IfOk};
+ghost use Rattle.std.specs.Prelude.{◌≡◌, ◌<◌, length, Contains, IfOk};
 ghost use Rattle.cts_model.specs.declared.circuit.Circuit.{Circuit};
 ghost use Rattle.cts_model.specs.declared.tech.Tech.{Tech};
 ghost use Rattle.gate_order.specs.LevelParts.{IsLevelsOf};
-ghost use Rattle.path_delays.specs.WalkParts.{HasReach, IsRoomFor};
+ghost use Rattle.path_delays.specs.WalkParts.{HasReach, IsRoomFor, sums_to};
 ghost use Rattle.path_delays.specs.Captured.{AreCapturedBy};
-ghost use Rattle.path_delays.specs.CapturedSums.{AreCaptured, either_sums};
+ghost use Rattle.path_delays.specs.Carrying.{AreExtremesIfAny, StandsAt};
+ghost use Rattle.path_delays.specs.SumParts.{either_sums};
 ghost use Rattle.path_delays.specs.JoinedPairs.{IsJoinedBy};
 
 use crate::sums::Sums;
@@ -76,7 +77,7 @@ pub(crate) fn joined_pair(
 // The least and the greatest of what a walk found at some signals in a lane.
 pub(crate) fn captured_sums(walk: &Walk, lane: usize, signals: &[u32]) -> Option<Sums>
     requires { lane < 8 }
-    ensures { AreCaptured walk.now lane signals.now result }
+    ensures { AreExtremesIfAny (StandsAt (sums_to walk.now lane) (Contains signals.now)) result }
 {
     let mut captured = None;
     for signal in signals {

@@ -1,7 +1,14 @@
-use Rattle.std.proofs.Common.{arith}
+-- The first signal with the extreme of all.
+use Rattle.std.proofs.Common.{Contains, arith}
 use Rattle.std.proofs.lemmas.List.Elements.{Contains-get_or}
+use Rattle.path_delays.specs.WalkParts.{sums_to}
+use Rattle.path_delays.proofs.CarryLemmas.{nothing_at}
 use Rattle.path_delays.proofs.FurthestSignals.{furthest_found, some_fits, none_fits_next}
 use Rattle.path_delays.proofs.extreme_path.furthest.Goals as goal
+
+pub returns-in_err-sums : goal.returns-in_err-sums
+returns-in_err-sums c = rw c.from_residual.ensures
+    (nothing_at (sums_to c.args.walk.now 0) (Contains c.args.signals.now) c.in_err-sums.ensures)
 
 pub returns-then-fits : goal.returns-then-fits
 returns-then-fits c =

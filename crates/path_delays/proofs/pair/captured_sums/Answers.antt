@@ -1,12 +1,26 @@
-use Rattle.std.proofs.Common.{refl}
-use Rattle.path_delays.proofs.CapturedLemmas.{captured_next, captured_all}
+-- One signal more, and all of them.
+use Rattle.std.proofs.Common.{Contains, take, get_or, arith, subst}
+use Rattle.std.proofs.lemmas.List.{take_all, take_more}
+use Rattle.path_delays.specs.Carrying.{AreExtremesIfAny, StandsAt}
+use Rattle.path_delays.specs.WalkParts.{sums_to}
+use Rattle.path_delays.proofs.CarryLemmas.{extremes_next}
 use Rattle.path_delays.proofs.pair.captured_sums.Goals as goal
+
+pub loop-signal-init : goal.loop-signal-init
+loop-signal-init c = λ one (signal, (place, within, here), stands). absurd (omega arith)
 
 pub loop-signal-preserved : goal.loop-signal-preserved
 loop-signal-preserved c =
-    captured_next c.args.walk.now c.args.lane c.args.signals.now c.loop-signal.signal-index _ _ _ _
-    c.loop-signal-test.true refl c.sums.ensures c.either-captured.ensures c.loop-signal.invariant
+    let signals = c.args.signals.now in
+    let i = c.loop-signal.signal-index in
+    rw (c.either-captured.ensures, c.sums.ensures, take_more signals i 0 c.loop-signal-test.true)
+    (extremes_next (sums_to c.args.walk.now c.args.lane) (take i signals) (get_or signals i 0)
+    c.loop-signal.captured c.loop-signal.invariant)
 
 pub returns : goal.returns
-returns c = captured_all c.args.walk.now c.args.lane c.args.signals.now c.loop-signal.signal-index
-    c.loop-signal.captured c.loop-signal-test.false c.loop-signal.invariant
+returns c =
+    subst (λ signals. AreExtremesIfAny
+    (StandsAt (sums_to c.args.walk.now c.args.lane) (Contains signals)) c.loop-signal.captured)
+    (take_all c.loop-signal.signal-index c.args.signals.now
+    (omega (arith, c.loop-signal-test.false)))
+    c.loop-signal.invariant

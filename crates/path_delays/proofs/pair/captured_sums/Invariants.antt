@@ -1,6 +1,9 @@
-use Rattle.std.proofs.Common.{take}
-use Rattle.path_delays.specs.CapturedSums.{AreCaptured}
+-- The least and the greatest at the signals passed so far.
+use Rattle.std.proofs.Common.{Contains, take}
+use Rattle.path_delays.specs.Carrying.{AreExtremesIfAny, StandsAt}
+use Rattle.path_delays.specs.WalkParts.{sums_to}
 use Rattle.path_delays.proofs.pair.captured_sums.Given as goal
 
 abbrev pub invariant-loop-signal : goal.invariant-loop-signal
-invariant-loop-signal l = AreCaptured l.walk l.lane (take l.signal-index l.signals) l.captured
+invariant-loop-signal l = AreExtremesIfAny
+    (StandsAt (sums_to l.walk l.lane) (Contains (take l.signal-index l.signals))) l.captured
