@@ -134,7 +134,8 @@ own_launched circuit from register here other within number = (
 
     same : (default : ℕ) → get_or one 0 default ≡ get_or registers from default
     same default = get_or-take 1 (drop from registers) 0 default (omega arith)
-        ∙ (get_or-drop from registers 0 default ∙ ap (λ k. get_or registers k default) (omega arith))
+        ∙ (get_or-drop from registers 0 default
+        ∙ ap (λ k. get_or registers k default) (omega arith))
 
 -- no input yet
 pub inputs_none : (circuit : Circuit) → AreInputsBelow circuit 0 []

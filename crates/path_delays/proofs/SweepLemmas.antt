@@ -343,7 +343,8 @@ module _ (circuit : Circuit) (tech : Tech) (schedule : Schedule) where
               → IsHandedBy signals delay (HandedToPassed order place) gate after (sums_in old) read
               next
           hands read next listed reads = record {
-            apart = λ same. after_itself next listed (subst (Reads circuit.signals next) same reads);
+            apart = λ same. after_itself next listed
+                (subst (Reads circuit.signals next) same reads);
             counts = elim (Contains-push_cases (take place order) gate next
                 (subst (λ l. Contains l next) pushed listed)) [
               | inl earlier ↦ inl earlier

@@ -67,6 +67,9 @@ module _ (circuit : Circuit) (tech : Tech) (network : Network)
   abbrev Starts : ℕ → ℕ → Sums → Type 0
   Starts = StartsIn circuit tech registers
 
+  abbrev Spread : (ℕ → ℕ → Type 0) → ℕ → Reach → Type 0
+  Spread = IsSpread circuit tech network registers Begun
+
   abbrev delay : ℕ → Sums
   delay = gate_sums_at circuit tech
 
@@ -75,7 +78,7 @@ module _ (circuit : Circuit) (tech : Tech) (network : Network)
 
   -- what stands in the lanes is bounded
   pub all_bounded : (reach : Reach) (rank : ℕ) (Handed : ℕ → ℕ → Type 0)
-      → IsSpread circuit tech network registers Begun Handed rank reach → (signal : ℕ) (given : Lanes)
+      → Spread Handed rank reach → (signal : ℕ) (given : Lanes)
       → lanes_at reach signal ≡ Some given → AllBounded delay_limit given
   all_bounded reach rank Handed spread signal given here lane low =
       bounded_higher (limit signal) delay_limit (lane_of given lane)
@@ -87,7 +90,7 @@ module _ (circuit : Circuit) (tech : Tech) (network : Network)
   module _ (old new : Reach) (given : Lanes) (gate rank pending : ℕ) (gates : List ℕ)
       (hands : IsHanded network given gate old new) (next : rank_at network pending + 1 ≡ rank)
       (reads : Reads circuit.signals gate pending) (held : lanes_at old pending ≡ Some given)
-      (so_far : IsSpread circuit tech network registers Begun (AllBelowBut network rank pending gates) rank
+      (so_far : Spread (AllBelowBut network rank pending gates) rank
       old) where
     is_one : IsGate circuit.signals gate
     is_one = IsGate-from_Reads circuit.signals gate pending reads
@@ -238,16 +241,17 @@ module _ (circuit : Circuit) (tech : Tech) (network : Network)
         (so_far.waits gate (subst (λ (o : Option Lanes). IsSome o) (sym before) refl) higher)
 
     -- so one reader more is handed what it reads
-    IsSpread-handed : IsSpread circuit tech network registers Begun
+    IsSpread-handed : Spread
         (AllBelowBut network rank pending (gates ++ gate ∷ [])) rank new
         × (lanes_at new pending ≡ Some given)
     IsSpread-handed = (
       record {
         limited = limited;
-        carried = λ lane low. carried_joined circuit.signals delay (Starts lane) (Begun lane) (Begun lane)
-            (AllBelowBut network rank pending gates)
+        carried = λ lane low. carried_joined circuit.signals delay (Starts lane) (Begun lane)
+            (Begun lane) (AllBelowBut network rank pending gates)
             (AllBelowBut network rank pending (gates ++ gate ∷ [])) gate (found lane)
-            (sums_at old lane) (sums_at new lane) (joined_at lane low) (λ one start starts begun. inl begun)
+            (sums_at old lane) (sums_at new lane) (joined_at lane low)
+            (λ one start starts begun. inl begun)
             (shown_passed circuit.signals delay (Starts lane) pending gate
             (sums_at old lane pending) reads ((so_far.carried lane low).shown pending))
             (handed_by lane) (so_far.carried lane low);
@@ -283,21 +287,21 @@ module _ (circuit : Circuit) (tech : Tech) (network : Network)
       → rank_at network pending + 1 ≡ rank
       → ((gate : ℕ) → Contains more gate → Reads circuit.signals gate pending)
       → lanes_at old pending ≡ Some given
-      → IsSpread circuit tech network registers Begun (AllBelowBut network rank pending gates) rank old
+      → Spread (AllBelowBut network rank pending gates) rank old
       → AreHanded network given more old new
-      → IsSpread circuit tech network registers Begun (AllBelowBut network rank pending (gates ++ more)) rank
+      → Spread (AllBelowBut network rank pending (gates ++ more)) rank
       new
   all_handed old new given rank pending gates [] next reads held so_far same =
-      subst (λ list. IsSpread circuit tech network registers Begun (AllBelowBut network rank pending list)
+      subst (λ list. Spread (AllBelowBut network rank pending list)
       rank new) (sym (append-nil gates))
-      (subst (λ reach. IsSpread circuit tech network registers Begun
+      (subst (λ reach. Spread
       (AllBelowBut network rank pending gates) rank reach) same so_far)
   all_handed old new given rank pending gates (gate ∷ more) next reads held so_far
       (between, first, rest) =
       let here = reads gate (0, omega arith, refl) in
       let step =
       IsSpread-handed old between given gate rank pending gates first next here held so_far in
-      subst (λ list. IsSpread circuit tech network registers Begun (AllBelowBut network rank pending list)
+      subst (λ list. Spread (AllBelowBut network rank pending list)
       rank new) (append_assoc gates (gate ∷ []) more)
       (all_handed between new given rank pending (gates ++ gate ∷ []) more next
       (λ other (k, inside, here). reads other (suc k, omega arith, here)) step.1 step.0 rest)
@@ -306,9 +310,9 @@ module _ (circuit : Circuit) (tech : Tech) (network : Network)
   pub IsSpread-on : (old new : Reach) (rank pending : ℕ) (given : Lanes)
       → rank_at network pending + 1 ≡ rank → pending < length circuit.signals
       → lanes_at old pending ≡ Some given
-      → IsSpread circuit tech network registers Begun (AllBelowBut network rank pending []) rank old
+      → Spread (AllBelowBut network rank pending []) rank old
       → IsHandedOn network pending old new
-      → IsSpread circuit tech network registers Begun (AllBelow network rank) rank new
+      → Spread (AllBelow network rank) rank new
   IsSpread-on old new rank pending given next inside held so_far handed_on =
       let readers = group_of network.readers pending in
       let all = all_handed old new given rank pending [] readers next
@@ -332,8 +336,8 @@ module _ (circuit : Circuit) (tech : Tech) (network : Network)
   pub IsSpread-taken : (old new : Reach) (rank next gate : ℕ) → 1 ≤ rank → rank ≤ next
       → IsLowestTaken old.waiting.words.items new.waiting.words.items next
       → ((signal : ℕ) → lanes_at new signal ≡ lanes_at old signal) → rank_at network gate ≡ next
-      → IsSpread circuit tech network registers Begun (AllBelow network rank) rank old
-      → IsSpread circuit tech network registers Begun (AllBelowBut network (next + 1) gate []) (next + 1) new
+      → Spread (AllBelow network rank) rank old
+      → Spread (AllBelowBut network (next + 1) gate []) (next + 1) new
   IsSpread-taken old new rank next gate counted after taken same rank_is so_far = record {
     limited = λ lane signal sums low here.
         so_far.limited lane signal sums low (sym (lane_same lane signal) ∙ here);

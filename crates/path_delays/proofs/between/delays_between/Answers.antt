@@ -12,7 +12,8 @@ loop-first-preserved c =
       room = c.push_delays.ensures.room;
       delays = subst (λ passed. AreDelaysBetween c.args.circuit.now c.args.tech.now passed
           c.push_delays.new.delays.items)
-          (take_on pairs first c.block_end-end.result (omega (arith, c.block_end-end.ensures.after)))
+          (take_on pairs first c.block_end-end.result
+          (omega (arith, c.block_end-end.ensures.after)))
           (c.in_ok-push_delays.ensures.delays (take first pairs) c.loop-first.invariant.delays);
       within = c.block_end-end.ensures.within;
     }

@@ -20,7 +20,8 @@ loop-lane-2-preserved c passed before =
     omega (arith, covered, c.loop-lane.invariant.lanes, c.requires.few, c.loop-lane-2-test.true) in
     let value : get_or (take (length pairs) registers) lane 0 ≡ pair.0 =
     get_or-take (length pairs) registers lane 0 c.loop-lane-2-test.true
-    ∙ c.loop-lane.invariant.each lane (omega (arith, c.loop-lane-test.false, c.loop-lane-2-test.true)) in
+    ∙ c.loop-lane.invariant.each lane
+    (omega (arith, c.loop-lane-test.false, c.loop-lane-2-test.true)) in
     let reach = c.walk_from.ensures.reach lane pair.0
     (slice_get-get_or (take (length pairs) registers) lane 0 inside ∙ ap Some value) in
     let joined : IsJoinedBy circuit tech pair.0 pair.1 c.joined_pair.result =
@@ -28,7 +29,8 @@ loop-lane-2-preserved c passed before =
     (rw c.as_slice-captured.ensures (captured_is_fan_in circuit pair.1
     c.register_signal.result.now c.register_signal.ensures)) reach in
     let more = between_push circuit tech (passed ++ take lane pairs) pair
-    c.loop-lane-2.delays.items c.joined_pair.result joined (c.loop-lane-2.invariant passed before) in
+    c.loop-lane-2.delays.items c.joined_pair.result joined
+    (c.loop-lane-2.invariant passed before) in
     rw (
       c.in_ok-push.ensures.items,
       take_more pairs lane (0, 0) c.loop-lane-2-test.true,

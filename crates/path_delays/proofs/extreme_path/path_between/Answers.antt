@@ -10,8 +10,9 @@ loop-read-smaller c = c.walk_from.ensures.room.network.ranks.rising c.loop-read.
 pub loop-read-preserved : goal.loop-read-preserved
 loop-read-preserved c =
     back_next c.args.circuit.now c.args.tech.now c.args.from c.walk_from.new.self c.args.greatest
-    (c.walk_from.ensures.reach 0 c.args.from refl) c.in-Some.last c.loop-read.signal c.in-Some-furthest_read.read _ _
-    c.in_ok-push.ensures.items c.in-Some-furthest_read.ensures c.loop-read.invariant
+    (c.walk_from.ensures.reach 0 c.args.from refl) c.in-Some.last c.loop-read.signal
+    c.in-Some-furthest_read.read _ _ c.in_ok-push.ensures.items c.in-Some-furthest_read.ensures
+    c.loop-read.invariant
 
 pub returns-in_default-clause-path : goal.returns-in_default-clause-path
 returns-in_default-clause-path c =
@@ -31,8 +32,8 @@ loop-read-init c =
     let within = captures_within circuit c.args.to signal c.register_signal.ensures c.in-Some.last
     furthest.is_one in
     back_first circuit c.args.tech.now c.args.from c.walk_from.new.self c.args.greatest
-    (c.walk_from.ensures.reach 0 c.args.from refl) c.in-Some.last furthest.sums c.in_ok-path.path.items
-    c.in_ok-path.ensures.items within furthest.here
+    (c.walk_from.ensures.reach 0 c.args.from refl) c.in-Some.last furthest.sums
+    c.in_ok-path.path.items c.in_ok-path.ensures.items within furthest.here
 
 pub returns-clause-path : goal.returns-clause-path
 returns-clause-path c =
@@ -41,6 +42,6 @@ returns-clause-path c =
     c.register_signal.ensures c.walk_from.new.self c.args.greatest c.in-Some.last
     (rw c.as_slice-captured.ensures at c.in-Some.ensures) in
     back_at_start circuit c.args.tech.now c.args.from c.walk_from.new.self c.args.greatest
-    (c.walk_from.ensures.reach 0 c.args.from refl) c.args.to c.in-Some.last c.loop-read.signal c.loop-read.path.items
-    c.from_vec.result (c.from_vec.ensures ∙ c.reverse.ensures.items) furthest
+    (c.walk_from.ensures.reach 0 c.args.from refl) c.args.to c.in-Some.last c.loop-read.signal
+    c.loop-read.path.items c.from_vec.result (c.from_vec.ensures ∙ c.reverse.ensures.items) furthest
     c.in_default-furthest_read.ensures c.loop-read.invariant

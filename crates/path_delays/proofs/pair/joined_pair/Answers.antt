@@ -16,5 +16,5 @@ returns-in_err-sums c = λ circuit tech exact reach.
 pub returns : goal.returns
 returns c = λ circuit tech exact reach.
     delays_between circuit tech c.args.from c.args.to c.args.lane c.args.walk.now
-    c.args.captured.now exact reach c.in_ok-sums.sums _ c.in_ok-sums.ensures refl refl (omega (arith, ints, c.from.ensures))
-    (omega (arith, ints, c.from-2.ensures))
+    c.args.captured.now exact reach c.in_ok-sums.sums _ c.in_ok-sums.ensures refl refl
+    (omega (arith, ints, c.from.ensures)) (omega (arith, ints, c.from-2.ensures))

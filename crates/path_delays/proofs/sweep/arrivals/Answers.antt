@@ -21,4 +21,5 @@ pub launch_all-requires-clause-launched : goal.launch_all-requires-clause-launch
 launch_all-requires-clause-launched c =
     let none : c.in_ok-windows.windows.items ≡ replicate c.len.result None = search rules in
     let covers : c.len.result ≡ length c.args.circuit.now.signals = search rules in
-    rw none (launched_none c.args.circuit.now c.args.tech.now c.args.schedule.now c.len.result covers)
+    rw none (launched_none c.args.circuit.now c.args.tech.now c.args.schedule.now c.len.result
+    covers)

@@ -14,25 +14,29 @@ loop-signal-init c = begun_none c.args.circuit.now c.args.tech.now c.args.schedu
 pub put-requires : goal.put-requires
 put-requires c =
     let launched = c.launched-signal-items.result.now in
-    let signal = get_or launched c.loop-signal.signal-index 0 in
+    let place = c.loop-signal.signal-index in
+    let signal = get_or launched place 0 in
     omega (
       arith,
-      launched_within c.args.circuit.now c.args.from signal ((c.launched-signal-items.ensures
-          signal).0 (Contains-get_or launched c.loop-signal.signal-index 0 c.loop-signal-test.true)),
+      launched_within c.args.circuit.now c.args.from signal
+          ((c.launched-signal-items.ensures signal).0
+          (Contains-get_or launched place 0 c.loop-signal-test.true)),
       c.loop-signal.invariant.covers,
     )
 
 pub loop-signal-preserved : goal.loop-signal-preserved
 loop-signal-preserved c =
     let launched = c.launched-signal-items.result.now in
-    let signal = get_or launched c.loop-signal.signal-index 0 in
+    let place = c.loop-signal.signal-index in
+    let signal = get_or launched place 0 in
     begun_next c.args.circuit.now c.args.tech.now c.args.schedule.now c.args.from launched
-    c.launched-signal-items.ensures c.loop-signal.signal-index c.loop-signal.windows.items
+    c.launched-signal-items.ensures place c.loop-signal.windows.items
     c.put.new.windows.items c.requires.from c.loop-signal-test.true
     (omega (
       arith,
-      launched_within c.args.circuit.now c.args.from signal ((c.launched-signal-items.ensures
-          signal).0 (Contains-get_or launched c.loop-signal.signal-index 0 c.loop-signal-test.true)),
+      launched_within c.args.circuit.now c.args.from signal
+          ((c.launched-signal-items.ensures signal).0
+          (Contains-get_or launched place 0 c.loop-signal-test.true)),
       c.loop-signal.invariant.covers,
     ))
     (rw c.started-window.ensures.started at c.started-window.ensures.small)

@@ -22,8 +22,8 @@ loop-signal-preserved c =
       take_more signals i 0 c.loop-signal-test.true,
       sums_of_either c.loop-signal.merged (window_at windows signal),
     )
-    (extremes_next (sums_in windows) (take i signals) signal (option_map sums_of c.loop-signal.merged)
-    c.loop-signal.invariant)
+    (extremes_next (sums_in windows) (take i signals) signal
+    (option_map sums_of c.loop-signal.merged) c.loop-signal.invariant)
 
 pub returns : goal.returns
 returns c =

@@ -6,5 +6,6 @@ use Rattle.path_delays.proofs.lanes.Lanes.pass.Goals as goal
 
 pub through-requires-clause-sums : goal.through-requires-clause-sums
 through-requires-clause-sums c = bounded_read delay_limit c.loop-lane.self.sums c.loop-lane.lane
-    (subst (AreBounded delay_limit) (sym (c.loop-lane.invariant.later c.loop-lane.lane (omega arith)))
+    (subst (AreBounded delay_limit)
+    (sym (c.loop-lane.invariant.later c.loop-lane.lane (omega arith)))
     (c.requires.sums c.loop-lane.lane c.loop-lane-test.true))

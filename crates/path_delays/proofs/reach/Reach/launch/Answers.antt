@@ -26,11 +26,13 @@ loop-signal-init c = record {
 pub start-requires-clause-signal : goal.start-requires-clause-signal
 start-requires-clause-signal c =
     let launched = c.launched-signal-items.result.now in
-    let signal = get_or launched c.loop-signal.signal-index 0 in
+    let place = c.loop-signal.signal-index in
+    let signal = get_or launched place 0 in
     omega (
       arith,
-      launched_within c.args.circuit.now _ signal ((c.launched-signal-items.ensures
-          signal).0 (Contains-get_or launched c.loop-signal.signal-index 0 c.loop-signal-test.true)),
+      launched_within c.args.circuit.now _ signal
+          ((c.launched-signal-items.ensures signal).0
+          (Contains-get_or launched place 0 c.loop-signal-test.true)),
       c.requires.network.ranks.covers,
     )
 
