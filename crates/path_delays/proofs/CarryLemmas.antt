@@ -267,6 +267,7 @@ module _ (signals : List Signal) (delay : ℕ → Sums) where
                 (sym last.0) (found_counts (sums_through sums (delay gate)) (last.1 sums was))
           ];
     }
+
   -- a gate takes what stands at all that it reads, after its delay
   module _ (Starts : ℕ → Sums → Type 0) (at : ℕ → Option Sums) (gate : ℕ) (IsRead : ℕ → Type 0)
       (known : Option Sums) (are : AreExtremesIfAny (StandsAt at IsRead) known) where

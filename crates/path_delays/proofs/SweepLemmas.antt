@@ -1,5 +1,5 @@
 -- The sweep over the signals: what registers launch, then gate after gate, then what is captured.
-use Rattle.std.proofs.Common.{◌≡◌, ◌≢◌, ◌+◌, ◌*◌, ◌^◌, ◌<◌, ◌⊎◌, ℕ, ℤ, pos, ◌+ℤ◌, ◌*ℤ◌, Bool, true, false, IsTrue, List, [], ◌∷◌, ◌++◌, length, take, set, get_or, replicate, All, Contains, MatchBool, Option, Some, None, IsSomeAnd, inl, inr, refl, sym, ◌∙◌, ap, subst, arith}
+use Rattle.std.proofs.Common.{◌≡◌, ◌+◌, ◌*◌, ◌^◌, ◌<◌, ℕ, ℤ, pos, ◌+ℤ◌, ◌*ℤ◌, true, IsTrue, List, [], ◌∷◌, ◌++◌, length, take, set, get_or, replicate, All, Contains, MatchBool, Option, Some, None, IsSomeAnd, inl, inr, refl, sym, ◌∙◌, ap, subst, arith}
 use Rattle.std.specs.Prelude.{nat_abs}
 use Rattle.std.specs.List.{slice_get}
 use Rattle.std.specs.Option.{IfSome, option_and_then, option_map}
@@ -20,9 +20,9 @@ use Rattle.gate_order.specs.Orders.{IsTopologicalOrder}
 use Rattle.gate_order.proofs.ReadLemmas.{IsGate-from_Reads, gate_within}
 use Rattle.path_delays.specs.declared.sums.Sums.{Sums}
 use Rattle.path_delays.specs.declared.window.Window.{Window}
-use Rattle.path_delays.specs.Carrying.{along, AreCarried, AreExtremesIfAny, AreLaunchedBy, AreShownBy, Comes, IsJoinedAt, StandsAt, gate_sums_at}
+use Rattle.path_delays.specs.Carrying.{along, AreExtremesIfAny, AreLaunchedBy, AreShownBy, Comes, IsJoinedAt, StandsAt, gate_sums_at}
 use Rattle.path_delays.specs.Networks.{gate_sums}
-use Rattle.path_delays.specs.SumParts.{AreAround, either_sums, sums_through}
+use Rattle.path_delays.specs.SumParts.{AreAround, sums_through}
 use Rattle.path_delays.specs.Windows.{window_along, IsHullIfAny, IsWindowBelow, ComesTo, AreWindows}
 use Rattle.path_delays.specs.WindowParts.{window_after, either_window, window_at, AreBelow, IsGateWindow, AreCaptures, BegunTo, start_window, window_limit, sums_of, sums_in, scaled_delay, AreSwept, StartsBelow, NoneHanded, HandedToPassed, AreLaunched, ArePassed}
 use Rattle.path_delays.proofs.CarryLemmas.{IsHandedBy, carried_end, carried_joined, carried_none, carried_same, extremes_of_extremes, gate_around, gate_shown, listed_next, shown_start}
@@ -347,15 +347,15 @@ module _ (circuit : Circuit) (tech : Tech) (schedule : Schedule) where
                 (subst (Reads circuit.signals next) same reads);
             counts = elim (Contains-push_cases (take place order) gate next
                 (subst (λ l. Contains l next) pushed listed)) [
-              | inl earlier ↦ inl earlier
-              | inr last ↦ inr (
-                sym last,
-                λ sums stands. subst (λ n. AreAround after (sums_through sums (delay n))) last
-                    (gate_around signals delay AllStart (sums_in old) gate (Contains signal.fan_in)
-                    (option_map sums_of of.read) of.extremes read (listed_of read
-                    (subst (λ n. Reads circuit.signals n read) (sym last) reads)) sums stands),
-              )
-            ];
+                  | inl earlier ↦ inl earlier
+                  | inr last ↦ inr (
+                    sym last,
+                    λ sums stands. subst (λ n. AreAround after (sums_through sums (delay n))) last
+                        (gate_around signals delay AllStart (sums_in old) gate (Contains signal.fan_in)
+                        (option_map sums_of of.read) of.extremes read (listed_of read
+                        (subst (λ n. Reads circuit.signals n read) (sym last) reads)) sums stands),
+                  )
+                ];
           }
 
   -- a chain's delays over the scale are what its gates add up to

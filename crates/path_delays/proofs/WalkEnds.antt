@@ -1,5 +1,5 @@
 -- Where a walk ends: no rank waits, and each lane has the sums to all that its register reaches.
-use Rattle.std.proofs.Common.{◌≡◌, ◌<◌, ◌≤◌, ℕ, ◌+ℤ◌, pos, true, false, List, [], ◌∷◌, length, Option, Some, None, inl, inr, refl, sym, ◌∙◌, ap, subst, arith}
+use Rattle.std.proofs.Common.{◌≡◌, ◌<◌, ℕ, ◌+ℤ◌, pos, false, List, [], ◌∷◌, length, Option, Some, None, inl, inr, refl, sym, ◌∙◌, ap, subst, arith}
 use Rattle.std.specs.Option.{option_and_then}
 use Rattle.std.specs.List.{slice_get}
 use Rattle.std.proofs.lemmas.Bool.{cases_lt, true≢false}
@@ -13,7 +13,7 @@ use Rattle.path_delays.specs.declared.sums.Sums.{Sums}
 use Rattle.path_delays.specs.declared.network.Network.{Network}
 use Rattle.path_delays.specs.declared.reach.Reach.{Reach}
 use Rattle.path_delays.specs.Carrying.{along, AreExtremesIfAny, Comes, gate_sums_at, start_sums}
-use Rattle.path_delays.specs.SumParts.{AreWithin, IsAround, delay_limit, some_sums, sums_through}
+use Rattle.path_delays.specs.SumParts.{AreWithin, delay_limit, some_sums, sums_through}
 use Rattle.path_delays.specs.Networks.{IsNetworkOf}
 use Rattle.path_delays.specs.Handing.{rank_at, lane_at, lanes_at, sums_at, waits_at}
 use Rattle.path_delays.specs.Reaches.{IsChain, IsReach}

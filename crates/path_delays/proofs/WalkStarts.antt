@@ -1,6 +1,6 @@
 -- Where a walk starts: at nothing, at a signal that is marked in a lane, and at all that a register
 -- launches.
-use Rattle.std.proofs.Common.{◌≡◌, ◌≢◌, ◌+◌, ◌<◌, ◌≤◌, ℕ, true, List, [], length, take, get_or, Contains, Option, Some, None, inl, inr, ◌⊎◌, refl, sym, ◌∙◌, ap, subst, arith}
+use Rattle.std.proofs.Common.{◌≡◌, ◌≢◌, ◌+◌, ◌<◌, ◌≤◌, ℕ, List, [], length, take, get_or, Contains, Option, Some, None, inl, inr, ◌⊎◌, refl, sym, ◌∙◌, ap, subst, arith}
 use Rattle.std.specs.Prelude.{IsSome}
 use Rattle.std.specs.Option.{option_and_then, option_map, unwrap_or}
 use Rattle.std.specs.List.{slice_get}
@@ -19,7 +19,7 @@ use Rattle.path_delays.specs.Carrying.{AreCarried, AreLaunchedBy, AreShownBy, Co
 use Rattle.path_delays.specs.LaneParts.{AllBounded, lane_of}
 use Rattle.path_delays.specs.SumParts.{AreAround, AreBounded, AreWithin, delay_limit, either_sums, merged_sums, no_sums, some_sums}
 use Rattle.path_delays.specs.Networks.{IsNetworkOf}
-use Rattle.path_delays.specs.Handing.{rank_at, lane_at, lanes_at, sums_at, waits_at, IsCleared, IsMarked, IsStarted}
+use Rattle.path_delays.specs.Handing.{rank_at, lane_at, lanes_at, sums_at, IsCleared, IsMarked, IsStarted}
 use Rattle.path_delays.specs.Walking.{limit_at, AllBelow, AllBelowBut, BegunIn, IsSpread, IsSpreadBelow, LanesBelow, StartsIn}
 use Rattle.path_delays.proofs.CarryLemmas.{IsHandedBy, carried_joined, carried_none, carried_same, listed_next, shown_start}
 use Rattle.path_delays.proofs.Chains.{around_itself}

@@ -1,13 +1,12 @@
 -- A walk that takes the gates by rank and hands their sums to their readers, one step after the
 -- other.
-use Rattle.std.proofs.Common.{cond, ◌≡◌, ◌≢◌, ◌+◌, ◌-◌, ◌<◌, ◌≤◌, ◌==◌, ◌&&◌, ◌||◌, not, ℕ, suc, Bool, true, false, List, [], ◌∷◌, ◌++◌, length, get_or, Contains, Option, Some, None, inl, inr, ◌⊎◌, refl, sym, ◌∙◌, ap, subst, arith, append-nil, append_assoc}
+use Rattle.std.proofs.Common.{◌≡◌, ◌≢◌, ◌+◌, ◌-◌, ◌<◌, ◌≤◌, ◌==◌, ◌&&◌, ◌||◌, not, ℕ, suc, Bool, true, false, List, [], ◌∷◌, ◌++◌, length, get_or, Contains, Option, Some, None, inl, inr, ◌⊎◌, refl, sym, ◌∙◌, ap, subst, arith, append-nil, append_assoc}
 use Rattle.std.specs.Prelude.{is_none, IsSome}
 use Rattle.std.specs.Option.{option_and_then, option_map}
 use Rattle.std.specs.List.{slice_get}
 use Rattle.std.proofs.lemmas.Bool.{cases_eq, cases_lt, eqb-true, eq-eqb, ne_eqb, and_parts, or_cases, or_left, or_right, true≢false}
 use Rattle.std.proofs.lemmas.List.Elements.{Contains-push_cases}
-use Rattle.std.proofs.lemmas.Option.{same_Some, slice_get_within, get_or_from_slice_get}
-use Rattle.cts_model.specs.declared.signal.Signal.{Signal}
+use Rattle.std.proofs.lemmas.Option.{same_Some, get_or_from_slice_get}
 use Rattle.cts_model.specs.declared.circuit.Circuit.{Circuit}
 use Rattle.cts_model.specs.declared.tech.Tech.{Tech}
 use Rattle.cts_model.specs.netlist.Paths.{IsGate, Reads}
@@ -17,12 +16,12 @@ use Rattle.path_delays.specs.declared.lanes.Lanes.{Lanes}
 use Rattle.path_delays.specs.declared.sums.Sums.{Sums}
 use Rattle.path_delays.specs.declared.network.Network.{Network}
 use Rattle.path_delays.specs.declared.reach.Reach.{Reach}
-use Rattle.path_delays.specs.Carrying.{AreShownBy, Comes, IsJoinedAt, gate_sums_at}
+use Rattle.path_delays.specs.Carrying.{IsJoinedAt, gate_sums_at}
 use Rattle.path_delays.specs.LaneParts.{AllBounded, lane_of}
 use Rattle.path_delays.specs.SumParts.{AreAround, AreBounded, delay_limit, either_sums, joined_sums, some_sums, sums_through}
 use Rattle.path_delays.specs.NumberSets.{IsLowestTaken}
 use Rattle.path_delays.specs.Networks.{IsNetworkOf, weight_at}
-use Rattle.path_delays.specs.Handing.{delay_at, rank_at, lane_at, lanes_at, sums_at, waits_at, IsHanded, AreHanded, IsHandedOn}
+use Rattle.path_delays.specs.Handing.{rank_at, lane_at, lanes_at, sums_at, waits_at, IsHanded, AreHanded, IsHandedOn}
 use Rattle.path_delays.specs.Walking.{limit_at, AllBelow, AllBelowBut, IsDue, IsSpread, StartsIn}
 use Rattle.path_delays.proofs.CarryLemmas.{IsHandedBy, carried_joined, carried_same, shown_passed}
 use Rattle.path_delays.proofs.Chains.{around_itself}

@@ -1,5 +1,5 @@
 -- Windows of signals: how they move after a gate, and how several become one.
-use Rattle.std.specs.Prelude.{◌≡◌, ◌<◌, ◌≤◌, ◌+◌, ◌*◌, ◌^◌, ◌⊎◌, ℕ, pos, ◌+ℤ◌, ◌*ℤ◌, List, length, take, Contains, Option, Some, None, nat_abs, slice_get, slice_index_or}
+use Rattle.std.specs.Prelude.{◌≡◌, ◌<◌, ◌+◌, ◌*◌, ◌^◌, ◌⊎◌, ℕ, pos, ◌+ℤ◌, ◌*ℤ◌, List, length, take, Contains, Option, Some, None, nat_abs, slice_get, slice_index_or}
 use Rattle.std.specs.Option.{option_map}
 use Rattle.std.specs.Int.{int_min, int_max}
 use Rattle.cts_model.specs.declared.circuit.Circuit.{Circuit}

@@ -1,8 +1,7 @@
 -- One signal more, and all of them.
-use Rattle.std.proofs.Common.{◌≡◌, ◌+◌, length, take, get_or, refl, sym, subst, arith}
+use Rattle.std.proofs.Common.{◌≡◌, length, take, get_or, subst, arith}
 use Rattle.std.proofs.lemmas.List.Elements.{Contains-get_or}
 use Rattle.std.proofs.lemmas.Option.{slice_get-get_or}
-use Rattle.path_delays.specs.Handing.{HasReachRoom}
 use Rattle.path_delays.specs.Walking.{AllBelow, BegunIn, IsSpread}
 use Rattle.path_delays.proofs.LaunchLemmas.{launched_within}
 use Rattle.path_delays.proofs.WalkStarts.{begun_all, begun_next, begun_none}

@@ -1,6 +1,4 @@
 -- At first nothing is reached.
-use Rattle.std.proofs.Common.{◌≡◌, length, subst, arith}
-use Rattle.path_delays.specs.Walking.{IsSpreadBelow}
 use Rattle.path_delays.proofs.WalkStarts.{IsSpread-none}
 use Rattle.path_delays.proofs.reach.Reach.launch_all.Goals as goal
 
