@@ -1,5 +1,5 @@
 -- The sweep over the signals: what registers launch, then gate after gate, then what is captured.
-use Rattle.std.proofs.Common.{◌≡◌, ◌+◌, ◌*◌, ◌^◌, ◌<◌, ℕ, ℤ, pos, ◌+ℤ◌, ◌*ℤ◌, true, IsTrue, List, [], ◌∷◌, ◌++◌, length, take, set, get_or, replicate, All, Contains, MatchBool, Option, Some, None, IsSomeAnd, inl, inr, refl, sym, ◌∙◌, ap, subst, arith}
+use Rattle.std.proofs.Common.{◌≡◌, ◌+◌, ◌*◌, ◌^◌, ◌<◌, ◌⊎◌, ℕ, ℤ, pos, ◌+ℤ◌, ◌*ℤ◌, true, IsTrue, List, [], ◌∷◌, ◌++◌, length, take, set, get_or, replicate, All, Contains, MatchBool, Option, Some, None, IsSomeAnd, inl, inr, refl, sym, ◌∙◌, ap, subst, arith}
 use Rattle.std.specs.Prelude.{nat_abs}
 use Rattle.std.specs.List.{slice_get}
 use Rattle.std.specs.Option.{IfSome, option_and_then, option_map}
@@ -56,27 +56,32 @@ pub record IsReadGate (circuit : Circuit) (order : List ℕ) (place gate : ℕ)
   pub reads : All (λ number. number < length circuit.signals) signal.fan_in
 
 -- the next one stands among the signals
-pub next_within : (circuit : Circuit) (order : List ℕ) (place gate : ℕ)
-    → IsTopologicalOrder circuit.signals order → place < length order
-    → gate ≡ get_or order place 0 → gate < length circuit.signals
-next_within circuit order place gate sorted low read =
-    gate_within circuit.signals gate
-    (subst (IsGate circuit.signals) (sym read) (sorted.gates place 0 low))
+pub next_within : (circuit : Circuit) (order gates : List ℕ) (place : ℕ)
+    → IsTopologicalOrder circuit.signals order → gates ≡ order → place < length gates
+    → get_or gates place 0 < length circuit.signals
+next_within circuit order gates place sorted same low =
+    gate_within circuit.signals (get_or gates place 0)
+    (subst (λ l. All (IsGate circuit.signals) l) (sym same) sorted.gates place 0 low)
 
 -- and is a gate
-pub next_read : (circuit : Circuit) (order : List ℕ) (place gate : ℕ) (signal : Signal)
-    → IsTopologicalOrder circuit.signals order → place < length order
-    → gate ≡ get_or order place 0 → signal ≡ get_or circuit.signals gate signal
-    → IsReadGate circuit order place gate signal
-next_read circuit order place gate signal sorted low read signal_read =
-    let within = next_within circuit order place gate sorted low read in
+pub next_read : (circuit : Circuit) (order gates : List ℕ) (signals : List Signal) (place : ℕ)
+    (signal : Signal) → IsTopologicalOrder circuit.signals order → gates ≡ order
+    → signals ≡ circuit.signals → place < length gates
+    → signal ≡ get_or signals (get_or gates place 0) signal
+    → IsReadGate circuit order place (get_or gates place 0) signal
+next_read circuit order gates signals place signal sorted same signals_are low read =
+    let gate = get_or gates place 0 in
+    let within = next_within circuit order gates place sorted same low in
+    let signal_read : signal ≡ get_or circuit.signals gate signal =
+    read ∙ ap (λ l. get_or l gate signal) signals_are in
     let here = slice_get_read circuit.signals
     (length circuit.signals) gate signal refl within signal_read in
     record {
-      stands = slice_get-get_or order place 0 low ∙ ap (λ g. Some g) (sym read);
+      stands = subst (λ l. slice_get l place ≡ Some gate) same (slice_get-get_or gates place 0 low);
       within = within;
       here = here;
-      is_one = rw here at (subst (IsGate circuit.signals) (sym read) (sorted.gates place 0 low));
+      is_one = rw here at
+          (subst (λ l. All (IsGate circuit.signals) l) (sym same) sorted.gates place 0 low);
       valid_inputs = rw (← signal_read) at (circuit.valid.valid_inputs gate signal within);
       reads = read_within circuit gate signal within signal_read;
     }
@@ -338,6 +343,27 @@ module _ (circuit : Circuit) (tech : Tech) (schedule : Schedule) where
               ∙ ap (λ g. take place order ++ g ∷ [])
               (get_or_from_slice_get order place gate gate there)
 
+          around : (read : ℕ) → Reads circuit.signals gate read → (sums : Sums)
+              → sums_in old read ≡ Some sums → AreAround after (sums_through sums (delay gate))
+          around read reads = gate_around signals delay AllStart (sums_in old) gate
+              (Contains signal.fan_in) (option_map sums_of of.read) of.extremes read
+              (listed_of read reads)
+
+          counts : (read next : ℕ) → HandedToPassed order (place + 1) read next
+              → Reads circuit.signals next read → HandedToPassed order place read next
+              ⊎ ((next ≡ gate) × ((sums : Sums) → sums_in old read ≡ Some sums
+              → AreAround after (sums_through sums (delay next))))
+          counts read next listed reads = elim (Contains-push_cases (take place order) gate next
+              (subst (λ l. Contains l next) pushed listed)) [
+                | inl earlier ↦ inl earlier
+                | inr last ↦ inr (
+                  sym last,
+                  λ sums stands. subst (λ n. AreAround after (sums_through sums (delay n))) last
+                      (around read (subst (λ n. Reads circuit.signals n read) (sym last) reads) sums
+                      stands),
+                )
+              ]
+
           hands : (read next : ℕ) → HandedToPassed order (place + 1) read next
               → Reads circuit.signals next read
               → IsHandedBy signals delay (HandedToPassed order place) gate after (sums_in old) read
@@ -345,17 +371,7 @@ module _ (circuit : Circuit) (tech : Tech) (schedule : Schedule) where
           hands read next listed reads = record {
             apart = λ same. after_itself next listed
                 (subst (Reads circuit.signals next) same reads);
-            counts = elim (Contains-push_cases (take place order) gate next
-                (subst (λ l. Contains l next) pushed listed)) [
-                  | inl earlier ↦ inl earlier
-                  | inr last ↦ inr (
-                    sym last,
-                    λ sums stands. subst (λ n. AreAround after (sums_through sums (delay n))) last
-                        (gate_around signals delay AllStart (sums_in old) gate (Contains signal.fan_in)
-                        (option_map sums_of of.read) of.extremes read (listed_of read
-                        (subst (λ n. Reads circuit.signals n read) (sym last) reads)) sums stands),
-                  )
-                ];
+            counts = counts read next listed reads;
           }
 
   -- a chain's delays over the scale are what its gates add up to

@@ -13,44 +13,30 @@ loop-gate-init c =
     c.args.windows.now.items c.requires.launched
 
 pub bounds-as_slice-gate : goal.bounds-as_slice-gate
-bounds-as_slice-gate c =
-    let order = c.gates-gate-items.result.now in
-    let place = c.loop-gate.gate-index in
-    rw c.as_slice.ensures
-    (next_within c.args.circuit.now c.args.levels.now place (get_or order place 0) c.requires.levels
-    (rw c.gates-gate-items.ensures at c.loop-gate-test.true)
-    (ap (λ l. get_or l place 0) c.gates-gate-items.ensures))
+bounds-as_slice-gate c = rw c.as_slice.ensures
+    (next_within c.args.circuit.now c.args.levels.now c.gates-gate-items.result.now
+    c.loop-gate.gate-index c.requires.levels c.gates-gate-items.ensures c.loop-gate-test.true)
 
 pub gate_window-window-requires-clause-gate : goal.gate_window-window-requires-clause-gate
 gate_window-window-requires-clause-gate c =
-    let order = c.gates-gate-items.result.now in
-    let place = c.loop-gate.gate-index in
-    (next_read c.args.circuit.now c.args.levels.now place
-    (get_or order place 0) c.index-as_slice-gate.result c.requires.levels
-    (rw c.gates-gate-items.ensures at c.loop-gate-test.true)
-    (ap (λ l. get_or l place 0) c.gates-gate-items.ensures)
-    (rw c.as_slice.ensures at c.index-as_slice-gate.is)).is_one
+    (next_read c.args.circuit.now c.args.levels.now c.gates-gate-items.result.now
+    c.as_slice.result.now c.loop-gate.gate-index c.index-as_slice-gate.result c.requires.levels
+    c.gates-gate-items.ensures c.as_slice.ensures c.loop-gate-test.true
+    c.index-as_slice-gate.is).is_one
 
 pub gate_window-window-requires-clause-valid_inputs :
     goal.gate_window-window-requires-clause-valid_inputs
 gate_window-window-requires-clause-valid_inputs c =
-    let order = c.gates-gate-items.result.now in
-    let place = c.loop-gate.gate-index in
-    (next_read c.args.circuit.now c.args.levels.now place
-    (get_or order place 0) c.index-as_slice-gate.result c.requires.levels
-    (rw c.gates-gate-items.ensures at c.loop-gate-test.true)
-    (ap (λ l. get_or l place 0) c.gates-gate-items.ensures)
-    (rw c.as_slice.ensures at c.index-as_slice-gate.is)).valid_inputs
+    (next_read c.args.circuit.now c.args.levels.now c.gates-gate-items.result.now
+    c.as_slice.result.now c.loop-gate.gate-index c.index-as_slice-gate.result c.requires.levels
+    c.gates-gate-items.ensures c.as_slice.ensures c.loop-gate-test.true
+    c.index-as_slice-gate.is).valid_inputs
 
 pub gate_window-window-requires-clause-reads : goal.gate_window-window-requires-clause-reads
 gate_window-window-requires-clause-reads c k d within =
-    let order = c.gates-gate-items.result.now in
-    let place = c.loop-gate.gate-index in
-    let read = next_read c.args.circuit.now c.args.levels.now place
-    (get_or order place 0) c.index-as_slice-gate.result c.requires.levels
-    (rw c.gates-gate-items.ensures at c.loop-gate-test.true)
-    (ap (λ l. get_or l place 0) c.gates-gate-items.ensures)
-    (rw c.as_slice.ensures at c.index-as_slice-gate.is) in
+    let read = next_read c.args.circuit.now c.args.levels.now c.gates-gate-items.result.now
+    c.as_slice.result.now c.loop-gate.gate-index c.index-as_slice-gate.result c.requires.levels
+    c.gates-gate-items.ensures c.as_slice.ensures c.loop-gate-test.true c.index-as_slice-gate.is in
     rw c.as_slice-in-loop-gate.ensures.value
     (omega (arith, read.reads k d within, c.loop-gate.invariant.covers))
 
@@ -62,28 +48,20 @@ gate_window-window-requires-clause-small c signal window here =
     (c.loop-gate.invariant.small signal window (rw c.as_slice-in-loop-gate.ensures.value at here))
 
 pub put-requires : goal.put-requires
-put-requires c =
-    let order = c.gates-gate-items.result.now in
-    let place = c.loop-gate.gate-index in
-    omega (
-      arith,
-      next_within c.args.circuit.now c.args.levels.now place
-          (get_or order place 0) c.requires.levels
-          (rw c.gates-gate-items.ensures at c.loop-gate-test.true)
-          (ap (λ l. get_or l place 0) c.gates-gate-items.ensures),
-      c.loop-gate.invariant.covers,
-    )
+put-requires c = omega (
+  arith,
+  next_within c.args.circuit.now c.args.levels.now c.gates-gate-items.result.now
+      c.loop-gate.gate-index c.requires.levels c.gates-gate-items.ensures c.loop-gate-test.true,
+  c.loop-gate.invariant.covers,
+)
 
 pub loop-gate-preserved : goal.loop-gate-preserved
 loop-gate-preserved c =
-    let order = c.gates-gate-items.result.now in
     let place = c.loop-gate.gate-index in
-    let gate = get_or order place 0 in
-    let read = next_read c.args.circuit.now c.args.levels.now place gate
-    c.index-as_slice-gate.result c.requires.levels
-    (rw c.gates-gate-items.ensures at c.loop-gate-test.true)
-    (ap (λ l. get_or l place 0) c.gates-gate-items.ensures)
-    (rw c.as_slice.ensures at c.index-as_slice-gate.is) in
+    let gate = get_or c.gates-gate-items.result.now place 0 in
+    let read = next_read c.args.circuit.now c.args.levels.now c.gates-gate-items.result.now
+    c.as_slice.result.now c.loop-gate.gate-index c.index-as_slice-gate.result c.requires.levels
+    c.gates-gate-items.ensures c.as_slice.ensures c.loop-gate-test.true c.index-as_slice-gate.is in
     passed_next c.args.circuit.now c.args.tech.now c.args.schedule.now gate
     c.index-as_slice-gate.result read.here read.is_one c.args.levels.now place c.requires.levels
     read.stands c.loop-gate.windows.items c.put.new.windows.items c.gate_window-window.result
