@@ -4,7 +4,6 @@ use Rattle.std.proofs.lemmas.List.Elements.{Contains-get_or}
 use Rattle.std.proofs.lemmas.Bool.{cases_eq, and_parts, and_from, not-true, eqb-false, ne_eqb, true≢false}
 use Rattle.cts_model.specs.declared.circuit.Circuit.{Circuit}
 use Rattle.cts_model.specs.declared.tech.Tech.{Tech}
-use Rattle.cts_model.specs.netlist.Paths.{IsPath}
 use Rattle.gate_order.specs.declared.groups.Groups.{Groups}
 use Rattle.gate_order.specs.GroupParts.{bounds_of, group_of}
 use Rattle.path_delays.specs.declared.capturing.Capturing.{Capturing}

@@ -1,5 +1,5 @@
 -- The pairs of the registers passed so far are listed.
-use Rattle.std.proofs.Common.{◌<◌, ◌≤◌, ℕ, vec_len}
+use Rattle.std.proofs.Common.{◌≤◌, vec_len}
 use Rattle.path_delays.specs.JoinedPairs.{ListsPairsBefore, pair_limit}
 use Rattle.path_delays.proofs.pairs.push_block.Given as goal
 
