@@ -271,7 +271,7 @@ pub searched_broken : (live : Live) (waiting : Waiting) (old new : List Pair)
     → AreSearched live waiting old new → broken_pairs live new ≡ broken_pairs live old
 searched_broken live waiting old new held = omega (
   arith,
-  sum_by-IsPermutation (broken live) (held.found ++ old) new held.kept,
+  sum_by-IsPermutation (broken live) (held.found ++ old) new held.more,
   sum_by-append (broken live) held.found old,
   none_broken live held.found held.pairs,
 )
@@ -285,27 +285,30 @@ pub search_next : (live : Live) (waiting next : Waiting) (old now new : List Pai
 search_next live waiting next old now new nearest held below from lowest is moved = record {
   found = option_to_list nearest ++ held.found;
   pairs = pairs_of nearest is.there;
-  kept = IsPermutation-trans ((option_to_list nearest ++ held.found) ++ old)
+  more = IsPermutation-trans ((option_to_list nearest ++ held.found) ++ old)
       (option_to_list nearest ++ now) new (with_found nearest) moved;
-  waits = record {
-    made = omega (arith, held.waits.made, from);
-    within = omega (arith, below, from);
-    lowest = λ node unjoined. omega (arith, lowest, held.waits.lowest node unjoined);
+  kept = record {
+    ordered = held.kept.ordered;
+    waits = record {
+      made = omega (arith, held.kept.waits.made, from);
+      within = omega (arith, below, from);
+      lowest = λ node unjoined. omega (arith, lowest, held.kept.waits.lowest node unjoined);
+    };
+    covered = λ pair there within. elim
+        (cases_lt (owner_of live.sinks pair) waiting.from) [
+          | inl before ↦
+              let was = held.kept.covered pair there before in
+              record {
+                least = was.least;
+                among = Contains-permutation (option_to_list nearest ++ now) new was.least moved
+                    (Contains-append_right (option_to_list nearest) now was.least was.among);
+                owner = was.owner;
+                at_most = was.at_most;
+              }
+          | inr behind ↦ by_nearest nearest is.bound is.there moved pair there
+              (omega (arith, within, behind, from))
+        ];
   };
-  covered = λ pair there within. elim
-      (cases_lt (owner_of live.sinks pair) waiting.from) [
-        | inl before ↦
-            let was = held.covered pair there before in
-            record {
-              least = was.least;
-              among = Contains-permutation (option_to_list nearest ++ now) new was.least moved
-                  (Contains-append_right (option_to_list nearest) now was.least was.among);
-              owner = was.owner;
-              at_most = was.at_most;
-            }
-        | inr behind ↦ by_nearest nearest is.bound is.there moved pair there
-            (omega (arith, within, behind, from))
-      ];
 }
   where
     pairs_of : (o : Option Pair)
@@ -317,8 +320,8 @@ search_next live waiting next old now new nearest held below from lowest is move
 
     with_found : (o : Option Pair)
         → IsPermutation ((option_to_list o ++ held.found) ++ old) (option_to_list o ++ now)
-    with_found None = held.kept
-    with_found (Some pair) = IsPermutation-cons pair (held.found ++ old) now held.kept
+    with_found None = held.more
+    with_found (Some pair) = IsPermutation-cons pair (held.found ++ old) now held.more
 
     by_nearest : (o : Option Pair)
         → ((pair : Pair) → IsKept live waiting.from pair → IsAtMost o pair)

@@ -24,7 +24,7 @@ use Rattle.topology.specs.declared.live.Live.{Live}
 use Rattle.topology.specs.declared.pair.Pair.{Pair}
 use Rattle.topology.specs.declared.waiting.Waiting.{Waiting}
 use Rattle.topology.specs.Pairs.{IsBefore, merge_of}
-use Rattle.topology.specs.LiveClusters.{HasCluster, IsPair, IsCheapestPair, IsOrdered, IsAdded, IsJoined, IsCovered, AreCovered, AreLive, AreWaiting, WereCheapest, AreFirstSinks, AreFirstCovered, owner_of}
+use Rattle.topology.specs.LiveClusters.{HasCluster, IsPair, IsCheapestPair, IsOrdered, IsAdded, IsJoined, IsCovered, AreCovered, AreKept, AreLive, AreWaiting, WereCheapest, AreFirstSinks, AreFirstCovered, owner_of}
 use Rattle.topology.proofs.ListLemmas.{false_true, pushed_before, pushed_last, pushed_cases, set_other, was_set}
 use Rattle.topology.proofs.MergeLemmas.{as_one, cheapest_is, node_live}
 use Rattle.topology.proofs.NearLemmas.{cost_least}
@@ -436,8 +436,7 @@ pub record IsMerging (sinks : List Sink) (merges : List Merge) (clusters : Live)
     (waiting : Waiting) (kept : List Pair) : Type 0 where
   pub live : AreLive sinks merges clusters
   pub cheapest : WereCheapest sinks merges
-  pub waits : AreWaiting clusters waiting
-  pub covered : AreCovered clusters waiting.from kept
+  pub pairs : AreKept clusters waiting kept
 
 -- before the first
 pub merging_starts : (sinks : List Sink) (merges : List Merge) (live : Live) (waiting : Waiting)
@@ -449,12 +448,15 @@ merging_starts sinks merges live waiting kept none held from lowest covered =
       record {
         live = held;
         cheapest = λ place merge here. absurd (cc);
-        waits = record {
-          made = omega (arith, from, held.sinks_is);
-          within = omega (arith, from, held.count);
-          lowest = λ node unjoined. omega (arith, lowest);
+        pairs = record {
+          ordered = held.ordered;
+          waits = record {
+            made = omega (arith, from, held.sinks_is);
+            within = omega (arith, from, held.count);
+            lowest = λ node unjoined. omega (arith, lowest);
+          };
+          covered = all_covered sinks live waiting.from kept held covered;
         };
-        covered = all_covered sinks live waiting.from kept held covered;
       },
       omega arith,
     )
@@ -476,18 +478,21 @@ were_cheapest sinks merges merge held cheapest = λ place next here.
 
 pub merging_next : (sinks : List Sink) (merges : List Merge) (old new : Live)
     (before waiting : Waiting) (kept chosen : List Pair) (pair : Pair)
-    → IsMerging sinks merges old before kept → AreWaiting old waiting
-    → AreCovered old waiting.from chosen → IsCheapestPair old pair → IsJoined old new pair
+    → IsMerging sinks merges old before kept → AreKept old waiting chosen
+    → IsCheapestPair old pair → IsJoined old new pair
     → IsMerging sinks (merges ++ merge_of pair ∷ []) new waiting chosen
-merging_next sinks merges old new before waiting kept chosen pair held waits covered cheapest
+merging_next sinks merges old new before waiting kept chosen pair held now cheapest
     joined = record {
       live = merged_live held.live joined cheapest.pair
           (λ place merge here. (held.cheapest place merge here).merges);
       cheapest = were_cheapest sinks merges (merge_of pair) held.cheapest
           (cheapest_is held.live pair cheapest);
-      waits = joined_waits held.live joined cheapest.pair waiting waits;
-      covered = joined_covers held.live joined cheapest.pair waiting.from chosen waits.within
-          (omega (arith, waits.made, held.live.sinks_is)) covered;
+      pairs = record {
+        ordered = joined.ordered;
+        waits = joined_waits held.live joined cheapest.pair waiting now.waits;
+        covered = joined_covers held.live joined cheapest.pair waiting.from chosen
+            now.waits.within (omega (arith, now.waits.made, held.live.sinks_is)) now.covered;
+      };
     }
 
 -- while more than one cluster is left a pair is found

@@ -127,13 +127,18 @@ pub record AreWaiting (live : Live) (waiting : Waiting) : Type 0 where
   pub within : waiting.from ≤ length live.clusters
   pub lowest : AreJoinedBelow live waiting.lowest
 
+-- each pair of a node that doesn't wait is covered
+pub record AreKept (live : Live) (waiting : Waiting) (kept : List Pair) : Type 0 where
+  pub ordered : IsOrdered live
+  pub waits : AreWaiting live waiting
+  pub covered : AreCovered live waiting.from kept
+
 -- the pairs of nodes that waited are kept too
 pub record AreSearched (live : Live) (waiting : Waiting) (old new : List Pair) : Type 0 where
   pub found : List Pair
   pub pairs : All (IsPair live) found
-  pub kept : IsPermutation (found ++ old) new
-  pub waits : AreWaiting live waiting
-  pub covered : AreCovered live waiting.from new
+  pub more : IsPermutation (found ++ old) new
+  pub kept : AreKept live waiting new
 
 -- no pair of two clusters is to be merged before that one
 abbrev pub IsFirstOf : Live → (first : Option Pair) → Type 0

@@ -2,7 +2,7 @@ ghost use Rattle.std.specs.Prelude.{◌≡◌, ◌≤◌, ◌<◌, [], length, p
 ghost use Rattle.cts_model.specs.tree.GreedyMerges.{IsGreedy};
 ghost use Rattle.cts_model.specs.tree.Sinks.{AreTreeSinks};
 ghost use Rattle.topology.specs.declared.pair.Pair.{Pair};
-ghost use Rattle.topology.specs.LiveClusters.{AreCovered, AreFirstCovered, AreJoinedBelow, AreLive, AreSearched, AreWaiting, IsCheapestPair, IsFirstOf, IsOrdered, IsPair};
+ghost use Rattle.topology.specs.LiveClusters.{AreFirstCovered, AreJoinedBelow, AreKept, AreLive, AreSearched, IsCheapestPair, IsFirstOf, IsOrdered, IsPair};
 
 use crate::live::Live;
 use crate::pair::{Pair, comes_first};
@@ -75,13 +75,10 @@ fn first_bounds(alloc: Global, sinks: u32) -> Result<Queue, NoMemory>
 // The pair that is to be merged next. Pairs that were broken up by a merge are renewed where they
 // come first.
 fn cheapest(live: &Live, queue: &mut Queue, waiting: &mut Waiting) -> Result<Option<Pair>, NoMemory>
-    requires ordered { IsOrdered live.now }
-    requires waiting { AreWaiting live.now waiting.old }
-    requires covered { AreCovered live.now waiting.old.from queue.old }
+    requires { AreKept live.now waiting.old queue.old }
     ensures found { IfOk result (λ found. IfSome found (IsCheapestPair live.now)) }
     ensures none { IfOk result (λ found. IsNone found → (pair : Pair) → ¬ IsPair live.now pair) }
-    ensures waiting { OnOk result (AreWaiting live.now waiting.new) }
-    ensures covered { OnOk result (AreCovered live.now waiting.new.from queue.new) }
+    ensures kept { OnOk result (AreKept live.now waiting.new queue.new) }
 {
     while let Some(pair) = first(live, queue, waiting)? {
         if live.has(&pair) {
@@ -95,9 +92,7 @@ fn cheapest(live: &Live, queue: &mut Queue, waiting: &mut Waiting) -> Result<Opt
 // A pair that no other is to be merged before, of those that are kept. Nodes that wait are searched
 // as long as they might have one.
 fn first(live: &Live, queue: &mut Queue, waiting: &mut Waiting) -> Result<Option<Pair>, NoMemory>
-    requires ordered { IsOrdered live.now }
-    requires waiting { AreWaiting live.now waiting.old }
-    requires covered { AreCovered live.now waiting.old.from queue.old }
+    requires { AreKept live.now waiting.old queue.old }
     ensures value { IfOk result (λ first. first ≡ slice_get queue.new 0) }
     ensures first { IfOk result (IsFirstOf live.now) }
     ensures searched { OnOk result (AreSearched live.now waiting.new queue.old queue.new) }
@@ -124,9 +119,7 @@ fn lowest(live: &Live, from: u32) -> u32
 
 // Whether a node that waits might have a pair that is to be merged before all that are kept.
 fn is_due(live: &Live, queue: &Queue, waiting: &Waiting) -> bool
-    requires ordered { IsOrdered live.now }
-    requires waiting { AreWaiting live.now waiting.now }
-    requires covered { AreCovered live.now waiting.now.from queue.now }
+    requires { AreKept live.now waiting.now queue.now }
     ensures within { IsTrue result → waiting.now.from < length live.now.clusters }
     ensures first { ¬ IsTrue result → IsFirstOf live.now (slice_get queue.now 0) }
 {

@@ -26,13 +26,15 @@ loop-pair-smaller c =
 
 pub loop-pair-preserved : goal.loop-pair-preserved
 loop-pair-preserved c =
-    let searched = c.in_ok-pair.ensures.searched in (
-      searched.waits,
-      replaced_covers c.args.live.now c.first.new.waiting.from c.first.new.queue
+    let kept = c.in_ok-pair.ensures.searched.kept in
+    record {
+      ordered = kept.ordered;
+      waits = kept.waits;
+      covered = replaced_covers c.args.live.now c.first.new.waiting.from c.first.new.queue
           c.replace_first.new.self c.in-Some.pair c.renewed.result
-          (sym c.in_ok-pair.ensures.value ∙ c.in-Some.is) searched.covered c.replace_first.ensures
-          c.renewed.ensures,
-    )
+          (sym c.in_ok-pair.ensures.value ∙ c.in-Some.is) kept.covered c.replace_first.ensures
+          c.renewed.ensures;
+    }
 
 pub returns-clause-none : goal.returns-clause-none
 returns-clause-none c = λ none pair is.

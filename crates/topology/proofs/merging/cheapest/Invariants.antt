@@ -1,10 +1,10 @@
-use Rattle.topology.specs.LiveClusters.{AreCovered, AreWaiting}
+use Rattle.topology.specs.LiveClusters.{AreKept}
 use Rattle.topology.proofs.CoverLemmas.{broken_pairs}
 use Rattle.topology.proofs.merging.cheapest.Given as goal
 
 -- every pair of a node that doesn't wait is covered
 abbrev pub invariant-loop-pair : goal.invariant-loop-pair
-invariant-loop-pair l = AreWaiting l.live l.waiting × AreCovered l.live l.waiting.from l.queue
+invariant-loop-pair l = AreKept l.live l.waiting l.queue
 
 -- how many pairs are broken up
 abbrev pub decreases-loop-pair : goal.decreases-loop-pair

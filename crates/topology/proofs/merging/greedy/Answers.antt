@@ -22,7 +22,7 @@ loop-merge-preserved c =
     let pair = c.unwrap-pair.result in
     let next = merging_next sinks merges c.loop-merge.live c.join.new.self c.loop-merge.waiting
     c.cheapest.new.waiting c.loop-merge.queue c.cheapest.new.queue pair c.loop-merge.invariant.0
-    c.in_ok-cheapest.ensures.waiting c.in_ok-cheapest.ensures.covered
+    c.in_ok-cheapest.ensures.kept
     (subst (λ o. IfSome o (IsCheapestPair c.loop-merge.live)) c.unwrap-pair.ensures
     c.in_ok-cheapest.ensures.found) c.in_ok-join.ensures in
     let pushed = c.in_ok-push.ensures.ok ∙ ap (λ m. merges ++ m ∷ []) c.merge.ensures in (

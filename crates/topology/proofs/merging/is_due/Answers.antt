@@ -17,7 +17,7 @@ pub returns-clause-first : goal.returns-clause-first
 returns-clause-first c = λ none.
     let least = c.bound-least.result in
     let made = c.bound-least.ensures in
-    none_is_due c.args.live.now c.args.waiting.now c.args.queue.now least c.requires.waiting
+    none_is_due c.args.live.now c.args.waiting.now c.args.queue.now least c.requires.waits
     (ap (λ (p : Pair). p.cost) made) (ap (λ (p : Pair). p.first) made)
     (ap (λ (p : Pair). p.second) made)
     (subst (λ o. IfSome o (λ top. All (λ other. ¬ IsBefore other top) c.args.queue.now))
