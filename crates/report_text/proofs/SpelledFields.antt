@@ -215,9 +215,12 @@ spelled circuit field.Weight word small ((value, spells), known, fit, within) =
     let few = within value spells in
     let above = few.above in
     let below = few.below in
-    let below12 : IsBelow (10 ^ 12) value = record { above = above; below = below } in
-    (value, below12, whole_word word value (size_below (10 ^ 12) value (omega arith) below12)
-    spells)
+    let below12 : IsBelow (10 ^ 12) value = record { above = above; below = below } in (
+      value,
+      below12,
+      whole_word word value (size_below (10 ^ 12) value (omega arith) below12)
+          spells,
+    )
 spelled circuit field.Period word small ((num, den, form, from), known, fit, within) =
     let (low, few) = within num den form.0 in
     let some = quotient_some word num den form.0 in
@@ -246,8 +249,7 @@ module _ (circuit : Circuit) where
   number_plain : (least most number : ℕ) → most < 10 ^ 37 → least ≤ number → number ≤ most
       → WordHasFlaw circuit (field.Number least most) (signed_decimal (pos number)) None
   number_plain least most number small low high =
-      let spells = spelled_whole (pos number) (small_number number (omega (arith, high, small))) in
-      (
+      let spells = spelled_whole (pos number) (small_number number (omega (arith, high, small))) in (
         (pos number, spells, omega (arith, ints, low)),
         tt,
         tt,

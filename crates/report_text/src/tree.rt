@@ -6,14 +6,14 @@ ghost use Rattle.std.specs.List.{flat_map};
 ghost use Rattle.cts_model.specs.placement.Points.{IsBelow, IsPointBelow};
 ghost use Rattle.cts_model.specs.text.PrintedLines.{line_of, text_of};
 ghost use Rattle.cts_model.specs.report.ReportBounds.{IsSmallWire, ShowsAmong};
-ghost use Rattle.cts_model.specs.report.ReportLines.{length_text, lines_below, merge_line_at, merge_words, no_wire, node_line_at, number_at, point_words, show_words, source_line, tree_lines, wire_words};
+ghost use Rattle.cts_model.specs.report.ReportLines.{length_text, lines_below, merge_line_at, no_wire, node_line_at, number_at, point_words, show_words, source_line, tree_lines, wire_words};
 ghost use Rattle.report_text.specs.Pieces.{suffix, HasSmallLengths};
 ghost use Rattle.report_text.specs.WireLines.{wire_line};
 
 use crate::line::{push_count, push_node, push_number, push_word};
 use crate::printed::Printed;
 use cts_base::{NoMemory, push_quotient};
-use cts_model::{Circuit, Merge, Point, Report, Show, Wire};
+use cts_model::{Circuit, Point, Report, Show, Wire};
 
 /// Appends the lines from the merges to the last.
 pub fn push_tree(out: &mut Vec<u8>, printed: &Printed) -> Result<(), NoMemory>
@@ -49,27 +49,11 @@ fn push_merge(out: &mut Vec<u8>, printed: &Printed, place: usize) -> Result<(), 
 {
     let node = printed.report.schedule.at.len() + place;
     let merge = printed.report.topology.merges.as_slice()[place];
-    push_merge_line(out, printed, node, merge, show_at(printed, place))
-}
-
-// Appends the line of a merge that makes a node and is shown so.
-fn push_merge_line(
-    out: &mut Vec<u8>,
-    printed: &Printed,
-    node: usize,
-    merge: Merge,
-    show: Show,
-) -> Result<(), NoMemory>
-    requires within { node < length printed.now.report.now.tree.reach }
-    requires show { ShowsAmong (length printed.now.circuit.now.registers) show }
-    ensures { OnOk result (out.new.items ≡ out.old.items ++ line_of
-        (merge_words printed.now.circuit.now printed.now.report.now node merge show)) }
-{
     push_node(out, node)?;
     push_number(out, merge.first as usize)?;
     push_number(out, merge.second as usize)?;
     push_reach(out, printed, node)?;
-    push_shown(out, printed.circuit, show)?;
+    push_shown(out, printed.circuit, show_at(printed, place))?;
     out.push(b'\n')?;
     Ok(())
 }
