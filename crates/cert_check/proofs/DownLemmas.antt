@@ -41,20 +41,6 @@ sum_below bound more one other first second = record {
 module _ {sinks : ℕ} {merges : List Merge} (topology : IsTopology sinks merges)
     (lengths : List ℤ) (small : All (IsBelow (10 ^ 32)) lengths)
     (edges : length lengths + 1 ≡ 2 * sinks) where
-  -- at first that to the source is nothing
-  pub handed_start : Handed sinks merges lengths (replicate (2 * sinks) (pos 0)) 0
-  handed_start = record {
-    all = length-replicate (2 * sinks) (pos 0);
-    small = All-replicate (IsBelow (10 ^ 32 * (0 + 1))) (2 * sinks) (pos 0)
-        (record { above = omega (arith, ints); below = omega (arith, ints) });
-    source = get_or-replicate (2 * sinks) (source_of sinks) (pos 0) (pos 0)
-        (omega (arith, topology.all));
-    each = λ node parent late is.
-        let above = parent_above topology node parent is in
-        let stands = parent_stands topology node parent is in
-        absurd (omega (arith, above, stands, late, edges));
-  }
-
   -- all of them are small
   pub handed_small : (wires : List ℤ) (done : ℕ) → Handed sinks merges lengths wires done
       → done ≤ 9998 → All (IsBelow (10 ^ 36)) wires

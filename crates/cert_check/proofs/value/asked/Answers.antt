@@ -9,8 +9,10 @@ overflow_sub-result c = omega (arith, ints, c.product.ensures.small, c.product-2
 
 pub returns : goal.returns
 returns c =
-    let den = to_z-of_z w128 c.den.result (record { sfits = c.den.type_inv }) ∙ c.den.ensures.value in
-    let num = to_z-of_z w128 c.num.result (record { sfits = c.num.type_inv }) ∙ c.num.ensures.value in
+    let den = to_z-of_z w128 c.den.result (record { sfits = c.den.type_inv })
+    ∙ c.den.ensures.value in
+    let num = to_z-of_z w128 c.num.result (record { sfits = c.num.type_inv })
+    ∙ c.num.ensures.value in
     let weight = to_z-of_z w128 c.args.weight c.ranges.weight in
     let count = to_z-of_z w128 c.args.count c.ranges.count in
     let kept : to_z w128 (of_z w128 (to_z w128 (of_z w128 c.product.result)

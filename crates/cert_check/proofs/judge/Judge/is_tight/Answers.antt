@@ -5,7 +5,8 @@ use Rattle.std.proofs.lemmas.Int.{ints, to_z-of_z}
 use Rattle.cert_check.proofs.judge.Judge.is_tight.Goals as goal
 
 pub overflow_sub-head : goal.overflow_sub-head
-overflow_sub-head c = omega (arith, ints, c.arrival-head.ensures.small, c.arrival-tail.ensures.small)
+overflow_sub-head c =
+    omega (arith, ints, c.arrival-head.ensures.small, c.arrival-tail.ensures.small)
 
 pub returns : goal.returns
 returns c =

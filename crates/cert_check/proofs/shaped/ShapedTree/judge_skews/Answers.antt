@@ -8,7 +8,8 @@ use Rattle.cert_check.proofs.FirstPlaces.{each_more}
 use Rattle.cert_check.proofs.shaped.ShapedTree.judge_skews.Goals as goal
 
 pub loop-register-preserved : goal.loop-register-preserved
-loop-register-preserved c = each_more (Skewed c.args.self.now.judge) c.loop-register.register c.loop-register.invariant
+loop-register-preserved c = each_more (Skewed c.args.self.now.judge)
+    c.loop-register.register c.loop-register.invariant
     (c.is_skewed.ensures.0 c.if-not-is_skewed.false)
 
 pub invariant_of-tree : goal.invariant_of-tree

@@ -8,4 +8,5 @@ returns-clause-value c = search rules
 
 pub returns-clause-below : goal.returns-clause-below
 returns-clause-below c = subst (IsPointBelow (10 ^ 26)) (sym (returns-clause-value c))
-    (on_grid_below c.args.self.now.period c.args.self.now.tech.now c.args.self.now.small c.args.point c.requires.near)
+    (on_grid_below c.args.self.now.period c.args.self.now.tech.now c.args.self.now.small
+    c.args.point c.requires.near)
