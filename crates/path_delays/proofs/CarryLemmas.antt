@@ -12,7 +12,7 @@ use Rattle.cts_model.specs.netlist.Paths.{Follows, Reads}
 use Rattle.path_delays.specs.declared.sums.Sums.{Sums}
 use Rattle.path_delays.specs.SumParts.{AreAround, IsAround, either_sums, joined_sums, merged_sums, sums_through}
 use Rattle.path_delays.specs.Carrying.{along, AreCarried, AreExtremesIfAny, AreShownBy, Comes, IsJoinedAt, StandsAt}
-use Rattle.path_delays.proofs.Chains.{Follows-push, around_itself, around_joined, around_known, min_cases, max_cases}
+use Rattle.path_delays.proofs.SumLemmas.{Follows-push, around_itself, around_joined, around_known, min_cases, max_cases}
 
 -- sums around sums that are around others are around those
 around_around : (known : Option Sums) (between inner : Sums) → AreAround known between

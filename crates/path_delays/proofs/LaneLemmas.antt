@@ -11,7 +11,7 @@ use Rattle.path_delays.specs.declared.sums.Sums.{Sums}
 use Rattle.path_delays.specs.LaneParts.{lane_of}
 use Rattle.path_delays.specs.SumParts.{AreBounded, AreMissing, AreWithin, delay_limit, either_sums, joined_sums, merged_sums, no_sums, some_sums, sums_through}
 use Rattle.path_delays.proofs.Rooms.{within_higher}
-use Rattle.path_delays.proofs.Chains.{within_joined, within_through}
+use Rattle.path_delays.proofs.SumLemmas.{within_joined, within_through}
 
 -- what is there
 pub some_is : {X : Type 0} (o : Option X) → IsSome o → (x : X) × (o ≡ Some x)

@@ -4,7 +4,7 @@ mod NetworkLemmas
 mod NetworkDelays
 mod Hands
 mod LaneLemmas
-mod Chains
+mod SumLemmas
 mod CarryLemmas
 mod Rooms
 mod LaunchLemmas

@@ -22,7 +22,7 @@ use Rattle.path_delays.specs.Networks.{IsNetworkOf}
 use Rattle.path_delays.specs.Handing.{rank_at, lane_at, lanes_at, sums_at, IsCleared, IsMarked, IsStarted}
 use Rattle.path_delays.specs.Walking.{limit_at, AllBelow, AllBelowBut, BegunIn, IsSpread, IsSpreadBelow, LanesBelow, StartsIn}
 use Rattle.path_delays.proofs.CarryLemmas.{IsHandedBy, carried_joined, carried_none, carried_same, listed_next, shown_start}
-use Rattle.path_delays.proofs.Chains.{around_itself}
+use Rattle.path_delays.proofs.SumLemmas.{around_itself}
 use Rattle.path_delays.proofs.LaneLemmas.{bounded_joined, none_missing, some_is, some_mapped, some_merged, some_within}
 use Rattle.path_delays.proofs.LaunchLemmas.{launched_lowest, launched_within}
 use Rattle.path_delays.proofs.NetworkDelays.{limit_within}

@@ -24,7 +24,7 @@ use Rattle.path_delays.specs.Networks.{IsNetworkOf, weight_at}
 use Rattle.path_delays.specs.Handing.{rank_at, lane_at, lanes_at, sums_at, waits_at, IsHanded, AreHanded, IsHandedOn}
 use Rattle.path_delays.specs.Walking.{limit_at, AllBelow, AllBelowBut, IsDue, IsSpread, StartsIn}
 use Rattle.path_delays.proofs.CarryLemmas.{IsHandedBy, carried_joined, carried_same, shown_passed}
-use Rattle.path_delays.proofs.Chains.{around_itself}
+use Rattle.path_delays.proofs.SumLemmas.{around_itself}
 use Rattle.path_delays.proofs.LaneLemmas.{bounded_higher, bounded_joined, bounded_through, some_joined, some_mapped, some_through, lanes_there}
 use Rattle.path_delays.proofs.NetworkDelays.{delay_is, delay_within, limit_more, limit_within, same_rank}
 use Rattle.path_delays.proofs.Rooms.{rank_within}

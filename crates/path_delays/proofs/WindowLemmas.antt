@@ -28,7 +28,7 @@ use Rattle.path_delays.specs.WindowParts.{merged_windows, either_window, window_
 use Rattle.path_delays.proofs.CaptureLemmas.{few_inputs}
 use Rattle.path_delays.proofs.DelayLemmas.{gate_within}
 use Rattle.path_delays.proofs.Rooms.{within_higher}
-use Rattle.path_delays.proofs.Chains.{min_cases, max_cases}
+use Rattle.path_delays.proofs.SumLemmas.{min_cases, max_cases}
 use borrow.Author.Differences.{up, down}
 use mir.Val.{to_z, of_z}
 
