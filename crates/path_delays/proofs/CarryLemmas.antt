@@ -12,7 +12,7 @@ use Rattle.cts_model.specs.netlist.Paths.{Follows, Reads}
 use Rattle.path_delays.specs.declared.sums.Sums.{Sums}
 use Rattle.path_delays.specs.SumParts.{AreAround, IsAround, either_sums, joined_sums, merged_sums, sums_through}
 use Rattle.path_delays.specs.Carrying.{along, AreCarried, AreExtremesIfAny, AreShownBy, Comes, IsJoinedAt, StandsAt}
-use Rattle.path_delays.proofs.SumLemmas.{Follows-push, around_itself, around_joined, around_known, min_cases, max_cases}
+use Rattle.path_delays.proofs.SumLemmas.{around_itself, around_joined, around_known, min_cases, max_cases}
 
 -- sums around sums that are around others are around those
 around_around : (known : Option Sums) (between inner : Sums) → AreAround known between
@@ -109,6 +109,15 @@ pub extremes_same : (Come Other : Sums → Type 0) (known : Option Sums)
 extremes_same Come Other known to back are = extremes_made Other known
     (λ sums here. shown_more Come Other to sums (extremes_shown Come known are sums here))
     (λ one other. extremes_around Come known are one (back one other))
+
+-- gates that follow one another, and one more at the end
+Follows-push : (signals : List Signal) (first : ℕ) (gates : List ℕ) (last gate : ℕ)
+    → Follows signals first gates last → Reads signals gate last
+    → Follows signals first (gates ++ gate ∷ []) gate
+Follows-push signals first [] last gate same reads =
+    (subst (Reads signals gate) (sym same) reads, refl)
+Follows-push signals first (next ∷ gates) last gate (here, rest) reads =
+    (here, Follows-push signals next gates last gate rest reads)
 
 module _ (signals : List Signal) (delay : ℕ → Sums) where
   -- one gate more adds its delay

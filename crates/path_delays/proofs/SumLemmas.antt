@@ -1,10 +1,8 @@
 -- Sums: the lesser and the greater of two, what they are around, and the limits that they keep.
-use Rattle.std.proofs.Common.{◌≡◌, ◌+◌, ◌≤◌, ℕ, ℤ, ◌≤ℤ◌, Bool, true, false, cond, List, [], ◌∷◌, ◌++◌, Option, Some, None, inl, inr, ◌⊎◌, refl, sym, subst, arith}
+use Rattle.std.proofs.Common.{◌≡◌, ◌+◌, ◌≤◌, ℕ, ℤ, ◌≤ℤ◌, Bool, true, false, cond, Option, Some, None, inl, inr, ◌⊎◌, refl, sym, subst, arith}
 use Rattle.std.specs.Int.{int_min, int_max}
 use Rattle.std.specs.Int.Signed.{lt_z}
 use Rattle.std.proofs.lemmas.Int.{ints, clamps}
-use Rattle.cts_model.specs.declared.signal.Signal.{Signal}
-use Rattle.cts_model.specs.netlist.Paths.{Reads, Follows}
 use Rattle.cts_model.specs.table.Tables.{IsWithin}
 use Rattle.path_delays.specs.declared.sums.Sums.{Sums}
 use Rattle.path_delays.specs.SumParts.{AreWithin, IsAround, AreAround, joined_sums, sums_through}
@@ -26,15 +24,6 @@ max_cases x y = (at (lt_z y x), omega (arith, ints, clamps), omega (arith, ints,
     at : (b : Bool) → (cond b x y ≡ x) ⊎ (cond b x y ≡ y)
     at true = inl refl
     at false = inr refl
-
--- one gate more at the end
-pub Follows-push : (signals : List Signal) (first : ℕ) (gates : List ℕ) (last gate : ℕ)
-    → Follows signals first gates last → Reads signals gate last
-    → Follows signals first (gates ++ gate ∷ []) gate
-Follows-push signals first [] last gate same reads =
-    (subst (Reads signals gate) (sym same) reads, refl)
-Follows-push signals first (next ∷ gates) last gate (here, rest) reads =
-    (here, Follows-push signals next gates last gate rest reads)
 
 -- sums are around themselves
 pub around_itself : (sums : Sums) → IsAround sums sums
