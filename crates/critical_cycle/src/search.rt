@@ -84,9 +84,9 @@ impl Search {
         }
     }
 
-    /// Policy iteration from the greatest ratio shown, unless a few sweeps show that this is enough:
-    /// rings of parents show greater ones. It ends where each constraint is satisfied, or else after
-    /// so many rounds as take little time.
+    /// Policy iteration from the greatest ratio shown, unless a few sweeps show that this is
+    /// enough: rings of parents show greater ones. It ends where each constraint is satisfied, or
+    /// else after so many rounds as take little time.
     pub(crate) fn iterate(&mut self, constraints: &[Constraint], marks: &mut [u32])
         requires search { IsSearch constraints.now self.old }
         requires marks { length marks.old ≡ length self.old.relaxation.parents.items }
@@ -171,7 +171,8 @@ impl Search {
         self.relaxation.values.fill(0);
         for before in 0..SWEEPS {
             self.relaxation.rescale(self.trial, self.trial);
-            if self.relaxation.sweep(constraints, self.trial, before).is_none() {
+            let changed = self.relaxation.sweep(constraints, self.trial, before);
+            if changed.is_none() {
                 return true;
             }
         }
