@@ -11,8 +11,12 @@ use Rattle.cts_model.specs.placement.Points.{IsBelow}
 use Rattle.tilted_rect.specs.declared.cluster.Cluster.{Cluster}
 use Rattle.tilted_rect.specs.ClusterSets.{cost_of}
 use Rattle.tilted_rect.specs.Intervals.{between}
+use Rattle.tilted_rect.specs.Rects.{gap_of}
+use Rattle.topology.specs.declared.axis.Axis.{Axis}
+use Rattle.topology.specs.declared.axis.Axis.TheVariants.{U, V, Reach}
 use Rattle.topology.specs.declared.live.Live.{Live}
 use Rattle.topology.specs.declared.pair.Pair.{Pair}
+use Rattle.topology.specs.Axes.{high_on, low_on}
 use Rattle.topology.specs.Pairs.{IsBefore, IsAtMost, IsCheaperOf}
 use Rattle.topology.specs.LiveClusters.{HasCluster, IsPair, IsKept, IsKeptWith, IsLooked, IsNearest, IsOrdered, IsPast, low_of, low_at, owner_of, other_of}
 
@@ -53,49 +57,66 @@ at_right a b c is = omega (arith, ints, clamps)
 same_le : (a : ℤ) → a ≤ℤ a
 same_le a = omega (arith, ints)
 
--- the greatest of several is no less than any of the first three
-up_most : (up down v r s : ℤ)
-    → up ≤ℤ int_max (int_max (int_max (int_max (int_max up down) (pos 0)) v) r) s
-up_most up down v r s =
-    at_left up (int_max (int_max (int_max (int_max up down) (pos 0)) v) r) s
-    (at_left up (int_max (int_max (int_max up down) (pos 0)) v) r
-    (at_left up (int_max (int_max up down) (pos 0)) v
-    (at_left up (int_max up down) (pos 0) (at_left up up down (same_le up)))))
+-- a cost is no less than the gap, nor than the gap on an axis
+gap_most : (one other : Cluster) (a : ℤ) → a ≤ℤ gap_of one.region other.region
+    → a ≤ℤ cost_of one other
+gap_most one other a is =
+    at_left a (int_max (gap_of one.region other.region) (one.reach -ℤ other.reach))
+    (other.reach -ℤ one.reach)
+    (at_left a (gap_of one.region other.region) (one.reach -ℤ other.reach) is)
 
-down_most : (up down v r s : ℤ)
-    → down ≤ℤ int_max (int_max (int_max (int_max (int_max up down) (pos 0)) v) r) s
-down_most up down v r s =
-    at_left down (int_max (int_max (int_max (int_max up down) (pos 0)) v) r) s
-    (at_left down (int_max (int_max (int_max up down) (pos 0)) v) r
-    (at_left down (int_max (int_max up down) (pos 0)) v
-    (at_left down (int_max up down) (pos 0) (at_right down up down (same_le down)))))
+u_most : (one other : Cluster) (a : ℤ)
+    → a ≤ℤ between one.region.ulo one.region.uhi other.region.ulo other.region.uhi
+    → a ≤ℤ cost_of one other
+u_most one other a is = gap_most one other a (at_left a
+    (between one.region.ulo one.region.uhi other.region.ulo other.region.uhi)
+    (between one.region.vlo one.region.vhi other.region.vlo other.region.vhi) is)
 
-none_most : (up down v r s : ℤ)
-    → pos 0 ≤ℤ int_max (int_max (int_max (int_max (int_max up down) (pos 0)) v) r) s
-none_most up down v r s =
-    at_left (pos 0) (int_max (int_max (int_max (int_max up down) (pos 0)) v) r) s
-    (at_left (pos 0) (int_max (int_max (int_max up down) (pos 0)) v) r
-    (at_left (pos 0) (int_max (int_max up down) (pos 0)) v
-    (at_right (pos 0) (int_max up down) (pos 0) (same_le (pos 0)))))
+v_most : (one other : Cluster) (a : ℤ)
+    → a ≤ℤ between one.region.vlo one.region.vhi other.region.vlo other.region.vhi
+    → a ≤ℤ cost_of one other
+v_most one other a is = gap_most one other a (at_right a
+    (between one.region.ulo one.region.uhi other.region.ulo other.region.uhi)
+    (between one.region.vlo one.region.vhi other.region.vlo other.region.vhi) is)
 
--- so a cost is no less than the gap in u upwards, or downwards, and nothing at least
-up_within : (one other : Cluster) → (other.region.ulo -ℤ one.region.uhi) ≤ℤ cost_of one other
-up_within one other = up_most (other.region.ulo -ℤ one.region.uhi)
-    (one.region.ulo -ℤ other.region.uhi)
-    (between one.region.vlo one.region.vhi other.region.vlo other.region.vhi)
-    (one.reach -ℤ other.reach) (other.reach -ℤ one.reach)
+-- two intervals are no less apart than the one is above the other, or below it
+up_between : (lo hi other_lo other_hi : ℤ)
+    → (other_lo -ℤ hi) ≤ℤ between lo hi other_lo other_hi
+up_between lo hi other_lo other_hi = omega (arith, ints, clamps)
 
-down_within : (one other : Cluster) → (one.region.ulo -ℤ other.region.uhi) ≤ℤ cost_of one other
-down_within one other = down_most (other.region.ulo -ℤ one.region.uhi)
-    (one.region.ulo -ℤ other.region.uhi)
-    (between one.region.vlo one.region.vhi other.region.vlo other.region.vhi)
-    (one.reach -ℤ other.reach) (other.reach -ℤ one.reach)
+down_between : (lo hi other_lo other_hi : ℤ)
+    → (lo -ℤ other_hi) ≤ℤ between lo hi other_lo other_hi
+down_between lo hi other_lo other_hi = omega (arith, ints, clamps)
+
+none_between : (lo hi other_lo other_hi : ℤ) → pos 0 ≤ℤ between lo hi other_lo other_hi
+none_between lo hi other_lo other_hi = omega (arith, ints, clamps)
+
+-- so a cost is no less than the gap upwards on an axis, or downwards, and nothing at least
+up_within : (axis : Axis) (one other : Cluster)
+    → (low_on axis other -ℤ high_on axis one) ≤ℤ cost_of one other
+up_within U one other = u_most one other (other.region.ulo -ℤ one.region.uhi)
+    (up_between one.region.ulo one.region.uhi other.region.ulo other.region.uhi)
+up_within V one other = v_most one other (other.region.vlo -ℤ one.region.vhi)
+    (up_between one.region.vlo one.region.vhi other.region.vlo other.region.vhi)
+up_within Reach one other = at_right (other.reach -ℤ one.reach)
+    (int_max (gap_of one.region other.region) (one.reach -ℤ other.reach))
+    (other.reach -ℤ one.reach) (same_le (other.reach -ℤ one.reach))
+
+down_within : (axis : Axis) (one other : Cluster)
+    → (low_on axis one -ℤ high_on axis other) ≤ℤ cost_of one other
+down_within U one other = u_most one other (one.region.ulo -ℤ other.region.uhi)
+    (down_between one.region.ulo one.region.uhi other.region.ulo other.region.uhi)
+down_within V one other = v_most one other (one.region.vlo -ℤ other.region.vhi)
+    (down_between one.region.vlo one.region.vhi other.region.vlo other.region.vhi)
+down_within Reach one other = at_left (one.reach -ℤ other.reach)
+    (int_max (gap_of one.region other.region) (one.reach -ℤ other.reach))
+    (other.reach -ℤ one.reach) (at_right (one.reach -ℤ other.reach)
+    (gap_of one.region other.region) (one.reach -ℤ other.reach)
+    (same_le (one.reach -ℤ other.reach)))
 
 pub cost_least : (one other : Cluster) → pos 0 ≤ℤ cost_of one other
-cost_least one other = none_most (other.region.ulo -ℤ one.region.uhi)
-    (one.region.ulo -ℤ other.region.uhi)
-    (between one.region.vlo one.region.vhi other.region.vlo other.region.vhi)
-    (one.reach -ℤ other.reach) (other.reach -ℤ one.reach)
+cost_least one other = u_most one other (pos 0)
+    (none_between one.region.ulo one.region.uhi other.region.ulo other.region.uhi)
 
 -- ---- the two nodes of a pair
 
@@ -128,43 +149,47 @@ same_cluster : (live : Live) (node other_node : ℕ) (one other : Cluster) → n
 same_cluster live node other_node one other is here there =
     one_cluster one other (sym here ∙ ap (slice_get live.clusters) is ∙ there)
 
--- a pair costs no less than its two regions are apart in u
-pub record IsApart (one other : Cluster) (cost : ℤ) : Type 0 where
-  pub up : (other.region.ulo -ℤ one.region.uhi) ≤ℤ cost
-  pub down : (one.region.ulo -ℤ other.region.uhi) ≤ℤ cost
+-- a pair costs no less than its two clusters are apart on an axis
+pub record IsApart (axis : Axis) (one other : Cluster) (cost : ℤ) : Type 0 where
+  pub up : (low_on axis other -ℤ high_on axis one) ≤ℤ cost
+  pub down : (low_on axis one -ℤ high_on axis other) ≤ℤ cost
 
-apart : (one other : Cluster) (cost : ℤ) → cost ≡ cost_of one other → IsApart one other cost
-apart one other cost is = record {
-  up = subst (λ z. (other.region.ulo -ℤ one.region.uhi) ≤ℤ z) (sym is) (up_within one other);
-  down = subst (λ z. (one.region.ulo -ℤ other.region.uhi) ≤ℤ z) (sym is) (down_within one other);
+apart : (axis : Axis) (one other : Cluster) (cost : ℤ) → cost ≡ cost_of one other
+    → IsApart axis one other cost
+apart axis one other cost is = record {
+  up = subst (λ z. (low_on axis other -ℤ high_on axis one) ≤ℤ z) (sym is)
+      (up_within axis one other);
+  down = subst (λ z. (low_on axis one -ℤ high_on axis other) ≤ℤ z) (sym is)
+      (down_within axis one other);
 }
 
 pub kept_apart : (live : Live) (owner node : ℕ) (pair : Pair) (cluster : Cluster)
     → IsKeptWith live owner node pair → HasCluster live owner cluster
     → (other : Cluster) × (slice_get live.clusters node ≡ Some other)
-    × IsApart cluster other pair.cost
+    × IsApart live.axis cluster other pair.cost
 kept_apart live owner node pair cluster held has = elim
     (sides live.sinks pair owner node held.kept.owner held.other) [
       | inl (first, second) ↦ (
         parts.other,
         ap (slice_get live.clusters) (sym second) ∙ parts.second.cluster,
-        subst (λ c. IsApart c parts.other pair.cost)
+        subst (λ c. IsApart live.axis c parts.other pair.cost)
             (same_cluster live pair.first owner parts.one cluster first parts.first.cluster
-            has.cluster) (apart parts.one parts.other pair.cost parts.cost),
+            has.cluster) (apart live.axis parts.one parts.other pair.cost parts.cost),
       )
       | inr (first, second) ↦ (
         parts.one,
         ap (slice_get live.clusters) (sym first) ∙ parts.first.cluster,
-        subst (λ c. IsApart c parts.one pair.cost)
+        subst (λ c. IsApart live.axis c parts.one pair.cost)
             (same_cluster live pair.second owner parts.other cluster second parts.second.cluster
-            has.cluster) (turned (apart parts.one parts.other pair.cost parts.cost)),
+            has.cluster) (turned (apart live.axis parts.one parts.other pair.cost parts.cost)),
       )
     ]
   where
     parts : IsPair live pair
     parts = held.kept.pair
 
-    turned : {one other : Cluster} {cost : ℤ} → IsApart one other cost → IsApart other one cost
+    turned : {one other : Cluster} {cost : ℤ} → IsApart live.axis one other cost
+        → IsApart live.axis other one cost
     turned is = record { up = is.down; down = is.up }
 
 -- of pairs with one owner that of the lower other is the lower
@@ -203,9 +228,8 @@ lower_from s p q e f ordered other_ordered = elim (cases_lt q s) [
 
 pub low_is : (live : Live) (node : ℕ) (cluster : Cluster)
     → slice_get live.clusters node ≡ Some cluster
-    → low_of live.clusters node ≡ cluster.region.ulo
-low_is live node cluster here =
-    ap (λ o. option_map_or (λ (c : Cluster). c.region.ulo) o (pos 0)) here
+    → low_of live node ≡ low_on live.axis cluster
+low_is live node cluster here = ap (λ o. option_map_or (low_on live.axis) o (pos 0)) here
 
 module _ {live : Live} {owner : ℕ} where
   -- before the first node
@@ -315,7 +339,7 @@ module _ {live : Live} {owner : ℕ} where
     pub far_above : (place other : ℕ) (pair : Pair) → place ≤ other
         → other < length live.order.items
         → IsKeptWith live owner (slice_index_or live.order.items other 0) pair
-        → (low_at live.clusters live.order.items place -ℤ cluster.region.uhi) ≤ℤ pair.cost
+        → (low_at live place -ℤ high_on live.axis cluster) ≤ℤ pair.cost
     far_above place other pair from below with_it =
         let (found, here, is) = kept_apart live owner _ pair cluster with_it has in
         let low = low_is live (slice_index_or live.order.items other 0) found here in
@@ -325,16 +349,16 @@ module _ {live : Live} {owner : ℕ} where
     pub behind_above : (place other : ℕ) (pair : Pair) → place ≤ other
         → other < length live.order.items
         → IsKeptWith live owner (slice_index_or live.order.items other 0) pair
-        → pair.cost ≡ (low_at live.clusters live.order.items place -ℤ cluster.region.uhi)
+        → pair.cost ≡ (low_at live place -ℤ high_on live.axis cluster)
         → slice_index_or live.order.items place 0 ≤ other_of live.sinks pair
     behind_above place other pair from below with_it same = elim (cases_lt place other) [
       | inl before ↦
           let (found, here, is) = kept_apart live owner _ pair cluster with_it has in
           let low = low_is live (slice_index_or live.order.items other 0) found here in
-          let equal : low_at live.clusters live.order.items place
-          ≡ low_at live.clusters live.order.items other =
-          as_low (low_at live.clusters live.order.items place)
-          (low_at live.clusters live.order.items other) found.region.ulo cluster.region.uhi
+          let equal : low_at live place
+          ≡ low_at live other =
+          as_low (low_at live place)
+          (low_at live other) (low_on live.axis found) (high_on live.axis cluster)
           pair.cost same low is.up (ordered.ascending place other from below) in
           omega (arith, with_it.other, ordered.numbered place other before below equal)
       | inr to ↦
@@ -355,7 +379,7 @@ module _ {live : Live} {owner : ℕ} where
     pub far_below : (place other : ℕ) (pair : Pair) → other ≤ place
         → place < length live.order.items
         → IsKeptWith live owner (slice_index_or live.order.items other 0) pair
-        → (cluster.region.ulo -ℤ live.widest -ℤ low_at live.clusters live.order.items place)
+        → (low_on live.axis cluster -ℤ live.widest -ℤ low_at live place)
         ≤ℤ pair.cost
     far_below place other pair to below with_it =
         let (found, here, is) = kept_apart live owner _ pair cluster with_it has in

@@ -13,6 +13,7 @@ use Rattle.tilted_rect.specs.ClusterSets.{IsCluster, cost_of}
 use Rattle.topology.specs.declared.live.Live.{Live}
 use Rattle.topology.specs.declared.pair.Pair.{Pair}
 use Rattle.topology.specs.declared.waiting.Waiting.{Waiting}
+use Rattle.topology.specs.Axes.{high_on, low_on}
 use Rattle.topology.specs.Pairs.{IsAtMost, IsBefore}
 
 -- ---- pairs
@@ -56,17 +57,16 @@ pub record IsNearest (live : Live) (owner : ℕ) (found : Option Pair) : Type 0 
 
 -- ---- the order of the clusters
 
--- the least u of a node's region
-abbrev pub low_of : List Cluster → (node : ℕ) → ℤ
-low_of clusters node = option_map_or (λ cluster. cluster.region.ulo) (slice_get clusters node)
-    (pos 0)
+-- where a node's cluster begins
+abbrev pub low_of : Live → (node : ℕ) → ℤ
+low_of live node = option_map_or (low_on live.axis) (slice_get live.clusters node) (pos 0)
 
--- the least u of the region at a place of an order
-abbrev pub low_at : List Cluster → List ℕ → (place : ℕ) → ℤ
-low_at clusters order place = low_of clusters (slice_index_or order place 0)
+-- where the cluster at a place of the order begins
+abbrev pub low_at : Live → (place : ℕ) → ℤ
+low_at live place = low_of live (slice_index_or live.order.items place 0)
 
--- each node that no merge joins is in the order, by the least u of its region and then by number,
--- and no region is wider than that
+-- each node that no merge joins is in the order, by where its cluster begins and then by number,
+-- and no cluster is wider than that
 pub record IsOrdered (live : Live) : Type 0 where
   pub lens : length live.unjoined ≡ length live.clusters
   pub few : length live.clusters < 2 ^ 32
@@ -74,19 +74,18 @@ pub record IsOrdered (live : Live) : Type 0 where
       → slice_index_or live.order.items place 0 < length live.clusters
   pub all : (node : ℕ) → slice_get live.unjoined node ≡ Some true → Contains live.order.items node
   pub ascending : (place later : ℕ) → place ≤ later → later < length live.order.items
-      → low_at live.clusters live.order.items place
-      ≤ℤ low_at live.clusters live.order.items later
+      → low_at live place ≤ℤ low_at live later
   pub numbered : (place later : ℕ) → place < later → later < length live.order.items
-      → low_at live.clusters live.order.items place ≡ low_at live.clusters live.order.items later
+      → low_at live place ≡ low_at live later
       → slice_index_or live.order.items place 0 < slice_index_or live.order.items later 0
   pub below : IsBelow (10 ^ 34) live.widest
   pub wide : (node : ℕ) (cluster : Cluster) → slice_get live.clusters node ≡ Some cluster
-      → cluster.region.uhi ≤ℤ (cluster.region.ulo +ℤ live.widest)
+      → high_on live.axis cluster ≤ℤ (low_on live.axis cluster +ℤ live.widest)
 
--- the node at a place stands before another, whose region begins there
+-- the node at a place stands before another, whose cluster begins there
 abbrev pub StandsBefore : Live → (place : ℕ) → (low : ℤ) → (node : ℕ) → Type 0
-StandsBefore live place low node = (low_at live.clusters live.order.items place <ℤ low)
-    ⊎ ((low_at live.clusters live.order.items place ≡ low)
+StandsBefore live place low node = (low_at live place <ℤ low)
+    ⊎ ((low_at live place ≡ low)
     × (slice_index_or live.order.items place 0 < node))
 
 -- the pair costs less than a gap, or as much and with a node below that one

@@ -1,6 +1,7 @@
 //! Which clusters of sinks a clock tree merges, the cheapest first.
 #![tactic(auto)]
 
+mod axis;
 mod live;
 mod merging;
 mod pair;

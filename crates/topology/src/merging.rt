@@ -4,6 +4,7 @@ ghost use Rattle.cts_model.specs.tree.Sinks.{AreTreeSinks};
 ghost use Rattle.topology.specs.declared.pair.Pair.{Pair};
 ghost use Rattle.topology.specs.LiveClusters.{AreFirstCovered, AreJoinedBelow, AreKept, AreLive, AreSearched, IsCheapestPair, IsFirstOf, IsOrdered, IsPair};
 
+use crate::axis::Axis;
 use crate::live::Live;
 use crate::pair::{Pair, comes_first};
 use crate::queue::Queue;
@@ -15,9 +16,9 @@ use tilted_rect::Cluster;
 
 /// The topology that merges, again and again, the two clusters whose merging costs the least wire.
 /// Of pairs that cost as much it merges that of the lower first node, and then of the lower second.
-/// A search looks at the clusters that are near enough in `u` alone, and what it finds is kept
-/// until a merge breaks it up. Edahiro, "A Clustering-Based Optimization Algorithm in Zero-Skew
-/// Routings", 1993.
+/// The clusters stand in order on the axis (`u`, `v`, reach) on which the sinks are spread most. A
+/// search looks at those that are near enough on it alone, and what it finds is kept until a merge
+/// breaks it up. Edahiro, "A Clustering-Based Optimization Algorithm in Zero-Skew Routings", 1993.
 pub fn greedy(alloc: Global, sinks: &[Sink]) -> Result<Topology, NoMemory>
     requires { AreTreeSinks sinks.now }
     ensures greedy { IfOk result (λ topology. IsGreedy sinks.now topology.merges) }
@@ -42,7 +43,7 @@ fn sink_clusters(alloc: Global, sinks: &[Sink]) -> Result<Live, NoMemory>
     requires { AreTreeSinks sinks.now }
     ensures { IfOk result (AreLive sinks.now []) }
 {
-    let mut live = Live::new(alloc, sinks.len() as u32);
+    let mut live = Live::new(alloc, sinks.len() as u32, Axis::widest(sinks));
     for sink in sinks {
         live.add(Cluster::of(*sink))?;
     }

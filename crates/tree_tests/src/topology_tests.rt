@@ -7,41 +7,63 @@ use std::process::Abort;
 use std::test::Fail;
 use topology::greedy;
 
-// The sink on the line y = 0 so many times 8 steps to the right, with no offset.
-fn sink(place: u64) -> Sink
+// What sinks differ in.
+#[derive(Clone, Copy, Debug)]
+enum Row {
+    // They stand on the line y = 0, with no offset.
+    Flat,
+    // They stand on the line u = 0, with no offset.
+    Diagonal,
+    // They stand at one place, each with its own offset.
+    Late,
+}
+
+// The sink so many times 8 steps along a row.
+fn sink(row: Row, place: u64) -> Sink
     ensures { IsTreeSink result }
 {
-    let x = 8 * i128::from(place);
-    Sink {
-        at: Uv { u: x, v: x },
-        offset: 0,
+    let steps = 8 * i128::from(place);
+    match row {
+        Row::Flat => Sink {
+            at: Uv { u: steps, v: steps },
+            offset: 0,
+        },
+        Row::Diagonal => Sink {
+            at: Uv { u: 0, v: steps },
+            offset: 0,
+        },
+        Row::Late => Sink {
+            at: Uv { u: 0, v: 0 },
+            offset: steps,
+        },
     }
 }
 
-fn merge(row: (u32, u32)) -> Merge {
+fn merge(pair: (u32, u32)) -> Merge {
     Merge {
-        first: row.0,
-        second: row.1,
+        first: pair.0,
+        second: pair.1,
     }
 }
 
-// The sinks at those places are merged so.
+// The sinks at those places of a row are merged so.
 fn assert_merged(
     rt: &impl Abort,
     alloc: Global,
+    row: Row,
     places: &[u64],
     wanted: &[(u32, u32)],
 ) -> Result<(), Fail> {
     let mut sinks = Vec::new(alloc);
     for place in places {
-        sinks.push(sink(*place))?;
+        sinks.push(sink(row, *place))?;
     }
     assert!(rt; !sinks.is_empty());
     assert!(rt; sinks.len() <= 4097);
     let topology = greedy(alloc, &sinks)?;
     expect_same(rt, topology.merges.len(), wanted.len(), &places);
-    for (found, row) in topology.merges.as_slice().iter().zip(wanted) {
-        expect_same(rt, *found, merge(*row), &places);
+    for (found, pair) in topology.merges.as_slice().iter().zip(wanted) {
+        expect_same(rt, *found, merge(*pair), &places);
     }
     Ok(())
 }
@@ -60,7 +82,7 @@ const MERGED: [(&[u64], &[(u32, u32)]); 4] = [
 #[test]
 fn merges_the_cheapest_first(rt: HostRuntime) -> Result<(), Fail> {
     for (places, wanted) in &MERGED {
-        assert_merged(&rt, rt.alloc(), places, wanted)?;
+        assert_merged(&rt, rt.alloc(), Row::Flat, places, wanted)?;
     }
     Ok(())
 }
@@ -79,12 +101,13 @@ fn merges_a_row_that_doubles(rt: HostRuntime) -> Result<(), Fail> {
     for place in 1..39 {
         wanted.push((place + 1, 39 + place))?;
     }
-    assert_merged(&rt, alloc, &places, &wanted)
+    assert_merged(&rt, alloc, Row::Flat, &places, &wanted)
 }
 
-// As many sinks as there may be, 8 steps from one to the next: each merge takes the next two nodes.
+// As many sinks as there may be, 8 steps from one to the next in their places or in their offsets:
+// each merge takes the next two nodes.
 #[test]
-fn merges_an_even_row(rt: HostRuntime) -> Result<(), Fail> {
+fn merges_even_rows(rt: HostRuntime) -> Result<(), Fail> {
     let alloc = rt.alloc();
     let mut places = Vec::new(alloc);
     let mut wanted = Vec::new(alloc);
@@ -94,5 +117,8 @@ fn merges_an_even_row(rt: HostRuntime) -> Result<(), Fail> {
     for place in 0..4095 {
         wanted.push((2 * place, 2 * place + 1))?;
     }
-    assert_merged(&rt, alloc, &places, &wanted)
+    for row in [Row::Flat, Row::Diagonal, Row::Late].as_slice() {
+        assert_merged(&rt, alloc, *row, &places, &wanted)?;
+    }
+    Ok(())
 }
