@@ -38,7 +38,7 @@ at_most_along (Some other) least pair bound below = at least (below other refl)
     at (Some first) within = λ before. before_along pair other first before within bound
 
 -- a pair that costs less than a gap is before one that costs no less than that
-less_is_at_most : (least : Option Pair) (pair : Pair) (gap : ℤ)
+pub less_is_at_most : (least : Option Pair) (pair : Pair) (gap : ℤ)
     → IsSomeAnd least (λ found. found.cost <ℤ gap) → gap ≤ℤ pair.cost → IsAtMost least pair
 less_is_at_most None pair gap less apart = absurd less
 less_is_at_most (Some found) pair gap less apart = λ before. not_before before
@@ -54,7 +54,7 @@ at_left a b c is = omega (arith, ints, clamps)
 at_right : (a b c : ℤ) → a ≤ℤ c → a ≤ℤ int_max b c
 at_right a b c is = omega (arith, ints, clamps)
 
-same_le : (a : ℤ) → a ≤ℤ a
+pub same_le : (a : ℤ) → a ≤ℤ a
 same_le a = omega (arith, ints)
 
 -- a cost is no less than the gap, nor than the gap on an axis
@@ -117,6 +117,24 @@ down_within Reach one other = at_left (one.reach -ℤ other.reach)
 pub cost_least : (one other : Cluster) → pos 0 ≤ℤ cost_of one other
 cost_least one other = u_most one other (pos 0)
     (none_between one.region.ulo one.region.uhi other.region.ulo other.region.uhi)
+
+-- it is the same in either order
+between_turned : (lo hi other_lo other_hi : ℤ)
+    → between lo hi other_lo other_hi ≡ between other_lo other_hi lo hi
+between_turned lo hi other_lo other_hi = omega (arith, ints, clamps)
+
+greatest_turned : (gap other_gap over under : ℤ) → gap ≡ other_gap
+    → int_max (int_max gap over) under ≡ int_max (int_max other_gap under) over
+greatest_turned gap other_gap over under same = omega (arith, ints, clamps, same)
+
+cost_turned : (one other : Cluster) → cost_of one other ≡ cost_of other one
+cost_turned one other =
+    let u = between_turned one.region.ulo one.region.uhi other.region.ulo other.region.uhi in
+    let v = between_turned one.region.vlo one.region.vhi other.region.vlo other.region.vhi in
+    greatest_turned (gap_of one.region other.region) (gap_of other.region one.region)
+    (one.reach -ℤ other.reach) (other.reach -ℤ one.reach)
+    (ap (λ z. int_max z (between one.region.vlo one.region.vhi other.region.vlo other.region.vhi))
+    u ∙ ap (int_max (between other.region.ulo other.region.uhi one.region.ulo one.region.uhi)) v)
 
 -- ---- the two nodes of a pair
 
@@ -192,6 +210,27 @@ kept_apart live owner node pair cluster held has = elim
         → IsApart live.axis other one cost
     turned is = record { up = is.down; down = is.up }
 
+-- and just what the two cost
+pub kept_cost : (live : Live) (owner node : ℕ) (pair : Pair) (cluster other : Cluster)
+    → IsKeptWith live owner node pair → HasCluster live owner cluster
+    → slice_get live.clusters node ≡ Some other → pair.cost ≡ cost_of cluster other
+kept_cost live owner node pair cluster other held has other_has = elim
+    (sides live.sinks pair owner node held.kept.owner held.other) [
+      | inl (first, second) ↦ parts.cost
+          ∙ ap (λ c. cost_of c parts.other) (same_cluster live pair.first owner parts.one cluster
+          first parts.first.cluster has.cluster)
+          ∙ ap (cost_of cluster) (same_cluster live pair.second node parts.other other second
+          parts.second.cluster other_has)
+      | inr (first, second) ↦ parts.cost ∙ cost_turned parts.one parts.other
+          ∙ ap (λ c. cost_of c parts.one) (same_cluster live pair.second owner parts.other cluster
+          second parts.second.cluster has.cluster)
+          ∙ ap (cost_of cluster) (same_cluster live pair.first node parts.one other first
+          parts.first.cluster other_has)
+    ]
+  where
+    parts : IsPair live pair
+    parts = held.kept.pair
+
 -- of pairs with one owner that of the lower other is the lower
 pub lower_from : (s p q e f : ℕ) → p < q → e < f → cond (nat_lt q s) p q ≡ cond (nat_lt f s) e f
     → (p < e) ⊎ ((p ≡ e) × (q < f)) → cond (nat_lt q s) q p < cond (nat_lt f s) f e
@@ -241,30 +280,50 @@ module _ {live : Live} {owner : ℕ} where
     there = λ pair is. inl is;
   }
 
-  -- one node more
-  pub look_next : (IsPassed IsPassedNext : ℕ → Type 0) (old now next found : Option Pair)
-      (place : ℕ)
-      → ((other : ℕ) → IsPassedNext other → IsPassed other ⊎ (other ≡ place))
-      → IsLooked live owner IsPassed old now → IsCheaperOf now found next
-      → ((pair : Pair) → (found ≡ Some pair)
-      ↔ IsKeptWith live owner (slice_index_or live.order.items place 0) pair)
-      → IsLooked live owner IsPassedNext old next
-  look_next IsPassed IsPassedNext old now next found place more held cheaper law = record {
-    stays = λ pair within. along pair (held.stays pair within);
-    bound = λ other pair passed below with_it. elim (more other passed) [
-      | inl before ↦ along pair (held.bound other pair before below with_it)
-      | inr here ↦ cheaper.second pair ((law pair).1
-          (subst (λ k. IsKeptWith live owner (slice_index_or live.order.items k 0) pair) here
-          with_it))
-    ];
+  -- one node alone, whose pair is kept or not
+  pub look_keeps : (node : ℕ) (old new found : Option Pair) → IsCheaperOf old found new
+      → ((pair : Pair) → (found ≡ Some pair) ↔ IsKeptWith live owner node pair)
+      → IsLooked live owner (λ place. slice_index_or live.order.items place 0 ≡ node) old new
+  look_keeps node old new found cheaper law = record {
+    stays = λ pair within. at_most_along old new pair within cheaper.first;
+    bound = λ place pair here below with_it. cheaper.second pair ((law pair).1
+        (subst (λ n. IsKeptWith live owner n pair) here with_it));
     there = λ pair is. elim cheaper.either [
-      | inl same ↦ held.there pair (sym same ∙ is)
+      | inl same ↦ inl (sym same ∙ is)
       | inr same ↦ inr ((law pair).0 (sym same ∙ is)).kept
     ];
   }
-    where
-      along : (pair : Pair) → IsAtMost now pair → IsAtMost next pair
-      along pair within = at_most_along now next pair within cheaper.first
+
+  -- one node alone, which has no cheaper pair
+  pub look_leaves : (node : ℕ) (least : Option Pair)
+      → ((pair : Pair) → IsKeptWith live owner node pair → IsAtMost least pair)
+      → IsLooked live owner (λ place. slice_index_or live.order.items place 0 ≡ node) least least
+  look_leaves node least no_cheaper = record {
+    stays = λ pair within. within;
+    bound = λ place pair here below with_it. no_cheaper pair
+        (subst (λ n. IsKeptWith live owner n pair) here with_it);
+    there = λ pair is. inl is;
+  }
+
+  -- one node more
+  pub look_next : (IsPassed IsPassedNext : ℕ → Type 0) (old now next : Option Pair)
+      (place node : ℕ) → node ≡ slice_index_or live.order.items place 0
+      → ((other : ℕ) → IsPassedNext other → IsPassed other ⊎ (other ≡ place))
+      → IsLooked live owner IsPassed old now
+      → IsLooked live owner (λ k. slice_index_or live.order.items k 0 ≡ node) now next
+      → IsLooked live owner IsPassedNext old next
+  look_next IsPassed IsPassedNext old now next place node is more held step = record {
+    stays = λ pair within. step.stays pair (held.stays pair within);
+    bound = λ other pair passed below with_it. elim (more other passed) [
+      | inl before ↦ step.stays pair (held.bound other pair before below with_it)
+      | inr here ↦ step.bound other pair
+          (ap (λ k. slice_index_or live.order.items k 0) here ∙ sym is) below with_it
+    ];
+    there = λ pair found. elim (step.there pair found) [
+      | inl was ↦ held.there pair was
+      | inr kept ↦ inr kept
+    ];
+  }
 
   -- where the others are too far
   pub look_stops : (IsPassed IsWanted : ℕ → Type 0) (old now : Option Pair) (gap : ℤ)

@@ -1,4 +1,4 @@
-ghost use Rattle.std.specs.Prelude.{◌≡◌};
+ghost use Rattle.std.specs.Prelude.{◌≡◌, ◌<◌, length};
 ghost use Rattle.cts_model.specs.placement.Points.{IsBelow};
 ghost use Rattle.cts_model.specs.tree.Sinks.{AreTreeSinks};
 ghost use Rattle.tilted_rect.specs.Corners.{bound};
@@ -6,6 +6,9 @@ ghost use Rattle.topology.specs.Axes.{high_on, low_on};
 
 use cts_model::Sink;
 use tilted_rect::Cluster;
+
+// How many sinks are searched for, at most, to choose an axis.
+const SEARCHES: usize = 8;
 
 /// What clusters may stand in order by: merging two costs no less than they are apart on any axis.
 #[derive(Clone, Copy, Debug, PartialEq, Eq)]
@@ -43,33 +46,62 @@ impl Axis {
         }
     }
 
-    /// The axis on which sinks are spread widest, so that a search passes few. Any axis serves.
-    pub(crate) fn widest(sinks: &[Sink]) -> Axis
+    /// The axis on which searches pass the fewest sinks, as far as those for a few of them tell. One
+    /// sink far away is one of many that are passed, where it would decide which axis has the
+    /// greatest distance. Any axis serves.
+    pub(crate) fn sparsest(sinks: &[Sink]) -> Axis
         requires { AreTreeSinks sinks.now }
     {
-        let u = Axis::U.spread(sinks);
-        let v = Axis::V.spread(sinks);
-        let reach = Axis::Reach.spread(sinks);
-        if u.max(v) < reach {
+        let mut u = 0u64;
+        let mut v = 0u64;
+        let mut reach = 0u64;
+        let step = sinks.len() / SEARCHES + 1;
+        for place in 0..sinks.len() {
+            if place % step == 0 {
+                let cost = least_cost(sinks, place);
+                u = u.saturating_add(Axis::U.passed(sinks, place, cost));
+                v = v.saturating_add(Axis::V.passed(sinks, place, cost));
+                reach = reach.saturating_add(Axis::Reach.passed(sinks, place, cost));
+            }
+        }
+        if reach < u.min(v) {
             Axis::Reach
-        } else if u < v {
+        } else if v < u {
             Axis::V
         } else {
             Axis::U
         }
     }
 
-    // How far apart sinks are at most.
-    fn spread(self, sinks: &[Sink]) -> u128
-        requires { AreTreeSinks sinks.now }
+    // How many sinks a search passes for the one at a place: those no further away on the axis than
+    // the nearest costs.
+    fn passed(self, sinks: &[Sink], place: usize, cost: u128) -> u64
+        requires sinks { AreTreeSinks sinks.now }
+        requires within { place < length sinks.now }
     {
-        let mut least = self.low(&Cluster::of(sinks[0]));
-        let mut greatest = least;
+        let from = self.low(&Cluster::of(sinks[place]));
+        let mut passed = 0u64;
         for sink in sinks {
-            let at = self.low(&Cluster::of(*sink));
-            least = least.min(at);
-            greatest = greatest.max(at);
+            if self.low(&Cluster::of(*sink)).abs_diff(from) <= cost {
+                passed = passed.saturating_add(1);
+            }
         }
-        greatest.abs_diff(least)
+        passed
     }
+}
+
+// The least that merging the sink at a place with another costs.
+fn least_cost(sinks: &[Sink], place: usize) -> u128
+    requires sinks { AreTreeSinks sinks.now }
+    requires within { place < length sinks.now }
+{
+    let cluster = Cluster::of(sinks[place]);
+    let mut least = u128::MAX;
+    for other in 0..sinks.len() {
+        if other != place {
+            let cost = cluster.cost(&Cluster::of(sinks[other]));
+            least = least.min(cost.unsigned_abs());
+        }
+    }
+    least
 }

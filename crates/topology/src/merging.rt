@@ -16,9 +16,10 @@ use tilted_rect::Cluster;
 
 /// The topology that merges, again and again, the two clusters whose merging costs the least wire.
 /// Of pairs that cost as much it merges that of the lower first node, and then of the lower second.
-/// The clusters stand in order on the axis (`u`, `v`, reach) on which the sinks are spread most. A
-/// search looks at those that are near enough on it alone, and what it finds is kept until a merge
-/// breaks it up. Edahiro, "A Clustering-Based Optimization Algorithm in Zero-Skew Routings", 1993.
+/// The clusters stand in order on the axis (`u`, `v`, reach) on which searches for a few sinks pass
+/// the fewest. One looks at those that are near enough on it alone, and what it finds is kept until
+/// a merge breaks it up. Edahiro, "A Clustering-Based Optimization Algorithm in Zero-Skew Routings",
+/// 1993.
 pub fn greedy(alloc: Global, sinks: &[Sink]) -> Result<Topology, NoMemory>
     requires { AreTreeSinks sinks.now }
     ensures greedy { IfOk result (λ topology. IsGreedy sinks.now topology.merges) }
@@ -43,7 +44,7 @@ fn sink_clusters(alloc: Global, sinks: &[Sink]) -> Result<Live, NoMemory>
     requires { AreTreeSinks sinks.now }
     ensures { IfOk result (AreLive sinks.now []) }
 {
-    let mut live = Live::new(alloc, sinks.len() as u32, Axis::widest(sinks));
+    let mut live = Live::new(alloc, sinks.len() as u32, Axis::sparsest(sinks));
     for sink in sinks {
         live.add(Cluster::of(*sink))?;
     }
