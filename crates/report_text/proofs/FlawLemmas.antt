@@ -1,9 +1,7 @@
 -- What is wrong with two things is what is wrong with one of them first; and a line has one flaw.
-use Rattle.std.proofs.Common.{◌≡◌, ◌↔◌, ◌<◌, ◌+◌, ℕ, List, [], ◌∷◌, ◌++◌, get_or, length, map, take, Option, Some, None, refl, sym, ap, ◌∙◌, subst, arith}
-use Rattle.std.proofs.Math.Seq.{take-length}
-use Rattle.std.proofs.lemmas.List.{get_or-map, length-map, length-take-le, take_more}
+use Rattle.std.proofs.Common.{◌≡◌, ◌↔◌, ℕ, List, ◌∷◌, Option, Some, None, refl}
 use Rattle.cts_model.specs.declared.circuit.Circuit.{Circuit}
-use Rattle.report_text.specs.declared.field.Field.{Field}
+use Rattle.report_text.specs.LineFields.{Field}
 use Rattle.report_text.specs.declared.field.Flaw.{Flaw}
 use Rattle.report_text.specs.declared.field.Flaw.TheVariants.{Form, Unknown, Unfit, Large}
 use Rattle.report_text.specs.Fields.{EachWord, IsFirstFlaw, IsFit, IsFormed, IsKnown, IsWithin, LineHasFlaw, WordHasFlaw}
@@ -85,80 +83,17 @@ one_flaw circuit fields words flaw other has has' =
     one_first_flaw (EachWord IsFormed fields words) (EachWord (IsKnown circuit) fields words)
     (EachWord (IsFit circuit) fields words) (EachWord IsWithin fields words) flaw other has has'
 
--- ---- a line with one more word
+-- ---- a line from its first word on
 
--- what holds of each word
-each_push : (Holds : Field → List ℕ → Type 0) (fields : List Field) (words : List (List ℕ))
-    (field : Field) (word : List ℕ) → length fields ≡ length words
-    → EachWord Holds (fields ++ field ∷ []) (words ++ word ∷ [])
-    ↔ (EachWord Holds fields words × Holds field word)
-each_push Holds [] [] field word long = (λ each. (tt, each.0), λ both. (both.1, tt))
-each_push Holds [] (w ∷ words) field word long = absurd (omega (arith, long))
-each_push Holds (f ∷ fields) [] field word long = absurd (omega (arith, long))
-each_push Holds (f ∷ fields) (w ∷ words) field word long =
-    let rest = each_push Holds fields words field word (omega (arith, long)) in (
-      λ each. ((each.0, (rest.0 each.1).0), (rest.0 each.1).1),
-      λ both. (both.0.0, rest.1 (both.0.1, both.1)),
-    )
-
--- as many words as fields
-pub each_length : (Holds : Field → List ℕ → Type 0) (fields : List Field)
-    (words : List (List ℕ)) → EachWord Holds fields words → length fields ≡ length words
-each_length Holds [] [] each = refl
-each_length Holds (field ∷ fields) (word ∷ words) each =
-    let rest = each_length Holds fields words each.1 in omega (arith, rest)
-each_length Holds [] (word ∷ words) each = absurd each
-each_length Holds (field ∷ fields) [] each = absurd each
-
--- the first flaw with one more word
-pub line_push : (circuit : Circuit) (fields : List Field) (words : List (List ℕ))
-    (field : Field) (word : List ℕ) (flaw found : Option Flaw) → length fields ≡ length words
-    → LineHasFlaw circuit fields words flaw → WordHasFlaw circuit field word found
-    → LineHasFlaw circuit (fields ++ field ∷ []) (words ++ word ∷ []) (sooner_flaw flaw found)
-line_push circuit fields words field word flaw found long has here =
-    sooner_of (each_push IsFormed fields words field word long)
-    (each_push (IsKnown circuit) fields words field word long)
-    (each_push (IsFit circuit) fields words field word long)
-    (each_push IsWithin fields words field word long) flaw found has here
-
--- the first flaw of the words up to a place, and of one more
-pub line_more : {X : Type 0} (circuit : Circuit) (fields : List Field) (words : List X)
-    (read : X → List ℕ) (place : ℕ) (field : Field) (word : X) (flaw found new : Option Flaw)
-    → length fields ≡ length words → place < length fields
-    → LineHasFlaw circuit (take place fields) (take place (map read words)) flaw
-    → WordHasFlaw circuit (get_or fields place field) (read (get_or words place word)) found
-    → new ≡ sooner_flaw flaw found
-    → LineHasFlaw circuit (take (place + 1) fields) (take (place + 1) (map read words)) new
-line_more circuit fields words read place field word flaw found new long within has here is =
-    let all = length-map words read in
-    let within' : place < length (map read words) = omega (arith, all, long) in
-    let more_words : take (place + 1) (map read words)
-    ≡ take place (map read words) ++ read (get_or words place word) ∷ [] =
-    take_more (map read words) place [] within'
-    ∙ ap (λ w. take place (map read words) ++ w ∷ [])
-    (get_or-map read words place word [] (omega (arith, long))) in
-    let so_far : length (take place fields) ≡ length (take place (map read words)) =
-    length-take-le place fields (omega arith)
-    ∙ sym (length-take-le place (map read words) (omega arith)) in
-    subst (LineHasFlaw circuit (take (place + 1) fields) (take (place + 1) (map read words)))
-    (sym is)
-    (subst (λ (ws : List (List ℕ)). LineHasFlaw circuit (take (place + 1) fields) ws
-    (sooner_flaw flaw found)) (sym more_words)
-    (subst (λ (fs : List Field). LineHasFlaw circuit fs
-    (take place (map read words) ++ read (get_or words place word) ∷ [])
-    (sooner_flaw flaw found)) (sym (take_more fields place field within))
-    (line_push circuit (take place fields) (take place (map read words))
-    (get_or fields place field) (read (get_or words place word)) flaw found so_far has here)))
-
--- all of them
-pub line_whole : {X : Type 0} (circuit : Circuit) (fields : List Field) (words : List X)
-    (read : X → List ℕ) (place : ℕ) (flaw : Option Flaw) → length fields ≡ length words
-    → place ≡ length fields
-    → LineHasFlaw circuit (take place fields) (take place (map read words)) flaw
-    → LineHasFlaw circuit fields (map read words) flaw
-line_whole circuit fields words read place flaw long end has =
-    let end' : place ≡ length (map read words) = omega (arith, length-map words read, long, end) in
-    subst (λ (ws : List (List ℕ)). LineHasFlaw circuit fields ws flaw)
-    (ap (λ n. take n (map read words)) end' ∙ take-length (map read words))
-    (subst (λ (fs : List Field). LineHasFlaw circuit fs (take place (map read words)) flaw)
-    (ap (λ n. take n fields) end ∙ take-length fields) has)
+-- its first flaw is that of its first word or of those after it
+pub line_first : (circuit : Circuit) (due : Field) (fields : List Field) (word : List ℕ)
+    (words : List (List ℕ)) (flaw found : Option Flaw) → WordHasFlaw circuit due word flaw
+    → LineHasFlaw circuit fields words found
+    → LineHasFlaw circuit (due ∷ fields) (word ∷ words) (sooner_flaw flaw found)
+line_first circuit due fields word words flaw found has has' =
+    sooner_of (parts IsFormed) (parts (IsKnown circuit)) (parts (IsFit circuit)) (parts IsWithin)
+    flaw found has has'
+  where
+    parts : (Holds : Field → List ℕ → Type 0) → EachWord Holds (due ∷ fields) (word ∷ words)
+        ↔ (Holds due word × EachWord Holds fields words)
+    parts Holds = (λ each. each, λ each. each)

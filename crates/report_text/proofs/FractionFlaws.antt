@@ -1,22 +1,22 @@
 -- What is wrong with a word that is to be a fraction, by what is read of it.
-use Rattle.std.proofs.Common.{◌≡◌, ◌↔◌, ◌^◌, ℕ, ℤ, pos, negsuc, ◌*ℤ◌, ◌+ℤ◌, ◌≤ℤ◌, ◌<ℤ◌, Bool, true, false, IsTrue, inl, inr, List, Option, Some, None, refl, sym, subst, arith, codes}
+use Rattle.std.proofs.Common.{◌≡◌, ◌↔◌, ◌^◌, ℕ, ℤ, pos, negsuc, ◌*ℤ◌, ◌+ℤ◌, ◌≤ℤ◌, ◌<ℤ◌, nat_abs, Bool, IsTrue, inl, inr, List, Option, Some, None, Result, Ok, Err, IsErrAnd, sym, subst, arith, codes}
 use Rattle.std.specs.Int.RustNames.{int_div, int_rem}
 use Rattle.std.proofs.lemmas.Int.{ints}
 use Rattle.cts_base.specs.Fractions.{IsLowest, fraction_text}
-use Rattle.cts_base.specs.NumberTexts.{SpellsQuotient, HaveSmallSizes, IsLargeQuotient, IsNoFraction, RefusesFraction, kept_size}
+use Rattle.cts_base.specs.NumberTexts.{SpellsQuotient, HaveSmallSizes, IsNoFraction, kept_size}
 use Rattle.cts_base.specs.declared.fraction.Fraction.{Fraction}
-use Rattle.cts_base.specs.declared.number.NumberFault.{NumberFault}
-use Rattle.cts_base.specs.declared.number.NumberFault.TheVariants.{NotNumber, TooFine, TooLarge}
 use Rattle.cts_base.proofs.FractionReading.{few_digits}
 use Rattle.cts_base.proofs.OneSpelling.{fraction_spelled, one_quotient, quotient_some}
 use Rattle.cts_model.specs.declared.circuit.Circuit.{Circuit}
-use Rattle.report_text.specs.declared.field.Field.TheVariants.{Period, Slack, Steps}
+use Rattle.cts_model.specs.placement.Points.{IsBelow}
+use Rattle.report_text.specs.LineFields.{Period, Slack, Steps}
 use Rattle.report_text.specs.declared.field.Flaw.{Flaw}
 use Rattle.report_text.specs.declared.field.Flaw.TheVariants.{Form, Unknown, Unfit, Large}
 use Rattle.report_text.specs.Fields.{AreFewSteps, AreSteps, IsFormed, IsFractionForm, IsWholeSteps, WordHasFlaw}
-use Rattle.report_text.specs.FlawOrder.{large_flaw}
-use Rattle.report_text.specs.JudgedFractions.{HasStepsFlaw, IsNegativeQuotient, fault_flaw}
+use Rattle.report_text.specs.JudgedFractions.{HasStepsFlaw, IsBetween, IsNegativeQuotient, IsRefusedFor}
+use Rattle.report_text.specs.Scans.{flaw_in}
 use Rattle.report_text.proofs.CoprimeFactors.{divides_steps, one_number_of_steps, steps_are}
+use Rattle.report_text.proofs.SpelledFields.{no_quotient_dash}
 
 -- ---- what is read
 
@@ -30,13 +30,11 @@ read_quotient_is text fraction small same =
     fraction_spelled text fraction.num fraction.den (few_digits fraction.num small.0)
     (few_digits fraction.den small.1) lowest.some_den same
 
--- and a fault that is given is one of the text
-pub refused : (text : List ℕ) (fault : NumberFault)
-    → ((fault ≡ NotNumber) → IsNoFraction text) → ((fault ≡ TooLarge) → IsLargeQuotient text)
-    → ((fault ≡ TooFine) → ⊥) → RefusesFraction text fault
-refused text NotNumber none large fine = none refl
-refused text TooFine none large fine = fine refl
-refused text TooLarge none large fine = large refl
+-- `?` passes a flaw on as it is
+pub passed_flaw : {X : Type 0} (result : Result X Flaw) (flaw : Flaw) (Holds : Option Flaw → Type 0)
+    → IsErrAnd result (λ passed. passed ≡ flaw) → Holds (Some flaw) → Holds (flaw_in result)
+passed_flaw (Ok value) flaw Holds is has = absurd is
+passed_flaw (Err passed) flaw Holds is has = subst (λ f. Holds (Some f)) (sym is) has
 
 -- ---- of a quotient that is spelled
 
@@ -76,38 +74,33 @@ module _ (text : List ℕ) (num den : ℤ) (spells : SpellsQuotient text num den
       at (Some Unfit) has = (formed, tt, λ are. has.2 (are num den spells small))
       at (Some Large) has = (formed, tt, whole has.2, λ are. has.3 (are num den spells).1)
 
-  -- a small quotient in lowest terms that is to be a period
-  pub period_denoted : HaveSmallSizes num den → IsLowest num den
-      → (IsNegativeQuotient text → ⊥) → (within : Bool)
-      → IsTrue within ↔ ((num <ℤ pos (10 ^ 18)) × (den ≤ℤ pos 4097)) → (circuit : Circuit)
-      → WordHasFlaw circuit Period text (large_flaw within)
-  period_denoted small lowest not_negative within is circuit = at within is
+  -- one that isn't below 0
+  pub from_zero : (IsNegativeQuotient text → ⊥) → pos 0 ≤ℤ num
+  from_zero not_negative = at num (λ below. not_negative (num, den, spells, below))
     where
-      formed : IsFormed Period text
-      formed = (
-        num,
-        den,
-        (spells, λ _. lowest),
-        from_zero num (λ below. not_negative (num, den, spells, below)),
-      )
-        where
-          from_zero : (n : ℤ) → (n <ℤ pos 0 → ⊥) → pos 0 ≤ℤ n
-          from_zero n differs = grind (arith, ints)
+      at : (n : ℤ) → (n <ℤ pos 0 → ⊥) → pos 0 ≤ℤ n
+      at n differs = grind (arith, ints)
 
-      at : (b : Bool) → IsTrue b ↔ ((num <ℤ pos (10 ^ 18)) × (den ≤ℤ pos 4097))
-          → WordHasFlaw circuit Period text (large_flaw b)
-      at true is = (
-        formed,
-        tt,
-        tt,
-        of_each (λ n d. (n <ℤ pos (10 ^ 18)) × (d ≤ℤ pos 4097)) (is.0 refl),
-      )
-      at false is = (
-        formed,
-        tt,
-        tt,
-        λ all. let bad : false ≡ true = is.1 (all num den spells) in cc,
-      )
+  module _ (circuit : Circuit) (lowest : IsLowest num den) (some : pos 0 ≤ℤ num) where
+    -- and that is within a period's bounds
+    pub period_within : (num <ℤ pos (10 ^ 18)) × (den ≤ℤ pos 4097)
+        → WordHasFlaw circuit Period text None
+    period_within within = (
+      (num, den, (spells, λ _. lowest), some),
+      tt,
+      tt,
+      of_each (λ n d. (n <ℤ pos (10 ^ 18)) × (d ≤ℤ pos 4097)) within,
+    )
+
+    -- or not
+    pub period_past : ((num <ℤ pos (10 ^ 18)) × (den ≤ℤ pos 4097) → ⊥)
+        → WordHasFlaw circuit Period text (Some Large)
+    period_past past = (
+      (num, den, (spells, λ _. lowest), some),
+      tt,
+      tt,
+      λ all. past (all num den spells),
+    )
 
 -- ---- of a text that is refused
 
@@ -119,13 +112,12 @@ no_form text (inr (num', den', spells', small', not_lowest)) num den form =
     (form.1 (subst (λ d. HaveSmallSizes num d) (sym both.1)
     (subst (λ n. HaveSmallSizes n den') (sym both.0) small')))))
 
-pub steps_refused : (over bound : ℤ) (text : List ℕ) (fault : NumberFault)
-    → RefusesFraction text fault → (circuit : Circuit)
-    → WordHasFlaw circuit (Steps over bound) text (Some (fault_flaw fault))
-steps_refused over bound text NotNumber none circuit =
-    λ form. no_form text none form.0 form.1 form.2
-steps_refused over bound text TooFine none circuit = absurd none
-steps_refused over bound text TooLarge (num, den, spells, large) circuit = (
+pub steps_refused : (over bound : ℤ) (text : List ℕ) (flaw : Flaw) → IsRefusedFor text flaw
+    → (circuit : Circuit) → WordHasFlaw circuit (Steps over bound) text (Some flaw)
+steps_refused over bound text Form none circuit = λ form. no_form text none form.0 form.1 form.2
+steps_refused over bound text Unknown none circuit = absurd none
+steps_refused over bound text Unfit none circuit = absurd none
+steps_refused over bound text Large (num, den, spells, large) circuit = (
   (num, den, (spells, λ small. absurd (large small))),
   tt,
   λ num' den' spells' small'.
@@ -133,13 +125,14 @@ steps_refused over bound text TooLarge (num, den, spells, large) circuit = (
   λ few. large (few num den spells).0,
 )
 
-pub period_refused : (text : List ℕ) (fault : NumberFault) → RefusesFraction text fault
+pub period_refused : (text : List ℕ) (flaw : Flaw) → IsRefusedFor text flaw
     → (IsNegativeQuotient text → ⊥) → (circuit : Circuit)
-    → WordHasFlaw circuit Period text (Some (fault_flaw fault))
-period_refused text NotNumber none not_negative circuit =
+    → WordHasFlaw circuit Period text (Some flaw)
+period_refused text Form none not_negative circuit =
     λ form. no_form text none form.0 form.1 form.2
-period_refused text TooFine none not_negative circuit = absurd none
-period_refused text TooLarge (num, den, spells, large) not_negative circuit = (
+period_refused text Unknown none not_negative circuit = absurd none
+period_refused text Unfit none not_negative circuit = absurd none
+period_refused text Large (num, den, spells, large) not_negative circuit = (
   (num, den, (spells, λ small. absurd (large small)), above),
   tt,
   tt,
@@ -148,11 +141,8 @@ period_refused text TooLarge (num, den, spells, large) not_negative circuit = (
       large (small num den above (quotient_some text num den spells) within.0 within.1),
 )
   where
-    from_zero : (n : ℤ) → (n <ℤ pos 0 → ⊥) → pos 0 ≤ℤ n
-    from_zero n differs = grind (arith, ints)
-
     above : pos 0 ≤ℤ num
-    above = from_zero num (λ below. not_negative (num, den, spells, below))
+    above = from_zero text num den spells not_negative
 
     small : (n d : ℤ) → pos 0 ≤ℤ n → pos 1 ≤ℤ d → n <ℤ pos (10 ^ 18) → d ≤ℤ pos 4097
         → HaveSmallSizes n d
@@ -187,6 +177,18 @@ negative_kept text num den kept below spells is denoted = (
 
 -- ---- slacks
 
+-- `-` has no flaw
+pub dash_plain : (over bound : ℤ) (text : List ℕ) → text ≡ codes "-" → (circuit : Circuit)
+    → WordHasFlaw circuit (Slack over bound) text None
+dash_plain over bound text dash circuit =
+    let none = subst (λ (t : List ℕ). (num den : ℤ) → SpellsQuotient t num den → ⊥)
+    (sym dash) no_quotient_dash in (
+      inl dash,
+      tt,
+      λ num den spells small. absurd (none num den spells),
+      λ num den spells. absurd (none num den spells),
+    )
+
 -- a word that isn't `-` has the flaw that it has as a number of steps
 pub slack_denoted : (over bound : ℤ) (text : List ℕ) → (text ≡ codes "-" → ⊥)
     → (flaw : Option Flaw) (circuit : Circuit)
@@ -210,16 +212,19 @@ module _ (over bound : ℤ) (num den : ℤ) (lowest : IsLowest num den) where
   steps_unfit rest =
       (tt, tt, λ steps. rest (divides_steps over num den steps.0 lowest steps.1))
 
-  -- one whose denominator does
-  pub steps_fit : int_rem over den ≡ pos 0 → (within : Bool)
-      → IsTrue within ↔ (((num *ℤ int_div over den) <ℤ bound)
-      × (pos 0 <ℤ ((num *ℤ int_div over den) +ℤ bound)))
-      → HasStepsFlaw over bound num den (large_flaw within)
-  steps_fit none within is = at within is
+  -- one whose denominator does, and of which so many steps are within the bound
+  pub steps_within : int_rem over den ≡ pos 0 → IsBetween bound (num *ℤ int_div over den)
+      → HasStepsFlaw over bound num den None
+  steps_within none within = (
+    tt,
+    tt,
+    (num *ℤ int_div over den, steps_are over num den lowest.some_den none),
+    λ steps are.
+        few (num *ℤ int_div over den) steps (one_number_of_steps over num den
+        (num *ℤ int_div over den) steps lowest.some_den
+        (steps_are over num den lowest.some_den none) are) within.0 within.1,
+  )
     where
-      number : (steps : ℤ) × AreSteps over num den steps
-      number = (num *ℤ int_div over den, steps_are over num den lowest.some_den none)
-
       few : (n m : ℤ) → n ≡ m → n <ℤ bound → pos 0 <ℤ (n +ℤ bound)
           → (bound ≤ℤ m → ⊥) × ((m +ℤ bound) ≤ℤ pos 0 → ⊥)
       few n m same below above = (
@@ -227,29 +232,37 @@ module _ (over bound : ℤ) (num den : ℤ) (lowest : IsLowest num den) where
         λ past. omega (arith, ints, same, above, past),
       )
 
+  -- and one of which they aren't
+  pub steps_past : int_rem over den ≡ pos 0 → (IsBetween bound (num *ℤ int_div over den) → ⊥)
+      → HasStepsFlaw over bound num den (Some Large)
+  steps_past none past = (
+    tt,
+    tt,
+    (num *ℤ int_div over den, steps_are over num den lowest.some_den none),
+    λ all.
+        let within = all (num *ℤ int_div over den)
+        (steps_are over num den lowest.some_den none) in
+        past (
+          less (num *ℤ int_div over den) bound within.0,
+          less (pos 0) ((num *ℤ int_div over den) +ℤ bound) within.1,
+        ),
+  )
+    where
       less : (n m : ℤ) → (m ≤ℤ n → ⊥) → n <ℤ m
       less n m differs = grind (arith, ints)
 
-      at : (b : Bool) → IsTrue b ↔ (((num *ℤ int_div over den) <ℤ bound)
-          × (pos 0 <ℤ ((num *ℤ int_div over den) +ℤ bound)))
-          → HasStepsFlaw over bound num den (large_flaw b)
-      at true is =
-          let within = is.0 refl in (
-            tt,
-            tt,
-            number,
-            λ steps are.
-                few (num *ℤ int_div over den) steps (one_number_of_steps over num den
-                (num *ℤ int_div over den) steps lowest.some_den number.1 are) within.0 within.1,
-          )
-      at false is = (
-        tt,
-        tt,
-        number,
-        λ all.
-            let within = all (num *ℤ int_div over den) number.1 in
-            let bad : false ≡ true = is.1 (
-              less (num *ℤ int_div over den) bound within.0,
-              less (pos 0) ((num *ℤ int_div over den) +ℤ bound) within.1,
-            ) in cc,
-      )
+  -- what is taken for it are its steps, and they are below the bound in size
+  pub steps_taken : int_rem over den ≡ pos 0 → IsBetween bound (num *ℤ int_div over den)
+      → (steps : ℤ) → steps ≡ num *ℤ int_div over den
+      → AreSteps over num den steps × IsBelow (nat_abs bound) steps
+  steps_taken none within steps is = (
+    subst (AreSteps over num den) (sym is) (steps_are over num den lowest.some_den none),
+    subst (IsBelow (nat_abs bound)) (sym is)
+        (below bound (num *ℤ int_div over den) within.0 within.1),
+  )
+    where
+      below : (b n : ℤ) → n <ℤ b → pos 0 <ℤ (n +ℤ b) → IsBelow (nat_abs b) n
+      below b n less more = record {
+        above = omega (arith, ints, less, more);
+        below = omega (arith, ints, less, more);
+      }

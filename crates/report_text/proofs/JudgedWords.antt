@@ -1,5 +1,5 @@
 -- Each word has a flaw by its field or has none, and so each line has.
-use Rattle.std.proofs.Common.{◌≡◌, ◌↔◌, ◌⊎◌, ◌^◌, ℕ, ℤ, pos, ◌≤ℤ◌, ◌<ℤ◌, ◌+ℤ◌, ◌*ℤ◌, Bool, true, false, true≢false, IsTrue, inl, inr, List, [], ◌∷◌, Option, Some, None, codes, refl, sym, subst, ◌∙◌, arith}
+use Rattle.std.proofs.Common.{◌≡◌, ◌⊎◌, ◌^◌, ℕ, ℤ, pos, ◌≤ℤ◌, ◌<ℤ◌, ◌+ℤ◌, ◌*ℤ◌, inl, inr, List, [], ◌∷◌, Option, Some, None, codes, refl, sym, subst, ◌∙◌, arith}
 use Rattle.std.specs.Int.RustNames.{int_div, int_rem}
 use Rattle.std.specs.List.{position}
 use Rattle.std.specs.Str.{bytes_eq}
@@ -10,21 +10,20 @@ use Rattle.cts_base.specs.NumberTexts.{HaveSmallSizes, SpellsQuotient, SpellsWho
 use Rattle.cts_base.proofs.OneSpelling.{one_quotient, one_whole}
 use Rattle.cts_model.specs.declared.circuit.Circuit.{Circuit}
 use Rattle.cts_model.specs.netlist.Paths.{register_name}
-use Rattle.report_text.specs.declared.field.Field.{Field}
-use Rattle.report_text.specs.declared.field.Field.TheVariants as field
+use Rattle.report_text.specs.LineFields.{Field}
+use Rattle.report_text.specs.LineFields as field
 use Rattle.report_text.specs.declared.field.Keyword.{Keyword}
 use Rattle.report_text.specs.declared.field.Flaw.{Flaw}
 use Rattle.report_text.specs.declared.field.Flaw.TheVariants.{Form, Large, Unfit, Unknown}
-use Rattle.report_text.specs.Fields.{EachWord, IsFit, IsFormed, IsKnown, IsWithin, LineHasFlaw, WordHasFlaw}
-use Rattle.report_text.specs.FlawOrder.{large_flaw, sooner_flaw}
-use Rattle.report_text.specs.JudgedFractions.{HasStepsFlaw, IsNegativeQuotient, fault_flaw}
+use Rattle.report_text.specs.Fields.{LineHasFlaw, WordHasFlaw}
+use Rattle.report_text.specs.FlawOrder.{sooner_flaw}
+use Rattle.report_text.specs.JudgedFractions.{HasStepsFlaw, IsNegativeQuotient}
 use Rattle.report_text.specs.Keywords.{keyword_text}
 use Rattle.report_text.specs.NamesOf.{DenotesRegister, DenotesSignal, register_names, signal_names}
-use Rattle.report_text.proofs.FlawLemmas.{sooner_of}
-use Rattle.report_text.proofs.FractionFlaws.{negative_refused, period_refused, period_denoted, slack_denoted, steps_fit, steps_refused, steps_denoted, steps_unfit}
+use Rattle.report_text.proofs.FlawLemmas.{line_first}
+use Rattle.report_text.proofs.FractionFlaws.{dash_plain, from_zero, negative_refused, period_past, period_refused, period_within, slack_denoted, steps_denoted, steps_past, steps_refused, steps_unfit, steps_within}
 use Rattle.report_text.proofs.NameNumbers.{register_denoted, signal_denoted}
 use Rattle.report_text.proofs.OneName.{one_register}
-use Rattle.report_text.proofs.SpelledFields.{no_quotient_dash}
 use Rattle.report_text.proofs.SpelledNumbers.{OrNot, fraction_or_not, quotient_or_not, same_text, same_whole, size_or_not, whole_or_not}
 
 module _ (circuit : Circuit) where
@@ -165,12 +164,11 @@ module _ (circuit : Circuit) where
             let steps = num *ℤ int_div over den in
             by_lt_z steps bound
             (λ below. by_lt_z (pos 0) (steps +ℤ bound)
-            (λ above. denoted None (steps_fit over bound num den lowest none true
-            (λ is. (below, above), λ both. refl)))
-            (λ low. denoted (Some Large) (steps_fit over bound num den lowest none false
-            (λ is. absurd (true≢false (sym is)), λ both. absurd (both_past steps both.1 low)))))
-            (λ past. denoted (Some Large) (steps_fit over bound num den lowest none false
-            (λ is. absurd (true≢false (sym is)), λ both. absurd (past_bound steps both.0 past))))
+            (λ above. denoted None (steps_within over bound num den lowest none (below, above)))
+            (λ low. denoted (Some Large) (steps_past over bound num den lowest none
+            (λ both. both_past steps both.1 low))))
+            (λ past. denoted (Some Large) (steps_past over bound num den lowest none
+            (λ both. past_bound steps both.0 past)))
       ]
     where
       denoted : (flaw : Option Flaw) → HasStepsFlaw over bound num den flaw
@@ -187,7 +185,7 @@ module _ (circuit : Circuit) where
   steps_judged : (over bound : ℤ) (text : List ℕ) → Judged (field.Steps over bound) text
   steps_judged over bound text = elim (fraction_or_not text) [
     | inl refused ↦ (
-      Some (fault_flaw refused.0),
+      Some refused.0,
       steps_refused over bound text refused.0 refused.1 circuit,
     )
     | inr read ↦ whole_steps_judged over bound text read.0 read.1 read.2 read.3 read.4
@@ -211,7 +209,7 @@ module _ (circuit : Circuit) where
     | inl negative ↦ (Some Form, negative_refused text negative)
     | inr positive ↦ elim (fraction_or_not text) [
       | inl refused ↦ (
-        Some (fault_flaw refused.0),
+        Some refused.0,
         period_refused text refused.0 refused.1 positive circuit,
       )
       | inr read ↦ small_judged positive read.0 read.1 read.2 read.3 read.4
@@ -220,41 +218,25 @@ module _ (circuit : Circuit) where
     where
       small_judged : (IsNegativeQuotient text → ⊥) → (num den : ℤ) → SpellsQuotient text num den
           → HaveSmallSizes num den → IsLowest num den → Judged field.Period text
-      small_judged positive num den spells small lowest = by_lt_z num (pos (10 ^ 18))
+      small_judged positive num den spells small lowest =
+          let some = from_zero text num den spells positive in
+          by_lt_z num (pos (10 ^ 18))
           (λ below. by_lt_z (pos 4097) den
-          (λ past. denoted false (
-            λ is. absurd (true≢false (sym is)),
-            λ both.
-                let few = both.1 in absurd (omega (arith, ints, few, past)),
+          (λ past. (
+            Some Large,
+            period_past text num den spells circuit lowest some
+                (λ both. let few = both.1 in omega (arith, ints, few, past)),
           ))
-          (λ few. denoted true (λ is. (below, few), λ both. refl)))
-          (λ past. denoted false (
-            λ is. absurd (true≢false (sym is)),
-            λ both.
-                let below = both.0 in absurd (omega (arith, ints, below, past)),
+          (λ few. (None, period_within text num den spells circuit lowest some (below, few))))
+          (λ past. (
+            Some Large,
+            period_past text num den spells circuit lowest some
+                (λ both. let below = both.0 in omega (arith, ints, below, past)),
           ))
-        where
-          denoted : (within : Bool)
-              → IsTrue within ↔ ((num <ℤ pos (10 ^ 18)) × (den ≤ℤ pos 4097))
-              → Judged field.Period text
-          denoted within is = (
-            large_flaw within,
-            period_denoted text num den spells small lowest positive within is circuit,
-          )
 
   slack_judged : (over bound : ℤ) (text : List ℕ) → Judged (field.Slack over bound) text
   slack_judged over bound text = elim (same_text text (codes "-")) [
-    | inl dash ↦
-        let none = subst (λ (t : List ℕ). (num den : ℤ) → SpellsQuotient t num den → ⊥)
-        (sym dash) no_quotient_dash in (
-          None,
-          (
-            inl dash,
-            tt,
-            λ num den spells small. absurd (none num den spells),
-            λ num den spells. absurd (none num den spells),
-          ),
-        )
+    | inl dash ↦ (None, dash_plain over bound text dash circuit)
     | inr other ↦
         let (flaw, has) = steps_judged over bound text in
         (flaw, slack_denoted over bound text other flaw circuit has)
@@ -336,13 +318,6 @@ module _ (circuit : Circuit) where
   word_judged (field.From first) text = from_judged first text
   word_judged field.Signal text = signal_judged text
 
-  -- what holds of the first word and of those after it
-  same_parts : (Holds : Field → List ℕ → Type 0) (due : Field) (fields : List Field)
-      → (word : List ℕ) (words : List (List ℕ))
-      → EachWord Holds (due ∷ fields) (word ∷ words)
-      ↔ (Holds due word × EachWord Holds fields words)
-  same_parts Holds due fields word words = (λ each. each, λ each. each)
-
   pub line_judged : (fields : List Field) (words : List (List ℕ))
       → (flaw : Option Flaw) × LineHasFlaw circuit fields words flaw
   line_judged [] [] = (None, (tt, tt, tt, tt))
@@ -352,8 +327,5 @@ module _ (circuit : Circuit) where
       let (first, has) = word_judged due word in
       let (second, has') = line_judged fields words in (
         sooner_flaw first second,
-        sooner_of (same_parts IsFormed due fields word words)
-            (same_parts (IsKnown circuit) due fields word words)
-            (same_parts (IsFit circuit) due fields word words)
-            (same_parts IsWithin due fields word words) first second has has',
+        line_first circuit due fields word words first second has has',
       )

@@ -1,6 +1,7 @@
 mod SpelledFields
 mod TreeLines
 mod TimingLines
+mod TimingReads
 mod GridLemmas
 pub mod LineLemmas
 mod NumberWords
@@ -12,11 +13,12 @@ mod OneRecord
 mod OneTiming
 mod OneTree
 pub mod ReportWords
-mod ReadWires
+mod ReadCorners
 mod WordBytes
 mod NameNumbers
 mod RegisterNames
 pub mod FlawLemmas
+mod ScanLemmas
 mod NamedRegisters
 mod FractionFlaws
 mod CoprimeFactors

@@ -1,23 +1,19 @@
 -- The word of a number and the number: whole numbers, and fractions that are whole steps.
-use Rattle.std.proofs.Common.{◌≡◌, ◌<◌, ◌≤◌, ◌*◌, ◌/◌, ◌^◌, ℕ, suc, ℤ, pos, negsuc, neg_ℤ, ◌+ℤ◌, ◌*ℤ◌, ◌≤ℤ◌, ◌<ℤ◌, nat_abs, List, Result, Ok, MatchResult, FitsSigned, of_z, to_z, refl, sym, ap, ◌∙◌, subst, arith}
+use Rattle.std.proofs.Common.{◌≡◌, ◌≤◌, ◌^◌, ℕ, ℤ, pos, negsuc, neg_ℤ, ◌+ℤ◌, ◌≤ℤ◌, ◌<ℤ◌, nat_abs, List, FitsSigned, refl, sym, ap, ◌∙◌, subst, arith}
 use mir.Syntax.{w128}
-use Rattle.std.proofs.Math.Nat.{mul-div_cancel, mul-div_cancel'}
 use Rattle.std.proofs.lemmas.Int.{ints}
 use Rattle.std.specs.Fmt.{signed_decimal}
-use Rattle.std.specs.Int.{◌∣◌}
 use Rattle.std.specs.Int.RustNames.{int_div}
 use Rattle.cts_base.specs.declared.fraction.Fraction.{Fraction}
-use Rattle.cts_base.specs.declared.number.NumberFault.{NumberFault}
-use Rattle.cts_base.specs.Fractions.{HasSizeBelow, divisor_up_to, fraction_text, quotient_text}
+use Rattle.cts_base.specs.Fractions.{HasSizeBelow, divisor_up_to, quotient_text}
 use Rattle.cts_base.specs.NumberTexts.{SpellsWhole, SpellsQuotient, HaveSmallSizes, kept_size}
-use Rattle.cts_base.proofs.FractionReading.{few_digits, held_same, kept_same}
+use Rattle.cts_base.proofs.FractionReading.{few_digits, kept_same, kept_small}
 use Rattle.cts_base.proofs.GreatestDivisors.{up_to_second, quotient_text_is}
-use Rattle.cts_base.proofs.OneSpelling.{one_quotient, one_whole, whole_text, whole_spelled, quotient_text_spelled, fraction_spelled}
-use Rattle.cts_base.proofs.Quotients.{int_div-le, lowest_quotients, negative, same_value}
+use Rattle.cts_base.proofs.OneSpelling.{one_quotient, whole_text, whole_spelled, quotient_text_spelled, fraction_spelled}
+use Rattle.cts_base.proofs.Quotients.{int_div-le, lowest_quotients, same_value}
 use Rattle.cts_model.specs.placement.Points.{IsBelow}
 use Rattle.report_text.proofs.CoprimeFactors.{one_number_of_steps}
 use Rattle.report_text.specs.Fields.{IsFractionForm, AreSteps, IsWholeSteps, AreFewSteps}
-use Rattle.report_text.specs.Values.{SpellsNumber, SpellsSteps}
 
 -- ---- whole numbers
 
@@ -26,22 +22,19 @@ pub whole_word : (word : List ℕ) (value : ℤ) → HasSizeBelow (10 ^ 37) valu
     → SpellsWhole word value → word ≡ signed_decimal value
 whole_word word value small spells = whole_text word value (few_digits value small) spells
 
+-- what is read of a word, where it is such a number, is the one of the word
+pub whole_read : (word : List ℕ) (value read number : ℤ) → SpellsWhole word value
+    → read ≡ kept_size value → number ≡ read → HasSizeBelow (10 ^ 37) number
+    → word ≡ signed_decimal number
+whole_read word value read number spells kept same small =
+    let few = kept_small value (subst (HasSizeBelow (10 ^ 37)) (same ∙ kept) small) in
+    whole_word word value few spells
+    ∙ ap signed_decimal (sym (kept_same value few) ∙ sym kept ∙ sym same)
+
 -- and what a report has for such a number spells it
 pub spelled_whole : (value : ℤ) → HasSizeBelow (10 ^ 37) value
     → SpellsWhole (signed_decimal value) value
 spelled_whole value small = whole_spelled value (few_digits value small)
-
--- a number that 32 bits hold is such a number
-pub number_small : (number : ℕ) → number < 2 ^ 32 → HasSizeBelow (10 ^ 37) (pos number)
-number_small number small =
-    record { above = omega (arith, ints, small); below = omega (arith, ints, small) }
-
--- the word of such a number spells it
-pub number_spelled : (word : List ℕ) (number : ℕ) → SpellsNumber word number
-    → SpellsWhole word (pos number)
-number_spelled word number spells =
-    subst (λ w. SpellsWhole w (pos number)) (sym spells.1)
-    (spelled_whole (pos number) (number_small number spells.0))
 
 -- ---- steps
 
@@ -75,31 +68,12 @@ steps_word word over num den steps some form small are =
     quotient_text_spelled word num den (few_digits num small.0) (few_digits den small.1) form.0
     ∙ quotient_text_is steps over fraction some are
 
--- a number is a divisor times what that divides it into
-exact : (number : ℤ) (divisor : ℕ) → divisor ∣ nat_abs number
-    → int_div number (pos divisor) *ℤ pos divisor ≡ number
-exact (pos n) divisor divides =
-    let back = mul-div_cancel' divisor divides in
-    ap pos (omega (arith, back))
-exact (negsuc n) divisor divides =
-    let back = mul-div_cancel' divisor divides in
-    let size : (suc n / divisor) * divisor ≡ suc n = omega (arith, back) in
-    negative (suc n / divisor) divisor ∙ ap (λ s. neg_ℤ (pos s)) size
-
--- what a divisor divides a number into divides it into that divisor
-exact_back : (over divisor : ℕ) → pos 1 ≤ℤ pos (over / divisor) → divisor ∣ over
-    → over / (over / divisor) ≡ divisor
-exact_back over divisor some divides =
-    ap (λ n. n / (over / divisor)) (sym (mul-div_cancel' divisor divides))
-    ∙ mul-div_cancel divisor (omega (arith, ints, some))
-
 -- the fraction that a report has for so many steps
 pub record HasFraction (over steps num den : ℤ) : Type 0 where
   pub form : IsFractionForm (quotient_text steps over) num den
   pub small : HaveSmallSizes num den
   pub some_den : pos 1 ≤ℤ den
   pub are : AreSteps over num den steps
-  pub back : (num *ℤ int_div over den) ≡ steps
 
 -- what a report has for so many steps is a fraction, of that many steps
 pub spelled_steps : (over steps : ℤ) → pos 1 ≤ℤ over → HasSizeBelow (10 ^ 37) over
@@ -127,8 +101,6 @@ spelled_steps (pos over) steps some small small' =
         small = (small_num, small_den);
         some_den = lowest.some_den;
         are = same_value steps (pos over) (pos divisor) some positive greatest;
-        back = ap (λ n. num *ℤ pos n) (exact_back over divisor lowest.some_den greatest.1)
-            ∙ exact steps divisor greatest.0;
       },
     )
 
@@ -191,40 +163,3 @@ denoted_steps word over num den bound some form whole few =
         let above : neg_ℤ (pos bound) <ℤ s = grind (arith, ints) in
         let less : s <ℤ pos bound = grind (arith, ints) in
         record { above = above; below = less }
-
--- ---- what is read of them
-
--- what is read of a number's word is the number
-pub number_read : (word : List ℕ) (number : ℕ) (value read : ℤ) → SpellsNumber word number
-    → SpellsWhole word value → read ≡ kept_size value → to_z w128 (of_z w128 read) ≡ pos number
-number_read word number value read spells is kept =
-    let same = one_whole word value (pos number) is (number_spelled word number spells) in
-    let small = number_small number spells.0 in
-    let whole : read ≡ pos number =
-    kept ∙ ap kept_size same ∙ kept_same (pos number) small in
-    ap (λ n. to_z w128 (of_z w128 n)) whole ∙ held_same (pos number) small
-
--- of a word of steps a fraction is read, and its steps are those
-pub steps_read : (word : List ℕ) (over steps : ℤ) (read : Result Fraction NumberFault)
-    → pos 1 ≤ℤ over → HasSizeBelow (10 ^ 37) over → SpellsSteps over word steps
-    → ((fraction : Fraction) → HasSizeBelow (10 ^ 37) fraction.num
-    → HasSizeBelow (10 ^ 37) fraction.den → word ≡ fraction_text fraction.num fraction.den
-    → read ≡ Ok fraction)
-    → MatchResult read (λ fraction. HasSizeBelow (10 ^ 37) fraction.den
-    × HasSizeBelow (10 ^ 37) fraction.num
-    × ((fraction.num *ℤ int_div over fraction.den) ≡ steps)) (λ _. ⊥)
-steps_read word over steps read some small spells each =
-    let (num, den, has) = spelled_steps over steps some small spells.0 in
-    let fraction : Fraction = record { num = num; den = den; lowest = has.form.1 has.small } in
-    let same = spells.1
-    ∙ quotient_text_spelled (quotient_text steps over) num den (few_digits num has.small.0)
-    (few_digits den has.small.1) has.form.0 in
-    subst (λ r. MatchResult r (λ f. HasSizeBelow (10 ^ 37) f.den × HasSizeBelow (10 ^ 37) f.num
-    × ((f.num *ℤ int_div over f.den) ≡ steps)) (λ _. ⊥))
-    (sym (each fraction has.small.0 has.small.1 same)) (has.small.1, has.small.0, has.back)
-
--- the steps as the code passes them are the same
-pub kept_spelled : (over : ℤ) (word : List ℕ) (steps : ℤ) → SpellsSteps over word steps
-    → SpellsSteps over word (to_z w128 (of_z w128 steps))
-kept_spelled over word steps spells =
-    subst (SpellsSteps over word) (sym (held_same steps spells.0)) spells

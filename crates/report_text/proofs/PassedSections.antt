@@ -191,11 +191,8 @@ module _ (circuit : Circuit) (scale : Scale) where
       (merge_forms count ++ (form.Source ∷ node_forms count ++ last)) timings.new timings.rest in
       let merged = counted_passed word.Merges form.Merge (SaysMerge circuit scale.grid) count
       (count - 1) (form.Source ∷ node_forms count ++ last) (omega (arith, few))
-      (λ number words within some flawless. (
-        _,
-        (merge_found circuit scale number words small
-            (omega (arith, few, within)) flawless).says,
-      )) leads.new leads.rest in
+      (λ number words within some. merge_found circuit scale number words small
+      (omega (arith, few, within))) leads.new leads.rest in
       let source = denoted_passed circuit scale form.Source (node_forms count ++ last)
       (SaysSource circuit scale.grid) merged.new
       (λ words there. source_found circuit scale words small) merged.rest in

@@ -1,5 +1,5 @@
 -- The number of the register of a name.
-use Rattle.std.proofs.Common.{◌≡◌, ◌<◌, ◌≤◌, ℕ, Bool, List, length, get_or, sym, ap, ◌∙◌, arith}
+use Rattle.std.proofs.Common.{◌≡◌, ◌<◌, ◌≤◌, ℕ, Bool, List, Result, Ok, Err, IfOk, IfErr, length, get_or, sym, ap, ◌∙◌, arith}
 use Rattle.std.specs.List.{range_with_len}
 use Rattle.std.specs.Str.{bytes_eq}
 use Rattle.std.proofs.lemmas.Bool.{false_from_ne_true}
@@ -8,8 +8,12 @@ use Rattle.std.proofs.lemmas.List.Sums.{position_or_len_is}
 use Rattle.std.proofs.lemmas.Slice.Eq.{bytes_eq-Decides}
 use Rattle.cts_model.specs.declared.circuit.Circuit.{Circuit}
 use Rattle.cts_model.specs.netlist.Paths.{register_name}
-use Rattle.report_text.specs.Fields.{NamesRegister}
+use Rattle.report_text.specs.LineFields.{Register}
+use Rattle.report_text.specs.declared.field.Flaw.{Flaw}
+use Rattle.report_text.specs.declared.field.Flaw.TheVariants as flaws
+use Rattle.report_text.specs.Fields.{NamesRegister, WordHasFlaw}
 use Rattle.report_text.specs.Forms.{register_named}
+use Rattle.report_text.specs.Scans.{flaw_in}
 use Rattle.report_text.proofs.OneName.{one_register}
 
 module _ (circuit : Circuit) (name : List ℕ) where
@@ -53,3 +57,18 @@ module _ (circuit : Circuit) (name : List ℕ) where
       first_named (length circuit.registers) (omega arith)
       (λ register before same. none (register, before, same))
       (λ past. absurd (omega (arith, past)))
+
+  -- so is what is given for the name: the number that is read, or that of all
+  pub name_read : (read : Result ℕ Flaw) (given other : ℕ)
+      → WordHasFlaw circuit Register name (flaw_in read)
+      → IfOk read (λ register. (name ≡ register_name circuit register)
+      × (register < length circuit.registers)) → IfOk read (λ register. given ≡ register)
+      → IfErr read (λ _. given ≡ other) → other ≡ length circuit.registers
+      → given ≡ register_named circuit name
+  name_read (Ok register) given other flaw is same none all =
+      same ∙ sym (named_register register is.1 (sym is.0))
+  name_read (Err flaws.Form) given other flaw is same none all = absurd (flaw tt)
+  name_read (Err flaws.Unknown) given other flaw is same none all =
+      none ∙ all ∙ sym (unnamed_register flaw.1)
+  name_read (Err flaws.Unfit) given other flaw is same none all = absurd (flaw.2 tt)
+  name_read (Err flaws.Large) given other flaw is same none all = absurd (flaw.3 tt)

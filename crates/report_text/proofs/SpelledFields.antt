@@ -1,16 +1,15 @@
 -- What each word of a line without a flaw is: the word of a value that its field admits. A line has
 -- no flaw just where each of its words is one.
-use Rattle.std.proofs.Common.{◌≡◌, ◌<◌, ◌≤◌, ◌^◌, ◌⊎◌, ℕ, ℤ, pos, negsuc, neg_ℤ, ◌≤ℤ◌, ◌<ℤ◌, ◌+ℤ◌, nat_abs, to_z, of_z, inl, inr, List, [], ◌∷◌, get_or, length, Option, Some, None, codes, refl, sym, ap, ◌∙◌, subst, arith}
-use mir.Syntax.{w128}
+use Rattle.std.proofs.Common.{◌≡◌, ◌<◌, ◌≤◌, ◌^◌, ◌⊎◌, ℕ, ℤ, pos, negsuc, neg_ℤ, ◌≤ℤ◌, ◌<ℤ◌, ◌+ℤ◌, nat_abs, inl, inr, List, [], ◌∷◌, get_or, length, Option, Some, None, codes, refl, sym, ap, ◌∙◌, subst, arith}
 use Rattle.std.proofs.lemmas.Int.{ints}
 use Rattle.std.specs.Fmt.{signed_decimal}
 use Rattle.std.specs.List.{AllByRecursion}
 use Rattle.cts_base.specs.declared.fraction.Fraction.{Fraction}
 use Rattle.cts_base.specs.Fractions.{HasSizeBelow, fraction_text, quotient_text}
 use Rattle.cts_base.specs.NumberTexts.{SpellsWhole, SpellsQuotient, HaveSmallSizes}
-use Rattle.cts_base.proofs.FractionReading.{few_digits, held_same}
+use Rattle.cts_base.proofs.FractionReading.{few_digits}
 use Rattle.cts_base.proofs.GreatestDivisors.{lowest_sizes}
-use Rattle.cts_base.proofs.OneNumberText.{one_number_text, one_quotient_text, slash_differs}
+use Rattle.cts_base.proofs.OneNumberText.{slash_differs}
 use Rattle.cts_base.proofs.OneSpelling.{fraction_spelled, one_quotient, one_whole, plain_no_minus, quotient_some, quotient_text_spelled}
 use Rattle.cts_model.specs.declared.circuit.Circuit.{Circuit}
 use Rattle.cts_model.specs.netlist.Paths.{register_name}
@@ -18,11 +17,10 @@ use Rattle.cts_model.specs.placement.Points.{IsBelow}
 use Rattle.cts_model.specs.text.PrintedLines.{Words, slack_text}
 use Rattle.cts_model.specs.timing.Schedules.{IsSmallPeriod}
 use Rattle.cts_model.specs.timing.Slacks.{IsSmallSlack}
-use Rattle.report_text.specs.declared.field.Field.{Field}
-use Rattle.report_text.specs.declared.field.Field.TheVariants as field
+use Rattle.report_text.specs.LineFields.{Field}
+use Rattle.report_text.specs.LineFields as field
 use Rattle.report_text.specs.Fields.{EachWord, AreFewSteps, AreSteps, IsFractionForm, IsWholeSteps, LineHasFlaw, NamesRegister, NamesSignal, WordHasFlaw}
 use Rattle.report_text.specs.Keywords.{keyword_text}
-use Rattle.report_text.specs.Values.{SpellsNumber, SpellsSteps}
 use Rattle.report_text.proofs.CoprimeFactors.{one_number_of_steps}
 use Rattle.report_text.proofs.NumberWords.{denoted_steps, few_steps, spelled_steps, spelled_whole, whole_steps, whole_word}
 use Rattle.report_text.proofs.OneName.{one_register}
@@ -90,33 +88,6 @@ number_spelled least most word small (pos n) spells low high =
     )
 number_spelled least most word small (negsuc n) spells low high =
     absurd (omega (arith, ints, low))
-
--- what is read of a word is the number or the steps that it spells
-pub number_same : (word : List ℕ) (number read : ℕ) → SpellsNumber word number
-    → SpellsNumber word read → number ≡ read
-number_same word number read spells other =
-    let same = one_number_text (pos number) (pos read) (omega (arith, spells.0))
-    (omega (arith, other.0)) (sym spells.1 ∙ other.1) in
-    omega (arith, ints, same)
-
-pub steps_same : (over : ℤ) (word : List ℕ) (steps read : ℤ) → pos 1 ≤ℤ over
-    → HasSizeBelow (10 ^ 37) over → SpellsSteps over word steps → SpellsSteps over word read
-    → steps ≡ read
-steps_same over word steps read some small spells other =
-    one_quotient_text steps read over some (few_digits steps spells.0) (few_digits read other.0)
-    (few_digits over small) (sym spells.1 ∙ other.1)
-
--- as the code keeps them
-pub steps_kept : (over : ℤ) (word : List ℕ) (steps read : ℤ) → pos 1 ≤ℤ over
-    → HasSizeBelow (10 ^ 37) over → SpellsSteps over word steps → SpellsSteps over word read
-    → steps ≡ to_z w128 (of_z w128 read)
-steps_kept over word steps read some small spells other =
-    steps_same over word steps read some small spells other ∙ sym (held_same read other.0)
-
-pub number_kept : (number read : ℤ) → HasSizeBelow (10 ^ 37) number → read ≡ number
-    → number ≡ to_z w128 (of_z w128 read)
-number_kept number read small same =
-    sym (held_same number small) ∙ ap (λ n. to_z w128 (of_z w128 n)) (sym same)
 
 -- the numbers of a small period are small
 pub small_period : (period : Fraction) → IsSmallPeriod period

@@ -11,13 +11,14 @@ use Rattle.std.proofs.lemmas.Bool.Decides.{Decides-eqb, Decides-int_eq}
 use Rattle.std.proofs.lemmas.Int.{ints, by_lt_z}
 use Rattle.std.proofs.lemmas.Nat.Gcd.{le_of_dvd}
 use Rattle.std.proofs.lemmas.Slice.Eq.{bytes_eq-Decides}
-use Rattle.cts_base.specs.declared.number.NumberFault.{NumberFault}
-use Rattle.cts_base.specs.declared.number.NumberFault.TheVariants.{NotNumber, TooLarge}
 use Rattle.cts_base.specs.Fractions.{HasSizeBelow, IsLowest, divisor_up_to}
-use Rattle.cts_base.specs.NumberTexts.{HaveSmallSizes, IsPlainNumeral, RefusesFraction, SpellsQuotient, SpellsWhole}
+use Rattle.cts_base.specs.NumberTexts.{HaveSmallSizes, IsPlainNumeral, SpellsQuotient, SpellsWhole}
 use Rattle.cts_base.proofs.GreatestDivisors.{up_to_second}
 use Rattle.cts_base.proofs.OneNumberText.{HasNoSlash, one_split, slash_differs}
 use Rattle.cts_base.proofs.OneSpelling.{one_whole, plain_no_minus, quotient_some, whole_no_slash}
+use Rattle.report_text.specs.declared.field.Flaw.{Flaw}
+use Rattle.report_text.specs.declared.field.Flaw.TheVariants.{Form, Large}
+use Rattle.report_text.specs.JudgedFractions.{IsRefusedFor}
 
 -- ---- what a test decides
 
@@ -207,24 +208,24 @@ lowest_or_not num den some =
 
 -- what a text is as a fraction: refused, or a small quotient in lowest terms
 abbrev pub FractionOrNot : List ℕ → Type 0
-FractionOrNot text = ((fault : NumberFault) × RefusesFraction text fault)
+FractionOrNot text = ((flaw : Flaw) × IsRefusedFor text flaw)
     ⊎ ((num : ℤ) × (den : ℤ) × SpellsQuotient text num den × HaveSmallSizes num den
     × IsLowest num den)
 
 pub fraction_or_not : (text : List ℕ) → FractionOrNot text
 fraction_or_not text = elim (quotient_or_not text) [
-  | inr none ↦ inl (NotNumber, inl none)
+  | inr none ↦ inl (Form, inl none)
   | inl found ↦ quotient found.0 found.1 found.2
 ]
   where
     quotient : (num den : ℤ) → SpellsQuotient text num den → FractionOrNot text
     quotient num den spells = elim (size_or_not (10 ^ 37) num) [
-      | inr large ↦ inl (TooLarge, (num, den, spells, λ small. large small.0))
+      | inr large ↦ inl (Large, (num, den, spells, λ small. large small.0))
       | inl small ↦ elim (size_or_not (10 ^ 37) den) [
-        | inr large ↦ inl (TooLarge, (num, den, spells, λ small. large small.1))
+        | inr large ↦ inl (Large, (num, den, spells, λ small. large small.1))
         | inl small' ↦ elim (lowest_or_not num den (quotient_some text num den spells)) [
           | inl lowest ↦ inr (num, den, spells, (small, small'), lowest)
-          | inr other ↦ inl (NotNumber, inr (num, den, spells, (small, small'), other))
+          | inr other ↦ inl (Form, inr (num, den, spells, (small, small'), other))
         ]
       ]
     ]

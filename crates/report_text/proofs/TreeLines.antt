@@ -1,16 +1,14 @@
 -- A line of the tree without a flaw is that of a value, and the line of a value within the bounds
 -- has no flaw.
-use Rattle.std.proofs.Common.{◌≡◌, ◌<◌, ◌≤◌, ◌+◌, ◌*◌, ◌-◌, ◌^◌, ◌==◌, ◌&&◌, ◌++◌, nat_le, suc, zero, replicate, drop, take, ap₂, All, Bool, if◌then◌else◌, ℕ, ℤ, pos, List, [], ◌∷◌, get_or, length, None, true, false, refl, sym, ap, ◌∙◌, subst, codes, arith}
+use Rattle.std.proofs.Common.{◌≡◌, ◌<◌, ◌≤◌, ◌+◌, ◌*◌, ◌-◌, ◌^◌, ◌==◌, ◌&&◌, ◌++◌, nat_le, suc, zero, replicate, take, ap₂, All, Bool, if◌then◌else◌, ℕ, ℤ, List, [], ◌∷◌, get_or, length, None, true, false, refl, sym, ap, ◌∙◌, subst, codes, arith}
 use Rattle.std.proofs.lemmas.Bool.{le-leb, leb-true}
 use Rattle.std.proofs.lemmas.Bool.Decides.{Decides-eqb}
-use Rattle.std.proofs.lemmas.List.{drop_at, get_or-drop, length-append, length-drop, length-replicate, length-take, take_at}
+use Rattle.std.proofs.lemmas.List.{drop_at, length-append, length-replicate, length-take, take_at}
 use Rattle.std.proofs.lemmas.List.Elements.{All-cons, All-nil, All-replicate}
 use Rattle.std.specs.List.{AllByRecursion, flat_map}
-use Rattle.std.specs.Fmt.{signed_decimal}
 use Rattle.cts_base.specs.Fractions.{quotient_text}
 use Rattle.cts_model.specs.declared.circuit.Circuit.{Circuit}
 use Rattle.cts_model.specs.declared.place.Point.{Point}
-use Rattle.cts_model.specs.declared.tree.Wire.{Wire}
 use Rattle.cts_model.specs.declared.tree.Show.{Show}
 use Rattle.cts_model.specs.declared.tree.Show.TheVariants.{Pair, Sink, Root}
 use Rattle.cts_model.specs.netlist.Paths.{register_name}
@@ -18,8 +16,8 @@ use Rattle.cts_model.specs.placement.Points.{IsBelow, IsPointBelow}
 use Rattle.cts_model.specs.text.PrintedLines.{Words}
 use Rattle.cts_model.specs.report.ReportBounds.{IsMergeShow, IsSourceShow, ShowsAmong}
 use Rattle.cts_model.specs.report.ReportLines.{origin}
-use Rattle.report_text.specs.declared.field.Field.{Field}
-use Rattle.report_text.specs.declared.field.Field.TheVariants as field
+use Rattle.report_text.specs.LineFields.{Field}
+use Rattle.report_text.specs.LineFields as field
 use Rattle.report_text.specs.declared.field.Keyword.TheVariants as word
 use Rattle.report_text.specs.declared.form.Form.TheVariants as form
 use Rattle.report_text.specs.declared.form.Scale.{Scale}
@@ -29,10 +27,10 @@ use Rattle.report_text.specs.declared.tree_values.SourceLine.{SourceLine}
 use Rattle.report_text.specs.Fields.{EachWord, LineHasFlaw}
 use Rattle.report_text.specs.Forms.{has_points, is_word, length_field, merge_fields, node_fields, pointed_fields, points_of, total_fields}
 use Rattle.report_text.specs.TimingValues.{IsFlawless}
-use Rattle.report_text.specs.Values.{HasCorners, IsLengthWord, IsSmallScale, SaysMerge, SaysNode, SaysSource, SaysTotal, SaysWire, SpellsPoint, SpellsRegister, SpellsSteps, coordinates, merged_line, placed_line, sourced_line}
+use Rattle.report_text.specs.Values.{IsSmallScale, SaysMerge, SaysNode, SaysSource, SaysTotal, coordinates, merged_line, placed_line, sourced_line}
 use Rattle.report_text.proofs.WordBytes.{both}
 use Rattle.report_text.proofs.RegisterNames.{named_register}
-use Rattle.report_text.proofs.SpelledFields.{AreSpelled, IsSmallField, IsSpelled, begins, ends, line_plain, line_spelled, put, size_below, steps_same, word_is}
+use Rattle.report_text.proofs.SpelledFields.{AreSpelled, IsSmallField, IsSpelled, begins, ends, line_plain, line_spelled, put, word_is}
 
 -- a length is small
 small_length : (scale : Scale) → IsSmallScale scale → IsSmallField (length_field scale)
@@ -66,22 +64,9 @@ small_merge circuit scale node words small below = (
   (omega arith, (omega arith, (small_length scale small, (tt, (tt, (tt, tt)))))),
 )
 
--- what a merge's line without a flaw says
-pub record FoundMerge (circuit : Circuit) (grid : ℤ) (node : ℕ) (words : Words) : Type 0 where
-  pub first : ℕ
-  pub second : ℕ
-  pub reach : ℤ
-  pub left : ℕ
-  pub right : ℕ
-  pub says : SaysMerge circuit grid node words (record {
-    merge = record { first = first; second = second };
-    reach = reach;
-    show = Pair left right;
-  })
-
 pub merge_found : (circuit : Circuit) (scale : Scale) (node : ℕ) (words : Words)
     → IsSmallScale scale → node < 2 ^ 32 → IsFlawless circuit scale (form.Merge node) words
-    → FoundMerge circuit scale.grid node words
+    → (line : MergeLine) × SaysMerge circuit scale.grid node words line
 merge_found circuit scale node words small below flawless =
     let a = begins (line_spelled circuit (merge_fields circuit scale node words) words
     (small_merge circuit scale node words small below) flawless) in
@@ -99,21 +84,20 @@ merge_found circuit scale node words small below flawless =
     let words_are = put a.is a.here (put b.is first_is (put c.is second_is (put d.is reach_is
     (put e.is e.here (put f.is (sym left_is) (put g.is (sym right_is) (ends g.rest))))))) in
     let named = named_register circuit (get_or words 5 []) left within
-    (sym (word_is 5 refl words_are)) in
-    record {
-      first = first;
-      second = second;
-      reach = reach;
-      left = left;
-      right = right;
-      says = record {
+    (sym (word_is 5 refl words_are)) in (
+      record {
+        merge = record { first = first; second = second };
+        reach = reach;
+        show = Pair left right;
+      },
+      record {
         words_are = words_are;
         merge = record { first = high; second = high' };
         reach = reach_below;
         show = omega (arith, named, from);
         among = (within, within');
-      };
-    }
+      },
+    )
 
 pub merge_plain : (circuit : Circuit) (scale : Scale) (node : ℕ) (words : Words)
     (line : MergeLine) → IsSmallScale scale → node < 2 ^ 32
@@ -156,7 +140,7 @@ merge_plain circuit scale node words line small below says =
 -- ---- the source
 
 -- its fields, by whether the root shows it
-abbrev shown_fields : Scale → (root : Bool) → List Field
+abbrev pub shown_fields : Scale → (root : Bool) → List Field
 shown_fields scale root = field.Word word.Source ∷ length_field scale
     ∷ (if root then field.Word word.Root ∷ [] else field.Word word.Sink ∷ field.Register ∷ [])
 
@@ -218,23 +202,6 @@ source_plain circuit scale words line small says =
         (sourced_line circuit scale.grid (record { reach = line.reach; show = Root }))
         (tt, (small_length scale small, (tt, tt)))
         (refl, ((line.reach, says.reach, refl), (refl, tt)))
-
--- what is read for what shows it
-pub show_same : (circuit : Circuit) (grid : ℤ) (words : Words) (line : SourceLine) (read : Show)
-    → SaysSource circuit grid words line → (is_word words 2 word.Root ≡ true → read ≡ Root)
-    → ((register : ℕ) → is_word words 2 word.Root ≡ false
-    → SpellsRegister circuit (get_or words 3 []) register → read ≡ Sink register)
-    → line.show ≡ read
-show_same circuit grid words line read says root sink =
-    at line.show says.show says.among says.words_are
-  where
-    at : (show : Show) → IsSourceShow show → ShowsAmong (length circuit.registers) show
-        → words ≡ sourced_line circuit grid (record { reach = line.reach; show = show })
-        → show ≡ read
-    at (Pair left right) is among are = absurd is
-    at (Sink register) is among are = sym (sink register
-        (ap (λ (w : Words). is_word w 2 word.Root) are) (among, sym (word_is 3 refl are)))
-    at Root is among are = sym (root (ap (λ (w : Words). is_word w 2 word.Root) are))
 
 -- ---- a node
 
@@ -310,6 +277,23 @@ points_plain circuit scale (point ∷ points) below =
       ),
     )
 
+-- a node has so many words as 1 to 5 points ask
+record PointsFit (words : Words) : Type 0 where
+  all : length words ≡ 5 + 2 * points_of words
+  some : 1 ≤ points_of words
+  few : points_of words ≤ 5
+
+points_fit : (words : Words) → has_points words ≡ true → PointsFit words
+points_fit words is =
+    let (all, fit) = both (length words == 5 + 2 * points_of words)
+    (nat_le 1 (points_of words) && nat_le (points_of words) 5) is in
+    let (some, few) = both (nat_le 1 (points_of words)) (nat_le (points_of words) 5) fit in
+    record {
+      all = (Decides-eqb (length words) (5 + 2 * points_of words)).0 all;
+      some = leb-true 1 (points_of words) some;
+      few = leb-true (points_of words) 5 few;
+    }
+
 pub node_found : (circuit : Circuit) (scale : Scale) (node : ℕ) (words : Words)
     → IsSmallScale scale → node < 2 ^ 32 → 0 < length words
     → IsFlawless circuit scale (form.Node node) words
@@ -373,24 +357,35 @@ node_found circuit scale node words small below some flawless =
         None
         → (line : NodeLine) × SaysNode scale.grid node words line
     at true is flawless =
-        let (all, few) = both (length words == 5 + 2 * points_of words)
-        (nat_le 1 (points_of words) && nat_le (points_of words) 5) is in
-        let (low, high) = both (nat_le 1 (points_of words)) (nat_le (points_of words) 5) few in
-        of_points (points_of words) (leb-true 1 (points_of words) low)
-        (leb-true (points_of words) 5 high) flawless
+        let fit = points_fit words is in of_points (points_of words) fit.some fit.few flawless
     at false is flawless = absurd (none words some flawless)
 
 -- so many words are those of a node
-points_are : (words : Words) (points : ℕ) → length words ≡ 5 + 2 * points → 1 ≤ points → points ≤ 5
-    → (has_points words ≡ true) × (points_of words ≡ points)
-points_are words points all some few =
-    let are : points_of words ≡ points = omega (arith, all) in (
-      ap₂ (λ x y. x && y)
-          ((Decides-eqb (length words) (5 + 2 * points_of words)).1 (omega (arith, all, are)))
-          (ap₂ (λ x y. x && y) (le-leb 1 (points_of words) (omega (arith, some, are)))
-          (le-leb (points_of words) 5 (omega (arith, few, are)))),
-      are,
-    )
+pub points_are : (scale : Scale) (node : ℕ) (words : Words) (points : ℕ)
+    → length words ≡ 5 + 2 * points → 1 ≤ points → points ≤ 5
+    → pointed_fields scale node words ≡ node_fields scale node points
+points_are scale node words points all some few =
+    let are : points_of words ≡ points = omega (arith, all) in
+    let has : has_points words ≡ true =
+    ap₂ (λ x y. x && y)
+    ((Decides-eqb (length words) (5 + 2 * points_of words)).1 (omega (arith, all, are)))
+    (ap₂ (λ x y. x && y) (le-leb 1 (points_of words) (omega (arith, some, are)))
+    (le-leb (points_of words) 5 (omega (arith, few, are)))) in
+    ap (λ has. if has then node_fields scale node (points_of words) else []) has
+    ∙ ap (node_fields scale node) are
+
+-- and so many are those of none
+pub no_points : (scale : Scale) (node : ℕ) (words : Words)
+    → ((points : ℕ) → 1 ≤ points → points ≤ 5 → ¬ (length words ≡ 5 + 2 * points))
+    → pointed_fields scale node words ≡ []
+no_points scale node words none = at (has_points words) refl
+  where
+    at : (has : Bool) → has_points words ≡ has
+        → (if has then node_fields scale node (points_of words) else []) ≡ []
+    at true is =
+        let fit = points_fit words is in
+        absurd (none (points_of words) fit.some fit.few fit.all)
+    at false is = refl
 
 pub node_plain : (circuit : Circuit) (scale : Scale) (node : ℕ) (words : Words) (line : NodeLine)
     → IsSmallScale scale → node < 2 ^ 32 → SaysNode scale.grid node words line
@@ -403,10 +398,7 @@ node_plain circuit scale node words line small below says =
     omega (arith, length-take points line.wire.corners, wire.padded.all, wire.few) in
     let all : length words ≡ 5 + 2 * points =
     ap length says.words_are ∙ omega (arith, many, length-points scale.grid corners) in
-    let (has, are) = points_are words points all wire.some wire.few in
-    let fields_are : pointed_fields scale node words ≡ node_fields scale node points =
-    ap (λ has. if has then node_fields scale node (points_of words) else []) has
-    ∙ ap (node_fields scale node) are in
+    let fields_are = points_are scale node words points all wire.some wire.few in
     subst (λ (fields : List Field). LineHasFlaw circuit fields words None) (sym fields_are)
     (subst (λ (w : Words). LineHasFlaw circuit (node_fields scale node points) w None)
     (sym says.words_are)
@@ -429,97 +421,3 @@ node_plain circuit scale node words line small below says =
         ),
       ),
     )))
-
--- ---- what is read of a node
-
--- a length within its bound is one that a word spells
-pub length_spelled : (grid : ℤ) (bound : ℕ) (word : List ℕ) (steps : ℤ) → bound ≤ 10 ^ 37
-    → IsBelow bound steps → word ≡ quotient_text steps grid → SpellsSteps grid word steps
-length_spelled grid bound word steps low below is = (size_below bound steps low below, is)
-
--- each word of points is that of a length
-each_coordinate : (grid : ℤ) (points : List Point) → All (IsPointBelow (10 ^ 32)) points
-    → (place : ℕ) → place < length (flat_map (coordinates grid) points)
-    → IsLengthWord grid (get_or (flat_map (coordinates grid) points) place [])
-each_coordinate grid [] below place within = absurd (omega (arith, within))
-each_coordinate grid (point ∷ points) below zero within =
-    let here = (below 0 point (omega arith)).x in
-    (point.x, here, length_spelled grid (10 ^ 32) _ point.x (omega arith) here refl)
-each_coordinate grid (point ∷ points) below (suc zero) within =
-    let here = (below 0 point (omega arith)).y in
-    (point.y, here, length_spelled grid (10 ^ 32) _ point.y (omega arith) here refl)
-each_coordinate grid (point ∷ points) below (suc (suc place)) within =
-    each_coordinate grid points (λ k default less. below (suc k) default (omega (arith, less)))
-    place (omega (arith, within))
-
-module _ {scale : Scale} {node : ℕ} {words : Words} {line : NodeLine} (small : IsSmallScale scale)
-    (says : SaysNode scale.grid node words line) where
-  -- the points of the line
-  abbrev drawn : List Point
-  drawn = take line.wire.used line.wire.corners
-
-  pub length_words : length words ≡ 5 + 2 * line.wire.used
-  length_words =
-      ap length says.words_are ∙ omega (
-        arith,
-        length-take line.wire.used line.wire.corners,
-        says.wire.padded.all,
-        says.wire.few,
-        length-points scale.grid drawn,
-      )
-
-  pub node_corners : HasCorners scale.grid words
-  node_corners =
-      let points : points_of words ≡ line.wire.used = omega (arith, length_words) in
-      record {
-        all = omega (arith, length_words, points);
-        some = omega (arith, says.wire.some, points);
-        few = omega (arith, says.wire.few, points);
-        each = λ place from within.
-            let after : 5 + (place - 5) ≡ place = omega (arith, from) in
-            let rest : drop 5 words ≡ flat_map (coordinates scale.grid) drawn =
-            ap (drop 5) says.words_are in
-            subst (IsLengthWord scale.grid)
-            (ap (λ (w : Words). get_or w (place - 5) []) (sym rest)
-            ∙ get_or-drop 5 words (place - 5) [] ∙ ap (λ n. get_or words n []) after)
-            (each_coordinate scale.grid drawn says.wire.each (place - 5) (omega (
-              arith,
-              ap length rest,
-              length-drop 5 words,
-              within,
-              from,
-            )));
-      }
-
-  -- what is read of its words is such a line
-  pub node_read : (place : Point) (edge : ℤ) (wire : Wire)
-      → SpellsPoint scale.grid (get_or words 1 []) (get_or words 2 []) place
-      → SpellsSteps scale.grid (get_or words 3 []) edge → SaysWire scale.grid words wire
-      → SaysNode scale.grid node words (record { place = place; length = edge; wire = wire })
-  node_read place edge wire is_place is_edge is_wire =
-      let x = same 1 line.place.x place.x says.place.x (word_is 1 refl says.words_are) is_place.0 in
-      let y = same 2 line.place.y place.y says.place.y (word_is 2 refl says.words_are) is_place.1 in
-      let length = same 3 line.length edge says.edge (word_is 3 refl says.words_are) is_edge in
-      let points : points_of words ≡ line.wire.used = omega (arith, length_words) in
-      let used = sym points ∙ sym is_wire.used in
-      let rest : flat_map (coordinates scale.grid) drawn ≡ flat_map (coordinates scale.grid)
-      (take wire.used wire.corners) = sym (ap (drop 5) says.words_are) ∙ is_wire.words_are in
-      record {
-        words_are = says.words_are ∙ (λ i. signed_decimal (pos node)
-            ∷ quotient_text (x i) scale.grid ∷ quotient_text (y i) scale.grid
-            ∷ quotient_text (length i) scale.grid ∷ signed_decimal (pos (used i)) ∷ rest i);
-        place = record {
-          x = subst (IsBelow (10 ^ 32)) x says.place.x;
-          y = subst (IsBelow (10 ^ 32)) y says.place.y;
-        };
-        edge = subst (IsBelow (10 ^ 32)) length says.edge;
-        wire = is_wire.small;
-      }
-    where
-      same : (place : ℕ) (steps read : ℤ) → IsBelow (10 ^ 32) steps
-          → get_or words place [] ≡ quotient_text steps scale.grid
-          → SpellsSteps scale.grid (get_or words place []) read → steps ≡ read
-      same place steps read below is spells = steps_same scale.grid (get_or words place []) steps
-          read small.some_grid small.small_grid
-          (length_spelled scale.grid (10 ^ 32) (get_or words place []) steps (omega arith) below is)
-          spells

@@ -1,5 +1,5 @@
 -- Lines that are taken from a text one after the other.
-use Rattle.std.proofs.Common.{ℕ, zero, suc, ◌≡◌, ◌<◌, ◌+◌, ◌-◌, ◌==◌, Bool, true, false, Option, Some, None, Bor, Result, Ok, Err, IfErr, IsErrAnd, List, [], ◌∷◌, ◌++◌, map, length, take, drop, get_or, MatchBool, MatchOption, refl, sym, ap, ap₂, subst, ◌∙◌, append_assoc, append-nil, arith}
+use Rattle.std.proofs.Common.{ℕ, zero, suc, ◌≡◌, ◌<◌, ◌+◌, ◌-◌, ◌==◌, Bool, true, false, Option, Some, None, Result, Ok, Err, IfErr, IsErrAnd, List, [], ◌∷◌, ◌++◌, map, length, take, drop, get_or, MatchBool, MatchOption, refl, sym, ap, ap₂, subst, ◌∙◌, append_assoc, append-nil, arith}
 use Rattle.std.specs.List.{slice_split, position}
 use Rattle.std.proofs.lemmas.Bool.Decides.{nat_tests}
 use Rattle.std.proofs.lemmas.Grind.{flat_map-append}
@@ -17,7 +17,7 @@ use Rattle.report_text.specs.Fields.{LineHasFlaw}
 use Rattle.report_text.specs.Forms.{fields_of}
 use Rattle.report_text.specs.ReportFaults.{HasFirstFault, is_line_feed, is_space, words_of, fault_of}
 use Rattle.report_text.specs.TimingValues.{IsFlawless}
-use Rattle.report_text.specs.Walks.{Left, TakesLine, Reads, ReadsLine, Stops, StopsLine, DenotesLine}
+use Rattle.report_text.specs.Walks.{Left, TakesLine, Reads, ReadsLine, Stops, StopsLine}
 use Rattle.report_text.proofs.LineCuts.{byte_then, cut_within, first_part}
 
 -- the first line feed, and what stands after it
@@ -158,27 +158,6 @@ pub passed_on : {T E : Type 0} (result : Result T E) (fault : E) (P : E → Type
     → IsErrAnd result (λ passed. passed ≡ fault) → P fault → IfErr result P
 passed_on (Ok value) fault P is p = tt
 passed_on (Err passed) fault P is p = subst P (sym is) p
-
-module _ (circuit : Circuit) (scale : Scale) (form : Form) {old new : Left}
-    (items slice : List (Bor (List ℕ))) (same : slice ≡ items)
-    (line : ReadsLine circuit scale form (map (λ word. word.now) items) old new) where
-  -- the words of a line that is read have no flaw
-  pub line_flawless : IsFlawless circuit scale form (map (λ word. word.now) slice)
-  line_flawless =
-      subst (λ words. IsFlawless circuit scale form (map (λ word. word.now) words)) (sym same)
-      line.flawless
-
-  -- and tell what they say
-  pub line_denoted : {X : Type 0} (Denotes : Words → X → Type 0) (value : X)
-      → (IsFlawless circuit scale form (map (λ word. word.now) slice)
-      → Denotes (map (λ word. word.now) slice) value)
-      → DenotesLine circuit scale form Denotes old new value
-  line_denoted Denotes value denotes = record {
-    words = map (λ word. word.now) slice;
-    line = subst (λ words. ReadsLine circuit scale form (map (λ word. word.now) words) old new)
-        (sym same) line;
-    denoted = denotes line_flawless;
-  }
 
 -- forms that are due one after the other
 module _ (forms due : ℕ → List Form) (step : (n : ℕ) → forms (n + 1) ≡ forms n ++ due n) where

@@ -6,8 +6,8 @@ use Rattle.cts_base.specs.NumberTexts.{SpellsWhole, SpellsQuotient, HaveSmallSiz
 use Rattle.cts_model.specs.declared.circuit.Circuit.{Circuit}
 use Rattle.cts_model.specs.netlist.Paths.{register_name}
 use Rattle.cts_model.specs.report.ReportLines.{signal_name}
-use Rattle.report_text.specs.declared.field.Field.{Field}
-use Rattle.report_text.specs.declared.field.Field.TheVariants.{Word, Version, Kind, Exactly, Number, Counted, Weight, Period, Steps, Slack, Register, Named, From, Signal}
+use Rattle.report_text.specs.LineFields.{Field}
+use Rattle.report_text.specs.LineFields.{Word, Version, Kind, Exactly, Number, Counted, Weight, Period, Steps, Slack, Register, Named, From, Signal}
 use Rattle.report_text.specs.declared.field.Flaw.{Flaw}
 use Rattle.report_text.specs.declared.field.Flaw.TheVariants as flaws
 use Rattle.report_text.specs.Keywords.{keyword_text}

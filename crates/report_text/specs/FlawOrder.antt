@@ -1,5 +1,5 @@
 -- The order in which flaws are judged.
-use Rattle.std.specs.Prelude.{ℕ, Bool, nat_le, Option, Some, None, if◌then◌else◌}
+use Rattle.std.specs.Prelude.{ℕ, nat_le, Option, Some, None, if◌then◌else◌}
 use Rattle.report_text.specs.declared.field.Flaw.{Flaw}
 use Rattle.report_text.specs.declared.field.Flaw.TheVariants.{Form, Unknown, Unfit, Large}
 
@@ -14,11 +14,3 @@ rank None = 4
 -- the flaw of two that is judged first
 abbrev pub sooner_flaw : (first second : Option Flaw) → Option Flaw
 sooner_flaw first second = if nat_le (rank first) (rank second) then first else second
-
--- the flaw of a word of which only the form is judged
-abbrev pub form_flaw : (is_formed : Bool) → Option Flaw
-form_flaw is_formed = if is_formed then None else Some Form
-
--- the flaw of one of which only the size is left to be judged
-abbrev pub large_flaw : (is_within : Bool) → Option Flaw
-large_flaw is_within = if is_within then None else Some Large

@@ -7,8 +7,8 @@ use Rattle.cts_model.specs.declared.circuit.Circuit.{Circuit}
 use Rattle.cts_model.specs.declared.report.Version.{Version}
 use Rattle.cts_model.specs.declared.report.Version.TheVariants as version
 use Rattle.cts_model.specs.netlist.Paths.{register_name}
-use Rattle.report_text.specs.declared.field.Field.{Field}
-use Rattle.report_text.specs.declared.field.Field.TheVariants as field
+use Rattle.report_text.specs.LineFields.{Field}
+use Rattle.report_text.specs.LineFields as field
 use Rattle.report_text.specs.declared.field.Keyword.{Keyword}
 use Rattle.report_text.specs.declared.field.Keyword.TheVariants as word
 use Rattle.report_text.specs.declared.form.Form.{Form}

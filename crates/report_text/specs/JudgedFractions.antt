@@ -1,8 +1,6 @@
 -- What is wrong with a fraction, once it is known which it is or why there is none.
 use Rattle.std.specs.Prelude.{ℕ, ℤ, pos, ◌≤ℤ◌, ◌<ℤ◌, ◌+ℤ◌, List, Option}
-use Rattle.cts_base.specs.NumberTexts.{SpellsQuotient}
-use Rattle.cts_base.specs.declared.number.NumberFault.{NumberFault}
-use Rattle.cts_base.specs.declared.number.NumberFault.TheVariants.{NotNumber, TooFine, TooLarge}
+use Rattle.cts_base.specs.NumberTexts.{IsLargeQuotient, IsNoFraction, SpellsQuotient}
 use Rattle.report_text.specs.declared.field.Flaw.{Flaw}
 use Rattle.report_text.specs.declared.field.Flaw.TheVariants.{Form, Large}
 use Rattle.report_text.specs.Fields.{AreSteps, IsFirstFlaw}
@@ -11,11 +9,15 @@ use Rattle.report_text.specs.Fields.{AreSteps, IsFirstFlaw}
 abbrev pub IsNegativeQuotient : List ℕ → Type 0
 IsNegativeQuotient text = (num : ℤ) × (den : ℤ) × SpellsQuotient text num den × (num <ℤ pos 0)
 
--- the flaw of a word that is refused as a fraction
-abbrev pub fault_flaw : NumberFault → Flaw
-fault_flaw NotNumber = Form
-fault_flaw TooFine = Form
-fault_flaw TooLarge = Large
+-- a text that is no small fraction has this flaw
+abbrev pub IsRefusedFor : List ℕ → Flaw → Type 0
+IsRefusedFor text Form = IsNoFraction text
+IsRefusedFor text Large = IsLargeQuotient text
+IsRefusedFor text flaw = ⊥
+
+-- the number is below the bound, and above what is as far below 0
+abbrev pub IsBetween : (bound number : ℤ) → Type 0
+IsBetween bound number = (number <ℤ bound) × (pos 0 <ℤ (number +ℤ bound))
 
 -- what is wrong with a quotient that is to be a number of steps below a bound in size
 abbrev pub HasStepsFlaw : (over bound num den : ℤ) → Option Flaw → Type 0

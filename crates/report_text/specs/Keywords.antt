@@ -1,5 +1,7 @@
 -- The fixed words of a report. They are this project's choice.
 use Rattle.std.specs.Prelude.{ℕ, List, codes}
+use Rattle.cts_model.specs.declared.report.Version.{Version}
+use Rattle.cts_model.specs.declared.report.Version.TheVariants.{First, Second}
 use Rattle.report_text.specs.declared.field.Keyword.{Keyword}
 use Rattle.report_text.specs.declared.field.Keyword.TheVariants.{Cts, Period, Cycle, Floor, Path, Lead, Registers, Merges, Pair, Source, Sink, Root, Nodes, Wire, Dash, Zero}
 
@@ -20,3 +22,8 @@ keyword_text Nodes = codes "nodes"
 keyword_text Wire = codes "wire"
 keyword_text Dash = codes "-"
 keyword_text Zero = codes "0"
+
+-- the word of a version
+abbrev pub version_text : Version → List ℕ
+version_text First = codes "1"
+version_text Second = codes "2"

@@ -2,6 +2,7 @@ pub mod Laws
 pub mod Pieces
 pub mod OneProof
 pub mod Keywords
+pub mod LineFields
 pub mod Fields
 pub mod Forms
 pub mod ReportFaults
@@ -10,6 +11,7 @@ pub mod NamesOf
 pub mod TimingValues
 pub mod FlawOrder
 pub mod JudgedFractions
+pub mod Scans
 pub mod Walks
 pub mod WireLines
 pub mod Rows

@@ -1,39 +1,18 @@
 -- What the words of a report's line say.
-use Rattle.std.specs.Prelude.{◌≡◌, ◌<◌, ◌≤◌, ◌+◌, ◌*◌, ◌^◌, ℕ, ℤ, pos, ◌≤ℤ◌, List, [], ◌∷◌, ◌++◌, length, drop, take, get_or, codes}
+use Rattle.std.specs.Prelude.{◌≡◌, ◌^◌, ℕ, ℤ, pos, ◌≤ℤ◌, [], ◌∷◌, ◌++◌, length, take, codes}
 use Rattle.std.specs.List.{flat_map}
 use Rattle.std.specs.Fmt.{signed_decimal}
 use Rattle.cts_base.specs.Fractions.{HasSizeBelow, quotient_text}
 use Rattle.cts_model.specs.declared.circuit.Circuit.{Circuit}
 use Rattle.cts_model.specs.declared.place.Point.{Point}
-use Rattle.cts_model.specs.declared.tree.Wire.{Wire}
-use Rattle.cts_model.specs.netlist.Paths.{register_name}
 use Rattle.cts_model.specs.placement.Points.{IsBelow, IsPointBelow}
 use Rattle.cts_model.specs.text.PrintedLines.{Words}
 use Rattle.cts_model.specs.report.ReportBounds.{IsMergeShow, IsSmallMerge, IsSmallWire, IsSourceShow, ShowsAmong}
-use Rattle.cts_model.specs.report.ReportLines.{origin, show_words, signal_name}
+use Rattle.cts_model.specs.report.ReportLines.{show_words}
 use Rattle.report_text.specs.declared.form.Scale.{Scale}
-use Rattle.report_text.specs.Forms.{points_of}
 use Rattle.report_text.specs.declared.tree_values.MergeLine.{MergeLine}
 use Rattle.report_text.specs.declared.tree_values.NodeLine.{NodeLine}
 use Rattle.report_text.specs.declared.tree_values.SourceLine.{SourceLine}
-
--- the word is that of the number, which 32 bits hold
-abbrev pub SpellsNumber : List ℕ → ℕ → Type 0
-SpellsNumber word number = (number < 2 ^ 32) × (word ≡ signed_decimal (pos number))
-
--- the word is that of so many steps
-abbrev pub SpellsSteps : (over : ℤ) → List ℕ → ℤ → Type 0
-SpellsSteps over word steps = HasSizeBelow (10 ^ 37) steps × (word ≡ quotient_text steps over)
-
--- the word is the name of that register
-abbrev pub SpellsRegister : Circuit → List ℕ → ℕ → Type 0
-SpellsRegister circuit word register =
-    (register < length circuit.registers) × (register_name circuit register ≡ word)
-
--- the word is the name of that signal
-abbrev pub SpellsSignal : Circuit → List ℕ → ℕ → Type 0
-SpellsSignal circuit word number =
-    (number < length circuit.signals) × (signal_name circuit number ≡ word)
 
 -- there are steps, and few enough for their words
 pub record IsSmallScale (scale : Scale) : Type 0 where
@@ -91,31 +70,3 @@ pub record SaysNode (grid : ℤ) (node : ℕ) (words : Words) (line : NodeLine) 
 pub record SaysTotal (grid : ℤ) (words : Words) (total : ℤ) : Type 0 where
   pub words_are : words ≡ codes "wire" ∷ quotient_text total grid ∷ []
   pub small : IsBelow (10 ^ 36) total
-
--- the word is that of a length
-abbrev pub IsLengthWord : (grid : ℤ) → List ℕ → Type 0
-IsLengthWord grid word = (steps : ℤ) × IsBelow (10 ^ 32) steps × SpellsSteps grid word steps
-
--- the words are those of the point
-abbrev pub SpellsPoint : (grid : ℤ) → (x y : List ℕ) → Point → Type 0
-SpellsPoint grid x y point = SpellsSteps grid x point.x × SpellsSteps grid y point.y
-
--- from the sixth on, the words of a node are those of its 1 to 5 points
-pub record HasCorners (grid : ℤ) (words : Words) : Type 0 where
-  pub all : length words ≡ 5 + 2 * points_of words
-  pub some : 1 ≤ points_of words
-  pub few : points_of words ≤ 5
-  pub each : (place : ℕ) → 5 ≤ place → place < length words
-      → IsLengthWord grid (get_or words place [])
-
--- the point that two words from the place on tell, and (0, 0) after the last
-pub record IsCorner (grid : ℤ) (words : Words) (place : ℕ) (point : Point) : Type 0 where
-  pub within : place + 1 < length words
-      → SpellsPoint grid (get_or words place []) (get_or words (place + 1) []) point
-  pub suffix : length words ≤ place + 1 → point ≡ origin
-
--- the wire that those words tell
-pub record SaysWire (grid : ℤ) (words : Words) (wire : Wire) : Type 0 where
-  pub used : wire.used ≡ points_of words
-  pub words_are : drop 5 words ≡ flat_map (coordinates grid) (take wire.used wire.corners)
-  pub small : IsSmallWire wire

@@ -1,24 +1,23 @@
 //! What the lines of a report's timing say.
 
-ghost use Rattle.std.specs.Prelude.{◌≡◌, ◌^◌, ◌<◌, ◌≤ℤ◌, ℕ, ℤ, pos, IfOk, List, Option, codes, length, map};
-ghost use Rattle.std.specs.Str.{bytes_eq};
-ghost use Rattle.cts_base.specs.declared.fraction.Fraction as fractions;
-ghost use Rattle.cts_base.specs.Fractions.{HasSizeBelow, fraction_text};
-ghost use Rattle.cts_base.specs.NumberTexts.{SpellsWhole, HaveSmallSizes};
-ghost use Rattle.cts_model.specs.text.PrintedLines.{slack_text};
-ghost use Rattle.cts_model.specs.timing.Slacks.{IsSmallSlack};
+ghost use Rattle.std.specs.Prelude.{◌≡◌, ◌<◌, ◌++◌, [], ◌∷◌, IfOk, All, length, map, replicate};
+ghost use Rattle.cts_model.specs.netlist.Paths.{register_name};
+ghost use Rattle.cts_model.specs.report.ReportBounds.{IsBetweenRegisters, HasSmallWeight};
+ghost use Rattle.cts_model.specs.report.ReportLines.{signal_name};
+ghost use Rattle.cts_model.specs.text.PrintedLines.{line_for};
+ghost use Rattle.report_text.specs.LineFields as field;
 ghost use Rattle.report_text.specs.declared.form.Form.TheVariants as form;
-ghost use Rattle.report_text.specs.TimingValues.{IsFlawless, DenotesPeriod, DenotesShow, DenotesConstraint, DenotesPath, NamesSignals, DenotesLead};
+ghost use Rattle.report_text.specs.Forms.{constraint_fields};
+ghost use Rattle.report_text.specs.Scans.{Takes};
+ghost use Rattle.report_text.specs.TimingValues.{DenotesPeriod, DenotesShow, DenotesConstraint, DenotesPath, DenotesLead};
 ghost use Rattle.report_text.specs.Walks.{DenotesTimed, DenotesVersion};
 
 use crate::field::Keyword;
 use crate::form::Form;
-use crate::known::{known_register, known_signal};
-use crate::number::{number_of, steps_of};
 use crate::reader::line::Line;
 use crate::rules::Rules;
-use crate::words::{is_word, word_at, words_after};
-use cts_base::{Fraction, Listed, NoMemory, read_fraction, read_whole};
+use crate::scan::Scan;
+use cts_base::{Fraction, Listed, NoMemory};
 use cts_model::{Constraint, Lead, Slack, Version};
 
 impl Line for Version {
@@ -30,19 +29,10 @@ impl Line for Version {
         Form::Version
     }
 
-    fn of(_rules: &Rules, _number: u32, words: &[&[u8]]) -> Result<Version, NoMemory> {
-        if is_one(word_at(words, 1)) {
-            Ok(Version::First)
-        } else {
-            Ok(Version::Second)
-        }
+    fn read(_rules: &Rules, _number: u32, scan: &mut Scan) -> Result<Version, NoMemory> {
+        scan.keyword(Keyword::Cts);
+        Ok(scan.version())
     }
-}
-
-fn is_one(word: &[u8]) -> bool
-    ensures { result ≡ bytes_eq word.now (codes "1") }
-{
-    word == b"1".as_slice()
 }
 
 /// The line of the period.
@@ -61,21 +51,10 @@ impl Line for PeriodLine {
         Form::Period
     }
 
-    fn of(_rules: &Rules, _number: u32, words: &[&[u8]]) -> Result<PeriodLine, NoMemory> {
-        Ok(PeriodLine {
-            period: fraction_of(word_at(words, 1)),
-        })
-    }
-}
-
-// The fraction that a word spells.
-fn fraction_of(word: &[u8]) -> Fraction
-    ensures { (fraction : fractions.Fraction) → HaveSmallSizes fraction.num fraction.den
-        → word.now ≡ fraction_text fraction.num fraction.den → result ≡ fraction }
-{
-    match read_fraction(word) {
-        Ok(fraction) => fraction,
-        Err(_) => Fraction::of(0, 1),
+    fn read(_rules: &Rules, _number: u32, scan: &mut Scan) -> Result<PeriodLine, NoMemory> {
+        scan.keyword(Keyword::Period);
+        let period = scan.period();
+        Ok(PeriodLine { period })
     }
 }
 
@@ -95,11 +74,13 @@ impl Line for ShowLine {
         Form::Show
     }
 
-    fn of(_rules: &Rules, _number: u32, words: &[&[u8]]) -> Result<ShowLine, NoMemory> {
-        if is_word(words, 0, Keyword::Floor) {
+    fn read(_rules: &Rules, _number: u32, scan: &mut Scan) -> Result<ShowLine, NoMemory> {
+        if scan.has_word(0, Keyword::Floor) {
+            scan.keyword(Keyword::Floor);
             return Ok(ShowLine { count: None });
         }
-        let count = number_of(word_at(words, 1));
+        scan.keyword(Keyword::Cycle);
+        let count = scan.number(1, 9999);
         Ok(ShowLine { count: Some(count) })
     }
 }
@@ -114,51 +95,31 @@ impl Line for Constraint {
         Form::Constraint
     }
 
-    fn of(rules: &Rules, _number: u32, words: &[&[u8]]) -> Result<Constraint, NoMemory> {
-        Ok(constraint_of(rules, words))
+    fn read(rules: &Rules, _number: u32, scan: &mut Scan) -> Result<Constraint, NoMemory> {
+        Ok(read_constraint(rules, scan))
     }
 }
 
-// A constraint of the cycle.
-fn constraint_of(rules: &Rules, words: &[&[u8]]) -> Constraint
-    requires { IsFlawless rules.now.circuit.now rules.now.scale form.Constraint
-        (map (λ word. word.now) words.now) }
-    ensures { DenotesConstraint rules.now.circuit.now (map (λ word. word.now) words.now) result }
+// Reads the words of a constraint.
+fn read_constraint(rules: &Rules, scan: &mut Scan) -> Constraint
+    ensures { Takes rules.now.circuit.now constraint_fields (line_for rules.now.circuit.now result)
+        (IsBetweenRegisters (length rules.now.circuit.now.registers) result
+        × HasSmallWeight result) scan.old scan.new }
 {
-    let launch = known_register(rules, word_at(words, 1));
-    let capture = known_register(rules, word_at(words, 2));
-    let weight = weight_of(word_at(words, 3));
-    if is_setup(word_at(words, 0)) {
-        Constraint {
-            setup: true,
-            tail: launch,
-            head: capture,
-            weight,
-        }
+    let setup = scan.kind();
+    let launch = scan.register(rules);
+    let capture = scan.register(rules);
+    let weight = scan.weight();
+    let (tail, head) = if setup {
+        (launch, capture)
     } else {
-        Constraint {
-            setup: false,
-            tail: capture,
-            head: launch,
-            weight,
-        }
-    }
-}
-
-fn is_setup(word: &[u8]) -> bool
-    ensures { result ≡ bytes_eq word.now (codes "setup") }
-{
-    word == b"setup".as_slice()
-}
-
-// The number of ticks that a word spells.
-fn weight_of(word: &[u8]) -> i128
-    ensures { (value : ℤ) → SpellsWhole word.now value → HasSizeBelow (10 ^ 37) value
-        → result ≡ value }
-{
-    match read_whole(word) {
-        Some(weight) => weight,
-        None => 0,
+        (capture, launch)
+    };
+    Constraint {
+        setup,
+        tail,
+        head,
+        weight,
     }
 }
 
@@ -178,23 +139,35 @@ impl Line for PathLine {
         Form::Path
     }
 
-    fn of(rules: &Rules, _number: u32, words: &[&[u8]]) -> Result<PathLine, NoMemory> {
-        let signals = signals_of(rules, words_after(words, 2))?;
+    fn read(rules: &Rules, _number: u32, scan: &mut Scan) -> Result<PathLine, NoMemory> {
+        let is_printed = !scan.has_word(1, Keyword::Dash);
+        let count = scan.len().saturating_sub(2);
+        scan.keyword(Keyword::Path);
+        if !is_printed {
+            scan.keyword(Keyword::Dash);
+            return Ok(PathLine {
+                signals: Listed::new(rules.alloc),
+            });
+        }
+        scan.counted(count, 65536);
+        let signals = read_signals(rules, count, scan)?;
         Ok(PathLine { signals })
     }
 }
 
-// The signals of these names.
-fn signals_of(rules: &Rules, words: &[&[u8]]) -> Result<Listed<u32>, NoMemory>
-    ensures { IfOk result (λ signals.
-        (path : List ℕ) → NamesSignals rules.now.circuit.now (map (λ word. word.now) words.now) path
-        → signals ≡ path) }
+// Reads the names of so many signals.
+fn read_signals(rules: &Rules, count: usize, scan: &mut Scan) -> Result<Listed<u32>, NoMemory>
+    ensures { IfOk result (λ signals. (length signals ≡ count)
+        × Takes rules.now.circuit.now (replicate count field.Signal)
+        (map (signal_name rules.now.circuit.now) signals)
+        (All (λ number. number < length rules.now.circuit.now.signals) signals)
+        scan.old scan.new) }
 {
-    let mut path = Listed::new(rules.alloc);
-    for word in words {
-        path.push(known_signal(rules, word))?;
+    let mut signals = Listed::new(rules.alloc);
+    for _place in 0..count {
+        signals.push(scan.signal(rules))?;
     }
-    Ok(path)
+    Ok(signals)
 }
 
 /// The line of a register.
@@ -215,26 +188,15 @@ impl Line for Timed {
         Form::Register(number)
     }
 
-    fn of(rules: &Rules, _number: u32, words: &[&[u8]]) -> Result<Timed, NoMemory> {
-        let arrival = steps_of(word_at(words, 1), rules.scale.den);
-        let setup = slack_of(word_at(words, 2));
-        let hold = slack_of(word_at(words, 3));
+    fn read(rules: &Rules, number: u32, scan: &mut Scan) -> Result<Timed, NoMemory> {
+        scan.named(rules, number);
+        let arrival = scan.arrival(rules);
+        let setup = scan.slack(rules);
+        let hold = scan.slack(rules);
         Ok(Timed {
             arrival,
             slack: Slack { setup, hold },
         })
-    }
-}
-
-// The slack in ticks that a word spells, or none.
-fn slack_of(word: &[u8]) -> Option<Fraction>
-    ensures { (over : ℤ) (slack : Option fractions.Fraction) → pos 1 ≤ℤ over
-        → HasSizeBelow (10 ^ 37) over → IsSmallSlack over slack
-        → word.now ≡ slack_text slack → result ≡ slack }
-{
-    match read_fraction(word) {
-        Ok(fraction) => Some(fraction),
-        Err(_) => None,
     }
 }
 
@@ -247,12 +209,15 @@ impl Line for Lead {
         Form::Lead
     }
 
-    fn of(rules: &Rules, _number: u32, words: &[&[u8]]) -> Result<Lead, NoMemory> {
-        if is_word(words, 1, Keyword::Zero) {
+    fn read(rules: &Rules, _number: u32, scan: &mut Scan) -> Result<Lead, NoMemory> {
+        let is_first = scan.has_word(1, Keyword::Zero);
+        scan.keyword(Keyword::Lead);
+        if is_first {
+            scan.keyword(Keyword::Zero);
             return Ok(Lead::Zero);
         }
-        let depth = number_of(word_at(words, 1));
-        let constraint = constraint_of(rules, words_after(words, 2));
+        let depth = scan.number(1, 9999);
+        let constraint = read_constraint(rules, scan);
         Ok(Lead::Tight { depth, constraint })
     }
 }

@@ -1,22 +1,24 @@
 //! What the lines of a report's tree say.
 
-ghost use Rattle.std.specs.Prelude.{◌≡◌, ◌<◌, ◌≤◌, ◌+◌, ◌^◌, ℕ, ℤ, [], true, false, get_or, length, map};
-ghost use Rattle.cts_model.specs.declared.tree.Show.TheVariants as show;
-ghost use Rattle.report_text.specs.declared.field.Keyword.TheVariants as word;
+ghost use Rattle.std.specs.Prelude.{◌≡◌, ◌≤◌, ◌+◌, ◌*◌, ◌^◌, ℕ, [], ◌∷◌, All, IsNone, IfSome, replicate, take};
+ghost use Rattle.std.specs.List.{flat_map};
+ghost use Rattle.cts_model.specs.declared.circuit.Circuit as model;
+ghost use Rattle.cts_model.specs.placement.Points.{IsPointBelow};
+ghost use Rattle.cts_model.specs.tree.DrawnWires.{ArePadded};
 ghost use Rattle.report_text.specs.declared.form.Form.TheVariants as form;
-ghost use Rattle.report_text.specs.declared.form.Scale as scales;
-ghost use Rattle.report_text.specs.Forms.{is_word, points_of};
-ghost use Rattle.report_text.specs.Values.{HasCorners, IsCorner, IsLengthWord, SaysMerge, SaysNode, SaysSource, SaysTotal, SaysWire, SpellsPoint, SpellsRegister, SpellsSteps};
+ghost use Rattle.report_text.specs.Forms.{length_field};
+ghost use Rattle.report_text.specs.Scans.{Takes};
+ghost use Rattle.report_text.specs.Values.{SaysMerge, SaysNode, SaysSource, SaysTotal, coordinates};
 
 use crate::field::Keyword;
 use crate::form::Form;
-use crate::known::known_register;
-use crate::number::{number_of, steps_of};
 use crate::reader::line::Line;
 use crate::rules::Rules;
-use crate::words::{is_word, word_at};
+use crate::scan::Scan;
 use cts_base::NoMemory;
 use cts_model::{Merge, Point, Show, Wire};
+
+const ORIGIN: Point = Point { x: 0, y: 0 };
 
 /// What the line of a merge says.
 #[derive(Clone, Copy, Debug, PartialEq, Eq)]
@@ -39,12 +41,14 @@ impl Line for MergeLine {
         Form::Merge(number)
     }
 
-    fn of(rules: &Rules, _number: u32, words: &[&[u8]]) -> Result<MergeLine, NoMemory> {
-        let first = number_of(word_at(words, 1));
-        let second = number_of(word_at(words, 2));
-        let reach = length_of(rules, word_at(words, 3));
-        let left = known_register(rules, word_at(words, 5));
-        let right = known_register(rules, word_at(words, 6));
+    fn read(rules: &Rules, number: u32, scan: &mut Scan) -> Result<MergeLine, NoMemory> {
+        scan.exactly(number);
+        let first = scan.number(0, 9999);
+        let second = scan.number(0, 9999);
+        let reach = scan.length(rules);
+        scan.keyword(Keyword::Pair);
+        let left = scan.register(rules);
+        let right = scan.from(rules, left);
         Ok(MergeLine {
             merge: Merge { first, second },
             reach,
@@ -71,25 +75,24 @@ impl Line for SourceLine {
         Form::Source
     }
 
-    fn of(rules: &Rules, _number: u32, words: &[&[u8]]) -> Result<SourceLine, NoMemory> {
-        let reach = length_of(rules, word_at(words, 1));
-        let show = source_show(rules, words);
-        Ok(SourceLine { reach, show })
+    fn read(rules: &Rules, _number: u32, scan: &mut Scan) -> Result<SourceLine, NoMemory> {
+        let is_root = scan.has_word(2, Keyword::Root);
+        scan.keyword(Keyword::Source);
+        let reach = scan.length(rules);
+        if is_root {
+            scan.keyword(Keyword::Root);
+            return Ok(SourceLine {
+                reach,
+                show: Show::Root,
+            });
+        }
+        scan.keyword(Keyword::Sink);
+        let register = scan.register(rules);
+        Ok(SourceLine {
+            reach,
+            show: Show::Sink(register),
+        })
     }
-}
-
-// What shows the source's reach.
-fn source_show(rules: &Rules, words: &[&[u8]]) -> Show
-    ensures root { is_word (map (λ word. word.now) words.now) 2 word.Root ≡ true
-        → result ≡ show.Root }
-    ensures sink { (register : ℕ) → is_word (map (λ word. word.now) words.now) 2 word.Root ≡ false
-        → SpellsRegister rules.now.circuit.now (get_or (map (λ word. word.now) words.now) 3 [])
-        register → result ≡ show.Sink register }
-{
-    if is_word(words, 2, Keyword::Root) {
-        return Show::Root;
-    }
-    Show::Sink(known_register(rules, word_at(words, 3)))
 }
 
 /// What the line of a node says.
@@ -112,70 +115,77 @@ impl Line for NodeLine {
         Form::Node(number)
     }
 
-    fn of(rules: &Rules, _number: u32, words: &[&[u8]]) -> Result<NodeLine, NoMemory> {
-        let place = point_at(rules, words, 1);
-        let length = length_of(rules, word_at(words, 3));
-        let wire = wire_of(rules, words);
+    // A line with so many words as no node has is left as it is.
+    fn read(rules: &Rules, number: u32, scan: &mut Scan) -> Result<NodeLine, NoMemory> {
+        let Some(points) = points_in(scan.len()) else {
+            return Ok(NodeLine {
+                place: ORIGIN,
+                length: 0,
+                wire: Wire {
+                    corners: [ORIGIN; 5],
+                    used: 0,
+                },
+            });
+        };
+        scan.exactly(number);
+        let place = read_point(rules, scan);
+        let length = scan.length(rules);
+        scan.exactly(points as u32);
+        let corners = read_corners(rules, points, scan);
         Ok(NodeLine {
             place,
             length,
-            wire,
+            wire: Wire {
+                corners,
+                used: points,
+            },
         })
     }
 }
 
-// The wire that the words from the sixth on tell.
-fn wire_of(rules: &Rules, words: &[&[u8]]) -> Wire
-    requires corners { HasCorners rules.now.scale.grid (map (λ word. word.now) words.now) }
-    ensures { SaysWire rules.now.scale.grid (map (λ word. word.now) words.now) result }
+// How many points a node has whose line has so many words, if any has so many.
+fn points_in(words: usize) -> Option<u8>
+    ensures some { IfSome result (λ points. (words ≡ 5 + 2 * points) × (1 ≤ points)
+        × (points ≤ 5)) }
+    ensures none { IsNone result → (points : ℕ) → 1 ≤ points → points ≤ 5
+        → ¬ (words ≡ 5 + 2 * points) }
 {
-    let first = corner_at(rules, words, 5);
-    let second = corner_at(rules, words, 7);
-    let third = corner_at(rules, words, 9);
-    let fourth = corner_at(rules, words, 11);
-    let fifth = corner_at(rules, words, 13);
-    Wire {
-        corners: [first, second, third, fourth, fifth],
-        used: points_of(words),
+    match words {
+        7 => Some(1),
+        9 => Some(2),
+        11 => Some(3),
+        13 => Some(4),
+        15 => Some(5),
+        _ => None,
     }
 }
 
-// How many points the words from the sixth on tell.
-fn points_of(words: &[&[u8]]) -> u8
-    requires some { 1 ≤ points_of (map (λ word. word.now) words.now) }
-    requires few { points_of (map (λ word. word.now) words.now) ≤ 5 }
-    ensures { result ≡ points_of (map (λ word. word.now) words.now) }
+// Reads the two words of a point.
+fn read_point(rules: &Rules, scan: &mut Scan) -> Point
+    ensures { (circuit : model.Circuit) → Takes circuit
+        (length_field rules.now.scale ∷ length_field rules.now.scale ∷ [])
+        (coordinates rules.now.scale.grid result) (IsPointBelow (10 ^ 32) result)
+        scan.old scan.new }
 {
-    ((words.len() - 5) / 2) as u8
-}
-
-// The point that the words at a place and after it tell, and (0, 0) where they aren't there.
-fn corner_at(rules: &Rules, words: &[&[u8]], place: usize) -> Point
-    requires corners { HasCorners rules.now.scale.grid (map (λ word. word.now) words.now) }
-    requires low { 5 ≤ place }
-    requires high { place ≤ 13 }
-    ensures { IsCorner rules.now.scale.grid (map (λ word. word.now) words.now) place result }
-{
-    if place + 1 < words.len() {
-        point_at(rules, words, place)
-    } else {
-        Point { x: 0, y: 0 }
-    }
-}
-
-// The point that the words at a place and after it tell.
-fn point_at(rules: &Rules, words: &[&[u8]], place: usize) -> Point
-    requires place { place ≤ 13 }
-    requires x { IsLengthWord rules.now.scale.grid
-        (get_or (map (λ word. word.now) words.now) place []) }
-    requires y { IsLengthWord rules.now.scale.grid
-        (get_or (map (λ word. word.now) words.now) (place + 1) []) }
-    ensures { SpellsPoint rules.now.scale.grid (get_or (map (λ word. word.now) words.now) place [])
-        (get_or (map (λ word. word.now) words.now) (place + 1) []) result }
-{
-    let x = length_of(rules, word_at(words, place));
-    let y = length_of(rules, word_at(words, place + 1));
+    let x = scan.length(rules);
+    let y = scan.length(rules);
     Point { x, y }
+}
+
+// Reads the words of so many points, and leaves the rest at (0, 0).
+fn read_corners(rules: &Rules, points: u8, scan: &mut Scan) -> [Point; 5]
+    requires { points ≤ 5 }
+    ensures padded { ArePadded (record { corners = result; used = points }) }
+    ensures taken { (circuit : model.Circuit) → Takes circuit
+        (replicate (2 * points) (length_field rules.now.scale))
+        (flat_map (coordinates rules.now.scale.grid) (take points result))
+        (All (IsPointBelow (10 ^ 32)) (take points result)) scan.old scan.new }
+{
+    let mut corners = [ORIGIN; 5];
+    for place in 0..points as usize {
+        corners[place] = read_point(rules, scan);
+    }
+    corners
 }
 
 /// The last line.
@@ -194,16 +204,9 @@ impl Line for TotalLine {
         Form::Total
     }
 
-    fn of(rules: &Rules, _number: u32, words: &[&[u8]]) -> Result<TotalLine, NoMemory> {
-        let length = length_of(rules, word_at(words, 1));
+    fn read(rules: &Rules, _number: u32, scan: &mut Scan) -> Result<TotalLine, NoMemory> {
+        scan.keyword(Keyword::Wire);
+        let length = scan.total(rules);
         Ok(TotalLine { length })
     }
-}
-
-// The length that a word tells, in grid steps.
-fn length_of(rules: &Rules, word: &[u8]) -> i128
-    requires { (steps : ℤ) × SpellsSteps rules.now.scale.grid word.now steps }
-    ensures { SpellsSteps rules.now.scale.grid word.now result }
-{
-    steps_of(word, rules.scale.grid)
 }

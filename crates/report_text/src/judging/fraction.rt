@@ -1,27 +1,37 @@
-ghost use Rattle.std.specs.Prelude.{◌≡◌, ◌↔◌, IsTrue, pos, ◌≤ℤ◌, ◌<ℤ◌, ◌+ℤ◌, ◌*ℤ◌, ◌^◌, int_div, int_rem};
+ghost use Rattle.std.specs.Prelude.{◌≡◌, ◌↔◌, IfErr, IfOk, IsTrue, MatchOption, pos, ◌≤ℤ◌, ◌<ℤ◌, ◌*ℤ◌, ◌^◌, int_div, int_rem, nat_abs};
+ghost use Rattle.cts_base.specs.Fractions.{fraction_text, quotient_text};
+ghost use Rattle.cts_base.specs.NumberTexts.{HaveSmallSizes, SpellsQuotient};
 ghost use Rattle.cts_model.specs.declared.circuit.Circuit.{Circuit};
-ghost use Rattle.report_text.specs.declared.field.Field.TheVariants.{Period, Slack, Steps};
-ghost use Rattle.report_text.specs.Fields.{WordHasFlaw};
-ghost use Rattle.report_text.specs.FlawOrder.{large_flaw};
-ghost use Rattle.report_text.specs.JudgedFractions.{IsNegativeQuotient, HasStepsFlaw, fault_flaw};
+ghost use Rattle.cts_model.specs.placement.Points.{IsBelow};
+ghost use Rattle.cts_model.specs.text.PrintedLines.{slack_text};
+ghost use Rattle.cts_model.specs.timing.Schedules.{IsSmallPeriod};
+ghost use Rattle.cts_model.specs.timing.Slacks.{IsSmallSlack};
+ghost use Rattle.report_text.specs.LineFields.{Period, Slack, Steps};
+ghost use Rattle.report_text.specs.Fields.{AreSteps, WordHasFlaw};
+ghost use Rattle.report_text.specs.JudgedFractions.{HasStepsFlaw, IsBetween, IsNegativeQuotient, IsRefusedFor};
+ghost use Rattle.report_text.specs.Scans.{flaw_in};
 
 use crate::field::{Flaw, Keyword};
-use crate::judging::keyword::is_word;
-use crate::judging::large_flaw;
-use crate::number::steps_each;
+use crate::judging::keyword::is_keyword;
 use cts_base::{Fraction, NumberFault, Quotient, read_fraction, read_quotient};
 
-/// What is wrong with a word that is to be a period.
-pub(crate) fn period_flaw(word: &[u8]) -> Option<Flaw>
-    ensures { (circuit : Circuit) → WordHasFlaw circuit Period word.now result }
+// Slacks are below so many steps in size.
+const MAX_SLACK: i128 = 100_000_000_000_000_000_000;
+
+/// Reads a period in ticks.
+pub(crate) fn read_period(word: &[u8]) -> Result<Fraction, Flaw>
+    ensures flaw { (circuit : Circuit) → WordHasFlaw circuit Period word.now (flaw_in result) }
+    ensures value { IfOk result (λ period. (word.now ≡ fraction_text period.num period.den)
+        × IsSmallPeriod period) }
 {
     if is_negative(word) {
-        return Some(Flaw::Form);
+        return Err(Flaw::Form);
     }
-    match read_fraction(word) {
-        Ok(period) => large_flaw(is_small_period(period)),
-        Err(fault) => Some(fault_flaw(fault)),
+    let period = fraction_of(word)?;
+    if !is_small_period(period) {
+        return Err(Flaw::Large);
     }
+    Ok(period)
 }
 
 // Whether a word spells a quotient below 0.
@@ -47,45 +57,60 @@ fn is_small_period(period: Fraction) -> bool
     period.num() < 1_000_000_000_000_000_000 && period.den() <= 4097
 }
 
-// The flaw of a word that is refused as a fraction.
-fn fault_flaw(fault: NumberFault) -> Flaw
-    ensures { result ≡ fault_flaw fault }
-{
-    match fault {
-        NumberFault::TooLarge => Flaw::Large,
-        NumberFault::NotNumber => Flaw::Form,
-        NumberFault::TooFine => Flaw::Form,
-    }
-}
-
-/// What is wrong with a word that is to be a number of steps or `-`.
-pub(crate) fn slack_flaw(over: i128, bound: i128, word: &[u8]) -> Option<Flaw>
-    ensures { (circuit : Circuit) → WordHasFlaw circuit (Slack over bound) word.now result }
-{
-    if is_word(word, Keyword::Dash) {
-        return None;
-    }
-    steps_flaw(over, bound, word)
-}
-
-/// What is wrong with a word that is to be a number of steps.
-pub(crate) fn steps_flaw(over: i128, bound: i128, word: &[u8]) -> Option<Flaw>
-    ensures { (circuit : Circuit) → WordHasFlaw circuit (Steps over bound) word.now result }
+// The fraction that a word spells.
+fn fraction_of(word: &[u8]) -> Result<Fraction, Flaw>
+    ensures spelled { IfOk result (λ fraction.
+        SpellsQuotient word.now fraction.num fraction.den
+        × HaveSmallSizes fraction.num fraction.den
+        × (word.now ≡ fraction_text fraction.num fraction.den)) }
+    ensures refused { IfErr result (IsRefusedFor word.now) }
 {
     match read_fraction(word) {
-        Ok(fraction) => step_flaw(over, bound, fraction),
-        Err(fault) => Some(fault_flaw(fault)),
+        Ok(fraction) => Ok(fraction),
+        Err(NumberFault::TooLarge) => Err(Flaw::Large),
+        Err(NumberFault::NotNumber | NumberFault::TooFine) => Err(Flaw::Form),
     }
 }
 
-// What is wrong with a fraction that is to be a number of steps.
-fn step_flaw(over: i128, bound: i128, fraction: Fraction) -> Option<Flaw>
-    ensures { HasStepsFlaw over bound fraction.num fraction.den result }
+/// Reads a slack in ticks, of which so many steps make one, or `-` for none.
+pub(crate) fn read_slack(over: i128, word: &[u8]) -> Result<Option<Fraction>, Flaw>
+    ensures flaw { (circuit : Circuit)
+        → WordHasFlaw circuit (Slack over (pos (10 ^ 20))) word.now (flaw_in result) }
+    ensures value { IfOk result (λ slack. (word.now ≡ slack_text slack)
+        × IsSmallSlack over slack) }
+{
+    if is_keyword(Keyword::Dash, word) {
+        return Ok(None);
+    }
+    let fraction = fraction_of(word)?;
+    steps_of(over, MAX_SLACK, fraction)?;
+    Ok(Some(fraction))
+}
+
+/// Reads a number of steps, of which so many make a unit, below a bound in size.
+pub(crate) fn read_steps(over: i128, bound: i128, word: &[u8]) -> Result<i128, Flaw>
+    ensures flaw { (circuit : Circuit)
+        → WordHasFlaw circuit (Steps over bound) word.now (flaw_in result) }
+    ensures value { pos 1 ≤ℤ over → IfOk result (λ steps. (word.now ≡ quotient_text steps over)
+        × IsBelow (nat_abs bound) steps) }
+{
+    let fraction = fraction_of(word)?;
+    steps_of(over, bound, fraction)
+}
+
+// How many steps a fraction is, of which so many make a unit, below a bound in size.
+fn steps_of(over: i128, bound: i128, fraction: Fraction) -> Result<i128, Flaw>
+    ensures flaw { HasStepsFlaw over bound fraction.num fraction.den (flaw_in result) }
+    ensures value { IfOk result (λ steps. AreSteps over fraction.num fraction.den steps
+        × IsBelow (nat_abs bound) steps) }
 {
     if !divides(fraction, over) {
-        return Some(Flaw::Unfit);
+        return Err(Flaw::Unfit);
     }
-    large_flaw(is_few(fraction, over, bound))
+    match steps_below(over, bound, fraction) {
+        Some(steps) => Ok(steps),
+        None => Err(Flaw::Large),
+    }
 }
 
 // Whether the denominator divides a number.
@@ -95,28 +120,37 @@ fn divides(fraction: Fraction, over: i128) -> bool
     over % fraction.den() == 0
 }
 
-// Whether the numerator times a number over the denominator is below the bound in size.
-fn is_few(fraction: Fraction, over: i128, bound: i128) -> bool
-    ensures { IsTrue result ↔ (((fraction.num *ℤ int_div over fraction.den) <ℤ bound)
-        × (pos 0 <ℤ ((fraction.num *ℤ int_div over fraction.den) +ℤ bound))) }
+// How many steps a fraction is whose denominator divides those of a unit, where they are below the
+// bound in size.
+fn steps_below(over: i128, bound: i128, fraction: Fraction) -> Option<i128>
+    ensures { MatchOption result (IsBetween bound (fraction.num *ℤ int_div over fraction.den) → ⊥)
+        (λ steps. (steps ≡ (fraction.num *ℤ int_div over fraction.den))
+        × IsBetween bound (fraction.num *ℤ int_div over fraction.den)) }
 {
-    is_product_below(fraction.num(), steps_each(fraction, over), bound)
+    product_below(fraction.num(), steps_each(over, fraction), bound)
 }
 
-// Whether a product is below the bound in size.
-fn is_product_below(num: i128, times: i128, bound: i128) -> bool
-    ensures { IsTrue result
-        ↔ (((num *ℤ times) <ℤ bound) × (pos 0 <ℤ ((num *ℤ times) +ℤ bound))) }
+// How many steps a part of that denominator is.
+fn steps_each(over: i128, fraction: Fraction) -> i128
+    ensures { result ≡ int_div over fraction.den }
+{
+    over / fraction.den()
+}
+
+// A product, where it is below the bound in size.
+fn product_below(num: i128, times: i128, bound: i128) -> Option<i128>
+    ensures { MatchOption result (IsBetween bound (num *ℤ times) → ⊥)
+        (λ product. (product ≡ (num *ℤ times)) × IsBetween bound (num *ℤ times)) }
 {
     match num.checked_mul(times) {
-        Some(steps) => is_below(steps, bound),
-        None => false,
+        Some(product) if is_below(product, bound) => Some(product),
+        _ => None,
     }
 }
 
 // Whether so many steps are below the bound in size.
 fn is_below(steps: i128, bound: i128) -> bool
-    ensures { IsTrue result ↔ ((steps <ℤ bound) × (pos 0 <ℤ (steps +ℤ bound))) }
+    ensures { IsTrue result ↔ IsBetween bound steps }
 {
     bound > 0 && steps < bound && -bound < steps
 }

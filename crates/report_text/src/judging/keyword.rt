@@ -1,26 +1,61 @@
-ghost use Rattle.std.specs.Prelude.{◌≡◌, ◌⊎◌, ◌↔◌, IsTrue, codes};
-ghost use Rattle.report_text.specs.Keywords.{keyword_text};
+ghost use Rattle.std.specs.Prelude.{◌≡◌, ◌↔◌, IfOk, IsTrue, codes, if◌then◌else◌};
+ghost use Rattle.cts_model.specs.declared.circuit.Circuit.{Circuit};
+ghost use Rattle.report_text.specs.LineFields as field;
+ghost use Rattle.report_text.specs.Fields.{WordHasFlaw};
+ghost use Rattle.report_text.specs.Keywords.{keyword_text, version_text};
+ghost use Rattle.report_text.specs.Scans.{flaw_in};
 
-use crate::field::Keyword;
+use crate::field::{Flaw, Keyword};
 use crate::words::keyword_text;
+use cts_model::Version;
+
+/// Reads a word that is to be that fixed one.
+pub(crate) fn read_keyword(keyword: Keyword, word: &[u8]) -> Result<(), Flaw>
+    ensures flaw { (circuit : Circuit)
+        → WordHasFlaw circuit (field.Word keyword) word.now (flaw_in result) }
+    ensures value { IfOk result (λ _. word.now ≡ keyword_text keyword) }
+{
+    if is_keyword(keyword, word) {
+        Ok(())
+    } else {
+        Err(Flaw::Form)
+    }
+}
 
 /// Whether a word is that fixed one.
-pub(crate) fn is_word(word: &[u8], keyword: Keyword) -> bool
+pub(crate) fn is_keyword(keyword: Keyword, word: &[u8]) -> bool
     ensures { IsTrue result ↔ (word.now ≡ keyword_text keyword) }
 {
     word == keyword_text(keyword)
 }
 
-/// Whether a word is that of a version.
-pub(crate) fn is_version(word: &[u8]) -> bool
-    ensures { IsTrue result ↔ ((word.now ≡ codes "1") ⊎ (word.now ≡ codes "2")) }
+/// Reads the word of a version.
+pub(crate) fn read_version(word: &[u8]) -> Result<Version, Flaw>
+    ensures flaw { (circuit : Circuit)
+        → WordHasFlaw circuit field.Version word.now (flaw_in result) }
+    ensures value { IfOk result (λ version. word.now ≡ version_text version) }
 {
-    word == b"1".as_slice() || word == b"2".as_slice()
+    if word == b"1".as_slice() {
+        Ok(Version::First)
+    } else if word == b"2".as_slice() {
+        Ok(Version::Second)
+    } else {
+        Err(Flaw::Form)
+    }
 }
 
-/// Whether a word is that of a kind of constraint.
-pub(crate) fn is_kind(word: &[u8]) -> bool
-    ensures { IsTrue result ↔ ((word.now ≡ codes "setup") ⊎ (word.now ≡ codes "hold")) }
+/// Reads the word of a kind of constraint: whether it is a setup constraint.
+pub(crate) fn read_kind(word: &[u8]) -> Result<bool, Flaw>
+    ensures flaw { (circuit : Circuit)
+        → WordHasFlaw circuit field.Kind word.now (flaw_in result) }
+    ensures value { IfOk result (λ setup.
+        word.now ≡ (if setup then codes "setup" else codes "hold")) }
 {
-    word == b"setup".as_slice() || word == b"hold".as_slice()
+    if word == b"setup".as_slice() {
+        Ok(true)
+    } else if word == b"hold".as_slice() {
+        Ok(false)
+    } else {
+        Err(Flaw::Form)
+    }
 }

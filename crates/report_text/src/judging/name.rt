@@ -1,49 +1,60 @@
-ghost use Rattle.std.specs.Prelude.{◌≡◌, ◌<◌, ◌↔◌, IsTrue, length};
+ghost use Rattle.std.specs.Prelude.{◌≡◌, ◌<◌, ◌≤◌, IfOk, length};
 ghost use Rattle.cts_model.specs.netlist.Paths.{register_name};
-ghost use Rattle.report_text.specs.declared.field.Field.TheVariants.{From, Named, Register, Signal};
+ghost use Rattle.cts_model.specs.report.ReportLines.{signal_name};
+ghost use Rattle.report_text.specs.LineFields.{From, Named, Register, Signal};
 ghost use Rattle.report_text.specs.Fields.{WordHasFlaw};
+ghost use Rattle.report_text.specs.Scans.{flaw_in};
 
 use crate::field::Flaw;
 use crate::rules::Rules;
 
-/// What is wrong with a word that is to be a register's name.
-pub(crate) fn register_flaw(rules: &Rules, word: &[u8]) -> Option<Flaw>
-    ensures { WordHasFlaw rules.now.circuit.now Register word.now result }
+/// Reads a register's name.
+pub(crate) fn read_register(rules: &Rules, word: &[u8]) -> Result<u32, Flaw>
+    ensures flaw { WordHasFlaw rules.now.circuit.now Register word.now (flaw_in result) }
+    ensures value { IfOk result (λ register.
+        (word.now ≡ register_name rules.now.circuit.now register)
+        × (register < length rules.now.circuit.now.registers)) }
 {
     match rules.register(word) {
-        Some(_register) => None,
-        None => Some(Flaw::Unknown),
+        Some(register) => Ok(register),
+        None => Err(Flaw::Unknown),
     }
 }
 
-/// What is wrong with a word that is to be that register's name.
-pub(crate) fn named_flaw(rules: &Rules, register: u32, word: &[u8]) -> Option<Flaw>
-    ensures { WordHasFlaw rules.now.circuit.now (Named register) word.now result }
+/// Reads a word that is to be that register's name.
+pub(crate) fn read_named(rules: &Rules, register: u32, word: &[u8]) -> Result<(), Flaw>
+    ensures flaw { WordHasFlaw rules.now.circuit.now (Named register) word.now (flaw_in result) }
+    ensures value { IfOk result (λ _. word.now ≡ register_name rules.now.circuit.now register) }
 {
     match rules.register(word) {
-        Some(found) if found == register => None,
-        Some(_other) => Some(Flaw::Unfit),
-        None => Some(Flaw::Unknown),
+        Some(found) if found == register => Ok(()),
+        Some(_other) => Err(Flaw::Unfit),
+        None => Err(Flaw::Unknown),
     }
 }
 
-/// What is wrong with a word that is to be the name of that register or of a later one.
-pub(crate) fn from_flaw(rules: &Rules, first: u32, word: &[u8]) -> Option<Flaw>
-    ensures { WordHasFlaw rules.now.circuit.now (From first) word.now result }
+/// Reads a word that is to be the name of that register or of a later one.
+pub(crate) fn read_from(rules: &Rules, first: u32, word: &[u8]) -> Result<u32, Flaw>
+    ensures flaw { WordHasFlaw rules.now.circuit.now (From first) word.now (flaw_in result) }
+    ensures value { IfOk result (λ register.
+        (word.now ≡ register_name rules.now.circuit.now register)
+        × ((first ≤ register) × (register < length rules.now.circuit.now.registers))) }
 {
     match rules.register(word) {
-        Some(found) if first <= found => None,
-        Some(_other) => Some(Flaw::Unfit),
-        None => Some(Flaw::Unknown),
+        Some(found) if first <= found => Ok(found),
+        Some(_other) => Err(Flaw::Unfit),
+        None => Err(Flaw::Unknown),
     }
 }
 
-/// What is wrong with a word that is to be a signal's name.
-pub(crate) fn signal_flaw(rules: &Rules, word: &[u8]) -> Option<Flaw>
-    ensures { WordHasFlaw rules.now.circuit.now Signal word.now result }
+/// Reads a signal's name.
+pub(crate) fn read_signal(rules: &Rules, word: &[u8]) -> Result<u32, Flaw>
+    ensures flaw { WordHasFlaw rules.now.circuit.now Signal word.now (flaw_in result) }
+    ensures value { IfOk result (λ number. (word.now ≡ signal_name rules.now.circuit.now number)
+        × (number < length rules.now.circuit.now.signals)) }
 {
     match rules.signal(word) {
-        Some(_signal) => None,
-        None => Some(Flaw::Unknown),
+        Some(signal) => Ok(signal),
+        None => Err(Flaw::Unknown),
     }
 }

@@ -1,8 +1,11 @@
-ghost use Rattle.std.specs.Prelude.{◌↔◌, IsTrue, pos};
+ghost use Rattle.std.specs.Prelude.{◌≡◌, ◌↔◌, ◌≤◌, ◌^◌, IfOk, IsTrue, pos};
+ghost use Rattle.std.specs.Fmt.{signed_decimal};
 ghost use Rattle.cts_base.specs.NumberTexts.{SpellsWhole};
 ghost use Rattle.cts_model.specs.declared.circuit.Circuit.{Circuit};
-ghost use Rattle.report_text.specs.declared.field.Field.TheVariants.{Counted, Number, Weight};
+ghost use Rattle.cts_model.specs.placement.Points.{IsBelow};
+ghost use Rattle.report_text.specs.LineFields.{Counted, Exactly, Number, Weight};
 ghost use Rattle.report_text.specs.Fields.{WordHasFlaw};
+ghost use Rattle.report_text.specs.Scans.{flaw_in};
 
 use crate::field::Flaw;
 use cts_base::read_whole;
@@ -10,9 +13,23 @@ use cts_base::read_whole;
 // Weights are below that in size.
 const MAX_WEIGHT: i128 = 1_000_000_000_000;
 
-/// Whether a word spells that number.
-pub(crate) fn is_number(word: &[u8], number: usize) -> bool
-    ensures { IsTrue result ↔ SpellsWhole word.now (pos number) }
+/// Reads a word that is to spell that number.
+pub(crate) fn read_exactly(number: u32, word: &[u8]) -> Result<(), Flaw>
+    ensures flaw { (circuit : Circuit)
+        → WordHasFlaw circuit (Exactly number) word.now (flaw_in result) }
+    ensures value { IfOk result (λ _. word.now ≡ signed_decimal (pos number)) }
+{
+    if is_number(word, number as usize) {
+        Ok(())
+    } else {
+        Err(Flaw::Form)
+    }
+}
+
+// Whether a word spells that number.
+fn is_number(word: &[u8], number: usize) -> bool
+    ensures spells { IsTrue result ↔ SpellsWhole word.now (pos number) }
+    ensures text { IsTrue result → word.now ≡ signed_decimal (pos number) }
 {
     match read_whole(word) {
         Some(value) => value == number as i128,
@@ -20,44 +37,52 @@ pub(crate) fn is_number(word: &[u8], number: usize) -> bool
     }
 }
 
-/// What is wrong with a word that is to be a number of that range.
-pub(crate) fn number_flaw(least: u32, most: u32, word: &[u8]) -> Option<Flaw>
-    ensures { (circuit : Circuit) → WordHasFlaw circuit (Number least most) word.now result }
+/// Reads a number of that range.
+pub(crate) fn read_number(least: u32, most: u32, word: &[u8]) -> Result<u32, Flaw>
+    ensures flaw { (circuit : Circuit)
+        → WordHasFlaw circuit (Number least most) word.now (flaw_in result) }
+    ensures value { IfOk result (λ number. (word.now ≡ signed_decimal (pos number))
+        × ((least ≤ number) × (number ≤ most))) }
 {
     let Some(value) = read_whole(word) else {
-        return Some(Flaw::Form);
+        return Err(Flaw::Form);
     };
     if value < least as i128 {
-        return Some(Flaw::Form);
+        return Err(Flaw::Form);
     }
     if value > most as i128 {
-        return Some(Flaw::Large);
+        return Err(Flaw::Large);
     }
-    None
+    Ok(value as u32)
 }
 
-/// What is wrong with a word that is to tell how many words stand after it.
-pub(crate) fn counted_flaw(count: usize, most: usize, word: &[u8]) -> Option<Flaw>
-    ensures { (circuit : Circuit) → WordHasFlaw circuit (Counted count most) word.now result }
+/// Reads a word that is to tell how many words stand after it.
+pub(crate) fn read_counted(count: usize, most: usize, word: &[u8]) -> Result<(), Flaw>
+    ensures flaw { (circuit : Circuit)
+        → WordHasFlaw circuit (Counted count most) word.now (flaw_in result) }
+    ensures value { IfOk result (λ _. (word.now ≡ signed_decimal (pos count))
+        × ((1 ≤ count) × (count ≤ most))) }
 {
     if count == 0 || !is_number(word, count) {
-        return Some(Flaw::Form);
+        return Err(Flaw::Form);
     }
     if count > most {
-        return Some(Flaw::Large);
+        return Err(Flaw::Large);
     }
-    None
+    Ok(())
 }
 
-/// What is wrong with a word that is to be a weight.
-pub(crate) fn weight_flaw(word: &[u8]) -> Option<Flaw>
-    ensures { (circuit : Circuit) → WordHasFlaw circuit Weight word.now result }
+/// Reads a weight in ticks.
+pub(crate) fn read_weight(word: &[u8]) -> Result<i128, Flaw>
+    ensures flaw { (circuit : Circuit) → WordHasFlaw circuit Weight word.now (flaw_in result) }
+    ensures value { IfOk result (λ weight. (word.now ≡ signed_decimal weight)
+        × IsBelow (10 ^ 12) weight) }
 {
     let Some(value) = read_whole(word) else {
-        return Some(Flaw::Form);
+        return Err(Flaw::Form);
     };
     if value >= MAX_WEIGHT || value <= -MAX_WEIGHT {
-        return Some(Flaw::Large);
+        return Err(Flaw::Large);
     }
-    None
+    Ok(value)
 }

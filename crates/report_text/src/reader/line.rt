@@ -1,24 +1,25 @@
 //! A line of a report that is read by the form that is due.
 
-ghost use Rattle.std.specs.Prelude.{◌≡◌, ◌<◌, ℕ, length, map, IfOk, IfErr};
+ghost use Rattle.std.specs.Prelude.{◌≡◌, ◌≢◌, ◌<◌, ℕ, List, length, map, IfOk, IfErr};
 ghost use Rattle.cts_model.specs.declared.circuit.Circuit as model;
 ghost use Rattle.cts_model.specs.text.PrintedLines.{Words, count_line};
 ghost use Rattle.report_text.specs.declared.form.Form as forms;
 ghost use Rattle.report_text.specs.declared.form.Form.TheVariants as form;
 ghost use Rattle.report_text.specs.declared.form.Scale as scales;
 ghost use Rattle.report_text.specs.Keywords.{keyword_text};
-ghost use Rattle.report_text.specs.ReportFaults.{fault_of, unknown_on};
-ghost use Rattle.report_text.specs.TimingValues.{IsFlawless};
-ghost use Rattle.report_text.specs.Walks.{DenotesLine, ReadsLine, StopsLine};
+ghost use Rattle.report_text.specs.declared.fault.ReportFault.TheVariants as faults;
+ghost use Rattle.report_text.specs.ReportFaults.{fault_of, unknown_on, words_of};
+ghost use Rattle.report_text.specs.Scans.{ReadsForm};
+ghost use Rattle.report_text.specs.Walks.{DenotesLine, HasNoLine, ReadsLine, StopsLine, TakesLine};
 
 use crate::cursor::{Cursor, words_of};
 use crate::fault::ReportFault;
 use crate::field::{Flaw, Keyword};
 use crate::form::Form;
-use crate::forms::fields_of;
-use crate::judging::line_flaw;
 use crate::rules::Rules;
+use crate::scan::Scan;
 use cts_base::NoMemory;
+use std::alloc::Global;
 
 /// What a line of a report says. Lines of one form may be numbered.
 pub(crate) trait Line: Drop {
@@ -32,13 +33,12 @@ pub(crate) trait Line: Drop {
     fn form(number: u32) -> Form
         ensures { result ≡ due number };
 
-    /// What the words of a line without a flaw say.
-    fn of(rules: &Rules, number: u32, words: &[&[u8]]) -> Result<Self, NoMemory>
-        requires some { 0 < length words.now }
-        requires flawless { IsFlawless rules.now.circuit.now rules.now.scale (due number)
-            (map (λ word. word.now) words.now) }
-        ensures { IfOk result (says rules.now.circuit.now rules.now.scale number
-            (map (λ word. word.now) words.now)) };
+    /// Reads the words of a line of that number, which has not been begun.
+    fn read(rules: &Rules, number: u32, scan: &mut Scan) -> Result<Self, NoMemory>
+        requires some { 0 < length scan.old.words }
+        ensures { IfOk result (λ line. ReadsForm rules.now.circuit.now rules.now.scale (due number)
+            (λ words. says rules.now.circuit.now rules.now.scale number words line)
+            scan.old scan.new) };
 }
 
 /// Reads the line of a number, by the form that is due.
@@ -53,9 +53,14 @@ pub(crate) fn read<L: Line>(
     ensures fault { IfErr result (StopsLine rules.now.circuit.now rules.now.scale (L.due number)
         cursor.old) }
 {
-    let words = read_words(rules, L::form(number), cursor)?;
-    let line = L::of(rules, number, words.as_slice())?;
-    Ok(line)
+    let at = cursor.line();
+    let words = next_words(rules.alloc, cursor)?;
+    let mut scan = Scan::of(words.as_slice());
+    let line = L::read(rules, number, &mut scan)?;
+    match scan.end() {
+        None => Ok(line),
+        Some(flaw) => Err(fault_of(L::form(number), at, flaw)),
+    }
 }
 
 /// Reads the line of a word and how many lines follow.
@@ -71,30 +76,28 @@ pub(crate) fn read_count(
     ensures fault { IfErr result (StopsLine rules.now.circuit.now rules.now.scale
         (form.Count word count) cursor.old) }
 {
-    read_words(rules, Form::Count { word, count }, cursor)?;
-    Ok(())
+    let at = cursor.line();
+    let words = next_words(rules.alloc, cursor)?;
+    let mut scan = Scan::of(words.as_slice());
+    scan.keyword(word);
+    scan.exactly(count);
+    match scan.end() {
+        None => Ok(()),
+        Some(flaw) => Err(fault_of(Form::Count { word, count }, at, flaw)),
+    }
 }
 
-// The words of the next line, which has no flaw by the form that is due.
-fn read_words<'a>(
-    rules: &Rules,
-    form: Form,
-    cursor: &mut Cursor<'a>,
-) -> Result<Vec<&'a [u8]>, ReportFault>
+// The words of the next line.
+fn next_words<'a>(alloc: Global, cursor: &mut Cursor<'a>) -> Result<Vec<&'a [u8]>, ReportFault>
     requires line { cursor.old.line < 1000000 }
-    ensures ok { IfOk result (λ words. ReadsLine rules.now.circuit.now rules.now.scale form
-        (map (λ word. word.now) words.items) cursor.old cursor.new) }
-    ensures fault { IfErr result (StopsLine rules.now.circuit.now rules.now.scale form
-        cursor.old) }
+    ensures ok { IfOk result (λ words. (line : List ℕ) × TakesLine cursor.old line cursor.new
+        × (map (λ word. word.now) words.items ≡ words_of line)) }
+    ensures fault { IfErr result (λ fault. fault ≢ faults.NoMemory
+        → HasNoLine cursor.old fault) }
 {
-    let number = cursor.line();
     let line = cursor.next_line()?;
-    let words = words_of(rules.alloc, line)?;
-    let fields = fields_of(rules, form, words.as_slice())?;
-    match line_flaw(rules, fields.as_slice(), words.as_slice()) {
-        None => Ok(words),
-        Some(flaw) => Err(fault_of(form, number, flaw)),
-    }
+    let words = words_of(alloc, line)?;
+    Ok(words)
 }
 
 // The fault that a line has with a flaw.

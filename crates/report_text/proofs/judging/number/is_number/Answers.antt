@@ -1,8 +1,18 @@
-use Rattle.std.proofs.Common.{pos, refl}
+use Rattle.std.proofs.Common.{◌≡◌, pos, refl, arith}
+use Rattle.std.proofs.lemmas.Int.{ints}
+use Rattle.report_text.proofs.NumberWords.{whole_read}
+use Rattle.report_text.proofs.SpelledFields.{small_number}
 use Rattle.report_text.proofs.judging.number.is_number.Goals as goal
 
-pub returns-in-None : goal.returns-in-None
-returns-in-None c = (
+pub returns-in-Some-clause-text : goal.returns-in-Some-clause-text
+returns-in-Some-clause-text c is =
+    let (value, spells, kept) = c.in-Some.ensures.some in
+    let same : pos c.args.number ≡ c.in-Some.value = grind (arith, ints) in
+    whole_read c.args.word.now value c.in-Some.value (pos c.args.number) spells kept same
+    (small_number c.args.number (omega arith))
+
+pub returns-in-None-clause-spells : goal.returns-in-None-clause-spells
+returns-in-None-clause-spells c = (
   λ is. cc,
   λ spells. absurd (c.in-None.ensures.none.0 refl (pos c.args.number) spells),
 )

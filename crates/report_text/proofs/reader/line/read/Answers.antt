@@ -1,34 +1,28 @@
-use Rattle.std.proofs.Common.{Bor, List, ℕ, length, map, ap, subst, arith}
-use Rattle.std.proofs.lemmas.List.{length-map}
-use Rattle.report_text.specs.Walks.{ReadsLine}
-use Rattle.report_text.proofs.WalkLemmas.{line_flawless, line_denoted}
+use Rattle.std.proofs.Common.{List, ℕ, Bor, map, refl, ap, ◌∙◌}
+use Rattle.report_text.specs.ReportFaults.{fault_of}
+use Rattle.report_text.proofs.ScanLemmas.{line_says, line_stops, some_words}
 use Rattle.report_text.proofs.reader.line.read.Goals as goal
 
-pub of-requires-clause-some : goal.of-requires-clause-some
-of-requires-clause-some g c =
-    let some = c.in_ok-words.ensures.ok.some in
-    omega (
-      arith,
-      c.as_slice.ensures.len,
-      length-map c.in_ok-words.words.items (λ (word : Bor (List ℕ)). word.now),
-      ap (λ (words : List (Bor (List ℕ))). length words) c.as_slice.ensures.value,
-    )
+pub read-requires : goal.read-requires
+read-requires g c = record {
+  some = some_words c.in_ok-words.ensures.ok.0
+      (ap (map (λ (word : Bor (List ℕ)). word.now)) c.as_slice.ensures.value
+      ∙ c.in_ok-words.ensures.ok.2) c.of-scan.ensures;
+}
 
-pub of-requires-clause-flawless : goal.of-requires-clause-flawless
-of-requires-clause-flawless g c =
-    let circuit = c.args.rules.now.circuit.now in
-    let scale = c.args.rules.now.scale in
-    line_flawless circuit scale (g.L.Line.due c.args.number)
-    c.in_ok-words.words.items c.as_slice.result.now c.as_slice.ensures.value
-    (subst (λ form. ReadsLine circuit scale form (map (λ word. word.now) c.in_ok-words.words.items)
-    c.args.cursor.now c.read_words.new.cursor) c.form.ensures c.in_ok-words.ensures.ok)
+pub returns-in-None-clause-ok : goal.returns-in-None-clause-ok
+returns-in-None-clause-ok g c =
+    let are = ap (map (λ (word : Bor (List ℕ)). word.now)) c.as_slice.ensures.value
+    ∙ c.in_ok-words.ensures.ok.2 in
+    let (read, says) = line_says c.in_ok-words.ensures.ok.0 are c.of-scan.ensures c.in_ok-words.ensures.ok.1
+    c.in_ok-line.ensures (c.in-None.ensures.judged c.args.rules.now.circuit.now)
+    (c.in-None.ensures.sound refl) in
+    record { words = map (λ word. word.now) c.as_slice.result.now; line = read; denoted = says }
 
-pub returns-clause-ok : goal.returns-clause-ok
-returns-clause-ok g c =
-    let circuit = c.args.rules.now.circuit.now in
-    let scale = c.args.rules.now.scale in
-    line_denoted circuit scale (g.L.Line.due c.args.number)
-    c.in_ok-words.words.items c.as_slice.result.now c.as_slice.ensures.value
-    (subst (λ form. ReadsLine circuit scale form (map (λ word. word.now) c.in_ok-words.words.items)
-    c.args.cursor.now c.read_words.new.cursor) c.form.ensures c.in_ok-words.ensures.ok)
-    (g.L.Line.says circuit scale c.args.number) c.in_ok-line.line (λ flawless. c.in_ok-line.ensures)
+pub returns-clause-fault : goal.returns-clause-fault
+returns-clause-fault g c =
+    let are = ap (map (λ (word : Bor (List ℕ)). word.now)) c.as_slice.ensures.value
+    ∙ c.in_ok-words.ensures.ok.2 in
+    line_stops c.in_ok-words.ensures.ok.0 are c.of-scan.ensures c.in_ok-words.ensures.ok.1 c.in_ok-line.ensures
+    c.in-Some.flaw c.fault_of.result (c.in-Some.ensures.judged c.args.rules.now.circuit.now)
+    (c.fault_of.ensures ∙ (λ i. fault_of (c.form.ensures i) (c.line-at.ensures i) c.in-Some.flaw))

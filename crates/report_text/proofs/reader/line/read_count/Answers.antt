@@ -1,13 +1,41 @@
-use Rattle.std.proofs.Common.{map, subst, arith}
+use Rattle.std.proofs.Common.{◌≡◌, List, ℕ, Bor, map, refl, ap, ◌∙◌, subst}
+use Rattle.cts_model.specs.text.PrintedLines.{count_line}
 use Rattle.report_text.specs.declared.form.Form.TheVariants as form
+use Rattle.report_text.specs.Keywords.{keyword_text}
+use Rattle.report_text.specs.ReportFaults.{fault_of}
+use Rattle.report_text.specs.Scans.{ReadsForm}
 use Rattle.report_text.specs.Walks.{ReadsLine}
-use Rattle.report_text.proofs.TimingLines.{count_found}
+use Rattle.report_text.proofs.ScanLemmas.{form_read, line_says, line_stops, takes_then}
 use Rattle.report_text.proofs.reader.line.read_count.Goals as goal
 
-pub returns-clause-ok : goal.returns-clause-ok
-returns-clause-ok c =
-    let line = c.in_ok-read_words.ensures.ok in
-    subst (λ words. ReadsLine c.args.rules.now.circuit.now c.args.rules.now.scale
-    (form.Count c.args.word c.args.count) words c.args.cursor.now c.read_words.new.cursor)
-    (count_found c.args.rules.now.circuit.now c.args.rules.now.scale c.args.word c.args.count
-    (map (λ word. word.now) c.in_ok-read_words.field-0.items) (omega arith) line.flawless) line
+pub returns-in-None-clause-ok : goal.returns-in-None-clause-ok
+returns-in-None-clause-ok c =
+    let circuit = c.args.rules.now.circuit.now in
+    let scale = c.args.rules.now.scale in
+    let are = ap (map (λ (word : Bor (List ℕ)). word.now)) c.as_slice.ensures.value
+    ∙ c.in_ok-words.ensures.ok.2 in
+    let reads : ReadsForm circuit scale (form.Count c.args.word c.args.count)
+    (λ words. words ≡ count_line (keyword_text c.args.word) c.args.count) c.of-scan.result
+    c.exactly.new.self =
+    form_read refl (takes_then (c.keyword.ensures circuit) (c.exactly.ensures circuit))
+    (λ are _. are) in
+    let (read, says) = line_says c.in_ok-words.ensures.ok.0 are c.of-scan.ensures c.in_ok-words.ensures.ok.1 reads
+    (c.in-None.ensures.judged circuit) (c.in-None.ensures.sound refl) in
+    subst (λ words. ReadsLine circuit scale (form.Count c.args.word c.args.count) words
+    c.args.cursor.now c.next_words.new.cursor) says read
+
+pub returns-clause-fault : goal.returns-clause-fault
+returns-clause-fault c =
+    let circuit = c.args.rules.now.circuit.now in
+    let scale = c.args.rules.now.scale in
+    let are = ap (map (λ (word : Bor (List ℕ)). word.now)) c.as_slice.ensures.value
+    ∙ c.in_ok-words.ensures.ok.2 in
+    let reads : ReadsForm circuit scale (form.Count c.args.word c.args.count)
+    (λ words. words ≡ count_line (keyword_text c.args.word) c.args.count) c.of-scan.result
+    c.exactly.new.self =
+    form_read refl (takes_then (c.keyword.ensures circuit) (c.exactly.ensures circuit))
+    (λ are _. are) in
+    line_stops c.in_ok-words.ensures.ok.0 are c.of-scan.ensures c.in_ok-words.ensures.ok.1 reads c.in-Some.flaw
+    c.fault_of.result (c.in-Some.ensures.judged circuit)
+    (c.fault_of.ensures ∙ ap (λ line. fault_of (form.Count c.args.word c.args.count) line
+    c.in-Some.flaw) c.line-at.ensures)

@@ -1,0 +1,301 @@
+-- Words that are taken one after the other, and a line that is read to its end.
+use Rattle.std.proofs.Common.{◌≡◌, ◌<◌, ◌≤◌, ℕ, nat_le, Bool, true, false, true≢false, if◌then◌else◌, List, [], ◌∷◌, ◌++◌, drop, length, Option, Some, None, Result, Ok, Err, IfOk, refl, sym, ap, ◌∙◌, subst, append_assoc, append-nil, length-append, arith}
+use Rattle.std.proofs.lemmas.Bool.{le-leb, leb-true}
+use Rattle.std.proofs.lemmas.Bool.Decides.{nat_tests}
+use Rattle.std.proofs.lemmas.List.{drop-drop}
+use Rattle.std.proofs.lemmas.List.Splits.{length-slice_split}
+use Rattle.std.proofs.lemmas.Option.{none-some}
+use Rattle.cts_model.specs.declared.circuit.Circuit.{Circuit}
+use Rattle.cts_model.specs.text.PrintedLines.{Words}
+use Rattle.report_text.specs.LineFields.{Field}
+use Rattle.report_text.specs.declared.field.Flaw.{Flaw}
+use Rattle.report_text.specs.declared.field.Flaw.TheVariants as flaws
+use Rattle.report_text.specs.declared.form.Form.{Form}
+use Rattle.report_text.specs.declared.form.Scale.{Scale}
+use Rattle.report_text.specs.Fields.{LineHasFlaw, WordHasFlaw}
+use Rattle.report_text.specs.FlawOrder.{rank, sooner_flaw}
+use Rattle.report_text.specs.Forms.{fields_of}
+use Rattle.report_text.specs.declared.fault.ReportFault.{ReportFault}
+use Rattle.report_text.specs.ReportFaults.{fault_of, is_space, words_of}
+use Rattle.report_text.specs.Walks.{Left, ReadsLine, StopsLine, TakesLine}
+use Rattle.report_text.specs.Scans.{EndsIn, Keeps, LineLeft, ReadsForm, Taken, Takes, TakesNext, flaw_in}
+use Rattle.report_text.proofs.FlawLemmas.{line_first}
+use Rattle.report_text.proofs.WalkLemmas.{line_read}
+
+-- ---- of flaws the sooner
+
+sooner_none : (flaw : Option Flaw) → sooner_flaw flaw None ≡ flaw
+sooner_none None = refl
+sooner_none (Some flaws.Form) = refl
+sooner_none (Some flaws.Unknown) = refl
+sooner_none (Some flaws.Unfit) = refl
+sooner_none (Some flaws.Large) = refl
+
+none_sooner : (flaw : Option Flaw) → sooner_flaw None flaw ≡ flaw
+none_sooner None = refl
+none_sooner (Some flaws.Form) = refl
+none_sooner (Some flaws.Unknown) = refl
+none_sooner (Some flaws.Unfit) = refl
+none_sooner (Some flaws.Large) = refl
+
+-- a wrong form is the soonest
+sooner_form : (flaw : Option Flaw) → sooner_flaw flaw (Some flaws.Form) ≡ Some flaws.Form
+sooner_form None = refl
+sooner_form (Some flaws.Form) = refl
+sooner_form (Some flaws.Unknown) = refl
+sooner_form (Some flaws.Unfit) = refl
+sooner_form (Some flaws.Large) = refl
+
+form_sooner : (flaw : Option Flaw) → sooner_flaw (Some flaws.Form) flaw ≡ Some flaws.Form
+form_sooner None = refl
+form_sooner (Some flaws.Form) = refl
+form_sooner (Some flaws.Unknown) = refl
+form_sooner (Some flaws.Unfit) = refl
+form_sooner (Some flaws.Large) = refl
+
+-- of three it doesn't matter which two are compared first
+sooner_assoc : (first second third : Option Flaw)
+    → sooner_flaw (sooner_flaw first second) third ≡ sooner_flaw first (sooner_flaw second third)
+sooner_assoc first second third = grind (arith, nat_tests)
+
+-- where the sooner of two is none, neither is there
+sooner_sound : (first second : Option Flaw) → sooner_flaw first second ≡ None
+    → (first ≡ None) × (second ≡ None)
+sooner_sound first second is = at first second (nat_le (rank first) (rank second)) refl is
+  where
+    last : (flaw : Option Flaw) → rank None ≤ rank flaw → flaw ≡ None
+    last None from = refl
+    last (Some flaws.Form) from = absurd (omega (arith, from))
+    last (Some flaws.Unknown) from = absurd (omega (arith, from))
+    last (Some flaws.Unfit) from = absurd (omega (arith, from))
+    last (Some flaws.Large) from = absurd (omega (arith, from))
+
+    at : (first second : Option Flaw) (sooner : Bool) → nat_le (rank first) (rank second) ≡ sooner
+        → (if sooner then first else second) ≡ None → (first ≡ None) × (second ≡ None)
+    at first second true le is = (
+      is,
+      last second (leb-true (rank None) (rank second)
+          (ap (λ (f : Option Flaw). nat_le (rank f) (rank second)) (sym is) ∙ le)),
+    )
+    at first second false more is =
+        let le : nat_le (rank first) (rank None) ≡ true = le-leb (rank first) 4 (most first) in
+        absurd (true≢false (sym le ∙ ap (λ (f : Option Flaw). nat_le (rank first) (rank f)) (sym is)
+        ∙ more))
+      where
+        most : (flaw : Option Flaw) → rank flaw ≤ 4
+        most None = omega arith
+        most (Some flaws.Form) = omega arith
+        most (Some flaws.Unknown) = omega arith
+        most (Some flaws.Unfit) = omega arith
+        most (Some flaws.Large) = omega arith
+
+-- ---- one word
+
+module _ {X : Type 0} (circuit : Circuit) (due : Field) {old between new : LineLeft}
+    {word : List ℕ} {read : Result X Flaw} {given : X} (next : TakesNext word old between)
+    (flaw : WordHasFlaw circuit due word (flaw_in read)) (kept : Keeps read given between new)
+  where
+    -- what is wrong with the line is wrong with the word or with those after it
+    word_judged : (more : List Field) (all : Option Flaw) → EndsIn circuit more new all
+        → EndsIn circuit (due ∷ more) old all
+    word_judged more all (found, has, is) = at old.words refl
+      where
+        at : (words : Words) → old.words ≡ words → EndsIn circuit (due ∷ more) old all
+        at [] none =
+            let (words, form) = next.none none in (
+              Some flaws.Form,
+              subst (λ (ws : Words). LineHasFlaw circuit (due ∷ more) ws (Some flaws.Form))
+                  (sym none) (λ each. each),
+              is ∙ ap (λ f. sooner_flaw f found) (kept.flaw
+                  ∙ ap (λ f. sooner_flaw f (flaw_in read)) form ∙ form_sooner (flaw_in read))
+                  ∙ form_sooner found ∙ sym (sooner_form old.flaw),
+            )
+        at (first ∷ rest) some =
+            let (words, same) = next.some (subst (λ (ws : Words). 0 < length ws) (sym some)
+            (omega arith)) in (
+              sooner_flaw (flaw_in read) found,
+              subst (λ (ws : Words). LineHasFlaw circuit (due ∷ more) ws
+                  (sooner_flaw (flaw_in read) found)) (sym words)
+                  (line_first circuit due more word between.words (flaw_in read) found flaw
+                  (subst (λ (ws : Words). LineHasFlaw circuit more ws found) kept.words has)),
+              is ∙ ap (λ f. sooner_flaw f found) (kept.flaw
+                  ∙ ap (λ f. sooner_flaw f (flaw_in read)) same)
+                  ∙ sooner_assoc old.flaw (flaw_in read) found,
+            )
+
+    -- one word is taken
+    word_rest : new.words ≡ drop 1 old.words
+    word_rest = at old.words refl
+      where
+        at : (words : Words) → old.words ≡ words → new.words ≡ drop 1 old.words
+        at [] none = kept.words ∙ (next.none none).0 ∙ sym (ap (drop 1) none)
+        at (first ∷ rest) some =
+            let (words, same) = next.some (subst (λ (ws : Words). 0 < length ws) (sym some)
+            (omega arith)) in
+            kept.words ∙ sym (ap (drop 1) words)
+
+    -- by its field; where nothing is wrong it is that of its value
+    pub takes_word : (text : X → List ℕ) (Holds : X → Type 0)
+        → IfOk read (λ value. (word ≡ text value) × Holds value)
+        → Takes circuit (due ∷ []) (text given ∷ []) (Holds given) old new
+    takes_word text Holds spells = record {
+      rest = word_rest;
+      judged = word_judged;
+      taken = λ none.
+          let (sound, ok) = sooner_sound between.flaw (flaw_in read) (sym kept.flaw ∙ none) in
+          at read kept.value ok spells old.words refl sound;
+    }
+      where
+        at : (read : Result X Flaw) → IfOk read (λ value. given ≡ value) → flaw_in read ≡ None
+            → IfOk read (λ value. (word ≡ text value) × Holds value)
+            → (words : Words) → old.words ≡ words → between.flaw ≡ None
+            → Taken (text given ∷ []) (Holds given) old new
+        at (Ok value) same ok spells [] none sound =
+            absurd (none-some flaws.Form (sym sound ∙ (next.none none).1))
+        at (Ok value) same ok spells (first ∷ rest) some sound =
+            let (words, flaw_is) = next.some (subst (λ (ws : Words). 0 < length ws) (sym some)
+            (omega arith)) in
+            record {
+              sound = sym flaw_is ∙ sound;
+              words = words ∙ (λ i. (spells.0 ∙ ap text (sym same)) i ∷ sym kept.words i);
+              holds = subst Holds (sym same) spells.1;
+            }
+        at (Err flaw) same ok spells words are sound = absurd (none-some flaw (sym ok))
+
+    -- and where that is all that is wanted
+    pub takes_text : (text : X → List ℕ) → IfOk read (λ value. word ≡ text value)
+        → Takes circuit (due ∷ []) (text given ∷ []) (Unit {0}) old new
+    takes_text text spells = takes_word text (λ value. Unit {0}) (at read spells)
+      where
+        at : (read : Result X Flaw) → IfOk read (λ value. word ≡ text value)
+            → IfOk read (λ value. (word ≡ text value) × Unit {0})
+        at (Ok value) is = (is, tt)
+        at (Err flaw) is = tt
+
+-- ---- several words
+
+pub takes_none : (circuit : Circuit) (left : LineLeft) → Takes circuit [] [] (Unit {0}) left left
+takes_none circuit left = record {
+  rest = refl;
+  judged = λ more flaw ends. ends;
+  taken = λ none. record { sound = none; words = refl; holds = tt };
+}
+
+-- words, and more after them
+pub takes_then : {circuit : Circuit} {fields fields' : List Field} {texts texts' : Words}
+    {Holds Holds' : Type 0} {old between new : LineLeft}
+    → Takes circuit fields texts Holds old between
+    → Takes circuit fields' texts' Holds' between new
+    → Takes circuit (fields ++ fields') (texts ++ texts') (Holds × Holds') old new
+takes_then {circuit} {fields} {fields'} {texts} {texts'} {Holds} {Holds'} {old} {between} {new}
+    first second = record {
+      rest =
+          second.rest ∙ ap (drop (length fields')) first.rest
+          ∙ drop-drop (length fields') (length fields) old.words
+          ∙ ap (λ n. drop n old.words) (sym (length-append fields fields'));
+      judged = λ more flaw ends.
+          subst (λ fs. EndsIn circuit fs old flaw) (sym (append_assoc fields fields' more))
+          (first.judged (fields' ++ more) flaw (second.judged more flaw ends));
+      taken = λ none.
+          let b = second.taken none in
+          let a = first.taken b.sound in
+          record {
+            sound = a.sound;
+            words =
+                a.words ∙ ap (λ ws. texts ++ ws) b.words ∙ sym (append_assoc texts texts' new.words);
+            holds = (a.holds, b.holds);
+          };
+    }
+
+-- words are taken, and what follows from what holds of them holds too
+pub takes_so : {circuit : Circuit} {fields : List Field} {texts : Words} {Holds Follows : Type 0}
+    {old new : LineLeft} → Takes circuit fields texts Holds old new → (Holds → Follows)
+    → Takes circuit fields texts Follows old new
+takes_so takes follow = record {
+  rest = takes.rest;
+  judged = takes.judged;
+  taken = λ none.
+      let taken = takes.taken none in
+      record { sound = taken.sound; words = taken.words; holds = follow taken.holds };
+}
+
+-- ---- the end
+
+pub ends_none : (circuit : Circuit) (left : LineLeft) → left.words ≡ []
+    → EndsIn circuit [] left left.flaw
+ends_none circuit left none = (
+  None,
+  subst (λ (ws : Words). LineHasFlaw circuit [] ws None) (sym none) (tt, tt, tt, tt),
+  sym (sooner_none left.flaw),
+)
+
+pub ends_some : (circuit : Circuit) (left : LineLeft) → 0 < length left.words
+    → EndsIn circuit [] left (Some flaws.Form)
+ends_some circuit left some =
+    (Some flaws.Form, at left.words some, sym (sooner_form left.flaw))
+  where
+    at : (words : Words) → 0 < length words → LineHasFlaw circuit [] words (Some flaws.Form)
+    at [] some = absurd (omega (arith, some))
+    at (word ∷ words) some = λ each. each
+
+-- what is wrong with a line that is read from its first word on
+pub whole_line : (circuit : Circuit) (fields : List Field) (words : Words) (flaw : Option Flaw)
+    → EndsIn circuit fields (record { words = words; flaw = None }) flaw
+    → LineHasFlaw circuit fields words flaw
+whole_line circuit fields words flaw (found, has, is) =
+    subst (LineHasFlaw circuit fields words) (sym (is ∙ none_sooner found)) has
+
+-- all words of a form
+pub form_read : {circuit : Circuit} {scale : Scale} {form : Form} {fields : List Field}
+    {texts : Words} {Holds : Type 0} {old new : LineLeft} {Says : Words → Type 0}
+    → fields_of circuit scale form old.words ≡ fields
+    → Takes circuit fields texts Holds old new → (old.words ≡ texts → Holds → Says old.words)
+    → ReadsForm circuit scale form Says old new
+form_read {circuit} {scale} {form} {fields} {texts} {Holds} {old} {new} are takes says = record {
+  judged = λ flaw ends.
+      subst (λ fs. EndsIn circuit fs old flaw) (append-nil fields ∙ sym are)
+      (takes.judged [] flaw ends);
+  says = λ none left.
+      let taken = takes.taken none in
+      says (taken.words ∙ ap (λ ws. texts ++ ws) left ∙ append-nil texts) taken.holds;
+}
+
+-- ---- a line of a text
+
+module _ (line : List ℕ) {words : Words} (are : words ≡ words_of line) {start : LineLeft}
+    (begins : start ≡ record { words = words; flaw = None }) where
+  -- it has a word
+  pub some_words : 0 < length start.words
+  some_words =
+      let long : length start.words ≡ length (words_of line) =
+      ap (λ (left : LineLeft). length left.words) begins ∙ ap (λ (ws : Words). length ws) are in
+      omega (arith, long, length-slice_split is_space line)
+
+  module _ {circuit : Circuit} {scale : Scale} {form : Form} {old new : Left}
+      (takes : TakesLine old line new) {Says : Words → Type 0} {left : LineLeft}
+      (reads : ReadsForm circuit scale form Says start left) where
+    -- what is wrong with it
+    line_judged : (flaw : Option Flaw) → EndsIn circuit [] left flaw
+        → LineHasFlaw circuit (fields_of circuit scale form words) words flaw
+    line_judged flaw ends = whole_line circuit (fields_of circuit scale form words) words flaw
+        ((subst (λ from. ReadsForm circuit scale form Says from left) begins reads).judged flaw
+        ends)
+
+    -- where nothing is, its words say what was read
+    pub line_says : EndsIn circuit [] left None → (left.flaw ≡ None) × (left.words ≡ [])
+        → ReadsLine circuit scale form words old new × Says words
+    line_says ends sound = (
+      line_read takes circuit scale form words are (line_judged None ends),
+      (subst (λ from. ReadsForm circuit scale form Says from left) begins reads).says sound.0
+          sound.1,
+    )
+
+    -- and else that is the fault of the text
+    pub line_stops : (flaw : Flaw) (fault : ReportFault) → EndsIn circuit [] left (Some flaw)
+        → fault ≡ fault_of form old.line flaw → StopsLine circuit scale form old fault
+    line_stops flaw fault ends is memory = rw (takes.some, takes.end) (
+      flaw,
+      subst (λ (ws : Words). LineHasFlaw circuit (fields_of circuit scale form ws) ws (Some flaw))
+          (are ∙ ap words_of takes.line_is) (line_judged (Some flaw) ends),
+      is,
+    )

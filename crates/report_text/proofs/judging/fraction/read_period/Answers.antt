@@ -1,0 +1,48 @@
+use Rattle.std.proofs.Common.{refl}
+use Rattle.report_text.specs.Fields.{WordHasFlaw}
+use Rattle.report_text.specs.LineFields.{Period}
+use Rattle.report_text.proofs.FractionFlaws.{from_zero, negative_refused, passed_flaw, period_past, period_refused, period_within}
+use Rattle.report_text.proofs.judging.fraction.read_period.Goals as goal
+
+pub returns-then-is_negative-clause-flaw : goal.returns-then-is_negative-clause-flaw
+returns-then-is_negative-clause-flaw c circuit =
+    negative_refused c.args.word.now (c.if-is_negative.ensures.0 refl)
+
+pub returns-in_err-period-clause-flaw : goal.returns-in_err-period-clause-flaw
+returns-in_err-period-clause-flaw c circuit =
+    let word = c.args.word.now in
+    let flaw = c.in_err-period.field-0.0 in
+    passed_flaw c.from_residual.result flaw (WordHasFlaw circuit Period word)
+    c.from_residual.ensures.1 (period_refused word flaw c.in_err-period.ensures.refused
+    (λ negative. let bad = c.if-is_negative.ensures.1 negative in cc)
+    circuit)
+
+pub returns-then-not-is_small_period-clause-flaw :
+    goal.returns-then-not-is_small_period-clause-flaw
+returns-then-not-is_small_period-clause-flaw c circuit =
+    let word = c.args.word.now in
+    let period = c.in_ok-period.period in
+    let spells = c.in_ok-period.ensures.spelled.0 in
+    let some = from_zero word period.num period.den spells
+    (λ negative. let bad = c.if-is_negative.ensures.1 negative in cc) in
+    period_past word period.num period.den spells circuit period.lowest some (λ within.
+    let bad = c.if-not-is_small_period.ensures.1 within in cc)
+
+pub returns-clause-flaw : goal.returns-clause-flaw
+returns-clause-flaw c circuit =
+    let word = c.args.word.now in
+    let period = c.in_ok-period.period in
+    let spells = c.in_ok-period.ensures.spelled.0 in
+    let some = from_zero word period.num period.den spells
+    (λ negative. let bad = c.if-is_negative.ensures.1 negative in cc) in
+    period_within word period.num period.den spells circuit period.lowest some
+    (c.if-not-is_small_period.ensures.0 refl)
+
+pub returns-clause-value : goal.returns-clause-value
+returns-clause-value c =
+    let period = c.in_ok-period.period in
+    let (spells, small, same) = c.in_ok-period.ensures.spelled in
+    let some = from_zero c.args.word.now period.num period.den spells
+    (λ negative. let bad = c.if-is_negative.ensures.1 negative in cc) in
+    let within = c.if-not-is_small_period.ensures.0 refl in
+    (same, record { from_zero = some; small = within.0; low = within.1 })

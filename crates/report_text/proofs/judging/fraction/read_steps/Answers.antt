@@ -1,0 +1,50 @@
+use Rattle.std.proofs.Common.{◌≡◌, nat_abs}
+use mir.Syntax.{w128}
+use Rattle.std.proofs.lemmas.Int.{to_z-of_z}
+use Rattle.std.proofs.lemmas.Result.{IfOk-weaker}
+use Rattle.cts_base.specs.Fractions.{quotient_text}
+use Rattle.cts_model.specs.placement.Points.{IsBelow}
+use Rattle.report_text.specs.Fields.{AreSteps, WordHasFlaw}
+use Rattle.report_text.specs.LineFields.{Steps}
+use Rattle.report_text.proofs.FractionFlaws.{passed_flaw, steps_denoted, steps_refused}
+use Rattle.report_text.proofs.NumberWords.{steps_word}
+use Rattle.report_text.proofs.judging.fraction.read_steps.Goals as goal
+
+pub returns-in_err-fraction-clause-flaw : goal.returns-in_err-fraction-clause-flaw
+returns-in_err-fraction-clause-flaw c circuit =
+    let word = c.args.word.now in
+    let flaw = c.in_err-fraction.field-0.0 in
+    passed_flaw c.from_residual.result flaw
+    (WordHasFlaw circuit (Steps c.args.over c.args.bound) word) c.from_residual.ensures.1
+    (steps_refused c.args.over c.args.bound word flaw c.in_err-fraction.ensures.refused circuit)
+
+pub returns-clause-flaw : goal.returns-clause-flaw
+returns-clause-flaw c circuit =
+    let fraction = c.in_ok-fraction.fraction in
+    let (spells, small, same) = c.in_ok-fraction.ensures.spelled in
+    let has = rw (
+      to_z-of_z w128 c.args.over c.ranges.over,
+      to_z-of_z w128 c.args.bound c.ranges.bound,
+    ) at c.steps_of.ensures.flaw in
+    steps_denoted c.args.word.now fraction.num fraction.den spells c.args.over c.args.bound small
+    fraction.lowest _ has circuit
+
+pub returns-clause-value : goal.returns-clause-value
+returns-clause-value c some =
+    let word = c.args.word.now in
+    let over = c.args.over in
+    let fraction = c.in_ok-fraction.fraction in
+    let (spells, small, same) = c.in_ok-fraction.ensures.spelled in
+    let value = rw (
+      to_z-of_z w128 over c.ranges.over,
+      to_z-of_z w128 c.args.bound c.ranges.bound,
+    ) at c.steps_of.ensures.value in
+    IfOk-weaker c.steps_of.result
+    (λ steps. AreSteps over fraction.num fraction.den steps
+    × IsBelow (nat_abs c.args.bound) steps)
+    (λ steps. word ≡ quotient_text steps over × IsBelow (nat_abs c.args.bound) steps)
+    (λ steps has. (
+      steps_word word over fraction.num fraction.den steps some (spells, λ _. fraction.lowest)
+          small has.0,
+      has.1,
+    )) value

@@ -1,0 +1,46 @@
+use Rattle.std.proofs.Common.{sym, ◌∙◌, rules, FitsSigned}
+use mir.Syntax.{w128}
+use Rattle.std.proofs.lemmas.Int.{to_z-of_z}
+use Rattle.report_text.proofs.FractionFlaws.{steps_past, steps_taken, steps_unfit, steps_within}
+use Rattle.report_text.proofs.judging.fraction.steps_of.Goals as goal
+
+pub returns-then-not-divides-clause-flaw : goal.returns-then-not-divides-clause-flaw
+returns-then-not-divides-clause-flaw c =
+    let fraction = c.args.fraction in
+    let divides = rw (to_z-of_z w128 c.args.over c.ranges.over) at c.divides.ensures in
+    steps_unfit c.args.over c.args.bound fraction.num fraction.den fraction.lowest
+    (λ none. let bad = sym c.if-not-divides.true ∙ divides.1 none in cc)
+
+pub returns-in-Some-clause-flaw : goal.returns-in-Some-clause-flaw
+returns-in-Some-clause-flaw c =
+    let fraction = c.args.fraction in
+    let divides = rw (to_z-of_z w128 c.args.over c.ranges.over) at c.divides.ensures in
+    let below = rw (
+      to_z-of_z w128 c.args.over c.ranges.over,
+      to_z-of_z w128 c.args.bound c.ranges.bound,
+    ) at c.in-Some.ensures in
+    steps_within c.args.over c.args.bound fraction.num fraction.den fraction.lowest
+    (divides.0 c.if-not-divides.false) below.1
+
+pub returns-in-Some-clause-value : goal.returns-in-Some-clause-value
+returns-in-Some-clause-value c =
+    let fraction = c.args.fraction in
+    let divides = rw (to_z-of_z w128 c.args.over c.ranges.over) at c.divides.ensures in
+    let below = rw (
+      to_z-of_z w128 c.args.over c.ranges.over,
+      to_z-of_z w128 c.args.bound c.ranges.bound,
+    ) at c.in-Some.ensures in
+    let fits : FitsSigned w128 c.in-Some.steps = search rules in
+    steps_taken c.args.over c.args.bound fraction.num fraction.den fraction.lowest
+    (divides.0 c.if-not-divides.false) below.1 _ (to_z-of_z w128 c.in-Some.steps fits ∙ below.0)
+
+pub returns-in-None-clause-flaw : goal.returns-in-None-clause-flaw
+returns-in-None-clause-flaw c =
+    let fraction = c.args.fraction in
+    let divides = rw (to_z-of_z w128 c.args.over c.ranges.over) at c.divides.ensures in
+    let past = rw (
+      to_z-of_z w128 c.args.over c.ranges.over,
+      to_z-of_z w128 c.args.bound c.ranges.bound,
+    ) at c.in-None.ensures in
+    steps_past c.args.over c.args.bound fraction.num fraction.den fraction.lowest
+    (divides.0 c.if-not-divides.false) past

@@ -1,0 +1,18 @@
+use Rattle.std.proofs.Common.{◌≡◌, ◌≤◌, pos, nat_abs, of_z, to_z, arith}
+use mir.Syntax.{w128}
+use Rattle.std.proofs.lemmas.Int.{ints}
+use Rattle.report_text.proofs.NumberWords.{whole_read}
+use Rattle.report_text.proofs.SpelledFields.{small_number}
+use Rattle.report_text.proofs.judging.number.read_number.Goals as goal
+
+pub returns-clause-value : goal.returns-clause-value
+returns-clause-value c =
+    let (value, spells, kept) = c.in-Some.ensures.some in
+    let number = nat_abs (to_z w128 (of_z w128 c.in-Some.value)) in
+    let same : pos number ≡ c.in-Some.value =
+    omega (arith, ints, c.if-value-least.false, c.if-value-most.false) in
+    let few : number ≤ c.args.most = omega (arith, ints, same, c.if-value-most.false) in (
+      whole_read c.args.word.now value c.in-Some.value (pos number) spells kept same
+          (small_number number (omega (arith, few))),
+      (omega (arith, ints, same, c.if-value-least.false), few),
+    )

@@ -1,0 +1,12 @@
+use Rattle.std.proofs.Common.{◌≤◌, pos}
+use Rattle.std.specs.Fmt.{signed_decimal}
+use Rattle.report_text.specs.LineFields as field
+use Rattle.report_text.proofs.ScanLemmas.{takes_word}
+use Rattle.report_text.proofs.scan.Scan.counted.Goals as goal
+
+pub returns : goal.returns
+returns c circuit =
+    takes_word circuit (field.Counted c.args.count c.args.most) c.next-word.ensures.taken
+    (c.read_counted.ensures.flaw circuit) c.keep.ensures.kept
+    (λ _. signed_decimal (pos c.args.count)) (λ _. (1 ≤ c.args.count) × (c.args.count ≤ c.args.most))
+    c.read_counted.ensures.value

@@ -1,0 +1,15 @@
+use Rattle.std.proofs.Common.{Bor, List, ℕ, length, ap, arith}
+use Rattle.std.proofs.lemmas.Bool.Decides.{nat_tests}
+use Rattle.std.proofs.lemmas.List.{length-map}
+use Rattle.report_text.proofs.ScanLemmas.{ends_some}
+use Rattle.report_text.proofs.scan.Scan.end.Goals as goal
+
+pub returns-else-is_empty-clause-judged : goal.returns-else-is_empty-clause-judged
+returns-else-is_empty-clause-judged c circuit =
+    ends_some circuit c.args.self.now (grind (
+      arith,
+      nat_tests,
+      c.if-is_empty.ensures,
+      length-map c.left.result.now (λ (word : Bor (List ℕ)). word.now),
+      ap (λ (words : List (List ℕ)). length words) c.left.ensures,
+    ))

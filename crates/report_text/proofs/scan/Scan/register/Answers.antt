@@ -1,0 +1,23 @@
+use Rattle.std.proofs.Common.{◌<◌, length, ap, ◌∙◌, arith}
+use Rattle.cts_model.specs.netlist.Paths.{register_name}
+use Rattle.report_text.specs.LineFields as field
+use Rattle.report_text.specs.Forms.{register_named}
+use Rattle.report_text.proofs.OneName.{few_registers}
+use Rattle.report_text.proofs.RegisterNames.{name_read}
+use Rattle.report_text.proofs.ScanLemmas.{takes_word}
+use Rattle.report_text.proofs.scan.Scan.register.Goals as goal
+
+pub returns-clause-taken : goal.returns-clause-taken
+returns-clause-taken c =
+    takes_word c.args.rules.now.circuit.now field.Register c.next-word.ensures.taken
+    c.read_register.ensures.flaw c.keep.ensures.kept
+    (register_name c.args.rules.now.circuit.now) (λ register. register < length c.args.rules.now.circuit.now.registers)
+    c.read_register.ensures.value
+
+pub returns-clause-named : goal.returns-clause-named
+returns-clause-named c =
+    let circuit = c.args.rules.now.circuit.now in
+    name_read circuit c.next-word.result.now c.read_register.result c.keep.result _
+    c.read_register.ensures.flaw c.read_register.ensures.value c.keep.ensures.kept.value
+    c.keep.ensures.other (omega (arith, few_registers circuit))
+    ∙ ap (register_named circuit) c.next-word.ensures.word

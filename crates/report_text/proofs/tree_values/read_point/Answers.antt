@@ -1,0 +1,13 @@
+use mir.Syntax.{w128}
+use Rattle.std.proofs.lemmas.Int.{to_z-of_z}
+use Rattle.report_text.proofs.ScanLemmas.{takes_so, takes_then}
+use Rattle.report_text.proofs.tree_values.read_point.Goals as goal
+
+pub returns : goal.returns
+returns c circuit =
+    rw (
+      to_z-of_z w128 c.length-x.result (record { sfits = c.length-x.type_inv }),
+      to_z-of_z w128 c.length-y.result (record { sfits = c.length-y.type_inv }),
+    )
+    (takes_so (takes_then (c.length-x.ensures circuit) (c.length-y.ensures circuit))
+    (λ below. record { x = below.0; y = below.1 }))

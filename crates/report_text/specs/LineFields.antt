@@ -1,0 +1,23 @@
+-- What a word of a report's line may be asked to be.
+use Rattle.std.specs.Prelude.{ℕ, ℤ}
+use Rattle.report_text.specs.declared.field.Keyword.{Keyword}
+
+-- that word; a version, a kind of constraint; that number, one of a range, or how many words stand
+-- after it; a whole number of ticks, a period in ticks; so many steps of a unit below a bound in
+-- size, or also `-` for none; the name of a register, of that one, of that or a later one, of a
+-- signal
+pub data Field : Type 0 where
+  Word : Keyword → Field
+  Version : Field
+  Kind : Field
+  Exactly : (number : ℕ) → Field
+  Number : (least most : ℕ) → Field
+  Counted : (count most : ℕ) → Field
+  Weight : Field
+  Period : Field
+  Steps : (over bound : ℤ) → Field
+  Slack : (over bound : ℤ) → Field
+  Register : Field
+  Named : (register : ℕ) → Field
+  From : (first : ℕ) → Field
+  Signal : Field
