@@ -11,10 +11,10 @@ use Rattle.std.proofs.lemmas.List.Kept.{AllPairs-cons}
 use Rattle.std.proofs.lemmas.List.Folds.{Any-from_list_any}
 use Rattle.std.proofs.lemmas.Map.Made.{IsDistinct-from_AllPairs}
 use Rattle.std.proofs.lemmas.Map.Steps.{length-le_from_distinct_below}
-use Rattle.cts_model.specs.timing.Constraints.{AreSmallConstraints, IsSmallConstraint}
 use Rattle.std.specs.Prelude.{slice_get}
 use Rattle.std.specs.List.{list_any}
 use Rattle.std.specs.Option.{option_and_then}
+use Rattle.cts_model.specs.timing.Constraints.{AreSmallConstraints, IsSmallConstraint}
 use Rattle.cts_model.specs.declared.constraint.Constraint.{Constraint}
 use Rattle.relaxation.specs.declared.gains.Gains.{Gains}
 use Rattle.relaxation.specs.Gains.{AdmitsGains, SatisfiesGains, gain_of, total_gain}
@@ -39,8 +39,9 @@ abbrev tails : List Constraint → List ℕ
 tails above = map (λ step. step.tail) above
 
 -- what holds of each constraint holds of the one at a place
-pub all_at : (P : Constraint → Type 0) (constraints : List Constraint) → All P constraints → (place : ℕ)
-    → (constraint : Constraint) → slice_get constraints place ≡ Some constraint → P constraint
+pub all_at : (P : Constraint → Type 0) (constraints : List Constraint) → All P constraints
+    → (place : ℕ) → (constraint : Constraint) → slice_get constraints place ≡ Some constraint
+    → P constraint
 all_at P constraints each place constraint here =
     subst P (get_or_from_slice_get constraints place constraint constraint here)
     (each place constraint (slice_get_within constraints place constraint here))
@@ -231,8 +232,8 @@ pub none_far_up : (constraints : List Constraint) (gains : Gains) (values : List
 none_far_up constraints gains values parents register small are ends admitted =
     let ring = ring_at_end constraints parents register small ends in
     no_gain (admitted.0 register) (total_gain gains ring.0)
-    (climb_gain constraints gains parents admitted.0 admitted.1 are.heads register ring.0 register ring.3)
-    (are.rings register ring.0 ring.1 ring.3)
+    (climb_gain constraints gains parents admitted.0 admitted.1 are.heads register ring.0 register
+    ring.3) (are.rings register ring.0 ring.1 ring.3)
 
 -- a climb that leaves no register before its end that is the end's
 abbrev pub IsDirect : (to from : ℕ) → List Constraint → Type 0

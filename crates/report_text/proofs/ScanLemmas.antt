@@ -201,8 +201,8 @@ takes_then {circuit} {fields} {fields'} {texts} {texts'} {Holds} {Holds'} {old} 
           let a = first.taken b.sound in
           record {
             sound = a.sound;
-            words =
-                a.words ∙ ap (λ ws. texts ++ ws) b.words ∙ sym (append_assoc texts texts' new.words);
+            words = a.words ∙ ap (λ ws. texts ++ ws) b.words
+                ∙ sym (append_assoc texts texts' new.words);
             holds = (a.holds, b.holds);
           };
     }

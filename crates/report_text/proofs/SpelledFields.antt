@@ -220,7 +220,8 @@ module _ (circuit : Circuit) where
   number_plain : (least most number : ℕ) → most < 10 ^ 37 → least ≤ number → number ≤ most
       → WordHasFlaw circuit (field.Number least most) (signed_decimal (pos number)) None
   number_plain least most number small low high =
-      let spells = spelled_whole (pos number) (small_number number (omega (arith, high, small))) in (
+      let short = small_number number (omega (arith, high, small)) in
+      let spells = spelled_whole (pos number) short in (
         (pos number, spells, omega (arith, ints, low)),
         tt,
         tt,

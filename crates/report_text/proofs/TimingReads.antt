@@ -68,7 +68,8 @@ constraint_taken {circuit} {launch} {capture} {weight} {old} {new} setup takes c
       judged = takes.judged;
       taken = λ none.
           let all = takes.taken none in
-          let says = constraint_read {circuit = circuit} setup refl all.holds.1.0 all.holds.1.1.0 all.holds.1.1.1 in
+          let says = constraint_read {circuit = circuit} setup refl all.holds.1.0
+          all.holds.1.1.0 all.holds.1.1.1 in
           record {
             sound = all.sound;
             words = all.words ∙ ap (λ (ws : Words). ws ++ new.words) says.line;

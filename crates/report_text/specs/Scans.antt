@@ -1,5 +1,5 @@
--- A line that is read word by word, each by the field that is due. What is wrong with a word is kept,
--- and the words after it are read all the same, since one of them may have what is judged sooner.
+-- A line that is read word by word, each by the field that is due. What is wrong with a word is
+-- kept, and the words after it are read all the same: one of them may have what is judged sooner.
 use Rattle.std.specs.Prelude.{◌≡◌, ◌<◌, ℕ, List, [], ◌∷◌, ◌++◌, Option, Some, None, Result, Ok, Err, IfOk, length, drop}
 use Rattle.cts_model.specs.declared.circuit.Circuit.{Circuit}
 use Rattle.cts_model.specs.text.PrintedLines.{Words}
@@ -33,7 +33,8 @@ pub record Taken (texts : Words) (Holds : Type 0) (old new : LineLeft) : Type 0 
   pub words : old.words ≡ texts ++ new.words
   pub holds : Holds
 
--- words are taken by these fields; where nothing is wrong up to there, they are these, and this holds
+-- words are taken by these fields; where nothing is wrong up to there, they are these, and this
+-- holds
 pub record Takes (circuit : Circuit) (fields : List Field) (texts : Words) (Holds : Type 0)
     (old new : LineLeft) : Type 0 where
   pub rest : new.words ≡ drop (length fields) old.words

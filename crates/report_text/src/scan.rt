@@ -173,7 +173,8 @@ impl<'a> Scan<'a> {
     /// Takes a number of that range.
     pub(crate) fn number(&mut self, least: u32, most: u32) -> u32
         ensures { (circuit : model.Circuit) → Takes circuit (field.Number least most ∷ [])
-            (signed_decimal (pos result) ∷ []) ((least ≤ result) × (result ≤ most)) self.old self.new }
+            (signed_decimal (pos result) ∷ []) ((least ≤ result) × (result ≤ most))
+            self.old self.new }
     {
         let word = self.next();
         self.keep(read_number(least, most, word), 0)
@@ -217,8 +218,10 @@ impl<'a> Scan<'a> {
 
     /// Takes an arrival, in steps of a tick.
     pub(crate) fn arrival(&mut self, rules: &Rules) -> i128
-        ensures { (circuit : model.Circuit) → Takes circuit (field.Steps rules.now.scale.den (pos (10 ^ 19)) ∷ [])
-            (quotient_text result rules.now.scale.den ∷ []) (IsBelow (10 ^ 19) result) self.old self.new }
+        ensures { (circuit : model.Circuit) → Takes circuit
+            (field.Steps rules.now.scale.den (pos (10 ^ 19)) ∷ [])
+            (quotient_text result rules.now.scale.den ∷ []) (IsBelow (10 ^ 19) result)
+            self.old self.new }
     {
         let word = self.next();
         self.keep(read_steps(rules.scale.den, MAX_ARRIVAL, word), 0)
@@ -227,7 +230,8 @@ impl<'a> Scan<'a> {
     /// Takes a length, in grid steps.
     pub(crate) fn length(&mut self, rules: &Rules) -> i128
         ensures { (circuit : model.Circuit) → Takes circuit (length_field rules.now.scale ∷ [])
-            (quotient_text result rules.now.scale.grid ∷ []) (IsBelow (10 ^ 32) result) self.old self.new }
+            (quotient_text result rules.now.scale.grid ∷ []) (IsBelow (10 ^ 32) result)
+            self.old self.new }
     {
         let word = self.next();
         self.keep(read_steps(rules.scale.grid, MAX_LENGTH, word), 0)
@@ -235,8 +239,10 @@ impl<'a> Scan<'a> {
 
     /// Takes the length of the whole wire, in grid steps.
     pub(crate) fn total(&mut self, rules: &Rules) -> i128
-        ensures { (circuit : model.Circuit) → Takes circuit (field.Steps rules.now.scale.grid (pos (10 ^ 36)) ∷ [])
-            (quotient_text result rules.now.scale.grid ∷ []) (IsBelow (10 ^ 36) result) self.old self.new }
+        ensures { (circuit : model.Circuit) → Takes circuit
+            (field.Steps rules.now.scale.grid (pos (10 ^ 36)) ∷ [])
+            (quotient_text result rules.now.scale.grid ∷ []) (IsBelow (10 ^ 36) result)
+            self.old self.new }
     {
         let word = self.next();
         self.keep(read_steps(rules.scale.grid, MAX_TOTAL, word), 0)
@@ -254,7 +260,9 @@ impl<'a> Scan<'a> {
     /// Takes the name of that register or of a later one.
     pub(crate) fn from(&mut self, rules: &Rules, first: u32) -> u32
         ensures { Takes rules.now.circuit.now (field.From first ∷ [])
-            (register_name rules.now.circuit.now result ∷ []) ((first ≤ result) × (result < length rules.now.circuit.now.registers)) self.old self.new }
+            (register_name rules.now.circuit.now result ∷ [])
+            ((first ≤ result) × (result < length rules.now.circuit.now.registers))
+            self.old self.new }
     {
         let word = self.next();
         self.keep(read_from(rules, first, word), 0)
@@ -263,7 +271,8 @@ impl<'a> Scan<'a> {
     /// Takes a signal's name.
     pub(crate) fn signal(&mut self, rules: &Rules) -> u32
         ensures { Takes rules.now.circuit.now (field.Signal ∷ [])
-            (signal_name rules.now.circuit.now result ∷ []) (result < length rules.now.circuit.now.signals) self.old self.new }
+            (signal_name rules.now.circuit.now result ∷ [])
+            (result < length rules.now.circuit.now.signals) self.old self.new }
     {
         let word = self.next();
         self.keep(read_signal(rules, word), 0)

@@ -46,8 +46,8 @@ impl Axis {
         }
     }
 
-    /// The axis on which searches pass the fewest sinks, as far as those for a few of them tell. One
-    /// sink far away is one of many that are passed, where it would decide which axis has the
+    /// The axis on which searches pass the fewest sinks, as far as those for a few of them tell.
+    /// One sink far away is one of many that are passed, where it would decide which axis has the
     /// greatest distance. Any axis serves.
     pub(crate) fn sparsest(sinks: &[Sink]) -> Axis
         requires { AreTreeSinks sinks.now }

@@ -18,8 +18,8 @@ use tilted_rect::Cluster;
 /// Of pairs that cost as much it merges that of the lower first node, and then of the lower second.
 /// The clusters stand in order on the axis (`u`, `v`, reach) on which searches for a few sinks pass
 /// the fewest. One looks at those that are near enough on it alone, and what it finds is kept until
-/// a merge breaks it up. Edahiro, "A Clustering-Based Optimization Algorithm in Zero-Skew Routings",
-/// 1993.
+/// a merge breaks it up. Edahiro, "A Clustering-Based Optimization Algorithm in Zero-Skew
+/// Routings", 1993.
 pub fn greedy(alloc: Global, sinks: &[Sink]) -> Result<Topology, NoMemory>
     requires { AreTreeSinks sinks.now }
     ensures greedy { IfOk result (λ topology. IsGreedy sinks.now topology.merges) }

@@ -10,8 +10,8 @@ loop-place-init c =
 
 pub loop-place-preserved : goal.loop-place-preserved
 loop-place-preserved c =
-    signals_next c.args.rules.now.circuit.now c.loop-place.signals c.loop-place.invariant c.signal.ensures
-    c.in_ok-push.ensures.ok
+    signals_next c.args.rules.now.circuit.now c.loop-place.signals c.loop-place.invariant
+    c.signal.ensures c.in_ok-push.ensures.ok
 
 pub returns : goal.returns
 returns c =

@@ -13,8 +13,8 @@ this_or_after place other above = elim (cases_lt other place) [
 
 pub relax-requires-clause-small : goal.relax-requires-clause-small
 relax-requires-clause-small c =
-    small_now c.requires.entries c.loop-place.invariant.1 (omega (arith, c.requires.entries.small.few))
-    c.requires.small
+    small_now c.requires.entries c.loop-place.invariant.1
+    (omega (arith, c.requires.entries.small.few)) c.requires.small
 
 pub loop-place-preserved : goal.loop-place-preserved
 loop-place-preserved c =
@@ -34,4 +34,6 @@ loop-place-preserved c =
     )
 
 pub returns : goal.returns
-returns c = IsSweep-all c.requires.entries c.loop-place.invariant.1 (omega arith) (λ place within. omega arith)
+returns c =
+    IsSweep-all c.requires.entries c.loop-place.invariant.1 (omega arith)
+    (λ place within. omega arith)

@@ -13,8 +13,8 @@ next_or_before place other below = elim (cases_lt other place) [
 
 pub relax-requires-clause-small : goal.relax-requires-clause-small
 relax-requires-clause-small c =
-    small_now c.requires.entries c.loop-place.invariant (omega (arith, c.requires.entries.small.few))
-    c.requires.small
+    small_now c.requires.entries c.loop-place.invariant
+    (omega (arith, c.requires.entries.small.few)) c.requires.small
 
 pub loop-place-preserved : goal.loop-place-preserved
 loop-place-preserved c =
@@ -25,4 +25,6 @@ loop-place-preserved c =
     (λ other. other < place + 1) c.loop-place-test.true c.relax.ensures (next_or_before place))
 
 pub returns : goal.returns
-returns c = IsSweep-all c.requires.entries c.loop-place.invariant (omega arith) (λ place within. omega arith)
+returns c =
+    IsSweep-all c.requires.entries c.loop-place.invariant (omega arith)
+    (λ place within. omega arith)

@@ -19,8 +19,9 @@ returns-in-None-clause-ok c =
     c.exactly.new.self =
     form_read refl (takes_then (c.keyword.ensures circuit) (c.exactly.ensures circuit))
     (λ are _. are) in
-    let (read, says) = line_says c.in_ok-words.ensures.ok.0 are c.of-scan.ensures c.in_ok-words.ensures.ok.1 reads
-    (c.in-None.ensures.judged circuit) (c.in-None.ensures.sound refl) in
+    let (read, says) = line_says c.in_ok-words.ensures.ok.0 are c.of-scan.ensures
+    c.in_ok-words.ensures.ok.1 reads (c.in-None.ensures.judged circuit)
+    (c.in-None.ensures.sound refl) in
     subst (λ words. ReadsLine circuit scale (form.Count c.args.word c.args.count) words
     c.args.cursor.now c.next_words.new.cursor) says read
 
@@ -35,7 +36,7 @@ returns-clause-fault c =
     c.exactly.new.self =
     form_read refl (takes_then (c.keyword.ensures circuit) (c.exactly.ensures circuit))
     (λ are _. are) in
-    line_stops c.in_ok-words.ensures.ok.0 are c.of-scan.ensures c.in_ok-words.ensures.ok.1 reads c.in-Some.flaw
-    c.fault_of.result (c.in-Some.ensures.judged circuit)
+    line_stops c.in_ok-words.ensures.ok.0 are c.of-scan.ensures c.in_ok-words.ensures.ok.1 reads
+    c.in-Some.flaw c.fault_of.result (c.in-Some.ensures.judged circuit)
     (c.fault_of.ensures ∙ ap (λ line. fault_of (form.Count c.args.word c.args.count) line
     c.in-Some.flaw) c.line-at.ensures)

@@ -8,5 +8,6 @@ pub returns : goal.returns
 returns c circuit =
     takes_word circuit (field.Counted c.args.count c.args.most) c.next-word.ensures.taken
     (c.read_counted.ensures.flaw circuit) c.keep.ensures.kept
-    (λ _. signed_decimal (pos c.args.count)) (λ _. (1 ≤ c.args.count) × (c.args.count ≤ c.args.most))
+    (λ _. signed_decimal (pos c.args.count))
+    (λ _. (1 ≤ c.args.count) × (c.args.count ≤ c.args.most))
     c.read_counted.ensures.value

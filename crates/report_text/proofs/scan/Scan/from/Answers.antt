@@ -8,5 +8,6 @@ pub returns : goal.returns
 returns c =
     takes_word c.args.rules.now.circuit.now (field.From c.args.first) c.next-word.ensures.taken
     c.read_from.ensures.flaw c.keep.ensures.kept
-    (register_name c.args.rules.now.circuit.now) (λ register. (c.args.first ≤ register) × (register < length c.args.rules.now.circuit.now.registers))
+    (register_name c.args.rules.now.circuit.now) (λ register. (c.args.first ≤ register)
+    × (register < length c.args.rules.now.circuit.now.registers))
     c.read_from.ensures.value

@@ -11,7 +11,8 @@ pub returns-clause-taken : goal.returns-clause-taken
 returns-clause-taken c =
     takes_word c.args.rules.now.circuit.now field.Register c.next-word.ensures.taken
     c.read_register.ensures.flaw c.keep.ensures.kept
-    (register_name c.args.rules.now.circuit.now) (λ register. register < length c.args.rules.now.circuit.now.registers)
+    (register_name c.args.rules.now.circuit.now)
+    (λ register. register < length c.args.rules.now.circuit.now.registers)
     c.read_register.ensures.value
 
 pub returns-clause-named : goal.returns-clause-named

@@ -8,5 +8,6 @@ pub returns : goal.returns
 returns c =
     takes_word c.args.rules.now.circuit.now field.Signal c.next-word.ensures.taken
     c.read_signal.ensures.flaw c.keep.ensures.kept
-    (signal_name c.args.rules.now.circuit.now) (λ number. number < length c.args.rules.now.circuit.now.signals)
+    (signal_name c.args.rules.now.circuit.now)
+    (λ number. number < length c.args.rules.now.circuit.now.signals)
     c.read_signal.ensures.value
