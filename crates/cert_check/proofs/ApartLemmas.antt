@@ -1,27 +1,11 @@
 -- What two pieces of a wire have in common, by their coordinates.
-use Rattle.std.proofs.Common.{◌≡◌, ℕ, ◌+◌, ◌<◌, ◌≤◌, ℤ, pos, ◌*ℤ◌, ◌≤ℤ◌, ◌<ℤ◌, inl, inr, sym, ap, ◌∙◌, arith}
+use Rattle.std.proofs.Common.{◌≡◌, ℕ, ◌<◌, ℤ, pos, ◌*ℤ◌, ◌≤ℤ◌, ◌<ℤ◌, inl, inr, sym, ap, ◌∙◌, arith}
 use Rattle.std.specs.Int.{int_max, int_min}
-use Rattle.std.proofs.Math.Nat.{mul-add, mul-one, mul-le-mul_left}
 use Rattle.std.proofs.lemmas.Int.{ints, clamps, by_lt_z}
 use Rattle.cts_model.specs.declared.place.Point.{Point}
 use Rattle.cts_model.specs.tree.DrawnWires.{IsBetween, AreApart}
-use Rattle.cts_model.proofs.ScaleLemmas.{scale_le, scale-max}
+use Rattle.cts_model.proofs.ScaleLemmas.{scale_le, scale_lt, scale-max}
 use Rattle.cert_check.specs.DrawnParts.{Share, greatest_common, least_common, piece}
-use borrow.Author.Differences.{up, down}
-
--- a scale keeps two numbers in their order
-scale_lt : (scale : ℕ) (a b : ℤ) → 0 < scale → a <ℤ b → (pos scale *ℤ a) <ℤ (pos scale *ℤ b)
-scale_lt scale a b some less =
-    let plain : up a + down b + 1 ≤ up b + down a = omega (arith, ints) in
-    omega (
-      arith,
-      ints,
-      mul-le-mul_left scale plain,
-      mul-add scale (up a + down b) 1,
-      mul-add scale (up a) (down b),
-      mul-add scale (up b) (down a),
-      mul-one scale,
-    )
 
 -- the lesser of two numbers is the one or the other
 min_left : (a b : ℤ) → a ≤ℤ b → int_min a b ≡ a

@@ -10,14 +10,12 @@ mod DownLemmas
 mod FirstPlaces
 mod GivenLemmas
 mod KeptNumbers
-mod ProductLemmas
 mod ReachLemmas
 mod ShowLemmas
 mod SlackLemmas
 mod SumLemmas
-mod TableLemmas
 mod TailLemmas
 mod WalkLemmas
-mod JudgedLemmas
+pub mod JudgedLemmas
 mod TightLemmas
 mod JudgeFacts

@@ -1,12 +1,12 @@
 -- Lists of parents, as they are filled merge by merge.
-use Rattle.std.proofs.Common.{◌≡◌, ◌⊎◌, ◌<◌, ◌≤◌, ◌+◌, ◌*◌, ℕ, List, length, get_or, set, Some, inl, inr, refl, sym, ap, subst, ◌∙◌, arith}
+use Rattle.std.proofs.Common.{◌≡◌, ◌⊎◌, ◌<◌, ◌≤◌, ◌+◌, ◌*◌, ℕ, List, length, set, Some, inl, inr, refl, sym, ap, subst, ◌∙◌, arith}
 use Rattle.std.specs.Prelude.{slice_get}
 use Rattle.std.proofs.lemmas.Bool.{cases_lt}
 use Rattle.std.proofs.lemmas.List.{get_or_default, get_or-set_same, get_or-set_other, length-set}
-use Rattle.std.proofs.lemmas.Option.{slice_get_within, get_or_from_slice_get}
+use Rattle.std.proofs.lemmas.Option.{slice_get_within}
 use Rattle.cts_model.specs.declared.tree.Merge.{Merge}
 use Rattle.cts_model.specs.tree.Topologies.{IsParent, IsTopology, Joins, root_of, source_of}
-use Rattle.cts_model.proofs.ParentLemmas.{has_parent, made_parent, one_parent, parent_stands}
+use Rattle.cts_model.proofs.ParentLemmas.{has_parent, joined_by, made_parent, one_parent, parent_stands}
 use Rattle.cts_model.proofs.TopologyLemmas.{first_made, second_made, some_and}
 use Rattle.cert_check.specs.Parents.{AreParents, parent_at}
 
@@ -29,19 +29,6 @@ module _ {sinks : ℕ} {merges : List Merge} (topology : IsTopology sinks merges
       let two = second_made sinks merges topology.each place merge here in
       let within = slice_get_within merges place merge here in
       (omega (arith, topology.all, before.all), omega (arith, topology.all, before.all))
-
-  -- what the merge of a parent joins
-  joined_by : (node place : ℕ) (merge : Merge) → slice_get merges place ≡ Some merge
-      → IsParent sinks merges node (sinks + place) → Joins merge node
-  joined_by node place merge here (inl (other, is, found)) =
-      let same : place ≡ other = omega arith in
-      let (item, there, joins) = some_and (slice_get merges other)
-      (λ merge. Joins merge node) found in
-      subst (λ m. Joins m node) (sym (get_or_from_slice_get merges other item merge there)
-      ∙ ap (λ n. get_or merges n merge) (sym same)
-      ∙ get_or_from_slice_get merges place merge merge here) joins
-  joined_by node place merge here (inr (is_root, is)) =
-      absurd (omega (arith, topology.all, slice_get_within merges place merge here))
 
   -- one more merge
   pub parents_more : (place next : ℕ) (merge : Merge) (parents : List ℕ)
@@ -100,7 +87,7 @@ module _ {sinks : ℕ} {merges : List Merge} (topology : IsTopology sinks merges
           ∙ before.filled node up is earlier
       by_parent node up is (inr later) below =
           let same : up ≡ sinks + place = omega arith in
-          joined node up (omega (arith, before.parent)) (joined_by node place merge here
+          joined node up (omega (arith, before.parent)) (joined_by topology node place merge here
           (subst (IsParent sinks merges node) same is))
 
   -- after the last merge the root's parent is the source

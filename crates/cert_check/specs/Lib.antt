@@ -11,4 +11,3 @@ pub mod Parents
 pub mod DrawnParts
 pub mod EmbeddingParts
 pub mod WalkedPaths
-pub mod OneProof

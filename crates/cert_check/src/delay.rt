@@ -1,14 +1,12 @@
-ghost use Rattle.std.specs.Prelude.{◌≡◌, ◌<◌, ◌≤◌, ◌^◌, All, IsTrue, Some, drop, length, pos, slice_get, if◌then◌else◌, ◌+ℤ◌, ◌*ℤ◌};
-ghost use Rattle.cts_model.specs.timing.Delays.{delay_of};
+ghost use Rattle.std.specs.Prelude.{◌≡◌, ◌≤◌, ◌^◌, All, IsTrue, Some, drop, length, slice_get, if◌then◌else◌, ◌+ℤ◌};
 ghost use Rattle.cts_model.specs.netlist.Kinds.{is_gate, is_valid};
-ghost use Rattle.cts_model.specs.netlist.Kinds as places;
 ghost use Rattle.cts_model.specs.netlist.Paths.{IsGate};
 ghost use Rattle.cts_model.specs.placement.Points.{IsBelow};
-ghost use Rattle.cts_model.specs.table.Tables.{IsGateDelay, IsWithin};
+ghost use Rattle.cts_model.specs.table.Tables.{IsWithin};
 ghost use Rattle.cert_check.specs.WalkedPaths.{delay_by, gate_delay_by, through_by};
 
 use crate::item::item_at;
-use cts_model::{Circuit, GateDelay, Kind, Signal, Tech};
+use cts_model::{Circuit, Signal, Tech};
 
 /// The greatest or the least delay of a path, in ticks.
 pub(crate) fn path_delay(circuit: &Circuit, tech: &Tech, path: &[u32], greatest: bool) -> i128
@@ -67,39 +65,11 @@ fn gate_delay(tech: &Tech, signal: &Signal, greatest: bool) -> i64
     requires gate { IsTrue (is_gate signal.now.kind) }
     ensures { result ≡ gate_delay_by greatest tech.now (Some signal.now) }
 {
-    let delay = table_delay(tech, signal.kind);
-    let further = signal.fan_in.len().saturating_sub(1);
+    let delay = tech.delay_of(signal.kind);
+    let inputs = signal.fan_in.len();
     if greatest {
-        summed(delay.greatest, delay.greatest_per_input, further)
+        delay.greatest_of(inputs)
     } else {
-        summed(delay.least, delay.least_per_input, further)
+        delay.least_of(inputs)
     }
-}
-
-// What the table says of a gate kind.
-fn table_delay(tech: &Tech, kind: Kind) -> &GateDelay
-    requires { IsTrue (is_gate kind) }
-    ensures of_kind { result.now ≡ delay_of tech.now kind }
-    ensures valid { IsGateDelay result.now }
-{
-    &tech.gates[place_of(kind)]
-}
-
-// The place of a gate kind in a table.
-fn place_of(kind: Kind) -> usize
-    requires { IsTrue (is_gate kind) }
-    ensures of_kind { result ≡ places.place_of kind }
-    ensures within { result < 8 }
-{
-    kind as usize
-}
-
-// A gate's delay: that at one input, and what each further input adds.
-fn summed(first: i128, per_input: i128, further: usize) -> i64
-    requires first { IsWithin 0 1000000 first }
-    requires per_input { IsWithin 0 1000 per_input }
-    requires further { further ≤ 1024 }
-    ensures { result ≡ first +ℤ (per_input *ℤ pos further) }
-{
-    (first + per_input * further as i128) as i64
 }

@@ -2,8 +2,8 @@ ghost use Rattle.std.specs.Prelude.{◌≡◌, ◌≤◌, ◌^◌, All, length};
 ghost use Rattle.cts_model.specs.placement.Points.{IsBelow, IsUvBelow};
 ghost use Rattle.cts_model.specs.report.ReportBounds.{HasSmallWeight, HasSmallWeights, HasTreeBounds, IsBetweenRegisters, IsOfSize, IsSmallLead, cycle_length};
 ghost use Rattle.cts_model.specs.timing.Schedules.{IsSmallPeriod};
+ghost use Rattle.cts_model.specs.report.OneProof.{leads_prop, size_prop, tree_prop, weights_prop};
 ghost use Rattle.cert_check.specs.SmallSinks.{IsSmallSink};
-ghost use Rattle.cert_check.specs.OneProof.{leads_prop, size_prop, tree_prop, weights_prop};
 
 use cts_model::{Constraint, Problem, Report, Sink, Uv};
 

@@ -18,7 +18,6 @@ mod of_circuit;
 mod parents;
 mod path;
 mod period;
-mod product;
 mod reaches;
 mod shape;
 mod shaped;

@@ -3,11 +3,10 @@ ghost use Rattle.cts_model.specs.report.Judgements.{GivesPeriod, IsFromFloor};
 ghost use Rattle.cts_model.specs.timing.Schedules.{IsSmallPeriod};
 
 use crate::judge::Judge;
-use crate::product::product;
 use crate::value::gives_period;
 use crate::verdict::{Reason, Stop};
 use cts_base::Fraction;
-use cts_model::Tech;
+use cts_model::{Tech, product};
 
 impl Judge<'_> {
     ghost use Rattle.cert_check.specs.declared.verdict.Reason.TheVariants.{BelowFloor, CycleValue};

@@ -1,4 +1,4 @@
-ghost use Rattle.std.specs.Prelude.{◌≡◌, ◌<◌, ◌≤◌, ◌+◌, ◌*◌, ◌^◌, ◌↔◌, IsTrue, pos, All, IfOk, length, slice_index_or};
+ghost use Rattle.std.specs.Prelude.{◌≡◌, ◌<◌, ◌*◌, ◌^◌, ◌↔◌, IsTrue, All, length};
 ghost use Rattle.cts_model.specs.tree.Embeddings.{AreWiresDown, embedding_of, total_length, total_wire};
 ghost use Rattle.cts_model.specs.placement.Points.{IsBelow};
 ghost use Rattle.cts_model.specs.report.ReportLines.{number_at};
@@ -9,6 +9,7 @@ use crate::down::{are_same, difference};
 use crate::judge::Judge;
 use crate::shaped::ShapedTree;
 use crate::verdict::{Reason, Stop};
+use cts_model::total_length;
 use std::alloc::Global;
 
 /// A report with how long the wire is from the source of its tree down to each node.
@@ -84,24 +85,10 @@ impl Judge<'_> {
         ensures { JudgesOnce (self.now.report.now.total ≡ total_wire (length self.now.sinks.now)
             (embedding_of self.now.report.now.tree)) Total result }
     {
-        if total_of(self.report.tree.length.as_slice()) == self.report.total {
+        if total_length(self.report.tree.length.as_slice()) == self.report.total {
             Ok(())
         } else {
             Err(Stop::At(Reason::Total))
         }
     }
-}
-
-// How long the edges of a tree are together.
-fn total_of(lengths: &[i128]) -> i128
-    requires few { length lengths.now ≤ 8193 }
-    requires small { All (IsBelow (10 ^ 32)) lengths.now }
-    ensures { result ≡ total_length (λ node. slice_index_or lengths.now node (pos 0))
-        (length lengths.now) }
-{
-    let mut total = 0;
-    for length in lengths {
-        total += *length;
-    }
-    total
 }

@@ -1,15 +1,14 @@
-ghost use Rattle.std.specs.Prelude.{◌≡◌, ◌↔◌, ◌<◌, ◌≤◌, ◌+◌, ◌*◌, ◌^◌, IfOk, IsTrue, length};
+ghost use Rattle.std.specs.Prelude.{◌≡◌, ◌↔◌, ◌<◌, ◌≤◌, ◌+◌, ◌*◌, IfOk, IsTrue, length};
 ghost use Rattle.cts_model.specs.tree.Topologies.{IsTopology, source_of};
-ghost use Rattle.cts_model.specs.placement.Points.{IsPointBelow, rotated};
+ghost use Rattle.cts_model.specs.placement.Points.{rotated};
 ghost use Rattle.cert_check.specs.declared.verdict.Reason.TheVariants.{TreeShape};
 ghost use Rattle.cert_check.specs.Judged.{Judges, JudgesOnce};
 ghost use Rattle.cert_check.specs.EmbeddingParts.{IsOfUnmarked, JoinsAt, StandsAt};
 ghost use Rattle.cert_check.specs.JudgedReports.{Shaped, tree_of};
 
 use crate::judge::Judge;
-use crate::sinks::rotated;
 use crate::verdict::{Reason, Stop};
-use cts_model::{Merge, Point, Uv};
+use cts_model::{Merge, Point, Uv, to_uv};
 use std::alloc::Global;
 
 impl Judge<'_> {
@@ -60,7 +59,7 @@ impl Judge<'_> {
         requires { node < 2 * length self.now.sinks.now }
         ensures { IsTrue result ↔ (rotated ((tree_of self.now).place node) ≡ at) }
     {
-        rotated(self.report.tree.place.as_slice()[node]) == at
+        to_uv(self.report.tree.place.as_slice()[node]) == at
     }
 }
 

@@ -1,4 +1,4 @@
-ghost use Rattle.std.specs.Prelude.{◌≡◌, ◌≤◌, ◌↔◌, ◌^◌, IsTrue, All, length, pos, ◌+ℤ◌, ◌-ℤ◌, ◌*ℤ◌, ◌≤ℤ◌};
+ghost use Rattle.std.specs.Prelude.{◌≡◌, ◌≤◌, ◌↔◌, ◌^◌, IsTrue, All, length, pos, ◌-ℤ◌, ◌*ℤ◌, ◌≤ℤ◌};
 ghost use Rattle.cts_model.specs.timing.Constraints.{count_of};
 ghost use Rattle.cts_model.specs.timing.Cycles.{total_count, total_weight};
 ghost use Rattle.cts_model.specs.report.Judgements.{GivesPeriod};
@@ -8,9 +8,8 @@ ghost use Rattle.cts_model.specs.report.ReportBounds.{HasSmallWeight, HasSmallWe
 ghost use Rattle.cts_model.specs.timing.Schedules.{IsSmallPeriod};
 
 use crate::down::are_same;
-use crate::product::product;
 use cts_base::Fraction;
-use cts_model::{Constraint, PeriodShow, Tech};
+use cts_model::{Constraint, PeriodShow, Tech, product};
 
 /// Whether what is shown gives the period.
 pub(crate) fn gives_period(tech: &Tech, period: Fraction, shown: &PeriodShow) -> bool

@@ -6,6 +6,7 @@ mod ScaleLemmas
 mod MicroLemmas
 mod SizeLemmas
 mod OneNumberFault
+pub mod NumberFaults
 mod WholeReading
 mod QuotientReading
 pub mod FractionReading

@@ -11,7 +11,7 @@ use Rattle.cts_model.specs.declared.tree.Wire.{Wire}
 use Rattle.cts_model.specs.tree.Embeddings.{embedding_of}
 use Rattle.cts_model.specs.report.ReportBounds.{IsSmallWire}
 use Rattle.cts_model.specs.tree.Topologies.{IsParent, IsTopology, Joins, root_of, source_of}
-use Rattle.cts_model.proofs.ParentLemmas.{made_parent, one_parent}
+use Rattle.cts_model.proofs.ParentLemmas.{joined_by, made_parent, one_parent}
 use Rattle.cts_model.proofs.TopologyLemmas.{first_made, merge_at, merge_here, second_made, some_and}
 use Rattle.cts_engine.specs.Syntheses.{AreDrawn}
 use Rattle.cts_engine.specs.TreeParts.{IsEdgeDrawn, IsWireOf}
@@ -76,20 +76,6 @@ module _ {tree : Tree} {node parent : ℕ} {old new : List Wire}
       ∙ ap Some (sym (ap (λ wires. get_or wires other wire) drawn.rest
       ∙ get_or-set_other old node other drawn.wire wire apart)
       ∙ get_or_from_slice_get new other wire wire found))
-
-module _ {sinks : ℕ} {merges : List Merge} (topology : IsTopology sinks merges) where
-  -- what the merge of a parent joins
-  joined_by : (node place : ℕ) (merge : Merge) → slice_get merges place ≡ Some merge
-      → IsParent sinks merges node (sinks + place) → Joins merge node
-  joined_by node place merge here (inl (other, is, found)) =
-      let same : place ≡ other = omega arith in
-      let (item, there, joins) = some_and (slice_get merges other)
-      (λ merge. Joins merge node) found in
-      subst (λ m. Joins m node) (sym (get_or_from_slice_get merges other item merge there)
-      ∙ ap (λ n. get_or merges n merge) (sym same)
-      ∙ get_or_from_slice_get merges place merge merge here) joins
-  joined_by node place merge here (inr (is_root, is)) =
-      absurd (omega (arith, topology.all, slice_get_within merges place merge here))
 
 module _ {sinks : ℕ} {merges : List Merge} (topology : IsTopology sinks merges) {tree : Tree} where
   -- there is a wire for each node that a merge joins

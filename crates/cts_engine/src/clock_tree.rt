@@ -1,12 +1,12 @@
 ghost use Rattle.std.specs.Prelude.{IfOk, length};
 ghost use Rattle.cts_model.specs.tree.Sinks.{AreTreeSinks};
 ghost use Rattle.cts_model.specs.tree.Topologies.{IsTopology};
-ghost use Rattle.cts_engine.specs.ClockTrees.{IsClockTree, IsMadeTree};
 ghost use Rattle.place_down.specs.Trees.{IsTreeSource};
+ghost use Rattle.cts_engine.specs.ClockTrees.{IsClockTree, IsMadeTree};
 
-use crate::wires::{total_of, wires_of};
+use crate::wires::wires_of;
 use cts_base::{Listed, NoMemory};
-use cts_model::{Show, Sink, Topology, Tree, Uv, Wire};
+use cts_model::{Show, Sink, Topology, Tree, Uv, Wire, total_length};
 use merge_up::{Work, merge};
 use place_down::place;
 use std::alloc::Global;
@@ -34,7 +34,7 @@ pub(crate) fn tree_with(
 {
     let (tree, shows) = placed(alloc, sinks, topology, source)?;
     let wires = wires_of(alloc, sinks.len(), topology, &tree)?;
-    let total = total_of(tree.length.as_slice());
+    let total = total_length(tree.length.as_slice());
     Ok(ClockTree {
         tree,
         shows,

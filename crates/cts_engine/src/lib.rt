@@ -12,7 +12,6 @@ mod refusals;
 mod scheduling;
 mod session;
 mod sink_times;
-mod sinks;
 mod synthesis;
 mod times;
 mod wires;

@@ -14,12 +14,10 @@ ghost use Rattle.cts_engine.specs.SessionOutcomes.{ForbidsFromLowest, HasSmallGr
 
 use crate::SynthFault;
 use crate::sink_times::{SinkOutcome, timed_sinks};
-use crate::sinks::{grid_of, product, rotated_on_grid};
 use cts_base::Listed;
-use cts_model::{Constraint, Point, Problem, Uv};
+use cts_model::{Constraint, Grid, Point, Problem, Uv, product, to_uv};
 use move_session::Session;
 use std::alloc::Global;
-use tilted_rect::to_uv;
 use topology::greedy;
 
 /// A problem's clock tree whose sinks may move, or what forbids every period.
@@ -52,10 +50,16 @@ pub fn session_of(alloc: Global, problem: &Problem) -> Result<SessionOutcome, Sy
         SinkOutcome::Found(timed) => {
             let sinks = timed.sinks.as_slice();
             let topology = greedy(alloc, sinks)?;
-            let source = rotated_on_grid(timed.period, &problem.tech, problem.places.source);
+            let grid = Grid {
+                period: timed.period,
+                tech: &problem.tech,
+            };
+            let source = grid.rotated(problem.places.source);
             let session = Session::open(alloc, sinks, &topology, source)?;
-            let grid = grid_of(timed.period, &problem.tech);
-            Ok(SessionOutcome::Found { session, grid })
+            Ok(SessionOutcome::Found {
+                session,
+                grid: grid.steps_of_unit(),
+            })
         }
     }
 }

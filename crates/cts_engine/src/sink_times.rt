@@ -8,10 +8,9 @@ ghost use Rattle.cts_engine.specs.SinkOutcomes.{AreTimedSinks, IsSinkOutcome, St
 use crate::SynthFault;
 use crate::pairs::levels_of;
 use crate::period::{PeriodOutcome, Timing, timing_of};
-use crate::sinks::sinks_of;
 use crate::times::{Times, times_of};
 use cts_base::{Fraction, Listed, NoMemory};
-use cts_model::{Constraint, PeriodShow, Problem, Sink};
+use cts_model::{Constraint, Grid, PeriodShow, Problem, Sink};
 use gate_order::Levels;
 use std::alloc::Global;
 
@@ -73,7 +72,8 @@ fn sinks_at(
     let tech = &problem.tech;
     let times = times_of(alloc, circuit, levels, tech, constraints, period, &shown)?;
     let places = problem.places.registers.as_slice();
-    let sinks = sinks_of(alloc, period, tech, places, times.schedule.at.as_slice())?;
+    let grid = Grid { period, tech };
+    let sinks = grid.sinks(alloc, places, times.schedule.at.as_slice())?;
     Ok(TimedSinks {
         period,
         shown,

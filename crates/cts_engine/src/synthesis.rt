@@ -11,9 +11,8 @@ ghost use Rattle.cts_engine.specs.SynthesisOutcomes.{BeginsLowest, IsNeverOutcom
 use crate::SynthFault;
 use crate::clock_tree::tree_with;
 use crate::sink_times::{SinkOutcome, TimedSinks, timed_sinks};
-use crate::sinks::{grid_of, rotated_on_grid};
 use cts_base::{Listed, NoMemory};
-use cts_model::{Constraint, Problem, Report, Topology, Version};
+use cts_model::{Constraint, Grid, Problem, Report, Topology, Version};
 use std::alloc::Global;
 use topology::greedy;
 
@@ -105,8 +104,11 @@ fn report_with(
         times,
         sinks,
     } = timed;
-    let tech = &problem.tech;
-    let source = rotated_on_grid(period, tech, problem.places.source);
+    let grid = Grid {
+        period,
+        tech: &problem.tech,
+    };
+    let source = grid.rotated(problem.places.source);
     let tree = tree_with(alloc, sinks.as_slice(), &topology, source)?;
     Ok(Report {
         version: Version::Second,
@@ -116,7 +118,7 @@ fn report_with(
         schedule: times.schedule,
         slacks: times.slacks,
         leads: times.leads,
-        grid: grid_of(period, tech),
+        grid: grid.steps_of_unit(),
         topology,
         tree: tree.tree,
         shows: tree.shows,

@@ -1,6 +1,5 @@
-ghost use Rattle.std.specs.Prelude.{◌≡◌, ◌<◌, ◌≤◌, ◌+◌, ◌*◌, ◌^◌, pos, All, IfOk, length, slice_index_or};
-ghost use Rattle.cts_model.specs.tree.Embeddings.{embedding_of, total_length};
-ghost use Rattle.cts_model.specs.placement.Points.{IsBelow};
+ghost use Rattle.std.specs.Prelude.{◌≡◌, ◌<◌, ◌≤◌, ◌+◌, ◌*◌, All, IfOk, length};
+ghost use Rattle.cts_model.specs.tree.Embeddings.{embedding_of};
 ghost use Rattle.cts_model.specs.report.ReportBounds.{IsSmallWire};
 ghost use Rattle.cts_model.specs.tree.Topologies.{IsTopology};
 ghost use Rattle.cts_engine.specs.Syntheses.{AreDrawn};
@@ -56,18 +55,4 @@ fn draw(wires: &mut Listed<Wire>, tree: &Tree, node: usize, parent: usize)
     let places = tree.place.as_slice();
     let wire = wire(places[parent], places[node], tree.length.as_slice()[node]);
     wires.set(node, wire);
-}
-
-/// How long the edges of a tree are together.
-pub(crate) fn total_of(lengths: &[i128]) -> i128
-    requires few { length lengths.now ≤ 8193 }
-    requires small { All (IsBelow (10 ^ 32)) lengths.now }
-    ensures { result ≡ total_length (λ node. slice_index_or lengths.now node (pos 0))
-        (length lengths.now) }
-{
-    let mut total = 0;
-    for length in lengths {
-        total += *length;
-    }
-    total
 }

@@ -29,3 +29,7 @@ mod SaidLemmas
 pub mod LeadLemmas
 pub mod ParentLemmas
 pub mod GridLemmas
+mod ProductLemmas
+pub mod MarkLemmas
+pub mod EntryLemmas
+pub mod DelayRows

@@ -1,5 +1,5 @@
 -- The one parent of each node of a topology, and sums over all nodes taken merge by merge.
-use Rattle.std.proofs.Common.{◌≡◌, ◌≢◌, ℕ, zero, suc, ◌<◌, ◌≤◌, ◌+◌, ℤ, pos, ◌+ℤ◌, ◌≤ℤ◌, List, [], length, take, Some, inl, inr, refl, sym, subst, ◌∙◌, arith}
+use Rattle.std.proofs.Common.{◌≡◌, ◌≢◌, ℕ, zero, suc, ◌<◌, ◌≤◌, ◌+◌, ℤ, pos, ◌+ℤ◌, ◌≤ℤ◌, List, [], length, take, get_or, Some, inl, inr, refl, sym, ap, subst, ◌∙◌, arith}
 use Rattle.std.specs.Prelude.{IsSomeAnd}
 use Rattle.std.specs.List.{slice_get}
 use Rattle.std.proofs.lemmas.Bool.{cases_lt}
@@ -9,7 +9,7 @@ use Rattle.std.proofs.lemmas.Option.{slice_get_within, get_or_from_slice_get}
 use Rattle.cts_model.specs.declared.tree.Merge.{Merge}
 use Rattle.cts_model.specs.tree.Embeddings.{total_length}
 use Rattle.cts_model.specs.tree.Topologies.{IsTopology, IsLive, IsMerge, IsParent, Joins, root_of, source_of}
-use Rattle.cts_model.proofs.TotalLemmas.{all_zero, all_nothing, all_ones, total_from_zero}
+use Rattle.cts_model.proofs.TotalLemmas.{all_zero, all_nothing, all_ones}
 use Rattle.cts_model.proofs.TopologyLemmas.{some_and, merge_at, merge_here, EachMerge, first_made, second_made}
 use Rattle.cts_model.proofs.WithoutLemmas.{without_both, without_both-joined, without_both-nothing, nothing_without_both, without_both-other, without_both-from_zero, total_length-without_both}
 
@@ -85,30 +85,6 @@ module _ (sinks : ℕ) (merges : List Merge) (each : EachMerge sinks merges) whe
     left_from_zero from_zero zero node = from_zero node
     left_from_zero from_zero (suc count) node = without_both-from_zero (left count)
         (merge_at merges count) node (left_from_zero from_zero count node)
-
-    -- where what is made has what the two have of which it is made, no two that a merge joins
-    -- have more than all the sinks
-    pub pair_within : ((node : ℕ) → pos 0 ≤ℤ value node) → (count : ℕ) → count < length merges
-        → total_length value (sinks + count)
-        ≡ pos sinks +ℤ total_length (both_at merges value) count
-        → both_at merges value count ≤ℤ pos sinks
-    pair_within from_zero count within sum =
-        let merge : Merge = merge_at merges count in
-        let joins = joins_at count within in
-        let first = left_live count count merge.first joins.first (omega arith) within in
-        let second = left_live count count merge.second joins.second (omega arith) within in
-        let low : merge.second < sinks + count = omega (
-          arith,
-          joins.second.made,
-          length-take count merges,
-        ) in
-        let rest = left_and_joined count (omega arith) (sinks + count) (omega arith) in
-        let missing = total_length-without_both (left count) merge (sinks + count) joins.ordered
-        low in
-        let others = total_from_zero (without_both (left count) merge) (sinks + count)
-        (λ node. without_both-from_zero (left count) merge node
-        (left_from_zero from_zero count node)) in
-        omega (arith, ints)
 
     -- what is joined isn't left
     left_joined : (count node place : ℕ) → place < count → Joins (merge_at merges place) node
@@ -234,6 +210,19 @@ module _ {sinks : ℕ} {merges : List Merge} (topology : IsTopology sinks merges
       | inr not_after ↦ omega arith
     ]
   ]
+
+  -- what the merge of a parent joins
+  pub joined_by : (node place : ℕ) (merge : Merge) → slice_get merges place ≡ Some merge
+      → IsParent sinks merges node (sinks + place) → Joins merge node
+  joined_by node place merge here (inl (other, is, found)) =
+      let same : place ≡ other = omega arith in
+      let (item, there, joins) = some_and (slice_get merges other)
+      (λ merge. Joins merge node) found in
+      subst (λ m. Joins m node) (sym (get_or_from_slice_get merges other item merge there)
+      ∙ ap (λ n. get_or merges n merge) (sym same)
+      ∙ get_or_from_slice_get merges place merge merge here) joins
+  joined_by node place merge here (inr (is_root, is)) =
+      absurd (omega (arith, topology.all, slice_get_within merges place merge here))
 
   -- the merge of a parent by its place
   joins_at_place : (node place : ℕ) → IsSomeAnd (slice_get merges place) (λ merge. Joins merge node)

@@ -3,6 +3,7 @@ use Rattle.std.proofs.Common.{◌≡◌, ℤ, pos, negsuc, ◌+ℤ◌, ◌-ℤ�
 use Rattle.std.proofs.lemmas.Int.{ints, clamps}
 use Rattle.std.specs.Int.{int_max}
 use Rattle.cts_model.specs.declared.place.Point.{Point}
+use Rattle.cts_model.specs.declared.place.Uv.{Uv}
 use Rattle.cts_model.specs.placement.Points.{IsMultipleOf, apart, distance, rotated, rotated_distance}
 
 -- the sum of two differences is the greater of the two rotated ones
@@ -59,6 +60,10 @@ distance-itself a =
 -- the distance by the rotated points
 pub distance-rotated : (a b : Point) → distance a b ≡ rotated_distance (rotated a) (rotated b)
 distance-rotated a b = apart-rotated a.x a.y b.x b.y
+
+-- rotated points are the same where their coordinates are
+pub same_uv : {a b : Uv} → a.u ≡ b.u → a.v ≡ b.v → a ≡ b
+same_uv u v = λ i. record { u = u i; v = v i }
 
 -- two halves of an even number
 pub halves : (sum : ℤ) → IsMultipleOf 2 sum → int_div sum (pos 2) +ℤ int_div sum (pos 2) ≡ sum

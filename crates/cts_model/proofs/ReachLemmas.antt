@@ -1,6 +1,6 @@
 -- What the reaches of a tree say of its wire, and what they can't be below.
-use Rattle.std.proofs.Common.{◌≡◌, ℕ, ◌<◌, ◌≤◌, ◌+◌, ℤ, pos, ◌+ℤ◌, ◌-ℤ◌, ◌*ℤ◌, ◌≤ℤ◌, List, length, Some, inl, inr, refl, sym, ap, subst, ◌∙◌, arith}
-use Rattle.std.specs.Prelude.{IfSome, Option}
+use Rattle.std.proofs.Common.{◌≡◌, ℕ, ◌<◌, ◌+◌, ℤ, pos, ◌+ℤ◌, ◌-ℤ◌, ◌*ℤ◌, ◌≤ℤ◌, List, length, inl, inr, refl, sym, ap, subst, ◌∙◌, arith}
+use Rattle.std.specs.Prelude.{IfSome}
 use Rattle.std.specs.List.{slice_get}
 use Rattle.std.specs.Option.{option_map_or}
 use Rattle.std.proofs.lemmas.Int.{ints}
@@ -10,12 +10,10 @@ use Rattle.cts_model.specs.declared.place.Uv.{Uv}
 use Rattle.cts_model.specs.declared.tree.Merge.{Merge}
 use Rattle.cts_model.specs.tree.ChosenPlaces.{IsSourceReach}
 use Rattle.cts_model.specs.tree.Embeddings.{Embedding, IsEmbedding, RealisesOffsets, total_length, total_wire}
-use Rattle.cts_model.specs.placement.Points.{rotated_distance}
 use Rattle.cts_model.specs.tree.Reaches.{HasReaches, AreNoLess, total_offset}
-use Rattle.cts_model.specs.tree.Regions.{IsReach, span}
-use Rattle.cts_model.specs.tree.ShownReaches.{AreReaches}
-use Rattle.cts_model.specs.tree.Topologies.{IsTopology, numbers_below, root_of, sinks_below, source_of}
-use Rattle.cts_model.proofs.EmbeddingLemmas.{realised, realised_reaches, realised_of_sink, span_low, source_low, root_low}
+use Rattle.cts_model.specs.tree.Regions.{IsReach}
+use Rattle.cts_model.specs.tree.Topologies.{IsTopology, root_of, sinks_below, source_of}
+use Rattle.cts_model.proofs.EmbeddingLemmas.{realised, span_low, source_low, root_low}
 use Rattle.cts_model.proofs.ScaleLemmas.{scale-add}
 use Rattle.cts_model.proofs.TopologyLemmas.{number_below}
 use Rattle.cts_model.proofs.TotalLemmas.{total_length-le, total_length-scaled}

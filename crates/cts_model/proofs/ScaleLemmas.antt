@@ -1,8 +1,8 @@
 -- Numbers taken over a scale: order, sums, differences, and how far two are apart.
-use Rattle.std.proofs.Common.{◌≡◌, ℕ, ◌+◌, ◌*◌, ◌≤◌, ℤ, pos, negsuc, ◌+ℤ◌, ◌-ℤ◌, ◌*ℤ◌, ◌≤ℤ◌, refl, sym, ap, ◌∙◌, arith}
+use Rattle.std.proofs.Common.{◌≡◌, ℕ, ◌+◌, ◌*◌, ◌<◌, ◌≤◌, ℤ, pos, negsuc, ◌+ℤ◌, ◌-ℤ◌, ◌*ℤ◌, ◌≤ℤ◌, ◌<ℤ◌, refl, sym, ap, ◌∙◌, arith}
 use Rattle.std.specs.Prelude.{nat_abs}
 use Rattle.std.proofs.Math.IntN.{*ℤ_comm}
-use Rattle.std.proofs.Math.Nat.{mul-add, mul_comm, mul-le-mul_left}
+use Rattle.std.proofs.Math.Nat.{mul-add, mul_comm, mul-one, mul-le-mul_left}
 use Rattle.std.proofs.lemmas.Int.{ints, clamps, by_lt_z}
 use Rattle.std.specs.Int.{int_max}
 use Rattle.cts_model.specs.declared.place.Uv.{Uv}
@@ -24,6 +24,21 @@ scale_le scale a b below =
       mul-le-mul_left scale plain,
       mul-add scale (up a) (down b),
       mul-add scale (up b) (down a),
+    )
+
+-- and the strict order
+pub scale_lt : (scale : ℕ) (a b : ℤ) → 0 < scale → a <ℤ b
+    → (pos scale *ℤ a) <ℤ (pos scale *ℤ b)
+scale_lt scale a b some less =
+    let plain : up a + down b + 1 ≤ up b + down a = omega (arith, ints) in
+    omega (
+      arith,
+      ints,
+      mul-le-mul_left scale plain,
+      mul-add scale (up a + down b) 1,
+      mul-add scale (up a) (down b),
+      mul-add scale (up b) (down a),
+      mul-one scale,
     )
 
 -- a scale goes into a sum

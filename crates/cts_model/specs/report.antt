@@ -3,3 +3,4 @@ pub mod ReportBounds
 pub mod Judgements
 pub mod Shown
 pub mod SaidReports
+pub mod OneProof

@@ -1,3 +1,4 @@
 pub mod Names
 pub mod Tokens
 pub mod PrintedLines
+pub mod Entries

@@ -13,3 +13,4 @@ pub mod DrawnWires
 pub mod WireDelays
 pub mod RealisedSchedules
 pub mod SkewLaws
+pub mod Marks

@@ -1,5 +1,6 @@
 ghost use Rattle.std.specs.Prelude.{◌≡◌, ◌*◌, ◌^◌, pos, ◌+ℤ◌, ◌≤ℤ◌, ◌<ℤ◌};
 ghost use Rattle.cts_model.specs.placement.Points.{IsBelow, IsMultipleOf, IsPointBelow, apart, distance, rotated, rotated_distance};
+ghost use Rattle.cts_model.specs.declared.place.Point as model;
 
 use cts_base::Listed;
 
@@ -37,6 +38,19 @@ pub struct Places {
     pub source: Point,
     /// The registers, by their numbers.
     pub registers: Listed<Point>,
+}
+
+/// A point in rotated coordinates. It takes no memory.
+pub fn to_uv(at: Point) -> Uv
+    requires { IsPointBelow (10 ^ 33) at }
+    ensures value { result ≡ rotated at }
+    ensures distance { (other : model.Point)
+        → distance at other ≡ rotated_distance result (rotated other) }
+{
+    Uv {
+        u: at.x + at.y,
+        v: at.x - at.y,
+    }
 }
 
 /// The length of the shortest wire from one point to another along x and y. It takes no memory.

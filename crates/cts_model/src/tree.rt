@@ -1,3 +1,7 @@
+ghost use Rattle.std.specs.Prelude.{◌≡◌, ◌≤◌, ◌^◌, pos, All, length, slice_index_or};
+ghost use Rattle.cts_model.specs.placement.Points.{IsBelow};
+ghost use Rattle.cts_model.specs.tree.Embeddings.{total_length};
+
 use crate::Point;
 use cts_base::Listed;
 
@@ -48,4 +52,19 @@ pub struct Wire {
     pub corners: [Point; 5],
     /// How many of them the wire has.
     pub used: u8,
+}
+
+/// How long the edges of a tree are together, in grid steps. It takes no memory.
+pub fn total_length(lengths: &[i128]) -> i128
+    requires few { length lengths.now ≤ 8193 }
+    requires small { All (IsBelow (10 ^ 32)) lengths.now }
+    ensures value { result ≡ total_length (λ node. slice_index_or lengths.now node (pos 0))
+        (length lengths.now) }
+    ensures below { IsBelow (10 ^ 36) result }
+{
+    let mut total = 0;
+    for length in lengths {
+        total += *length;
+    }
+    total
 }

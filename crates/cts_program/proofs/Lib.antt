@@ -27,7 +27,6 @@ mod CornerRefusals
 mod CornerReads
 mod OneAnswer
 mod TextStatuses
-mod ShownVerdicts
 mod OneRefusal
 mod SameFiles
 mod DemoLemmas

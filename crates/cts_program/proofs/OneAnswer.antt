@@ -7,20 +7,20 @@ use Rattle.cts_model.specs.timing.PairLists.{JoinsMoreThan}
 use Rattle.cts_model.specs.table.PlainTable.{IsPlainTable}
 use Rattle.cts_model.specs.text.PrintedLines.{text_of}
 use Rattle.cts_model.proofs.OneRecord.{same_tech}
-use Rattle.move_session.specs.Entries.{entries_of}
+use Rattle.cts_model.specs.text.Entries.{entries_of}
 use Rattle.move_session.proofs.EntryLemmas.{length-DenoteEach}
 use Rattle.cts_engine.proofs.OneProblem.{one_netlist, one_both}
 use Rattle.command_line.specs.declared.command.Command.{Command}
 use Rattle.command_line.specs.declared.command.Command.TheVariants.{Zero, Period, Schedule, Synth, Check, Demo, Embed, Moves, Margin, Corners}
 use Rattle.command_line.specs.declared.table.Form.{Form}
 use Rattle.command_line.specs.declared.table.Form.TheVariants as forms
+use Rattle.command_line.specs.Commands.{Given, number_of, options_of}
+use Rattle.command_line.specs.CommandTable.{form_of}
 use Rattle.cts_program.specs.Answers.{TellWith, TellProblemWith, texts_for, IsText}
 use Rattle.cts_program.specs.Checks.{shown_line, EndWith, IsShownReport}
 use Rattle.cts_program.specs.CornerFiles.{IsCornersAnswer}
-use Rattle.command_line.specs.Commands.{Given, number_of, options_of}
 use Rattle.cts_program.specs.DemoTexts.{IsDemoText}
 use Rattle.cts_program.specs.Judged.{AreAccepted, Tell}
-use Rattle.command_line.specs.CommandTable.{form_of}
 use Rattle.cts_program.specs.MarginTexts.{IsMarginText}
 use Rattle.cts_program.specs.MoveFiles.{IsMovesFile, IsMovedFor, IsMovedBy}
 use Rattle.cts_program.specs.PeriodTexts.{IsPeriodText}

@@ -5,7 +5,8 @@ use Rattle.std.proofs.lemmas.List.{length-take}
 use Rattle.cts_model.specs.declared.problem.Problem.{Problem}
 use Rattle.cts_model.specs.timing.PairLists.{JoinsMoreThan}
 use Rattle.cert_check.specs.Verdicts.{IsVerdict}
-use Rattle.cert_check.specs.declared.verdict.Verdict.TheVariants.{Not}
+use Rattle.cert_check.specs.declared.verdict.Verdict.TheVariants.{Not, Shown}
+use Rattle.cert_check.proofs.JudgedLemmas.{verdict_shown}
 use Rattle.report_text.specs.Laws.{OneReport, OneFault, NoFaultOfReport}
 use Rattle.command_line.specs.declared.command.Command.{Command}
 use Rattle.command_line.specs.declared.command.Command.TheVariants.{Check, Embed, Moves, Corners}
@@ -15,23 +16,22 @@ use Rattle.failure_lines.specs.declared.failure.Failure.{Failure}
 use Rattle.failure_lines.specs.declared.failure.Failure.TheVariants as failures
 use Rattle.failure_lines.specs.declared.not_shown.NotShown.TheVariants as why
 use Rattle.failure_lines.specs.declared.file_kind.FileKind.TheVariants as kinds
-use Rattle.cts_program.specs.Answers.{JoinTooMany, RefusesText, RefusesAccepted, IsRefusal, IsAccepted, IsStatusOf, texts_for, texts_of}
-use Rattle.cts_program.specs.Checks.{EndWith, IsShownReport, RefusesReport}
 use Rattle.command_line.specs.Commands.{Given, options_of}
 use Rattle.failure_lines.specs.Failures.{status_of}
+use Rattle.command_line.specs.CommandTable.{form_of}
+use Rattle.move_session.proofs.OneFault as move_faults
+use Rattle.topology_file.proofs.OneFault.{no_fault}
+use Rattle.cts_program.specs.Answers.{JoinTooMany, RefusesText, RefusesAccepted, IsRefusal, IsAccepted, IsStatusOf, texts_for, texts_of}
+use Rattle.cts_program.specs.Checks.{EndWith, IsShownReport, RefusesReport}
 use Rattle.cts_program.specs.Files.{files_of, AreAll}
 use Rattle.cts_program.specs.Judged.{AreAccepted}
 use Rattle.cts_program.specs.MoveFiles.{IsMovedFor, RefusesMoving}
 use Rattle.cts_program.specs.TopologyFiles.{IsAcceptedFor, RefusesEmbedding}
-use Rattle.command_line.specs.CommandTable.{form_of}
 use Rattle.cts_program.proofs.FileRefusals.{Agree, agree_same, agree_self, agree_rotated, agree_prefixes, file_status, text_not_refused}
 use Rattle.cts_program.proofs.CornerRefusals.{corners_refusal_status, corners_answer_not_refused, accepted_corners_not_refused}
 use Rattle.cts_program.proofs.LastContents.{four_files, of_one_end}
 use Rattle.cts_program.proofs.OneAnswer.{Answers, AnswersByOne, one_denoted}
 use Rattle.cts_program.proofs.PlacementLemmas.{problem_denoted}
-use Rattle.cts_program.proofs.ShownVerdicts.{no_reason}
-use Rattle.move_session.proofs.OneFault as move_faults
-use Rattle.topology_file.proofs.OneFault.{no_fault}
 
 -- ---- a report that is shown
 
@@ -66,8 +66,9 @@ one_judgement laws problem bytes (failures.Unshown (why.Reason reason subject)) 
     (short, has, denoted) =
     let same : has.report ≡ shown.report = laws.one_report problem.circuit problem.tech bytes
     has.report shown.report has.spelled shown.spelled in
-    no_reason problem shown.report reason shown.shown
-    (subst (λ report. IsVerdict problem report (Not reason)) same has.verdict)
+    let is : Not reason ≡ Shown = verdict_shown problem shown.report
+    (subst (λ report. IsVerdict problem report (Not reason)) same has.verdict) shown.shown in
+    cc is
 one_judgement laws problem bytes failure shown refused = absurd refused
 
 -- contents with a report that is shown have no such refusal

@@ -13,8 +13,9 @@ use Rattle.cts_model.specs.tree.GreedyMerges.{IsGreedy}
 use Rattle.cts_model.specs.text.PrintedLines.{line_of, text_of}
 use Rattle.cts_model.specs.tree.Problems.{sinks_of}
 use Rattle.cts_model.proofs.SkewLemmas.{length-sinks_of}
+use Rattle.cts_model.specs.text.Entries.{entries_of}
 use Rattle.move_session.specs.declared.moves.Move.{Move}
-use Rattle.move_session.specs.Entries.{Fields, entries_of, fields_of}
+use Rattle.move_session.specs.Entries.{Fields, fields_of}
 use Rattle.move_session.specs.Moves.{DenoteEach, IsMove}
 use Rattle.move_session.specs.Sessions.{SessionState}
 use Rattle.cts_engine.specs.SessionOutcomes.{IsSessionOf, StandsAt}

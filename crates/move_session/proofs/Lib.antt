@@ -1,4 +1,3 @@
-mod NumberFaults
 mod NameNumbers
 pub mod EntryLemmas
 mod TakenLines

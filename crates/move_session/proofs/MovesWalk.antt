@@ -3,11 +3,11 @@ use Rattle.std.proofs.Common.{◌≡◌, ℕ, List, [], ◌∷◌, ◌++◌, sub
 use Rattle.cts_base.specs.Lines.{numbered_lines, IsLine}
 use Rattle.cts_base.proofs.LineSplits.{IsPassed, none_passed, all_passed, next_line}
 use Rattle.cts_model.specs.declared.circuit.Circuit.{Circuit}
+use Rattle.cts_model.specs.text.Entries.{entries_in}
 use Rattle.move_session.specs.declared.fault.MovesFault.{MovesFault}
 use Rattle.move_session.specs.declared.line_fault.LineFault.{LineFault}
 use Rattle.move_session.specs.declared.moves.Move.{Move}
 use Rattle.move_session.specs.declared.moving.Moving.{Moving}
-use Rattle.move_session.specs.Entries.{entries_in}
 use Rattle.move_session.specs.LineFaults.{IsLineFault}
 use Rattle.move_session.specs.Moves.{AcceptsMoves, AreMoves}
 use Rattle.move_session.specs.Refusals.{RefusesMoves}

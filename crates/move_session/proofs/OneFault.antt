@@ -3,17 +3,19 @@ use Rattle.std.proofs.Common.{◌≡◌, ◌≢◌, ◌⊎◌, ◌<◌, ℕ, inl
 use Rattle.cts_base.specs.Decimals.{RefusesNumber}
 use Rattle.cts_base.specs.declared.number.NumberFault.{NumberFault}
 use Rattle.cts_base.proofs.ListPlaces.{IsAfter, same_place, same_parts}
+use Rattle.cts_base.proofs.NumberFaults.{one_number_fault, read_not_refused}
 use Rattle.cts_model.specs.declared.circuit.Circuit.{Circuit}
 use Rattle.cts_model.specs.placement.Placements.{IsNumber}
+use Rattle.cts_model.specs.text.Entries.{entries_in, words_in}
+use Rattle.cts_model.proofs.EntryLemmas.{entries_round}
 use Rattle.move_session.specs.declared.fault.MovesFault.{MovesFault}
 use Rattle.move_session.specs.declared.fault.MovesFault.TheVariants as faults
 use Rattle.move_session.specs.declared.moves.Move.{Move}
-use Rattle.move_session.specs.Entries.{Fields, entries_in, fields_of, words_in}
+use Rattle.move_session.specs.Entries.{Fields, fields_of}
 use Rattle.move_session.specs.Flaws.{BadLine, BadNumber, Flaw, HasEntryFlaw, HasFieldsFlaw, HasFlaw, RefusesPlace, TooMany, UnknownRegister}
 use Rattle.move_session.specs.Moves.{AcceptsMoves, AreMoves, IsMove}
 use Rattle.move_session.specs.Refusals.{IsFirstFlawed, RefusesMoves}
-use Rattle.move_session.proofs.EntryLemmas.{denotes_some, entries_round}
-use Rattle.move_session.proofs.NumberFaults.{one_number_fault, read_not_refused}
+use Rattle.move_session.proofs.EntryLemmas.{denotes_some}
 
 -- ---- numbers
 

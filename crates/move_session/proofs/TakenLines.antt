@@ -1,17 +1,19 @@
 -- What is taken in from one more line, or what is wrong with it.
 use Rattle.std.proofs.Common.{◌≡◌, ◌<◌, ◌≤◌, ℕ, true, List, [], ◌∷◌, ◌++◌, length, Option, Some, None, IsSomeAnd, refl, sym, ap, subst, ◌∙◌, arith, length-append}
 use Rattle.cts_model.specs.declared.circuit.Circuit.{Circuit}
+use Rattle.cts_model.specs.text.Entries.{entries_in, has_words, words_in}
+use Rattle.cts_model.proofs.EntryLemmas.{entries_blank, entries_round, written}
 use Rattle.move_session.specs.declared.line_fault.LineFault.{LineFault}
 use Rattle.move_session.specs.declared.line_fault.LineFault.TheVariants as faults
 use Rattle.move_session.specs.declared.moves.Move.{Move}
 use Rattle.move_session.specs.declared.moving.Moving.{Moving}
-use Rattle.move_session.specs.Entries.{Fields, entries_in, fields_of, has_words, words_in}
+use Rattle.move_session.specs.Entries.{Fields, fields_of}
 use Rattle.move_session.specs.Flaws.{BadLine, BadNumber, Flaw, HasEntryFlaw, HasFlaw, TooMany, UnknownRegister}
 use Rattle.move_session.specs.LineFaults.{IsFieldsFault, IsLineFault}
 use Rattle.move_session.specs.Moves.{AreMoves, IsMove}
 use Rattle.move_session.specs.Numbers.{HasNumbers}
 use Rattle.move_session.specs.Taken.{HasTaken}
-use Rattle.move_session.proofs.EntryLemmas.{DenoteEach-push, entries_blank, entries_round, length-DenoteEach, written}
+use Rattle.move_session.proofs.EntryLemmas.{DenoteEach-push, length-DenoteEach}
 
 module _ (circuit : Circuit) (earlier : List (List ℕ)) (line : List ℕ) (moving : Moving)
     (has : HasTaken circuit moving earlier) where

@@ -4,8 +4,9 @@ use Rattle.cts_base.specs.Decimals.{RefusesNumber}
 use Rattle.cts_base.specs.declared.number.NumberFault.{NumberFault}
 use Rattle.cts_model.specs.declared.circuit.Circuit.{Circuit}
 use Rattle.cts_model.specs.placement.Placements.{IsNumber}
+use Rattle.cts_model.specs.text.Entries.{entries_in, has_words, words_in}
 use Rattle.move_session.specs.declared.moves.Move.{Move}
-use Rattle.move_session.specs.Entries.{Fields, entries_in, fields_of, has_words, words_in}
+use Rattle.move_session.specs.Entries.{Fields, fields_of}
 use Rattle.move_session.specs.Moves.{IsMove, NamesRegister}
 
 -- what can be wrong with a line

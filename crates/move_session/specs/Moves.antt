@@ -3,8 +3,9 @@ use Rattle.std.specs.Prelude.{◌≡◌, ◌<◌, ◌≤◌, ℕ, List, [], ◌�
 use Rattle.cts_base.specs.Decimals.{IsRead}
 use Rattle.cts_model.specs.declared.circuit.Circuit.{Circuit}
 use Rattle.cts_model.specs.netlist.Paths.{register_name}
+use Rattle.cts_model.specs.text.Entries.{entries_of}
 use Rattle.move_session.specs.declared.moves.Move.{Move}
-use Rattle.move_session.specs.Entries.{Fields, entries_of, fields_of}
+use Rattle.move_session.specs.Entries.{Fields, fields_of}
 
 -- the register of this number has the name; the host's is `(host)`
 pub record IsNamed (circuit : Circuit) (register : ℕ) (name : List ℕ) : Type 0 where

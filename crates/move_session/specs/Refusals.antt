@@ -2,10 +2,10 @@
 use Rattle.std.specs.Prelude.{ℕ, List}
 use Rattle.cts_base.specs.Lines.{IsLine}
 use Rattle.cts_model.specs.declared.circuit.Circuit.{Circuit}
+use Rattle.cts_model.specs.text.Entries.{entries_in}
 use Rattle.move_session.specs.declared.fault.MovesFault.{MovesFault}
 use Rattle.move_session.specs.declared.fault.MovesFault.TheVariants.{BadLine, UnknownRegister, BadNumber, TooMany, NoMemory}
 use Rattle.move_session.specs.declared.moves.Move.{Move}
-use Rattle.move_session.specs.Entries.{entries_in}
 use Rattle.move_session.specs.Flaws.{Flaw, HasFlaw}
 use Rattle.move_session.specs.Flaws as flaws
 use Rattle.move_session.specs.Moves.{AreMoves}

@@ -1,8 +1,8 @@
 -- What the reader has taken in from the lines so far.
 use Rattle.std.specs.Prelude.{ℕ, List, length}
 use Rattle.cts_model.specs.declared.circuit.Circuit.{Circuit}
+use Rattle.cts_model.specs.text.Entries.{entries_in}
 use Rattle.move_session.specs.declared.moving.Moving.{Moving}
-use Rattle.move_session.specs.Entries.{entries_in}
 use Rattle.move_session.specs.Moves.{AreMoves}
 use Rattle.move_session.specs.Numbers.{HasNumbers}
 

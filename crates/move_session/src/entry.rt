@@ -1,7 +1,8 @@
 ghost use Rattle.std.specs.Prelude.{◌≡◌, ◌∷◌, MatchResult};
 ghost use Rattle.std.specs.Option.{option_map};
 ghost use Rattle.cts_base.specs.Decimals.{IsRead};
-ghost use Rattle.move_session.specs.Entries.{fields_of, words_in};
+ghost use Rattle.cts_model.specs.text.Entries.{words_in};
+ghost use Rattle.move_session.specs.Entries.{fields_of};
 ghost use Rattle.move_session.specs.Flaws.{RefusesPlace};
 ghost use Rattle.move_session.specs.View.{said_by};
 

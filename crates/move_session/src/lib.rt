@@ -9,7 +9,6 @@ mod moving;
 mod read;
 mod register_numbers;
 mod session;
-mod total;
 mod way_up;
 
 pub use fault::MovesFault;

@@ -1,7 +1,7 @@
 ghost use Rattle.std.specs.Prelude.{◌≡◌, List, ℕ};
 ghost use Rattle.cts_base.specs.Lines.{IsLine};
 ghost use Rattle.cts_model.specs.declared.circuit.Circuit.{Circuit};
-ghost use Rattle.move_session.specs.Entries.{entries_in};
+ghost use Rattle.cts_model.specs.text.Entries.{entries_in};
 ghost use Rattle.move_session.specs.LineFaults.{IsLineFault};
 ghost use Rattle.move_session.specs.Moves.{AreMoves};
 ghost use Rattle.move_session.specs.Refusals.{RefusesMoves};

@@ -1,7 +1,6 @@
-use crate::total::total_of;
 use crate::way_up::renew_above;
 use cts_base::{Listed, NoMemory};
-use cts_model::{Point, Sink, Topology, Uv};
+use cts_model::{Point, Sink, Topology, Uv, total_length};
 use merge_up::{Work, merge};
 use place_down::place;
 use std::alloc::Global;
@@ -120,7 +119,7 @@ impl Session {
         // No embedding of the topology that realises the offsets has less wire.
         ensures least { IsLeastWire self.now.sinks self.now.merges self.now.source result }
     {
-        total_of(self.work.tree().length.as_slice())
+        total_length(self.work.tree().length.as_slice())
     }
 
     /// How many merges were made, by `open` and by moves; 2^64 - 1 for more.

@@ -1,44 +1,16 @@
 -- The delays of gates, from the rows of a table.
-use Rattle.std.proofs.Common.{◌≡◌, ◌≤◌, ◌*◌, ℕ, ◌+◌, ◌-◌, ℤ, pos, negsuc, cond, Some, ◌+ℤ◌, ◌*ℤ◌, Bool, true, false, List, length, get_or, All, inl, inr, refl, sym, subst, arith}
-use Rattle.std.proofs.lemmas.Bool.{cases_lt}
-use Rattle.std.proofs.lemmas.List.{get_or_past}
+use Rattle.std.proofs.Common.{◌≡◌, ◌≤◌, ◌*◌, ℕ, ◌+◌, ◌-◌, ℤ, pos, negsuc, cond, Some, ◌+ℤ◌, ◌*ℤ◌, Bool, true, false, length, sym, subst, arith}
 use Rattle.std.proofs.lemmas.Int.{ints}
 use Rattle.std.proofs.Math.IntN.{pos-*ℤ-pos}
 use Rattle.std.proofs.Math.Nat.{mul-le-mul_right}
-use Rattle.cts_model.specs.declared.tech.GateDelay.{GateDelay}
 use Rattle.cts_model.specs.netlist.Kinds.{is_gate, place_of}
 use Rattle.cts_model.specs.declared.signal.Signal.{Signal}
 use Rattle.cts_model.specs.declared.tech.Tech.{Tech}
-use Rattle.cts_model.specs.timing.Delays.{no_delay, delay_of, least_gate_delay, greatest_gate_delay}
+use Rattle.cts_model.specs.timing.Delays.{delay_of, least_gate_delay, greatest_gate_delay}
 use Rattle.cts_model.specs.table.Tables.{IsWithin, IsGateDelay}
+use Rattle.cts_model.proofs.DelayRows.{row_valid}
 use Rattle.path_delays.specs.SumParts.{AreWithin}
 use Rattle.path_delays.specs.Networks.{gate_sums, weight_of}
-
--- a row of no gates has the facts of every row
-no_delay_valid : IsGateDelay no_delay
-no_delay_valid = record {
-  least = zero 1000000;
-  greatest = zero 1000000;
-  least_per_input = zero 1000;
-  greatest_per_input = zero 1000;
-  ordered = omega (arith, ints);
-  ordered_per_input = omega (arith, ints);
-  zero_least = λ e. refl;
-  zero_greatest = λ e. refl;
-  zero_least_per_input = λ e. refl;
-  zero_greatest_per_input = λ e. refl;
-}
-  where
-    zero : (high : ℕ) → IsWithin 0 high (pos 0)
-    zero high = record { above = omega (arith, ints); below = omega (arith, ints) }
-
--- each row has them, also where a row is missing
-pub row_valid : (rows : List GateDelay) (place : ℕ) → All IsGateDelay rows
-    → IsGateDelay (get_or rows place no_delay)
-row_valid rows place all = elim (cases_lt place (length rows)) [
-  | inl within ↦ all place no_delay within
-  | inr past ↦ subst IsGateDelay (sym (get_or_past rows place no_delay past)) no_delay_valid
-]
 
 -- so much for each further input
 scaled : (number : ℤ) (times : ℕ) → IsWithin 0 1000 number

@@ -7,9 +7,8 @@ ghost use Rattle.place_down.specs.Descents.{CanSettle, IsSettledBelow, StandFrom
 ghost use Rattle.place_down.specs.Trees.{HasTreeNumbers, IsPlacedTree, IsTreeSource, StaysMerged};
 
 use crate::source::top_of;
-use cts_model::{Sink, Topology, Uv};
+use cts_model::{Sink, Topology, Uv, to_uv};
 use merge_up::Work;
-use tilted_rect::to_uv;
 
 /// Gives the nodes of a merged tree their places, and its edges their lengths: first the source,
 /// then the root, then the two nodes of each merge, from the last merge to the first. It takes no

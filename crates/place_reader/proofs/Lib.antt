@@ -1,6 +1,5 @@
 mod NameLemmas
 mod NodeLemmas
-mod NumberFaults
 mod PlacedLemmas
 mod PlacePush
 mod PlaceWalk

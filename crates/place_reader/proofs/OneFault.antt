@@ -6,6 +6,7 @@ use Rattle.cts_base.specs.Lines.{lines_of}
 use Rattle.cts_base.specs.Decimals as numbers
 use Rattle.cts_base.specs.declared.number.NumberFault.{NumberFault}
 use Rattle.cts_base.proofs.ListPlaces.{IsAfter, same_place, same_parts}
+use Rattle.cts_base.proofs.NumberFaults.{read_not_refused, one_number_fault}
 use Rattle.cts_model.specs.declared.circuit.Circuit.{Circuit}
 use Rattle.cts_model.specs.declared.place.Places.{Places}
 use Rattle.cts_model.specs.placement.PlaceLines.{Node, Entry, Blank, Header, Stands, entry_after}
@@ -14,7 +15,6 @@ use Rattle.cts_model.specs.placement.Placements as flaws
 use Rattle.place_reader.specs.declared.fault.PlaceFault.{PlaceFault}
 use Rattle.place_reader.specs.declared.fault.PlaceFault.TheVariants.{BadLine, BadNumber, PlaceTwice, NoPlace, NoSource, NoMemory}
 use Rattle.place_reader.specs.Refusals.{IsFirstFlawed, IsFirstUnplaced, RefusesPlacement}
-use Rattle.place_reader.proofs.NumberFaults.{read_not_refused, one_number_fault}
 
 -- a number has no fault
 number_unrefused : (text : List ℕ) (fault : NumberFault) → IsNumber text

@@ -1,5 +1,5 @@
 -- A report that is put together from its sections: how large its numbers are, and its lines.
-use Rattle.std.proofs.Common.{◌≡◌, ◌≤◌, ◌<◌, ◌+◌, ◌-◌, ◌*◌, ◌^◌, ℕ, ℤ, pos, ◌-ℤ◌, neg_ℤ, to_z, of_z, List, [], ◌∷◌, ◌++◌, All, None, Some, length, map, get_or, codes, refl, sym, ap, ap₂, ◌∙◌, subst, arith}
+use Rattle.std.proofs.Common.{◌≡◌, ◌≤◌, ◌<◌, ◌+◌, ◌-◌, ◌*◌, ◌^◌, ℕ, ℤ, pos, neg_ℤ, to_z, of_z, List, [], ◌∷◌, ◌++◌, All, None, Some, length, map, get_or, codes, refl, sym, ap, ap₂, ◌∙◌, subst, arith}
 use Rattle.std.specs.Prelude.{slice_get, unsigned_abs}
 use Rattle.std.specs.Fmt.{signed_decimal}
 use mir.Syntax.{w128}
@@ -22,6 +22,7 @@ use Rattle.cts_model.specs.report.ReportBounds.{HasTimingBounds, HasTreeBounds, 
 use Rattle.cts_model.specs.report.ReportLines.{lead_line, lines_below, merge_line_at, no_wire, node_line_at, origin, period_show_lines, register_line_at, report_lines, show_words, source_line, timing_lines, tree_lines, version_line}
 use Rattle.cts_model.specs.timing.Schedules.{arrival_of}
 use Rattle.cts_model.specs.tree.Topologies.{root_of, source_of}
+use Rattle.cts_model.proofs.GridLemmas.{scheduled_size}
 use Rattle.report_text.specs.declared.sections.Parts.{Parts}
 use Rattle.report_text.specs.Parts.{scale_in}
 use Rattle.report_text.specs.declared.timing_values.Timed.{Timed}
@@ -31,13 +32,7 @@ use Rattle.report_text.specs.Rows.{lines_of}
 use Rattle.report_text.specs.Values.{merged_line, placed_line, sourced_line}
 use Rattle.report_text.specs.DenotedReports.{AreDenoted, arrivals_in, begin_of, denoted_lines, merges_in, places_in, reaches_in, report_denoted, shows_in, sink_reach, sink_reaches, timed_line, wires_in}
 use Rattle.report_text.proofs.FlawlessReport.{parts_apart}
-use Rattle.report_text.proofs.GridLemmas.{scheduled_size}
 use Rattle.report_text.proofs.RowLemmas.{numbered_rows}
-
--- minus a number, as the code keeps it
-pub neg_read : (number : ℤ) → unsigned_abs number ≤ 10 ^ 32
-    → to_z w128 (of_z w128 (pos 0 -ℤ to_z w128 (of_z w128 number))) ≡ neg_ℤ number
-neg_read number small = omega (arith, ints)
 
 -- a small number, as the code keeps it
 pub small_read : (number : ℤ) → IsBelow (10 ^ 32) number → to_z w128 (of_z w128 number) ≡ number
@@ -50,7 +45,8 @@ neg_below number small = record { above = omega (arith, ints); below = omega (ar
 pub sink_below : (tech : Tech) (arrival : ℤ) → IsBelow (10 ^ 19) arrival
     → IsBelow (10 ^ 32) (sink_reach tech arrival)
 sink_below tech arrival small =
-    neg_below (scheduled_length tech arrival) (scheduled_size tech arrival small)
+    neg_below (scheduled_length tech arrival)
+    (scheduled_size tech arrival (10 ^ 19) (omega (arith, ints, small)))
 
 -- ---- the report
 

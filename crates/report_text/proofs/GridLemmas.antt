@@ -1,14 +1,12 @@
 -- How large the grid of a report is.
-use Rattle.std.proofs.Common.{◌≡◌, ◌≤◌, ◌*◌, ◌^◌, ℕ, ℤ, pos, negsuc, ◌*ℤ◌, ◌≤ℤ◌, sym, subst, arith}
+use Rattle.std.proofs.Common.{◌≡◌, ◌*◌, ◌^◌, ℤ, pos, negsuc, ◌*ℤ◌, ◌≤ℤ◌, sym, subst, arith}
 use Rattle.std.proofs.Math.Nat.{one-le-mul}
-use Rattle.std.specs.Prelude.{unsigned_abs}
-use Rattle.std.proofs.lemmas.Int.{ints, unsigned_abs-mul}
+use Rattle.std.proofs.lemmas.Int.{ints}
 use Rattle.std.proofs.lemmas.Nat.{mul-le}
+use Rattle.cts_base.specs.declared.fraction.Fraction.{Fraction}
 use Rattle.cts_model.specs.declared.report.Report.{Report}
 use Rattle.cts_model.specs.declared.tech.Tech.{Tech}
 use Rattle.cts_model.specs.placement.Points.{IsBelow}
-use Rattle.cts_model.specs.tree.Problems.{scheduled_length, steps_of_micro}
-use Rattle.cts_base.specs.declared.fraction.Fraction.{Fraction}
 use Rattle.cts_model.specs.report.ReportBounds.{HasTimingBounds, HasTreeBounds}
 use Rattle.cts_model.specs.timing.Schedules.{IsSmallPeriod}
 use Rattle.report_text.specs.Parts.{scale_in}
@@ -56,29 +54,3 @@ scale_small tech period small =
       some_grid = grid.0;
       small_grid = record { above = grid.1.above; below = grid.1.below };
     }
-
--- a product is no larger than the product of the sizes
-product_size : (a b : ℤ) (first second : ℕ) → unsigned_abs a ≤ first → unsigned_abs b ≤ second
-    → unsigned_abs (a *ℤ b) ≤ first * second
-product_size a b first second small large = omega (
-  arith,
-  unsigned_abs-mul a b,
-  mul-le (unsigned_abs a) (unsigned_abs b) first second small large,
-)
-
--- how many grid steps a micro has
-pub steps_size : (period : Fraction) (tech : Tech) → IsSmallPeriod period
-    → unsigned_abs (steps_of_micro period tech) ≤ 32776000000
-steps_size period tech small =
-    let some = period.lowest.some_den in
-    let table = tech.valid in
-    product_size (pos 8 *ℤ period.den) tech.wire_num 32776 1000000
-    (omega (arith, ints, some, small.low)) (omega (arith, ints, table.wire_num_within))
-
--- the scheduled length of a sink
-pub scheduled_size : (tech : Tech) (arrival : ℤ) → IsBelow (10 ^ 19) arrival
-    → unsigned_abs (scheduled_length tech arrival) ≤ 8 * 10 ^ 31
-scheduled_size tech arrival small =
-    let table = tech.valid in
-    product_size (pos (8 * 10 ^ 6) *ℤ tech.wire_den) arrival 8000000000000 (10 ^ 19)
-    (omega (arith, ints, table.wire_den_within)) (omega (arith, ints, small))

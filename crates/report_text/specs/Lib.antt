@@ -1,6 +1,5 @@
 pub mod Laws
 pub mod Pieces
-pub mod OneProof
 pub mod Keywords
 pub mod LineFields
 pub mod Fields

@@ -6,14 +6,13 @@ ghost use Rattle.cts_model.specs.placement.Points.{IsBelow};
 ghost use Rattle.cts_model.specs.report.ReportBounds.{Spells};
 ghost use Rattle.cts_model.specs.timing.Schedules.{IsSmallPeriod};
 ghost use Rattle.report_text.specs.Parts.{HasParts};
-ghost use Rattle.report_text.specs.DenotedReports.{arrivals_in, begin_of, report_denoted, sink_reach, sink_reaches};
+ghost use Rattle.report_text.specs.DenotedReports.{arrivals_in, begin_of, report_denoted, sink_reaches};
 
-use crate::grid::{grid_of, scheduled_length};
-use crate::sections::{Body, Parts};
+use crate::sections::Parts;
 use crate::timing_values::Timed;
 use crate::tree_values::{MergeLine, NodeLine};
 use cts_base::{Listed, NoMemory};
-use cts_model::{Merge, Point, Report, Schedule, Show, Slack, Tech, Topology, Tree, Wire};
+use cts_model::{Grid, Merge, Point, Report, Schedule, Show, Slack, Tech, Topology, Tree, Wire};
 use std::alloc::Global;
 
 /// The report that the parts of a text make up.
@@ -33,43 +32,32 @@ fn put_together(alloc: Global, tech: &Tech, parts: Parts) -> Result<Report, NoMe
     requires arrivals { All (IsBelow (10 ^ 19)) (arrivals_in parts) }
     ensures { IfOk result (λ report. report ≡ report_denoted tech.now parts) }
 {
-    let Parts {
-        heading,
-        shown,
-        body,
-    } = parts;
-    let Body {
-        timings,
-        leads,
-        merged,
-        source,
-        placed,
-        total,
-    } = body;
-    let at = Listed::from_vec(arrivals_of(alloc, timings.as_slice())?);
-    let slacks = Listed::from_vec(slacks_of(alloc, timings.as_slice())?);
-    let merges = Listed::from_vec(merges_of(alloc, merged.as_slice())?);
-    let shows = Listed::from_vec(shows_of(alloc, merged.as_slice())?);
-    let merged = merge_reaches_of(alloc, merged.as_slice())?;
+    let period = parts.heading.period;
+    let grid = Grid { period, tech };
+    let body = parts.body;
+    let source = body.source;
+    let at = Listed::from_vec(arrivals_of(alloc, body.timings.as_slice())?);
+    let slacks = Listed::from_vec(slacks_of(alloc, body.timings.as_slice())?);
+    let merges = Listed::from_vec(merges_of(alloc, body.merged.as_slice())?);
+    let shows = Listed::from_vec(shows_of(alloc, body.merged.as_slice())?);
+    let merged = merge_reaches_of(alloc, body.merged.as_slice())?;
     let reach = reaches_of(alloc, tech, at.as_slice(), merged.as_slice(), source.reach)?;
-    let places = Listed::from_vec(places_of(alloc, placed.as_slice())?);
-    let length = Listed::from_vec(lengths_of(alloc, placed.as_slice())?);
-    let wires = Listed::from_vec(wires_of(alloc, placed.as_slice())?);
+    let places = Listed::from_vec(places_of(alloc, body.placed.as_slice())?);
+    let length = Listed::from_vec(lengths_of(alloc, body.placed.as_slice())?);
+    let wires = Listed::from_vec(wires_of(alloc, body.placed.as_slice())?);
     let begin = begin_of(wires.as_slice());
     let place = with_last(places, begin)?;
     let shows = with_last(shows, source.show)?;
+    let den = period.den();
     Ok(Report {
-        version: heading.version,
-        period: heading.period,
-        shown: shown.shown,
-        paths: shown.paths,
-        schedule: Schedule {
-            den: heading.period.den(),
-            at,
-        },
+        version: parts.heading.version,
+        period,
+        shown: parts.shown.shown,
+        paths: parts.shown.paths,
+        schedule: Schedule { den, at },
         slacks,
-        leads,
-        grid: grid_of(heading.period, tech),
+        leads: body.leads,
+        grid: grid.steps_of_unit(),
         topology: Topology { merges },
         tree: Tree {
             reach,
@@ -78,7 +66,7 @@ fn put_together(alloc: Global, tech: &Tech, parts: Parts) -> Result<Report, NoMe
         },
         shows,
         wires,
-        total: total.length,
+        total: body.total.length,
     })
 }
 
@@ -100,24 +88,16 @@ fn reaches_of(
     Ok(Listed::from_vec(reaches))
 }
 
-// The reaches of the sinks, each minus its scheduled length.
+// The reaches of the sinks, which are their offsets.
 fn sink_reaches(alloc: Global, tech: &Tech, arrivals: &[i128]) -> Result<Vec<i128>, NoMemory>
     requires { All (IsBelow (10 ^ 19)) arrivals.now }
     ensures { IfOk result (λ reaches. reaches.items ≡ sink_reaches tech.now arrivals.now) }
 {
     let mut reaches = Vec::new(alloc);
     for arrival in arrivals {
-        reaches.push(sink_reach(tech, *arrival))?;
+        reaches.push(tech.offset(*arrival))?;
     }
     Ok(reaches)
-}
-
-// A sink's reach, where the clock is to arrive so late.
-fn sink_reach(tech: &Tech, arrival: i128) -> i128
-    requires { IsBelow (10 ^ 19) arrival }
-    ensures { result ≡ sink_reach tech.now arrival }
-{
-    -scheduled_length(tech, arrival)
 }
 
 // Where the wire of the root begins, the last of the wires.

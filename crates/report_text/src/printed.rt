@@ -1,5 +1,5 @@
 ghost use Rattle.cts_model.specs.report.ReportBounds.{IsOfSize};
-ghost use Rattle.report_text.specs.OneProof.{size_prop};
+ghost use Rattle.cts_model.specs.report.OneProof.{size_prop};
 ghost use Rattle.report_text.specs.Pieces.{HasSmallLengths};
 
 use cts_model::{Circuit, Report};

@@ -4,9 +4,6 @@ use Rattle.cts_model.specs.declared.place.Point.{Point}
 use Rattle.cts_model.specs.declared.place.Uv.{Uv}
 use Rattle.cts_model.specs.placement.Points.{rotated}
 
-pub same_uv : {a b : Uv} → a.u ≡ b.u → a.v ≡ b.v → a ≡ b
-same_uv u v = λ i. record { u = u i; v = v i }
-
 pub same_point : {a b : Point} → a.x ≡ b.x → a.y ≡ b.y → a ≡ b
 same_point x y = λ i. record { x = x i; y = y i }
 

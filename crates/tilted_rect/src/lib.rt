@@ -9,4 +9,4 @@ mod turn;
 
 pub use cluster::Cluster;
 pub use rect::Rect;
-pub use turn::{to_point, to_uv};
+pub use turn::to_point;

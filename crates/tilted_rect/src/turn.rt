@@ -1,21 +1,8 @@
-ghost use Rattle.std.specs.Prelude.{◌≡◌, ◌^◌, pos, ◌+ℤ◌};
-ghost use Rattle.cts_model.specs.placement.Points.{IsMultipleOf, IsPointBelow, IsUvBelow, IsUvMultipleOf, IsPointMultipleOf, distance, rotated, rotated_distance};
+ghost use Rattle.std.specs.Prelude.{◌≡◌, ◌^◌};
+ghost use Rattle.cts_model.specs.placement.Points.{IsPointBelow, IsUvBelow, IsUvMultipleOf, IsPointMultipleOf, rotated};
 ghost use Rattle.cts_model.specs.declared.place.Point.{Point};
 
 use cts_model::{Point, Uv, half};
-
-/// A point in rotated coordinates.
-pub fn to_uv(at: Point) -> Uv
-    requires { IsPointBelow (10 ^ 33) at }
-    ensures value { result ≡ rotated at }
-    ensures distance { (other : Point)
-        → distance at other ≡ rotated_distance result (rotated other) }
-{
-    Uv {
-        u: at.x + at.y,
-        v: at.x - at.y,
-    }
-}
 
 /// The point with these rotated coordinates.
 pub fn to_point(at: Uv) -> Point

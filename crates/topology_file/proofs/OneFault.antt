@@ -7,12 +7,13 @@ use Rattle.cts_base.proofs.ListPlaces.{IsAfter, same_place, same_parts}
 use Rattle.cts_model.specs.declared.tree.Merge.{Merge}
 use Rattle.cts_model.specs.declared.tree.Topology.{Topology}
 use Rattle.cts_model.specs.tree.Topologies.{IsMerge}
+use Rattle.cts_model.specs.text.Entries.{entries_in, entries_of, words_in}
+use Rattle.cts_model.proofs.EntryLemmas.{entries_round}
 use Rattle.topology_file.specs.declared.fault.TopologyFault.{TopologyFault}
 use Rattle.topology_file.specs.declared.fault.TopologyFault.TheVariants as faults
-use Rattle.topology_file.specs.Entries.{IsEntry, entries_in, entries_of, merge_of, merges_of, words_in}
+use Rattle.topology_file.specs.Entries.{IsEntry, merge_of, merges_of}
 use Rattle.topology_file.specs.Flaws.{AreFlawless, BadLine, Extra, Flaw, HasEntryFlaw, HasFlaw, NotOpen}
 use Rattle.topology_file.specs.Refusals.{EndsEarly, IsFirstFlawed, RefusesTopology}
-use Rattle.topology_file.proofs.EntryLemmas.{entries_round}
 use Rattle.topology_file.specs.TopologyTexts.{AcceptsTopology, IsTopologyText}
 
 -- ---- an entry

@@ -4,13 +4,16 @@ use Rattle.std.specs.List.{All}
 use Rattle.std.proofs.lemmas.List.{length-map, map_push}
 use Rattle.cts_model.specs.declared.tree.Merge.{Merge}
 use Rattle.cts_model.specs.tree.Topologies.{IsMerge}
+use Rattle.cts_model.specs.text.Entries.{entries_in, has_words, words_in}
+use Rattle.cts_model.proofs.EntryLemmas.{entries_blank, entries_round, written}
+use Rattle.cts_model.specs.tree.Marks.{AreMarked, IsUnjoined}
+use Rattle.cts_model.proofs.MarkLemmas.{marks_more}
 use Rattle.topology_file.specs.declared.joining.Joining.{Joining}
-use Rattle.topology_file.specs.Entries.{IsEntry, entries_in, has_words, merge_of, merges_of, words_in}
+use Rattle.topology_file.specs.Entries.{IsEntry, merge_of, merges_of}
 use Rattle.topology_file.specs.Kept.{IsKept}
 use Rattle.topology_file.specs.Flaws.{AreFlawless, BadLine, Extra, Flaw, HasEntryFlaw, HasFlaw, NotOpen}
-use Rattle.topology_file.specs.Taken.{AreMarked, HasTaken, IsOfOpen, TakesMerge}
-use Rattle.topology_file.proofs.EntryLemmas.{AreFlawless-push, entries_blank, entries_round, written}
-use Rattle.topology_file.proofs.MarkLemmas.{Spares, marks_more}
+use Rattle.topology_file.specs.Taken.{HasTaken, IsOfOpen, TakesMerge}
+use Rattle.topology_file.proofs.EntryLemmas.{AreFlawless-push}
 
 module _ (sinks : ℕ) (earlier : List (List ℕ)) (line : List ℕ) (joining : Joining)
     (has : HasTaken sinks joining earlier) where
@@ -22,10 +25,11 @@ module _ (sinks : ℕ) (earlier : List (List ℕ)) (line : List ℕ) (joining : 
   count = ap length has.merges_are ∙ length-map entries merge_of
 
   -- what no merge of the entries joins no merge so far does
-  unjoined_there : (node other : ℕ) → node ≡ other → All (Spares other) (merges_of entries)
-      → All (Spares node) joining.merges
-  unjoined_there node other same unjoined = subst (λ n. All (Spares n) joining.merges) (sym same)
-      (subst (All (Spares other)) (sym has.merges_are) unjoined)
+  unjoined_there : (node other : ℕ) → node ≡ other → All (IsUnjoined other) (merges_of entries)
+      → All (IsUnjoined node) joining.merges
+  unjoined_there node other same unjoined =
+      subst (λ n. All (IsUnjoined n) joining.merges) (sym same)
+      (subst (All (IsUnjoined other)) (sym has.merges_are) unjoined)
 
   -- a blank line
   pub blank_taken : words_in line ≡ [] → HasTaken sinks joining (earlier ++ line ∷ [])
@@ -141,12 +145,12 @@ module _ (sinks : ℕ) (earlier : List (List ℕ)) (line : List ℕ) (joining : 
                 ordered = open_nodes.ordered;
                 first = record {
                   made = omega (arith, below, node, some_due.1);
-                  unjoined = subst (All (Spares kept.first)) has.merges_are
+                  unjoined = subst (All (IsUnjoined kept.first)) has.merges_are
                       ((has.marked kept.first (marked_below kept.first below)).0 open_nodes.first);
                 };
                 second = record {
                   made = omega (arith, open_nodes.made, node, some_due.1);
-                  unjoined = subst (All (Spares kept.second)) has.merges_are
+                  unjoined = subst (All (IsUnjoined kept.second)) has.merges_are
                       ((has.marked kept.second (marked_below kept.second open_nodes.made)).0
                       open_nodes.second);
                 };

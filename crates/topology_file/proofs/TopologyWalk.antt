@@ -10,11 +10,12 @@ use Rattle.std.proofs.lemmas.List.Sums.{count_by-le-length}
 use Rattle.cts_base.specs.Lines.{lines_of, numbered_lines, is_line_feed, without_empty_last, IsLine}
 use Rattle.cts_base.proofs.LineSplits.{IsPassed, none_passed, all_passed, next_line}
 use Rattle.cts_model.specs.declared.tree.Topology.{Topology}
+use Rattle.cts_model.specs.text.Entries.{entries_in, entries_of}
 use Rattle.topology_file.specs.declared.fault.TopologyFault.{TopologyFault}
 use Rattle.topology_file.specs.declared.fault.TopologyFault.TheVariants.{Missing}
 use Rattle.topology_file.specs.declared.joining.Joining.{Joining}
 use Rattle.topology_file.specs.declared.line_fault.LineFault.{LineFault}
-use Rattle.topology_file.specs.Entries.{entries_in, entries_of, merge_of, merges_of}
+use Rattle.topology_file.specs.Entries.{merge_of, merges_of}
 use Rattle.topology_file.specs.Flaws.{AreFlawless}
 use Rattle.topology_file.specs.LineFaults.{IsLineFault}
 use Rattle.topology_file.specs.Refusals.{EndsEarly, RefusesTopology}

@@ -2,28 +2,10 @@
 -- merge makes and the two that it joins, in either order. What a line denotes is determined by its
 -- words, its comment cut off. The form is this project's choice; the nodes are numbered as in the
 -- topologies of clock trees.
-use Rattle.std.specs.Prelude.{◌≡◌, ℕ, ◌+◌, min, max, Bool, not, ◌==◌, List, [], ◌∷◌, map, length, filter, Some, slice_get}
+use Rattle.std.specs.Prelude.{◌≡◌, ℕ, ◌+◌, min, max, List, [], ◌∷◌, map, Some, slice_get}
 use Rattle.std.specs.Str.Parse.{digits_value}
-use Rattle.cts_base.specs.Lines.{lines_of}
 use Rattle.cts_base.specs.NumberTexts.{IsPlainNumeral, SpellsSize}
-use Rattle.cts_base.specs.Words.{words_of, before_hash}
 use Rattle.cts_model.specs.declared.tree.Merge.{Merge}
-
--- the words of a line, its comment cut off
-abbrev pub words_in : List ℕ → List (List ℕ)
-words_in line = words_of (before_hash line)
-
--- there is a word, as in each line that isn't blank
-abbrev pub has_words : List (List ℕ) → Bool
-has_words words = not (length words == 0)
-
--- the words of each line that has some, in order
-abbrev pub entries_in : List (List ℕ) → List (List (List ℕ))
-entries_in lines = filter has_words (map words_in lines)
-
--- the entries of a text
-abbrev pub entries_of : List ℕ → List (List (List ℕ))
-entries_of text = entries_in (lines_of text)
 
 -- three whole numbers without a sign, and the first is the node that is due
 abbrev pub IsEntry : (due : ℕ) → List (List ℕ) → Type 0

@@ -2,7 +2,8 @@
 use Rattle.std.specs.Prelude.{◌≡◌, ◌<◌, ◌≤◌, ◌+◌, ◌-◌, ℕ, IsTrue, List, length, take, Some, slice_get}
 use Rattle.cts_model.specs.declared.tree.Merge.{Merge}
 use Rattle.cts_model.specs.tree.Topologies.{IsMerge}
-use Rattle.topology_file.specs.Entries.{AreEntries, IsEntry, entries_in, has_words, merge_of, merges_of, words_in}
+use Rattle.cts_model.specs.text.Entries.{entries_in, has_words, words_in}
+use Rattle.topology_file.specs.Entries.{AreEntries, IsEntry, merge_of, merges_of}
 
 -- each entry makes the node that is due of two open ones, and no entry is too many
 pub record AreFlawless (sinks : ℕ) (entries : List (List (List ℕ))) : Type 0 where

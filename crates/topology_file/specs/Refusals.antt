@@ -2,9 +2,9 @@
 -- early.
 use Rattle.std.specs.Prelude.{◌≡◌, ◌≢◌, ◌+◌, ℕ, List, length}
 use Rattle.cts_base.specs.Lines.{lines_of, IsLine}
+use Rattle.cts_model.specs.text.Entries.{entries_in, entries_of}
 use Rattle.topology_file.specs.declared.fault.TopologyFault.{TopologyFault}
 use Rattle.topology_file.specs.declared.fault.TopologyFault.TheVariants.{BadLine, NotOpen, Missing, Extra, NoMemory}
-use Rattle.topology_file.specs.Entries.{entries_in, entries_of}
 use Rattle.topology_file.specs.Flaws.{AreFlawless, Flaw, HasFlaw}
 use Rattle.topology_file.specs.Flaws as flaws
 

@@ -1,15 +1,11 @@
 -- What the reader has taken in from the lines so far.
-use Rattle.std.specs.Prelude.{◌≡◌, ◌≢◌, ◌<◌, ◌+◌, ◌↔◌, ℕ, Bool, true, false, List, [], ◌∷◌, ◌++◌, length, All, slice_index_or, slice_set}
+use Rattle.std.specs.Prelude.{◌≡◌, ◌<◌, ◌+◌, ℕ, true, false, List, [], ◌∷◌, ◌++◌, length, slice_index_or, slice_set}
 use Rattle.cts_model.specs.declared.tree.Merge.{Merge}
+use Rattle.cts_model.specs.tree.Marks.{AreMarked}
+use Rattle.cts_model.specs.text.Entries.{entries_in}
 use Rattle.topology_file.specs.declared.joining.Joining.{Joining}
-use Rattle.topology_file.specs.Entries.{entries_in, merges_of}
+use Rattle.topology_file.specs.Entries.{merges_of}
 use Rattle.topology_file.specs.Flaws.{AreFlawless}
-
--- exactly the nodes that these merges join are marked
-abbrev pub AreMarked : List Merge → (marks : List Bool) → Type 0
-AreMarked merges marks = (node : ℕ) → node < length marks
-    → (slice_index_or marks node false ≡ false)
-    ↔ (All (λ merge. (merge.first ≢ node) × (merge.second ≢ node)) merges)
 
 -- this is taken in from the lines
 pub record HasTaken (sinks : ℕ) (joining : Joining) (lines : List (List ℕ)) : Type 0 where

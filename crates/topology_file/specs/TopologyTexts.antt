@@ -2,7 +2,8 @@
 use Rattle.std.specs.Prelude.{◌≡◌, ℕ, List}
 use Rattle.cts_model.specs.declared.tree.Topology.{Topology}
 use Rattle.cts_model.specs.tree.Topologies.{IsTopology}
-use Rattle.topology_file.specs.Entries.{AreEntries, entries_of, merges_of}
+use Rattle.cts_model.specs.text.Entries.{entries_of}
+use Rattle.topology_file.specs.Entries.{AreEntries, merges_of}
 
 -- a text whose entries join so many sinks
 pub record IsTopologyText (text : List ℕ) (sinks : ℕ) : Type 0 where

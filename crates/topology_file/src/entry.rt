@@ -1,7 +1,8 @@
 ghost use Rattle.std.specs.Prelude.{◌≡◌, ◌<◌, ◌-◌, ◌^◌, ◌∷◌, IfSome, IsNone};
 ghost use Rattle.std.specs.Str.Parse.{digits_value};
 ghost use Rattle.cts_base.specs.NumberTexts.{IsPlainNumeral};
-ghost use Rattle.topology_file.specs.Entries.{IsEntry, merge_of, words_in};
+ghost use Rattle.cts_model.specs.text.Entries.{words_in};
+ghost use Rattle.topology_file.specs.Entries.{IsEntry, merge_of};
 ghost use Rattle.topology_file.specs.Kept.{kept_number, IsKept};
 
 use cts_base::{Words, before_comment, read_whole, words};

@@ -1,6 +1,6 @@
 ghost use Rattle.std.specs.Prelude.{◌≡◌, List, ℕ};
 ghost use Rattle.cts_base.specs.Lines.{IsLine};
-ghost use Rattle.topology_file.specs.Entries.{entries_in};
+ghost use Rattle.cts_model.specs.text.Entries.{entries_in};
 ghost use Rattle.topology_file.specs.Flaws.{AreFlawless};
 ghost use Rattle.topology_file.specs.LineFaults.{IsLineFault};
 ghost use Rattle.topology_file.specs.Refusals.{RefusesTopology};

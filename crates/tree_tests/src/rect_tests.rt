@@ -1,6 +1,6 @@
 use crate::same::expect_same;
-use cts_model::{Point, Uv, manhattan};
-use tilted_rect::{Rect, to_point, to_uv};
+use cts_model::{Point, Uv, manhattan, to_uv};
+use tilted_rect::{Rect, to_point};
 
 // The square with u and v from -8 to 8 is 16 away from the point with u 24 and v 4. With u and v
 // from -16 to 16 it has the edge with u 16 and v from -4 to 12 in common with the square round that

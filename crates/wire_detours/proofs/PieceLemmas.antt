@@ -1,11 +1,10 @@
 -- Pieces of wires along the axes, and what two of them have in common.
-use Rattle.std.proofs.Common.{◌≡◌, ◌≢◌, ℕ, ◌+◌, ◌<◌, ◌≤◌, ℤ, pos, ◌+ℤ◌, ◌-ℤ◌, ◌*ℤ◌, ◌≤ℤ◌, ◌<ℤ◌, sym, ap, ◌∙◌, arith}
-use Rattle.std.proofs.Math.Nat.{mul-add, mul-one, mul-le-mul_left}
+use Rattle.std.proofs.Common.{◌≡◌, ◌≢◌, ℕ, ◌<◌, ℤ, pos, ◌+ℤ◌, ◌-ℤ◌, ◌*ℤ◌, ◌≤ℤ◌, ◌<ℤ◌, sym, ap, ◌∙◌, arith}
 use Rattle.std.proofs.lemmas.Int.{ints, clamps, by_lt_z}
 use Rattle.cts_model.specs.declared.place.Point.{Point}
 use Rattle.cts_model.specs.placement.Points.{apart}
 use Rattle.cts_model.specs.tree.DrawnWires.{Piece, IsBetween, IsOn, AreApart}
-use borrow.Author.Differences.{up, down}
+use Rattle.cts_model.proofs.ScaleLemmas.{scale_lt}
 
 -- points are the same where their coordinates are
 pub same_point : {a b : Point} → a.x ≡ b.x → a.y ≡ b.y → a ≡ b
@@ -46,20 +45,6 @@ level_upright piece other level upright = λ scale one two some one_on one_other
     same_point (on_upright scale one other upright one_other
     ∙ sym (on_upright scale two other upright two_other))
     (on_level scale one piece level one_on ∙ sym (on_level scale two piece level two_on))
-
--- a scale keeps two numbers in their order
-scale_lt : (scale : ℕ) (a b : ℤ) → 0 < scale → a <ℤ b → (pos scale *ℤ a) <ℤ (pos scale *ℤ b)
-scale_lt scale a b some less =
-    let plain : up a + down b + 1 ≤ up b + down a = omega (arith, ints) in
-    omega (
-      arith,
-      ints,
-      mul-le-mul_left scale plain,
-      mul-add scale (up a + down b) 1,
-      mul-add scale (up a) (down b),
-      mul-add scale (up b) (down a),
-      mul-one scale,
-    )
 
 -- and so apart
 scale_differs : (scale : ℕ) (a b : ℤ) → 0 < scale → a ≢ b → (pos scale *ℤ a) ≢ (pos scale *ℤ b)

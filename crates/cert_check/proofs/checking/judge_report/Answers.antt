@@ -17,7 +17,7 @@ invariant_of-judge c =
     let size = c.requires.size in
     let bounds = c.requires.bounds in
     let is = sym c.cycle_of.ensures in
-    let are = sym (c.as_slice.ensures.value ∙ c.in_ok-sinks.ensures) in
+    let are = sym (c.as_slice.ensures ∙ c.in_ok-sinks.ensures) in
     let count = sinks_count problem report size bounds in
     record {
       size = size;
@@ -50,6 +50,6 @@ returns c =
     subst (λ source. Decides (IsVerdictBy problem report (cycle_of report.shown)
     (sinks_in problem report) source) result) c.source_of.ensures
     (subst (λ sinks. Decides (IsVerdictBy problem report (cycle_of report.shown) sinks
-    c.source_of.result) result) (c.as_slice.ensures.value ∙ c.in_ok-sinks.ensures)
+    c.source_of.result) result) (c.as_slice.ensures ∙ c.in_ok-sinks.ensures)
     (subst (λ cycle. Decides (IsVerdictBy problem report cycle c.as_slice.result.now
     c.source_of.result) result) c.cycle_of.ensures c.judge_all.ensures))

@@ -4,9 +4,9 @@ use Rattle.std.proofs.lemmas.Int.{ints}
 use Rattle.cts_model.specs.tree.Embeddings.{Embedding, IsLeastWire, embedding_of, total_length, total_wire}
 use Rattle.cts_model.specs.tree.Topologies.{source_of}
 use Rattle.cts_model.proofs.TreeLemmas.{shown_reaches_are_least}
+use Rattle.cts_model.proofs.TotalLemmas.{total_within}
 use Rattle.place_down.specs.Trees.{reach_in}
 use Rattle.cts_engine.proofs.TreeBounds.{are_shown, can_draw, lengths_small}
-use Rattle.cts_model.proofs.TotalLemmas.{total_within}
 use Rattle.cts_engine.proofs.clock_tree.tree_with.Goals as goal
 
 pub wires_of-requires-clause-tree : goal.wires_of-requires-clause-tree
@@ -26,13 +26,13 @@ returns c =
     let count : length tree.length ≡ source_of (length sinks) = omega (arith, is.lists.lengths) in
     let sum = total_within embedding.length (length tree.length)
     (λ node here. lengths_small tree is.numbers node (pos 0) here) in
-    let value : c.total_of-total.result ≡ total_length embedding.length (length tree.length) =
-    subst (λ list. c.total_of-total.result
+    let value : c.total_length-total.result ≡ total_length embedding.length (length tree.length) =
+    subst (λ list. c.total_length-total.result
     ≡ total_length (λ node. slice_index_or list node (pos 0)) (length list))
-    c.as_slice.ensures c.total_of-total.ensures in
-    let read : to_z w128 (of_z w128 c.total_of-total.result) ≡ c.total_of-total.result =
+    c.as_slice.ensures c.total_length-total.ensures.value in
+    let read : to_z w128 (of_z w128 c.total_length-total.result) ≡ c.total_length-total.result =
     omega (arith, ints, value, sum, few, count) in
-    let total : to_z w128 (of_z w128 c.total_of-total.result)
+    let total : to_z w128 (of_z w128 c.total_length-total.result)
     ≡ total_wire (length sinks) embedding =
     read ∙ value ∙ ap (total_length embedding.length) count in
     record {

@@ -20,7 +20,7 @@ open-requires-clause-source c =
     let problem = c.args.problem.now in
     let timed : AreTimedSinks problem c.in-Found.timed =
     rw c.in-Found.is at c.in_ok-cycle.ensures.ok in
-    rw c.rotated_on_grid-source.ensures
+    rw c.rotated-source.ensures
     (tree_source c.in-Found.timed.period problem.tech timed.least.range
     problem.places.source problem.valid.source_near)
 
@@ -33,27 +33,27 @@ returns-in_ok-session-in-Found-clause-ok c =
     let problem = c.args.problem.now in
     let timed : AreTimedSinks problem c.in-Found.timed =
     rw c.in-Found.is at c.in_ok-cycle.ensures.ok in
-    let small : unsigned_abs c.grid_of-grid.result ≤ 10 ^ 32 =
+    let small : unsigned_abs c.steps_of_unit.result ≤ 10 ^ 32 =
     omega (
       arith,
-      ap unsigned_abs c.grid_of-grid.ensures,
+      ap unsigned_abs c.steps_of_unit.ensures,
       grid_size c.in-Found.timed.period problem.tech timed.least.range,
     ) in
     session_is problem c.in-Found.timed c.in_ok-topology-in-Found.topology.merges
     c.in_ok-session-in-Found.session _ timed
     (rw c.as_slice-sinks.ensures at c.in_ok-topology-in-Found.ensures.greedy)
-    (rw (c.as_slice-sinks.ensures, c.rotated_on_grid-source.ensures)
+    (rw (c.as_slice-sinks.ensures, c.rotated-source.ensures)
     at c.in_ok-session-in-Found.ensures.stands)
     c.in_ok-session-in-Found.ensures.renewals
-    (number_read c.grid_of-grid.result small ∙ c.grid_of-grid.ensures)
+    (number_read c.steps_of_unit.result small ∙ c.steps_of_unit.ensures)
 
 pub returns-in_ok-session-in-Found-clause-small : goal.returns-in_ok-session-in-Found-clause-small
 returns-in_ok-session-in-Found-clause-small c =
     let problem = c.args.problem.now in
     let timed : AreTimedSinks problem c.in-Found.timed =
     rw c.in-Found.is at c.in_ok-cycle.ensures.ok in
-    let within : IsWithin 1 (10 ^ 17) c.grid_of-grid.result =
-    subst (IsWithin 1 (10 ^ 17)) (sym c.grid_of-grid.ensures)
+    let within : IsWithin 1 (10 ^ 17) c.steps_of_unit.result =
+    subst (IsWithin 1 (10 ^ 17)) (sym c.steps_of_unit.ensures)
     (grid_within c.in-Found.timed.period problem.tech timed.least.range) in
     record {
       above = omega (arith, ints, within.above, within.below);

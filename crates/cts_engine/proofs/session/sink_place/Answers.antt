@@ -6,25 +6,26 @@ use Rattle.cts_engine.proofs.SessionLemmas.{kept_place}
 use Rattle.cts_engine.proofs.SinkLemmas.{rotated_below, rotated_multiple}
 use Rattle.cts_engine.proofs.session.sink_place.Goals as goal
 
-pub product-requires-clause-large : goal.product-requires-clause-large
-product-requires-clause-large c =
+pub product-requires-clause-b : goal.product-requires-clause-b
+product-requires-clause-b c =
     let near = c.requires.near.x in
     record { above = omega (arith, ints, near); below = omega (arith, ints, near) }
 
-pub product-requires-2-clause-small : goal.product-requires-2-clause-small
-product-requires-2-clause-small c =
+pub product-requires-2-clause-a : goal.product-requires-2-clause-a
+product-requires-2-clause-a c =
     let small = c.steps_in-steps.ensures.small in
     record { above = omega (arith, ints, small); below = omega (arith, ints, small) }
 
-pub product-requires-2-clause-large : goal.product-requires-2-clause-large
-product-requires-2-clause-large c =
+pub product-requires-2-clause-b : goal.product-requires-2-clause-b
+product-requires-2-clause-b c =
     let near = c.requires.near.y in
     record { above = omega (arith, ints, near); below = omega (arith, ints, near) }
 
 pub to_uv-requires : goal.to_uv-requires
 to_uv-requires c =
     let kept = kept_place c.steps_in-steps.result c.product.result c.product-2.result c.args.at
-    c.steps_in-steps.ensures.small c.requires.near c.product.ensures c.product-2.ensures in
+    c.steps_in-steps.ensures.small c.requires.near c.product.ensures.value
+    c.product-2.ensures.value in
     let x = kept.below.x in
     let y = kept.below.y in
     record {
@@ -35,7 +36,8 @@ to_uv-requires c =
 pub returns-clause-value : goal.returns-clause-value
 returns-clause-value c period tech grid =
     let kept = kept_place c.steps_in-steps.result c.product.result c.product-2.result c.args.at
-    c.steps_in-steps.ensures.small c.requires.near c.product.ensures c.product-2.ensures in
+    c.steps_in-steps.ensures.small c.requires.near c.product.ensures.value
+    c.product-2.ensures.value in
     let read = number_read c.args.grid (omega (arith, ints, c.requires.grid.within)) in
     let steps = c.steps_in-steps.ensures.value period tech (read ∙ grid) in
     c.to_uv.ensures.value ∙ ap rotated kept.is
@@ -44,7 +46,8 @@ returns-clause-value c period tech grid =
 pub returns-clause-below : goal.returns-clause-below
 returns-clause-below c =
     let kept = kept_place c.steps_in-steps.result c.product.result c.product-2.result c.args.at
-    c.steps_in-steps.ensures.small c.requires.near c.product.ensures c.product-2.ensures in
+    c.steps_in-steps.ensures.small c.requires.near c.product.ensures.value
+    c.product-2.ensures.value in
     subst (IsUvBelow (10 ^ 31)) (sym c.to_uv.ensures.value)
     (rotated_below (10 ^ 27) _ (omega arith) kept.below)
 

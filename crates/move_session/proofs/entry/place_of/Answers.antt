@@ -2,7 +2,7 @@ use Rattle.std.proofs.Common.{◌≡◌, inl, inr, rules, subst, w64, SFits, ari
 use Rattle.std.proofs.lemmas.Int.{ints}
 use Rattle.std.proofs.lemmas.Result.{err_from_is_err_and}
 use Rattle.cts_base.specs.Decimals.{IsRead}
-use Rattle.move_session.proofs.NumberFaults.{refused_so}
+use Rattle.cts_base.proofs.NumberFaults.{refused_so}
 use Rattle.move_session.proofs.entry.place_of.Goals as goal
 
 pub returns-in_err-x : goal.returns-in_err-x

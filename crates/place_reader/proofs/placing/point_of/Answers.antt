@@ -1,8 +1,8 @@
 use Rattle.std.proofs.Common.{◌≡◌, inl, inr, rules, subst, w64, SFits, arith}
 use Rattle.std.proofs.lemmas.Int.{ints}
-use Rattle.cts_base.specs.Decimals.{IsRead}
 use Rattle.std.proofs.lemmas.Result.{err_from_is_err_and}
-use Rattle.place_reader.proofs.NumberFaults.{refused_so}
+use Rattle.cts_base.specs.Decimals.{IsRead}
+use Rattle.cts_base.proofs.NumberFaults.{refused_so}
 use Rattle.place_reader.proofs.placing.point_of.Goals as goal
 
 pub returns-in_err-x : goal.returns-in_err-x

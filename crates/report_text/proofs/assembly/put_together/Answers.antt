@@ -7,8 +7,8 @@ use Rattle.report_text.proofs.assembly.put_together.Goals as goal
 pub returns : goal.returns
 returns c =
     let parts = c.args.parts in
-    let den : to_z w128 (of_z w128 c.den.result) ≡ parts.heading.period.den = search rules in
-    let grid : to_z w128 (of_z w128 c.grid_of.result)
+    let den : to_z w128 (of_z w128 c.den-den.result) ≡ parts.heading.period.den = search rules in
+    let grid : to_z w128 (of_z w128 c.steps_of_unit.result)
     ≡ grid_of parts.heading.period c.args.tech.now = search rules in
     let at : c.from_vec-at.result ≡ arrivals_in parts = search rules in
     let slacks : c.from_vec-slacks.result ≡ slacks_in parts = search rules in

@@ -11,9 +11,9 @@ returns-clause-value c =
     let den = held_same c.den.result
     (subst (HasSizeBelow (10 ^ 37)) (sym c.den.ensures.value) small.small_den)
     ∙ c.den.ensures.value in
-    let grid = held_same c.grid_of.result
-    (subst (HasSizeBelow (10 ^ 37)) (sym c.grid_of.ensures) small.small_grid)
-    ∙ c.grid_of.ensures in
+    let grid = held_same c.steps_of_unit.result
+    (subst (HasSizeBelow (10 ^ 37)) (sym c.steps_of_unit.ensures) small.small_grid)
+    ∙ c.steps_of_unit.ensures in
     λ i. record { den = den i; grid = grid i }
 
 pub returns-clause-small : goal.returns-clause-small

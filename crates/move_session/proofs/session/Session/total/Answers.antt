@@ -8,7 +8,7 @@ use Rattle.move_session.proofs.PlacedShows.{placed_least, placed_realises}
 use Rattle.move_session.proofs.session.Session.total.Goals as goal
 
 -- the lengths are those of the work's tree
-value : (c : goal.After-total_of) → c.total_of.result
+value : (c : goal.After-total_length) → c.total_length.result
     ≡ total_wire (length c.self.inside.sinks) (embedding_of c.self.inside.work.tree)
 value c =
     let work = c.self.inside.work in
@@ -16,14 +16,14 @@ value c =
     let lengths = c.as_slice.ensures
     ∙ ap (λ (tree : Tree). tree.length)
     (c.tree.ensures.whole (count ∙ sym c.self.invariant.room)) in
-    c.total_of.ensures.value
+    c.total_length.ensures.value
     ∙ ap (λ list. total_length (λ node. slice_index_or list node (pos 0)) (length list)) lengths
     ∙ ap (total_length (λ node. slice_index_or work.tree.length node (pos 0)))
     (c.self.invariant.fit.lengths ∙ ap source_of count)
 
 pub returns-clause-value : goal.returns-clause-value
 returns-clause-value c =
-    to_z-of_z w128 c.total_of.result (omega (arith, ints, c.total_of.ensures.below))
+    to_z-of_z w128 c.total_length.result (omega (arith, ints, c.total_length.ensures.below))
     ∙ value c
     ∙ ap (λ session. total_wire (length session.sinks) (embedding_of session.tree)) c.self.view_is
 

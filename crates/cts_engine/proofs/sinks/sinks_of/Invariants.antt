@@ -1,7 +1,0 @@
-use Rattle.std.proofs.Common.{◌≡◌, take}
-use Rattle.cts_model.specs.tree.Problems.{sinks_of}
-use Rattle.cts_engine.proofs.sinks.sinks_of.Given as goal
-
-abbrev pub invariant-loop-register : goal.invariant-loop-register
-invariant-loop-register l =
-    l.sinks ≡ sinks_of l.period l.tech (take l.register l.places) (take l.register l.arrivals)

@@ -1,0 +1,12 @@
+use Rattle.std.proofs.Common.{◌^◌, rules, sym, subst}
+use Rattle.cts_model.specs.placement.Points.{IsPointBelow}
+use Rattle.cts_model.proofs.GridLemmas.{on_grid_below}
+use Rattle.cts_model.proofs.grid.Grid.point.Goals as goal
+
+pub returns-clause-value : goal.returns-clause-value
+returns-clause-value c = search rules
+
+pub returns-clause-below : goal.returns-clause-below
+returns-clause-below c = subst (IsPointBelow (10 ^ 26)) (sym (returns-clause-value c))
+    (on_grid_below c.args.self.now.period c.args.self.now.tech.now c.args.self.now.small
+    c.args.point c.requires.near)

@@ -1,0 +1,21 @@
+-- A product of numbers below 10^20 and 10^16 is below 10^37.
+use Rattle.std.proofs.Common.{◌^◌, subst, sym, arith}
+use mir.Syntax.{w128}
+use Rattle.std.proofs.lemmas.Int.{ints, to_z-of_z}
+use Rattle.cts_model.specs.placement.Points.{IsBelow}
+use Rattle.cts_model.proofs.ProductLemmas.{product_kept, product_small}
+use Rattle.cts_model.proofs.grid.product.Goals as goal
+
+pub overflow_mul-result : goal.overflow_mul-result
+overflow_mul-result c =
+    let small = product_small c.args.a c.args.b c.requires.a c.requires.b in
+    rw (to_z-of_z w128 c.args.a c.ranges.a, to_z-of_z w128 c.args.b c.ranges.b)
+    (omega (arith, ints, small.above, small.below))
+
+pub returns-clause-value : goal.returns-clause-value
+returns-clause-value c =
+    product_kept c.args.a c.args.b c.requires.a c.requires.b c.ranges.a c.ranges.b
+
+pub returns-clause-small : goal.returns-clause-small
+returns-clause-small c = subst (IsBelow (10 ^ 37)) (sym (returns-clause-value c))
+    (product_small c.args.a c.args.b c.requires.a c.requires.b)
