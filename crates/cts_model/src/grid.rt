@@ -21,7 +21,7 @@ pub struct Grid<'a> {
 }
 
 impl Grid<'_> {
-    /// How many grid steps a length unit has: at most 32,776 billions. It takes no memory.
+    /// How many grid steps a length unit has: fewer than 3.28 * 10^16. It takes no memory.
     pub fn steps_of_unit(&self) -> i128
         ensures { result ≡ grid_of self.now.period self.now.tech.now }
     {
