@@ -14,6 +14,10 @@ use gate_order::{LevelFault, levels};
 use std::alloc::Global;
 
 /// Reads a netlist in the ISCAS'89 `.bench` format. The circuit has no host.
+///
+/// # Errors
+///
+/// The first fault of the text, or `NoMemory` where memory is refused.
 pub fn read_bench(alloc: Global, bytes: &[u8]) -> Result<Circuit, BenchFault>
     requires { length bytes.now ≤ 16777216 }
     // Ok comes exactly on a netlist, and its circuit is the one that the bytes tell.

@@ -20,8 +20,13 @@ use gate_order::{LevelFault, Levels, levels};
 use std::alloc::Global;
 use timing_report::slacks;
 
-/// What a report of a problem comes to. About linear in the sizes of the circuit and of the report,
-/// besides a climb up the tree from each sink that shows a reach.
+/// What a report of a problem comes to. Beside passes over the circuit and the report it takes a
+/// walk for each eight constraints of the cycle, and of the leads; a look through the inputs of
+/// each gate on a printed path; and a climb up the tree from each sink that shows a merge's reach.
+///
+/// # Errors
+///
+/// `NoMemory` where memory is refused.
 pub fn check(alloc: Global, problem: &Problem, report: &Report) -> Result<Verdict, NoMemory>
     requires size { IsOfSize problem.now.circuit report.now }
     requires bounds { IsWithinBounds problem.now.tech report.now }

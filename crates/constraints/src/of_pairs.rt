@@ -11,6 +11,10 @@ use std::alloc::Global;
 
 /// What the delays of pairs ask of the arrivals at their registers, in ticks: of each pair in order
 /// its setup constraint and then its hold constraint. It goes once over the pairs.
+///
+/// # Errors
+///
+/// `NoMemory` where memory is refused.
 pub fn constraints_of(
     alloc: Global,
     pairs: &Listed<PairDelay>,

@@ -77,8 +77,11 @@ fn product(a: i128, b: i128) -> i128
     a * b
 }
 
-/// Appends the spelling of a quotient of two whole numbers: the fraction of its value. A refusal
-/// leaves the bytes as they were.
+/// Appends the spelling of a quotient of two whole numbers: the fraction of its value.
+///
+/// # Errors
+///
+/// `NoMemory` where memory is refused; the bytes are as they were then.
 pub fn push_quotient(out: &mut Vec<u8>, num: i128, den: i128) -> Result<(), NoMemory>
     requires some_den { pos 1 ≤ℤ den }
     requires small_num { HasSizeBelow (10 ^ 37) num }
@@ -89,7 +92,11 @@ pub fn push_quotient(out: &mut Vec<u8>, num: i128, den: i128) -> Result<(), NoMe
     push_fraction(out, Fraction::of(num, den))
 }
 
-/// Appends the spelling of a fraction. A refusal leaves the bytes as they were.
+/// Appends the spelling of a fraction.
+///
+/// # Errors
+///
+/// `NoMemory` where memory is refused; the bytes are as they were then.
 pub fn push_fraction(out: &mut Vec<u8>, fraction: Fraction) -> Result<(), NoMemory>
     ensures ok { OnOk result (out.new.items
         ≡ out.old.items ++ fraction_text fraction.num fraction.den) }

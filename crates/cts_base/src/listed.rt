@@ -30,7 +30,11 @@ impl<T> Listed<T> {
         }
     }
 
-    /// Puts an item last. A refused item is dropped.
+    /// Puts an item last.
+    ///
+    /// # Errors
+    ///
+    /// `NoMemory` where memory is refused; the item is dropped and the list unchanged then.
     pub fn push(&mut self, item: T) -> Result<(), NoMemory>
     where
         T: Drop,

@@ -26,6 +26,10 @@ pub enum NumberFault {
 }
 
 /// Reads a decimal number as millionths, exactly, however large its exponent. It takes no memory.
+///
+/// # Errors
+///
+/// The first fault of the text, in the order of `NumberFault`.
 pub fn read_micro(text: &[u8]) -> Result<i64, NumberFault>
     ensures ok { IfOk result (IsRead text.now) }
     ensures not_number { IsErrOf result NumberFault.NotNumber ↔ (¬ (IsDecimal text.now)) }

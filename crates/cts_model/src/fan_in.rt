@@ -31,6 +31,10 @@ impl FanIn {
     }
 
     /// The list of these numbers. Up to four take no memory.
+    ///
+    /// # Errors
+    ///
+    /// `NoMemory` where memory is refused.
     pub fn from_slice(alloc: Global, items: &[u32]) -> Result<FanIn, NoMemory>
         ensures ok { IfOk result (λ fan_in. fan_in ≡ items.now) }
         ensures inline { length items.now ≤ 4 → IsOk result }
@@ -41,6 +45,10 @@ impl FanIn {
     }
 
     /// Puts a signal last. The first four take no memory.
+    ///
+    /// # Errors
+    ///
+    /// `NoMemory` where memory is refused; the list is unchanged then.
     pub fn push(&mut self, item: u32) -> Result<(), NoMemory>
         ensures ok { OnOk result (self.new ≡ self.old ++ item ∷ []) }
         ensures err { OnErr result (self.new ≡ self.old) }

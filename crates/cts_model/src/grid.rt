@@ -74,7 +74,7 @@ impl Grid<'_> {
     ///
     /// # Errors
     ///
-    /// There is no memory for the list.
+    /// `NoMemory` where memory is refused.
     pub fn sinks(
         &self,
         alloc: Global,

@@ -6,7 +6,11 @@ use cts_base::{Listed, NoMemory};
 use std::alloc::Global;
 
 /// The circuit with the host as its last signal and register. The host captures the primary
-/// outputs, in order. Where memory is refused the given circuit is dropped.
+/// outputs, in order.
+///
+/// # Errors
+///
+/// `NoMemory` where memory is refused; the given circuit is dropped then.
 pub fn with_host(alloc: Global, circuit: Circuit) -> Result<Circuit, NoMemory>
     requires { HasNoHost circuit }
     ensures { IfOk result (IsWithHost circuit) }

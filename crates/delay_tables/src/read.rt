@@ -15,6 +15,10 @@ use std::alloc::Global;
 use toml::Table;
 
 /// Reads a delay table in TOML for a netlist that uses these gate kinds, in the order of `Kind`.
+///
+/// # Errors
+///
+/// The first fault of the text, or `NoMemory` where memory is refused.
 pub fn read_tech(alloc: Global, bytes: &[u8], used: &[bool; 8]) -> Result<Tech, TechFault>
     // Ok comes exactly on a delay table, with the table that the bytes tell.
     ensures ok { IfOk result (AcceptsTable used.now bytes.now) }

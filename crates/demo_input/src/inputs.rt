@@ -13,6 +13,10 @@ use std::alloc::Global;
 /// An input to try the program on: a netlist with so many registers, a delay table in ticks, and a
 /// placement in length units. The seed moves which registers the gates read and where the registers
 /// stand; the table is always the same.
+///
+/// # Errors
+///
+/// `NoMemory` where memory is refused.
 pub fn demo(alloc: Global, registers: u32, seed: u32) -> Result<Demo, NoMemory>
     requires some { 2 ≤ registers }
     requires few { registers ≤ 1000 }

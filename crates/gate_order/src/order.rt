@@ -9,8 +9,11 @@ use crate::{LevelFault, Levels};
 use cts_model::Circuit;
 use std::alloc::Global;
 
-/// Orders the gates of a circuit. `Loop` comes exactly where some of them form a loop; which one is
-/// named is free.
+/// Orders the gates of a circuit.
+///
+/// # Errors
+///
+/// `Loop` where some form a loop, whichever is named, or `NoMemory` where memory is refused.
 pub fn levels(alloc: Global, circuit: &Circuit) -> Result<Levels, LevelFault>
     ensures order { IfOk result (IsTopologicalOrder circuit.now.signals) }
     ensures acyclic { IfOk result (λ _. (loop : List ℕ) → IsLoop circuit.now.signals loop → ⊥) }

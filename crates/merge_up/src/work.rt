@@ -55,6 +55,10 @@ impl Work {
     ghost use Rattle.merge_up.specs.Works.{IsFit, IsSettled};
 
     /// Room for that many sinks. No later call takes memory.
+    ///
+    /// # Errors
+    ///
+    /// `NoMemory` where memory is refused.
     pub fn with_room(alloc: Global, sinks: usize) -> Result<Work, NoMemory>
         requires some { 1 ≤ sinks }
         requires few { sinks ≤ 4097 }

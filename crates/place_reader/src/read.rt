@@ -16,6 +16,10 @@ use std::alloc::Global;
 
 /// Reads a placement in the Bookshelf `.pl` format: where the registers, the source and the host
 /// of a circuit stand, in micros. The source and the host stand at the nodes of these names.
+///
+/// # Errors
+///
+/// The first fault of the text, or `NoMemory` where memory is refused.
 pub fn read_places(
     alloc: Global,
     bytes: &[u8],

@@ -10,6 +10,10 @@ use cts_model::{Circuit, Constraint};
 use itoa::Buffer;
 
 /// Appends the line of a constraint: of a hold constraint the head launches.
+///
+/// # Errors
+///
+/// `NoMemory` where memory is refused; what the bytes are then is left open.
 pub fn push_line_for(
     out: &mut Vec<u8>,
     circuit: &Circuit,
@@ -34,6 +38,10 @@ pub fn push_line_for(
 }
 
 /// Appends the line of a requirement between two registers, its weight in ticks.
+///
+/// # Errors
+///
+/// `NoMemory` where memory is refused; what the bytes are then is left open.
 pub fn push_constraint(
     out: &mut Vec<u8>,
     word: &[u8],
@@ -55,6 +63,10 @@ pub fn push_constraint(
 }
 
 /// Appends the line of a word and a number.
+///
+/// # Errors
+///
+/// `NoMemory` where memory is refused; what the bytes are then is left open.
 pub fn push_value(out: &mut Vec<u8>, word: &[u8], value: i128) -> Result<(), NoMemory>
     ensures { OnOk result (out.new.items ≡ out.old.items
         ++ line_of (word.now ∷ signed_decimal value ∷ [])) }
@@ -65,6 +77,10 @@ pub fn push_value(out: &mut Vec<u8>, word: &[u8], value: i128) -> Result<(), NoM
 }
 
 /// Appends the line of a word and how many of something follow.
+///
+/// # Errors
+///
+/// `NoMemory` where memory is refused; what the bytes are then is left open.
 pub fn push_count(out: &mut Vec<u8>, word: &[u8], count: usize) -> Result<(), NoMemory>
     ensures { OnOk result (out.new.items
         ≡ out.old.items ++ line_of (count_line word.now count)) }
@@ -75,6 +91,10 @@ pub fn push_count(out: &mut Vec<u8>, word: &[u8], count: usize) -> Result<(), No
 }
 
 /// Appends the line of a word and others after it.
+///
+/// # Errors
+///
+/// `NoMemory` where memory is refused; what the bytes are then is left open.
 pub fn push_line(out: &mut Vec<u8>, word: &[u8], others: &[&[u8]]) -> Result<(), NoMemory>
     ensures { OnOk result (out.new.items ≡ out.old.items
         ++ line_of (word.now ∷ map (λ other. other.now) others.now)) }

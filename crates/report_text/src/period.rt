@@ -9,6 +9,10 @@ use cts_base::{Fraction, NoMemory, push_fraction};
 use cts_model::{Circuit, Constraint, PeriodShow};
 
 /// Appends the line of a period in ticks.
+///
+/// # Errors
+///
+/// `NoMemory` where memory is refused; what the bytes are then is left open.
 pub fn push_period(out: &mut Vec<u8>, period: Fraction) -> Result<(), NoMemory>
     ensures { OnOk result (out.new.items ≡ out.old.items ++ line_of (period_line period)) }
 {
@@ -19,6 +23,10 @@ pub fn push_period(out: &mut Vec<u8>, period: Fraction) -> Result<(), NoMemory>
 }
 
 /// Appends the lines of what shows that no period is less.
+///
+/// # Errors
+///
+/// `NoMemory` where memory is refused; what the bytes are then is left open.
 pub fn push_show(out: &mut Vec<u8>, circuit: &Circuit, shown: &PeriodShow) -> Result<(), NoMemory>
     requires { ShowsPeriodAmong (length circuit.now.registers) shown.now }
     ensures { OnOk result (out.new.items
@@ -31,6 +39,10 @@ pub fn push_show(out: &mut Vec<u8>, circuit: &Circuit, shown: &PeriodShow) -> Re
 }
 
 /// Appends the lines of a cycle: how many constraints it has, and each of them in order.
+///
+/// # Errors
+///
+/// `NoMemory` where memory is refused; what the bytes are then is left open.
 pub fn push_cycle(
     out: &mut Vec<u8>,
     circuit: &Circuit,

@@ -20,8 +20,11 @@ use crate::reader::parts::read_parts;
 use cts_model::{Circuit, Report, Tech};
 use std::alloc::Global;
 
-/// Reads the text of a report over a circuit, made for a delay table. A text that isn't one is
-/// refused with its first fault.
+/// Reads the text of a report over a circuit, made for a delay table.
+///
+/// # Errors
+///
+/// The first fault of the text, or `NoMemory` where memory is refused.
 pub fn read_report(
     alloc: Global,
     bytes: &[u8],

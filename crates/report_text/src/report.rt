@@ -12,6 +12,10 @@ use cts_model::{Circuit, Report};
 use std::alloc::Global;
 
 /// The text of a report over a circuit.
+///
+/// # Errors
+///
+/// `NoMemory` where memory is refused.
 pub fn write_report(alloc: Global, report: &Report, circuit: &Circuit) -> Result<Vec<u8>, NoMemory>
     requires size { IsOfSize circuit.now report.now }
     requires bounds { (tech : Tech) × IsWithinBounds tech report.now }

@@ -164,6 +164,10 @@ fn push_register_at(out: &mut Vec<u8>, printed: &Printed, register: usize) -> Re
 }
 
 /// Appends the line of a register: its arrival and its slacks, in ticks.
+///
+/// # Errors
+///
+/// `NoMemory` where memory is refused; what the bytes are then is left open.
 pub fn push_register(
     out: &mut Vec<u8>,
     circuit: &Circuit,

@@ -187,6 +187,10 @@ fn push_point(out: &mut Vec<u8>, printed: &Printed, point: Point) -> Result<(), 
 }
 
 /// Appends the last line of a report, the length of all edges in length units.
+///
+/// # Errors
+///
+/// `NoMemory` where memory is refused; what the bytes are then is left open.
 pub fn push_total(out: &mut Vec<u8>, report: &Report) -> Result<(), NoMemory>
     requires small { HasSmallLengths report.now }
     ensures { OnOk result (out.new.items
@@ -197,6 +201,10 @@ pub fn push_total(out: &mut Vec<u8>, report: &Report) -> Result<(), NoMemory>
 
 /// Appends the line of a length of wire, given in grid steps, in length units, which have so many
 /// steps.
+///
+/// # Errors
+///
+/// `NoMemory` where memory is refused; what the bytes are then is left open.
 pub fn push_wire_length(out: &mut Vec<u8>, grid: i128, steps: i128) -> Result<(), NoMemory>
     requires some_grid { pos 1 ≤ℤ grid }
     requires small_grid { grid <ℤ pos (10 ^ 37) }

@@ -16,6 +16,10 @@ use std::alloc::Global;
 
 /// What each register has to spare at a period where the clock reaches the registers by a schedule.
 /// One pass over the circuit.
+///
+/// # Errors
+///
+/// `NoMemory` where memory is refused.
 pub fn slacks(
     alloc: Global,
     circuit: &Circuit,

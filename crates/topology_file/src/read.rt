@@ -12,6 +12,10 @@ use std::alloc::Global;
 /// Reads the topology of a clock tree to the registers of a circuit. Each line that isn't blank has
 /// the node that a merge makes and the two that it joins, in either order, as `7 4 2`; the topology
 /// has the lower of the two first. It goes over the bytes once.
+///
+/// # Errors
+///
+/// The first fault of the text, or `NoMemory` where memory is refused.
 pub fn read_topology(
     alloc: Global,
     bytes: &[u8],

@@ -67,9 +67,12 @@ fn read_over_one(text: &[u8]) -> Option<Quotient>
     Some(Quotient { num, den: 1 })
 }
 
-/// Reads a fraction by its one spelling, in lowest terms. The form is judged first, then the sizes
-/// (each below 10^37), then whether it is in lowest terms. It never answers `TooFine`, and takes
-/// no memory.
+/// Reads a fraction by its one spelling, in lowest terms. It takes no memory.
+///
+/// # Errors
+///
+/// `NotNumber` for another form, else `TooLarge` for a number of 10^37 or more in size, else
+/// `NotNumber` where it isn't in lowest terms; never `TooFine`.
 pub fn read_fraction(text: &[u8]) -> Result<Fraction, NumberFault>
     ensures ok { IfOk result (λ fraction. text.now ≡ fraction_text fraction.num fraction.den) }
     ensures spelled { (fraction : Fraction) → HasSizeBelow (10 ^ 37) fraction.num
