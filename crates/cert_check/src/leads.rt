@@ -22,7 +22,7 @@ impl Judge<'_> {
     ghost use Rattle.cert_check.specs.declared.verdict.Reason.TheVariants.{NotLeast};
     ghost use Rattle.cert_check.specs.Judged.{Judges};
 
-    /// Whether each arrival is from 0 on, and its lead, if it is printed, shows that none is
+    /// Whether, where leads are printed, each arrival is from 0 on and its lead shows that none is
     /// earlier.
     pub(crate) fn judge_leads(&self, alloc: Global, levels: &Levels) -> Result<(), Stop>
         requires { IsLevelsOf self.now.problem.now.circuit levels.now }

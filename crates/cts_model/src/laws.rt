@@ -1,5 +1,5 @@
-//! What constraints and their cycles say of the period: a function's clauses are laws, and its body
-//! is empty.
+//! What cycles, delay tables, trees, leads and reports say by their definitions alone: a function's
+//! clauses are laws, and its body is empty.
 
 ghost use Rattle.cts_model.specs.timing.Laws.{CycleBoundsPeriod, ShownPeriodIsLeast, ForbiddenAtAll, MeetsConstraints, CriticalIsLeast, ForbiddingAtAll};
 ghost use Rattle.cts_model.specs.timing.LeadLaws.{LedArrivalsAreLeast};

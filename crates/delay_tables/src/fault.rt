@@ -6,8 +6,8 @@ use cts_model::Kind;
 use std::alloc::AllocError;
 
 /// Why a delay table is refused. The name of a key stands after those of its tables, joined by
-/// dots. The keys are judged one after the other, each by the first three faults on names; the
-/// others come after them, in this order.
+/// dots. `NotToml` comes first; then the keys are judged one after the other, each by the first
+/// three faults on names; the others come after them, in this order.
 #[derive(Debug, Drop)]
 pub enum TechFault {
     /// The bytes are no TOML document.
