@@ -206,6 +206,9 @@ module _ {period value share : Fraction} {gains : Gains}
         ∙ ap (λ w. w *ℤ pos z) (den_is value) ∙ ap (λ w. value.den *ℤ w) z_is;
     coprime = share.lowest.coprime;
   }
+    where
+      at : (q u : ℕ) → 1 ≤ q → 1 ≤ u → pos 1 ≤ℤ pos (q * u)
+      at q u some_q some_u = omega (arith, ints, mul-le-mul_left q some_u)
 
   -- the period over it
   pub period_over : IsOver period (q * u) (period.num *ℤ pos u)

@@ -7,9 +7,10 @@ use Rattle.cts_model.specs.placement.Points.{IsBelow}
 use Rattle.cts_model.specs.timing.Schedules.{arrival_of, AreFromZero}
 use Rattle.safety_margin.specs.Margins.{IsOver, Sparing}
 
--- a multiple of both numbers, by factors that no number above 1 divides: Knuth, "The Art of
--- Computer Programming", volume 2, section 4.5.2
+-- a multiple of both numbers from 1 on, by factors that no number above 1 divides: Knuth, "The Art
+-- of Computer Programming", volume 2, section 4.5.2
 pub record IsLeastMultiple (first second multiple : ℤ) : Type 0 where
+  pub some : pos 1 ≤ℤ multiple
   pub first_factor : ℤ
   pub of_first : multiple ≡ first *ℤ first_factor
   pub second_factor : ℤ

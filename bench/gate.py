@@ -1,0 +1,94 @@
+#!/usr/bin/env python3
+"""Runs `rt ci` and tells what it is made of: processor minutes of each crate's proof, of its tests, and of its edits.
+
+usage: bench/gate.py [NAME..]     the words are those of `rt ci`; its output goes to standard error
+
+An edit's check begins with a check of the whole crate, which is counted by itself. Times are those of the prover's processes, read
+once a second from /proc; what ends within a second is missed. What a run keeps from earlier ones has no time here, so the whole
+table needs a run from nothing on a machine that does nothing else.
+"""
+
+import collections
+import os
+import subprocess
+import sys
+import time
+
+PROVER = "rattle"
+KINDS = ("proof", "tests", "begin", "edits")
+TICKS = os.sysconf("SC_CLK_TCK")
+
+
+def words_of(process):
+    with open(f"/proc/{process}/cmdline", "rb") as file:
+        return file.read().decode(errors="replace").split("\0")
+
+
+def stat_of(process):
+    """The parent of a process, its group, and the seconds of processor time of it and of its ended children."""
+    with open(f"/proc/{process}/stat", "rb") as file:
+        fields = file.read().rsplit(b")", 1)[1].split()
+    return int(fields[1]), sum(int(field) for field in fields[11:15]) / TICKS
+
+
+def kind_of(words, folder):
+    """What a prover's run is for, and of which crate; nothing where it is no proof of a crate."""
+    if not words[0].endswith("/" + PROVER) or "--crate-name" not in words:
+        return None
+    crate = words[words.index("--crate-name") + 1]
+    if "/rt-edit-" in folder:
+        seed = any(word.endswith("/seed") for word in words)
+        return crate, "begin" if seed and "--incremental" in words else "edits"
+    return crate, "tests" if "--test" in words else "proof"
+
+
+def look(top, seconds):
+    """Keeps for each run of the prover below a process how long it has run."""
+    parents, runs = {}, {}
+    for process in filter(str.isdigit, os.listdir("/proc")):
+        try:
+            parents[int(process)], spent = stat_of(process)
+            kind = kind_of(words_of(process), os.readlink(f"/proc/{process}/cwd"))
+        except (OSError, IndexError):
+            continue
+        if kind:
+            runs[int(process)] = (kind, spent)
+    for process, (kind, spent) in runs.items():
+        above = process
+        while above in parents and above != top:
+            above = parents[above]
+        if above == top and parents.get(process) not in runs:
+            seconds[process, kind] = spent
+
+
+def table(seconds):
+    minutes = collections.defaultdict(lambda: collections.defaultdict(float))
+    counts = collections.Counter()
+    for (_, (crate, kind)), spent in seconds.items():
+        minutes[crate][kind] += spent / 60
+        counts[crate, kind] += 1
+    rows = sorted(minutes, key=lambda crate: -sum(minutes[crate].values()))
+    print("| Crate | Proof | Tests | Edits begin | Edits | Number | All |\n|---|---|---|---|---|---|---|")
+    for crate in rows + ["all"]:
+        spent = {kind: sum(minutes[row][kind] for row in (rows if crate == "all" else [crate])) for kind in KINDS}
+        number = sum(counts[row, "edits"] for row in (rows if crate == "all" else [crate]))
+        cells = " | ".join(f"{spent[kind]:.1f}" for kind in KINDS)
+        print(f"| {crate} | {cells} | {number} | {sum(spent.values()):.1f} |")
+
+
+def main():
+    if any(word.startswith("-") for word in sys.argv[1:]):
+        sys.exit(__doc__.strip())
+    began = time.time()
+    seconds = {}
+    gate = subprocess.Popen(["rt", "ci", *sys.argv[1:]], stdout=sys.stderr)
+    while gate.poll() is None:
+        look(gate.pid, seconds)
+        time.sleep(1)
+    table(seconds)
+    print(f"\n{(time.time() - began) / 60:.0f} minutes by the clock, status {gate.returncode}")
+    sys.exit(gate.returncode)
+
+
+if __name__ == "__main__":
+    main()
