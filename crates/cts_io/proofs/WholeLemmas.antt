@@ -1,5 +1,5 @@
 -- What pieces make together, and counts that rise.
-use Rattle.std.proofs.Common.{ℕ, ◌≡◌, ◌+◌, ◌<◌, ◌≤◌, Option, Some, None, List, ◌++◌, length, take, drop, refl, ap, arith, append_assoc, length-append}
+use Rattle.std.proofs.Common.{ℕ, ◌≡◌, ◌+◌, ◌<◌, ◌≤◌, Option, Some, None, List, [], ◌++◌, length, take, drop, refl, ap, ◌∙◌, arith, append_assoc, length-append}
 use Rattle.std.proofs.lemmas.List.{take-append-drop}
 use Rattle.std.proofs.Math.Seq.{take-append_seam, drop-append-add}
 use Rattle.cts_io.specs.Device.{Rose, appended, WritesPrefix, Takes}
@@ -35,6 +35,12 @@ pub Takes-next : (held taken rest buffer now : List ℕ) (n : ℕ) (after : Opti
     → (left : List ℕ) × (after ≡ Some left) × (held ≡ now ++ left)
 Takes-next held taken rest buffer now n after parts takes grown =
     (drop n rest, takes.rest, rw (grown, takes.given) (append-moved held taken rest n parts))
+
+-- a take that gives nothing leaves nothing
+pub Takes-nothing : (left : List ℕ) (n : ℕ) (buffer : List ℕ) (after : Option (List ℕ))
+    → Takes left n buffer after → n ≡ 0 → after ≡ Some []
+Takes-nothing left n buffer after takes none =
+    takes.rest ∙ (λ i. Some (drop (none i) (takes.some none i)))
 
 -- a take that comes to this many bytes in all leaves what stands after them
 pub Takes-leaves : (held taken rest buffer : List ℕ) (n sum : ℕ) (after : Option (List ℕ))

@@ -29,6 +29,10 @@ pub trait Inputs {
 
     /// Begins with the first byte of a file. After a refusal, nothing is promised of what is left
     /// until a start is `Ok`.
+    ///
+    /// # Errors
+    ///
+    /// The device failed or has no file of that name, or there is no memory for the start.
     fn start(&mut self, name: &str) -> Result<(), StartFault>
         ensures ok { OnOk result (left self.new ≡ holds self.old name.now) }
         ensures failed { IsErrOf result StartFault.Failed
@@ -42,6 +46,10 @@ pub trait Inputs {
 
     /// Takes the next bytes of the started file into the start of a buffer, and gives how many:
     /// 0 exactly where nothing is left. The name says whose count a fault raises.
+    ///
+    /// # Errors
+    ///
+    /// The device failed.
     fn take(&mut self, name: &str, into: &mut [u8]) -> Result<usize, Failed>
         requires { 0 < length into.old }
         ensures within { IfOk result (λ n. n ≤ length into.new) }
@@ -63,6 +71,10 @@ pub trait Sink {
     ghost faults: { Self → ℕ };
 
     /// Writes a prefix of the piece, and gives how many bytes: at least one, where there is one.
+    ///
+    /// # Errors
+    ///
+    /// The device failed, and takes nothing of the piece.
     fn write(&mut self, piece: &[u8]) -> Result<usize, Failed>
         ensures within { IfOk result (λ n. n ≤ length piece.now) }
         ensures some { 0 < length piece.now → IfOk result (λ n. 0 < n) }

@@ -91,6 +91,7 @@ impl<O: FileOpener> Inputs for HostInputs<O> {
             Tried O.File.reads AnswersRead (file, into.old) result (now, into.new))) }
         ensures started { is_some self.new.stream ≡ is_some self.old.stream }
         ensures none { IsNone self.old.stream → result ≡ Ok 0 }
+        ensures opener { self.new.opener ≡ self.old.opener }
         ensures counted { OnErr result (self.new.faults ≡ raised self.old.faults) }
 
         // The trait's clauses.

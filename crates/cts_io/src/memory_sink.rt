@@ -38,6 +38,10 @@ impl MemorySink {
     /// `fails` has the numbers of the writes that fail: all writes are counted from 1, those of no
     /// bytes too, and each write after number 2^64 - 1 has that number too. A write takes at most
     /// `piece` bytes.
+    ///
+    /// # Errors
+    ///
+    /// There is no memory for `room` bytes.
     pub fn new(
         alloc: Global,
         room: usize,

@@ -19,6 +19,10 @@ pub trait FileOpener {
     ghost opens: { List ℕ → Self → Result Self.File Error → Self → Type 0 };
 
     /// One call.
+    ///
+    /// # Errors
+    ///
+    /// The file isn't opened, or a signal interrupted the call, or there is no memory for it.
     fn open_once(&mut self, name: &str) -> io::Result<Self::File>
         ensures call { opens name.now self.old result self.new };
 }
@@ -34,8 +38,12 @@ impl<R: Files> FileOpener for &R {
     }
 }
 
-/// Opens the file of a name. A call that a signal interrupted is tried again, and after 2^64 - 1
-/// such calls it is a fault. Want of memory is answered as such, and any other error is a fault.
+/// Opens the file of a name. A call that a signal interrupted is tried again.
+///
+/// # Errors
+///
+/// `NoMemory` where the opener has no memory for it; `Failed` at any other error, and after 2^64 - 1
+/// interrupted calls.
 pub fn open_file<O: FileOpener>(opener: &mut O, name: &str) -> Result<O::File, StartFault>
     ensures denoted { Tried (O.opens name.now) AnswersOpen opener.old result opener.new }
 {

@@ -19,6 +19,10 @@ pub trait ByteReader {
     ghost reads: { Self × List ℕ → Result ℕ Error → Self × List ℕ → Type 0 };
 
     /// One call.
+    ///
+    /// # Errors
+    ///
+    /// The reader failed, or a signal interrupted the call.
     fn read_once(&mut self, into: &mut [u8]) -> io::Result<usize>
         ensures within { ReadsAtMost result into.new }
         ensures bytes { ReadConsumes (remaining self.old) (remaining self.new) result into.new }
@@ -45,6 +49,10 @@ pub trait ByteWriter {
     ghost writes: { List ℕ → Self → Result ℕ Error → Self → Type 0 };
 
     /// One call.
+    ///
+    /// # Errors
+    ///
+    /// The writer failed, or a signal interrupted the call.
     fn write_once(&mut self, piece: &[u8]) -> io::Result<usize>
         ensures within { WritesAtMost result piece.now }
         ensures bytes { WriteAppends (contents self.old) (contents self.new) result piece.now }
@@ -63,9 +71,12 @@ impl<W: Write> ByteWriter for W {
 }
 
 /// Reads the next bytes of a stream into the start of a buffer, and gives how many: 0 only where
-/// nothing is left or the buffer has no room. A call that a signal interrupted is tried again, and
-/// after 2^64 - 1 such calls it is a fault. Else exactly an error of the stream is a fault, and it
-/// takes nothing.
+/// nothing is left or the buffer has no room. A call that a signal interrupted is tried again.
+///
+/// # Errors
+///
+/// Exactly at an error of the stream that is no interruption, which takes nothing, and after
+/// 2^64 - 1 interrupted calls.
 pub fn read_next<R: ByteReader>(stream: &mut R, into: &mut [u8]) -> Result<usize, Failed>
     ensures within { IfOk result (λ n. n ≤ length into.new) }
     ensures bytes { ReadConsumes (R.remaining stream.old) (R.remaining stream.new) result into.new }
@@ -83,9 +94,12 @@ pub fn read_next<R: ByteReader>(stream: &mut R, into: &mut [u8]) -> Result<usize
 }
 
 /// Writes a prefix of a piece to a stream, and gives how many bytes. A piece of no bytes makes no
-/// call. A call that a signal interrupted is tried again, and after 2^64 - 1 such calls it is a
-/// fault. Else exactly an error of the stream is a fault, or that it takes nothing of the piece;
-/// nothing is written then.
+/// call. A call that a signal interrupted is tried again.
+///
+/// # Errors
+///
+/// Exactly at an error of the stream that is no interruption, where it takes nothing of the piece,
+/// and after 2^64 - 1 interrupted calls. Nothing is written then.
 pub fn write_prefix<W: ByteWriter>(stream: &mut W, piece: &[u8]) -> Result<usize, Failed>
     ensures within { IfOk result (λ n. n ≤ length piece.now) }
     ensures some { 0 < length piece.now → IfOk result (λ n. 0 < n) }

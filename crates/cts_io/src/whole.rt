@@ -1,6 +1,6 @@
 //! Whole files and whole texts over devices that give and take pieces.
 
-ghost use Rattle.std.specs.Prelude.{◌≡◌, ◌≤◌, ◌<◌, ◌+◌, ◌-◌, ℕ, List, length, take, drop, Option, Some, IsOk, OnOk, OnErr, IfOk, IsErrOf};
+ghost use Rattle.std.specs.Prelude.{◌≡◌, ◌≤◌, ◌<◌, ◌+◌, ◌-◌, ℕ, List, [], length, take, drop, Option, Some, IsOk, OnOk, OnErr, IfOk, IsErrOf};
 ghost use Rattle.cts_io.specs.Device.{Rose, appended, Takes, WritesPrefix};
 ghost use Rattle.cts_io.specs.declared.whole.ReadWhole.TheVariants.{NoMemory};
 ghost use Rattle.cts_io.specs.Whole.{read_fault_of};
@@ -41,6 +41,11 @@ impl From<StartFault> for ReadWhole {
 /// Reads a file from its first byte to its last. Each take but the last gives at least one byte,
 /// and no take asks for more than is missing to limit + 1 bytes, so it ends after at most limit + 1
 /// takes. Memory is taken for the bytes of the file alone.
+///
+/// # Errors
+///
+/// `Failed` where the device failed or has no file of that name, `TooLong` where the file has more
+/// bytes than the limit, and `NoMemory` where there is none for its start or its bytes.
 pub fn read_whole<I: Inputs>(
     alloc: Global,
     inputs: &mut I,
@@ -50,6 +55,9 @@ pub fn read_whole<I: Inputs>(
     requires { limit ≤ 16777216 }
     ensures ok { IfOk result (λ bytes. (held : List ℕ) → I.holds inputs.old name.now ≡ Some held
         → bytes.items ≡ held) }
+    // A file that is read isn't started again.
+    ensures rest { IfOk result (λ _. (held : List ℕ) → I.holds inputs.old name.now ≡ Some held
+        → I.left inputs.new ≡ Some []) }
     ensures within { IfOk result (λ bytes. length bytes.items ≤ limit) }
     ensures too_long { IsErrOf result ReadWhole.TooLong → (held : List ℕ)
         → I.holds inputs.old name.now ≡ Some held → limit < length held }
@@ -84,6 +92,10 @@ pub fn read_whole<I: Inputs>(
 }
 
 /// Writes all bytes, each turn offering what isn't written yet. It takes no memory.
+///
+/// # Errors
+///
+/// The device failed; a prefix of the bytes is written then.
 pub fn write_whole<S: Sink>(sink: &mut S, bytes: &[u8]) -> Result<(), Failed>
     ensures ok { OnOk result (S.written sink.new ≡ appended (S.written sink.old) bytes.now) }
     ensures err { OnErr result (WritesPrefix (S.written sink.old) bytes.now (S.written sink.new)) }

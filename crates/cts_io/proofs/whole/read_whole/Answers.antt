@@ -1,6 +1,6 @@
 use Rattle.std.proofs.Common.{◌≡◌, ◌+◌, ◌++◌, ◌∙◌, length, take, arith}
 use Rattle.std.proofs.lemmas.Grind.{common_steps}
-use Rattle.cts_io.proofs.WholeLemmas.{Takes-leaves, Takes-next}
+use Rattle.cts_io.proofs.WholeLemmas.{Takes-leaves, Takes-next, Takes-nothing}
 use Rattle.cts_io.proofs.whole.read_whole.Goals as goal
 
 pub loop-taken-preserved : goal.loop-taken-preserved
@@ -17,6 +17,11 @@ loop-taken-preserved g c =
       files = λ file. c.in-Ok.ensures.files file ∙ i.files file;
       stays = λ file. c.in-Ok.ensures.stays file ∙ i.stays file;
     }
+
+pub returns-then-taken-eq0-clause-rest : goal.returns-then-taken-eq0-clause-rest
+returns-then-taken-eq0-clause-rest g c held is =
+    let none : c.in-Ok.taken ≡ 0 = grind (arith, common_steps) in
+    Takes-nothing _ _ _ _ (c.in-Ok.ensures.ok _ (c.loop-taken.invariant.denoted held is).1) none
 
 pub returns-then-limit-len-clause-stops : goal.returns-then-limit-len-clause-stops
 returns-then-limit-len-clause-stops g c long held is =
