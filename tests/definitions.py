@@ -1,6 +1,7 @@
 #!/usr/bin/env python3
-"""Follows each definition that the promises below rest on, from file to file, and fails where
-docs/DEFINITIONS.md doesn't name one. definitions.py [CRATE FILE NAME]: from another definition."""
+"""Follows each definition that the promises below and the clauses of `run` rest on, from file to file, and fails where no row of
+docs/DEFINITIONS.md names one with its file, or where a row names one that its files don't have.
+definitions.py [CRATE FILE NAME]: from another definition."""
 import glob
 import os
 import re
@@ -14,59 +15,123 @@ PROMISES = [
     ("cts_program", "MarginTexts", "IsMarginText"),
     ("cts_program", "CornerTexts", "IsCornersText"),
 ]
+RUN = "crates/cts_program/src/run.rt"
 HEAD = re.compile(r"(?:abbrev|unfoldable)? ?pub (?:record |data )?([^\s({:]+)")
 NAME = re.compile(r"[A-Za-z_][\w'-]*(?:\.[A-Za-z_][\w'-]*)?")
+USE = re.compile(r"(?:pub |ghost )?use Rattle\.(\w+)\.(?:specs|proofs)\.([\w.]+?)(?:\.\{(.*)\}| as (\w+));?$")
+
+FOLDER = re.compile(r"`crates/(\w+)/specs/?([\w/]*)`")
+
+
+def text_of(path):
+    with open(os.path.join(ROOT, path), encoding="utf-8") as file:
+        return file.read()
+
+
+def imports_of(text):
+    """What the lines of a file import: crate, file and name of each, by its name in the file. A whole file has no name."""
+    found = {}
+    for line in re.findall(r"^(?:pub |ghost )?use Rattle\..*$", text, re.MULTILINE):
+        use = USE.match(line)
+        if not use:
+            sys.exit(f"definitions.py can't read this line: {line}")
+        crate, file, names, alias = use.groups()
+        if alias:
+            found[alias] = (crate, file, None)
+        for word in (names or "").split(", "):
+            name, _, other = word.partition(" as ")
+            found[other or name] = (crate, file, name)
+    return found
 
 
 def read_specs():
-    """The text of each definition by crate, file and name, and what each file imports, by its name there."""
+    """The text of each definition by crate, file and name, and what each file imports."""
     texts, imports = {}, {}
-    for path in glob.glob(ROOT + "/crates/*/specs/**/*.antt", recursive=True):
-        crate, file = re.search(r"crates/(\w+)/specs/(.*)\.antt$", path).groups()
-        where = (crate, file.replace("/", "."))
-        imports[where], name = {}, None
-        for line in open(path, encoding="utf-8"):
-            found = re.match(r"use Rattle\.(\w+)\.specs\.([\w.]+)(?:\.\{(.*)\}| as (\w+))", line)
-            if found:
-                crate, file, names, alias = found.groups()
-                for word in (names or "").split(", "):
-                    imports[where][word.split(" as ")[-1]] = (crate, file, word.split(" as ")[0])
-                if alias:
-                    imports[where][alias] = (crate, file, None)
-            elif not line.startswith(("use", "--")):
+    for path in glob.glob("crates/*/specs/**/*.antt", root_dir=ROOT, recursive=True):
+        crate, file = re.match(r"crates/(\w+)/specs/(.*)\.antt$", path).groups()
+        where, name = (crate, file.replace("/", ".")), None
+        text = text_of(path)
+        imports[where] = imports_of(text)
+        for line in text.splitlines():
+            if not line.startswith(("use", "pub use", "--")):
                 head = HEAD.match(line)
                 name = head.group(1) if head else name
                 if name:
-                    texts[(*where, name)] = texts.get((*where, name), "") + line
+                    texts[(*where, name)] = texts.get((*where, name), "") + line + "\n"
     return texts, imports
 
 
-def cited(texts, imports, definition):
-    """The definitions that a definition names."""
-    crate, file, own = definition
-    for word in set(NAME.findall(texts[definition])):
+def source_of(texts, imports, name):
+    """Where a name is defined that a file has, or imports and hands on."""
+    while name and name not in texts:
+        name = imports.get(name[:2], {}).get(name[2])
+    return name
+
+
+def cited(texts, imports, text, here):
+    """The definitions that a text of the file here names."""
+    for word in set(NAME.findall(text)):
         first, _, rest = word.partition(".")
-        there = imports[(crate, file)].get(first, (crate, file, first))
-        there = (*there[:2], rest) if there[2] is None else there
-        if there in texts and there != definition:
-            yield there
+        there = imports[here].get(first, (*here, first))
+        yield source_of(texts, imports, (*there[:2], rest) if there[2] is None else there)
+
+
+def followed(texts, imports, start):
+    """The definitions that some definitions rest on, with themselves."""
+    passed, left = set(), list(start)
+    while left:
+        definition = left.pop()
+        if definition and definition not in passed:
+            passed.add(definition)
+            left.extend(cited(texts, imports, texts[definition], definition[:2]))
+    return passed
+
+
+def clauses_of_run(texts, imports):
+    """The definitions that the clauses of `run` name."""
+    text = text_of(RUN)
+    here = ("cts_program", RUN)
+    imports[here] = imports_of(text)
+    clauses = re.search(r"^pub fn run<.*?^\{$", text, re.MULTILINE | re.DOTALL)
+    if not clauses:
+        sys.exit(f"{RUN} has no clauses of run")
+    return set(cited(texts, imports, clauses.group(), here)) - {None}
+
+
+def rows_of(page):
+    """Each row of the page's tables: the names in its first cell, and the files of its second one. Their folders stand there too,
+    or else at the head of the column or of the section."""
+    heading, column = "", ""
+    for line in page.splitlines():
+        cells = line.strip("| ").split(" | ")
+        if line.startswith("#"):
+            heading = line
+        elif line.startswith(("| Definition |", "| Helper |")):
+            column = cells[1]
+        elif line.startswith("| "):
+            folders = next(filter(None, map(FOLDER.findall, (cells[1], column, heading))), [])
+            files = re.findall(r"([\w/]+)\.antt", cells[1])
+            paths = {(crate, f"{folder}/{file}".strip("/").replace("/", ".")) for crate, folder in folders for file in files}
+            yield re.findall(r"`([^`]+)`", cells[0]), paths
 
 
 def main():
     texts, imports = read_specs()
-    passed, left = set(), [tuple(sys.argv[1:4])] if sys.argv[1:] else list(PROMISES)
-    while left:
-        definition = left.pop()
-        if definition not in passed:
-            passed.add(definition)
-            left.extend(cited(texts, imports, definition))
-    page = open(ROOT + "/docs/DEFINITIONS.md", encoding="utf-8").read()
-    named = {word for quoted in re.findall(r"`([^`]+)`", page) for word in quoted.split()}
-    missing = sorted(name for name in passed if name[2] not in named)
-    for crate, file, name in missing:
+    start = [tuple(sys.argv[1:4])] if sys.argv[1:] else PROMISES + sorted(clauses_of_run(texts, imports))
+    passed = followed(texts, imports, start)
+    named, failed = set(), 0
+    for names, places in rows_of(text_of("docs/DEFINITIONS.md")):
+        for name in names:
+            there = {(*place, name) for place in places} & texts.keys()
+            named |= there
+            if not there:
+                print(f"docs/DEFINITIONS.md names {name}, which isn't in {sorted(places)}")
+                failed += 1
+    for crate, file, name in sorted(passed - named):
         print(f"docs/DEFINITIONS.md doesn't name {name} of crates/{crate}/specs/{file.replace('.', '/')}.antt")
-    print(f"{len(passed) - len(missing)} passed, {len(missing)} failed")
-    return 1 if missing else 0
+        failed += 1
+    print(f"{len(passed & named)} passed, {failed} failed")
+    return 1 if failed else 0
 
 
 sys.exit(main())

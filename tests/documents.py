@@ -1,6 +1,6 @@
 #!/usr/bin/env python3
-"""Runs the commands of the README and of the pages of docs/ whose output stands there, and compares the two. And follows the
-links between the pages."""
+"""Runs the commands of the README and of the pages of docs/ whose output stands there, compares the two, and counts them. And
+follows the links between the pages."""
 import glob
 import os
 import re
@@ -11,6 +11,8 @@ import tempfile
 ROOT = os.path.dirname(os.path.dirname(os.path.abspath(__file__)))
 PAGES = ["README.md", "CONTRIBUTING.md"] + sorted(glob.glob("docs/*.md", root_dir=ROOT))
 PAGES += sorted(glob.glob("crates/*/README.md", root_dir=ROOT))
+# How many commands of a page run; of any other page, none.
+COUNTS = {"README.md": 4, "docs/COMMANDS.md": 10, "docs/DEFINITIONS.md": 1}
 
 
 def text_of(page):
@@ -48,7 +50,11 @@ def main():
     # A program that is newer than the sources is used as it is.
     subprocess.run([os.path.join(ROOT, "cts"), "build"], check=True)
     passed, failed = 0, 0
-    for page in PAGES:
+    for page in sorted({*PAGES, *COUNTS}):
+        count = sum(map(len, blocks(page)))
+        if count != COUNTS.get(page, 0):
+            print(f"{page} has {count} commands with their output, and not {COUNTS.get(page, 0)}")
+            failed += 1
         for commands in blocks(page):
             wrong = list(run_block(commands))
             for command, output in wrong:

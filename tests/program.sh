@@ -21,6 +21,13 @@ expect() {
     fi
 }
 
+# registers SETUP HOLD LEAST GREATEST [MORE]: a table of registers, and what stands behind it.
+registers() {
+    printf '[wire]\ndelay = "1"\n[source]\nplace = "CLK"\n'
+    printf '[register]\nsetup = %s\nhold = %s\nleast = %s\ngreatest = %s\n' "${@:1:4}"
+    printf '%b' "${5-}"
+}
+
 # A program that is newer than the sources is used as it is.
 "$top/cts" build || exit 1
 
@@ -81,20 +88,103 @@ expect 'the tree of s27' 0 "$tree" '' "$top/cts" synth --bench "$s27" --tech "$t
 # A report, whoever made it, is shown or isn't, and the line says why.
 printf '%s\n' "$tree" >"$work/s27.cts"
 check() { "$top/cts" check --bench "$s27" --tech "$table" --pl "$places" --report "$1"; }
-edited() {
-    sed "$1" "$work/s27.cts" >"$work/edited.cts"
-    check "$work/edited.cts"
-}
-expect 'a report' 0 'shown' '' check "$work/s27.cts"
 expect 'the report of the examples' 0 '' '' cmp "$work/s27.cts" "$top/examples/s27.cts"
-expect 'a report of version 1' 0 'shown' '' edited 's/^cts 2/cts 1/; /^path/d; /^lead/d'
-expect 'another path' 0 'shown' '' edited 's/G16/G15/'
 expect 'the options of check in another order' 0 'shown' '' \
     "$top/cts" check --report "$work/s27.cts" --pl "$places" --tech "$table" --bench "$s27"
-expect 'a pair that shows nothing' 7 '' 'not shown 10 unshown 3' edited 's/pair G5 G6/pair G5 G7/'
-expect 'a slack that differs' 7 '' 'not shown 12 slack differs G6' edited 's/^G6 0 0 3/G6 0 0 4/'
-expect 'a line cut away' 7 '' 'not shown report 1 line 2' edited 2d
-expect 'carriage returns' 7 '' 'not shown report 1 line 1' edited 's/$/\r/'
+
+# Reports that are altered, by the folder with the files that they are of. In version 1 there are neither paths nor leads.
+mkdir "$work/s27" "$work/two" "$work/lone"
+for kind in bench toml pl; do
+    cp "$top/examples/s27.$kind" "$work/s27/$kind"
+    cp "$top/examples/two.$kind" "$work/two/$kind"
+done
+printf 'INPUT(x)\nA = DFF(x)\n' >"$work/lone/bench"
+printf 'A 3 4\nCLK 0 0\n' >"$work/lone/pl"
+registers 0 0 0 0 '[period]\nfloor = 5\n' >"$work/lone/toml"
+cp "$work/s27.cts" "$work/s27/second"
+sed 's/^cts 2$/cts 1/; /^path /d; /^lead /d' "$work/s27.cts" >"$work/s27/first"
+cat >"$work/two/first" <<'END'
+cts 1
+period 11/2
+cycle 2
+setup A B 7
+setup B A 4
+registers 2
+A 0 0 11/2
+B 3/2 0 11/2
+merges 1
+2 0 1 0 pair A A
+source 0 root
+nodes 3
+0 0 0 0 1 0 0
+1 1 0 3/2 4 0 0 0 1/4 1 1/4 1 0
+2 0 0 0 1 0 0
+wire 3/2
+END
+cat >"$work/lone/first" <<'END'
+cts 1
+period 5
+floor
+registers 1
+A 0 - -
+merges 0
+source 7 sink A
+nodes 1
+0 3 4 7 3 0 0 3 0 3 4
+wire 7
+END
+
+# check_in FOLDER REPORT: a check with the files of a folder.
+check_in() {
+    "$top/cts" check --bench "$work/$1/bench" --tech "$work/$1/toml" --pl "$work/$1/pl" --report "$2"
+}
+# altered FOLDER VERSION EDIT: a check of a report that sed has edited, which it has to change.
+altered() {
+    sed "$3" "$work/$1/$2" >"$work/altered"
+    ! cmp -s "$work/$1/$2" "$work/altered" || return 99
+    check_in "$1" "$work/altered"
+}
+for report in s27/second s27/first two/first lone/first; do
+    expect "the report $report" 0 'shown' '' check_in "${report%/*}" "$work/$report"
+done
+while IFS=';' read -r report edit line; do
+    text='' status=7
+    [ "$line" != shown ] || { text=shown line='' status=0; }
+    expect "$report with $edit" "$status" "$text" "$line" altered "${report%/*}" "${report#*/}" "$edit"
+done <<'END'
+lone/first;s,^period 5$,period 4,;not shown 1 below floor
+s27/first;s,^cycle 1$,cycle 2\nsetup G6 G6 13,;not shown 2 cycle broken 1
+two/first;s,^setup B A 4$,setup A B 7,;not shown 2 cycle broken 0
+s27/first;s,^setup G6 G6 13$,setup G6 G6 14,;not shown 3 not of circuit 0
+s27/first;s,^setup G6 G6 13$,setup G7 G7 7,;not shown 4 cycle value
+s27/first;s,^G5 2 0 2$,G5 1 0 2,;not shown 5 schedule misses G5
+s27/first;s,^3 0 1 2 pair,3 1 0 2 pair,;not shown 6 tree shape 3
+s27/first;s,^0 0 0 4 2 4 0 0 0$,0 0 2 4 2 4 0 0 0,;not shown 6 tree shape 0
+lone/first;s,^0 3 4 7 3 0 0 3 0 3 4$,0 3 4 7 2 3 -3 3 4,;not shown 6 tree shape 1
+s27/first;s,^2 10 0 4 2 6 0 10 0$,2 10 0 3 2 6 0 10 0,;not shown 7 too short 2
+two/first;s,^1 1 0 3/2 .*,1 1 0 3/2 3 0 0 5/4 0 1 0,;not shown 8 wire sum 1
+s27/first;s,^2 10 0 4 2 6 0 10 0$,2 10 0 6 4 6 0 6 1 10 1 10 0,;not shown 9 skew differs G7
+s27/first;s,pair G5 G6,pair G5 G7,;not shown 10 unshown 3
+s27/first;s,^source 15 sink G7$,source 15 sink G5,;not shown 10 unshown 5
+s27/first;s,^wire 23$,wire 24,;not shown 11 total
+s27/first;s,^G6 0 0 3$,G6 0 0 4,;not shown 12 slack differs G6
+s27/first;s,^period 13$,period 26/2,;not shown report 1 line 2
+s27/first;2d;not shown report 1 line 2
+s27/first;s,^G5 2 0 2$,G6 2 0 2,;not shown report 1 line 6
+s27/first;s,^G5 2 0 2$,G9 2 0 2,;not shown report 2 line 6
+s27/first;$d;not shown report 3 line 19
+s27/first;s,^wire 23$,&\n,;not shown report 4 line 20
+s27/first;s,^cycle 1$,cycle 10000,;not shown report 5 line 3
+s27/first;s,$,\r,;not shown report 1 line 1
+s27/second;s,G16,G15,;shown
+s27/second;s,^path .*,path -,;shown
+s27/second;s,^path .*,path 1 G6,;not shown 13 path broken 0
+s27/second;s,^path .*,path 1 G99,;not shown report 7 line 5
+END
+# Each arrival a tick later: in version 1 that's shown, and in version 2 there have to be the least.
+later='s,^G5 2,G5 3,; s,^G6 0,G6 1,; s,^G7 0,G7 1,; s,2 pair,1 pair,; s,4 pair,3 pair,; s,^source 15,source 14,'
+expect 'later arrivals in version 1' 0 'shown' '' altered s27 first "$later"
+expect 'later arrivals in version 2' 7 '' 'not shown 14 not least G6' altered s27 second "$later"
 printf %s "$tree" >"$work/cut.cts"
 expect 'a last line without its end' 7 '' 'not shown report 1 line 23' check "$work/cut.cts"
 expect 'no report' 7 '' 'not shown report 3 line 1' check /dev/null
@@ -132,13 +222,6 @@ tables() {
     shift 5
     "$@" >"$work/table.toml"
     expect "$name" "$status" "$text" "$line" "$top/cts" zero --bench "$netlist" --tech "$work/table.toml"
-}
-
-# registers SETUP HOLD LEAST GREATEST [MORE]: a table of registers, and what stands behind it.
-registers() {
-    printf '[wire]\ndelay = "1"\n[source]\nplace = "CLK"\n'
-    printf '[register]\nsetup = %s\nhold = %s\nleast = %s\ngreatest = %s\n' "${@:1:4}"
-    printf '%b' "${5-}"
 }
 
 tables 'registers alone' 0 $'zero 4\nsetup a b 4' '' "$top/examples/lenient.bench" registers 0 0 1 4
