@@ -14,6 +14,10 @@ use std::alloc::Global;
 /// The delays of pairs of registers, one pair after the other, over all paths between the two.
 /// `None` stands exactly where no path joins them. One walk for eight pairs, from the first of
 /// each, in the same room.
+///
+/// # Errors
+///
+/// Memory was refused.
 pub fn delays_between(
     alloc: Global,
     circuit: &Circuit,

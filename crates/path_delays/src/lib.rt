@@ -23,6 +23,7 @@ mod window;
 
 pub use between::delays_between;
 pub use fault::PairFault;
+pub use gate_order::{LevelFault, Levels, levels};
 pub use pair::pair_delay;
 pub use pairs::pair_delays;
 pub use path_search::{Paths, path_of};

@@ -17,6 +17,10 @@ use std::alloc::Global;
 
 /// The delays from one register to another over all paths between the two. `None` comes exactly
 /// where no path joins them.
+///
+/// # Errors
+///
+/// Memory was refused.
 pub fn pair_delay(
     alloc: Global,
     circuit: &Circuit,

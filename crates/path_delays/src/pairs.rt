@@ -22,6 +22,10 @@ const MAX_PAIRS: usize = 1_048_576;
 
 /// The delays of all pairs of registers that paths join, by the register that launches and then by
 /// the one that captures.
+///
+/// # Errors
+///
+/// More than 1,048,576 pairs are joined, or memory was refused.
 pub fn pair_delays(
     alloc: Global,
     circuit: &Circuit,

@@ -35,6 +35,10 @@ impl<'a> Paths<'a> {
     ghost use Rattle.path_delays.specs.ExtremePaths.{IsExtremeIfAny};
 
     /// The paths of a circuit. Which gates read each signal is listed once, for all of them.
+    ///
+    /// # Errors
+    ///
+    /// Memory was refused.
     pub fn new(
         alloc: Global,
         circuit: &'a Circuit,
@@ -55,6 +59,10 @@ impl<'a> Paths<'a> {
 
     /// The signals of a path from one register to another with the greatest delay of all, or with
     /// the least. `None` comes exactly where no path joins them; which path of several is free.
+    ///
+    /// # Errors
+    ///
+    /// Memory was refused.
     pub fn path(
         &mut self,
         alloc: Global,
@@ -82,6 +90,10 @@ impl<'a> Paths<'a> {
 
 /// The signals of a path from one register to another with the greatest delay of all, or with the
 /// least. `None` comes exactly where no path joins them; which path of several is free.
+///
+/// # Errors
+///
+/// Memory was refused.
 pub fn path_of(
     alloc: Global,
     circuit: &Circuit,

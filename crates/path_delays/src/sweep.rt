@@ -20,6 +20,10 @@ use std::alloc::Global;
 /// When what the registers launch by a schedule comes to each register, over all paths that end
 /// there. `None` comes exactly where no path does. One pass over the gates in their order, from all
 /// registers at once.
+///
+/// # Errors
+///
+/// Memory was refused.
 pub fn arrivals(
     alloc: Global,
     circuit: &Circuit,

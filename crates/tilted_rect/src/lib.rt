@@ -8,5 +8,6 @@ mod rect;
 mod turn;
 
 pub use cluster::Cluster;
+pub use cts_model::to_uv;
 pub use rect::Rect;
 pub use turn::to_point;
