@@ -54,6 +54,9 @@ expect 'what no path asks' 0 $'period 7/3\nmargin none\nregisters 1\na 0' '' \
 served=$'period 13\ncycle 1\nsetup G6 G6 13 1\nregisters 3\nG5 2\nG6 0\nG7 0'
 expect 'one corner of s27' 0 "$served" '' "$top/cts" corners --bench "$s27" "$table"
 expect 'the same corner twice' 0 "$served" '' "$top/cts" corners --bench "$s27" "$table" "$table"
+sixteen=()
+for _ in {1..16}; do sixteen+=("$table"); done
+expect 'sixteen corners' 0 "$served" '' "$top/cts" corners --bench "$s27" "${sixteen[@]}"
 expect 'no table of a corner' 4 '' 'read fault corner 2' \
     "$top/cts" corners --bench "$s27" "$table" "$work/none"
 expect 'a netlist as a table' 3 '' 'refused corner 2 tech 1' \
@@ -278,6 +281,14 @@ expect 'not the folder above' 4 '' 'read fault bench' below ./here.bench
 expect 'a folder in front' 4 '' 'read fault bench' below in/s27
 expect 'a missing file is still missing' 1 '' '' test -e "$work/in/s27.bench"
 
+# Where a file is missing no other is taken, though the folder holds one.
+mkdir "$work/only"
+cp "$s27" "$work/only/second"
+alone() { (cd "$work/only" && "$top/cts" zero "$@"); }
+expect 'another netlist is there' 4 '' 'read fault bench' alone --bench first
+expect 'the second name alone is there' 4 '' 'read fault bench' alone --bench first --tech second
+expect 'the first name alone is there' 4 '' 'read fault tech' alone --bench second --tech first
+
 # Pipes are read once, from their first byte to the end; what has no end is too long.
 piped() { "$top/cts" zero --bench <(cat "$s27") --tech <(cat "$table"); }
 endless() { "$top/cts" zero --bench "$s27" --tech <(yes '#'); }
@@ -417,6 +428,7 @@ expect 'a margin without a period' 2 '' "$usage" "$top/cts" margin --bench F --t
 expect 'not in lowest terms' 2 '' "$usage" "$top/cts" margin --bench F --tech F --period 6/4
 expect 'too long a period' 2 '' "$usage" "$top/cts" margin --bench F --tech F --period 1000000000000000
 expect 'no table of any corner' 2 '' "$usage" "$top/cts" corners --bench F
+expect 'a seventeenth corner' 2 '' "$usage" "$top/cts" corners --bench "$s27" "${sixteen[@]}" "$table"
 expect 'too few registers' 2 '' "$usage" "$top/cts" demo --registers 1 --seed 0
 expect 'too many registers' 2 '' "$usage" "$top/cts" demo --registers 1001 --seed 0
 expect 'too large a seed' 2 '' "$usage" "$top/cts" demo --registers 2 --seed 1000
