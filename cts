@@ -1,6 +1,7 @@
 #!/usr/bin/env bash
 # Runs the clock tree synthesizer: the proved program where it is newer than its sources, else an
-# unproved run of the same sources. `cts build` proves and builds the program.
+# unproved run of the same sources. `cts build` proves and builds the program. `cts --help` and
+# `cts --version` are answered here; all other words are the program's.
 set -u
 top=$(cd "$(dirname "$(readlink -f "${BASH_SOURCE[0]}")")" && pwd) || exit 1
 crate=$top/crates/cts_program
@@ -12,6 +13,39 @@ build_time='about half an hour on 4 processors'
 
 say() {
     echo "cts: $1" >&2
+}
+
+help() {
+    cat <<'END'
+cts: the clock tree synthesizer that proves its answer
+
+  cts zero --bench F [--tech F]                      the least period at equal arrivals
+  cts period --bench F --tech F                      the least period that any arrivals allow
+  cts schedule --bench F --tech F                    that period, the least arrivals and the slacks
+  cts synth --bench F --tech F --pl F                the same and the clock tree: a report
+  cts check --bench F --tech F --pl F --report F     whether a report shows what it says
+  cts embed --bench F --tech F --pl F --topology F   as synth, with merges that are given
+  cts margin --bench F --tech F --period P           what every check can spare at a period
+  cts moves --bench F --tech F --pl F --moves F      how long the tree is as registers move
+  cts corners --bench F TABLE ..                     the least period of several delay tables at once
+  cts demo --registers N --seed S                    a circuit of its own, synthesized and checked
+  cts build                                          proves the program and builds it
+
+F is a file, P a period in ticks, N a number from 2 to 1000 and S one from 0 to 999. Examples of each file
+stand in examples/. README.md begins with one, docs/COMMANDS.md has what each command prints and its
+statuses, docs/FORMATS.md the files, docs/REPORT.md the report, docs/FLOW.md the way from Verilog.
+END
+}
+
+version() {
+    local commit
+    commit=$(git -C "$top" describe --always --dirty 2>/dev/null) || commit='of no commit'
+    echo "cts $commit, with reports of version 2"
+    if is_stale; then
+        echo "no proved program is newer than its sources; ./cts build makes one"
+    else
+        echo "the proved program is $program"
+    fi
 }
 
 # The crates that the program is made of, each behind those that it uses, and of others the one with
@@ -110,11 +144,12 @@ start_crates() {
     done
 }
 
-stop_crates() {
+# Ends the crates in work, however the script ends.
+leave() {
     local process
-    for process in "${!crate_of[@]}"; do kill -- "-$process"; done
+    for process in "${!crate_of[@]}"; do kill -- "-$process" 2>/dev/null; done
+    wait "${!crate_of[@]}" 2>/dev/null
     rm -rf "$room"
-    exit 130
 }
 
 # Proves the crates side by side, each once those that it uses are built.
@@ -122,14 +157,12 @@ build() {
     needs_rt
     touch "$room/begun"
     local left free count built=0 failed='' process status name next
-    local -A crate_of=() share_of=() begun_at=()
     mapfile -t left < <(crates)
     count=${#left[@]}
     free=$(processors)
     say "proving and building $count crates on $free processors; from nothing $build_time"
     # Each crate has a process group of its own, which ends with this script.
     set -m
-    trap stop_crates INT TERM
     start_crates
     say "first ${crate_of[*]}"
     while [ ${#crate_of[@]} -gt 0 ]; do
@@ -151,7 +184,6 @@ build() {
         say "$built of $count: $name in $(minutes $((SECONDS - begun_at[$process])))$next"
     done
     set +m
-    trap - INT TERM
     [ -z "$failed" ] || return 1
     touch -r "$room/begun" "$begun"
     say "built in $(minutes "$SECONDS")"
@@ -193,11 +225,26 @@ answer_unproved() {
     exit "$status"
 }
 
+case $* in
+    --help)
+        help
+        exit 0
+        ;;
+    --version)
+        version
+        exit 0
+        ;;
+esac
 if [ "$*" != build ] && ! is_stale; then
     exec "$program" "$@"
 fi
 room=$(mktemp -d) || exit 1
-trap 'rm -rf "$room"' EXIT
+declare -A crate_of=() share_of=() begun_at=()
+trap leave EXIT
+trap 'exit 129' HUP
+trap 'exit 130' INT
+trap 'exit 141' PIPE
+trap 'exit 143' TERM
 if [ "$*" = build ]; then
     is_stale || exit 0
     build

@@ -4,6 +4,7 @@
 # same. No part of the gate: it runs the program some five thousand times.
 # usage: tests/altered.sh [PROGRAM]
 set -u
+[ "${1-}" != --help ] || exec sed -n '2,/^[^#]/s/^# //p' "$0"
 export LC_ALL=C
 top=$(cd "$(dirname "${BASH_SOURCE[0]}")/.." && pwd) || exit 1
 work=$(mktemp -d) || exit 1

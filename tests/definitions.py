@@ -1,7 +1,7 @@
 #!/usr/bin/env python3
 """Follows each definition that the promises below and the clauses of `run` rest on, from file to file, and fails where no row of
-docs/DEFINITIONS.md names one with its file, or where a row names one that its files don't have.
-definitions.py [CRATE FILE NAME]: from another definition."""
+docs/DEFINITIONS.md names one with its file, or where a row names one that its files don't have."""
+import argparse
 import glob
 import os
 import re
@@ -116,8 +116,11 @@ def rows_of(page):
 
 
 def main():
+    parser = argparse.ArgumentParser(description=__doc__)
+    parser.add_argument("--of", nargs=3, metavar=("CRATE", "FILE", "NAME"), help="begin at this definition alone")
+    other = parser.parse_args().of
     texts, imports = read_specs()
-    start = [tuple(sys.argv[1:4])] if sys.argv[1:] else PROMISES + sorted(clauses_of_run(texts, imports))
+    start = [tuple(other)] if other else PROMISES + sorted(clauses_of_run(texts, imports))
     passed = followed(texts, imports, start)
     named, failed = set(), 0
     for names, places in rows_of(text_of("docs/DEFINITIONS.md")):

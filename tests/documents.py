@@ -1,6 +1,7 @@
 #!/usr/bin/env python3
 """Runs the commands of the README and of the pages of docs/ whose output stands there, compares the two, and counts them. And
 follows the links between the pages."""
+import argparse
 import glob
 import os
 import re
@@ -47,6 +48,7 @@ def dead_links(page):
 
 
 def main():
+    argparse.ArgumentParser(description=__doc__).parse_args()
     # A program that is newer than the sources is used as it is.
     subprocess.run([os.path.join(ROOT, "cts"), "build"], check=True)
     passed, failed = 0, 0

@@ -3,6 +3,7 @@
 # output, or with its own answer. It needs a C compiler and a dynamic linker that knows LD_PRELOAD;
 # where there is no compiler, it says so and tries nothing. usage: tests/memory.sh [PROGRAM]
 set -u
+[ "${1-}" != --help ] || exec sed -n '2,/^[^#]/s/^# //p' "$0"
 top=$(cd "$(dirname "${BASH_SOURCE[0]}")/.." && pwd) || exit 1
 work=$(mktemp -d) || exit 1
 trap 'rm -rf "$work"' EXIT

@@ -1,6 +1,8 @@
 #!/usr/bin/env bash
 # Runs the built program on real files: the examples, and devices that fail. Expected texts are worked by hand.
+# usage: tests/program.sh
 set -u
+[ "${1-}" != --help ] || exec sed -n '2,/^[^#]/s/^# //p' "$0"
 top=$(cd "$(dirname "${BASH_SOURCE[0]}")/.." && pwd) || exit 1
 work=$(mktemp -d) || exit 1
 trap 'rm -rf "$work"' EXIT
@@ -447,6 +449,44 @@ expect 'a name with blanks' 0 $'zero 10\nsetup G6 G5 10' '' "$top/cts" zero --be
 named() { (exec -a zero "$top/crates/cts_program/out/cts_program" "$@"); }
 expect 'a command as the name' 2 '' "$usage" named --bench "$s27"
 expect 'another name' 0 $'zero 10\nsetup G6 G5 10' '' named zero --bench "$s27"
+
+# The script answers for itself with no program there, and with a toolchain that only says that it was started.
+mkdir -p "$work/bare" "$work/fake"
+cp "$top/cts" "$top/crates.txt" "$work/bare"
+(cd "$top" && find crates -maxdepth 1 -type d -exec mkdir -p "$work/bare/{}" \;)
+printf '#!/bin/sh\necho $$ >>"%s"\nexec sleep 300\n' "$work/started" >"$work/fake/rt"
+chmod +x "$work/fake/rt"
+: >"$work/started"
+helped() { "$work/bare/cts" --help | grep -o '^  cts [a-z]*' | grep -v build | sort; }
+expect 'a line of help for each command' 0 "$(grep -o 'cts [a-z]*' <<<"$usage" | sed 's/^/  /' | sort)" '' helped
+expect 'which version' 0 $'cts of no commit, with reports of version 2
+no proved program is newer than its sources; ./cts build makes one' '' env GIT_DIR=/dev/null "$work/bare/cts" --version
+# Each script says what it does, and does nothing else.
+scripts() {
+    local script
+    for script in "$top"/tests/*.{sh,py} "$top"/examples/flow/*.{sh,py} "$top"/bench/{run,beside}.py; do
+        PATH=$work/fake:$PATH timeout 10 "$script" --help >"$work/help" </dev/null && [ -s "$work/help" ] || echo "$script"
+    done
+}
+expect 'help of each script' 0 '' '' scripts
+expect 'nothing was started' 0 '' '' cat "$work/started"
+# interrupted SIGNAL: a build that gets it when it has begun, its status, and the provers that are left then.
+interrupted() {
+    local build process
+    : >"$work/started"
+    PATH=$work/fake:$PATH "$work/bare/cts" build 2>/dev/null &
+    build=$!
+    while [ ! -s "$work/started" ]; do sleep 0.1; done
+    kill -s "$1" "$build"
+    wait "$build"
+    echo "status $?"
+    while read -r process; do
+        ! kill -0 "$process" 2>/dev/null || echo "$process is left"
+    done <"$work/started"
+}
+expect 'a build that is hung up' 0 'status 129' '' interrupted HUP
+expect 'a build whose reader is gone' 0 'status 141' '' interrupted PIPE
+expect 'a build that is ended' 0 'status 143' '' interrupted TERM
 
 # A report of one byte too many, and reports of many registers.
 expect 'a report that is too long' 7 '' 'not shown report long' check "$work/longer.bench"

@@ -1,10 +1,11 @@
 #!/usr/bin/env python3
-"""bench_to_verilog.py FILE.bench: prints a netlist as Verilog, of the cells of table_to_liberty.py.
+"""Prints a netlist as Verilog, of the cells of table_to_liberty.py.
 
 An instance has the name of the signal that it drives, and a wire or a port that of the signal. The
 clock comes in by the port 'clock'. An output that is an input too gets a port of its own, with
 '_out' behind the name.
 """
+import argparse
 import re
 import sys
 
@@ -42,7 +43,9 @@ def print_instance(kind, name, reads):
 
 
 def main():
-    netlist = list(statements(sys.argv[1]))
+    parser = argparse.ArgumentParser(description=__doc__)
+    parser.add_argument("netlist", metavar="FILE.bench")
+    netlist = list(statements(parser.parse_args().netlist))
     inputs = dict.fromkeys([CLOCK] + [name for kind, name, _ in netlist if kind == "INPUT"])
     outputs = dict.fromkeys(name for kind, name, _ in netlist if kind == "OUTPUT")
     passed = {name: name + "_out" for name in outputs if name in inputs}

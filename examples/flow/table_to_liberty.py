@@ -1,10 +1,10 @@
 #!/usr/bin/env python3
-"""table_to_liberty.py TABLE.toml least|greatest NETLIST.bench: prints a delay table as Liberty.
+"""Prints a delay table as Liberty.
 
 The library has the cells of the netlist, as bench_to_verilog.py names them. The least delays are
 for hold checks and the greatest for setup checks. One tick is a picosecond.
 """
-import sys
+import argparse
 import tomllib
 
 from bench_to_verilog import statements
@@ -49,15 +49,20 @@ def print_register(times, value):
 
 
 def main():
-    path, bound, netlist = sys.argv[1:]
-    table = tomllib.load(open(path, "rb"))
+    parser = argparse.ArgumentParser(description=__doc__)
+    parser.add_argument("table", metavar="TABLE.toml")
+    parser.add_argument("bound", choices=("least", "greatest"))
+    parser.add_argument("netlist", metavar="NETLIST.bench")
+    words = parser.parse_args()
+    bound = words.bound
+    table = tomllib.load(open(words.table, "rb"))
     print(f"library ({bound}) {{\n  delay_model : table_lookup;\n  time_unit : \"1ps\";")
     print("  capacitive_load_unit (1, ff);")
     for edge in ("rise", "fall"):
         print(f"  input_threshold_pct_{edge} : 50; output_threshold_pct_{edge} : 50;")
         print(f"  slew_lower_threshold_pct_{edge} : 20; slew_upper_threshold_pct_{edge} : 80;")
     print_register(table["register"], table["register"][bound])
-    cells = {(kind, len(reads)) for kind, _, reads in statements(netlist) if kind in FUNCTIONS}
+    cells = {(kind, len(reads)) for kind, _, reads in statements(words.netlist) if kind in FUNCTIONS}
     for kind, inputs in sorted(cells):
         times = table["gate"][kind]
         more = (inputs - 1) * times.get(f"{bound}_per_input", 0)

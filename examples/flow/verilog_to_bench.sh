@@ -3,6 +3,7 @@
 # three inputs and registers of one clock. yosys makes the registers and the logic, and berkeley-abc
 # maps the logic on the kinds of gates.
 set -eu
+[ "${1-}" != --help ] || exec sed -n '2,/^[^#]/s/^# //p' "$0"
 here=$(cd "$(dirname "$(readlink -f "${BASH_SOURCE[0]}")")" && pwd)
 file=$(readlink -f "$1")
 top=$2

@@ -1,10 +1,10 @@
 #!/usr/bin/env python3
-"""wire_delays.py REPORT.cts TABLE.toml: prints the delay of each register's wire in a report.
+"""Prints the delay of each register's wire in a report.
 
 That is the length of all edges from the source down to the register, times the table's wire delay.
 The delays stand in place of the arrivals, so arrivals_to_sdc.py reads the text.
 """
-import sys
+import argparse
 import tomllib
 from fractions import Fraction
 
@@ -27,8 +27,12 @@ def read_report(path):
 
 
 def main():
-    period, names, merges, lengths = read_report(sys.argv[1])
-    delay = Fraction(tomllib.load(open(sys.argv[2], "rb"))["wire"]["delay"])
+    parser = argparse.ArgumentParser(description=__doc__)
+    parser.add_argument("report", metavar="REPORT.cts")
+    parser.add_argument("table", metavar="TABLE.toml")
+    words = parser.parse_args()
+    period, names, merges, lengths = read_report(words.report)
+    delay = Fraction(tomllib.load(open(words.table, "rb"))["wire"]["delay"])
     root = len(lengths) - 1
     wires = {root: lengths[root]}
     for node, first, second in reversed(merges):
