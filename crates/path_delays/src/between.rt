@@ -17,7 +17,7 @@ use std::alloc::Global;
 ///
 /// # Errors
 ///
-/// Memory was refused.
+/// `NoMemory` where memory is refused.
 pub fn delays_between(
     alloc: Global,
     circuit: &Circuit,

@@ -20,7 +20,7 @@ use std::alloc::Global;
 ///
 /// # Errors
 ///
-/// Memory was refused.
+/// `NoMemory` where memory is refused.
 pub fn pair_delay(
     alloc: Global,
     circuit: &Circuit,

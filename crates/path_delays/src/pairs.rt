@@ -25,7 +25,7 @@ const MAX_PAIRS: usize = 1_048_576;
 ///
 /// # Errors
 ///
-/// More than 1,048,576 pairs are joined, or memory was refused.
+/// `TooManyPairs` where more than 1,048,576 pairs are joined, `NoMemory` where memory is refused.
 pub fn pair_delays(
     alloc: Global,
     circuit: &Circuit,

@@ -38,7 +38,7 @@ impl<'a> Paths<'a> {
     ///
     /// # Errors
     ///
-    /// Memory was refused.
+    /// `NoMemory` where memory is refused.
     pub fn new(
         alloc: Global,
         circuit: &'a Circuit,
@@ -62,7 +62,7 @@ impl<'a> Paths<'a> {
     ///
     /// # Errors
     ///
-    /// Memory was refused.
+    /// `NoMemory` where memory is refused.
     pub fn path(
         &mut self,
         alloc: Global,
@@ -93,7 +93,7 @@ impl<'a> Paths<'a> {
 ///
 /// # Errors
 ///
-/// Memory was refused.
+/// `NoMemory` where memory is refused.
 pub fn path_of(
     alloc: Global,
     circuit: &Circuit,

@@ -23,7 +23,7 @@ use std::alloc::Global;
 ///
 /// # Errors
 ///
-/// Memory was refused.
+/// `NoMemory` where memory is refused.
 pub fn arrivals(
     alloc: Global,
     circuit: &Circuit,
