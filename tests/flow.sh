@@ -3,6 +3,7 @@
 # command, and to OpenSTA, whose slacks have to be the printed ones. What needs a tool that is
 # missing is left out, with a word. usage: tests/flow.sh [PROGRAM]
 set -u
+[ "${1-}" != --help ] || exec sed -n '2,/^[^#]/s/^# //p' "$0"
 top=$(cd "$(dirname "${BASH_SOURCE[0]}")/.." && pwd) || exit 1
 flow=$top/examples/flow
 work=$(mktemp -d) || exit 1
@@ -156,9 +157,23 @@ else
     left_out "berkeley-abc isn't there" 'what it writes itself'
 fi
 
+# refuses LINE COMMAND..: the command prints nothing, and fails with this line on its error output.
+refuses() {
+    local line=$1
+    shift
+    ! "$@" >"$work/printed" 2>"$work/line" && [ ! -s "$work/printed" ] && diff "$work/line" <(echo "$line")
+}
+printf 'never\ncycle 1\nhold A A 1\n' >"$work/never"
+holds 'a text without a period' refuses "$work/never: no period will do, so there are no arrivals" \
+    "$flow/arrivals_to_sdc.py" "$work/never"
+holds 'a text without arrivals' \
+    refuses "$work/period: not a period with the arrivals of registers, as schedule prints it" \
+    "$flow/arrivals_to_sdc.py" "$work/period"
+holds 'an empty text' refuses '/dev/null: the text is empty' "$flow/arrivals_to_sdc.py" /dev/null
+
 # signed_off TEXT TABLE [NETLIST]: the slacks with the arrivals of the text, kept as TEXT.slacks.
 signed_off() {
-    "$flow/arrivals_to_sdc.py" "$work/$1" "$2" >"$work/$1.sdc" &&
+    "$flow/arrivals_to_sdc.py" "$work/$1" --host "$2" "${3-$netlist}" >"$work/$1.sdc" &&
         "$flow/slacks.sh" "${3-$netlist}" "$2" "$work/$1.sdc" >"$work/$1.slacks"
 }
 # worst CHECK TEXT: the least slack of all setup or all hold checks, or of both.
@@ -215,6 +230,10 @@ if has sta && python3 -c 'import tomllib' 2>/dev/null; then
     holds 'OpenSTA at the second corner' signed_off corners "$fast"
     cat "$work/first.slacks" >>"$work/corners.slacks"
     holds 'the worst slack of both corners is 0' near "$(worst both corners)" 0
+
+    sed '0,/^set_clock_latency .*/s//set_clock_latency 0 [get_pins nowhere\/CK]/' "$work/schedule.sdc" >"$work/nowhere.sdc"
+    holds 'a pin that is missing' refuses "Warning: nowhere.sdc, 3 pin 'nowhere/CK' not found." \
+        "$flow/slacks.sh" "$netlist" "$table" "$work/nowhere.sdc"
 
     with_host "$table" >"$work/host.toml"
     holds 'a host' cts host schedule --bench "$netlist" --tech "$work/host.toml"

@@ -2,6 +2,7 @@
 # slacks.sh NETLIST.bench TABLE.toml ARRIVALS.sdc: prints the slacks that OpenSTA finds, in ticks,
 # as a line NAME SETUP HOLD for each register that a path ends at.
 set -eu
+[ "${1-}" != --help ] || exec sed -n '2,/^[^#]/s/^# //p' "$0"
 here=$(cd "$(dirname "$(readlink -f "${BASH_SOURCE[0]}")")" && pwd)
 netlist=$1
 table=$2
@@ -15,7 +16,8 @@ done
 
 LEAST=$work/least.lib GREATEST=$work/greatest.lib NETLIST=$work/netlist.v CONSTRAINTS=$3 \
     sta -no_splash -exit "$here/slacks.tcl" >"$work/log" 2>&1 </dev/null
-if grep '^Error' "$work/log" >&2; then
+# What isn't found is only warned of, and then nothing is constrained.
+if grep -E '^Error|not found' "$work/log" >&2; then
     exit 1
 fi
 
