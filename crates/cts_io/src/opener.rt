@@ -42,8 +42,8 @@ impl<R: Files> FileOpener for &R {
 ///
 /// # Errors
 ///
-/// `NoMemory` where the opener has no memory for it; `Failed` at any other error, and after 2^64 - 1
-/// interrupted calls.
+/// `NoMemory` where the opener has no memory for it; `Failed` at any other error, and after
+/// 2^64 - 1 interrupted calls.
 pub fn open_file<O: FileOpener>(opener: &mut O, name: &str) -> Result<O::File, StartFault>
     ensures denoted { Tried (O.opens name.now) AnswersOpen opener.old result opener.new }
 {
