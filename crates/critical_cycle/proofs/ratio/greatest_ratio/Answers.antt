@@ -1,15 +1,14 @@
--- The room has a mark for each register.
+-- There is a mark for each register.
 use Rattle.std.proofs.Common.{ap, arith, length}
-use Rattle.critical_cycle.proofs.ratio.greatest_ratio_in.Goals as goal
+use Rattle.critical_cycle.proofs.ratio.greatest_ratio.Goals as goal
 
 pub iterate-requires-clause-marks : goal.iterate-requires-clause-marks
 iterate-requires-clause-marks c = omega (
   arith,
   ap length c.deref_mut.ensures.value,
-  ap length c.into_vec-marks.ensures,
-  c.args.room.valid.marks_len,
-  c.args.room.valid.parents_len,
-  ap length c.into_vec-2.ensures,
+  c.in_ok-marks.ensures.len,
+  c.in_ok-marks.marks.ok.0,
+  c.in_ok-relaxation.ensures.parents,
   c.at_first-search.ensures.registers,
   c.look_at_short_cycles.ensures.same.registers,
 )
