@@ -11,6 +11,10 @@ use std::alloc::Global;
 /// One list of constraints that arrivals satisfy exactly where they satisfy each of several: at
 /// each place the one with the greatest weight. It goes once over each list, and takes memory for
 /// one list of constraints and one of numbers.
+///
+/// # Errors
+///
+/// There is no memory for the list.
 pub fn combine(alloc: Global, lists: &Listed<Listed<Constraint>>) -> Result<Combined, NoMemory>
     requires { AreCorners lists.now }
     ensures lengths { IfOk result (λ combined.

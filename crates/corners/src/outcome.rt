@@ -42,6 +42,10 @@ pub enum CornersOutcome {
 /// The least period and the least schedule of a circuit that serve the delay tables of 1 to 16
 /// corners, in ticks. The gates are put in order once; pair delays are found corner by corner and
 /// dropped, so the memory is that of two lists whatever the number of corners.
+///
+/// # Errors
+///
+/// More than 1,048,576 pairs are joined, or there is no memory.
 pub fn corners_of(
     alloc: Global,
     circuit: &Circuit,

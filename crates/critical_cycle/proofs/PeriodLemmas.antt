@@ -1,6 +1,7 @@
 -- What the greatest ratio says of the period, and what the answers exclude.
-use Rattle.std.proofs.Common.{ℕ, ◌≡◌, ◌^◌, ◌*◌, ℤ, pos, negsuc, ◌+ℤ◌, ◌-ℤ◌, ◌*ℤ◌, ◌≤ℤ◌, ◌<ℤ◌, false, List, get_or, refl, subst, ap, arith, All, Contains}
+use Rattle.std.proofs.Common.{ℕ, ◌≡◌, ◌^◌, ◌*◌, ℤ, pos, negsuc, ◌+ℤ◌, ◌-ℤ◌, ◌*ℤ◌, ◌≤ℤ◌, ◌<ℤ◌, false, List, get_or, refl, subst, ap, arith, to_z, of_z, All, Contains}
 use Rattle.std.specs.Prelude.{nat_abs, ◌↔◌}
+use Rattle.std.specs.Int.{w128}
 use Rattle.std.proofs.lemmas.Int.{ints}
 use Rattle.std.proofs.lemmas.List.Elements.{All-contains_itself}
 use Rattle.cts_base.specs.declared.fraction.Fraction.{Fraction}
@@ -13,10 +14,12 @@ use Rattle.critical_cycle.specs.declared.measure.Measure.{Measure}
 use Rattle.critical_cycle.specs.CyclePlaces.{AreWithin, constraints_at}
 use Rattle.critical_cycle.specs.Floors.{IsSmallFloor}
 use Rattle.critical_cycle.specs.Measures.{CanTry, SatisfiesRatio, ShowsRatio, cycle_count, cycle_weight}
-use Rattle.critical_cycle.specs.Periods.{HasForbidding, IsFloor, IsForbidden, IsNeverPeriod, IsPeriodOf, IsShownPeriod}
-use Rattle.critical_cycle.specs.Ratios.{IsForbiddenBy, IsShownRatio}
+use Rattle.critical_cycle.specs.Periods.{HasForbidding, HasSmallValue, IsFloor, IsForbidden, IsNeverPeriod, IsPeriodOf, IsShownPeriod, period_of}
+use Rattle.critical_cycle.specs.Ratios.{IsForbiddenBy, IsRatioOf, IsShownRatio}
 use Rattle.critical_cycle.specs.declared.period.Period.{Period}
 use Rattle.critical_cycle.specs.declared.period.Period.TheVariants.{Cycle, Floor, Never}
+use Rattle.critical_cycle.specs.declared.ratio.Ratio.{Ratio}
+use Rattle.critical_cycle.specs.declared.ratio.Ratio.TheVariants as ratio
 use Rattle.critical_cycle.proofs.PlaceLemmas.{All-constraints_at}
 use Rattle.critical_cycle.proofs.RaiseLemmas.{size_is}
 
@@ -39,7 +42,7 @@ pub record IsWhole (floor : ℤ) (first : Fraction) : Type 0 where
   pub den_is : first.den ≡ pos 1
 
 -- a whole number over 1 in lowest terms is the number
-pub whole_is : (floor : ℤ) (first : Fraction) → first.num *ℤ pos 1 ≡ floor *ℤ first.den
+whole_is : (floor : ℤ) (first : Fraction) → first.num *ℤ pos 1 ≡ floor *ℤ first.den
     → first.den ≤ℤ pos 1 → IsWhole floor first
 whole_is floor first value low =
     let one : first.den ≡ pos 1 = at first.den first.lowest.some_den low in
@@ -50,6 +53,15 @@ whole_is floor first value low =
 
     plain : (a b : ℤ) → a *ℤ pos 1 ≡ b *ℤ pos 1 → a ≡ b
     plain a b same = omega (arith, ints)
+
+-- the floor over 1, as the code makes it
+pub floor_is : (floor : ℤ) (first : Fraction) → IsSmallFloor floor
+    → first.num *ℤ pos 1 ≡ to_z w128 (of_z w128 floor) *ℤ first.den
+    → first.den ≤ℤ pos 1 → IsWhole floor first
+floor_is floor first small value low =
+    let plain : to_z w128 (of_z w128 floor) ≡ floor =
+    omega (arith, ints, small.positive, small.small) in
+    whole_is floor first (rw plain at value) low
 
 -- a floor can be tried
 pub floor_can_try : (measure : Measure) (floor : ℤ) (first : Fraction) → IsPlain measure
@@ -211,6 +223,24 @@ module _ {measure : Measure} (plain : IsPlain measure) where
     };
     lowest = is.lowest;
   }
+
+module _ {measure : Measure} (plain : IsPlain measure) (constraints : List Constraint) {floor : ℤ}
+    {first : Fraction} (whole : IsWhole floor first) where
+  -- the greatest ratio at or above the floor is the least period
+  pub period_right : (ratio : Ratio) → IsRatioOf measure constraints first ratio
+      → IsPeriodOf constraints floor (period_of ratio)
+  period_right (ratio.Cycle value cycle) is =
+      period_shown plain constraints floor first value cycle whole is
+  period_right ratio.First is = floor_enough plain constraints floor first whole is
+  period_right (ratio.Never cycle) is = period_forbidden plain constraints cycle is
+
+  -- and small where a cycle shows it
+  pub small_right : IsSmallFloor floor → (ratio : Ratio)
+      → IsRatioOf measure constraints first ratio → HasSmallValue (period_of ratio)
+  small_right small (ratio.Cycle value cycle) is =
+      period_small plain constraints floor first value cycle small whole is
+  small_right small ratio.First is = tt
+  small_right small (ratio.Never cycle) is = tt
 
 -- the answer is that no period is long enough exactly where a cycle forbids all
 pub never_exactly : (constraints : List Constraint) (floor : ℤ) (period : Period)

@@ -1,5 +1,4 @@
 pub mod RatioSizes
-pub mod Rooms
 pub mod Measures
 pub mod Floors
 pub mod CyclePlaces

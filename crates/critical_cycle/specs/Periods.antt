@@ -8,6 +8,8 @@ use Rattle.cts_model.specs.timing.Schedules.{IsSmallPeriod}
 use Rattle.critical_cycle.specs.CyclePlaces.{AreWithin, IsFromLowest, constraints_at}
 use Rattle.critical_cycle.specs.declared.period.Period.{Period}
 use Rattle.critical_cycle.specs.declared.period.Period.TheVariants.{Cycle, Floor, Never}
+use Rattle.critical_cycle.specs.declared.ratio.Ratio.{Ratio}
+use Rattle.critical_cycle.specs.declared.ratio.Ratio.TheVariants as ratio
 
 -- the value is the least period, above the floor, and the cycle at these places shows it
 pub record IsShownPeriod (constraints : List Constraint) (floor : ℤ) (value : Fraction)
@@ -53,3 +55,9 @@ abbrev pub IsNeverPeriod : Period → Type 0
 IsNeverPeriod (Cycle value cycle) = ⊥
 IsNeverPeriod Floor = ⊥
 IsNeverPeriod (Never cycle) = Unit {0}
+
+-- the greatest ratio as a period
+abbrev pub period_of : Ratio → Period
+period_of (ratio.Cycle value cycle) = Cycle value cycle
+period_of ratio.First = Floor
+period_of (ratio.Never cycle) = Never cycle

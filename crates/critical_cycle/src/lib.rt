@@ -7,12 +7,10 @@ mod period;
 mod raise;
 mod ratio;
 mod ring;
-mod room;
 mod search;
 mod shown;
 mod sums;
 
 pub use measure::Measure;
 pub use period::{Period, least_period, least_period_in};
-pub use ratio::{Ratio, greatest_ratio_in};
-pub use room::Room;
+pub use ratio::{Ratio, greatest_ratio};

@@ -1,12 +1,11 @@
 ghost use Rattle.std.specs.Prelude.{◌≡◌, ◌↔◌, IfOk, length};
 ghost use Rattle.cts_model.specs.timing.Constraints.{AreSmallConstraints};
 ghost use Rattle.cts_model.specs.timing.Cycles.{IsLeastPeriodOf};
-ghost use Rattle.critical_cycle.specs.Periods.{HasForbidding, HasSmallValue, IsFloor, IsNeverPeriod, IsPeriodOf};
+ghost use Rattle.critical_cycle.specs.Periods.{HasForbidding, HasSmallValue, IsFloor, IsNeverPeriod, IsPeriodOf, period_of};
 ghost use Rattle.critical_cycle.specs.Floors.{IsSmallFloor};
 
 use crate::measure::Measure;
-use crate::ratio::{Ratio, greatest_ratio_in};
-use crate::room::Room;
+use crate::ratio::{Ratio, greatest_ratio, greatest_ratio_in};
 use cts_base::{Fraction, Listed, NoMemory};
 use cts_model::Constraint;
 use std::alloc::Global;
@@ -32,10 +31,18 @@ pub enum Period {
 }
 
 /// The least period, at or above a floor in ticks, at which some arrivals satisfy the constraints.
-/// The room's memory serves the search, whatever its entries are, and a list of it becomes the
-/// cycle; no other memory is taken.
-pub fn least_period_in(room: Room, constraints: &Listed<Constraint>, floor: i128) -> Period
-    requires small { AreSmallConstraints (length room.values) constraints.now }
+/// The lists have an entry for each register, which may be any. They serve the search, and the last
+/// of them becomes the cycle. It takes no memory.
+pub fn least_period_in(
+    values: Listed<i128>,
+    parents: Listed<u32>,
+    cycle: Listed<u32>,
+    constraints: &Listed<Constraint>,
+    floor: i128,
+) -> Period
+    requires parents { length parents ≡ length values }
+    requires cycle { length cycle ≡ length values }
+    requires small { AreSmallConstraints (length values) constraints.now }
     requires floor { IsSmallFloor floor }
     ensures period { IsPeriodOf constraints.now floor result }
     ensures never { IsNeverPeriod result ↔ HasForbidding constraints.now }
@@ -43,14 +50,14 @@ pub fn least_period_in(room: Room, constraints: &Listed<Constraint>, floor: i128
     ensures small { HasSmallValue result }
 {
     let first = Fraction::of(floor, 1);
-    match greatest_ratio_in(room, constraints, PERIOD, first) {
-        Ratio::Cycle { value, cycle } => Period::Cycle { value, cycle },
-        Ratio::First => Period::Floor,
-        Ratio::Never { cycle } => Period::Never { cycle },
-    }
+    period_of(greatest_ratio_in(values, parents, cycle, constraints, PERIOD, first))
 }
 
-/// The same in room of its own: 28 bytes for each register.
+/// The same in lists of its own, after policy iteration.
+///
+/// # Errors
+///
+/// There is no memory for the lists, 28 bytes for each register.
 pub fn least_period(
     alloc: Global,
     registers: usize,
@@ -65,8 +72,20 @@ pub fn least_period(
         ↔ IsLeastPeriodOf constraints.now floor floor 1) }
     ensures small { IfOk result HasSmallValue }
 {
-    let room = Room::new(alloc, registers)?;
-    Ok(least_period_in(room, constraints, floor))
+    let first = Fraction::of(floor, 1);
+    let ratio = greatest_ratio(alloc, registers, constraints, PERIOD, first)?;
+    Ok(period_of(ratio))
+}
+
+// What the greatest ratio is as a period.
+fn period_of(ratio: Ratio) -> Period
+    ensures { result ≡ period_of ratio }
+{
+    match ratio {
+        Ratio::Cycle { value, cycle } => Period::Cycle { value, cycle },
+        Ratio::First => Period::Floor,
+        Ratio::Never { cycle } => Period::Never { cycle },
+    }
 }
 
 // A cycle asks for its weights in ticks over the number of its setup constraints.

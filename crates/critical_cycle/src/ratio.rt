@@ -1,4 +1,4 @@
-ghost use Rattle.std.specs.Prelude.{◌≡◌, ◌<◌, ◌++◌, ℕ, drop, length, take};
+ghost use Rattle.std.specs.Prelude.{◌≡◌, ◌<◌, ◌++◌, ℕ, IfOk, drop, length, take};
 ghost use Rattle.cts_model.specs.timing.Constraints.{AreSmallConstraints};
 ghost use Rattle.critical_cycle.specs.CyclePlaces.{AreWithin, IsFromLowest, constraints_at};
 ghost use Rattle.critical_cycle.specs.Measures.{CanTry};
@@ -8,12 +8,12 @@ ghost use Rattle.critical_cycle.specs.ShownRatios.{IsSettled};
 
 use crate::measure::Measure;
 use crate::ring::turn_to_lowest;
-use crate::room::Room;
 use crate::search::Search;
 use crate::shown::Shown;
-use cts_base::{Fraction, Listed};
+use cts_base::{Fraction, Listed, NoMemory};
 use cts_model::Constraint;
 use relaxation::Relaxation;
+use std::alloc::Global;
 
 /// The greatest ratio of the cycles of constraints, at or above a first one. It is the least ratio
 /// at which some arrivals satisfy the constraints.
@@ -36,34 +36,68 @@ pub enum Ratio {
     },
 }
 
-/// The greatest ratio of the cycles of constraints in a measure, at or above a first one. The
-/// room's memory serves the search, whatever its entries are, and a list of it becomes the cycle;
-/// no other memory is taken. Policy iteration finds the ratio, and a relaxation by it shows that no
-/// cycle has a greater one, and else goes on from there. Howard, "Dynamic Programming and Markov
-/// Processes", 1960; Lawler, "Combinatorial Optimization", 1976, section 3.13.
-pub fn greatest_ratio_in(
-    room: Room,
+/// The greatest ratio of the cycles of constraints in a measure, at or above a first one. Policy
+/// iteration finds the ratio, and a relaxation by it shows that no cycle has a greater one, and
+/// else goes on from there. Howard, "Dynamic Programming and Markov Processes", 1960; Lawler,
+/// "Combinatorial Optimization", 1976, section 3.13.
+///
+/// # Errors
+///
+/// There is no memory for the lists, 28 bytes for each register.
+pub fn greatest_ratio(
+    alloc: Global,
+    registers: usize,
+    constraints: &Listed<Constraint>,
+    measure: Measure,
+    first: Fraction,
+) -> Result<Ratio, NoMemory>
+    requires small { AreSmallConstraints registers constraints.now }
+    requires first { CanTry measure first }
+    ensures ratio { IfOk result (IsRatioOf measure constraints.now first) }
+{
+    let list = constraints.as_slice();
+    let relaxation = Relaxation::new(alloc, registers)?;
+    let places = vec![in alloc; 0u32; registers]?;
+    let mut marks = vec![in alloc; 0u32; registers]?;
+    let mut search = Search::at_first(measure, first, relaxation, places);
+    search.look_at_short_cycles(list);
+    search.iterate(list, &mut marks);
+    Ok(settled(search, list))
+}
+
+/// The same without policy iteration, in lists with an entry for each register that may hold any.
+/// One of them becomes the cycle. It takes no memory.
+pub(crate) fn greatest_ratio_in(
+    values: Listed<i128>,
+    parents: Listed<u32>,
+    cycle: Listed<u32>,
     constraints: &Listed<Constraint>,
     measure: Measure,
     first: Fraction,
 ) -> Ratio
-    requires small { AreSmallConstraints (length room.values) constraints.now }
+    requires parents { length parents ≡ length values }
+    requires cycle { length cycle ≡ length values }
+    requires small { AreSmallConstraints (length values) constraints.now }
     requires first { CanTry measure first }
     ensures ratio { IsRatioOf measure constraints.now first result }
 {
     let list = constraints.as_slice();
-    let relaxation = Relaxation {
-        values: room.values.into_vec(),
-        parents: room.parents.into_vec(),
-    };
-    let mut marks = room.marks.into_vec();
-    let mut search = Search::at_first(measure, first, relaxation, room.cycle.into_vec());
+    let relaxation = Relaxation::from_zero(values.into_vec(), parents.into_vec());
+    let mut search = Search::at_first(measure, first, relaxation, cycle.into_vec());
     search.look_at_short_cycles(list);
-    search.iterate(list, &mut marks);
-    while let Some(register) = search.settle(list) {
-        search.raise(list, register);
+    settled(search, list)
+}
+
+// What a search shows once it has settled: a ratio that isn't enough is raised.
+fn settled(search: Search, constraints: &[Constraint]) -> Ratio
+    requires { IsSearch constraints.now search }
+    ensures { IsRatioOf search.measure constraints.now search.first result }
+{
+    let mut search = search;
+    while let Some(register) = search.settle(constraints) {
+        search.raise(constraints, register);
     }
-    ratio_of(search, list)
+    ratio_of(search, constraints)
 }
 
 // What a search that has settled shows.

@@ -93,7 +93,7 @@ impl Search {
         ensures search { IsSearch constraints.now self.new }
         ensures same { IsSameSearch self.old self.new }
     {
-        if !self.reach_shown() || self.sweep_from_zero(constraints) {
+        if !self.reach_shown() || self.sweep_a_little(constraints) {
             return;
         }
         self.relaxation.values.fill(0);
@@ -162,13 +162,12 @@ impl Search {
         true
     }
 
-    // Sweeps a few times from values of 0. True where each constraint is satisfied then.
-    fn sweep_from_zero(&mut self, constraints: &[Constraint]) -> bool
+    // Sweeps a few times. True where each constraint is satisfied then.
+    fn sweep_a_little(&mut self, constraints: &[Constraint]) -> bool
         requires search { IsSearch constraints.now self.old }
         ensures search { IsSearch constraints.now self.new }
         ensures same { IsSameSearch self.old self.new }
     {
-        self.relaxation.values.fill(0);
         for before in 0..SWEEPS {
             self.relaxation.rescale(self.trial, self.trial);
             let changed = self.relaxation.sweep(constraints, self.trial, before);

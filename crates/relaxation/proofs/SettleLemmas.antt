@@ -1,8 +1,10 @@
 -- Sweeps by turns: each that changes something raises one more parent above the register that
 -- changed last.
-use Rattle.std.proofs.Common.{◌≡◌, ◌<◌, ◌≤◌, ◌+◌, ◌*◌, ◌^◌, ◌∙◌, ℕ, List, length, All, Option, Some, None, ◌⊎◌, inl, inr, subst, refl, arith}
+use Rattle.std.proofs.Common.{◌≡◌, ◌<◌, ◌≤◌, ◌+◌, ◌*◌, ◌^◌, ◌∙◌, ℕ, ℤ, List, length, replicate, All, true, false, Option, Some, None, ◌⊎◌, inl, inr, sym, subst, refl, arith}
 use Rattle.std.specs.Bool.{⊤}
+use Rattle.std.specs.Prelude.{is_some}
 use Rattle.std.proofs.lemmas.Bool.{cases_lt}
+use Rattle.std.proofs.lemmas.List.{length-replicate}
 use Rattle.cts_model.specs.declared.constraint.Constraint.{Constraint}
 use Rattle.cts_model.specs.placement.Points.{IsBelow}
 use Rattle.cts_model.specs.timing.Constraints.{AreSmallConstraints}
@@ -10,126 +12,162 @@ use Rattle.relaxation.specs.declared.gains.Gains.{Gains}
 use Rattle.relaxation.specs.declared.relaxation.Relaxation.{Relaxation}
 use Rattle.relaxation.specs.Gains.{AdmitsGains, SatisfiesGains}
 use Rattle.relaxation.specs.Parents.{ReachesUp, parent_of, value_of}
-use Rattle.relaxation.specs.Relaxing.{HasEntries, IsFarUp}
+use Rattle.relaxation.specs.Relaxing.{IsFarUp}
 use Rattle.relaxation.specs.Rises.{AreRaised}
 use Rattle.relaxation.specs.Sweeps.{IsReady, IsSwept, IsSweep}
 use Rattle.relaxation.proofs.Climbs.{none_far_up}
+use Rattle.relaxation.proofs.PrepareLemmas.{no_parents}
 use Rattle.relaxation.proofs.RiseLemmas.{AreRaised-none, AreRaised-more, small_raised}
-use Rattle.relaxation.proofs.StepLemmas.{entries_kept}
 use Rattle.relaxation.proofs.SweepLemmas.{IsReady-first, IsReady-next, SatisfiesGains-swept, parents_above}
 
--- after so many sweeps, which are fewer than the registers
+-- what isn't some answer is none
+pub is_none : (answer : Option ℕ) → is_some answer ≡ false → answer ≡ None
+is_none None none = refl
+is_none (Some register) none = cc
+
+-- after so many sweeps, which are fewer than the registers, with parents that are kept or not
 pub record IsSettling (constraints : List Constraint) (gains : Gains) (sweeps : ℕ)
-    (begun now : Relaxation) : Type 0 where
-  pub parents : length now.parents.items ≡ length begun.parents.items
-  pub few : sweeps < length begun.values.items
-  pub ready : IsReady constraints gains (sweeps + 1) now
-  pub raised : AreRaised constraints gains (sweeps * 2097152) begun.values.items now.values.items
+    (begun now : List ℤ) (parents : List ℕ) : Type 0 where
+  pub long : length parents ≡ length begun
+  pub few : sweeps < length begun
+  pub ready : IsReady constraints gains (sweeps + 1) now parents
+  pub raised : AreRaised constraints gains (sweeps * 2097152) begun now
 
 -- before the first sweep
-pub IsSettling-none : (constraints : List Constraint) (gains : Gains) (relaxation : Relaxation)
-    → HasEntries constraints relaxation
-    → ((register : ℕ) → parent_of constraints relaxation.parents.items register ≡ None)
-    → IsSettling constraints gains 0 relaxation relaxation
-IsSettling-none constraints gains relaxation entries none = record {
-  parents = refl;
-  few = omega (arith, entries.small.some);
-  ready = IsReady-first constraints gains relaxation none;
-  raised = AreRaised-none relaxation.values.items;
+pub IsSettling-none : (constraints : List Constraint) (gains : Gains) (values : List ℤ)
+    (parents : List ℕ) → AreSmallConstraints (length values) constraints
+    → length parents ≡ length values
+    → ((register : ℕ) → parent_of constraints parents register ≡ None)
+    → IsSettling constraints gains 0 values values parents
+IsSettling-none constraints gains values parents smalls long none = record {
+  long = long;
+  few = omega (arith, smalls.some);
+  ready = IsReady-first constraints gains values parents none;
+  raised = AreRaised-none values;
 }
 
-module _ {constraints : List Constraint} {gains : Gains} {sweeps : ℕ} {begun now : Relaxation}
-    (entries : HasEntries constraints begun)
-    (settling : IsSettling constraints gains sweeps begun now) where
-  -- there is an entry for each register
-  pub entries_settling : HasEntries constraints now
-  entries_settling = entries_kept settling.raised.registers settling.parents entries
+-- and where none are kept
+pub IsSettling-unkept : (constraints : List Constraint) (gains : Gains) (values : List ℤ)
+    → AreSmallConstraints (length values) constraints
+    → IsSettling constraints gains 0 values values (replicate (length values) 4294967295)
+IsSettling-unkept constraints gains values smalls =
+    IsSettling-none constraints gains values (replicate (length values) 4294967295) smalls
+    (length-replicate {A = ℕ} (length values) 4294967295)
+    (λ register. no_parents (length values) constraints register smalls.few)
+
+module _ {constraints : List Constraint} {gains : Gains} {sweeps : ℕ} {begun now : List ℤ}
+    {parents : List ℕ} (smalls : AreSmallConstraints (length begun) constraints)
+    (settling : IsSettling constraints gains sweeps begun now parents) where
+  -- the constraints are between these registers
+  pub smalls_settling : AreSmallConstraints (length now) constraints
+  smalls_settling =
+      subst (λ n. AreSmallConstraints n constraints) (sym settling.raised.registers) smalls
+
+  -- there is a parent for each of them
+  pub long_settling : length parents ≡ length now
+  long_settling = settling.long ∙ sym settling.raised.registers
 
   -- the values are small
-  pub small_settling : All (IsBelow (2 ^ 93)) begun.values.items
-      → All (IsBelow (2 ^ 114)) now.values.items
+  pub small_settling : All (IsBelow (2 ^ 93)) begun → All (IsBelow (2 ^ 114)) now
   small_settling = small_raised (2 ^ 93) (2 ^ 114)
-      (omega (arith, settling.few, entries.small.not_many)) settling.raised
+      (omega (arith, settling.few, smalls.not_many)) settling.raised
 
-  module _ (later : Relaxation) (answer : Option ℕ)
-      (swept : IsSweep constraints gains now answer later) where
-    -- after one more sweep the values are raised so often
-    pub raised_later : AreRaised constraints gains ((sweeps + 1) * 2097152) begun.values.items
-        later.values.items
-    raised_later = AreRaised-more (omega (arith, entries.small.few)) settling.raised swept.raised
+  -- after one more sweep the values are raised so often
+  pub raised_later : {later : List ℤ} → AreRaised constraints gains (length constraints) now later
+      → AreRaised constraints gains ((sweeps + 1) * 2097152) begun later
+  raised_later raised = AreRaised-more (omega (arith, smalls.few)) settling.raised raised
 
-    -- where nothing changed, the values satisfy the constraints
-    pub satisfied_later : answer ≡ None
-        → SatisfiesGains constraints gains 1 (value_of later.values.items)
-    satisfied_later none = SatisfiesGains-swept constraints gains (sweeps + 1) later
-        (subst (λ o. IsSwept constraints gains (sweeps + 1) o later) none
-        (swept.swept (sweeps + 1) settling.ready))
-
-    module _ (changed : ℕ) (some : answer ≡ Some changed) where
-      -- what the sweep left
-      swept_now : IsSwept constraints gains (sweeps + 1) (Some changed) later
-      swept_now = subst (λ o. IsSwept constraints gains (sweeps + 1) o later) some
-          (swept.swept (sweeps + 1) settling.ready)
-
-      -- the register that changed is one of them
-      pub changed_within : changed < length later.values.items
-      changed_within = swept_now.changes.0
-
-      -- where so many parents are above it, the climb stands far up
-      pub far_up : (register : ℕ) → register < length later.values.items
-          → ReachesUp constraints later.parents.items changed register
-          → IsFarUp constraints gains later register
-      far_up register within reaches = record {
-        are_parents = swept_now.are_parents;
-        within = within;
-        ends = record {
+  module _ {later : List ℤ} {next : List ℕ} {changed : ℕ} (long : length next ≡ length parents)
+      (swept : IsSwept constraints gains (sweeps + 1) (Some changed) later next) where
+    -- where some values satisfy the constraints, no climb makes so many steps
+    pub none_admitted : AdmitsGains constraints gains → (to : ℕ)
+        → ReachesUp constraints next changed to → ⊥
+    none_admitted admitted to reaches =
+        let as_many : length begun ≡ length next = omega (arith, long, settling.long) in
+        none_far_up constraints gains later next to
+        (subst (λ n. AreSmallConstraints n constraints) as_many smalls) swept.are_parents (record {
           from = changed;
           above = reaches.0;
           long = reaches.1;
           climbs = reaches.2;
-        };
-      }
+        }) admitted
 
-      -- which can't be where some values satisfy the constraints
-      pub none_admitted : (register : ℕ) → register < length later.values.items
-          → ReachesUp constraints later.parents.items changed register
-          → AdmitsGains constraints gains → ⊥
-      none_admitted register within reaches =
-          let far = far_up register within reaches in
-          let long : length begun.values.items ≡ length later.parents.items =
-          omega (arith, swept.parents, settling.parents, entries.parents) in
-          none_far_up constraints gains later.values.items later.parents.items register
-          (subst (λ n. AreSmallConstraints n constraints) long entries.small)
-          far.are_parents far.ends
+    -- and where none does, there are fewer sweeps still than registers
+    fewer : ((to : ℕ) → ReachesUp constraints next changed to → ⊥) → sweeps + 1 < length begun
+    fewer stops = by_count (cases_lt (sweeps + 1) (length begun))
+      where
+        -- with as many sweeps as registers there would be such a climb
+        by_count : (sweeps + 1 < length begun) ⊎ (length begun ≤ sweeps + 1)
+            → sweeps + 1 < length begun
+        by_count (inl below) = below
+        by_count (inr reached) =
+            let found = parents_above constraints gains (sweeps + 1) (λ place. ⊤) (Some changed)
+            later next swept (length next) changed
+            (omega (arith, swept.changes.1, long, settling.long)) in
+            absurd (stops found.0 (found.1, found.2, found.3))
 
-      -- else there are fewer sweeps still than registers
-      fewer : ((to : ℕ) → ReachesUp constraints later.parents.items changed to → ⊥)
-          → sweeps + 1 < length begun.values.items
-      fewer stops = by_count (cases_lt (sweeps + 1) (length begun.values.items))
-        where
-          -- with as many sweeps as registers there would be such a climb
-          by_count : (sweeps + 1 < length begun.values.items)
-              ⊎ (length begun.values.items ≤ sweeps + 1)
-              → sweeps + 1 < length begun.values.items
-          by_count (inl below) = below
-          by_count (inr reached) =
-              let found = parents_above constraints gains (sweeps + 1) (λ place. ⊤) (Some changed)
-              later.values.items later.parents.items swept_now (length later.parents.items)
-              changed (omega (
-                arith,
-                swept_now.changes.1,
-                swept.parents,
-                settling.parents,
-                entries.parents,
-              )) in
-              absurd (stops found.0 (found.1, found.2, found.3))
+    -- so sweeps go on
+    pub IsSettling-more : AreRaised constraints gains (length constraints) now later
+        → ((to : ℕ) → ReachesUp constraints next changed to → ⊥)
+        → IsSettling constraints gains (sweeps + 1) begun later next
+    IsSettling-more raised stops = record {
+      long = long ∙ settling.long;
+      few = fewer stops;
+      ready = IsReady-next constraints gains (sweeps + 1) changed later next swept;
+      raised = raised_later raised;
+    }
 
-      -- and sweeps go on
-      pub IsSettling-more : ((to : ℕ) → ReachesUp constraints later.parents.items changed to → ⊥)
-          → IsSettling constraints gains (sweeps + 1) begun later
-      IsSettling-more stops = record {
-        parents = swept.parents ∙ settling.parents;
-        few = fewer stops;
-        ready = IsReady-next constraints gains (sweeps + 1) changed later swept_now;
-        raised = raised_later;
-      }
+module _ {constraints : List Constraint} {gains : Gains} {sweep : ℕ} {old new : Relaxation}
+    {answer : Option ℕ} (swept : IsSweep constraints gains old answer new) where
+  -- a sweep that changed nothing leaves values that satisfy the constraints
+  pub satisfied_swept : (parents : List ℕ) → length parents ≡ length old.values.items
+      → IsReady constraints gains sweep old.values.items parents → answer ≡ None
+      → SatisfiesGains constraints gains 1 (value_of new.values.items)
+  satisfied_swept parents long ready none =
+      let left = swept.swept sweep parents long ready in
+      SatisfiesGains-swept constraints gains sweep new.values.items left.later
+      (subst (λ o. IsSwept constraints gains sweep o new.values.items left.later) none
+      left.sweeping)
+
+  module _ (changed : ℕ) (some : answer ≡ Some changed)
+      (long : length old.parents.items ≡ length old.values.items)
+      (ready : IsReady constraints gains sweep old.values.items old.parents.items) where
+    -- one that changed a register leaves the parents that are kept
+    pub swept_own
+        : IsSwept constraints gains sweep (Some changed) new.values.items new.parents.items
+    swept_own =
+        let left = swept.swept sweep old.parents.items long ready in
+        subst (λ o. IsSwept constraints gains sweep o new.values.items new.parents.items) some
+        (subst (λ (parents : List ℕ). IsSwept constraints gains sweep answer new.values.items
+        parents) (left.kept refl) left.sweeping)
+
+    -- where so many of them are above it, the climb stands far up
+    pub far_up : (register : ℕ) → register < length new.values.items
+        → ReachesUp constraints new.parents.items changed register
+        → IsFarUp constraints gains new register
+    far_up register within reaches = record {
+      are_parents = swept_own.are_parents;
+      within = within;
+      ends = record {
+        from = changed;
+        above = reaches.0;
+        long = reaches.1;
+        climbs = reaches.2;
+      };
+    }
+
+-- where some values satisfy the constraints, sweeps go on while they change something
+pub IsSettling-admitted : {constraints : List Constraint} {gains : Gains} {sweeps : ℕ}
+    {begun : List ℤ} {now later : Relaxation} {parents : List ℕ}
+    (smalls : AreSmallConstraints (length begun) constraints) → AdmitsGains constraints gains
+    → (settling : IsSettling constraints gains sweeps begun now.values.items parents)
+    → (answer : Option ℕ) → is_some answer ≡ true → IsSweep constraints gains now answer later
+    → (next : List ℕ) × IsSettling constraints gains (sweeps + 1) begun later.values.items next
+IsSettling-admitted {sweeps = sweeps} {parents = parents} smalls admitted settling (Some changed)
+    some swept =
+    let left = swept.swept (sweeps + 1) parents (long_settling smalls settling) settling.ready in (
+      left.later,
+      IsSettling-more smalls settling left.long left.sweeping swept.raised
+          (none_admitted smalls settling left.long left.sweeping admitted),
+    )
+IsSettling-admitted smalls admitted settling None some swept = cc

@@ -1,5 +1,5 @@
 -- How far a sweep has come: what one constraint after the other makes of all values.
-use Rattle.std.proofs.Common.{◌≡◌, ◌<◌, ◌≤◌, ◌+◌, ◌^◌, ◌∙◌, ℕ, ℤ, List, length, get_or, set, All, Option, Some, None, MatchOption, IfSome, ◌⊎◌, sym, subst, ap, arith}
+use Rattle.std.proofs.Common.{◌≡◌, ◌<◌, ◌≤◌, ◌+◌, ◌^◌, ◌∙◌, ℕ, ℤ, List, length, get_or, set, All, Option, Some, None, MatchOption, IfSome, ◌⊎◌, sym, subst, ap, refl, arith}
 use Rattle.std.specs.List.{slice_get}
 use Rattle.std.specs.Bool.{⊤}
 use Rattle.std.specs.Option.{option_or}
@@ -10,9 +10,9 @@ use Rattle.cts_model.specs.timing.Constraints.{AreSmallConstraints, IsSmallConst
 use Rattle.cts_model.specs.placement.Points.{IsBelow}
 use Rattle.relaxation.specs.declared.gains.Gains.{Gains}
 use Rattle.relaxation.specs.declared.relaxation.Relaxation.{Relaxation}
-use Rattle.relaxation.specs.Relaxing.{HasEntries, offer_of, IsLeft, IsRaised, IsRelaxed}
+use Rattle.relaxation.specs.Relaxing.{HasEntries, IsLeft, IsRaised, IsRelaxed}
 use Rattle.relaxation.specs.Rises.{AreRaised}
-use Rattle.relaxation.specs.Sweeps.{IsSweeping, IsReady, IsSweep}
+use Rattle.relaxation.specs.Sweeps.{IsSweeping, IsReady, IsSweep, LeavesParents}
 use Rattle.relaxation.proofs.RelaxLemmas.{nowhere}
 use Rattle.relaxation.proofs.RiseLemmas.{AreRaised-none, AreRaised-one, AreRaised-more, small_raised}
 use Rattle.relaxation.proofs.ParentLemmas.{IsRaise, IsRaise-set}
@@ -24,30 +24,27 @@ IsLook gains place constraint old answer new =
     MatchOption answer (IsLeft gains constraint old new)
     (λ (register : ℕ). IsRaised gains place constraint old register new)
 
-module _ {constraints : List Constraint} (gains : Gains) (place : ℕ) {constraint : Constraint}
-    {old : Relaxation} (new : Relaxation)
-    (entries : HasEntries constraints old) (here : slice_get constraints place ≡ Some constraint)
-    (small : IsSmallConstraint (length old.values.items) constraint) where
-  -- the parents keep their length
-  pub parents_length : (answer : Option ℕ) → IsLook gains place constraint old answer new
-      → length new.parents.items ≡ length old.parents.items
-  parents_length None left = ap length left.parents
-  parents_length (Some register) raised =
-      ap length raised.parents ∙ length-set old.parents.items constraint.head place
+-- the parents keep their length
+pub parents_length : (gains : Gains) (place : ℕ) (constraint : Constraint) (old new : Relaxation)
+    (answer : Option ℕ) → IsLook gains place constraint old answer new
+    → length new.parents.items ≡ length old.parents.items
+parents_length gains place constraint old new None left = ap length left.parents
+parents_length gains place constraint old new (Some register) raised =
+    ap length raised.parents ∙ length-set old.parents.items constraint.head place
 
-  -- a register that is raised
+module _ {constraints : List Constraint} (gains : Gains) (place : ℕ) {constraint : Constraint}
+    (old new : Relaxation) (here : slice_get constraints place ≡ Some constraint)
+    (small : IsSmallConstraint (length old.values.items) constraint) where
+  -- a register that is raised, and what becomes of parents
   raise_of : (register : ℕ) → IsRaised gains place constraint old register new
-      → IsRaise constraints gains constraint old.values.items old.parents.items
-      new.values.items new.parents.items
-  raise_of register raised =
-      subst (λ (later : List ℤ). IsRaise constraints gains constraint old.values.items
-      old.parents.items later new.parents.items) (sym raised.values)
-      (subst (λ (later : List ℕ). IsRaise constraints gains constraint old.values.items
-      old.parents.items
-      (set old.values.items constraint.head (offer_of gains old.values.items constraint)) later)
-      (sym raised.parents)
-      (IsRaise-set constraints gains place constraint old.values.items old.parents.items here
-      small.head (omega (arith, small.head, entries.parents)) raised.more))
+      → (parents : List ℕ) → length parents ≡ length old.values.items
+      → IsRaise constraints gains constraint old.values.items parents new.values.items
+      (set parents constraint.head place)
+  raise_of register raised parents long =
+      subst (λ (later : List ℤ). IsRaise constraints gains constraint old.values.items parents later
+      (set parents constraint.head place)) (sym raised.values)
+      (IsRaise-set constraints gains place constraint old.values.items parents here
+      small.head (omega (arith, small.head, long)) raised.more)
 
   -- it is at most one raise
   raised_look : (answer : Option ℕ) → IsLook gains place constraint old answer new
@@ -63,28 +60,36 @@ module _ {constraints : List Constraint} (gains : Gains) (place : ℕ) {constrai
   pub sweeping_look : (answer : Option ℕ) → IsLook gains place constraint old answer new
       → (sweep : ℕ) (Seen Later : ℕ → Type 0) (changed : Option ℕ)
       → ((other : ℕ) → Later other → (Seen other) ⊎ (other ≡ place))
-      → IsSweeping constraints gains sweep Seen changed old.values.items old.parents.items
-      → IsSweeping constraints gains sweep Later (option_or answer changed)
-      new.values.items new.parents.items
-  sweeping_look None left sweep Seen Later changed seen before =
-      subst (λ (values : List ℤ). IsSweeping constraints gains sweep Later changed values
-      new.parents.items) (sym left.values)
-      (subst (λ (parents : List ℕ). IsSweeping constraints gains sweep Later changed
-      old.values.items parents) (sym left.parents)
-      (IsSweeping-left before place constraint here Later seen left.met))
-  sweeping_look (Some register) raised sweep Seen Later changed seen before =
-      subst (λ r. IsSweeping constraints gains sweep Later (Some r) new.values.items
-      new.parents.items) (sym raised.head)
-      (IsSweeping-raised before place constraint here Later seen
-      (raised_look (Some register) raised).registers small.head (raise_of register raised))
+      → (parents : List ℕ) → length parents ≡ length old.values.items
+      → IsSweeping constraints gains sweep Seen changed old.values.items parents
+      → LeavesParents constraints gains sweep Later (option_or answer changed) old new parents
+  sweeping_look None left sweep Seen Later changed seen parents long before = record {
+    later = parents;
+    long = refl;
+    kept = λ own. own ∙ sym left.parents;
+    sweeping = subst (λ (values : List ℤ). IsSweeping constraints gains sweep Later changed values
+        parents) (sym left.values)
+        (IsSweeping-left before place constraint here Later seen left.met);
+  }
+  sweeping_look (Some register) raised sweep Seen Later changed seen parents long before = record {
+    later = set parents constraint.head place;
+    long = length-set parents constraint.head place;
+    kept = λ own. ap (λ (it : List ℕ). set it constraint.head place) own ∙ sym raised.parents;
+    sweeping = subst (λ r. IsSweeping constraints gains sweep Later (Some r) new.values.items
+        (set parents constraint.head place)) (sym raised.head)
+        (IsSweeping-raised before place constraint here Later seen
+        (raised_look (Some register) raised).registers small.head
+        (raise_of register raised parents long));
+  }
 
 -- how far a sweep has come that has seen so many constraints
 pub record IsUnderWay (constraints : List Constraint) (gains : Gains) (Seen : ℕ → Type 0)
     (count : ℕ) (changed : Option ℕ) (begun now : Relaxation) : Type 0 where
   pub parents : length now.parents.items ≡ length begun.parents.items
   pub raised : AreRaised constraints gains count begun.values.items now.values.items
-  pub swept : (sweep : ℕ) → IsReady constraints gains sweep begun
-      → IsSweeping constraints gains sweep Seen changed now.values.items now.parents.items
+  pub swept : (sweep : ℕ) (parents : List ℕ) → length parents ≡ length begun.values.items
+      → IsReady constraints gains sweep begun.values.items parents
+      → LeavesParents constraints gains sweep Seen changed begun now parents
 
 -- there is an entry for each register still
 pub entries_kept : {constraints : List Constraint} {old new : Relaxation}
@@ -98,11 +103,11 @@ entries_kept {constraints} values parents entries = record {
 
 module _ {constraints : List Constraint} {gains : Gains} {Seen : ℕ → Type 0} {count : ℕ}
     {changed : Option ℕ} {begun now : Relaxation}
-    (entries : HasEntries constraints begun)
+    (smalls : AreSmallConstraints (length begun.values.items) constraints)
     (way : IsUnderWay constraints gains Seen count changed begun now) where
-  -- there is an entry for each register
-  entries_now : HasEntries constraints now
-  entries_now = entries_kept way.raised.registers way.parents entries
+  -- the constraints are between these registers
+  pub smalls_now : AreSmallConstraints (length now.values.items) constraints
+  smalls_now = subst (λ n. AreSmallConstraints n constraints) (sym way.raised.registers) smalls
 
   -- the values are small still
   pub small_now : count ≤ 2097152 → All (IsBelow (2 ^ 114)) begun.values.items
@@ -115,11 +120,11 @@ module _ {constraints : List Constraint} {gains : Gains} {Seen : ℕ → Type 0}
       → ((other : ℕ) → Later other → (Seen other) ⊎ (other ≡ place))
       → IsUnderWay constraints gains Later (count + 1) (option_or answer changed) begun later
   IsUnderWay-more place answer later Later within relaxed seen = record {
-    parents = parents_length gains place later entries_now here small answer look ∙ way.parents;
+    parents = parents_length gains place (get_or constraints place nowhere) now later answer look ∙ way.parents;
     raised = AreRaised-more (omega arith) way.raised
-        (raised_look gains place later entries_now here small answer look);
-    swept = λ sweep ready. sweeping_look gains place later entries_now here small answer look sweep
-        Seen Later changed seen (way.swept sweep ready);
+        (raised_look gains place now later here small answer look);
+    swept = λ sweep parents long ready. goes_on sweep parents (way.swept sweep parents long ready)
+        long;
   }
     where
       -- the constraint at the place
@@ -133,7 +138,23 @@ module _ {constraints : List Constraint} {gains : Gains} {Seen : ℕ → Type 0}
 
       -- it is small
       small : IsSmallConstraint (length now.values.items) (get_or constraints place nowhere)
-      small = entries_now.small.each place nowhere within
+      small = smalls_now.each place nowhere within
+
+      -- what becomes of parents
+      goes_on : (sweep : ℕ) (parents : List ℕ)
+          → LeavesParents constraints gains sweep Seen changed begun now parents
+          → length parents ≡ length begun.values.items
+          → LeavesParents constraints gains sweep Later (option_or answer changed) begun later
+          parents
+      goes_on sweep parents left long =
+          let next = sweeping_look gains place now later here small answer look sweep Seen Later
+          changed seen left.later (left.long ∙ long ∙ sym way.raised.registers) left.sweeping in
+          record {
+            later = next.later;
+            long = next.long ∙ left.long;
+            kept = λ own. next.kept (left.kept own);
+            sweeping = next.sweeping;
+          }
 
   -- after the last
   pub IsSweep-all : count ≡ length constraints → ((place : ℕ) → place < length constraints
@@ -142,20 +163,31 @@ module _ {constraints : List Constraint} {gains : Gains} {Seen : ℕ → Type 0}
     parents = way.parents;
     raised = subst (λ n. AreRaised constraints gains n begun.values.items now.values.items) whole
         way.raised;
-    swept = λ sweep ready. IsSweeping-fewer (way.swept sweep ready) (λ place. ⊤)
-        (λ place constraint seen here. all place
-        (slice_get_within constraints place constraint here));
+    swept = λ sweep parents long ready. all_seen sweep parents (way.swept sweep parents long ready);
   }
+    where
+      -- each place is seen
+      all_seen : (sweep : ℕ) (parents : List ℕ)
+          → LeavesParents constraints gains sweep Seen changed begun now parents
+          → LeavesParents constraints gains sweep (λ place. ⊤) changed begun now parents
+      all_seen sweep parents left = record {
+        later = left.later;
+        long = left.long;
+        kept = left.kept;
+        sweeping = IsSweeping-fewer left.sweeping (λ place. ⊤)
+            (λ place constraint seen here. all place
+            (slice_get_within constraints place constraint here));
+      }
 
 -- one constraint that is looked at raises at most once
 pub raised_by : {constraints : List Constraint} {gains : Gains} (place : ℕ) (answer : Option ℕ)
-    (old new : Relaxation) → HasEntries constraints old → place < length constraints
-    → IsRelaxed constraints gains place old answer new
+    (old new : Relaxation) → AreSmallConstraints (length old.values.items) constraints
+    → place < length constraints → IsRelaxed constraints gains place old answer new
     → AreRaised constraints gains 1 old.values.items new.values.items
     × (length new.parents.items ≡ length old.parents.items)
-raised_by {constraints} {gains} place answer old new entries within relaxed = (
-  raised_look gains place new entries here small answer look,
-  parents_length gains place new entries here small answer look,
+raised_by {constraints} {gains} place answer old new smalls within relaxed = (
+  raised_look gains place old new here small answer look,
+  parents_length gains place (get_or constraints place nowhere) old new answer look,
 )
   where
     here : slice_get constraints place ≡ Some (get_or constraints place nowhere)
@@ -166,4 +198,4 @@ raised_by {constraints} {gains} place answer old new entries within relaxed = (
         here relaxed
 
     small : IsSmallConstraint (length old.values.items) (get_or constraints place nowhere)
-    small = entries.small.each place nowhere within
+    small = smalls.each place nowhere within

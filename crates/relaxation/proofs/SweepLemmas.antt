@@ -6,7 +6,6 @@ use Rattle.std.proofs.lemmas.Option.{same_Some, slice_get-get_or}
 use Rattle.std.proofs.lemmas.Int.{ints, by_lt_z}
 use Rattle.cts_model.specs.declared.constraint.Constraint.{Constraint}
 use Rattle.relaxation.specs.declared.gains.Gains.{Gains}
-use Rattle.relaxation.specs.declared.relaxation.Relaxation.{Relaxation}
 use Rattle.relaxation.specs.Gains.{SatisfiesGains, gain_of}
 use Rattle.relaxation.specs.Parents.{parent_of, Climbs, value_of}
 use Rattle.relaxation.specs.Relaxing.{offer_of, GivesMore}
@@ -187,12 +186,11 @@ module _ {constraints : List Constraint} {gains : Gains} {sweep : ℕ} {Seen : �
       }
 
 -- before the first sweep, where there are no parents
-pub IsReady-first : (constraints : List Constraint) (gains : Gains) (relaxation : Relaxation)
-    → ((register : ℕ) → parent_of constraints relaxation.parents.items register ≡ None)
-    → IsReady constraints gains 1 relaxation
-IsReady-first constraints gains relaxation none = record {
-  are_parents = AreParents-none constraints gains
-      relaxation.values.items relaxation.parents.items none;
+pub IsReady-first : (constraints : List Constraint) (gains : Gains) (values : List ℤ)
+    (parents : List ℕ) → ((register : ℕ) → parent_of constraints parents register ≡ None)
+    → IsReady constraints gains 1 values parents
+IsReady-first constraints gains values parents none = record {
+  are_parents = AreParents-none constraints gains values parents none;
   last = λ register. 0;
   latest = λ register. omega arith;
   changes = λ register. omega arith;
@@ -203,9 +201,10 @@ IsReady-first constraints gains relaxation none = record {
 
 -- before the next sweep
 pub IsReady-next : (constraints : List Constraint) (gains : Gains) (sweep register : ℕ)
-    (relaxation : Relaxation) → IsSwept constraints gains sweep (Some register) relaxation
-    → IsReady constraints gains (sweep + 1) relaxation
-IsReady-next constraints gains sweep register relaxation swept = record {
+    (values : List ℤ) (parents : List ℕ)
+    → IsSwept constraints gains sweep (Some register) values parents
+    → IsReady constraints gains (sweep + 1) values parents
+IsReady-next constraints gains sweep register values parents swept = record {
   are_parents = swept.are_parents;
   last = swept.last;
   latest = λ other. omega (arith, swept.latest other);
@@ -216,19 +215,16 @@ IsReady-next constraints gains sweep register relaxation swept = record {
 }
 
 -- a sweep in which nothing changed leaves no constraint that gives more
-met_all : (constraints : List Constraint) (gains : Gains) (sweep : ℕ) (relaxation : Relaxation)
-    → IsSwept constraints gains sweep None relaxation → (place : ℕ) (constraint : Constraint)
-    → slice_get constraints place ≡ Some constraint
-    → offer_of gains relaxation.values.items constraint ≤ℤ value_of relaxation.values.items
-    constraint.head
-met_all constraints gains sweep relaxation swept place constraint here =
-    by_lt_z (value_of relaxation.values.items constraint.head)
-    (offer_of gains relaxation.values.items constraint)
+met_all : (constraints : List Constraint) (gains : Gains) (sweep : ℕ) (values : List ℤ)
+    (parents : List ℕ) → IsSwept constraints gains sweep None values parents → (place : ℕ)
+    (constraint : Constraint) → slice_get constraints place ≡ Some constraint
+    → offer_of gains values constraint ≤ℤ value_of values constraint.head
+met_all constraints gains sweep values parents swept place constraint here =
+    by_lt_z (value_of values constraint.head) (offer_of gains values constraint)
     (λ more. absurd (omega (
       arith,
       swept.seen place constraint tt here more,
-      swept.changes
-          constraint.tail,
+      swept.changes constraint.tail,
     )))
     (λ met. met)
 
@@ -238,13 +234,12 @@ met_once from gain to met = omega (arith, ints)
 
 -- so the values satisfy all of them
 pub SatisfiesGains-swept : (constraints : List Constraint) (gains : Gains) (sweep : ℕ)
-    (relaxation : Relaxation) → IsSwept constraints gains sweep None relaxation
-    → SatisfiesGains constraints gains 1 (value_of relaxation.values.items)
-SatisfiesGains-swept constraints gains sweep relaxation swept place default within =
+    (values : List ℤ) (parents : List ℕ) → IsSwept constraints gains sweep None values parents
+    → SatisfiesGains constraints gains 1 (value_of values)
+SatisfiesGains-swept constraints gains sweep values parents swept place default within =
     let it : Constraint = get_or constraints place default in
-    met_once (value_of relaxation.values.items it.tail) (gain_of gains it)
-    (value_of relaxation.values.items it.head)
-    (met_all constraints gains sweep relaxation swept place it
+    met_once (value_of values it.tail) (gain_of gains it) (value_of values it.head)
+    (met_all constraints gains sweep values parents swept place it
     (slice_get-get_or constraints place default within))
 
 -- above a register that changed in a sweep are as many parents as there were sweeps

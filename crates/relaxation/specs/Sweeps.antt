@@ -30,20 +30,31 @@ pub record IsSweeping (constraints : List Constraint) (gains : Gains) (sweep : �
       × (last register ≤ last parent.tail + 1)
 
 -- before a sweep
-abbrev pub IsReady : List Constraint → Gains → ℕ → Relaxation → Type 0
-IsReady constraints gains sweep relaxation = IsSweeping constraints gains sweep (λ place. ⊥) None
-    relaxation.values.items relaxation.parents.items
+abbrev pub IsReady : List Constraint → Gains → ℕ → (values : List ℤ) (parents : List ℕ) → Type 0
+IsReady constraints gains sweep values parents =
+    IsSweeping constraints gains sweep (λ place. ⊥) None values parents
 
 -- after it
-abbrev pub IsSwept : List Constraint → Gains → ℕ → Option ℕ → Relaxation → Type 0
-IsSwept constraints gains sweep changed relaxation =
-    IsSweeping constraints gains sweep (λ place. ⊤) changed
-    relaxation.values.items relaxation.parents.items
+abbrev pub IsSwept : List Constraint → Gains → ℕ → Option ℕ → (values : List ℤ)
+    (parents : List ℕ) → Type 0
+IsSwept constraints gains sweep changed values parents =
+    IsSweeping constraints gains sweep (λ place. ⊤) changed values parents
+
+-- what becomes of parents, which a relaxation may keep or not, within a sweep: those that it keeps
+-- become those that it keeps then
+pub record LeavesParents (constraints : List Constraint) (gains : Gains) (sweep : ℕ)
+    (Seen : ℕ → Type 0) (changed : Option ℕ) (old new : Relaxation) (parents : List ℕ) : Type 0
+  where
+    pub later : List ℕ
+    pub long : length later ≡ length parents
+    pub kept : parents ≡ old.parents.items → later ≡ new.parents.items
+    pub sweeping : IsSweeping constraints gains sweep Seen changed new.values.items later
 
 -- what a sweep leaves: the values are raised at most once a constraint
 pub record IsSweep (constraints : List Constraint) (gains : Gains) (old : Relaxation)
     (changed : Option ℕ) (new : Relaxation) : Type 0 where
   pub parents : length new.parents.items ≡ length old.parents.items
   pub raised : AreRaised constraints gains (length constraints) old.values.items new.values.items
-  pub swept : (sweep : ℕ) → IsReady constraints gains sweep old
-      → IsSwept constraints gains sweep changed new
+  pub swept : (sweep : ℕ) (parents : List ℕ) → length parents ≡ length old.values.items
+      → IsReady constraints gains sweep old.values.items parents
+      → LeavesParents constraints gains sweep (λ place. ⊤) changed old new parents

@@ -6,6 +6,7 @@ mod follow;
 mod gains;
 mod policy;
 mod relaxation;
+mod satisfy;
 
 pub use gains::Gains;
 pub use relaxation::Relaxation;

@@ -1,9 +1,12 @@
-ghost use Rattle.std.specs.Prelude.{◌≡◌, ◌<◌, ◌≤◌, ◌^◌, ℕ, None, List, All, IfSome, MatchOption, length};
+ghost use Rattle.std.specs.Prelude.{◌≡◌, ◌<◌, ◌≤◌, ◌^◌, ℕ, pos, None, List, [], All, IfOk, IfSome, MatchOption, length, replicate, slice_set};
 ghost use Rattle.cts_model.specs.declared.constraint.Constraint.{Constraint};
 ghost use Rattle.cts_model.specs.placement.Points.{IsBelow};
+ghost use Rattle.cts_model.specs.timing.Constraints.{AreSmallConstraints};
 
 use crate::gains::Gains;
+use cts_base::NoMemory;
 use cts_model::Constraint;
+use std::alloc::Global;
 
 /// The parent of a register without one. No list of constraints has a place with this number.
 const NO_PARENT: u32 = u32::MAX;
@@ -16,7 +19,7 @@ pub struct Relaxation {
     /// A value for each register, in ticks over the scale of the gains.
     pub values: Vec<i128>,
     /// For each register the place of the constraint that raised it last, or a number that is no
-    /// place.
+    /// place. The list is empty where no parents are kept.
     pub parents: Vec<u32>,
 }
 
@@ -26,6 +29,41 @@ impl Relaxation {
     ghost use Rattle.relaxation.specs.Relaxing.{HasEntries, IsFarUp, IsRelaxed};
     ghost use Rattle.relaxation.specs.Rises.{AreRaised};
     ghost use Rattle.relaxation.specs.Sweeps.{IsSweep};
+
+    /// Values of 0 for so many registers, none of which has a parent.
+    ///
+    /// # Errors
+    ///
+    /// There is no memory for the lists, 20 bytes for each register.
+    pub fn new(alloc: Global, registers: usize) -> Result<Relaxation, NoMemory>
+        ensures values { IfOk result (λ relaxation.
+            relaxation.values.items ≡ replicate registers (pos 0)) }
+        ensures parents { IfOk result (λ relaxation. length relaxation.parents.items ≡ registers) }
+    {
+        let values = vec![in alloc; 0i128; registers]?;
+        let parents = vec![in alloc; 0u32; registers]?;
+        Ok(Relaxation::from_zero(values, parents))
+    }
+
+    /// Values of 0 that keep no parents, in a list that may hold any. It takes no memory.
+    pub fn without_parents(values: Vec<i128>) -> Relaxation
+        ensures values { result.values.items ≡ replicate (length values.items) (pos 0) }
+        ensures parents { result.parents.items ≡ [] }
+    {
+        let parents = Vec::new(*values.allocator());
+        Relaxation::from_zero(values, parents)
+    }
+
+    /// Values of 0 and no parents, in lists that may hold any. It takes no memory.
+    pub fn from_zero(values: Vec<i128>, parents: Vec<u32>) -> Relaxation
+        ensures values { result.values.items ≡ replicate (length values.items) (pos 0) }
+        ensures parents { length result.parents.items ≡ length parents.items }
+    {
+        let mut relaxation = Relaxation { values, parents };
+        relaxation.values.fill(0);
+        relaxation.forget_parents();
+        relaxation
+    }
 
     /// Forgets all parents. It takes no memory.
     pub fn forget_parents(&mut self)
@@ -112,9 +150,10 @@ impl Relaxation {
     }
 
     /// One sweep, forwards where the number of sweeps before it is even. The register that changed
-    /// last is answered.
+    /// last is answered. It takes no memory.
     pub fn sweep(&mut self, constraints: &[Constraint], gains: Gains, before: usize) -> Option<u32>
-        requires entries { HasEntries constraints.now self.old }
+        requires constraints { AreSmallConstraints (length self.old.values.items)
+            constraints.now }
         requires small { All (IsBelow (2 ^ 114)) self.old.values.items }
         ensures { IsSweep constraints.now gains self.old result self.new }
     {
@@ -127,7 +166,8 @@ impl Relaxation {
 
     // From the first constraint to the last.
     fn sweep_forwards(&mut self, constraints: &[Constraint], gains: Gains) -> Option<u32>
-        requires entries { HasEntries constraints.now self.old }
+        requires constraints { AreSmallConstraints (length self.old.values.items)
+            constraints.now }
         requires small { All (IsBelow (2 ^ 114)) self.old.values.items }
         ensures { IsSweep constraints.now gains self.old result self.new }
     {
@@ -140,7 +180,8 @@ impl Relaxation {
 
     // From the last constraint to the first.
     fn sweep_backwards(&mut self, constraints: &[Constraint], gains: Gains) -> Option<u32>
-        requires entries { HasEntries constraints.now self.old }
+        requires constraints { AreSmallConstraints (length self.old.values.items)
+            constraints.now }
         requires small { All (IsBelow (2 ^ 114)) self.old.values.items }
         ensures { IsSweep constraints.now gains self.old result self.new }
     {
@@ -161,7 +202,8 @@ impl Relaxation {
         place: usize,
         gains: Gains,
     ) -> Option<u32>
-        requires entries { HasEntries constraints.now self.old }
+        requires constraints { AreSmallConstraints (length self.old.values.items)
+            constraints.now }
         requires place { place < length constraints.now }
         requires small { All (IsBelow (2 ^ 115)) self.old.values.items }
         ensures { IsRelaxed constraints.now gains place self.old result self.new }
@@ -173,8 +215,18 @@ impl Relaxation {
             return None;
         }
         self.values[head as usize] = offer;
-        self.parents[head as usize] = place as u32;
+        self.keep_parent(head, place as u32);
         Some(head)
+    }
+
+    // Gives a register a parent, where parents are kept.
+    fn keep_parent(&mut self, register: u32, place: u32)
+        ensures values { self.new.values.items ≡ self.old.values.items }
+        ensures parents { self.new.parents.items ≡ slice_set self.old.parents.items register place }
+    {
+        if let Some(parent) = self.parents.get_mut(register as usize) {
+            *parent = place;
+        }
     }
 }
 

@@ -1,4 +1,4 @@
-ghost use Rattle.std.specs.Prelude.{◌≡◌, ◌↔◌, IfOk, length};
+ghost use Rattle.std.specs.Prelude.{◌↔◌, IfOk};
 ghost use Rattle.cts_model.specs.timing.Constraints.{AreSmallConstraints};
 ghost use Rattle.safety_margin.specs.Answers.{HasSmallSparing, IsMarginOf, IsUnbounded};
 ghost use Rattle.safety_margin.specs.Margins.{HasNoCycle};
@@ -6,10 +6,9 @@ ghost use Rattle.cts_model.specs.timing.Schedules.{IsMarginPeriod};
 
 use crate::ratio::{below_all, margin_at, measure_at};
 use crate::sparing::sparing_schedule;
-use critical_cycle::{Ratio, Room, greatest_ratio_in};
+use critical_cycle::{Ratio, greatest_ratio};
 use cts_base::{Fraction, Listed, NoMemory};
 use cts_model::{Constraint, Schedule};
-use schedule::Room as ArrivalRoom;
 use std::alloc::Global;
 
 /// What every setup and hold constraint has to spare at a period.
@@ -31,8 +30,11 @@ pub enum Margin {
 }
 
 /// The greatest margin at a period in ticks that some arrivals spare, the cycle that shows it, and
-/// the least schedule that spares it. It takes room for the search and for the arrivals, 52 bytes
-/// for each register. Fishburn, "Clock Skew Optimization", 1990.
+/// the least schedule that spares it. Fishburn, "Clock Skew Optimization", 1990.
+///
+/// # Errors
+///
+/// There is no memory for the lists, at most 28 bytes for each register.
 pub fn greatest_margin(
     alloc: Global,
     registers: usize,
@@ -45,40 +47,21 @@ pub fn greatest_margin(
     ensures unbounded { IfOk result (λ margin. IsUnbounded margin ↔ HasNoCycle constraints.now) }
     ensures small { IfOk result HasSmallSparing }
 {
-    let room = Room::new(alloc, registers)?;
-    let arrivals = ArrivalRoom::new(alloc, registers)?;
-    Ok(margin_in(room, arrivals, constraints, period))
-}
-
-// The same in room for the search and for the arrivals.
-fn margin_in(
-    room: Room,
-    arrivals: ArrivalRoom,
-    constraints: &Listed<Constraint>,
-    period: Fraction,
-) -> Margin
-    requires small { AreSmallConstraints (length arrivals.at) constraints.now }
-    requires room { length room.values ≡ length arrivals.at }
-    requires period { IsMarginPeriod period }
-    ensures margin { IsMarginOf (length arrivals.at) constraints.now period result }
-    ensures unbounded { IsUnbounded result ↔ HasNoCycle constraints.now }
-    ensures small { HasSmallSparing result }
-{
     let measure = measure_at(period);
-    match greatest_ratio_in(room, constraints, measure, below_all(period)) {
+    match greatest_ratio(alloc, registers, constraints, measure, below_all(period))? {
         Ratio::Cycle {
             value: ratio,
             cycle,
         } => {
             let value = margin_at(period, ratio);
-            let schedule = sparing_schedule(arrivals, constraints, period, value);
-            Margin::Found {
+            let schedule = sparing_schedule(alloc, registers, constraints, period, value)?;
+            Ok(Margin::Found {
                 value,
                 cycle,
                 schedule,
-            }
+            })
         }
-        Ratio::First => Margin::Unbounded,
+        Ratio::First => Ok(Margin::Unbounded),
         Ratio::Never { .. } => unreachable!(),
     }
 }

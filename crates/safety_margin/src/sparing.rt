@@ -1,4 +1,4 @@
-ghost use Rattle.std.specs.Prelude.{◌≡◌, ◌^◌, ◌*ℤ◌, length};
+ghost use Rattle.std.specs.Prelude.{◌≡◌, ◌^◌, ◌*ℤ◌, IfOk};
 ghost use Rattle.cts_model.specs.timing.Constraints.{AreSmallConstraints};
 ghost use Rattle.cts_model.specs.placement.Points.{IsBelow};
 ghost use Rattle.safety_margin.specs.Margins.{Spares};
@@ -6,32 +6,38 @@ ghost use Rattle.cts_model.specs.timing.Schedules.{IsMarginPeriod};
 ghost use Rattle.safety_margin.specs.Sharing.{AreGainsAt, CanSpare, IsShare, IsSmallMargin};
 ghost use Rattle.safety_margin.specs.SparingSchedules.{IsSmallSparing, IsSparingSchedule};
 
-use cts_base::{Fraction, Listed};
+use cts_base::{Fraction, Listed, NoMemory};
 use cts_model::{Constraint, Schedule};
 use relaxation::Gains;
-use schedule::{Room, least_arrivals_in};
+use schedule::least_arrivals;
+use std::alloc::Global;
 
-/// The least schedule that spares a margin at a period. A list of the room becomes the schedule's,
-/// and no other memory is taken.
+/// The least schedule that spares a margin at a period.
+///
+/// # Errors
+///
+/// There is no memory for the lists, 24 bytes for each register.
 pub(crate) fn sparing_schedule(
-    room: Room,
+    alloc: Global,
+    registers: usize,
     constraints: &Listed<Constraint>,
     period: Fraction,
     value: Fraction,
-) -> Schedule
-    requires small { AreSmallConstraints (length room.at) constraints.now }
+) -> Result<Schedule, NoMemory>
+    requires small { AreSmallConstraints registers constraints.now }
     requires period { IsMarginPeriod period }
     requires value { IsSmallMargin value }
     requires spared { CanSpare constraints.now period value }
-    ensures sparing { IsSparingSchedule (length room.at) (Spares constraints.now) period value
-        result }
-    ensures small { IsSmallSparing result }
+    ensures sparing { IfOk result (IsSparingSchedule registers (Spares constraints.now) period
+        value) }
+    ensures small { IfOk result IsSmallSparing }
 {
     let gains = gains_at(period, value, share_of(period, value));
-    Schedule {
+    let at = least_arrivals(alloc, registers, constraints, gains)?;
+    Ok(Schedule {
         den: gains.scale,
-        at: least_arrivals_in(room, constraints, gains),
-    }
+        at,
+    })
 }
 
 // The denominator of a period over that of a value, in lowest terms: its parts are what the other

@@ -1,18 +1,19 @@
 -- Arrivals that satisfy constraints at a period do so by its gains, and the least are the same.
-use Rattle.std.proofs.Common.{◌≡◌, ◌*◌, ◌∙◌, ℕ, ℤ, pos, ◌+ℤ◌, ◌-ℤ◌, ◌*ℤ◌, ◌≤ℤ◌, Bool, true, false, cond, List, get_or, refl, sym, subst, ap, arith}
+use Rattle.std.proofs.Common.{◌≡◌, ◌*◌, ◌^◌, ◌∙◌, ℕ, ℤ, pos, ◌+ℤ◌, ◌-ℤ◌, ◌*ℤ◌, ◌≤ℤ◌, Bool, true, false, cond, List, All, length, get_or, refl, sym, subst, ap, arith}
 use Rattle.std.specs.Prelude.{nat_abs}
 use Rattle.std.proofs.lemmas.Int.{ints}
 use Rattle.std.proofs.Math.IntN.{*ℤ_comm}
 use Rattle.cts_base.specs.declared.fraction.Fraction.{Fraction}
 use Rattle.cts_model.specs.declared.constraint.Constraint.{Constraint}
-use Rattle.cts_model.specs.timing.Constraints.{Satisfies}
+use Rattle.cts_model.specs.placement.Points.{IsBelow}
+use Rattle.cts_model.specs.timing.Constraints.{AreSmallConstraints, Satisfies}
 use Rattle.cts_model.proofs.ScaleLemmas.{scale-finer, scale-sub}
 use Rattle.relaxation.specs.declared.gains.Gains.{Gains}
 use Rattle.relaxation.specs.Gains.{AdmitsGains, SatisfiesGains, gain_of}
 use Rattle.schedule.specs.Gains.{AreGainsOf, AreLeastArrivalsBy}
-use Rattle.schedule.specs.Schedules.{IsAdmittedBy, IsLeastScheduleOf}
-use Rattle.cts_model.specs.timing.Schedules.{arrival_of}
-use Rattle.schedule.proofs.BoundLemmas.{once_is, size_same}
+use Rattle.schedule.specs.Schedules.{AreWithinWeights, IsAdmittedBy, IsLeastScheduleOf}
+use Rattle.cts_model.specs.timing.Schedules.{IsSmallPeriod, arrival_of}
+use Rattle.schedule.proofs.BoundLemmas.{AreWithinWeights-least, once_is, size_same, small_within}
 
 -- what is due counts the period once for a setup constraint, and else never
 due_of : (setup : Bool) (num : ℤ) → cond setup num (pos 0) ≡ num *ℤ pos (cond setup 1 0)
@@ -96,3 +97,20 @@ module _ {period : Fraction} {gains : Gains} (are : AreGainsOf period gains)
     least = λ times other some others satisfied. least.least times other some others
         (by_gains times other satisfied);
   }
+
+  -- and they are within the weights
+  pub bound_at_period : (at : List ℤ) → AreSmallConstraints (length at) constraints
+      → IsSmallPeriod period → IsAdmittedBy constraints period
+      → AreLeastArrivalsBy constraints gains at
+      → AreWithinWeights constraints (nat_abs period.den) at
+  bound_at_period at small range admitted least =
+      AreWithinWeights-least constraints period gains at are range
+      (record { small = small; admitted = admits_gains admitted }) least.least
+
+  -- so they are small
+  pub small_at_period : (at : List ℤ) → AreSmallConstraints (length at) constraints
+      → IsSmallPeriod period → IsAdmittedBy constraints period
+      → AreLeastArrivalsBy constraints gains at → All (IsBelow (10 ^ 19)) at
+  small_at_period at small range admitted least =
+      small_within constraints period at (10 ^ 19) (omega arith) small range least.from_zero
+      (bound_at_period at small range admitted least)

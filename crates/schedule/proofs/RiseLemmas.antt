@@ -1,21 +1,18 @@
 -- Arrivals that rise: raises keep them from 0 on and no later than any that satisfy the
 -- constraints, so where they come to satisfy them they are the least that do.
-use Rattle.std.proofs.Common.{◌≡◌, ◌≤◌, ◌^◌, ℕ, ℤ, pos, ◌≤ℤ◌, List, length, All, Option, None, subst, sym, arith}
-use Rattle.std.specs.Prelude.{MatchOption}
+use Rattle.std.proofs.Common.{◌≡◌, ◌<◌, ◌≤◌, ◌^◌, ℕ, ℤ, pos, ◌*ℤ◌, ◌≤ℤ◌, List, length, replicate, All, subst, sym, arith}
+use Rattle.std.proofs.lemmas.List.{get_or-replicate, length-replicate}
 use Rattle.std.proofs.lemmas.Int.{ints}
 use Rattle.cts_model.specs.declared.constraint.Constraint.{Constraint}
 use Rattle.cts_model.specs.placement.Points.{IsBelow}
-use Rattle.cts_model.specs.timing.Schedules.{AreFromZero}
+use Rattle.cts_model.specs.timing.Schedules.{AreFromZero, arrival_of}
 use Rattle.relaxation.specs.declared.gains.Gains.{Gains}
-use Rattle.relaxation.specs.declared.relaxation.Relaxation.{Relaxation}
 use Rattle.relaxation.specs.Gains.{SatisfiesGains}
 use Rattle.relaxation.specs.Parents.{value_of}
-use Rattle.relaxation.specs.Relaxing.{HasEntries, IsFarUp}
 use Rattle.relaxation.specs.Rises.{AreBetween, AreRaised}
 use Rattle.schedule.specs.Gains.{AreLeastArrivalsBy}
 use Rattle.schedule.specs.Rises.{CanRaise, IsRising}
 use Rattle.schedule.specs.Schedules.{CanSchedule}
-use Rattle.relaxation.proofs.RiseLemmas.{AreRaised-none}
 use Rattle.schedule.proofs.BoundLemmas.{small_rising}
 
 -- a greater bound does too
@@ -26,17 +23,39 @@ wider bound more values enough small place default within =
     record { above = omega (arith, ints, it.above); below = omega (arith, ints, it.below) }
 
 -- arrivals that can be raised are small
-pub small_ready : {constraints : List Constraint} {gains : Gains} (relaxation : Relaxation)
-    (bound : ℕ) → 2 ^ 93 ≤ bound → CanRaise constraints gains relaxation
-    → All (IsBelow bound) relaxation.values.items
-small_ready {constraints} {gains} relaxation bound enough ready =
-    wider (2 ^ 93) bound relaxation.values.items enough
-    (small_rising constraints gains relaxation.values.items ready.can ready.rising)
+pub small_ready : {constraints : List Constraint} {gains : Gains} (at : List ℤ) (bound : ℕ)
+    → 2 ^ 93 ≤ bound → CanRaise constraints gains at → All (IsBelow bound) at
+small_ready {constraints} {gains} at bound enough ready =
+    wider (2 ^ 93) bound at enough (small_rising constraints gains at ready.can ready.rising)
 
--- and there is an entry for each register
-pub entries_ready : {constraints : List Constraint} {gains : Gains} {relaxation : Relaxation}
-    → CanRaise constraints gains relaxation → HasEntries constraints relaxation
-entries_ready ready = record { small = ready.can.small; parents = ready.parents }
+-- what is 0 is no later than what is from 0 on
+zero_first : (times : ℕ) (other : ℤ) → pos 0 ≤ℤ other → (pos times *ℤ pos 0) ≤ℤ other
+zero_first times other from = omega (arith, ints)
+
+-- arrivals of 0 can be raised
+pub CanRaise-zero : {constraints : List Constraint} {gains : Gains} (registers : ℕ)
+    → CanSchedule constraints gains registers
+    → CanRaise constraints gains (replicate registers (pos 0))
+CanRaise-zero {constraints} {gains} registers can = record {
+  can = subst (CanSchedule constraints gains) (sym long) can;
+  rising = record {
+    from_zero = λ register within.
+        subst (λ z. pos 0 ≤ℤ z) (sym (zero_at register within)) (omega (arith, ints));
+    least = λ times other some others satisfied register within.
+        subst (λ z. (pos times *ℤ z) ≤ℤ other register) (sym (zero_at register within))
+        (zero_first times (other register) (others register within));
+  };
+}
+  where
+    -- there are so many
+    long : length (replicate registers (pos 0)) ≡ registers
+    long = length-replicate registers (pos 0)
+
+    -- each is 0
+    zero_at : (register : ℕ) → register < length (replicate registers (pos 0))
+        → arrival_of (replicate registers (pos 0)) register ≡ pos 0
+    zero_at register within =
+        get_or-replicate registers register (pos 0) (pos 0) (omega (arith, long))
 
 module _ {constraints : List Constraint} {gains : Gains} {raises : ℕ} {old new : List ℤ}
     (can : CanSchedule constraints gains (length old)) (rising : IsRising constraints gains old)
@@ -68,37 +87,18 @@ module _ {constraints : List Constraint} {gains : Gains} {raises : ℕ} {old new
 
 -- what is raised can be raised on
 pub CanRaise-raised : {constraints : List Constraint} {gains : Gains} {raises : ℕ}
-    (old new : Relaxation) → length new.parents.items ≡ length old.parents.items
-    → AreRaised constraints gains raises old.values.items new.values.items
+    {old new : List ℤ} → AreRaised constraints gains raises old new
     → CanRaise constraints gains old → CanRaise constraints gains new
-CanRaise-raised old new parents raised ready = record {
+CanRaise-raised raised ready = record {
   can = can_raised ready.can ready.rising raised;
-  parents = omega (arith, parents, raised.registers, ready.parents);
   rising = IsRising-raised ready.can ready.rising raised;
 }
 
--- and so can the same arrivals with other parents
-pub CanRaise-same : {constraints : List Constraint} {gains : Gains} (old new : Relaxation)
-    → new.values.items ≡ old.values.items → length new.parents.items ≡ length old.parents.items
-    → CanRaise constraints gains old → CanRaise constraints gains new
-CanRaise-same {constraints} {gains} old new same parents ready =
-    CanRaise-raised old new parents
-    (subst (AreRaised constraints gains 0 old.values.items) (sym same)
-    (AreRaised-none old.values.items)) ready
-
--- where they settle they are the least
+-- where they come to satisfy the constraints they are the least
 pub least_settled : {constraints : List Constraint} {gains : Gains} {raises : ℕ}
-    (old new : Relaxation) (answer : Option ℕ) → answer ≡ None
-    → MatchOption answer (SatisfiesGains constraints gains 1 (value_of new.values.items))
-    (IsFarUp constraints gains new)
-    → AreRaised constraints gains raises old.values.items new.values.items
-    → CanRaise constraints gains old → AreLeastArrivalsBy constraints gains new.values.items
-least_settled {constraints} {gains} old new answer none settled raised ready =
+    {old new : List ℤ} → SatisfiesGains constraints gains 1 (value_of new)
+    → AreRaised constraints gains raises old new → CanRaise constraints gains old
+    → AreLeastArrivalsBy constraints gains new
+least_settled satisfied raised ready =
     let rising = IsRising-raised ready.can ready.rising raised in
-    record {
-      satisfies = subst (λ (o : Option ℕ). MatchOption o
-          (SatisfiesGains constraints gains 1 (value_of new.values.items))
-          (IsFarUp constraints gains new)) none settled;
-      from_zero = rising.from_zero;
-      least = rising.least;
-    }
+    record { satisfies = satisfied; from_zero = rising.from_zero; least = rising.least }

@@ -1,4 +1,3 @@
-pub mod Rooms
 pub mod Gains
 pub mod Schedules
 pub mod Rises

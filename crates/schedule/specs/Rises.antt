@@ -1,9 +1,8 @@
 -- Arrivals that are raised in place until constraints hold.
-use Rattle.std.specs.Prelude.{◌≡◌, ℤ, List, length}
+use Rattle.std.specs.Prelude.{ℤ, List, length}
 use Rattle.cts_model.specs.declared.constraint.Constraint.{Constraint}
 use Rattle.cts_model.specs.timing.Schedules.{arrival_of, AreFromZero}
 use Rattle.relaxation.specs.declared.gains.Gains.{Gains}
-use Rattle.relaxation.specs.declared.relaxation.Relaxation.{Relaxation}
 use Rattle.schedule.specs.Gains.{AreLeastBy}
 use Rattle.schedule.specs.Schedules.{CanSchedule}
 
@@ -12,9 +11,7 @@ pub record IsRising (constraints : List Constraint) (gains : Gains) (at : List �
   pub from_zero : AreFromZero (length at) (arrival_of at)
   pub least : AreLeastBy constraints gains at
 
--- arrivals with an entry for each register that rise to what the constraints admit
-pub record CanRaise (constraints : List Constraint) (gains : Gains)
-    (relaxation : Relaxation) : Type 0 where
-  pub can : CanSchedule constraints gains (length relaxation.values.items)
-  pub parents : length relaxation.parents.items ≡ length relaxation.values.items
-  pub rising : IsRising constraints gains relaxation.values.items
+-- arrivals that rise to what the constraints admit
+pub record CanRaise (constraints : List Constraint) (gains : Gains) (at : List ℤ) : Type 0 where
+  pub can : CanSchedule constraints gains (length at)
+  pub rising : IsRising constraints gains at

@@ -3,60 +3,47 @@ ghost use Rattle.cts_model.specs.timing.Constraints.{AreSmallConstraints};
 ghost use Rattle.cts_model.specs.placement.Points.{IsBelow};
 ghost use Rattle.relaxation.specs.Gains.{AdmitsGains};
 ghost use Rattle.schedule.specs.Gains.{AreLeastArrivalsBy};
+ghost use Rattle.schedule.specs.Rises.{CanRaise};
 ghost use Rattle.schedule.specs.Schedules.{AreWithinWeights, IsAdmittedBy, IsLeastScheduleOf};
 ghost use Rattle.cts_model.specs.timing.Schedules.{IsSmallPeriod};
 
 use crate::gains::gains_of;
 use crate::raising::raise_in_turns;
-use crate::room::Room;
 use cts_base::{Fraction, Listed, NoMemory};
 use cts_model::{Constraint, Schedule};
 use relaxation::{Gains, Relaxation};
 use std::alloc::Global;
 
-/// The least arrivals from 0 on that satisfy the constraints by their gains. A list of the room
-/// becomes the arrivals, and no other memory is taken. It sweeps over the constraints until a sweep
-/// changes nothing.
-pub fn least_arrivals_in(room: Room, constraints: &Listed<Constraint>, gains: Gains) -> Listed<i128>
-    requires small { AreSmallConstraints (length room.at) constraints.now }
-    requires admitted { AdmitsGains constraints.now gains }
-    ensures registers { length result ≡ length room.at }
-    ensures least { AreLeastArrivalsBy constraints.now gains result }
-    ensures small { All (IsBelow (2 ^ 93)) result }
-{
-    let list = constraints.as_slice();
-    let mut links = room.links.into_vec();
-    let mut relaxation = Relaxation {
-        values: room.at.into_vec(),
-        parents: room.parents.into_vec(),
-    };
-    relaxation.values.fill(0);
-    raise_in_turns(&mut relaxation, list, gains, &mut links);
-    relaxation.forget_parents();
-    relaxation.settle(list, gains);
-    Listed::from_vec(relaxation.values)
-}
-
-/// The least arrivals that satisfy the constraints at a period in ticks. A list of the room becomes
-/// the schedule's, and no other memory is taken. It sweeps over the constraints until a sweep
-/// changes nothing.
-pub fn least_schedule_in(room: Room, constraints: &Listed<Constraint>, period: Fraction) -> Schedule
-    requires small { AreSmallConstraints (length room.at) constraints.now }
+/// The least arrivals that satisfy the constraints at a period in ticks. The list has an entry for
+/// each register, which may be any, and becomes the schedule's. It sweeps over the constraints
+/// until a sweep changes nothing, and takes no memory.
+pub fn least_schedule_in(
+    at: Listed<i128>,
+    constraints: &Listed<Constraint>,
+    period: Fraction,
+) -> Schedule
+    requires small { AreSmallConstraints (length at) constraints.now }
     requires period { IsSmallPeriod period }
     requires admitted { IsAdmittedBy constraints.now period }
     ensures den { result.den ≡ period.den }
-    ensures registers { length result.at ≡ length room.at }
+    ensures registers { length result.at ≡ length at }
     ensures least { IsLeastScheduleOf constraints.now period.num (nat_abs period.den) result.at }
     ensures bound { AreWithinWeights constraints.now (nat_abs period.den) result.at }
     ensures small { All (IsBelow (10 ^ 19)) result.at }
 {
+    let relaxation = Relaxation::without_parents(at.into_vec());
+    let at = settled(relaxation, constraints.as_slice(), gains_of(period));
     Schedule {
         den: period.den(),
-        at: least_arrivals_in(room, constraints, gains_of(period)),
+        at,
     }
 }
 
-/// The same in room of its own.
+/// The same in lists of its own, raised along parents before the sweeps.
+///
+/// # Errors
+///
+/// There is no memory for the lists, 24 bytes for each register.
 pub fn least_schedule(
     alloc: Global,
     registers: usize,
@@ -74,6 +61,45 @@ pub fn least_schedule(
         schedule.at) }
     ensures small { IfOk result (λ schedule. All (IsBelow (10 ^ 19)) schedule.at) }
 {
-    let room = Room::new(alloc, registers)?;
-    Ok(least_schedule_in(room, constraints, period))
+    let at = least_arrivals(alloc, registers, constraints, gains_of(period))?;
+    Ok(Schedule {
+        den: period.den(),
+        at,
+    })
+}
+
+/// The least arrivals from 0 on that satisfy the constraints by their gains.
+///
+/// # Errors
+///
+/// There is no memory for the lists, 24 bytes for each register.
+pub fn least_arrivals(
+    alloc: Global,
+    registers: usize,
+    constraints: &Listed<Constraint>,
+    gains: Gains,
+) -> Result<Listed<i128>, NoMemory>
+    requires small { AreSmallConstraints registers constraints.now }
+    requires admitted { AdmitsGains constraints.now gains }
+    ensures registers { IfOk result (λ at. length at ≡ registers) }
+    ensures least { IfOk result (AreLeastArrivalsBy constraints.now gains) }
+    ensures small { IfOk result (All (IsBelow (2 ^ 93))) }
+{
+    let list = constraints.as_slice();
+    let mut relaxation = Relaxation::new(alloc, registers)?;
+    let mut links = vec![in alloc; 0u32; registers]?;
+    raise_in_turns(&mut relaxation, list, gains, &mut links);
+    Ok(settled(relaxation, list, gains))
+}
+
+// The arrivals once sweeps have raised them until the constraints are satisfied.
+fn settled(relaxation: Relaxation, constraints: &[Constraint], gains: Gains) -> Listed<i128>
+    requires { CanRaise constraints.now gains relaxation.values.items }
+    ensures registers { length result ≡ length relaxation.values.items }
+    ensures least { AreLeastArrivalsBy constraints.now gains result }
+    ensures small { All (IsBelow (2 ^ 93)) result }
+{
+    let mut relaxation = relaxation;
+    relaxation.satisfy(constraints, gains);
+    Listed::from_vec(relaxation.values)
 }

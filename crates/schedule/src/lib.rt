@@ -5,10 +5,8 @@ mod gains;
 mod least;
 mod raising;
 mod reach;
-mod room;
 mod tails;
 mod tight;
 
-pub use least::{least_arrivals_in, least_schedule, least_schedule_in};
-pub use room::Room;
+pub use least::{least_arrivals, least_schedule, least_schedule_in};
 pub use tight::leads;

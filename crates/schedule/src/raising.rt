@@ -14,12 +14,12 @@ pub(crate) fn raise_in_turns(
     gains: Gains,
     links: &mut [u32],
 )
-    requires ready { CanRaise constraints.now gains relaxation.old }
+    requires ready { CanRaise constraints.now gains relaxation.old.values.items }
+    requires parents { length relaxation.old.parents.items ≡ length relaxation.old.values.items }
     requires links { length links.old ≡ length relaxation.old.parents.items }
-    ensures ready { CanRaise constraints.now gains relaxation.new }
+    ensures ready { CanRaise constraints.now gains relaxation.new.values.items }
     ensures registers { length relaxation.new.values.items ≡ length relaxation.old.values.items }
 {
-    relaxation.forget_parents();
     relaxation.choose_parents(constraints, gains);
     for round in 0..relaxation.values.len() {
         relaxation.follow_parents(constraints, gains, links);

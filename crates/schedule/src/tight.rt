@@ -16,6 +16,10 @@ use std::alloc::Global;
 /// memory for each register and a number for each constraint, and looks at each constraint twice:
 /// to link it with those of its tail, and when its tail is taken. Registers are taken in the order
 /// in which they are reached, those at 0 first.
+///
+/// # Errors
+///
+/// There is no memory for the leads.
 pub fn leads(
     alloc: Global,
     registers: usize,

@@ -1,15 +1,17 @@
--- The room has a mark for each register.
-use Rattle.std.proofs.Common.{ap, arith, length}
+-- The values are as many as before.
+use Rattle.std.proofs.Common.{◌≡◌, ◌∙◌, ap, subst, sym, pos, length}
+use Rattle.std.proofs.lemmas.List.{length-replicate}
+use Rattle.cts_model.specs.timing.Constraints.{AreSmallConstraints}
 use Rattle.critical_cycle.proofs.ratio.greatest_ratio_in.Goals as goal
 
-pub iterate-requires-clause-marks : goal.iterate-requires-clause-marks
-iterate-requires-clause-marks c = omega (
-  arith,
-  ap length c.deref_mut.ensures.value,
-  ap length c.into_vec-marks.ensures,
-  c.args.room.valid.marks_len,
-  c.args.room.valid.parents_len,
-  ap length c.into_vec-2.ensures,
-  c.at_first-search.ensures.registers,
-  c.look_at_short_cycles.ensures.same.registers,
-)
+pub look_at_short_cycles-requires : goal.look_at_short_cycles-requires
+look_at_short_cycles-requires c =
+    let values = c.from_zero-relaxation.result.values.items in
+    let long : length values ≡ length c.args.values = ap length c.from_zero-relaxation.ensures.values
+    ∙ length-replicate (length c.into_vec.result.items) (pos 0) ∙ ap length c.into_vec.ensures in
+    record {
+      search = c.at_first-search.ensures.search c.as_slice-list.result.now
+          (subst (λ n. AreSmallConstraints n c.as_slice-list.result.now) (sym long)
+          (subst (AreSmallConstraints (length c.args.values)) (sym c.as_slice-list.ensures)
+          c.requires.small));
+    }

@@ -8,8 +8,8 @@ use Rattle.safety_margin.proofs.CodeLemmas.{kept}
 use Rattle.safety_margin.proofs.SharingLemmas.{admits, least_sparing, multiple, period_over, scale_is, value_over}
 use Rattle.safety_margin.proofs.sparing.sparing_schedule.Goals as goal
 
-pub least_arrivals_in-requires-clause-admitted : goal.least_arrivals_in-requires-clause-admitted
-least_arrivals_in-requires-clause-admitted c =
+pub least_arrivals-requires-clause-admitted : goal.least_arrivals-requires-clause-admitted
+least_arrivals-requires-clause-admitted c =
     admits c.share_of.ensures c.gains_at-gains.ensures c.args.constraints.now c.requires.spared
 
 -- the code's scale is the scale
@@ -27,15 +27,15 @@ returns-clause-sparing c =
     let number : ℤ = c.args.period.num *ℤ pos (nat_abs c.share_of.result.den) in
     let margin : ℤ = c.args.value.num *ℤ pos (nat_abs c.share_of.result.num) in
     rw kept_is (record {
-      registers_are = c.least_arrivals_in.ensures.registers;
+      registers_are = c.in_ok-at.ensures.registers;
       den = multiple share are;
       number = number;
       number_is = subst (λ n. IsOver c.args.period n number) (sym size) (period_over share are);
       margin = margin;
       margin_is = subst (λ n. IsOver c.args.value n margin) (sym size) (value_over share are);
       least = subst (λ n. AreLeastSparing (Spares c.args.constraints.now) n number margin
-          c.least_arrivals_in.result) (sym size) (least_sparing share are c.args.constraints.now
-          c.least_arrivals_in.result c.least_arrivals_in.ensures.least);
+          c.in_ok-at.at) (sym size) (least_sparing share are c.args.constraints.now
+          c.in_ok-at.at c.in_ok-at.ensures.least);
     })
 
 pub returns-clause-small : goal.returns-clause-small
@@ -44,5 +44,5 @@ returns-clause-small c =
     rw (scale_read gains.scale gains.valid.some gains.valid.fine) (record {
       some_den = gains.valid.some;
       low_den = gains.valid.fine;
-      arrivals = c.least_arrivals_in.ensures.small;
+      arrivals = c.in_ok-at.ensures.small;
     })

@@ -1,36 +1,40 @@
--- The gains at the period give the least schedule, whose arrivals are low and small.
-use Rattle.std.proofs.Common.{◌^◌, subst, sym, arith}
+-- The gains at the period are admitted, and give the least schedule, whose arrivals are low and small.
+use Rattle.std.proofs.Common.{◌∙◌, ap, length, pos, subst, sym}
+use Rattle.std.proofs.lemmas.List.{length-replicate}
 use Rattle.cts_model.specs.timing.Constraints.{AreSmallConstraints}
-use Rattle.schedule.specs.Schedules.{CanSchedule}
-use Rattle.schedule.proofs.BoundLemmas.{AreWithinWeights-least, small_within}
-use Rattle.schedule.proofs.PeriodLemmas.{admits_gains, least_at_period}
+use Rattle.schedule.proofs.PeriodLemmas.{admits_gains, bound_at_period, least_at_period, small_at_period}
+use Rattle.schedule.proofs.RiseLemmas.{CanRaise-zero}
 use Rattle.schedule.proofs.least.least_schedule_in.Goals as goal
 
-pub least_arrivals_in-requires-clause-admitted : goal.least_arrivals_in-requires-clause-admitted
-least_arrivals_in-requires-clause-admitted c =
-    admits_gains c.gains_of.ensures c.args.constraints.now c.requires.admitted
-
-pub returns-clause-least : goal.returns-clause-least
-returns-clause-least c =
-    least_at_period c.gains_of.ensures c.args.constraints.now c.least_arrivals_in.result
-    c.least_arrivals_in.ensures.least
-
-pub returns-clause-bound : goal.returns-clause-bound
-returns-clause-bound c =
+pub settled-at-requires : goal.settled-at-requires
+settled-at-requires c =
     let constraints = c.args.constraints.now in
-    AreWithinWeights-least constraints c.args.period c.gains_of.result c.least_arrivals_in.result
-    c.gains_of.ensures c.requires.period
-    (subst (CanSchedule constraints c.gains_of.result) (sym c.least_arrivals_in.ensures.registers)
-    (record {
+    rw (c.as_slice.ensures, c.without_parents-relaxation.ensures.values, c.into_vec.ensures)
+    (CanRaise-zero (length c.args.at) (record {
       small = c.requires.small;
       admitted = admits_gains c.gains_of.ensures constraints c.requires.admitted;
     }))
-    c.least_arrivals_in.ensures.least.least
+
+pub returns-clause-least : goal.returns-clause-least
+returns-clause-least c =
+    least_at_period c.gains_of.ensures c.args.constraints.now c.settled-at.result
+    (rw c.as_slice.ensures at c.settled-at.ensures.least)
+
+pub returns-clause-registers : goal.returns-clause-registers
+returns-clause-registers c = c.settled-at.ensures.registers
+    ∙ (ap length c.without_parents-relaxation.ensures.values
+    ∙ (length-replicate (length c.into_vec.result.items) (pos 0) ∙ ap length c.into_vec.ensures))
+
+pub returns-clause-bound : goal.returns-clause-bound
+returns-clause-bound c =
+    bound_at_period c.gains_of.ensures c.args.constraints.now c.settled-at.result
+    (subst (λ n. AreSmallConstraints n c.args.constraints.now) (sym (returns-clause-registers c))
+    c.requires.small) c.requires.period c.requires.admitted
+    (rw c.as_slice.ensures at c.settled-at.ensures.least)
 
 pub returns-clause-small : goal.returns-clause-small
 returns-clause-small c =
-    let constraints = c.args.constraints.now in
-    small_within constraints c.args.period c.least_arrivals_in.result (10 ^ 19) (omega arith)
-    (subst (λ n. AreSmallConstraints n constraints) (sym c.least_arrivals_in.ensures.registers)
-    c.requires.small) c.requires.period c.least_arrivals_in.ensures.least.from_zero
-    (returns-clause-bound c)
+    small_at_period c.gains_of.ensures c.args.constraints.now c.settled-at.result
+    (subst (λ n. AreSmallConstraints n c.args.constraints.now) (sym (returns-clause-registers c))
+    c.requires.small) c.requires.period c.requires.admitted
+    (rw c.as_slice.ensures at c.settled-at.ensures.least)

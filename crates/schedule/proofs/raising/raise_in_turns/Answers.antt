@@ -1,45 +1,49 @@
 -- Each raise leaves arrivals that can be raised on.
 use Rattle.std.proofs.Common.{◌∙◌, arith}
-use Rattle.schedule.proofs.RiseLemmas.{CanRaise-raised, entries_ready, small_ready}
+use Rattle.schedule.proofs.RiseLemmas.{CanRaise-raised, small_ready}
 use Rattle.schedule.proofs.raising.raise_in_turns.Goals as goal
 
 pub follow_parents-requires-clause-entries : goal.follow_parents-requires-clause-entries
-follow_parents-requires-clause-entries c = entries_ready c.loop-round.invariant.0
+follow_parents-requires-clause-entries c = record {
+  small = c.loop-round.invariant.0.can.small;
+  parents = c.loop-round.invariant.1;
+}
 
 pub follow_parents-requires-clause-small : goal.follow_parents-requires-clause-small
 follow_parents-requires-clause-small c =
-    small_ready c.loop-round.relaxation _ (omega arith) c.loop-round.invariant.0
+    small_ready c.loop-round.relaxation.values.items _ (omega arith) c.loop-round.invariant.0
 
-pub sweep-requires-clause-entries : goal.sweep-requires-clause-entries
-sweep-requires-clause-entries c = entries_ready
-    (CanRaise-raised c.loop-round.relaxation c.follow_parents.new.self
-    c.follow_parents.ensures.parents c.follow_parents.ensures.raised c.loop-round.invariant.0)
+pub sweep-requires-clause-constraints : goal.sweep-requires-clause-constraints
+sweep-requires-clause-constraints c =
+    (CanRaise-raised c.follow_parents.ensures.raised c.loop-round.invariant.0).can.small
 
 pub sweep-requires-clause-small : goal.sweep-requires-clause-small
-sweep-requires-clause-small c = small_ready c.follow_parents.new.self _ (omega arith)
-    (CanRaise-raised c.loop-round.relaxation c.follow_parents.new.self
-    c.follow_parents.ensures.parents c.follow_parents.ensures.raised c.loop-round.invariant.0)
+sweep-requires-clause-small c = small_ready c.follow_parents.new.self.values.items _ (omega arith)
+    (CanRaise-raised c.follow_parents.ensures.raised c.loop-round.invariant.0)
 
 pub returns-then-is_none-clause-ready : goal.returns-then-is_none-clause-ready
-returns-then-is_none-clause-ready c =
-    CanRaise-raised c.follow_parents.new.self c.sweep.new.self c.sweep.ensures.parents
-    c.sweep.ensures.raised
-    (CanRaise-raised c.loop-round.relaxation c.follow_parents.new.self
-    c.follow_parents.ensures.parents c.follow_parents.ensures.raised c.loop-round.invariant.0)
+returns-then-is_none-clause-ready c = CanRaise-raised c.sweep.ensures.raised
+    (CanRaise-raised c.follow_parents.ensures.raised c.loop-round.invariant.0)
 
 pub loop-round-preserved : goal.loop-round-preserved
 loop-round-preserved c = (
-  CanRaise-raised c.follow_parents.new.self c.sweep.new.self c.sweep.ensures.parents
-      c.sweep.ensures.raised
-      (CanRaise-raised c.loop-round.relaxation c.follow_parents.new.self
-      c.follow_parents.ensures.parents c.follow_parents.ensures.raised c.loop-round.invariant.0),
+  CanRaise-raised c.sweep.ensures.raised
+      (CanRaise-raised c.follow_parents.ensures.raised c.loop-round.invariant.0),
+  omega (
+    arith,
+    c.sweep.ensures.parents,
+    c.follow_parents.ensures.parents,
+    c.loop-round.invariant.1,
+    c.sweep.ensures.raised.registers,
+    c.follow_parents.ensures.raised.registers,
+  ),
   c.sweep.ensures.raised.registers ∙ c.follow_parents.ensures.raised.registers
-      ∙ c.loop-round.invariant.1,
+      ∙ c.loop-round.invariant.2,
   omega (
     arith,
     c.follow_parents.ensures.links,
     c.follow_parents.ensures.parents,
     c.sweep.ensures.parents,
-    c.loop-round.invariant.2,
+    c.loop-round.invariant.3,
   ),
 )

@@ -1,5 +1,5 @@
 -- The code's numbers are small, so they are what the definitions say.
-use Rattle.std.proofs.Common.{◌^◌, get_or, refl, sym, subst, ap, arith}
+use Rattle.std.proofs.Common.{◌^◌, get_or, ◌∙◌, refl, sym, subst, ap, arith}
 use Rattle.std.proofs.Math.ListN.{set}
 use Rattle.std.proofs.lemmas.Option.{slice_get-get_or}
 use Rattle.cts_model.specs.declared.constraint.Constraint.{Constraint}
@@ -9,7 +9,7 @@ use Rattle.relaxation.proofs.relaxation.Relaxation.relax.Goals as goal
 
 pub overflow_add-offer : goal.overflow_add-offer
 overflow_add-offer c =
-    let within = (c.requires.entries.small.each c.args.place nowhere c.requires.place).tail in
+    let within = (c.requires.constraints.each c.args.place nowhere c.requires.place).tail in
     let tail = (get_or c.args.constraints.now c.args.place nowhere).tail in
     let small = c.requires.small tail c.index.result.now within in
     sum_fits c.index.result.now c.gain.result
@@ -19,7 +19,7 @@ pub returns-then-offer-index : goal.returns-then-offer-index
 returns-then-offer-index c =
     let constraints = c.args.constraints.now in
     let read = IsRead-at constraints c.args.gains c.args.place c.args.self.now.values.items
-    c.index.result.now c.gain.result c.index-2.result.now c.requires.entries.small c.requires.place
+    c.index.result.now c.gain.result c.index-2.result.now c.requires.constraints c.requires.place
     c.requires.small c.index.ensures c.gain.ensures.gain c.gain.ensures.small
     c.index-2.ensures in
     relaxed_left constraints c.args.gains c.args.place (get_or constraints c.args.place nowhere)
@@ -34,7 +34,7 @@ pub index_mut-requires : goal.index_mut-requires
 index_mut-requires c =
     omega (
       arith,
-      (c.requires.entries.small.each c.args.place nowhere c.requires.place).head,
+      (c.requires.constraints.each c.args.place nowhere c.requires.place).head,
       c.args.self.now.values.ok.0,
     )
 
@@ -43,14 +43,15 @@ returns c =
     let constraints = c.args.constraints.now in
     let constraint : Constraint = get_or constraints c.args.place nowhere in
     let read = IsRead-at constraints c.args.gains c.args.place c.args.self.now.values.items
-    c.index.result.now c.gain.result c.index-2.result.now c.requires.entries.small c.requires.place
+    c.index.result.now c.gain.result c.index-2.result.now c.requires.constraints c.requires.place
     c.requires.small c.index.ensures c.gain.ensures.gain c.gain.ensures.small
     c.index-2.ensures in
-    relaxed_raised constraints c.args.gains c.args.place constraint c.args.self.now _
-    constraint.head (slice_get-get_or constraints c.args.place nowhere c.requires.place)
+    relaxed_raised constraints c.args.gains c.args.place constraint c.args.self.now
+    c.keep_parent.new.self constraint.head (slice_get-get_or constraints c.args.place nowhere c.requires.place)
     (record {
       head = refl;
       more = more_read read c.if-offer-index.false;
-      values = ap (set c.args.self.now.values.items constraint.head) (offer_read read);
-      parents = refl;
+      values = c.keep_parent.ensures.values
+          ∙ ap (set c.args.self.now.values.items constraint.head) (offer_read read);
+      parents = c.keep_parent.ensures.parents;
     })

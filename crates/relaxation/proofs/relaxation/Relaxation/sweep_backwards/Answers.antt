@@ -13,8 +13,8 @@ this_or_after place other above = elim (cases_lt other place) [
 
 pub relax-requires-clause-small : goal.relax-requires-clause-small
 relax-requires-clause-small c =
-    small_now c.requires.entries c.loop-place.invariant.1
-    (omega (arith, c.requires.entries.small.few)) c.requires.small
+    small_now c.requires.constraints c.loop-place.invariant.1
+    (omega (arith, c.requires.constraints.few)) c.requires.small
 
 pub loop-place-preserved : goal.loop-place-preserved
 loop-place-preserved c =
@@ -28,12 +28,12 @@ loop-place-preserved c =
           (subst (λ changed. IsUnderWay constraints c.args.gains (λ other. place - 1 ≤ other)
           ((length constraints - place) + 1) changed c.args.self.now c.relax.new.self)
           (sym c.or-changed.ensures)
-          (IsUnderWay-more c.requires.entries c.loop-place.invariant.1 (place - 1) c.relax.result
+          (IsUnderWay-more c.requires.constraints c.loop-place.invariant.1 (place - 1) c.relax.result
           c.relax.new.self (λ other. place - 1 ≤ other) (omega (arith, c.loop-place.invariant.0))
           c.relax.ensures (this_or_after place))),
     )
 
 pub returns : goal.returns
 returns c =
-    IsSweep-all c.requires.entries c.loop-place.invariant.1 (omega arith)
+    IsSweep-all c.requires.constraints c.loop-place.invariant.1 (omega arith)
     (λ place within. omega arith)

@@ -1,10 +1,10 @@
 -- Each raise leaves fewer.
 use Rattle.critical_cycle.specs.Searches.{IsSameSearch, IsSearch}
 use Rattle.critical_cycle.specs.ShownRatios.{raises_left}
-use Rattle.critical_cycle.proofs.ratio.greatest_ratio_in.Given as goal
+use Rattle.critical_cycle.proofs.ratio.settled.Given as goal
 
 abbrev pub invariant-loop-register : goal.invariant-loop-register
-invariant-loop-register l = IsSearch l.list l.search × IsSameSearch l.initial.search l.search
+invariant-loop-register l = IsSearch l.constraints l.search × IsSameSearch l.initial.search l.search
 
 abbrev pub decreases-loop-register : goal.decreases-loop-register
 decreases-loop-register l = raises_left l.search.measure l.search.first l.search.shown
