@@ -412,8 +412,8 @@ expect 'a table of one byte more' 3 '' 'refused tech long' "$top/cts" zero --ben
 # Words that mean no command. No file is read.
 usage='usage: cts zero --bench F [--tech F] | cts period --bench F --tech F | cts schedule --bench F --tech F'
 usage+=' | cts synth --bench F --tech F --pl F | cts check --bench F --tech F --pl F --report F'
-usage+=' | cts demo --registers N --seed S | cts embed --bench F --tech F --pl F --topology F'
-usage+=' | cts margin --bench F --tech F --period P | cts moves --bench F --tech F --pl F --moves F'
+usage+=' | cts demo --registers N --seed S | cts margin --bench F --tech F --period P'
+usage+=' | cts embed --bench F --tech F --pl F --topology F | cts moves --bench F --tech F --pl F --moves F'
 usage+=' | cts corners --bench F T1 .. Tk'
 expect 'no words' 2 '' "$usage" "$top/cts"
 expect 'the name last' 2 '' "$usage" "$top/cts" --tech F --bench F zero

@@ -13,7 +13,7 @@ use Rattle.std.proofs.lemmas.Map.Keys.{IsDistinct-IsPermutation}
 use Rattle.command_line.specs.declared.command.Command.{Command}
 use Rattle.command_line.specs.declared.command.Command.TheVariants as command
 use Rattle.command_line.specs.declared.table.Form.{Form}
-use Rattle.command_line.specs.declared.table.Form.TheVariants.{Zero, Period, Schedule, Synth, Check, Demo, Embed, Moves, Margin, Corners}
+use Rattle.command_line.specs.declared.table.Form.TheVariants.{Zero, Period, Schedule, Synth, Check, Demo, Margin, Embed, Moves, Corners}
 use Rattle.command_line.specs.declared.table.Choice.{Choice}
 use Rattle.command_line.specs.CommandTable.{Word, word_of, is_required, form_of, form_name, form_named, choices_of, table_bounds, takes_tables}
 use Rattle.command_line.specs.Commands.{Given, IsTaken, name_of, values_of, options_of, tables_of, are_tables, listed, option_words, is_file_name, HasValidTables, HasValidValues, IsCommand, IsSame}
@@ -42,9 +42,9 @@ same_form command other same = one_form (form_of command) (form_of other) same
 options_differ : (form : Form) → IsDistinct bytes_eq (map word_of (choices_of form))
 unfolding IsDistinct
 options_differ Synth = ((refl, (refl, tt)), ((refl, tt), (tt, tt)))
-options_differ Margin = ((refl, (refl, tt)), ((refl, tt), (tt, tt)))
 options_differ Check =
     ((refl, (refl, (refl, tt))), ((refl, (refl, tt)), ((refl, tt), (tt, tt))))
+options_differ Margin = ((refl, (refl, tt)), ((refl, tt), (tt, tt)))
 options_differ Embed =
     ((refl, (refl, (refl, tt))), ((refl, (refl, tt)), ((refl, tt), (tt, tt))))
 options_differ Moves =
@@ -70,10 +70,10 @@ fits_row (command.Synth bench tech pl) =
     record { once = options_differ Synth; required = refl; ordered = refl }
 fits_row (command.Check bench tech pl report) =
     record { once = options_differ Check; required = refl; ordered = refl }
-fits_row (command.Embed bench tech pl topology) =
-    record { once = options_differ Embed; required = refl; ordered = refl }
 fits_row (command.Margin bench tech period) =
     record { once = options_differ Margin; required = refl; ordered = refl }
+fits_row (command.Embed bench tech pl topology) =
+    record { once = options_differ Embed; required = refl; ordered = refl }
 fits_row (command.Moves bench tech pl moves) =
     record { once = options_differ Moves; required = refl; ordered = refl }
 fits_row (command.Corners bench tables) =
@@ -283,13 +283,13 @@ module _ (at : ℕ × ℕ) (tables : Tables) where
     has_form = refl;
     has_values = refl;
   }
-  made Embed (Some bench ∷ Some tech ∷ Some pl ∷ Some topology ∷ []) has = record {
-    command = command.Embed (borrowed bench) (borrowed tech) (borrowed pl) (borrowed topology);
+  made Margin (Some bench ∷ Some tech ∷ Some period ∷ []) has = record {
+    command = command.Margin (borrowed bench) (borrowed tech) (borrowed period);
     has_form = refl;
     has_values = refl;
   }
-  made Margin (Some bench ∷ Some tech ∷ Some period ∷ []) has = record {
-    command = command.Margin (borrowed bench) (borrowed tech) (borrowed period);
+  made Embed (Some bench ∷ Some tech ∷ Some pl ∷ Some topology ∷ []) has = record {
+    command = command.Embed (borrowed bench) (borrowed tech) (borrowed pl) (borrowed topology);
     has_form = refl;
     has_values = refl;
   }

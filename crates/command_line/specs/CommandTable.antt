@@ -5,7 +5,7 @@ use Rattle.std.specs.Str.{bytes_eq}
 use Rattle.command_line.specs.declared.command.Command.{Command}
 use Rattle.command_line.specs.declared.command.Command.TheVariants as command
 use Rattle.command_line.specs.declared.table.Form.{Form}
-use Rattle.command_line.specs.declared.table.Form.TheVariants.{Zero, Period, Schedule, Synth, Check, Demo, Embed, Moves, Margin, Corners}
+use Rattle.command_line.specs.declared.table.Form.TheVariants.{Zero, Period, Schedule, Synth, Check, Demo, Margin, Embed, Moves, Corners}
 use Rattle.command_line.specs.declared.table.Choice.{Choice}
 use Rattle.command_line.specs.declared.table.Choice.TheVariants as option
 use Rattle.command_line.specs.declared.table.ValueKind.{ValueKind}
@@ -17,7 +17,7 @@ Word = List ℕ
 
 -- all commands
 abbrev pub forms : List Form
-forms = Zero ∷ Period ∷ Schedule ∷ Synth ∷ Check ∷ Demo ∷ Embed ∷ Margin ∷ Moves ∷ Corners ∷ []
+forms = Zero ∷ Period ∷ Schedule ∷ Synth ∷ Check ∷ Demo ∷ Margin ∷ Embed ∷ Moves ∷ Corners ∷ []
 
 -- the name of a command, and its options
 abbrev pub row_of : Form → Word × List Choice
@@ -28,9 +28,9 @@ row_of Synth = (codes "synth", option.Bench ∷ option.Tech ∷ option.Placement
 row_of Check =
     (codes "check", option.Bench ∷ option.Tech ∷ option.Placement ∷ option.Report ∷ [])
 row_of Demo = (codes "demo", option.Registers ∷ option.Seed ∷ [])
+row_of Margin = (codes "margin", option.Bench ∷ option.Tech ∷ option.Period ∷ [])
 row_of Embed =
     (codes "embed", option.Bench ∷ option.Tech ∷ option.Placement ∷ option.Topology ∷ [])
-row_of Margin = (codes "margin", option.Bench ∷ option.Tech ∷ option.Period ∷ [])
 row_of Moves =
     (codes "moves", option.Bench ∷ option.Tech ∷ option.Placement ∷ option.MovesFile ∷ [])
 row_of Corners = (codes "corners", option.Bench ∷ [])
@@ -73,8 +73,8 @@ form_of (command.Schedule bench tech) = Schedule
 form_of (command.Synth bench tech pl) = Synth
 form_of (command.Check bench tech pl report) = Check
 form_of (command.Demo registers seed) = Demo
-form_of (command.Embed bench tech pl topology) = Embed
 form_of (command.Margin bench tech period) = Margin
+form_of (command.Embed bench tech pl topology) = Embed
 form_of (command.Moves bench tech pl moves) = Moves
 form_of (command.Corners bench tables) = Corners
 

@@ -6,7 +6,7 @@ use Rattle.std.specs.Str.{all_ascii_digits, bytes_eq}
 use Rattle.std.specs.Str.Parse.{digits_value}
 use Rattle.cts_base.specs.Fractions.{quotient_text}
 use Rattle.command_line.specs.declared.command.Command.{Command}
-use Rattle.command_line.specs.declared.command.Command.TheVariants.{Zero, Period, Schedule, Synth, Check, Demo, Embed, Moves, Margin, Corners}
+use Rattle.command_line.specs.declared.command.Command.TheVariants.{Zero, Period, Schedule, Synth, Check, Demo, Margin, Embed, Moves, Corners}
 use Rattle.command_line.specs.declared.table.Choice.{Choice}
 use Rattle.command_line.specs.declared.table.ValueKind.{ValueKind}
 use Rattle.command_line.specs.declared.table.ValueKind.TheVariants as kind
@@ -26,9 +26,9 @@ values_of (Synth bench tech pl) = Some bench.now ∷ Some tech.now ∷ Some pl.n
 values_of (Check bench tech pl report) =
     Some bench.now ∷ Some tech.now ∷ Some pl.now ∷ Some report.now ∷ []
 values_of (Demo registers seed) = Some registers.now ∷ Some seed.now ∷ []
+values_of (Margin bench tech period) = Some bench.now ∷ Some tech.now ∷ Some period.now ∷ []
 values_of (Embed bench tech pl topology) =
     Some bench.now ∷ Some tech.now ∷ Some pl.now ∷ Some topology.now ∷ []
-values_of (Margin bench tech period) = Some bench.now ∷ Some tech.now ∷ Some period.now ∷ []
 values_of (Moves bench tech pl moves) =
     Some bench.now ∷ Some tech.now ∷ Some pl.now ∷ Some moves.now ∷ []
 values_of (Corners bench tables) = Some bench.now ∷ []

@@ -44,19 +44,19 @@ pub enum Command<'a> {
         registers: &'a str,
         seed: &'a str,
     },
-    /// The clock tree that realises that schedule by a topology that is given.
-    Embed {
-        bench: &'a str,
-        tech: &'a str,
-        pl: &'a str,
-        topology: &'a str,
-    },
     /// What every setup and hold inequality of a netlist with a delay table has to spare at this
     /// period, which is given as a fraction.
     Margin {
         bench: &'a str,
         tech: &'a str,
         period: &'a str,
+    },
+    /// The clock tree that realises that schedule by a topology that is given.
+    Embed {
+        bench: &'a str,
+        tech: &'a str,
+        pl: &'a str,
+        topology: &'a str,
     },
     /// How long that clock tree is, and how long after each of some moves of registers.
     Moves {
@@ -84,6 +84,11 @@ pub enum WordsFault {
 
 /// The command that the words after the program's name mean. They are judged without memory, and
 /// only words that mean a command are parsed.
+///
+/// # Errors
+///
+/// `Usage` exactly where the words mean no command; `NoMemory` where there is none to parse those
+/// that do.
 pub fn read_command<'a>(alloc: Global, words: &'a [String]) -> Result<Command<'a>, WordsFault>
     ensures ok { IfOk result (IsCommand (map string_bytes words.now)) }
     ensures same { (command : Command) → IsCommand (map string_bytes words.now) command

@@ -62,19 +62,19 @@ fn command_of<'a>(form: Form, matches: &ArgMatches<'a>, tables: &'a [String]) ->
             }
         }
         (Form::Demo, [Some(registers), Some(seed), ..]) => Command::Demo { registers, seed },
+        (Form::Margin, [Some(bench), Some(tech), Some(period), _]) => {
+            Command::Margin {
+                bench,
+                tech,
+                period,
+            }
+        }
         (Form::Embed, [Some(bench), Some(tech), Some(pl), Some(topology)]) => {
             Command::Embed {
                 bench,
                 tech,
                 pl,
                 topology,
-            }
-        }
-        (Form::Margin, [Some(bench), Some(tech), Some(period), _]) => {
-            Command::Margin {
-                bench,
-                tech,
-                period,
             }
         }
         (Form::Moves, [Some(bench), Some(tech), Some(pl), Some(moves)]) => {

@@ -17,8 +17,8 @@ pub enum Form {
     Synth,
     Check,
     Demo,
-    Embed,
     Margin,
+    Embed,
     Moves,
     Corners,
 }
@@ -49,7 +49,7 @@ pub enum ValueKind {
 }
 
 const FORMS: [Form; 10] = [
-    Zero, Period, Schedule, Synth, Check, Demo, Embed, Margin, Moves, Corners,
+    Zero, Period, Schedule, Synth, Check, Demo, Margin, Embed, Moves, Corners,
 ];
 
 impl Form {
@@ -65,8 +65,8 @@ impl Form {
             Synth => ("synth", &[Bench, Tech, Placement]),
             Check => ("check", &[Bench, Tech, Placement, Report]),
             Demo => ("demo", &[Registers, Seed]),
-            Embed => ("embed", &[Bench, Tech, Placement, Topology]),
             Margin => ("margin", &[Bench, Tech, Choice::Period]),
+            Embed => ("embed", &[Bench, Tech, Placement, Topology]),
             Moves => ("moves", &[Bench, Tech, Placement, MovesFile]),
             Corners => ("corners", &[Bench]),
         }

@@ -11,7 +11,7 @@ use Rattle.cts_model.specs.text.Entries.{entries_of}
 use Rattle.move_session.proofs.EntryLemmas.{length-DenoteEach}
 use Rattle.cts_engine.proofs.OneProblem.{one_netlist, one_both}
 use Rattle.command_line.specs.declared.command.Command.{Command}
-use Rattle.command_line.specs.declared.command.Command.TheVariants.{Zero, Period, Schedule, Synth, Check, Demo, Embed, Moves, Margin, Corners}
+use Rattle.command_line.specs.declared.command.Command.TheVariants.{Zero, Period, Schedule, Synth, Check, Demo, Margin, Embed, Moves, Corners}
 use Rattle.command_line.specs.declared.table.Form.{Form}
 use Rattle.command_line.specs.declared.table.Form.TheVariants as forms
 use Rattle.command_line.specs.Commands.{Given, number_of, options_of}

@@ -7,7 +7,7 @@ use Rattle.cts_model.specs.timing.LeastPeriods.{HasNoPeriod}
 use Rattle.cts_model.specs.timing.PairLists.{JoinsMoreThan}
 use Rattle.cts_model.specs.text.PrintedLines.{text_of}
 use Rattle.command_line.specs.declared.command.Command.{Command}
-use Rattle.command_line.specs.declared.command.Command.TheVariants.{Zero, Period, Schedule, Synth, Check, Demo, Embed, Moves, Margin, Corners}
+use Rattle.command_line.specs.declared.command.Command.TheVariants.{Zero, Period, Schedule, Synth, Check, Demo, Margin, Embed, Moves, Corners}
 use Rattle.command_line.specs.declared.table.Form.{Form}
 use Rattle.command_line.specs.declared.table.Form.TheVariants as forms
 use Rattle.cts_program.specs.declared.ending.Ending.{Ending}
@@ -101,9 +101,9 @@ number_given given place = number_of (get_or given place ([], [])).1
 -- report that is checked, a topology or moves that are given, or those of a demonstration
 abbrev pub texts_for : Form → List Given → (contents : List (List ℕ)) → List (List ℕ)
 texts_for forms.Check given contents = take 3 contents
+texts_for forms.Demo given contents = demo_texts (number_given given 0) (number_given given 1)
 texts_for forms.Embed given contents = take 3 contents
 texts_for forms.Moves given contents = take 3 contents
-texts_for forms.Demo given contents = demo_texts (number_given given 0) (number_given given 1)
 texts_for form given contents = contents
 
 abbrev pub texts_of : Command → (contents : List (List ℕ)) → List (List ℕ)
@@ -119,10 +119,10 @@ IsText (Check bench tech pl report) contents status text = (status ≡ 0)
     × EndWith contents IsShownReport × (text ≡ text_of (shown_line ∷ []))
 IsText (Demo registers seed) contents status text =
     IsDemoAnswer (number_of registers.now) (number_of seed.now) status text
-IsText (Embed bench tech pl topology) contents status text =
-    EndWith contents (IsEmbeddedBy status text)
 IsText (Margin bench tech period) contents status text =
     (status ≡ 0) × IsMarginAnswer contents period.now text
+IsText (Embed bench tech pl topology) contents status text =
+    EndWith contents (IsEmbeddedBy status text)
 IsText (Moves bench tech pl moves) contents status text =
     EndWith contents (IsMovedBy status text)
 IsText (Corners bench tables) contents status text = IsCornersAnswer contents status text
@@ -188,15 +188,15 @@ IsAccepted command contents = AreAll command contents
 -- the statuses for what is accepted
 abbrev pub IsStatusOf : Command → ℕ → Type 0
 IsStatusOf (Zero bench tech) status = status ≡ 0
-IsStatusOf (Margin bench tech period) status = status ≡ 0
 IsStatusOf (Check bench tech pl report) status = (status ≡ 0) ⊎ (status ≡ 7)
+IsStatusOf (Margin bench tech period) status = status ≡ 0
 IsStatusOf command status = (status ≡ 0) ⊎ (status ≡ 1)
 
 -- what a command that looks for a period goes by is accepted, and no period is admitted
 abbrev pub FindsNoPeriod : Command → List (List ℕ) → Type 0
 FindsNoPeriod (Zero bench tech) contents = ⊥
-FindsNoPeriod (Margin bench tech period) contents = ⊥
 FindsNoPeriod (Check bench tech pl report) contents = ⊥
+FindsNoPeriod (Margin bench tech period) contents = ⊥
 FindsNoPeriod (Corners bench tables) contents =
     AreAll (Corners bench tables) contents × CornersFindNoPeriod contents
 FindsNoPeriod command contents =

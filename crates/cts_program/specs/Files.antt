@@ -5,7 +5,7 @@ use Rattle.failure_lines.specs.declared.file_kind.FileKind.{FileKind}
 use Rattle.failure_lines.specs.declared.file_kind.FileKind.TheVariants.{Bench, Tech, Placement, Report, Topology, Corner}
 use Rattle.failure_lines.specs.declared.file_kind.FileKind.TheVariants as kinds
 use Rattle.command_line.specs.declared.command.Command.{Command}
-use Rattle.command_line.specs.declared.command.Command.TheVariants.{Zero, Period, Schedule, Synth, Check, Demo, Embed, Moves, Margin, Corners}
+use Rattle.command_line.specs.declared.command.Command.TheVariants.{Zero, Period, Schedule, Synth, Check, Demo, Margin, Embed, Moves, Corners}
 use Rattle.command_line.specs.Commands.{tables_of}
 
 -- the files that tell a circuit: a netlist and, if one is named, a delay table
@@ -31,9 +31,9 @@ files_of (Synth bench tech pl) = problem_files bench tech pl
 files_of (Check bench tech pl report) =
     problem_files bench tech pl ++ (Report, report.now) ∷ []
 files_of (Demo registers seed) = []
+files_of (Margin bench tech period) = circuit_files bench (Some tech)
 files_of (Embed bench tech pl topology) =
     problem_files bench tech pl ++ (Topology, topology.now) ∷ []
-files_of (Margin bench tech period) = circuit_files bench (Some tech)
 files_of (Moves bench tech pl moves) =
     problem_files bench tech pl ++ (kinds.Moves, moves.now) ∷ []
 files_of (Corners bench tables) =

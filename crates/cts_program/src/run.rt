@@ -162,16 +162,6 @@ fn command_answer<I: Inputs>(
             check(alloc, &problem, &report)
         }
         Command::Demo { registers, seed } => demo(alloc, registers, seed),
-        Command::Embed {
-            bench,
-            tech,
-            pl,
-            topology,
-        } => {
-            let problem = read_problem(alloc, inputs, bench, tech, pl)?;
-            let topology = read_topology_file(alloc, inputs, topology, &problem)?;
-            embed(alloc, &problem, &topology)
-        }
         Command::Margin {
             bench,
             tech,
@@ -182,6 +172,16 @@ fn command_answer<I: Inputs>(
                 &read_circuit(alloc, inputs, bench, Some(tech))?,
                 period,
             )
+        }
+        Command::Embed {
+            bench,
+            tech,
+            pl,
+            topology,
+        } => {
+            let problem = read_problem(alloc, inputs, bench, tech, pl)?;
+            let topology = read_topology_file(alloc, inputs, topology, &problem)?;
+            embed(alloc, &problem, &topology)
         }
         Command::Moves {
             bench,

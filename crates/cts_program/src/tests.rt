@@ -41,8 +41,8 @@ use std::process::Abort;
 const USAGE: &str = "usage: cts zero --bench F [--tech F] | cts period --bench F --tech F \
     | cts schedule --bench F --tech F | cts synth --bench F --tech F --pl F \
     | cts check --bench F --tech F --pl F --report F | cts demo --registers N --seed S \
-    | cts embed --bench F --tech F --pl F --topology F \
     | cts margin --bench F --tech F --period P \
+    | cts embed --bench F --tech F --pl F --topology F \
     | cts moves --bench F --tech F --pl F --moves F | cts corners --bench F T1 .. Tk\n";
 
 const NO_PATH: &str = "INPUT(x)\na = DFF(x)\n";

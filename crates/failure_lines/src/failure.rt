@@ -59,8 +59,8 @@ pub enum Failure {
 const USAGE: &[u8] = b"usage: cts zero --bench F [--tech F] | cts period --bench F --tech F \
     | cts schedule --bench F --tech F | cts synth --bench F --tech F --pl F \
     | cts check --bench F --tech F --pl F --report F | cts demo --registers N --seed S \
-    | cts embed --bench F --tech F --pl F --topology F \
     | cts margin --bench F --tech F --period P \
+    | cts embed --bench F --tech F --pl F --topology F \
     | cts moves --bench F --tech F --pl F --moves F | cts corners --bench F T1 .. Tk";
 
 impl Failure {

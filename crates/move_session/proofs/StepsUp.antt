@@ -3,19 +3,19 @@ use Rattle.std.proofs.Common.{◌≡◌, ◌≢◌, ◌⊎◌, inl, inr, ℕ, ze
 use Rattle.std.specs.Prelude.{IsSomeAnd}
 use Rattle.std.specs.Cmp.{nat_eq_equiv}
 use Rattle.std.specs.List.{Contains, count_by, range_with_len}
-use Rattle.std.proofs.lemmas.Bool.{cases_eq, cases_lt}
+use Rattle.std.proofs.lemmas.Bool.{cases_eq, cases_lt, eqb-true, false_from_ne_true}
 use Rattle.std.proofs.lemmas.List.{get_or-take, length-take-le, take_all}
 use Rattle.std.proofs.lemmas.List.Elements.{Contains-append_cases, Contains-append_left, Contains-append_right}
 use Rattle.std.proofs.lemmas.List.FromFn.{get_or-range_with_len, length-range_with_len}
 use Rattle.std.proofs.lemmas.List.Sums.{count_by_more_no, count_by_more_yes}
-use Rattle.std.proofs.lemmas.Map.Views.{list_any-from_Contains}
+use Rattle.std.proofs.lemmas.Map.Views.{Contains-from_any, list_any-from_Contains}
 use Rattle.std.proofs.lemmas.Option.{get_or_from_slice_get, slice_get-get_or, slice_get_within}
 use Rattle.cts_model.specs.declared.place.Sink.{Sink}
 use Rattle.cts_model.specs.declared.tree.Merge.{Merge}
 use Rattle.cts_model.specs.tree.Topologies.{IsLive, IsMerge, IsTopology, Joins, numbers_below}
 use Rattle.cts_model.proofs.TopologyLemmas.{numbers_below-merge, numbers_below-sink, some_and}
 use Rattle.merge_up.specs.Merging.{HoldsMerge, HoldsSinks, IsMerged, IsRenewed}
-use Rattle.merge_up.specs.Works.{WorkState}
+use Rattle.merge_up.specs.Works.{IsFit, WorkState}
 use Rattle.merge_up.proofs.WorkLemmas.{merge_along, no_merge, set_kept, sink_along}
 use Rattle.move_session.specs.MergesAbove.{IsMergedBeside, IsStep, JoinsAt, is_above, merges_above}
 
@@ -29,16 +29,6 @@ joins_here merges place node merge here joins =
 only_one : (item other : ℕ) → Contains (item ∷ []) other → other ≡ item
 only_one item other (zero, within, same) = sym same
 only_one item other (suc place, within, same) = absurd (omega arith)
-
--- one item more is counted once at most
-count_more : (passes : ℕ → Bool) (items : List ℕ) (place : ℕ) → place < length items
-    → count_by passes (take place items) ≤ count_by passes (take (place + 1) items)
-count_more passes items place within = at (passes (get_or items place 0)) refl
-  where
-    at : (b : Bool) → passes (get_or items place 0) ≡ b
-        → count_by passes (take place items) ≤ count_by passes (take (place + 1) items)
-    at true passed = omega (arith, count_by_more_yes passes items place 0 within passed)
-    at false failed = omega (arith, count_by_more_no passes items place 0 within failed)
 
 module _ (sinks : List Sink) (merges : List Merge) (register : ℕ) where
   -- the sink is below the node
@@ -62,12 +52,12 @@ module _ (sinks : List Sink) (merges : List Merge) (register : ℕ) where
     pub below : Below node
     pub one : (other : ℕ) → IsLive (length sinks) (take place merges) other → Below other
         → other ≡ node
-    pub renewals : work.renewals ≤ old.renewals + above_before place
+    pub renewals : work.renewals ≡ min (old.renewals + above_before place) (2 ^ 64 - 1)
 
   -- it begins at the sink
-  pub on_way_first : (work : WorkState) → register < length sinks
+  pub on_way_first : (work : WorkState) → register < length sinks → IsFit work
       → IsMergedBeside sinks merges register work → IsOnWay 0 register work work
-  on_way_first work within beside = record {
+  on_way_first work within fit beside = record {
     count = beside.count;
     room = refl;
     of_sinks = beside.of_sinks;
@@ -81,8 +71,11 @@ module _ (sinks : List Sink) (merges : List Merge) (register : ℕ) where
         let made : other < length sinks = omega (arith, live.made) in
         sym (only_one other register (subst (λ numbers. Contains numbers register)
         (numbers_below-sink (length sinks) merges other made) below));
-    renewals = omega arith;
+    renewals = omega (arith, fit.renewals, none_before);
   }
+    where
+      none_before : above_before 0 ≡ 0
+      none_before = refl
 
   -- past the last merge all is held
   pub way_merged : {node : ℕ} {old work : WorkState} → IsOnWay (length merges) node old work
@@ -94,11 +87,12 @@ module _ (sinks : List Sink) (merges : List Merge) (register : ℕ) where
   }
 
   pub way_counted : {node : ℕ} {old work : WorkState} → IsOnWay (length merges) node old work
-      → work.renewals ≤ old.renewals + merges_above (length sinks) merges register
+      → work.renewals
+      ≡ min (old.renewals + merges_above (length sinks) merges register) (2 ^ 64 - 1)
   way_counted {node} {old} {work} way =
       let range = range_with_len 0 (length merges) in
-      subst (λ list. work.renewals
-      ≤ old.renewals + count_by (is_above (length sinks) merges register) list)
+      subst (λ list. work.renewals ≡ min (old.renewals
+      + count_by (is_above (length sinks) merges register) list) (2 ^ 64 - 1))
       (take_all (length merges) range (omega (arith, length-range_with_len 0 (length merges))))
       way.renewals
 
@@ -208,6 +202,9 @@ module _ (sinks : List Sink) (merges : List Merge) (register : ℕ) where
       range_within : place < length (range_with_len 0 (length merges))
       range_within = omega (arith, within, length-range_with_len 0 (length merges))
 
+      here_in_range : get_or (range_with_len 0 (length merges)) place 0 ≡ place
+      here_in_range = get_or-range_with_len 0 (length merges) place 0 within ∙ omega arith
+
       module _ {node : ℕ} {old work : WorkState} (way : IsOnWay place node old work) where
         -- a merge that joins others is passed
         passed : (JoinsAt merges place node → ⊥) → IsOnWay (place + 1) node old work
@@ -230,16 +227,22 @@ module _ (sinks : List Sink) (merges : List Merge) (register : ℕ) where
             | inl low ↦ way.one other (live_before other live low) below
             | inr high ↦ absurd (not_above (subst Below (made_last other live high) below))
           ];
-          renewals = omega (
-            arith,
-            way.renewals,
-            count_more (is_above (length sinks) merges register)
-                (range_with_len 0 (length merges)) place range_within,
-          );
+          renewals = subst (λ count. work.renewals ≡ min (old.renewals + count) (2 ^ 64 - 1))
+              (sym counted_as_before) way.renewals;
         }
           where
             not_above : Below (length sinks + place) → ⊥
             not_above below = apart (joined_above node way.one below)
+
+            not_counted : is_above (length sinks) merges register place ≡ false
+            not_counted = false_from_ne_true (is_above (length sinks) merges register place)
+                (λ any. not_above (Contains-from_any eqb-true register
+                (numbers_below (length sinks) merges (length sinks + place)) any))
+
+            counted_as_before : above_before (place + 1) ≡ above_before place
+            counted_as_before = count_by_more_no (is_above (length sinks) merges register)
+                (range_with_len 0 (length merges)) place 0 range_within
+                (ap (is_above (length sinks) merges register) here_in_range ∙ not_counted)
 
         -- one that joins the node is renewed, and goes on
         renewed : (new : WorkState) → JoinsAt merges place node
@@ -303,8 +306,7 @@ module _ (sinks : List Sink) (merges : List Merge) (register : ℕ) where
             is_one : is_above (length sinks) merges register
                 (get_or (range_with_len 0 (length merges)) place 0) ≡ true
             is_one =
-                ap (is_above (length sinks) merges register)
-                (get_or-range_with_len 0 (length merges) place 0 within ∙ omega arith)
+                ap (is_above (length sinks) merges register) here_in_range
                 ∙ list_any-from_Contains nat_eq_equiv register
                 (numbers_below (length sinks) merges (length sinks + place))
                 (above_joined node way.below joined)
@@ -314,10 +316,10 @@ module _ (sinks : List Sink) (merges : List Merge) (register : ℕ) where
                 (range_with_len 0 (length merges)) place 0 range_within is_one
 
             once : (before after most : ℕ) → after ≡ min (before + 1) most
-                → before ≤ old.renewals + above_before place
+                → before ≡ min (old.renewals + above_before place) most
                 → above_before (place + 1) ≡ above_before place + 1
-                → after ≤ old.renewals + above_before (place + 1)
-            once before after most is low more = omega (arith, is, low, more)
+                → after ≡ min (old.renewals + above_before (place + 1)) most
+            once before after most is earlier more = omega (arith, is, earlier, more)
 
         -- either way the walk goes on
         pub on_way_next : (new : WorkState) (next : ℕ)

@@ -13,6 +13,11 @@ use std::alloc::Global;
 /// Reads moves of a circuit's registers. Each line that isn't blank has the name of a register and
 /// the two coordinates of its new place, as `G7 2 3.5`; the host is named `(host)`. At most 10,000
 /// are taken. It goes over the bytes once, and finds a name by a map.
+///
+/// # Errors
+///
+/// The first faulty line with its first fault, or `NoMemory` where there is none for the names or
+/// the moves.
 pub fn read_moves(
     alloc: Global,
     bytes: &[u8],

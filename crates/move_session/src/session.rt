@@ -29,7 +29,7 @@ impl Model for Session {
 }
 
 impl Session {
-    ghost use Rattle.std.specs.Prelude.{◌≡◌, ◌≤◌, ◌<◌, ◌+◌, ◌*◌, ◌-◌, ◌^◌, IfOk, length};
+    ghost use Rattle.std.specs.Prelude.{◌≡◌, ◌<◌, ◌+◌, ◌*◌, ◌-◌, ◌^◌, min, IfOk, length};
     ghost use Rattle.cts_model.specs.tree.Embeddings.{IsLeastWire, RealisesOffsets, embedding_of, total_wire};
     ghost use Rattle.cts_model.specs.placement.Points.{IsBelow, IsUvBelow, IsUvMultipleOf};
     ghost use Rattle.cts_model.specs.tree.Sinks.{AreTreeSinks};
@@ -39,6 +39,10 @@ impl Session {
     ghost use Rattle.place_down.specs.Trees.{IsTreeSource, reach_in};
 
     /// The tree of a topology over sinks. Each merge is made once.
+    ///
+    /// # Errors
+    ///
+    /// There is no memory for its lists.
     pub fn open(
         alloc: Global,
         sinks: &[Sink],
@@ -65,8 +69,8 @@ impl Session {
         })
     }
 
-    /// Moves a register's sink. It renews the merges from the sink up to the root, and then places
-    /// all nodes. It takes no memory.
+    /// Moves a register's sink. It renews the merges from the sink up to the root, also where the
+    /// sink stays at its place, and then places all nodes. It takes no memory.
     pub fn move_sink(&mut self, register: u32, to: Uv)
         requires register { register < length self.old.sinks }
         requires below { IsUvBelow (10 ^ 31) to }
@@ -74,8 +78,9 @@ impl Session {
         // That sink's place alone changes in what the session stands for.
         ensures stands { StandsFor (moved_sinks self.old.sinks register to) self.old.merges
             self.old.source self.new }
-        ensures renewals { self.new.renewals ≤ self.old.renewals
-            + merges_above (length self.old.sinks) self.old.merges register }
+        // Each merge that has the sink below it is renewed once, and no other merge is.
+        ensures renewals { self.new.renewals ≡ min (self.old.renewals
+            + merges_above (length self.old.sinks) self.old.merges register) (2 ^ 64 - 1) }
     {
         let sink = moved_sink(self.sinks.as_slice(), register, to);
         self.sinks.set(register as usize, sink);

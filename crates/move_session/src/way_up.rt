@@ -1,7 +1,8 @@
-ghost use Rattle.std.specs.Prelude.{◌≡◌, ◌≤◌, ◌<◌, ◌+◌, length};
+ghost use Rattle.std.specs.Prelude.{◌≡◌, ◌<◌, ◌+◌, ◌-◌, ◌^◌, min, length};
 ghost use Rattle.cts_model.specs.tree.Sinks.{AreTreeSinks};
 ghost use Rattle.cts_model.specs.tree.Topologies.{IsTopology};
 ghost use Rattle.merge_up.specs.Merging.{HoldsJoined, IsMerged};
+ghost use Rattle.merge_up.specs.Works.{IsFit};
 ghost use Rattle.move_session.specs.MergesAbove.{IsMergedBeside, IsStep, merges_above};
 
 use cts_model::{Sink, Topology};
@@ -13,11 +14,12 @@ pub(crate) fn renew_above(work: &mut Work, sinks: &[Sink], topology: &Topology, 
     requires sinks { AreTreeSinks sinks.now }
     requires topology { IsTopology (length sinks.now) topology.now.merges }
     requires register { register < length sinks.now }
+    requires fit { IsFit work.old }
     requires beside { IsMergedBeside sinks.now topology.now.merges register work.old }
     ensures merged { IsMerged sinks.now topology.now.merges work.new }
     ensures room { work.new.room ≡ work.old.room }
-    ensures renewals { work.new.renewals ≤ work.old.renewals
-        + merges_above (length sinks.now) topology.now.merges register }
+    ensures renewals { work.new.renewals ≡ min (work.old.renewals
+        + merges_above (length sinks.now) topology.now.merges register) (2 ^ 64 - 1) }
 {
     let mut node = register;
     for place in 0..topology.merges.len() {

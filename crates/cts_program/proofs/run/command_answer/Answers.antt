@@ -1,6 +1,6 @@
 use Rattle.std.proofs.Common.{◌≡◌, [], ◌∷◌, inr, Err, refl, ap, sym, ◌∙◌, append-nil, arith}
 use Rattle.std.proofs.lemmas.Result.{err_from_is_err_and}
-use Rattle.command_line.specs.declared.command.Command.TheVariants.{Zero, Period, Schedule, Synth, Check, Embed, Moves, Margin}
+use Rattle.command_line.specs.declared.command.Command.TheVariants.{Zero, Period, Schedule, Synth, Check, Margin, Embed, Moves}
 use Rattle.failure_lines.specs.declared.failure.Failure.{Failure}
 use Rattle.failure_lines.specs.declared.file_kind.FileKind.TheVariants as kinds
 use Rattle.cts_program.specs.Files.{circuit_files}

@@ -5,7 +5,7 @@ use Rattle.move_session.proofs.way_up.renew_above.Goals as goal
 
 pub loop-place-init : goal.loop-place-init
 loop-place-init c = on_way_first c.args.sinks.now c.args.topology.now.merges c.args.register
-    c.args.work.now c.requires.register c.requires.beside
+    c.args.work.now c.requires.register c.requires.fit c.requires.beside
 
 pub renew_joining-node-requires-clause-joined : goal.renew_joining-node-requires-clause-joined
 renew_joining-node-requires-clause-joined c =

@@ -1,4 +1,4 @@
-use Rattle.std.proofs.Common.{◌≡◌, ◌≤◌, ◌+◌, length, sym, ap, subst, ◌∙◌}
+use Rattle.std.proofs.Common.{◌≡◌, ◌+◌, ◌-◌, ◌^◌, min, length, sym, ap, subst, ◌∙◌}
 use Rattle.std.proofs.lemmas.List.{length-set}
 use Rattle.cts_model.specs.tree.Sinks.{AreTreeSinks}
 use Rattle.cts_model.specs.tree.Topologies.{IsTopology}
@@ -14,6 +14,9 @@ renew_above-requires-clause-sinks c =
     subst AreTreeSinks (sym (c.as_slice-sinks.ensures ∙ c.set.ensures))
     (tree_sinks_set c.self.inside.sinks c.args.register c.moved_sink-sink.result
     c.self.invariant.sinks c.moved_sink-sink.ensures.sink)
+
+pub renew_above-requires-clause-fit : goal.renew_above-requires-clause-fit
+renew_above-requires-clause-fit c = c.set_sink.ensures.fit
 
 pub renew_above-requires-clause-beside : goal.renew_above-requires-clause-beside
 renew_above-requires-clause-beside c =
@@ -61,8 +64,9 @@ returns-clause-renewals c =
     ∙ length-set c.self.inside.sinks c.args.register c.moved_sink-sink.result in
     rw (← c.self.view_is, ap (λ (work : WorkState). work.renewals) c.place.ensures.stays.rest)
     (subst (λ n. c.renew_above.new.work.renewals
-    ≤ c.self.inside.work.renewals + merges_above n merges c.args.register) all
+    ≡ min (c.self.inside.work.renewals + merges_above n merges c.args.register) (2 ^ 64 - 1)) all
     (subst (λ n. c.renew_above.new.work.renewals
-    ≤ n + merges_above (length c.as_slice-sinks.result.now) merges c.args.register)
+    ≡ min (n + merges_above (length c.as_slice-sinks.result.now) merges c.args.register)
+    (2 ^ 64 - 1))
     (ap (λ (work : WorkState). work.renewals) c.set_sink.ensures.rest)
     c.renew_above.ensures.renewals))
