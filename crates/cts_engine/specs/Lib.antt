@@ -1,5 +1,4 @@
 pub mod Accepted
-pub mod Faults
 pub mod Outcomes
 pub mod ScheduleOutcomes
 pub mod Syntheses

@@ -22,6 +22,10 @@ pub struct Denoted {
 
 /// The problem that a netlist, a delay table and a placement tell. They are judged in this order,
 /// and none after the first that is refused.
+///
+/// # Errors
+///
+/// The first text that is refused, with its fault, or want of memory.
 pub fn accept(alloc: Global, bench: &[u8], tech: &[u8], places: &[u8]) -> Result<Problem, Refusal>
     requires bench { length bench.now ≤ 16777216 }
     requires places { length places.now ≤ 16777216 }
@@ -62,6 +66,10 @@ fn problem_denoted(
 }
 
 /// What a netlist and a delay table tell, without the places. The netlist is judged first.
+///
+/// # Errors
+///
+/// The first text that is refused, with its fault, or want of memory.
 pub fn accept_circuit(alloc: Global, bench: &[u8], tech: &[u8]) -> Result<Denoted, Refusal>
     requires { length bench.now ≤ 16777216 }
     ensures ok { IfOk result (λ denoted. TellBoth bench.now tech.now denoted.circuit denoted.tech) }
@@ -77,6 +85,10 @@ pub fn accept_circuit(alloc: Global, bench: &[u8], tech: &[u8]) -> Result<Denote
 }
 
 /// The circuit with the host, where the table gives it a place.
+///
+/// # Errors
+///
+/// Memory was refused.
 pub fn hosted(alloc: Global, circuit: Circuit, tech: &Tech) -> Result<Circuit, NoMemory>
     requires { HasNoHost circuit }
     ensures { IfOk result (IsHostedBy tech.now circuit) }

@@ -4,9 +4,8 @@
 mod acceptance;
 mod clock_tree;
 mod cycle_paths;
-mod fault;
 mod margin;
-mod pairs;
+mod order;
 mod period;
 mod refusals;
 mod scheduling;
@@ -18,8 +17,8 @@ mod wires;
 mod zero;
 
 pub use acceptance::{Denoted, accept, accept_circuit, hosted};
-pub use fault::SynthFault;
 pub use margin::{MarginOutcome, margin_of};
+pub use path_delays::PairFault as SynthFault;
 pub use period::{PeriodOutcome, period_of};
 pub use refusals::Refusal;
 pub use scheduling::{ScheduleOutcome, schedule_of};

@@ -3,14 +3,15 @@ ghost use Rattle.cts_model.specs.timing.PairLists.{JoinsMoreThan};
 ghost use Rattle.cts_model.specs.netlist.Paths.{IsLoop};
 ghost use Rattle.cts_model.specs.timing.Schedules.{IsMarginPeriod};
 ghost use Rattle.cts_engine.specs.CircuitMargins.{HasNoPath, IsMarginOutcome, IsSmallOutcome, IsUnboundedOutcome};
-ghost use Rattle.cts_engine.specs.Faults.{IsCaused};
+ghost use Rattle.path_delays.specs.JoinedPairs.{ShowsTooMany};
 
 use crate::SynthFault;
-use crate::pairs::{levels_of, pairs_of};
+use crate::order::levels_of;
 use crate::period::constraints_at;
 use constraints::constraints_of;
 use cts_base::{Fraction, Listed};
 use cts_model::{Circuit, Constraint, Schedule, Tech};
+use path_delays::pair_delays;
 use safety_margin::{Margin, greatest_margin};
 use std::alloc::Global;
 
@@ -33,6 +34,10 @@ pub enum MarginOutcome {
 
 /// The greatest margin of a circuit at a period, whenever the clock reaches each register, in
 /// ticks.
+///
+/// # Errors
+///
+/// More than 1,048,576 pairs of registers are joined by paths, or memory was refused.
 pub fn margin_of(
     alloc: Global,
     circuit: &Circuit,
@@ -46,10 +51,10 @@ pub fn margin_of(
         IsUnboundedOutcome outcome ↔ HasNoPath circuit.now) }
     ensures small { IfOk result IsSmallOutcome }
     ensures few { IfOk result (λ _. JoinsMoreThan circuit.now 1048576 → ⊥) }
-    ensures many { IfErr result (IsCaused circuit.now) }
+    ensures many { IfErr result (ShowsTooMany circuit.now) }
 {
     let levels = levels_of(alloc, circuit)?;
-    let pairs = pairs_of(alloc, circuit, &levels, tech)?;
+    let pairs = pair_delays(alloc, circuit, &levels, tech)?;
     let constraints = constraints_of(alloc, &pairs, tech)?;
     let registers = circuit.registers.len();
     match greatest_margin(alloc, registers, &constraints, period)? {

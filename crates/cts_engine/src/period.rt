@@ -7,16 +7,17 @@ ghost use Rattle.cts_model.specs.netlist.Paths.{IsLoop};
 ghost use Rattle.critical_cycle.specs.CyclePlaces.{AreWithin, constraints_at};
 ghost use Rattle.critical_cycle.specs.Periods.{HasSmallValue, IsPeriodOf};
 ghost use Rattle.gate_order.specs.LevelParts.{IsLevelsOf};
-ghost use Rattle.cts_engine.specs.Faults.{IsCaused};
+ghost use Rattle.path_delays.specs.JoinedPairs.{ShowsTooMany};
 ghost use Rattle.cts_engine.specs.Outcomes.{AreConstraintsOf, BeginsLowest, HasSmallPeriod, HasSmallZero, IsNeverOutcome, IsPeriodOutcome, IsTiming};
 
 use crate::SynthFault;
-use crate::pairs::{levels_of, pairs_of};
+use crate::order::levels_of;
 use constraints::constraints_of;
 use critical_cycle::{Period, least_period};
 use cts_base::{Fraction, Listed, NoMemory};
 use cts_model::{Circuit, Constraint, PeriodShow, Tech, ZeroSkew};
 use gate_order::Levels;
+use path_delays::pair_delays;
 use std::alloc::Global;
 use timing_report::zero_skew;
 
@@ -38,6 +39,10 @@ pub enum PeriodOutcome {
 }
 
 /// The least period of a circuit, whenever the clock reaches each register, in ticks.
+///
+/// # Errors
+///
+/// More than 1,048,576 pairs of registers are joined by paths, or memory was refused.
 pub fn period_of(alloc: Global, circuit: &Circuit, tech: &Tech) -> Result<PeriodOutcome, SynthFault>
     requires { (loop : List ℕ) → IsLoop circuit.now.signals loop → ⊥ }
     ensures ok { IfOk result (IsPeriodOutcome circuit.now tech.now) }
@@ -46,7 +51,7 @@ pub fn period_of(alloc: Global, circuit: &Circuit, tech: &Tech) -> Result<Period
     ensures never { IfOk result (λ outcome. IsNeverOutcome outcome
         ↔ HasNoPeriod circuit.now tech.now) }
     ensures few { IfOk result (λ _. JoinsMoreThan circuit.now 1048576 → ⊥) }
-    ensures many { IfErr result (IsCaused circuit.now) }
+    ensures many { IfErr result (ShowsTooMany circuit.now) }
 {
     let levels = levels_of(alloc, circuit)?;
     Ok(timing_of(alloc, circuit, &levels, tech)?.outcome)
@@ -69,9 +74,9 @@ pub(crate) fn timing_of(
     requires { IsLevelsOf circuit.now levels.now }
     ensures ok { IfOk result (IsTiming circuit.now tech.now) }
     ensures few { IfOk result (λ _. JoinsMoreThan circuit.now 1048576 → ⊥) }
-    ensures many { IfErr result (IsCaused circuit.now) }
+    ensures many { IfErr result (ShowsTooMany circuit.now) }
 {
-    let pairs = pairs_of(alloc, circuit, levels, tech)?;
+    let pairs = pair_delays(alloc, circuit, levels, tech)?;
     let zero = zero_skew(&pairs, tech);
     let constraints = constraints_of(alloc, &pairs, tech)?;
     let period = least_period(alloc, circuit.registers.len(), &constraints, tech.floor)?;

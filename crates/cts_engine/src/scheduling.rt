@@ -2,12 +2,12 @@ ghost use Rattle.std.specs.Prelude.{◌↔◌, ℕ, List, IfOk, IfErr};
 ghost use Rattle.cts_model.specs.timing.LeastPeriods.{HasNoPeriod};
 ghost use Rattle.cts_model.specs.timing.PairLists.{JoinsMoreThan};
 ghost use Rattle.cts_model.specs.netlist.Paths.{IsLoop};
-ghost use Rattle.cts_engine.specs.Faults.{IsCaused};
+ghost use Rattle.path_delays.specs.JoinedPairs.{ShowsTooMany};
 ghost use Rattle.cts_engine.specs.Outcomes.{BeginsLowest, IsNeverOutcome};
 ghost use Rattle.cts_engine.specs.ScheduleOutcomes.{HasSmallTimes, IsScheduleOutcome, period_outcome};
 
 use crate::SynthFault;
-use crate::pairs::levels_of;
+use crate::order::levels_of;
 use crate::period::{PeriodOutcome, Timing, timing_of};
 use cts_base::{Fraction, Listed};
 use cts_model::{Circuit, Constraint, PeriodShow, Schedule, Slack, Tech, ZeroSkew};
@@ -37,6 +37,10 @@ pub enum ScheduleOutcome {
 }
 
 /// The least schedule of a circuit at its least period, in ticks.
+///
+/// # Errors
+///
+/// More than 1,048,576 pairs of registers are joined by paths, or memory was refused.
 pub fn schedule_of(
     alloc: Global,
     circuit: &Circuit,
@@ -49,7 +53,7 @@ pub fn schedule_of(
     ensures never { IfOk result (λ outcome.
         IsNeverOutcome (period_outcome outcome) ↔ HasNoPeriod circuit.now tech.now) }
     ensures few { IfOk result (λ _. JoinsMoreThan circuit.now 1048576 → ⊥) }
-    ensures many { IfErr result (IsCaused circuit.now) }
+    ensures many { IfErr result (ShowsTooMany circuit.now) }
 {
     let levels = levels_of(alloc, circuit)?;
     let Timing {

@@ -9,7 +9,7 @@ ghost use Rattle.cts_model.specs.timing.LeastPeriods.{HasNoPeriod};
 ghost use Rattle.cts_model.specs.timing.PairLists.{JoinsMoreThan};
 ghost use Rattle.cts_model.specs.placement.Points.{IsPointBelow, IsUvBelow, IsUvMultipleOf, rotated};
 ghost use Rattle.cts_model.specs.tree.Problems.{grid_of, on_grid, steps_of_micro};
-ghost use Rattle.cts_engine.specs.Faults.{IsCaused};
+ghost use Rattle.path_delays.specs.JoinedPairs.{ShowsTooMany};
 ghost use Rattle.cts_engine.specs.SessionOutcomes.{ForbidsFromLowest, HasSmallGrid, IsGrid, IsNeverSession, IsSessionOutcome, StandsAt};
 
 use crate::SynthFault;
@@ -36,6 +36,10 @@ pub enum SessionOutcome {
 
 /// The clock tree of a problem as a session, in which sinks may move while its merges are kept. The
 /// period, the schedule and the topology are those of `synthesize`.
+///
+/// # Errors
+///
+/// More than 1,048,576 pairs of registers are joined by paths, or memory was refused.
 pub fn session_of(alloc: Global, problem: &Problem) -> Result<SessionOutcome, SynthFault>
     ensures ok { IfOk result (IsSessionOutcome problem.now) }
     ensures small { IfOk result HasSmallGrid }
@@ -43,7 +47,7 @@ pub fn session_of(alloc: Global, problem: &Problem) -> Result<SessionOutcome, Sy
     ensures never { IfOk result (λ outcome.
         IsNeverSession outcome ↔ HasNoPeriod problem.now.circuit problem.now.tech) }
     ensures few { IfOk result (λ _. JoinsMoreThan problem.now.circuit 1048576 → ⊥) }
-    ensures many { IfErr result (IsCaused problem.now.circuit) }
+    ensures many { IfErr result (ShowsTooMany problem.now.circuit) }
 {
     match timed_sinks(alloc, problem)? {
         SinkOutcome::Never(cycle) => Ok(SessionOutcome::Never(cycle)),

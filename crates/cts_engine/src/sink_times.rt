@@ -1,12 +1,12 @@
 ghost use Rattle.std.specs.Prelude.{◌≡◌, IfOk, IfErr};
 ghost use Rattle.cts_model.specs.timing.PairLists.{JoinsMoreThan};
 ghost use Rattle.gate_order.specs.LevelParts.{IsLevelsOf};
-ghost use Rattle.cts_engine.specs.Faults.{IsCaused};
+ghost use Rattle.path_delays.specs.JoinedPairs.{ShowsTooMany};
 ghost use Rattle.cts_engine.specs.RegisterTimes.{HasLeastPeriod};
 ghost use Rattle.cts_engine.specs.SinkOutcomes.{AreTimedSinks, IsSinkOutcome, StartsLowest};
 
 use crate::SynthFault;
-use crate::pairs::levels_of;
+use crate::order::levels_of;
 use crate::period::{PeriodOutcome, Timing, timing_of};
 use crate::times::{Times, times_of};
 use cts_base::{Fraction, Listed, NoMemory};
@@ -37,7 +37,7 @@ pub(crate) fn timed_sinks(alloc: Global, problem: &Problem) -> Result<SinkOutcom
     ensures ok { IfOk result (IsSinkOutcome problem.now) }
     ensures lowest { IfOk result StartsLowest }
     ensures few { IfOk result (λ _. JoinsMoreThan problem.now.circuit 1048576 → ⊥) }
-    ensures many { IfErr result (IsCaused problem.now.circuit) }
+    ensures many { IfErr result (ShowsTooMany problem.now.circuit) }
 {
     let levels = levels_of(alloc, &problem.circuit)?;
     let Timing {

@@ -3,7 +3,7 @@ ghost use Rattle.cts_model.specs.timing.LeastPeriods.{HasNoPeriod};
 ghost use Rattle.cts_model.specs.timing.PairLists.{JoinsMoreThan};
 ghost use Rattle.cts_model.specs.report.Shown.{sinks_in};
 ghost use Rattle.cts_model.specs.tree.Topologies.{IsTopology};
-ghost use Rattle.cts_engine.specs.Faults.{IsCaused};
+ghost use Rattle.path_delays.specs.JoinedPairs.{ShowsTooMany};
 ghost use Rattle.cts_engine.specs.SinkOutcomes.{AreTimedSinks};
 ghost use Rattle.cts_engine.specs.Syntheses.{IsReportWith};
 ghost use Rattle.cts_engine.specs.SynthesisOutcomes.{BeginsLowest, IsNeverOutcome, IsOutcome, IsOutcomeWith, IsShownOutcome};
@@ -28,6 +28,10 @@ pub enum Outcome {
 
 /// The clock tree of a problem, with what shows that its period, its schedule and its wire are the
 /// least.
+///
+/// # Errors
+///
+/// More than 1,048,576 pairs of registers are joined by paths, or memory was refused.
 pub fn synthesize(alloc: Global, problem: &Problem) -> Result<Outcome, SynthFault>
     ensures ok { IfOk result (IsOutcome problem.now) }
     ensures shown { IfOk result (IsShownOutcome problem.now) }
@@ -35,7 +39,7 @@ pub fn synthesize(alloc: Global, problem: &Problem) -> Result<Outcome, SynthFaul
     ensures never { IfOk result (λ outcome.
         IsNeverOutcome outcome ↔ HasNoPeriod problem.now.circuit problem.now.tech) }
     ensures few { IfOk result (λ _. JoinsMoreThan problem.now.circuit 1048576 → ⊥) }
-    ensures many { IfErr result (IsCaused problem.now.circuit) }
+    ensures many { IfErr result (ShowsTooMany problem.now.circuit) }
 {
     match timed_sinks(alloc, problem)? {
         SinkOutcome::Never(cycle) => Ok(Outcome::Never(cycle)),
@@ -50,6 +54,10 @@ pub fn synthesize(alloc: Global, problem: &Problem) -> Result<Outcome, SynthFaul
 /// The clock tree of a problem with a given topology, whether or not another has less wire, with
 /// what shows that its period and its schedule are the least, and its wire the least for this
 /// topology.
+///
+/// # Errors
+///
+/// More than 1,048,576 pairs of registers are joined by paths, or memory was refused.
 pub fn synthesize_with(
     alloc: Global,
     problem: &Problem,
@@ -62,7 +70,7 @@ pub fn synthesize_with(
     ensures never { IfOk result (λ outcome.
         IsNeverOutcome outcome ↔ HasNoPeriod problem.now.circuit problem.now.tech) }
     ensures few { IfOk result (λ _. JoinsMoreThan problem.now.circuit 1048576 → ⊥) }
-    ensures many { IfErr result (IsCaused problem.now.circuit) }
+    ensures many { IfErr result (ShowsTooMany problem.now.circuit) }
 {
     match timed_sinks(alloc, problem)? {
         SinkOutcome::Never(cycle) => Ok(Outcome::Never(cycle)),

@@ -27,6 +27,10 @@ use report_text::{push_count, push_line, push_period};
 use std::alloc::Global;
 
 /// The least period and the least schedule of a circuit that serve the delay tables of all corners.
+///
+/// # Errors
+///
+/// Too many pairs of registers are joined by paths, or memory was refused.
 pub fn serve_corners(alloc: Global, told: &Corners) -> Result<Answer, Failure>
     requires acyclic { (loop : List ℕ) → IsLoop told.now.circuit.signals loop → ⊥ }
     requires some { 1 ≤ length told.now.techs }

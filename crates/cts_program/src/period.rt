@@ -22,6 +22,10 @@ use report_text::{push_period, push_show};
 use std::alloc::Global;
 
 /// The least period of a circuit, whenever the clock reaches each register.
+///
+/// # Errors
+///
+/// Too many pairs of registers are joined by paths, or memory was refused.
 pub fn period(alloc: Global, denoted: &Denoted) -> Result<Answer, Failure>
     requires { (loop : List ℕ) → IsLoop denoted.now.circuit.signals loop → ⊥ }
     ensures few { IfOk result (λ _. JoinsMoreThan denoted.now.circuit 1048576 → ⊥) }
@@ -60,6 +64,10 @@ fn period_answer(
 }
 
 /// Appends the lines of a least period, with and without skew, and of what shows the one with it.
+///
+/// # Errors
+///
+/// Memory was refused.
 pub fn push_found(
     out: &mut Vec<u8>,
     circuit: &Circuit,

@@ -21,6 +21,10 @@ use report_text::{push_count, push_register};
 use std::alloc::Global;
 
 /// The least schedule of a circuit at its least period.
+///
+/// # Errors
+///
+/// Too many pairs of registers are joined by paths, or memory was refused.
 pub fn schedule(alloc: Global, denoted: &Denoted) -> Result<Answer, Failure>
     requires { (loop : List ℕ) → IsLoop denoted.now.circuit.signals loop → ⊥ }
     ensures few { IfOk result (λ _. JoinsMoreThan denoted.now.circuit 1048576 → ⊥) }

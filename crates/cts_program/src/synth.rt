@@ -19,6 +19,10 @@ use report_text::write_report;
 use std::alloc::Global;
 
 /// The clock tree of a problem.
+///
+/// # Errors
+///
+/// Too many pairs of registers are joined by paths, or memory was refused.
 pub fn synth(alloc: Global, problem: &Problem) -> Result<Answer, Failure>
     ensures few { IfOk result (λ _. JoinsMoreThan problem.now.circuit 1048576 → ⊥) }
     ensures text { IfOk result (λ answer.
@@ -30,6 +34,10 @@ pub fn synth(alloc: Global, problem: &Problem) -> Result<Answer, Failure>
 }
 
 /// The clock tree of a problem by this topology.
+///
+/// # Errors
+///
+/// Too many pairs of registers are joined by paths, or memory was refused.
 pub fn embed(alloc: Global, problem: &Problem, topology: &Topology) -> Result<Answer, Failure>
     requires { IsTopology (length problem.now.circuit.registers) topology.now.merges }
     ensures few { IfOk result (λ _. JoinsMoreThan problem.now.circuit 1048576 → ⊥) }

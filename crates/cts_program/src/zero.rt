@@ -18,6 +18,10 @@ use report_text::{push_constraint, push_line, push_value};
 use std::alloc::Global;
 
 /// The least period of a circuit at equal arrivals.
+///
+/// # Errors
+///
+/// Too many pairs of registers are joined by paths, or memory was refused.
 pub fn zero(alloc: Global, denoted: &Denoted) -> Result<Answer, Failure>
     requires { (loop : List ℕ) → IsLoop denoted.now.circuit.signals loop → ⊥ }
     ensures few { IfOk result (λ _. JoinsMoreThan denoted.now.circuit 1048576 → ⊥) }
@@ -49,6 +53,10 @@ fn zero_text(
 }
 
 /// Appends the line for the least period at equal arrivals, in ticks.
+///
+/// # Errors
+///
+/// Memory was refused.
 pub fn push_zero(out: &mut Vec<u8>, outcome: &ZeroSkew) -> Result<(), NoMemory>
     ensures { OnOk result (out.new.items ≡ out.old.items ++ line_of (zero_line outcome.now)) }
 {

@@ -8,8 +8,6 @@ use Rattle.bench_reader.specs.declared.fault.BenchFault.{BenchFault}
 use Rattle.bench_reader.specs.declared.fault.BenchFault.TheVariants as bench
 use Rattle.delay_tables.specs.declared.fault.TechFault.{TechFault}
 use Rattle.delay_tables.specs.declared.fault.TechFault.TheVariants as tech
-use Rattle.cts_engine.specs.declared.fault.SynthFault.{SynthFault}
-use Rattle.cts_engine.specs.declared.fault.SynthFault.TheVariants as synth
 use Rattle.path_delays.specs.declared.fault.PairFault.{PairFault}
 use Rattle.path_delays.specs.declared.fault.PairFault.TheVariants as pairs
 use Rattle.cts_model.specs.declared.kind.Kind.{Kind}
@@ -58,11 +56,6 @@ corner_failure_of number tech.NoMemory = NoMemory
 corner_failure_of number fault = CornerTech number fault
 
 -- the failure where a circuit has no outcome
-abbrev pub synth_failure_of : SynthFault → Failure
-synth_failure_of synth.TooManyPairs = Pairs
-synth_failure_of synth.NoMemory = NoMemory
-
--- the failure where the pairs of a circuit have no delays
 abbrev pub pair_failure_of : PairFault → Failure
 pair_failure_of pairs.TooManyPairs = Pairs
 pair_failure_of pairs.NoMemory = NoMemory

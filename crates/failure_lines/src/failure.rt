@@ -3,7 +3,7 @@
 ghost use Rattle.std.specs.Prelude.{◌≡◌, ◌++◌, ◌∷◌, [], decimal};
 ghost use Rattle.std.specs.List.{flat_map};
 ghost use Rattle.failure_lines.specs.declared.failure.Failure.TheVariants.{NoMemory};
-ghost use Rattle.failure_lines.specs.Failures.{words_failure_of, bench_failure_of, tech_failure_of, synth_failure_of, report_failure_of, topology_failure_of, moves_failure_of, status_of, limit_word, gate_word, number_word, shown_byte, shown, spaced, loop_line, ended, bench_line, tech_line, placement_line, topology_line, moves_line, fault_line, reason_line, not_shown_line, failure_line, Reports, Writes, corner_failure_of, pair_failure_of, corner_line, table_fault_line};
+ghost use Rattle.failure_lines.specs.Failures.{words_failure_of, bench_failure_of, tech_failure_of, report_failure_of, topology_failure_of, moves_failure_of, status_of, limit_word, gate_word, number_word, shown_byte, shown, spaced, loop_line, ended, bench_line, tech_line, placement_line, topology_line, moves_line, fault_line, reason_line, not_shown_line, failure_line, Reports, Writes, corner_failure_of, pair_failure_of, corner_line, table_fault_line};
 
 use crate::file_kind::FileKind;
 use crate::not_shown::NotShown;
@@ -12,7 +12,6 @@ use bench_reader::{BenchFault, Which};
 use cert_check::Reason;
 use command_line::WordsFault;
 use cts_base::{Name, NumberFault};
-use cts_engine::SynthFault;
 use cts_io::{Failed, Sink, write_whole};
 use cts_model::Kind;
 use delay_tables::TechFault;
@@ -432,17 +431,6 @@ impl From<BenchFault> for Failure {
         match fault {
             BenchFault::NoMemory => Failure::NoMemory,
             _ => Failure::Bench(fault),
-        }
-    }
-}
-
-impl From<SynthFault> for Failure {
-    ghost from_gives = { λ fault failure. failure ≡ synth_failure_of fault };
-
-    fn from(fault: SynthFault) -> Failure {
-        match fault {
-            SynthFault::TooManyPairs => Failure::Pairs,
-            SynthFault::NoMemory => Failure::NoMemory,
         }
     }
 }

@@ -17,6 +17,10 @@ use failure_lines::Failure;
 use std::alloc::Global;
 
 /// What the netlist in a file denotes, with the delays in another or the built-in ones.
+///
+/// # Errors
+///
+/// The first file that can't be read or is refused, or want of memory.
 pub fn read_circuit<I: Inputs>(
     alloc: Global,
     inputs: &mut I,

@@ -27,6 +27,10 @@ use topology_file::read_topology;
 const FILE_LIMIT: usize = 16_777_216;
 
 /// The circuit that the netlist in a file denotes.
+///
+/// # Errors
+///
+/// The file can't be read, is too long or is no netlist, or memory was refused.
 pub fn read_netlist<I: Inputs>(
     alloc: Global,
     inputs: &mut I,
@@ -46,6 +50,10 @@ pub fn read_netlist<I: Inputs>(
 }
 
 /// The delays that the table in a file denotes, for a circuit without the host.
+///
+/// # Errors
+///
+/// The file can't be read, is too long or is no delay table, or memory was refused.
 pub fn read_table<I: Inputs>(
     alloc: Global,
     inputs: &mut I,
@@ -66,6 +74,10 @@ pub fn read_table<I: Inputs>(
 }
 
 /// Where the placement in a file has the circuit's registers and the table's source.
+///
+/// # Errors
+///
+/// The file can't be read, is too long or is no placement, or memory was refused.
 pub fn read_placement<I: Inputs>(
     alloc: Global,
     inputs: &mut I,
@@ -96,6 +108,10 @@ pub fn read_placement<I: Inputs>(
 }
 
 /// The report of a problem in a file. One that is too long or has a fault isn't shown.
+///
+/// # Errors
+///
+/// The file can't be read, is too long or spells no report, or memory was refused.
 pub fn read_report_file<I: Inputs>(
     alloc: Global,
     inputs: &mut I,
@@ -116,6 +132,10 @@ pub fn read_report_file<I: Inputs>(
 }
 
 /// The topology of a problem's registers in a file.
+///
+/// # Errors
+///
+/// The file can't be read, is too long or is no topology, or memory was refused.
 pub fn read_topology_file<I: Inputs>(
     alloc: Global,
     inputs: &mut I,
@@ -136,6 +156,10 @@ pub fn read_topology_file<I: Inputs>(
 }
 
 /// The moves of a problem's registers in a file.
+///
+/// # Errors
+///
+/// The file can't be read, is too long or holds no moves, or memory was refused.
 pub fn read_moves_file<I: Inputs>(
     alloc: Global,
     inputs: &mut I,
@@ -156,6 +180,10 @@ pub fn read_moves_file<I: Inputs>(
 }
 
 /// The bytes of a file.
+///
+/// # Errors
+///
+/// The file can't be read or is too long, or memory was refused.
 pub fn read_file<I: Inputs>(
     alloc: Global,
     inputs: &mut I,

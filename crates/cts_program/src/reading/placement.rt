@@ -43,6 +43,10 @@ fn no_place(alloc: Global, name: &[u8]) -> Failure
 }
 
 /// The same bytes once more.
+///
+/// # Errors
+///
+/// Memory was refused.
 pub fn copied(alloc: Global, name: &[u8]) -> Result<Name, NoMemory>
     ensures { IfOk result (λ copy. copy ≡ name.now) }
 {
