@@ -8,7 +8,7 @@ use crate::constraint_tests::constraint;
 use crate::engine_tests::Row;
 use cts_base::{Fraction, Listed};
 use cts_model::Constraint;
-use std::alloc::Global;
+use std::alloc::{AllocError, Global};
 use std::process::Abort;
 use std::test::Fail;
 
@@ -59,6 +59,19 @@ pub(crate) fn s27() -> [Constraint; 14] {
         setup(2, 2, 7),
         hold(2, 2, -2),
     ]
+}
+
+// The constraints of 4,096 registers in a ring: each register and each way takes a tick, and the way
+// from the first to the second register up to a tick more.
+pub(crate) fn slow_ring(alloc: Global) -> Result<Vec<Constraint>, AllocError> {
+    let mut constraints = Vec::new(alloc);
+    for register in 0..4096u32 {
+        let next = (register + 1) % 4096;
+        let slow = if register == 0 { 3 } else { 2 };
+        constraints.push(setup(register, next, slow))?;
+        constraints.push(hold(next, register, -1))?;
+    }
+    Ok(constraints)
 }
 
 // The constraint, which is small.

@@ -1,7 +1,7 @@
 use crate::constraint_lists::{constraints_of, hold, list_of, setup};
 use crate::engine_tests::Row;
 use crate::same::expect_same;
-use critical_cycle::{Period, Room, least_period, least_period_in};
+use critical_cycle::{Period, least_period, least_period_in};
 use cts_base::Listed;
 use std::alloc::Global;
 use std::process::Abort;
@@ -32,9 +32,11 @@ fn text_of(alloc: Global, period: &Period) -> Result<String, Fail> {
     Ok(text)
 }
 
+// What the answer says, also in lists that hold a value and places before.
 fn expect_period(
     rt: &impl Abort,
     alloc: Global,
+    (value, place): (i128, u32),
     registers: usize,
     floor: i128,
     rows: &[Row],
@@ -46,11 +48,27 @@ fn expect_period(
     let period = least_period(alloc, registers, &list, floor)?;
     let text = text_of(alloc, &period)?;
     expect_same(rt, text.as_str(), wanted, &(registers, floor, rows));
+    let values = Listed::from_vec(vec![in alloc; value; registers]?);
+    let parents = Listed::from_vec(vec![in alloc; place; registers]?);
+    let cycle = Listed::from_vec(vec![in alloc; place; registers]?);
+    let period = least_period_in(values, parents, cycle, &list, floor);
+    let text = text_of(alloc, &period)?;
+    expect_same(rt, text.as_str(), wanted, &(value, place, rows));
     Ok(())
 }
 
+// Two registers with a path of 7 ticks from the first to the second and one of 4 ticks back.
+const THERE_AND_BACK: &[Row] = &[
+    (true, 0, 1, 7),
+    (false, 1, 0, -7),
+    (true, 1, 0, 4),
+    (false, 0, 1, -4),
+];
+
 // So many registers, a floor, the constraints, and what the answer says.
-const PERIODS: [(usize, i128, &[Row], &str); 12] = [
+const PERIODS: [(usize, i128, &[Row], &str); 15] = [
+    (2, 0, THERE_AND_BACK, "11/2 0 2"),
+    (2, 6, THERE_AND_BACK, "floor"),
     (1, 7, &[], "floor"),
     (1, 3, &[(true, 0, 0, 5)], "5/1 0"),
     (1, 3, &[(false, 0, 0, 1)], "never 0"),
@@ -91,6 +109,7 @@ const PERIODS: [(usize, i128, &[Row], &str); 12] = [
         "11/1 2 1",
     ),
     (2, 0, &[(false, 0, 1, -3), (false, 1, 0, 4)], "never 0 1"),
+    (2, 0, &[(false, 1, 0, 0), (false, 0, 1, 1)], "never 1 0"),
     (
         3,
         9,
@@ -102,32 +121,38 @@ const PERIODS: [(usize, i128, &[Row], &str); 12] = [
 #[test]
 fn finds_the_least_period(rt: HostRuntime) -> Result<(), Fail> {
     for (registers, floor, rows, wanted) in &PERIODS {
-        expect_period(&rt, rt.alloc(), *registers, *floor, rows, wanted)?;
+        expect_period(&rt, rt.alloc(), (-3, 7), *registers, *floor, rows, wanted)?;
     }
     Ok(())
 }
 
-fn expect_over(rt: &impl Abort, alloc: Global, value: i128, place: u32) -> Result<(), Fail> {
-    let constraints = [setup(0, 1, 6), setup(1, 2, 4), setup(2, 0, 3)];
-    let list = list_of(rt, alloc, 3, &constraints)?;
-    let room = Room {
-        values: Listed::from_vec(vec![in alloc; value; 3]?),
-        parents: Listed::from_vec(vec![in alloc; place; 3]?),
-        cycle: Listed::from_vec(vec![in alloc; place; 3]?),
-        marks: Listed::from_vec(vec![in alloc; place; 3]?),
-    };
-    let period = least_period_in(room, &list, 1);
-    let text = text_of(alloc, &period)?;
-    expect_same(rt, text.as_str(), "13/3 0 1 2", &(value, place));
-    Ok(())
-}
+// What the lists may hold before.
+const ENTRIES: [(i128, u32); 4] = [(i128::MAX, u32::MAX), (i128::MIN, 0), (0, 1), (7, 4097)];
 
 // Whatever the lists hold, the answer is the same.
 #[test]
 fn overwrites_what_the_lists_hold(rt: HostRuntime) -> Result<(), Fail> {
-    expect_over(&rt, rt.alloc(), i128::MAX, u32::MAX)?;
-    expect_over(&rt, rt.alloc(), i128::MIN, 0)?;
-    expect_over(&rt, rt.alloc(), 0, 2)
+    for entries in &ENTRIES {
+        expect_period(&rt, rt.alloc(), *entries, 2, 0, THERE_AND_BACK, "11/2 0 2")?;
+    }
+    Ok(())
+}
+
+// A ring of 4,096 registers with a tick more on its first way than on the others.
+#[test]
+fn finds_the_largest_denominator_in_place(rt: HostRuntime) -> Result<(), Fail> {
+    let alloc = rt.alloc();
+    let list = list_of(&rt, alloc, 4096, slow_ring(alloc)?.as_slice())?;
+    let values = Listed::from_vec(vec![in alloc; -3i128; 4096]?);
+    let parents = Listed::from_vec(vec![in alloc; 7u32; 4096]?);
+    let cycle = Listed::from_vec(vec![in alloc; 7u32; 4096]?);
+    let Period::Cycle { value, cycle } = least_period_in(values, parents, cycle, &list, 0) else {
+        return Err("a cycle".into());
+    };
+    expect_same(&rt, (value.num(), value.den()), (8193, 4096), &"value");
+    expect_same(&rt, cycle.len(), 4096, &"cycle.len");
+    expect_same(&rt, cycle.get(4095).copied(), Some(8190), &"cycle.get");
+    Ok(())
 }
 
 // Setup constraints of the greatest weight round 4,097 registers, and hold constraints of the least

@@ -1,11 +1,11 @@
 use crate::constraint_lists::{
-    constraints_of, expect_admitted, hold, list_of, s27, setup, small_period,
+    constraints_of, expect_admitted, list_of, s27, setup, slow_ring, small_period,
 };
 use crate::engine_tests::Row;
 use crate::same::expect_same;
 use cts_base::Listed;
 use cts_model::{Constraint, Schedule};
-use schedule::{Room, least_schedule, least_schedule_in};
+use schedule::{least_schedule, least_schedule_in};
 use std::alloc::Global;
 use std::process::Abort;
 use std::test::Fail;
@@ -16,9 +16,11 @@ fn expect_at(rt: &impl Abort, schedule: &Schedule, den: i128, arrivals: &[i128])
     expect_same(rt, schedule.at.as_slice(), arrivals, &"schedule.at");
 }
 
+// The schedule is at these arrivals, also in a list that holds this entry before.
 fn expect_schedule(
     rt: &impl Abort,
     alloc: Global,
+    entry: i128,
     (num, den): (i128, i128),
     constraints: &[Constraint],
     arrivals: &[i128],
@@ -27,6 +29,9 @@ fn expect_schedule(
     let list = list_of(rt, alloc, arrivals.len(), constraints)?;
     expect_admitted(rt, &list, arrivals, period);
     let schedule = least_schedule(alloc, arrivals.len(), &list, period)?;
+    expect_at(rt, &schedule, den, arrivals);
+    let at = Listed::from_vec(vec![in alloc; entry; arrivals.len()]?);
+    let schedule = least_schedule_in(at, &list, period);
     expect_at(rt, &schedule, den, arrivals);
     Ok(())
 }
@@ -59,35 +64,23 @@ fn finds_the_least_schedule(rt: HostRuntime) -> Result<(), Fail> {
         expect_schedule(
             &rt,
             rt.alloc(),
+            7,
             *period,
             &constraints_of(&rt, rt.alloc(), rows),
             arrivals,
         )?;
     }
-    expect_schedule(&rt, rt.alloc(), (13, 1), &s27(), &[2, 0, 0])
+    expect_schedule(&rt, rt.alloc(), -3, (13, 1), &s27(), &[2, 0, 0])
 }
 
-fn expect_over(rt: &impl Abort, alloc: Global, entry: i128, place: u32) -> Result<(), Fail> {
-    let arrivals = [0, 3];
-    let period = small_period(rt, 11, 2);
-    let list = list_of(rt, alloc, 2, &[setup(0, 1, 7), setup(1, 0, 4)])?;
-    expect_admitted(rt, &list, &arrivals, period);
-    let room = Room {
-        at: Listed::from_vec(vec![in alloc; entry; 2]?),
-        parents: Listed::from_vec(vec![in alloc; place; 2]?),
-        links: Listed::from_vec(vec![in alloc; place; 2]?),
-    };
-    let schedule = least_schedule_in(room, &list, period);
-    expect_at(rt, &schedule, 2, &arrivals);
-    Ok(())
-}
-
-// Whatever the lists hold, the answer is the same.
+// Whatever the list holds, the schedule is the same.
 #[test]
-fn overwrites_what_the_lists_hold(rt: HostRuntime) -> Result<(), Fail> {
-    expect_over(&rt, rt.alloc(), -5, 0)?;
-    expect_over(&rt, rt.alloc(), 1_000_000_000_000_000_000, 1)?;
-    expect_over(&rt, rt.alloc(), i128::MAX, u32::MAX)
+fn overwrites_what_the_list_holds(rt: HostRuntime) -> Result<(), Fail> {
+    for entry in [i128::MAX, i128::MIN, 0, 1_000_000_000_000_000_000].as_slice() {
+        let constraints = [setup(0, 1, 7), setup(1, 0, 4)];
+        expect_schedule(&rt, rt.alloc(), *entry, (11, 2), &constraints, &[0, 3])?;
+    }
+    Ok(())
 }
 
 // A ring of 4,096 registers whose constraints are listed against it: each asks for 2 ticks more
@@ -104,10 +97,18 @@ fn goes_round_against_the_list(rt: HostRuntime) -> Result<(), Fail> {
     for register in 0..4096u32 {
         arrivals.push(i128::from(2 * register))?;
     }
-    let period = small_period(&rt, 5, 1);
-    let list = list_of(&rt, alloc, arrivals.len(), constraints.as_slice())?;
-    expect_admitted(&rt, &list, arrivals.as_slice(), period);
-    let schedule = least_schedule(alloc, arrivals.len(), &list, period)?;
-    expect_at(&rt, &schedule, 1, arrivals.as_slice());
-    Ok(())
+    expect_schedule(&rt, alloc, -3, (5, 1), &constraints, &arrivals)
+}
+
+// At the period of the ring each register but the first comes 1/4096 tick after the next.
+#[test]
+fn goes_round_at_the_largest_denominator(rt: HostRuntime) -> Result<(), Fail> {
+    let alloc = rt.alloc();
+    let mut arrivals = Vec::new(alloc);
+    arrivals.push(0i128)?;
+    for register in 1..4096u32 {
+        arrivals.push(i128::from(4096 - register))?;
+    }
+    let constraints = slow_ring(alloc)?;
+    expect_schedule(&rt, alloc, 7, (8193, 4096), &constraints, &arrivals)
 }
