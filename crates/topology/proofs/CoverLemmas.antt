@@ -2,7 +2,7 @@
 use Rattle.std.proofs.Common.{◌≡◌, ◌⊎◌, ℕ, zero, suc, ◌<◌, ◌≤◌, ◌+◌, Bool, true, false, cond, Option, Some, None, List, [], ◌∷◌, ◌++◌, ℤ, pos, ◌<ℤ◌, length, inl, inr, refl, sym, ap, subst, ◌∙◌, arith}
 use Rattle.std.specs.List.{All, Contains, slice_get, sum_by}
 use Rattle.std.specs.List.Sorted.{IsPermutation}
-use Rattle.std.specs.Option.{IfSome, option_to_list, option_and_then, option_map_or}
+use Rattle.std.specs.Option.{IfSome, option_to_list, option_map_or}
 use Rattle.std.specs.Ordering.{int_eq}
 use Rattle.std.specs.Bool.{nat_lt}
 use Rattle.std.proofs.lemmas.Bool.{cases_lt, lt-ltb, le-ltb, ltb-true}
@@ -369,8 +369,13 @@ none_is_due live waiting kept bound waits cost first second least not_first cove
     not_before pair is above before = elim before [
       | inl less ↦ omega (arith, ints, less, cost, is.cost, cost_least is.one is.other)
       | inr (_, lower) ↦ elim lower [
-        | inl below ↦ omega (arith, below, first, waits.lowest pair.first
-            (has_unjoined live pair.first is.one is.first))
+        | inl below ↦ omega (
+          arith,
+          below,
+          first,
+          waits.lowest pair.first
+              (has_unjoined live pair.first is.one is.first),
+        )
         | inr (_, below) ↦ omega (arith, below, second, above)
       ]
     ]

@@ -1,6 +1,6 @@
 -- The clusters of the nodes, under their keys and at their places.
-use Rattle.std.proofs.Common.{◌≡◌, ◌≢◌, ℕ, ◌<◌, Option, Some, None, get_or, length, pos, refl, sym, ap, subst, ◌∙◌}
-use Rattle.std.specs.List.{Contains, slice_get, slice_index_or}
+use Rattle.std.proofs.Common.{◌≡◌, ℕ, ◌<◌, Option, Some, None, get_or, length, pos, refl, sym, ap, subst, ◌∙◌}
+use Rattle.std.specs.List.{slice_get, slice_index_or}
 use Rattle.std.specs.Option.{IsSome, IsSomeAnd, option_and_then, option_map, option_map_or}
 use Rattle.std.proofs.lemmas.List.{get_or_default}
 use Rattle.std.proofs.lemmas.Option.{slice_get-get_or, slice_get_within}
@@ -186,8 +186,7 @@ place_there live node cluster ordered has =
     let (place, within, here) = ordered.all node found.key found.keyed in
     let key : slice_index_or live.order.items place 0 ≡ found.key =
     get_or_default live.order.items place 0 found.key within ∙ here in
-    let there : entry_at live place ≡ Some found.entry = ap (get live.clusters) key ∙ found.there in
-    (
+    let there : entry_at live place ≡ Some found.entry = ap (get live.clusters) key ∙ found.there in (
       place,
       within,
       ap (λ o. option_map_or (λ (entry : Entry). entry.node) o 0) there

@@ -1,5 +1,5 @@
 -- The clusters that no merge joins yet, and which pairs of them are kept.
-use Rattle.std.specs.Prelude.{◌≡◌, ◌≢◌, ◌↔◌, ◌⊎◌, ℕ, ◌<◌, ◌≤◌, ◌+◌, Option, Some, None, IsSome, IsSomeAnd, option_map, List, [], ◌∷◌, ◌++◌, All, Contains, length, take, slice_get, slice_index_or, ℤ, pos, ◌+ℤ◌, ◌≤ℤ◌, ◌<ℤ◌, nat_lt, if◌then◌else◌, ◌^◌}
+use Rattle.std.specs.Prelude.{◌≡◌, ◌≢◌, ◌↔◌, ◌⊎◌, ℕ, ◌<◌, ◌≤◌, ◌+◌, Option, Some, None, IsSome, IsSomeAnd, option_map, List, [], ◌++◌, All, Contains, length, take, slice_get, slice_index_or, ℤ, pos, ◌+ℤ◌, ◌≤ℤ◌, ◌<ℤ◌, nat_lt, if◌then◌else◌, ◌^◌}
 use Rattle.std.specs.List.Sorted.{IsPermutation}
 use Rattle.std.specs.Option.{option_and_then, option_map_or}
 use Rattle.slab.specs.Slab.{get}
