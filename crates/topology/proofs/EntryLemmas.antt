@@ -186,7 +186,8 @@ place_there live node cluster ordered has =
     let (place, within, here) = ordered.all node found.key found.keyed in
     let key : slice_index_or live.order.items place 0 ≡ found.key =
     get_or_default live.order.items place 0 found.key within ∙ here in
-    let there : entry_at live place ≡ Some found.entry = ap (get live.clusters) key ∙ found.there in (
+    let there : entry_at live place ≡ Some found.entry =
+    ap (get live.clusters) key ∙ found.there in (
       place,
       within,
       ap (λ o. option_map_or (λ (entry : Entry). entry.node) o 0) there

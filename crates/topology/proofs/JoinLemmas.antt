@@ -24,28 +24,13 @@ use Rattle.topology.specs.declared.live.Live.{Live}
 use Rattle.topology.specs.declared.pair.Pair.{Pair}
 use Rattle.topology.specs.declared.waiting.Waiting.{Waiting}
 use Rattle.topology.specs.Pairs.{IsBefore, merge_of}
-use Rattle.topology.specs.LiveClusters.{HasCluster, IsPair, IsCheapestPair, IsOrdered, IsAdded, IsJoined, IsLeft, IsCovered, AreCovered, AreKept, AreLive, AreWaiting, WereCheapest, AreFirstSinks, AreFirstCovered, IsUnjoined, cluster_of, owner_of}
+use Rattle.topology.specs.LiveClusters.{HasCluster, IsPair, IsCheapestPair, IsAdded, IsJoined, IsLeft, IsCovered, AreCovered, AreKept, AreLive, AreWaiting, WereCheapest, AreFirstSinks, AreFirstCovered, IsUnjoined, cluster_of, owner_of}
 use Rattle.topology.proofs.EntryLemmas.{has_unjoined, node_within, one_cluster, unjoined_there}
 use Rattle.topology.proofs.ListLemmas.{pushed_cases}
 use Rattle.topology.proofs.MergeLemmas.{cheapest_is, node_live}
 use Rattle.topology.proofs.NearLemmas.{cost_least}
 
 -- ---- the sinks one by one
-
-pub no_sinks : (sinks : List Sink) (live : Live) → live.sinks ≡ length sinks → live.keys ≡ []
-    → live.order.items ≡ [] → IsOrdered live → AreFirstSinks sinks 0 live
-no_sinks sinks live sinks_is none empty ordered = record {
-  sinks_is = sinks_is;
-  ordered = ordered;
-  count = ap length none;
-  clusters = λ node cluster has. absurd (omega (
-    arith,
-    node_within live node cluster has,
-    ap length none,
-  ));
-  unjoined = λ node below. absurd (omega (arith, below));
-  left = ap length empty;
-}
 
 pub sink_added : (sinks : List Sink) (register : ℕ) (sink : Sink) (old new : Live)
     (cluster : Cluster) → slice_get sinks register ≡ Some sink → IsCluster (sink ∷ []) cluster

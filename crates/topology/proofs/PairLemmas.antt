@@ -127,5 +127,6 @@ has_found live pair found (held, first, second) = (
       (sym (subst (λ n. HasCluster live n held.one) first held.first) ∙ is.first))
       ∙ ap (cost_of is.one)
       (one_cluster held.other is.other
-      (sym (subst (λ n. HasCluster live n held.other) second held.second) ∙ is.second)) ∙ sym is.cost,
+      (sym (subst (λ n. HasCluster live n held.other) second held.second) ∙ is.second))
+      ∙ sym is.cost,
 )

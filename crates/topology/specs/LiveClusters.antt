@@ -87,8 +87,8 @@ abbrev pub IsUnder : Live → (key node : ℕ) → Type 0
 IsUnder live key node = (slice_get live.keys node ≡ Some (Some key))
     × IsSomeAnd (get live.clusters key) (λ entry. entry.node ≡ node)
 
--- each cluster that no merge joins is in the order under its node's key, by where it begins and then
--- by that number, and none is wider than that
+-- each cluster that no merge joins stands in the order under its node's key, by where it begins and
+-- then by the node's number, and none is wider than that
 pub record IsOrdered (live : Live) : Type 0 where
   pub few : length live.keys < 2 ^ 32
   pub keyed : (node key : ℕ) → slice_get live.keys node ≡ Some (Some key) → IsUnder live key node
