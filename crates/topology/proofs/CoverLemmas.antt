@@ -2,13 +2,12 @@
 use Rattle.std.proofs.Common.{◌≡◌, ◌⊎◌, ℕ, zero, suc, ◌<◌, ◌≤◌, ◌+◌, Bool, true, false, cond, Option, Some, None, List, [], ◌∷◌, ◌++◌, ℤ, pos, ◌<ℤ◌, length, inl, inr, refl, sym, ap, subst, ◌∙◌, arith}
 use Rattle.std.specs.List.{All, Contains, slice_get, sum_by}
 use Rattle.std.specs.List.Sorted.{IsPermutation}
-use Rattle.std.specs.Option.{IfSome, option_to_list, option_and_then, option_map_or}
+use Rattle.std.specs.Option.{IfSome, option_to_list, option_map_or}
 use Rattle.std.specs.Ordering.{int_eq}
 use Rattle.std.specs.Bool.{nat_lt}
 use Rattle.std.proofs.lemmas.Bool.{cases_lt, lt-ltb, le-ltb, ltb-true}
 use Rattle.std.proofs.lemmas.Bool.Decides.{Decides-int_eq}
 use Rattle.std.proofs.lemmas.Int.{ints}
-use Rattle.std.proofs.lemmas.Option.{slice_get_within}
 use Rattle.std.proofs.lemmas.List.Elements.{All-cons, All-contains, Contains-append_right}
 use Rattle.std.proofs.lemmas.List.Sorted.{Contains-permutation, IsPermutation-cons, IsPermutation-trans, sum_by-IsPermutation}
 use Rattle.std.proofs.lemmas.List.Sums.{sum_by-append, sum_by-cons}
@@ -18,8 +17,9 @@ use Rattle.topology.specs.declared.live.Live.{Live}
 use Rattle.topology.specs.declared.pair.Pair.{Pair}
 use Rattle.topology.specs.declared.waiting.Waiting.{Waiting}
 use Rattle.topology.specs.Pairs.{ComesFirst, IsBefore, IsAtMost, IsReplaced}
-use Rattle.topology.specs.LiveClusters.{HasCluster, IsPair, IsKept, IsKeptWith, IsNearest, IsCovered, AreCovered, AreSearched, AreWaiting, IsFirstOf, owner_of, other_of}
-use Rattle.topology.proofs.NearLemmas.{before_along, cost_least, lower_from, other_unjoined, sides}
+use Rattle.topology.specs.LiveClusters.{IsPair, IsKept, IsKeptWith, IsNearest, IsCovered, AreCovered, AreSearched, AreWaiting, IsFirstOf, IsUnjoined, cluster_of, owner_of, other_of}
+use Rattle.topology.proofs.EntryLemmas.{has_unjoined, node_within}
+use Rattle.topology.proofs.NearLemmas.{before_along, cost_least, lower_from, other_has, sides}
 
 -- ---- the next number
 
@@ -46,8 +46,7 @@ lower_is s p q e f ordered = elim (cases_lt q s) [
 -- where no pair is before the one on top, that with the next number at its cost is the cheapest
 pub next_nearest : (live : Live) (top next : Pair) (node : ℕ)
     → ((other : Pair) → IsPair live other → ¬ IsBefore other top)
-    → ((other : ℕ) → slice_get live.unjoined other ≡ Some true → other_of live.sinks top ≤ other
-    → node ≤ other)
+    → ((other : ℕ) → IsUnjoined live other → other_of live.sinks top ≤ other → node ≤ other)
     → IsKeptWith live (owner_of live.sinks top) node next → next.cost ≡ top.cost
     → IsNearest live (owner_of live.sinks top) (Some next)
 next_nearest live top next node least first held cost = record {
@@ -72,8 +71,7 @@ next_nearest live top next node least first held cost = record {
           arith,
           below,
           held.other,
-          first (other_of live.sinks pair)
-              (other_unjoined live (owner_of live.sinks top) pair kept) behind,
+          first (other_of live.sinks pair) (there pair kept) behind,
         )
   ];
   there = λ pair is. subst (IsKept live (owner_of live.sinks top)) (one_pair next pair is)
@@ -82,6 +80,12 @@ next_nearest live top next node least first held cost = record {
   where
     one_pair : (one other : Pair) → Some one ≡ Some other → one ≡ other
     one_pair one other is = cc
+
+    there : (pair : Pair) → IsKept live (owner_of live.sinks top) pair
+        → IsUnjoined live (other_of live.sinks pair)
+    there pair kept =
+        let (cluster, has) = other_has live (owner_of live.sinks top) pair kept in
+        has_unjoined live (other_of live.sinks pair) cluster has
 
 -- ---- every pair is covered
 
@@ -141,15 +145,11 @@ replaced_covers live from old new top found on_top covered replaced nearest = λ
 
 -- ---- fewer pairs are broken up
 
-abbrev pub cluster_at : Live → ℕ → Option Cluster
-cluster_at live node = option_and_then (λ b. cond b (slice_get live.clusters node) None)
-    (slice_get live.unjoined node)
-
 -- whether the pair is of two clusters
 abbrev pub has_pair : Live → Pair → Bool
 has_pair live pair = cond (nat_lt pair.first pair.second)
     (option_map_or (λ one. option_map_or (λ other. int_eq pair.cost (cost_of one other))
-    (cluster_at live pair.second) false) (cluster_at live pair.first) false) false
+    (cluster_of live pair.second) false) (cluster_of live pair.first) false) false
 
 abbrev pub broken : Live → Pair → ℕ
 broken live pair = cond (has_pair live pair) 0 1
@@ -158,15 +158,11 @@ broken live pair = cond (has_pair live pair) 0 1
 abbrev pub broken_pairs : Live → List Pair → ℕ
 broken_pairs live kept = sum_by (broken live) kept
 
-cluster_there : (live : Live) (node : ℕ) (cluster : Cluster) → HasCluster live node cluster
-    → cluster_at live node ≡ Some cluster
-cluster_there live node cluster has = rw has.unjoined has.cluster
-
 pair_whole : (live : Live) (pair : Pair) → IsPair live pair → has_pair live pair ≡ true
 pair_whole live pair is = rw (
   lt-ltb pair.first pair.second is.ordered,
-  cluster_there live pair.first is.one is.first,
-  cluster_there live pair.second is.other is.second,
+  is.first,
+  is.second,
   is.cost,
 ) (same (cost_of is.one is.other))
   where
@@ -176,19 +172,8 @@ pair_whole live pair is = rw (
 pair_broken : (live : Live) (pair : Pair) → ¬ IsPair live pair → has_pair live pair ≡ false
 pair_broken live pair none = at (has_pair live pair) refl
   where
-    cluster_has : (node : ℕ) (cluster : Cluster) → cluster_at live node ≡ Some cluster
-        → HasCluster live node cluster
-    cluster_has node cluster = by (slice_get live.unjoined node) refl
-      where
-        by : (o : Option Bool) → slice_get live.unjoined node ≡ o
-            → option_and_then (λ b. cond b (slice_get live.clusters node) None) o ≡ Some cluster
-            → HasCluster live node cluster
-        by None here is = absurd (cc)
-        by (Some false) here is = absurd (cc)
-        by (Some true) here is = record { unjoined = here; cluster = is }
-
     parts : (b : Bool) → nat_lt pair.first pair.second ≡ b → (one other : Option Cluster)
-        → cluster_at live pair.first ≡ one → cluster_at live pair.second ≡ other
+        → cluster_of live pair.first ≡ one → cluster_of live pair.second ≡ other
         → cond b (option_map_or (λ x. option_map_or (λ y. int_eq pair.cost (cost_of x y)) other
         false) one false) false ≡ true → IsPair live pair
     parts false ordered one other here there is = absurd (cc)
@@ -198,8 +183,8 @@ pair_broken live pair none = at (has_pair live pair) refl
       one = one;
       other = other;
       ordered = ltb-true pair.first pair.second ordered;
-      first = cluster_has pair.first one here;
-      second = cluster_has pair.second other there;
+      first = here;
+      second = there;
       cost = same_cost pair.cost (cost_of one other) is;
     }
       where
@@ -209,7 +194,7 @@ pair_broken live pair none = at (has_pair live pair) refl
     at : (b : Bool) → has_pair live pair ≡ b → has_pair live pair ≡ false
     at false is = is
     at true is = absurd (none (parts (nat_lt pair.first pair.second) refl
-        (cluster_at live pair.first) (cluster_at live pair.second) refl refl is))
+        (cluster_of live pair.first) (cluster_of live pair.second) refl refl is))
 
 pub replaced_fewer : (live : Live) (old new : List Pair) (top : Pair) (found : Option Pair)
     → slice_get old 0 ≡ Some top → ¬ IsPair live top → IsReplaced old new found
@@ -279,7 +264,7 @@ searched_broken live waiting old new held = omega (
 -- one more keeps the cheapest of its pairs
 pub search_next : (live : Live) (waiting next : Waiting) (old now new : List Pair)
     (nearest : Option Pair) → AreSearched live waiting old now
-    → waiting.from < length live.clusters → next.from ≡ waiting.from + 1
+    → waiting.from < length live.keys → next.from ≡ waiting.from + 1
     → next.lowest ≡ waiting.lowest → IsNearest live waiting.from nearest
     → IsPermutation (option_to_list nearest ++ now) new → AreSearched live next old new
 search_next live waiting next old now new nearest held below from lowest is moved = record {
@@ -339,7 +324,7 @@ search_next live waiting next old now new nearest held below from lowest is move
     }
 
 -- where none waits, the one on top is before all pairs
-pub none_waits : (live : Live) (from : ℕ) (kept : List Pair) → length live.clusters ≤ from
+pub none_waits : (live : Live) (from : ℕ) (kept : List Pair) → length live.keys ≤ from
     → IfSome (slice_get kept 0) (λ top. All (λ other. ¬ IsBefore other top) kept)
     → AreCovered live from kept → IsFirstOf live (slice_get kept 0)
 none_waits live from kept past least covered = λ pair is. top_first live.sinks kept pair least
@@ -349,13 +334,13 @@ none_waits live from kept past least covered = λ pair is. top_first live.sinks 
         first,
         past,
         is.ordered,
-        slice_get_within live.clusters pair.second is.other is.second.cluster,
+        node_within live pair.second is.other is.second,
       )
       | inr (_, second) ↦ omega (
         arith,
         second,
         past,
-        slice_get_within live.clusters pair.second is.other is.second.cluster,
+        node_within live pair.second is.other is.second,
       )
     ]))
 
@@ -384,7 +369,13 @@ none_is_due live waiting kept bound waits cost first second least not_first cove
     not_before pair is above before = elim before [
       | inl less ↦ omega (arith, ints, less, cost, is.cost, cost_least is.one is.other)
       | inr (_, lower) ↦ elim lower [
-        | inl below ↦ omega (arith, below, first, waits.lowest pair.first is.first.unjoined)
+        | inl below ↦ omega (
+          arith,
+          below,
+          first,
+          waits.lowest pair.first
+              (has_unjoined live pair.first is.one is.first),
+        )
         | inr (_, below) ↦ omega (arith, below, second, above)
       ]
     ]

@@ -1,15 +1,14 @@
 -- Which clusters there are, as sinks are added and pairs are merged.
-use Rattle.std.proofs.Common.{◌≡◌, ◌≢◌, ◌⊎◌, ℕ, ◌<◌, ◌≤◌, ◌+◌, true, false, List, [], ◌∷◌, ◌++◌, length, length-append, length-set, add-zero, get_or, set, take, Option, Some, None, pos, ◌≤ℤ◌, inl, inr, refl, sym, ap, subst, ◌∙◌, arith}
+use Rattle.std.proofs.Common.{◌≡◌, ◌≢◌, ◌⊎◌, ℕ, ◌<◌, ◌≤◌, ◌+◌, List, [], ◌∷◌, ◌++◌, length, length-append, add-zero, get_or, take, Option, Some, None, pos, ◌≤ℤ◌, inl, inr, refl, sym, ap, subst, ◌∙◌, arith}
 use Rattle.std.specs.Option.{IsNone, IsSome}
-use Rattle.std.specs.List.{All, slice_get, sum_by}
+use Rattle.std.specs.List.{All, slice_get}
 use Rattle.std.specs.List.Sorted.{IsPermutation}
 use Rattle.std.proofs.lemmas.Bool.{cases_eq, cases_lt, lt-ltb, le-ltb}
 use Rattle.std.proofs.lemmas.Int.{ints}
 use Rattle.std.proofs.lemmas.List.{take-append-le}
 use Rattle.std.proofs.lemmas.List.Elements.{All-append, All-cons, All-nil, Contains-append_right}
 use Rattle.std.proofs.lemmas.List.Sorted.{Contains-permutation}
-use Rattle.std.proofs.lemmas.List.Sums.{sum_by-append, sum_by-set}
-use Rattle.std.proofs.lemmas.Option.{slice_get-get_or, slice_get_within, get_or_from_slice_get}
+use Rattle.std.proofs.lemmas.Option.{slice_get-get_or}
 use Rattle.std.proofs.Math.ListN.{get_or-append}
 use Rattle.std.proofs.Math.Seq.{get_or-append_seam, take-append_seam}
 use Rattle.cts_model.specs.declared.place.Sink.{Sink}
@@ -19,32 +18,19 @@ use Rattle.cts_model.specs.tree.Topologies.{IsLive, sinks_below}
 use Rattle.cts_model.proofs.TopologyLemmas.{EachMerge, first_made, second_made, sinks_below-append, sinks_below-push, sinks_below-sink}
 use Rattle.tilted_rect.specs.declared.cluster.Cluster.{Cluster}
 use Rattle.tilted_rect.specs.ClusterSets.{IsCluster}
+use Rattle.cts_model.specs.tree.Regions.{IsUnion}
 use Rattle.tilted_rect.proofs.ExtremeLemmas.{append_is_union}
 use Rattle.topology.specs.declared.live.Live.{Live}
 use Rattle.topology.specs.declared.pair.Pair.{Pair}
 use Rattle.topology.specs.declared.waiting.Waiting.{Waiting}
 use Rattle.topology.specs.Pairs.{IsBefore, merge_of}
-use Rattle.topology.specs.LiveClusters.{HasCluster, IsPair, IsCheapestPair, IsOrdered, IsAdded, IsJoined, IsCovered, AreCovered, AreKept, AreLive, AreWaiting, WereCheapest, AreFirstSinks, AreFirstCovered, owner_of}
-use Rattle.topology.proofs.ListLemmas.{false_true, pushed_before, pushed_last, pushed_cases, set_other, was_set}
-use Rattle.topology.proofs.MergeLemmas.{as_one, cheapest_is, node_live}
+use Rattle.topology.specs.LiveClusters.{HasCluster, IsPair, IsCheapestPair, IsAdded, IsJoined, IsLeft, IsCovered, AreCovered, AreKept, AreLive, AreWaiting, WereCheapest, AreFirstSinks, AreFirstCovered, IsUnjoined, cluster_of, owner_of}
+use Rattle.topology.proofs.EntryLemmas.{has_unjoined, node_within, one_cluster, unjoined_there}
+use Rattle.topology.proofs.ListLemmas.{pushed_cases}
+use Rattle.topology.proofs.MergeLemmas.{cheapest_is, node_live}
 use Rattle.topology.proofs.NearLemmas.{cost_least}
 
 -- ---- the sinks one by one
-
-pub no_sinks : (sinks : List Sink) (live : Live) → live.sinks ≡ length sinks → live.clusters ≡ []
-    → live.unjoined ≡ [] → IsOrdered live → AreFirstSinks sinks 0 live
-no_sinks sinks live sinks_is clusters unjoined ordered = record {
-  sinks_is = sinks_is;
-  ordered = ordered;
-  count = ap length clusters;
-  clusters = λ node cluster here. absurd (omega (
-    arith,
-    slice_get_within live.clusters node cluster here,
-    ap length clusters,
-  ));
-  unjoined = λ node below. absurd (omega (arith, below));
-  left = ap (sum_by as_one) unjoined;
-}
 
 pub sink_added : (sinks : List Sink) (register : ℕ) (sink : Sink) (old new : Live)
     (cluster : Cluster) → slice_get sinks register ≡ Some sink → IsCluster (sink ∷ []) cluster
@@ -53,32 +39,22 @@ pub sink_added : (sinks : List Sink) (register : ℕ) (sink : Sink) (old new : L
 sink_added sinks register sink old new cluster here alone held added = record {
   sinks_is = added.sinks ∙ held.sinks_is;
   ordered = added.ordered;
-  count = ap length added.clusters ∙ omega
-      (arith, length-append old.clusters (cluster ∷ []), held.count);
-  clusters = λ node found there. elim (pushed_cases old.clusters cluster node found
-      (ap (λ xs. slice_get xs node) (sym added.clusters) ∙ there)) [
-        | inl (_, before) ↦ held.clusters node found before
-        | inr (last, is) ↦ subst (λ c. IsCluster (sinks_below sinks [] node) c) is
-            (subst (λ xs. IsCluster xs cluster)
-            (sym (ap (sinks_below sinks []) (last ∙ held.count)
-            ∙ sinks_below-sink sinks [] register sink here)) alone)
-      ];
-  unjoined = λ node below. ap (λ xs. slice_get xs node) added.unjoined
-      ∙ at node (cases_lt node register) below;
-  left = ap (sum_by as_one) added.unjoined
-      ∙ omega (arith, sum_by-append as_one old.unjoined (true ∷ []), held.left);
+  count = omega (arith, added.count, held.count);
+  clusters = λ node found has. elim (cases_eq node (length old.keys)) [
+    | inl last ↦ subst (λ c. IsCluster (sinks_below sinks [] node) c)
+        (one_cluster cluster found (sym added.made ∙ ap (cluster_of new) (sym last) ∙ has))
+        (subst (λ xs. IsCluster xs cluster)
+        (sym (ap (sinks_below sinks []) (last ∙ held.count)
+        ∙ sinks_below-sink sinks [] register sink here)) alone)
+    | inr differs ↦ held.clusters node found (sym (added.others node differs) ∙ has)
+  ];
+  unjoined = λ node below. elim (cases_eq node (length old.keys)) [
+    | inl last ↦ has_unjoined new node cluster (ap (cluster_of new) last ∙ added.made)
+    | inr differs ↦ subst IsSome (sym (added.others node differs))
+        (held.unjoined node (omega (arith, below, differs, held.count)))
+  ];
+  left = omega (arith, added.left, held.left);
 }
-  where
-    len : length old.unjoined ≡ register
-    len = held.ordered.lens ∙ held.count
-
-    at : (node : ℕ) → (node < register) ⊎ (register ≤ node) → node < register + 1
-        → slice_get (old.unjoined ++ true ∷ []) node ≡ Some true
-    at node (inl before) below =
-        pushed_before old.unjoined true node true (held.unjoined node before)
-    at node (inr from) below =
-        let is : length old.unjoined ≡ node = omega (arith, len, from, below) in
-        ap (slice_get (old.unjoined ++ true ∷ [])) (sym is) ∙ pushed_last old.unjoined true
 
 -- all sinks are live before the first merge
 pub sinks_live : (sinks : List Sink) (register : ℕ) (live : Live) → register ≡ length sinks
@@ -90,13 +66,9 @@ sinks_live sinks register live all held = record {
   clusters = held.clusters;
   unjoined = λ node. (
     λ is. record {
-      made = omega (
-        arith,
-        slice_get_within live.unjoined node true is,
-        held.ordered.lens,
-        held.count,
-        all,
-      );
+      made =
+          let (cluster, has) = unjoined_there live node is in
+          omega (arith, node_within live node cluster has, held.count, all);
       unjoined = All-nil (λ (merge : Merge). (merge.first ≢ node) × (merge.second ≢ node));
     },
     λ is. held.unjoined node (omega (arith, is.made, all)),
@@ -159,69 +131,87 @@ live_made sinks merges merge each first second = record {
               (omega (arith, within, second_made sinks merges each k (get_or merges k d) here)),
         )
 
+-- both clusters of a pair were taken out, and that of their sinks was added
+pub joins : (old middle last new : Live) (pair : Pair) (one other both : Cluster)
+    → pair.first < pair.second → HasCluster old pair.first one → IsLeft old middle pair.first
+    → HasCluster middle pair.second other → IsLeft middle last pair.second
+    → ((first second sinks : List Sink) → IsUnion first second sinks → IsCluster first one
+    → IsCluster second other → IsCluster sinks both)
+    → IsAdded last new both → IsJoined old new pair
+joins old middle last new pair one other both ordered first left second also_left joined
+    added = record {
+      one = one;
+      other = other;
+      both = both;
+      first = first;
+      second = second_was;
+      joined = joined;
+      sinks = added.sinks ∙ also_left.sinks ∙ left.sinks;
+      count = omega (arith, added.count, counts);
+      left = omega (arith, added.left, also_left.left, left.left);
+      made = ap (cluster_of new) (sym counts) ∙ added.made;
+      first_gone = added.others pair.first (λ is. omega (arith, is, counts, ordered, within))
+          ∙ also_left.others pair.first (λ is. omega (arith, is, ordered)) ∙ left.gone;
+      second_gone = added.others pair.second (λ is. omega (arith, is, counts, within))
+          ∙ also_left.gone;
+      others = λ node not_first not_second not_made.
+          added.others node (λ is. not_made (is ∙ counts))
+          ∙ also_left.others node not_second ∙ left.others node not_first;
+      ordered = added.ordered;
+    }
+  where
+    counts : length last.keys ≡ length old.keys
+    counts = also_left.count ∙ left.count
+
+    second_was : HasCluster old pair.second other
+    second_was = sym (left.others pair.second (λ is. omega (arith, is, ordered))) ∙ second
+
+    within : pair.second < length old.keys
+    within = node_within old pair.second other second_was
+
 module _ {sinks : List Sink} {merges : List Merge} {old new : Live} {pair : Pair}
     (held : AreLive sinks merges old) (joined : IsJoined old new pair) where
-  made : length old.clusters ≡ length sinks + length merges
-  made = held.count
+  -- a cluster after the merge is that of the node made, or was there and isn't one of the two
+  still_cases : (node : ℕ) (cluster : Cluster) → HasCluster new node cluster
+      → ((node ≡ length old.keys) × (joined.both ≡ cluster))
+      ⊎ (HasCluster old node cluster × (node ≢ pair.first) × (node ≢ pair.second))
+  still_cases node cluster has = elim (cases_eq node (length old.keys)) [
+    | inl last ↦ inl (
+      last,
+      one_cluster joined.both cluster (sym joined.made ∙ ap (cluster_of new) (sym last) ∙ has),
+    )
+    | inr differs ↦
+        let first : node ≢ pair.first = λ is. none cluster
+        (sym joined.first_gone ∙ ap (cluster_of new) (sym is) ∙ has) in
+        let second : node ≢ pair.second = λ is. none cluster
+        (sym joined.second_gone ∙ ap (cluster_of new) (sym is) ∙ has) in
+        inr (sym (joined.others node first second differs) ∙ has, first, second)
+  ]
+    where
+      none : (cluster : Cluster) → None ≡ Some cluster → ⊥
+      none cluster is = absurd (cc)
 
-  -- what isn't joined now is the node made, or wasn't joined and isn't one of the two
-  still_cases : (node : ℕ) → slice_get new.unjoined node ≡ Some true
-      → (node ≡ length old.clusters)
-      ⊎ ((slice_get old.unjoined node ≡ Some true) × (node ≢ pair.first) × (node ≢ pair.second))
-  still_cases node is = elim (pushed_cases
-      (set (set old.unjoined pair.first false) pair.second false) true node true
-      (ap (λ xs. slice_get xs node) (sym joined.unjoined) ∙ is)) [
-        | inl (_, before) ↦
-            let (second, left) = was_set (set old.unjoined pair.first false) pair.second false node
-            true false_true before in
-            let (first, was) = was_set old.unjoined pair.first false node true false_true left in
-            inr (was, first, second)
-        | inr (last, _) ↦ inl (omega (
-          arith,
-          last,
-          held.ordered.lens,
-          length-set (set old.unjoined pair.first false) pair.second false,
-          length-set old.unjoined pair.first false,
-        ))
-      ]
-
-  still : (node : ℕ) → slice_get old.unjoined node ≡ Some true → node ≢ pair.first
-      → node ≢ pair.second → slice_get new.unjoined node ≡ Some true
-  still node was first second = ap (λ xs. slice_get xs node) joined.unjoined
-      ∙ pushed_before (set (set old.unjoined pair.first false) pair.second false) true node true
-      (set_other (set old.unjoined pair.first false) pair.second false node true second
-      (set_other old.unjoined pair.first false node true first was))
-
-  made_unjoined : (node : ℕ) → node ≡ length sinks + length merges
-      → slice_get new.unjoined node ≡ Some true
-  made_unjoined node is =
-      let last : length (set (set old.unjoined pair.first false) pair.second false) ≡ node = omega (
-        arith,
-        is,
-        made,
-        held.ordered.lens,
-        length-set (set old.unjoined pair.first false) pair.second false,
-        length-set old.unjoined pair.first false,
-      ) in
-      ap (λ xs. slice_get xs node) joined.unjoined
-      ∙ ap (slice_get (set (set old.unjoined pair.first false) pair.second false ++ true ∷ []))
-      (sym last)
-      ∙ pushed_last (set (set old.unjoined pair.first false) pair.second false) true
+  still : (node : ℕ) → IsUnjoined old node → node ≢ pair.first → node ≢ pair.second
+      → IsUnjoined new node
+  still node was first second =
+      let (cluster, has) = unjoined_there old node was in
+      subst IsSome (sym (joined.others node first second
+      (λ is. omega (arith, is, node_within old node cluster has)))) was
 
   module _ (is_pair : IsPair old pair) where
     -- a pair that is there after the merge was there, or has the node made
     pub pair_was : (other : Pair) → IsPair new other
-        → (other.second ≡ length old.clusters) ⊎ IsPair old other
-    pair_was other is = elim (cluster_was other.second is.other is.second) [
-      | inl last ↦ inl last
-      | inr second ↦ elim (cluster_was other.first is.one is.first) [
-        | inl first ↦ absurd (omega (
+        → (other.second ≡ length old.keys) ⊎ IsPair old other
+    pair_was other is = elim (still_cases other.second is.other is.second) [
+      | inl (last, _) ↦ inl last
+      | inr (second, _, _) ↦ elim (still_cases other.first is.one is.first) [
+        | inl (first, _) ↦ absurd (omega (
           arith,
           first,
           is.ordered,
-          slice_get_within old.clusters other.second is.other second.cluster,
+          node_within old other.second is.other second,
         ))
-        | inr first ↦ inr (record {
+        | inr (first, _, _) ↦ inr (record {
           one = is.one;
           other = is.other;
           ordered = is.ordered;
@@ -231,20 +221,6 @@ module _ {sinks : List Sink} {merges : List Merge} {old new : Live} {pair : Pair
         })
       ]
     ]
-      where
-        cluster_was : (node : ℕ) (cluster : Cluster) → HasCluster new node cluster
-            → (node ≡ length old.clusters) ⊎ HasCluster old node cluster
-        cluster_was node cluster has = elim (still_cases node has.unjoined) [
-          | inl last ↦ inl last
-          | inr (was, _, _) ↦ elim (pushed_cases old.clusters joined.both node cluster
-              (ap (λ xs. slice_get xs node) (sym joined.clusters) ∙ has.cluster)) [
-                | inl (_, before) ↦ inr (record { unjoined = was; cluster = before })
-                | inr (last, _) ↦ inl last
-              ]
-        ]
-
-    one_cluster : (one other : Cluster) → Some one ≡ Some other → one ≡ other
-    one_cluster one other is = cc
 
     -- after a merge there is a cluster for each live node again
     pub merged_live : EachMerge (length sinks) merges
@@ -252,87 +228,46 @@ module _ {sinks : List Sink} {merges : List Merge} {old new : Live} {pair : Pair
     merged_live each = record {
       sinks_is = joined.sinks ∙ held.sinks_is;
       ordered = joined.ordered;
-      count = ap length joined.clusters ∙ omega (
-        arith,
-        made,
-        length-append old.clusters (joined.both ∷ []),
-        length-append merges (merge_of pair ∷ []),
-      );
-      clusters = λ node cluster here. elim (pushed_cases old.clusters joined.both node cluster
-          (ap (λ xs. slice_get xs node) (sym joined.clusters) ∙ here)) [
-            | inl (before, was) ↦ subst (λ xs. IsCluster xs cluster)
-                (sym (sinks_below-append sinks merges (merge_of pair ∷ []) node
-                (omega (arith, before, made)))) (held.clusters node cluster was)
-            | inr (last, is) ↦ subst (λ c. IsCluster
-                (sinks_below sinks (merges ++ merge_of pair ∷ []) node) c) is
-                (subst (λ xs. IsCluster xs joined.both)
-                (sym (ap (sinks_below sinks (merges ++ merge_of pair ∷ [])) (last ∙ made)
-                ∙ sinks_below-push sinks merges (merge_of pair)))
-                (joined.joined (sinks_below sinks merges pair.first)
-                (sinks_below sinks merges pair.second) _ (append_is_union _ _)
-                (held.clusters pair.first joined.one joined.first)
-                (held.clusters pair.second joined.other joined.second)))
-          ];
+      count = omega (arith, joined.count, held.count, length-append merges (merge_of pair ∷ []));
+      clusters = λ node cluster has. elim (still_cases node cluster has) [
+        | inl (last, is) ↦ subst (λ c. IsCluster
+            (sinks_below sinks (merges ++ merge_of pair ∷ []) node) c) is
+            (subst (λ xs. IsCluster xs joined.both)
+            (sym (ap (sinks_below sinks (merges ++ merge_of pair ∷ [])) (last ∙ held.count)
+            ∙ sinks_below-push sinks merges (merge_of pair)))
+            (joined.joined (sinks_below sinks merges pair.first)
+            (sinks_below sinks merges pair.second) _ (append_is_union _ _)
+            (held.clusters pair.first joined.one joined.first)
+            (held.clusters pair.second joined.other joined.second)))
+        | inr (was, _, _) ↦ subst (λ xs. IsCluster xs cluster)
+            (sym (sinks_below-append sinks merges (merge_of pair ∷ []) node
+            (omega (arith, node_within old node cluster was, held.count))))
+            (held.clusters node cluster was)
+      ];
       unjoined = λ node. (
-        λ is. elim (still_cases node is) [
-          | inl last ↦ subst (IsLive (length sinks) (merges ++ merge_of pair ∷ []))
-              (sym (last ∙ made)) (live_made (length sinks) merges (merge_of pair) each
-              (node_live held pair.first is_pair.one is_pair.first).made
-              (node_live held pair.second is_pair.other is_pair.second).made)
-          | inr (was, first, second) ↦ live_after (length sinks) merges (merge_of pair) node
-              ((held.unjoined node).0 was) (λ same. first (sym same), λ same. second (sym same))
-        ],
+        λ is.
+            let (cluster, has) = unjoined_there new node is in
+            elim (still_cases node cluster has) [
+              | inl (last, _) ↦ subst (IsLive (length sinks) (merges ++ merge_of pair ∷ []))
+                  (sym (last ∙ held.count)) (live_made (length sinks) merges (merge_of pair) each
+                  (node_live held pair.first is_pair.one is_pair.first).made
+                  (node_live held pair.second is_pair.other is_pair.second).made)
+              | inr (was, first, second) ↦ live_after (length sinks) merges (merge_of pair) node
+                  (node_live held node cluster was)
+                  (λ same. first (sym same), λ same. second (sym same))
+            ],
         λ is. elim (live_before (length sinks) merges (merge_of pair) node is) [
-          | inl last ↦ made_unjoined node last
+          | inl last ↦ has_unjoined new node joined.both
+              (ap (cluster_of new) (last ∙ sym held.count) ∙ joined.made)
           | inr (was, (first, second)) ↦ still node ((held.unjoined node).1 was)
               (λ same. first (sym same)) (λ same. second (sym same))
         ],
       );
-      left = count;
+      left = omega (arith, joined.left, held.left, length-append merges (merge_of pair ∷ []));
     }
-      where
-        first_set : sum_by as_one (set old.unjoined pair.first false) + 1
-            ≡ sum_by as_one old.unjoined
-        first_set = omega (
-          arith,
-          sum_by-set as_one old.unjoined pair.first false false
-              (slice_get_within old.unjoined pair.first true is_pair.first.unjoined),
-          ap as_one (get_or_from_slice_get old.unjoined pair.first true false
-              is_pair.first.unjoined),
-        )
-
-        differs : pair.second ≢ pair.first
-        differs is = omega (arith, is, is_pair.ordered)
-
-        second_left : slice_get (set old.unjoined pair.first false) pair.second ≡ Some true
-        second_left = set_other old.unjoined pair.first false pair.second true differs
-            is_pair.second.unjoined
-
-        second_set : sum_by as_one (set (set old.unjoined pair.first false) pair.second false) + 1
-            ≡ sum_by as_one (set old.unjoined pair.first false)
-        second_set = omega (
-          arith,
-          sum_by-set as_one (set old.unjoined pair.first false) pair.second
-              false false (slice_get_within (set old.unjoined pair.first false) pair.second true
-              second_left),
-          ap as_one (get_or_from_slice_get (set old.unjoined pair.first false) pair.second true
-              false second_left),
-        )
-
-        count : sum_by as_one new.unjoined + length (merges ++ merge_of pair ∷ []) ≡ length sinks
-        count = omega (
-          arith,
-          ap (sum_by as_one) joined.unjoined,
-          held.left,
-          first_set,
-          second_set,
-          length-append merges (merge_of pair ∷ []),
-          sum_by-append as_one (set (set old.unjoined pair.first false) pair.second false)
-              (true ∷ []),
-        )
 
     -- pairs stay covered, as the node made waits
-    pub joined_covers : (from : ℕ) (kept : List Pair) → from ≤ length old.clusters
+    pub joined_covers : (from : ℕ) (kept : List Pair) → from ≤ length old.keys
         → length sinks ≤ from → AreCovered old from kept → AreCovered new from kept
     joined_covers from kept within past covered = λ other is below. elim (pair_was other is) [
       | inl last ↦ absurd (omega (
@@ -361,21 +296,18 @@ module _ {sinks : List Sink} {merges : List Merge} {old new : Live} {pair : Pair
     pub joined_waits : (waiting : Waiting) → AreWaiting old waiting → AreWaiting new waiting
     joined_waits waiting waits = record {
       made = omega (arith, waits.made, joined.sinks);
-      within = omega (
-        arith,
-        waits.within,
-        ap length joined.clusters,
-        length-append old.clusters (joined.both ∷ []),
-      );
-      lowest = λ node unjoined. elim (still_cases node unjoined) [
-        | inl last ↦ omega (
-          arith,
-          last,
-          waits.lowest pair.first is_pair.first.unjoined,
-          slice_get_within old.clusters pair.first is_pair.one is_pair.first.cluster,
-        )
-        | inr (was, _, _) ↦ waits.lowest node was
-      ];
+      within = omega (arith, waits.within, joined.count);
+      lowest = λ node unjoined.
+          let (cluster, has) = unjoined_there new node unjoined in
+          elim (still_cases node cluster has) [
+            | inl (last, _) ↦ omega (
+              arith,
+              last,
+              waits.lowest pair.first (has_unjoined old pair.first is_pair.one is_pair.first),
+              node_within old pair.first is_pair.one is_pair.first,
+            )
+            | inr (was, _, _) ↦ waits.lowest node (has_unjoined old node cluster was)
+          ];
     }
 
 -- ---- before the first merge

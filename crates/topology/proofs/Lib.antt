@@ -1,4 +1,5 @@
 mod CoverLemmas
+mod EntryLemmas
 mod JoinLemmas
 mod ListLemmas
 mod MergeLemmas

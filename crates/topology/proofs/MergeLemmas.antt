@@ -1,10 +1,7 @@
 -- Each merge of the cheapest pair keeps the clusters and the merges so far right.
-use Rattle.std.proofs.Common.{◌≡◌, ◌⊎◌, ℕ, suc, ◌<◌, ◌≤◌, ◌+◌, Bool, true, false, cond, List, [], ◌∷◌, length, Option, Some, None, ℤ, ◌+ℤ◌, ◌-ℤ◌, ◌≤ℤ◌, inl, inr, refl, sym, ap, subst, arith}
-use Rattle.std.specs.List.{slice_get, sum_by}
+use Rattle.std.proofs.Common.{◌≡◌, ◌⊎◌, ℕ, ◌<◌, ◌≤◌, ◌+◌, List, length, ℤ, ◌+ℤ◌, ◌-ℤ◌, ◌≤ℤ◌, inl, inr, refl, sym, ap, subst, ◌∙◌, arith}
 use Rattle.std.proofs.lemmas.Bool.{cases_lt}
 use Rattle.std.proofs.lemmas.Int.{ints, by_lt_z}
-use Rattle.std.proofs.lemmas.List.Sums.{sum_by-cons}
-use Rattle.std.proofs.lemmas.Option.{slice_get-get_or, slice_get_within}
 use Rattle.cts_model.specs.declared.place.Sink.{Sink}
 use Rattle.cts_model.specs.declared.tree.Merge.{Merge}
 use Rattle.cts_model.specs.tree.GreedyMerges.{IsCheaper, IsDoubleCost, IsCheapest}
@@ -17,7 +14,8 @@ use Rattle.tilted_rect.proofs.SpanLemmas.{one_greatest_span}
 use Rattle.topology.specs.declared.live.Live.{Live}
 use Rattle.topology.specs.declared.pair.Pair.{Pair}
 use Rattle.topology.specs.Pairs.{merge_of}
-use Rattle.topology.specs.LiveClusters.{HasCluster, IsPair, IsCheapestPair, AreLive}
+use Rattle.topology.specs.LiveClusters.{HasCluster, IsPair, IsCheapestPair, AreLive, node_at}
+use Rattle.topology.proofs.EntryLemmas.{entry_is, entry_there, has_unjoined, low_is, unjoined_there}
 
 -- ---- the cheapest pair is the cheapest merge
 
@@ -89,32 +87,11 @@ module _ {sinks : List Sink} {merges : List Merge} {live : Live}
     (held : AreLive sinks merges live) where
   pub node_live : (node : ℕ) (cluster : Cluster) → HasCluster live node cluster
       → IsLive (length sinks) merges node
-  node_live node cluster has = (held.unjoined node).0 has.unjoined
+  node_live node cluster has = (held.unjoined node).0 (has_unjoined live node cluster has)
 
   live_cluster : (node : ℕ) → IsLive (length sinks) merges node
       → (cluster : Cluster) × HasCluster live node cluster
-  live_cluster node is =
-      let unjoined = (held.unjoined node).1 is in
-      at (slice_get live.clusters node) refl unjoined
-      (omega (arith, slice_get_within live.unjoined node true unjoined, held.ordered.lens))
-    where
-      none_there : length live.clusters ≤ node → node < length live.clusters → ⊥
-      none_there past below = omega (arith, past, below)
-
-      at : (o : Option Cluster) → slice_get live.clusters node ≡ o
-          → slice_get live.unjoined node ≡ Some true → node < length live.clusters
-          → (cluster : Cluster) × HasCluster live node cluster
-      at (Some cluster) here unjoined below = (
-        cluster,
-        record
-            { unjoined = unjoined; cluster = here },
-      )
-      at None here unjoined below = absurd (some_there live.clusters node below here)
-        where
-          some_there : (xs : List Cluster) (k : ℕ) → k < length xs → slice_get xs k ≡ None → ⊥
-          some_there [] k below none = omega (arith, below)
-          some_there (x ∷ xs) k below none =
-              absurd (cc (slice_get-get_or (x ∷ xs) k x below))
+  live_cluster node is = unjoined_there live node ((held.unjoined node).1 is)
 
   pub cheapest_is : (pair : Pair) → IsCheapestPair live pair
       → IsCheapest sinks merges (merge_of pair)
@@ -128,8 +105,8 @@ module _ {sinks : List Sink} {merges : List Merge} {live : Live}
     costs = subst (λ z. IsDoubleCost sinks merges (merge_of pair) (z +ℤ z))
         (sym cheapest.pair.cost)
         (double_cost sinks merges (merge_of pair) cheapest.pair.one cheapest.pair.other
-        (held.clusters pair.first cheapest.pair.one cheapest.pair.first.cluster)
-        (held.clusters pair.second cheapest.pair.other cheapest.pair.second.cluster));
+        (held.clusters pair.first cheapest.pair.one cheapest.pair.first)
+        (held.clusters pair.second cheapest.pair.other cheapest.pair.second));
     least = least;
   }
     where
@@ -152,8 +129,8 @@ module _ {sinks : List Sink} {merges : List Merge} {live : Live}
           let next = cost_of one two in
           let next_is : next +ℤ next ≡ other_cost = one_cost sinks merges other (next +ℤ next)
           other_cost (double_cost sinks merges other one two
-          (held.clusters other.first one has.cluster)
-          (held.clusters other.second two other_has.cluster)) costs in
+          (held.clusters other.first one has)
+          (held.clusters other.second two other_has)) costs in
           let not_before : ¬ IsCheaper next other pair.cost (merge_of pair) = cheapest.least
           (record { cost = next; first = other.first; second = other.second }) (record {
             one = one;
@@ -172,40 +149,45 @@ module _ {sinks : List Sink} {merges : List Merge} {live : Live}
 
 -- ---- while two clusters are left there is a pair
 
-abbrev pub as_one : Bool → ℕ
-as_one b = cond b 1 0
-
-one_there : (unjoined : List Bool) → 1 ≤ sum_by as_one unjoined
-    → (node : ℕ) × (slice_get unjoined node ≡ Some true)
-one_there [] some = absurd (omega (arith, some))
-one_there (false ∷ rest) some =
-    let later = one_there rest (omega (arith, some, sum_by-cons as_one false rest)) in
-    (suc later.0, later.1)
-one_there (true ∷ rest) some = (0, refl)
-
-two_there : (unjoined : List Bool) → 2 ≤ sum_by as_one unjoined
-    → (node other : ℕ) × (node < other) × (slice_get unjoined node ≡ Some true)
-    × (slice_get unjoined other ≡ Some true)
-two_there [] some = absurd (omega (arith, some))
-two_there (false ∷ rest) some =
-    let (node, other, below, there, other_there) = two_there rest
-    (omega (arith, some, sum_by-cons as_one false rest)) in
-    (suc node, suc other, omega (arith, below), there, other_there)
-two_there (true ∷ rest) some =
-    let (other, there) = one_there rest (omega (arith, some, sum_by-cons as_one true rest)) in
-    (0, suc other, omega arith, refl, there)
-
 pub pair_there : (sinks : List Sink) (merges : List Merge) (live : Live) → AreLive sinks merges live
     → length merges + 2 ≤ length sinks → (pair : Pair) × IsPair live pair
 pair_there sinks merges live held two =
-    let (node, other, below, there, other_there) = two_there live.unjoined
-    (omega (arith, two, held.left)) in
-    let (one, has) = live_cluster held node ((held.unjoined node).0 there) in
-    let (cluster, other_has) = live_cluster held other ((held.unjoined other).0 other_there) in (
-      record { cost = cost_of one cluster; first = node; second = other },
+    let (one, has) = has_at 0 (omega (arith, two, held.left)) in
+    let (other, other_has) = has_at 1 (omega (arith, two, held.left)) in
+    elim (cases_lt (node_at live 0) (node_at live 1)) [
+      | inl below ↦ pair_of _ _ one other below has other_has
+      | inr from ↦ elim (cases_lt (node_at live 1) (node_at live 0)) [
+        | inl above ↦ pair_of _ _ other one above other_has has
+        | inr to ↦ absurd (apart one other has other_has (omega (arith, from, to)))
+      ]
+    ]
+  where
+    has_at : (place : ℕ) → place < length live.order.items
+        → (cluster : Cluster) × HasCluster live (node_at live place) cluster
+    has_at place within =
+        let (entry, here) = entry_there live place held.ordered within in
+        let at = entry_is live place entry held.ordered within here in
+        (entry.cluster, subst (λ n. HasCluster live n entry.cluster) (sym at.node) at.has)
+
+    -- the two stand at places of their own
+    apart : (one other : Cluster) → HasCluster live (node_at live 0) one
+        → HasCluster live (node_at live 1) other → node_at live 0 ≡ node_at live 1 → ⊥
+    apart one other has other_has same =
+        let low = low_is live 0 one held.ordered (omega (arith, two, held.left)) has in
+        let other_low = low_is live 1 one held.ordered (omega (arith, two, held.left))
+        (subst (λ n. HasCluster live n one) same has) in
+        let numbered = held.ordered.numbered 0 1 (omega arith) (omega (arith, two, held.left))
+        (low ∙ sym other_low) in
+        omega (arith, numbered, same)
+
+    pair_of : (node other_node : ℕ) (one other : Cluster) → node < other_node
+        → HasCluster live node one → HasCluster live other_node other
+        → (pair : Pair) × IsPair live pair
+    pair_of node other_node one other below has other_has = (
+      record { cost = cost_of one other; first = node; second = other_node },
       record {
         one = one;
-        other = cluster;
+        other = other;
         ordered = below;
         first = has;
         second = other_has;

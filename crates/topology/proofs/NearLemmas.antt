@@ -1,10 +1,8 @@
 -- A search for the cheapest pair that a node keeps.
-use Rattle.std.proofs.Common.{◌≡◌, ◌↔◌, ◌⊎◌, ℕ, ◌<◌, ◌≤◌, Bool, true, false, cond, Option, Some, None, List, length, get_or, ℤ, pos, ◌-ℤ◌, ◌≤ℤ◌, ◌<ℤ◌, inl, inr, refl, sym, ap, subst, ◌∙◌, ◌^◌, FitsSigned, arith}
+use Rattle.std.proofs.Common.{◌≡◌, ◌↔◌, ◌⊎◌, ℕ, ◌<◌, ◌≤◌, Bool, true, false, cond, Option, Some, None, length, ℤ, pos, ◌-ℤ◌, ◌≤ℤ◌, ◌<ℤ◌, inl, inr, refl, sym, ap, subst, ◌∙◌, ◌^◌, FitsSigned, arith}
 use Rattle.std.specs.Int.{int_max, w128}
-use Rattle.std.specs.List.{slice_get, slice_index_or}
 use Rattle.std.specs.Bool.{nat_lt}
-use Rattle.std.proofs.lemmas.List.{get_or_default}
-use Rattle.std.specs.Option.{IsSomeAnd, option_map_or}
+use Rattle.std.specs.Option.{IsSomeAnd}
 use Rattle.std.proofs.lemmas.Bool.{cases_lt, lt-ltb, le-ltb}
 use Rattle.std.proofs.lemmas.Int.{ints, clamps}
 use Rattle.cts_model.specs.placement.Points.{IsBelow}
@@ -18,7 +16,8 @@ use Rattle.topology.specs.declared.live.Live.{Live}
 use Rattle.topology.specs.declared.pair.Pair.{Pair}
 use Rattle.topology.specs.Axes.{high_on, low_on}
 use Rattle.topology.specs.Pairs.{IsBefore, IsAtMost, IsCheaperOf}
-use Rattle.topology.specs.LiveClusters.{HasCluster, IsPair, IsKept, IsKeptWith, IsLooked, IsNearest, IsOrdered, IsPast, low_of, low_at, owner_of, other_of}
+use Rattle.topology.specs.LiveClusters.{HasCluster, IsPair, IsKept, IsKeptWith, IsLooked, IsNearest, IsOrdered, IsPast, cluster_of, low_at, node_at, owner_of, other_of}
+use Rattle.topology.proofs.EntryLemmas.{low_is, one_cluster, place_there}
 
 -- ---- the order of pairs
 
@@ -151,21 +150,18 @@ sides sinks pair owner node = at (nat_lt pair.second sinks)
     at false is other_is = inr (other_is, is)
 
 -- no merge joins the other
-pub other_unjoined : (live : Live) (owner : ℕ) (pair : Pair) → IsKept live owner pair
-    → slice_get live.unjoined (other_of live.sinks pair) ≡ Some true
-other_unjoined live owner pair kept = elim (sides live.sinks pair owner _ kept.owner refl) [
-  | inl (_, second) ↦ ap (slice_get live.unjoined) (sym second) ∙ kept.pair.second.unjoined
-  | inr (first, _) ↦ ap (slice_get live.unjoined) (sym first) ∙ kept.pair.first.unjoined
+pub other_has : (live : Live) (owner : ℕ) (pair : Pair) → IsKept live owner pair
+    → (cluster : Cluster) × HasCluster live (other_of live.sinks pair) cluster
+other_has live owner pair kept = elim (sides live.sinks pair owner _ kept.owner refl) [
+  | inl (_, second) ↦
+      (kept.pair.other, ap (cluster_of live) (sym second) ∙ kept.pair.second)
+  | inr (first, _) ↦ (kept.pair.one, ap (cluster_of live) (sym first) ∙ kept.pair.first)
 ]
 
-pub one_cluster : (one other : Cluster) → Some one ≡ Some other → one ≡ other
-one_cluster one other is = cc
-
 same_cluster : (live : Live) (node other_node : ℕ) (one other : Cluster) → node ≡ other_node
-    → slice_get live.clusters node ≡ Some one → slice_get live.clusters other_node ≡ Some other
-    → one ≡ other
+    → HasCluster live node one → HasCluster live other_node other → one ≡ other
 same_cluster live node other_node one other is here there =
-    one_cluster one other (sym here ∙ ap (slice_get live.clusters) is ∙ there)
+    one_cluster one other (sym here ∙ ap (cluster_of live) is ∙ there)
 
 -- a pair costs no less than its two clusters are apart on an axis
 pub record IsApart (axis : Axis) (one other : Cluster) (cost : ℤ) : Type 0 where
@@ -183,23 +179,23 @@ apart axis one other cost is = record {
 
 pub kept_apart : (live : Live) (owner node : ℕ) (pair : Pair) (cluster : Cluster)
     → IsKeptWith live owner node pair → HasCluster live owner cluster
-    → (other : Cluster) × (slice_get live.clusters node ≡ Some other)
+    → (other : Cluster) × HasCluster live node other
     × IsApart live.axis cluster other pair.cost
 kept_apart live owner node pair cluster held has = elim
     (sides live.sinks pair owner node held.kept.owner held.other) [
       | inl (first, second) ↦ (
         parts.other,
-        ap (slice_get live.clusters) (sym second) ∙ parts.second.cluster,
+        ap (cluster_of live) (sym second) ∙ parts.second,
         subst (λ c. IsApart live.axis c parts.other pair.cost)
-            (same_cluster live pair.first owner parts.one cluster first parts.first.cluster
-            has.cluster) (apart live.axis parts.one parts.other pair.cost parts.cost),
+            (same_cluster live pair.first owner parts.one cluster first parts.first
+            has) (apart live.axis parts.one parts.other pair.cost parts.cost),
       )
       | inr (first, second) ↦ (
         parts.one,
-        ap (slice_get live.clusters) (sym first) ∙ parts.first.cluster,
+        ap (cluster_of live) (sym first) ∙ parts.first,
         subst (λ c. IsApart live.axis c parts.one pair.cost)
-            (same_cluster live pair.second owner parts.other cluster second parts.second.cluster
-            has.cluster) (turned (apart live.axis parts.one parts.other pair.cost parts.cost)),
+            (same_cluster live pair.second owner parts.other cluster second parts.second
+            has) (turned (apart live.axis parts.one parts.other pair.cost parts.cost)),
       )
     ]
   where
@@ -213,19 +209,19 @@ kept_apart live owner node pair cluster held has = elim
 -- and just what the two cost
 pub kept_cost : (live : Live) (owner node : ℕ) (pair : Pair) (cluster other : Cluster)
     → IsKeptWith live owner node pair → HasCluster live owner cluster
-    → slice_get live.clusters node ≡ Some other → pair.cost ≡ cost_of cluster other
+    → HasCluster live node other → pair.cost ≡ cost_of cluster other
 kept_cost live owner node pair cluster other held has other_has = elim
     (sides live.sinks pair owner node held.kept.owner held.other) [
       | inl (first, second) ↦ parts.cost
           ∙ ap (λ c. cost_of c parts.other) (same_cluster live pair.first owner parts.one cluster
-          first parts.first.cluster has.cluster)
+          first parts.first has)
           ∙ ap (cost_of cluster) (same_cluster live pair.second node parts.other other second
-          parts.second.cluster other_has)
+          parts.second other_has)
       | inr (first, second) ↦ parts.cost ∙ cost_turned parts.one parts.other
           ∙ ap (λ c. cost_of c parts.one) (same_cluster live pair.second owner parts.other cluster
-          second parts.second.cluster has.cluster)
+          second parts.second has)
           ∙ ap (cost_of cluster) (same_cluster live pair.first node parts.one other first
-          parts.first.cluster other_has)
+          parts.first other_has)
     ]
   where
     parts : IsPair live pair
@@ -265,11 +261,6 @@ lower_from s p q e f ordered other_ordered = elim (cases_lt q s) [
 
 -- ---- the search
 
-pub low_is : (live : Live) (node : ℕ) (cluster : Cluster)
-    → slice_get live.clusters node ≡ Some cluster
-    → low_of live node ≡ low_on live.axis cluster
-low_is live node cluster here = ap (λ o. option_map_or (low_on live.axis) o (pos 0)) here
-
 module _ {live : Live} {owner : ℕ} where
   -- before the first node
   pub look_starts : (IsPassed : ℕ → Type 0) (least : Option Pair)
@@ -283,7 +274,7 @@ module _ {live : Live} {owner : ℕ} where
   -- one node alone, whose pair is kept or not
   pub look_keeps : (node : ℕ) (old new found : Option Pair) → IsCheaperOf old found new
       → ((pair : Pair) → (found ≡ Some pair) ↔ IsKeptWith live owner node pair)
-      → IsLooked live owner (λ place. slice_index_or live.order.items place 0 ≡ node) old new
+      → IsLooked live owner (λ place. node_at live place ≡ node) old new
   look_keeps node old new found cheaper law = record {
     stays = λ pair within. at_most_along old new pair within cheaper.first;
     bound = λ place pair here below with_it. cheaper.second pair ((law pair).1
@@ -297,7 +288,7 @@ module _ {live : Live} {owner : ℕ} where
   -- one node alone, which has no cheaper pair
   pub look_leaves : (node : ℕ) (least : Option Pair)
       → ((pair : Pair) → IsKeptWith live owner node pair → IsAtMost least pair)
-      → IsLooked live owner (λ place. slice_index_or live.order.items place 0 ≡ node) least least
+      → IsLooked live owner (λ place. node_at live place ≡ node) least least
   look_leaves node least no_cheaper = record {
     stays = λ pair within. within;
     bound = λ place pair here below with_it. no_cheaper pair
@@ -307,17 +298,17 @@ module _ {live : Live} {owner : ℕ} where
 
   -- one node more
   pub look_next : (IsPassed IsPassedNext : ℕ → Type 0) (old now next : Option Pair)
-      (place node : ℕ) → node ≡ slice_index_or live.order.items place 0
+      (place node : ℕ) → node ≡ node_at live place
       → ((other : ℕ) → IsPassedNext other → IsPassed other ⊎ (other ≡ place))
       → IsLooked live owner IsPassed old now
-      → IsLooked live owner (λ k. slice_index_or live.order.items k 0 ≡ node) now next
+      → IsLooked live owner (λ k. node_at live k ≡ node) now next
       → IsLooked live owner IsPassedNext old next
   look_next IsPassed IsPassedNext old now next place node is more held step = record {
     stays = λ pair within. step.stays pair (held.stays pair within);
     bound = λ other pair passed below with_it. elim (more other passed) [
       | inl before ↦ step.stays pair (held.bound other pair before below with_it)
       | inr here ↦ step.bound other pair
-          (ap (λ k. slice_index_or live.order.items k 0) here ∙ sym is) below with_it
+          (ap (node_at live) here ∙ sym is) below with_it
     ];
     there = λ pair found. elim (step.there pair found) [
       | inl was ↦ held.there pair was
@@ -330,7 +321,7 @@ module _ {live : Live} {owner : ℕ} where
       → IsLooked live owner IsPassed old now → IsSomeAnd now (λ pair. pair.cost <ℤ gap)
       → ((other : ℕ) → IsWanted other → IsPassed other ⊎ ((pair : Pair)
       → other < length live.order.items
-      → IsKeptWith live owner (slice_index_or live.order.items other 0) pair → gap ≤ℤ pair.cost))
+      → IsKeptWith live owner (node_at live other) pair → gap ≤ℤ pair.cost))
       → IsLooked live owner IsWanted old now
   look_stops IsPassed IsWanted old now gap held less rest = record {
     stays = held.stays;
@@ -348,7 +339,7 @@ module _ {live : Live} {owner : ℕ} where
       → IsSomeAnd now (λ pair. IsPast live.sinks pair gap node)
       → ((other : ℕ) → IsWanted other → IsPassed other ⊎ ((pair : Pair)
       → other < length live.order.items
-      → IsKeptWith live owner (slice_index_or live.order.items other 0) pair
+      → IsKeptWith live owner (node_at live other) pair
       → (gap ≤ℤ pair.cost) × (pair.cost ≡ gap → node ≤ other_of live.sinks pair)))
       → IsLooked live owner IsWanted old now
   look_passes IsPassed IsWanted old now gap node held kept past rest = record {
@@ -397,23 +388,23 @@ module _ {live : Live} {owner : ℕ} where
     -- from a place upwards all are as far
     pub far_above : (place other : ℕ) (pair : Pair) → place ≤ other
         → other < length live.order.items
-        → IsKeptWith live owner (slice_index_or live.order.items other 0) pair
+        → IsKeptWith live owner (node_at live other) pair
         → (low_at live place -ℤ high_on live.axis cluster) ≤ℤ pair.cost
     far_above place other pair from below with_it =
         let (found, here, is) = kept_apart live owner _ pair cluster with_it has in
-        let low = low_is live (slice_index_or live.order.items other 0) found here in
+        let low = low_is live other found ordered below here in
         omega (arith, ints, is.up, low, ordered.ascending place other from below)
 
     -- and those as far have no lower number
     pub behind_above : (place other : ℕ) (pair : Pair) → place ≤ other
         → other < length live.order.items
-        → IsKeptWith live owner (slice_index_or live.order.items other 0) pair
+        → IsKeptWith live owner (node_at live other) pair
         → pair.cost ≡ (low_at live place -ℤ high_on live.axis cluster)
-        → slice_index_or live.order.items place 0 ≤ other_of live.sinks pair
+        → node_at live place ≤ other_of live.sinks pair
     behind_above place other pair from below with_it same = elim (cases_lt place other) [
       | inl before ↦
           let (found, here, is) = kept_apart live owner _ pair cluster with_it has in
-          let low = low_is live (slice_index_or live.order.items other 0) found here in
+          let low = low_is live other found ordered below here in
           let equal : low_at live place
           ≡ low_at live other =
           as_low (low_at live place)
@@ -421,9 +412,8 @@ module _ {live : Live} {owner : ℕ} where
           pair.cost same low is.up (ordered.ascending place other from below) in
           omega (arith, with_it.other, ordered.numbered place other before below equal)
       | inr to ↦
-          let here : slice_index_or live.order.items place 0
-          ≡ slice_index_or live.order.items other 0 =
-          ap (λ k. slice_index_or live.order.items k 0) (one_place place other from to) in
+          let here : node_at live place ≡ node_at live other =
+          ap (node_at live) (one_place place other from to) in
           omega (arith, with_it.other, here)
     ]
       where
@@ -437,19 +427,19 @@ module _ {live : Live} {owner : ℕ} where
     -- and from a place downwards
     pub far_below : (place other : ℕ) (pair : Pair) → other ≤ place
         → place < length live.order.items
-        → IsKeptWith live owner (slice_index_or live.order.items other 0) pair
+        → IsKeptWith live owner (node_at live other) pair
         → (low_on live.axis cluster -ℤ live.widest -ℤ low_at live place)
         ≤ℤ pair.cost
     far_below place other pair to below with_it =
         let (found, here, is) = kept_apart live owner _ pair cluster with_it has in
-        let low = low_is live (slice_index_or live.order.items other 0) found here in
+        let low = low_is live other found ordered (omega (arith, to, below)) here in
         omega (
           arith,
           ints,
           is.down,
           low,
           ordered.ascending other place to below,
-          ordered.wide (slice_index_or live.order.items other 0) found here,
+          ordered.wide (node_at live other) found here,
         )
 
 -- a gap downwards fits the code's numbers
@@ -473,10 +463,11 @@ pub looked_both : (live : Live) (owner from : ℕ) (middle found : Option Pair) 
 looked_both live owner from middle found ordered up down = record {
   bound = λ pair held.
       let node = other_of live.sinks pair in
-      let (place, below, here) = ordered.all node (other_unjoined live owner pair held) in
-      let with_it : IsKeptWith live owner (slice_index_or live.order.items place 0) pair = record {
+      let (cluster, has) = other_has live owner pair held in
+      let (place, below, here) = place_there live node cluster ordered has in
+      let with_it : IsKeptWith live owner (node_at live place) pair = record {
         kept = held;
-        other = sym (placed live.order.items place node below here);
+        other = sym here;
       } in
       elim (cases_lt place from) [
         | inl before ↦ down.bound place pair before below with_it
@@ -490,10 +481,6 @@ looked_both live owner from middle found ordered up down = record {
     | inr kept ↦ kept
   ];
 }
-  where
-    placed : (items : List ℕ) (place node : ℕ) → place < length items
-        → get_or items place node ≡ node → slice_index_or items place 0 ≡ node
-    placed items place node below here = get_or_default items place 0 node below ∙ here
 
 -- where the node has no cluster it keeps no pair
 pub none_nearest : (live : Live) (owner : ℕ)

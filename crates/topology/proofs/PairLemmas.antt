@@ -6,7 +6,7 @@ use Rattle.tilted_rect.specs.ClusterSets.{cost_of}
 use Rattle.topology.specs.declared.live.Live.{Live}
 use Rattle.topology.specs.declared.pair.Pair.{Pair}
 use Rattle.topology.specs.LiveClusters.{HasCluster, IsPair, IsKeptWith, owner_of, other_of}
-use Rattle.topology.proofs.NearLemmas.{one_cluster}
+use Rattle.topology.proofs.EntryLemmas.{one_cluster}
 
 -- the pair is of those two nodes
 abbrev pub IsOf : Live → (first second : ℕ) → Pair → Type 0
@@ -40,10 +40,10 @@ found_pair live first second one other cost ordered has other_has cost_is pair =
     refl,
   ),
   λ (is, at_first, at_second).
-      let first_is : one ≡ is.one = one_cluster one is.one (sym has.cluster
-      ∙ (subst (λ n. HasCluster live n is.one) at_first is.first).cluster) in
-      let second_is : other ≡ is.other = one_cluster other is.other (sym other_has.cluster
-      ∙ (subst (λ n. HasCluster live n is.other) at_second is.second).cluster) in
+      let first_is : one ≡ is.one = one_cluster one is.one (sym has
+      ∙ subst (λ n. HasCluster live n is.one) at_first is.first) in
+      let second_is : other ≡ is.other = one_cluster other is.other (sym other_has
+      ∙ subst (λ n. HasCluster live n is.other) at_second is.second) in
       let same : cost ≡ pair.cost = cost_is ∙ ap (λ c. cost_of c other) first_is
       ∙ ap (cost_of is.one) second_is ∙ sym is.cost in
       ap Some (λ i. record
@@ -124,9 +124,9 @@ has_found live pair found (held, first, second) = (
       { cost = cost i; first = first i; second = second i }) held,
   λ is. held.cost ∙ ap (λ c. cost_of c held.other)
       (one_cluster held.one is.one
-      (sym (subst (λ n. HasCluster live n held.one) first held.first).cluster ∙ is.first.cluster))
+      (sym (subst (λ n. HasCluster live n held.one) first held.first) ∙ is.first))
       ∙ ap (cost_of is.one)
       (one_cluster held.other is.other
-      (sym (subst (λ n. HasCluster live n held.other) second held.second).cluster
-      ∙ is.second.cluster)) ∙ sym is.cost,
+      (sym (subst (λ n. HasCluster live n held.other) second held.second) ∙ is.second))
+      ∙ sym is.cost,
 )

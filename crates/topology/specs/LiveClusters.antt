@@ -1,7 +1,8 @@
 -- The clusters that no merge joins yet, and which pairs of them are kept.
-use Rattle.std.specs.Prelude.{◌≡◌, ◌↔◌, ◌⊎◌, ℕ, ◌<◌, ◌≤◌, ◌+◌, true, false, Option, Some, List, [], ◌∷◌, ◌++◌, All, Contains, count_by, length, take, slice_get, slice_set, slice_index_or, ℤ, pos, ◌+ℤ◌, ◌≤ℤ◌, ◌<ℤ◌, nat_lt, if◌then◌else◌, ◌^◌}
+use Rattle.std.specs.Prelude.{◌≡◌, ◌≢◌, ◌↔◌, ◌⊎◌, ℕ, ◌<◌, ◌≤◌, ◌+◌, Option, Some, None, IsSome, IsSomeAnd, option_map, List, [], ◌++◌, All, Contains, length, take, slice_get, slice_index_or, ℤ, pos, ◌+ℤ◌, ◌≤ℤ◌, ◌<ℤ◌, nat_lt, if◌then◌else◌, ◌^◌}
 use Rattle.std.specs.List.Sorted.{IsPermutation}
-use Rattle.std.specs.Option.{option_map_or}
+use Rattle.std.specs.Option.{option_and_then, option_map_or}
+use Rattle.slab.specs.Slab.{get}
 use Rattle.cts_model.specs.placement.Points.{IsBelow}
 use Rattle.tilted_rect.specs.declared.cluster.Cluster.{Cluster}
 use Rattle.cts_model.specs.declared.place.Sink.{Sink}
@@ -10,18 +11,29 @@ use Rattle.cts_model.specs.tree.GreedyMerges.{IsCheapest}
 use Rattle.cts_model.specs.tree.Topologies.{IsLive, sinks_below}
 use Rattle.cts_model.specs.tree.Regions.{IsUnion}
 use Rattle.tilted_rect.specs.ClusterSets.{IsCluster, cost_of}
+use Rattle.topology.specs.declared.live.Entry.{Entry}
 use Rattle.topology.specs.declared.live.Live.{Live}
 use Rattle.topology.specs.declared.pair.Pair.{Pair}
 use Rattle.topology.specs.declared.waiting.Waiting.{Waiting}
 use Rattle.topology.specs.Axes.{high_on, low_on}
 use Rattle.topology.specs.Pairs.{IsAtMost, IsBefore}
 
--- ---- pairs
+-- ---- the clusters of the nodes
+
+-- the cluster of a node, until a merge joins it
+abbrev pub cluster_of : Live → (node : ℕ) → Option Cluster
+cluster_of live node = option_and_then (option_and_then (λ key. option_map
+    (λ entry. entry.cluster) (get live.clusters key))) (slice_get live.keys node)
 
 -- the node has that cluster, and no merge joins it yet
-pub record HasCluster (live : Live) (node : ℕ) (is : Cluster) : Type 0 where
-  pub unjoined : slice_get live.unjoined node ≡ Some true
-  pub cluster : slice_get live.clusters node ≡ Some is
+abbrev pub HasCluster : Live → (node : ℕ) → Cluster → Type 0
+HasCluster live node cluster = cluster_of live node ≡ Some cluster
+
+-- no merge joins the node yet
+abbrev pub IsUnjoined : Live → (node : ℕ) → Type 0
+IsUnjoined live node = IsSome (cluster_of live node)
+
+-- ---- pairs
 
 -- the pair is of two clusters that no merge joins yet
 pub record IsPair (live : Live) (pair : Pair) : Type 0 where
@@ -57,36 +69,45 @@ pub record IsNearest (live : Live) (owner : ℕ) (found : Option Pair) : Type 0 
 
 -- ---- the order of the clusters
 
--- where a node's cluster begins
-abbrev pub low_of : Live → (node : ℕ) → ℤ
-low_of live node = option_map_or (low_on live.axis) (slice_get live.clusters node) (pos 0)
+-- what stands at a place of the order
+abbrev pub entry_at : Live → (place : ℕ) → Option Entry
+entry_at live place = get live.clusters (slice_index_or live.order.items place 0)
 
--- where the cluster at a place of the order begins
+-- the number of the node there
+abbrev pub node_at : Live → (place : ℕ) → ℕ
+node_at live place = option_map_or (λ entry. entry.node) (entry_at live place) 0
+
+-- where its cluster begins
 abbrev pub low_at : Live → (place : ℕ) → ℤ
-low_at live place = low_of live (slice_index_or live.order.items place 0)
+low_at live place =
+    option_map_or (λ entry. low_on live.axis entry.cluster) (entry_at live place) (pos 0)
 
--- each node that no merge joins is in the order, by where its cluster begins and then by number,
--- and no cluster is wider than that
+-- under the key is the cluster of that node
+abbrev pub IsUnder : Live → (key node : ℕ) → Type 0
+IsUnder live key node = (slice_get live.keys node ≡ Some (Some key))
+    × IsSomeAnd (get live.clusters key) (λ entry. entry.node ≡ node)
+
+-- each cluster that no merge joins stands in the order under its node's key, by where it begins and
+-- then by the node's number, and none is wider than that
 pub record IsOrdered (live : Live) : Type 0 where
-  pub lens : length live.unjoined ≡ length live.clusters
-  pub few : length live.clusters < 2 ^ 32
-  pub within : (place : ℕ) → place < length live.order.items
-      → slice_index_or live.order.items place 0 < length live.clusters
-  pub all : (node : ℕ) → slice_get live.unjoined node ≡ Some true → Contains live.order.items node
+  pub few : length live.keys < 2 ^ 32
+  pub keyed : (node key : ℕ) → slice_get live.keys node ≡ Some (Some key) → IsUnder live key node
+  pub placed : (place : ℕ) → place < length live.order.items
+      → IsUnder live (slice_index_or live.order.items place 0) (node_at live place)
+  pub all : (node key : ℕ) → slice_get live.keys node ≡ Some (Some key)
+      → Contains live.order.items key
   pub ascending : (place later : ℕ) → place ≤ later → later < length live.order.items
       → low_at live place ≤ℤ low_at live later
   pub numbered : (place later : ℕ) → place < later → later < length live.order.items
-      → low_at live place ≡ low_at live later
-      → slice_index_or live.order.items place 0 < slice_index_or live.order.items later 0
+      → low_at live place ≡ low_at live later → node_at live place < node_at live later
   pub below : IsBelow (10 ^ 34) live.widest
-  pub wide : (node : ℕ) (cluster : Cluster) → slice_get live.clusters node ≡ Some cluster
+  pub wide : (node : ℕ) (cluster : Cluster) → HasCluster live node cluster
       → high_on live.axis cluster ≤ℤ (low_on live.axis cluster +ℤ live.widest)
 
 -- the node at a place stands before another, whose cluster begins there
 abbrev pub StandsBefore : Live → (place : ℕ) → (low : ℤ) → (node : ℕ) → Type 0
 StandsBefore live place low node = (low_at live place <ℤ low)
-    ⊎ ((low_at live place ≡ low)
-    × (slice_index_or live.order.items place 0 < node))
+    ⊎ ((low_at live place ≡ low) × (node_at live place < node))
 
 -- the pair costs less than a gap, or as much and with a node below that one
 abbrev pub IsPast : (sinks : ℕ) → Pair → (gap : ℤ) → (node : ℕ) → Type 0
@@ -99,7 +120,7 @@ pub record IsLooked (live : Live) (owner : ℕ) (IsPassed : ℕ → Type 0)
     (old new : Option Pair) : Type 0 where
   pub stays : (pair : Pair) → IsAtMost old pair → IsAtMost new pair
   pub bound : (place : ℕ) (pair : Pair) → IsPassed place → place < length live.order.items
-      → IsKeptWith live owner (slice_index_or live.order.items place 0) pair → IsAtMost new pair
+      → IsKeptWith live owner (node_at live place) pair → IsAtMost new pair
   pub there : (pair : Pair) → new ≡ Some pair → (old ≡ Some pair) ⊎ IsKept live owner pair
 
 -- ---- kept pairs
@@ -118,12 +139,12 @@ AreCovered live from kept = (pair : Pair) → IsPair live pair → owner_of live
 
 -- a merge joins every node below that one
 abbrev pub AreJoinedBelow : Live → (lowest : ℕ) → Type 0
-AreJoinedBelow live lowest = (node : ℕ) → slice_get live.unjoined node ≡ Some true → lowest ≤ node
+AreJoinedBelow live lowest = (node : ℕ) → IsUnjoined live node → lowest ≤ node
 
 -- nodes that merges made wait, and all those behind them
 pub record AreWaiting (live : Live) (waiting : Waiting) : Type 0 where
   pub made : live.sinks ≤ waiting.from
-  pub within : waiting.from ≤ length live.clusters
+  pub within : waiting.from ≤ length live.keys
   pub lowest : AreJoinedBelow live waiting.lowest
 
 -- each pair of a node that doesn't wait is covered
@@ -153,15 +174,19 @@ pub record IsCheapestPair (live : Live) (cheapest : Pair) : Type 0 where
 -- the cluster of one node more
 pub record IsAdded (old new : Live) (cluster : Cluster) : Type 0 where
   pub sinks : new.sinks ≡ old.sinks
-  pub clusters : new.clusters ≡ old.clusters ++ cluster ∷ []
-  pub unjoined : new.unjoined ≡ old.unjoined ++ true ∷ []
+  pub count : length new.keys ≡ length old.keys + 1
+  pub left : length new.order.items ≡ length old.order.items + 1
+  pub made : HasCluster new (length old.keys) cluster
+  pub others : (node : ℕ) → node ≢ length old.keys → cluster_of new node ≡ cluster_of old node
   pub ordered : IsOrdered new
 
 -- a merge joins that node
 pub record IsLeft (old new : Live) (node : ℕ) : Type 0 where
   pub sinks : new.sinks ≡ old.sinks
-  pub clusters : new.clusters ≡ old.clusters
-  pub unjoined : new.unjoined ≡ slice_set old.unjoined node false
+  pub count : length new.keys ≡ length old.keys
+  pub left : length new.order.items + 1 ≡ length old.order.items
+  pub gone : cluster_of new node ≡ None
+  pub others : (other : ℕ) → other ≢ node → cluster_of new other ≡ cluster_of old other
   pub ordered : IsOrdered new
 
 -- the two clusters of a pair are merged into one of a node more
@@ -169,38 +194,41 @@ pub record IsJoined (old new : Live) (pair : Pair) : Type 0 where
   pub one : Cluster
   pub other : Cluster
   pub both : Cluster
-  pub first : slice_get old.clusters pair.first ≡ Some one
-  pub second : slice_get old.clusters pair.second ≡ Some other
+  pub first : HasCluster old pair.first one
+  pub second : HasCluster old pair.second other
   pub joined : (first second sinks : List Sink) → IsUnion first second sinks
       → IsCluster first one → IsCluster second other → IsCluster sinks both
   pub sinks : new.sinks ≡ old.sinks
-  pub clusters : new.clusters ≡ old.clusters ++ both ∷ []
-  pub unjoined : new.unjoined
-      ≡ slice_set (slice_set old.unjoined pair.first false) pair.second false ++ true ∷ []
+  pub count : length new.keys ≡ length old.keys + 1
+  pub left : length new.order.items + 1 ≡ length old.order.items
+  pub made : HasCluster new (length old.keys) both
+  pub first_gone : cluster_of new pair.first ≡ None
+  pub second_gone : cluster_of new pair.second ≡ None
+  pub others : (node : ℕ) → node ≢ pair.first → node ≢ pair.second → node ≢ length old.keys
+      → cluster_of new node ≡ cluster_of old node
   pub ordered : IsOrdered new
 
--- ---- the clusters of the nodes
+-- ---- what the clusters are
 
--- each node has the cluster of the sinks below it, and those that no merge joins are live
+-- each cluster is that of the sinks below its node, and those that no merge joins are live
 pub record AreLive (sinks : List Sink) (merges : List Merge) (live : Live) : Type 0 where
   pub sinks_is : live.sinks ≡ length sinks
   pub ordered : IsOrdered live
-  pub count : length live.clusters ≡ length sinks + length merges
-  pub clusters : (node : ℕ) (cluster : Cluster) → slice_get live.clusters node ≡ Some cluster
+  pub count : length live.keys ≡ length sinks + length merges
+  pub clusters : (node : ℕ) (cluster : Cluster) → HasCluster live node cluster
       → IsCluster (sinks_below sinks merges node) cluster
-  pub unjoined : (node : ℕ) → (slice_get live.unjoined node ≡ Some true)
-      ↔ IsLive (length sinks) merges node
-  pub left : count_by (λ still. still) live.unjoined + length merges ≡ length sinks
+  pub unjoined : (node : ℕ) → IsUnjoined live node ↔ IsLive (length sinks) merges node
+  pub left : length live.order.items + length merges ≡ length sinks
 
 -- so many of the first sinks have their clusters
 pub record AreFirstSinks (sinks : List Sink) (register : ℕ) (live : Live) : Type 0 where
   pub sinks_is : live.sinks ≡ length sinks
   pub ordered : IsOrdered live
-  pub count : length live.clusters ≡ register
-  pub clusters : (node : ℕ) (cluster : Cluster) → slice_get live.clusters node ≡ Some cluster
+  pub count : length live.keys ≡ register
+  pub clusters : (node : ℕ) (cluster : Cluster) → HasCluster live node cluster
       → IsCluster (sinks_below sinks [] node) cluster
-  pub unjoined : (node : ℕ) → node < register → slice_get live.unjoined node ≡ Some true
-  pub left : count_by (λ still. still) live.unjoined ≡ register
+  pub unjoined : (node : ℕ) → node < register → IsUnjoined live node
+  pub left : length live.order.items ≡ register
 
 -- the merges so far were each the cheapest when they were made
 abbrev pub WereCheapest : List Sink → List Merge → Type 0

@@ -20,6 +20,10 @@ use tilted_rect::Cluster;
 /// the fewest. One looks at those that are near enough on it alone, and what it finds is kept until
 /// a merge breaks it up. Edahiro, "A Clustering-Based Optimization Algorithm in Zero-Skew
 /// Routings", 1993.
+///
+/// # Errors
+///
+/// There is no memory. Nothing else is refused.
 pub fn greedy(alloc: Global, sinks: &[Sink]) -> Result<Topology, NoMemory>
     requires { AreTreeSinks sinks.now }
     ensures greedy { IfOk result (λ topology. IsGreedy sinks.now topology.merges) }
@@ -122,7 +126,7 @@ fn lowest(live: &Live, from: u32) -> u32
 // Whether a node that waits might have a pair that is to be merged before all that are kept.
 fn is_due(live: &Live, queue: &Queue, waiting: &Waiting) -> bool
     requires { AreKept live.now waiting.now queue.now }
-    ensures within { IsTrue result → waiting.now.from < length live.now.clusters }
+    ensures within { IsTrue result → waiting.now.from < length live.now.keys }
     ensures first { ¬ IsTrue result → IsFirstOf live.now (slice_get queue.now 0) }
 {
     let top = queue.first();

@@ -8,4 +8,4 @@ invariant-loop-queue l = AreSearched l.live l.waiting l.initial.queue l.queue
 
 -- how many wait
 abbrev pub decreases-loop-queue : goal.decreases-loop-queue
-decreases-loop-queue l = length l.live.clusters - l.waiting.from
+decreases-loop-queue l = length l.live.keys - l.waiting.from
