@@ -199,6 +199,8 @@ module _ {period value share : Fraction} {gains : Gains}
   -- the scale is the least common multiple
   pub multiple : IsLeastMultiple period.den value.den gains.scale
   multiple = record {
+    some = subst (λ scale. pos 1 ≤ℤ scale) (sym scale_is)
+        (at q u (den_some period) (den_some share));
     first_factor = share.den;
     of_first = gains_are.scale_is;
     second_factor = share.num;
