@@ -5,6 +5,7 @@ use Rattle.std.proofs.Props.{props}
 use Rattle.cts_model.specs.declared.circuit.Circuit.{Circuit}
 use Rattle.cts_model.specs.declared.place.Places.{Places}
 use Rattle.cts_model.specs.declared.problem.Problem.{Problem}
+use Rattle.cts_model.specs.declared.signal.Signal.{Signal}
 use Rattle.cts_model.specs.declared.tech.Tech.{Tech}
 use Rattle.cts_model.specs.table.AcceptedTables.{AcceptsTable}
 use Rattle.cts_model.specs.netlist.Hosts.{IsWithHost}
@@ -23,7 +24,7 @@ use Rattle.place_reader.specs.Refusals as placements
 use Rattle.place_reader.proofs.OneFault as placement_faults
 use Rattle.cts_engine.specs.declared.refusals.Refusal.{Refusal}
 use Rattle.cts_engine.specs.declared.refusals.Refusal.TheVariants as refusals
-use Rattle.cts_engine.specs.Accepted.{IsHostedBy, TellBoth, TellAll, IsTableOf, IsPlacementOf, HasTableFault, HasPlacesFault, IsRefusal}
+use Rattle.cts_engine.specs.Accepted.{IsHostedBy, TellsDelays, TellBoth, TellAll, IsTableOf, IsPlacementOf, HasTableFault, HasPlacesFault, IsRefusal}
 use Rattle.cts_engine.proofs.OnePlaces.{one_places}
 
 -- ---- one circuit and one table
@@ -44,6 +45,15 @@ one_hosted false bare circuit other hosted hosted' =
     same_circuit circuit other (hosted.signals ∙ sym hosted'.signals)
     (hosted.registers ∙ sym hosted'.registers) (hosted.outputs ∙ sym hosted'.outputs)
 
+-- a table tells one list of delays
+pub one_delays : (signals : List Signal) (table : List ℕ) (tech other : Tech)
+    → TellsDelays signals table tech → TellsDelays signals table other → tech ≡ other
+one_delays signals table tech other tells tells' =
+    let used : tells'.used ≡ tells.used =
+    one_use signals tells'.used tells.used tells'.kinds tells.kinds in
+    one_table tells.used table tech other tells.accepts
+    (subst (λ u. AcceptsTable u table other) used tells'.accepts)
+
 -- a netlist and a delay table tell one circuit and one table
 pub one_both : (netlist table : List ℕ) (circuit other : Circuit) (tech tech' : Tech)
     → TellBoth netlist table circuit tech → TellBoth netlist table other tech'
@@ -51,12 +61,9 @@ pub one_both : (netlist table : List ℕ) (circuit other : Circuit) (tech tech' 
 one_both netlist table circuit other tech tech' tell tell' =
     let bare : tell'.bare ≡ tell.bare =
     one_netlist netlist tell'.bare tell.bare tell'.accepts tell.accepts in
-    let kinds' = subst (λ (c : Circuit). AreUsedKinds c.signals tell'.used) bare tell'.kinds in
-    let used : tell'.used ≡ tell.used =
-    one_use tell.bare.signals tell'.used tell.used kinds' tell.kinds in
     let same : tech' ≡ tech =
-    one_table tell.used table tech' tech
-    (subst (λ u. AcceptsTable u table tech') used tell'.accepts_table) tell.accepts_table in
+    one_delays tell.bare.signals table tech' tech
+    (subst (λ (c : Circuit). TellsDelays c.signals table tech') bare tell'.delays) tell.delays in
     let hosted' = subst (λ c. IsHostedBy tech c other) bare
     (subst (λ t. IsHostedBy t tell'.bare other) same tell'.hosted) in
     (one_hosted (length tech.host == 0) tell.bare circuit other tell.hosted hosted', sym same)
@@ -97,17 +104,16 @@ same_problem problem other circuit tech places =
 
 -- ---- no refusal
 
--- a table that is accepted for a circuit is one of its netlist
-pub table_accepted : (netlist table : List ℕ) (circuit : Circuit) (tech : Tech) (used : List Bool)
-    → AcceptsNetlist netlist circuit → AreUsedKinds circuit.signals used
-    → AcceptsTable used table tech → IsTableOf netlist table
-table_accepted netlist table circuit tech used accepts kinds accepts_table = record {
-  used = used;
-  kinds = subst (λ signals. AreUsedKinds signals used) accepts.signals kinds;
+-- a table that tells delays for the signals of a netlist is one of it
+pub table_accepted : (netlist table : List ℕ) (signals : List Signal) (tech : Tech)
+    → signals ≡ signals_of netlist → TellsDelays signals table tech → IsTableOf netlist table
+table_accepted netlist table signals tech same tells = record {
+  used = tells.used;
+  kinds = subst (λ s. AreUsedKinds s tells.used) same tells.kinds;
   table = record {
-    document = accepts_table.document;
-    reads = accepts_table.reads;
-    flawless = accepts_table.flawless;
+    document = tells.accepts.document;
+    reads = tells.accepts.reads;
+    flawless = tells.accepts.flawless;
   };
 }
 
@@ -153,8 +159,8 @@ module _ (netlist table placement : List ℕ) where
       absurd (has.named (no_fault netlist fault denotes.tell.accepts.netlist has.cause))
   unrefused problem denotes (refusals.Tech fault) (accepted, has) =
       let tell = denotes.tell in
-      absurd (table_fine netlist table fault (table_accepted netlist table tell.bare problem.tech
-      tell.used tell.accepts tell.kinds tell.accepts_table) has)
+      absurd (table_fine netlist table fault (table_accepted netlist table tell.bare.signals
+      problem.tech tell.accepts.signals tell.delays) has)
   unrefused problem denotes (refusals.Places fault) (accepted, accepted', has) =
       absurd (placement_fine fault (record {
         circuit = problem.circuit;

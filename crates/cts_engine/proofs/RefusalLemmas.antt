@@ -58,7 +58,6 @@ module _ (netlist table : List ℕ) where
     places_refused circuit tech tell place.NoMemory cause = tt
     places_refused circuit tech tell fault cause = (
       tell.accepts.netlist,
-      table_accepted netlist table tell.bare tech tell.used tell.accepts tell.kinds
-          tell.accepts_table,
+      table_accepted netlist table tell.bare.signals tech tell.accepts.signals tell.delays,
       record { named = λ e. cc e; circuit = circuit; tech = tech; tell = tell; cause = cause },
     )

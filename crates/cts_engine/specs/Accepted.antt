@@ -3,6 +3,7 @@
 use Rattle.std.specs.Prelude.{◌≡◌, ◌≢◌, ◌==◌, ℕ, Bool, List, length, MatchBool}
 use Rattle.cts_model.specs.declared.circuit.Circuit.{Circuit}
 use Rattle.cts_model.specs.declared.problem.Problem.{Problem}
+use Rattle.cts_model.specs.declared.signal.Signal.{Signal}
 use Rattle.cts_model.specs.declared.tech.Tech.{Tech}
 use Rattle.cts_model.specs.table.AcceptedTables.{IsDelayTable, AcceptsTable}
 use Rattle.cts_model.specs.netlist.Hosts.{IsWithHost}
@@ -26,13 +27,17 @@ abbrev pub IsHostedBy : Tech → Circuit → Circuit → Type 0
 IsHostedBy tech bare circuit =
     MatchBool (length tech.host == 0) (circuit ≡ bare) (IsWithHost bare circuit)
 
+-- a table tells these delays, and gives each gate kind of these signals
+pub record TellsDelays (signals : List Signal) (table : List ℕ) (tech : Tech) : Type 0 where
+  pub used : List Bool
+  pub kinds : AreUsedKinds signals used
+  pub accepts : AcceptsTable used table tech
+
 -- a netlist and a delay table tell this circuit and these delays
 pub record TellBoth (netlist table : List ℕ) (circuit : Circuit) (tech : Tech) : Type 0 where
   pub bare : Circuit
   pub accepts : AcceptsNetlist netlist bare
-  pub used : List Bool
-  pub kinds : AreUsedKinds bare.signals used
-  pub accepts_table : AcceptsTable used table tech
+  pub delays : TellsDelays bare.signals table tech
   pub hosted : IsHostedBy tech bare circuit
 
 -- with a placement they tell this problem
@@ -59,12 +64,16 @@ pub record HasFault (bytes : List ℕ) (fault : BenchFault) : Type 0 where
   pub named : fault ≢ bench.NoMemory
   pub cause : netlists.RefusesNetlist bytes fault
 
--- the table of a netlist has this fault
-pub record HasTableFault (netlist bytes : List ℕ) (fault : TechFault) : Type 0 where
+-- the table for a circuit of these signals has this fault
+pub record HasFaultFor (signals : List Signal) (bytes : List ℕ) (fault : TechFault) : Type 0 where
   pub named : fault ≢ tech.NoMemory
   pub used : List Bool
-  pub kinds : AreUsedKinds (signals_of netlist) used
+  pub kinds : AreUsedKinds signals used
   pub cause : tables.RefusesTable used bytes fault
+
+-- the table of a netlist has it
+abbrev pub HasTableFault : (netlist bytes : List ℕ) → TechFault → Type 0
+HasTableFault netlist bytes fault = HasFaultFor (signals_of netlist) bytes fault
 
 -- the placement of what a netlist and a delay table tell has this fault
 pub record HasPlacesFault (netlist table bytes : List ℕ) (fault : PlaceFault) : Type 0 where

@@ -1,15 +1,17 @@
-ghost use Rattle.std.specs.Prelude.{◌≡◌, ◌≢◌, ◌≤◌, ◌↔◌, ◌⊎◌, IsTrue, [], length, Ok, Err, IfOk, IfErr};
+ghost use Rattle.std.specs.Prelude.{◌≡◌, ◌≢◌, ◌≤◌, ◌↔◌, ◌⊎◌, Bool, IsTrue, List, [], length, Ok, Err, IfOk, IfErr};
 ghost use Rattle.cts_model.specs.declared.problem.Problem.{Problem};
 ghost use Rattle.cts_model.specs.netlist.Circuits.{has_host};
 ghost use Rattle.cts_model.specs.netlist.Hosts.{HasNoHost};
+ghost use Rattle.cts_model.specs.netlist.UsedKinds.{AreUsedKinds};
 ghost use Rattle.cts_model.specs.tree.Problems.{GivesUsedKinds};
-ghost use Rattle.cts_engine.specs.Accepted.{IsHostedBy, TellBoth, TellAll, IsCircuitRefusal, IsRefusal};
+ghost use Rattle.delay_tables.specs.Refusals.{RefusesTable};
+ghost use Rattle.cts_engine.specs.Accepted.{IsHostedBy, TellsDelays, TellBoth, TellAll, IsCircuitRefusal, IsRefusal};
 
 use crate::Refusal;
 use bench_reader::read_bench;
 use cts_base::NoMemory;
 use cts_model::{Circuit, Problem, Tech, used_kinds, with_host};
-use delay_tables::read_tech;
+use delay_tables::{TechFault, read_tech};
 use place_reader::read_places;
 use std::alloc::Global;
 
@@ -79,8 +81,26 @@ pub fn accept_circuit(alloc: Global, bench: &[u8], tech: &[u8]) -> Result<Denote
     ensures cause { IfErr result (IsCircuitRefusal bench.now tech.now) }
 {
     let bare = read_bench(alloc, bench)?;
-    let tech = read_tech(alloc, tech, &used_kinds(&bare))?;
-    let circuit = hosted(alloc, bare, &tech)?;
+    Ok(accept_table(alloc, bare, tech)?)
+}
+
+/// What a delay table tells of the circuit of a netlist, which it has to give each gate kind of.
+///
+/// # Errors
+///
+/// The first fault of the table, or want of memory.
+pub fn accept_table(alloc: Global, circuit: Circuit, tech: &[u8]) -> Result<Denoted, TechFault>
+    requires { HasNoHost circuit }
+    ensures ok { IfOk result (λ denoted. TellsDelays circuit.signals tech.now denoted.tech) }
+    ensures hosted { IfOk result (λ denoted. IsHostedBy denoted.tech circuit denoted.circuit) }
+    ensures kinds { IfOk result (λ denoted. GivesUsedKinds denoted.circuit denoted.tech) }
+    ensures host { IfOk result (λ denoted.
+        IsTrue (has_host denoted.circuit.signals) ↔ (denoted.tech.host ≢ [])) }
+    ensures cause { IfErr result (λ fault. (used : List Bool)
+        × AreUsedKinds circuit.signals used × RefusesTable used tech.now fault) }
+{
+    let tech = read_tech(alloc, tech, &used_kinds(&circuit))?;
+    let circuit = hosted(alloc, circuit, &tech)?;
     Ok(Denoted { circuit, tech })
 }
 

@@ -16,7 +16,7 @@ mod times;
 mod wires;
 mod zero;
 
-pub use acceptance::{Denoted, accept, accept_circuit, hosted};
+pub use acceptance::{Denoted, accept, accept_circuit, accept_table, hosted};
 pub use margin::{MarginOutcome, margin_of};
 pub use path_delays::PairFault as SynthFault;
 pub use period::{PeriodOutcome, period_of};

@@ -9,14 +9,11 @@ use Rattle.cts_model.specs.declared.constraint.Constraint.{Constraint}
 use Rattle.cts_model.specs.declared.period.PeriodShow.{PeriodShow}
 use Rattle.cts_model.specs.declared.period.PeriodShow.TheVariants as shows
 use Rattle.cts_model.specs.declared.tech.Tech.{Tech}
-use Rattle.cts_model.specs.table.AcceptedTables.{AcceptsTable}
 use Rattle.cts_model.specs.timing.Cycles.{IsCycle}
 use Rattle.cts_model.specs.netlist.Netlists.{signals_of}
 use Rattle.cts_model.specs.text.PrintedLines.{Words}
 use Rattle.cts_model.specs.report.ReportBounds.{IsBetweenRegisters}
-use Rattle.cts_model.proofs.OneRecord.{one_use}
 use Rattle.cts_model.proofs.ScaleLemmas.{size_same}
-use Rattle.delay_tables.proofs.OneTable.{one_table}
 use Rattle.corners.specs.declared.outcome.CornersOutcome.{CornersOutcome}
 use Rattle.corners.specs.declared.outcome.CornersOutcome.TheVariants as outcomes
 use Rattle.corners.specs.CommonPeriods.{HasNoCommonPeriod, IsLeastCommonPeriod}
@@ -24,9 +21,9 @@ use Rattle.corners.specs.CornerCycles.{AreOfCorners, IsCommonShow}
 use Rattle.corners.specs.CornerOutcomes.{IsCornersOutcome}
 use Rattle.corners.proofs.OutcomeLemmas.{none_where_forbidden}
 use Rattle.cts_engine.specs.Accepted.{TellBoth}
-use Rattle.cts_engine.proofs.OneProblem.{one_both}
+use Rattle.cts_engine.proofs.OneProblem.{one_both, one_delays}
 use Rattle.report_text.proofs.ReportWords.{AreLines}
-use Rattle.cts_program.specs.CornerFiles.{TellsDelays, TellDelays, TellCorners, IsCornersAnswer, CornersFindNoPeriod}
+use Rattle.cts_program.specs.CornerFiles.{TellDelays, TellCorners, IsCornersAnswer, CornersFindNoPeriod}
 use Rattle.cts_program.specs.CornerTexts.{numbered_line_at, numbered_lines, common_show_lines, corners_lines, corners_status, IsCornersText}
 use Rattle.command_line.specs.declared.table.Form.TheVariants as forms
 use Rattle.cts_program.proofs.AnswerTexts.{plan_of}
@@ -38,16 +35,7 @@ use Rattle.cts_program.proofs.TextLines.{corners_lines_are}
 
 -- ---- one circuit, and one list of delays
 
--- a table tells one list of delays
-pub one_delays : (netlist table : List ℕ) (tech other : Tech) → TellsDelays netlist table tech
-    → TellsDelays netlist table other → tech ≡ other
-one_delays netlist table tech other tells tells' =
-    let used : tells'.used ≡ tells.used = one_use (signals_of netlist) tells'.used tells.used
-    tells'.kinds tells.kinds in
-    one_table tells.used table tech other tells.accepts
-    (subst (λ u. AcceptsTable u table other) used tells'.accepts)
-
--- so do several
+-- several tables tell one list of delays
 one_list : (netlist : List ℕ) (tables : List (List ℕ)) (techs others : List Tech)
     → TellDelays netlist tables techs → TellDelays netlist tables others → techs ≡ others
 one_list netlist [] [] [] tell tell' = refl
@@ -56,7 +44,7 @@ one_list netlist [] (tech ∷ techs) others tell tell' = absurd tell
 one_list netlist (table ∷ tables) [] others tell tell' = absurd tell
 one_list netlist (table ∷ tables) (tech ∷ techs) [] tell tell' = absurd tell'
 one_list netlist (table ∷ tables) (tech ∷ techs) (other ∷ others) tell tell' =
-    ap₂ (λ x xs. x ∷ xs) (one_delays netlist table tech other tell.0 tell'.0)
+    ap₂ (λ x xs. x ∷ xs) (one_delays (signals_of netlist) table tech other tell.0 tell'.0)
     (one_list netlist tables techs others tell.1 tell'.1)
 
 -- so contents tell one circuit with one list of delays, and what holds by the one telling holds by

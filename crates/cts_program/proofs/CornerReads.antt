@@ -13,7 +13,7 @@ use Rattle.cts_model.specs.netlist.UsedKinds.{AreUsedKinds}
 use Rattle.delay_tables.specs.declared.fault.TechFault.{TechFault}
 use Rattle.delay_tables.specs.declared.fault.TechFault.TheVariants as tech
 use Rattle.delay_tables.specs.Refusals.{RefusesTable}
-use Rattle.cts_engine.specs.Accepted.{IsHostedBy}
+use Rattle.cts_engine.specs.Accepted.{IsHostedBy, TellsDelays, HasFaultFor}
 use Rattle.cts_engine.proofs.HostedLoops.{both_acyclic}
 use Rattle.command_line.specs.declared.command.Command.TheVariants.{Corners}
 use Rattle.cts_program.specs.declared.ending.Answer.{Answer}
@@ -22,7 +22,7 @@ use Rattle.failure_lines.specs.declared.failure.Failure.TheVariants as failures
 use Rattle.failure_lines.specs.declared.file_kind.FileKind.{FileKind}
 use Rattle.failure_lines.specs.declared.file_kind.FileKind.TheVariants.{Bench, Corner}
 use Rattle.cts_program.specs.Answers.{ending_status}
-use Rattle.cts_program.specs.CornerFiles.{is_hostless, TellsDelays, TellDelays, AreCornerFiles, TellCorners, IsTableRefusal, HostsDifferFrom}
+use Rattle.cts_program.specs.CornerFiles.{is_hostless, TellDelays, AreCornerFiles, TellCorners, IsTableRefusal, HostsDifferFrom}
 use Rattle.cts_program.specs.CornerTexts.{IsCornersText}
 use Rattle.failure_lines.specs.Failures.{corner_failure_of}
 use Rattle.cts_program.specs.Files.{IsShortFile, corner_files, files_of, AreContents}
@@ -69,12 +69,8 @@ module _ (netlist : List ℕ) (signals : List Signal) (same : signals ≡ signal
     (holds : List ℕ → Option (List ℕ)) where
   -- a table that was read tells its delays
   tells_delays : (file : List ℕ) (tech : Tech) (read : ReadsTable signals (holds file) tech)
-      → TellsDelays netlist read.bytes tech
-  tells_delays file tech read = record {
-    used = read.used;
-    kinds = subst (λ s. AreUsedKinds s read.used) same read.kinds;
-    accepts = read.accepts;
-  }
+      → TellsDelays (signals_of netlist) read.bytes tech
+  tells_delays file tech read = subst (λ s. TellsDelays s read.bytes tech) same read.delays
 
   -- what several hold
   record AreRead (number : ℕ) (files : List (List ℕ)) (techs : List Tech) : Type 0 where
@@ -212,13 +208,7 @@ module _ (holds : List ℕ → Option (List ℕ)) (bench : Bor (List ℕ)) (tabl
         refused bytes denoted (failures.CornerTech other fault) (
           number other same,
           short,
-          record {
-            named = has.named;
-            used = has.used;
-            kinds =
-                subst (λ signals. AreUsedKinds signals has.used) netlist.accepts.signals has.kinds;
-            cause = has.cause;
-          },
+          subst (λ signals. HasFaultFor signals bytes fault) netlist.accepts.signals has,
         )
     table_stops (failures.CornerHost other) (same, (tech, last, differs)) =
         refused last.bytes last.denoted (failures.CornerHost other)
@@ -272,9 +262,7 @@ module _ (holds : List ℕ → Option (List ℕ)) (bench : Bor (List ℕ)) (tabl
               tell = record {
                 bare = bare;
                 accepts = netlist.accepts;
-                used = table.used;
-                kinds = table.kinds;
-                accepts_table = table.accepts;
+                delays = table.delays;
                 hosted = hosted;
               };
               accepts = record {

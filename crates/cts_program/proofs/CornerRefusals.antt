@@ -3,15 +3,16 @@
 use Rattle.std.proofs.Common.{ℕ, ◌≡◌, ◌≤◌, ◌⊎◌, inl, inr, Bool, List, [], ◌∷◌, ◌++◌, length, take, All, refl, ap, sym, ◌∙◌, subst, arith, length-append}
 use Rattle.std.proofs.lemmas.List.Elements.{All-head, All-tail}
 use Rattle.cts_model.specs.declared.tech.Tech.{Tech}
-use Rattle.cts_engine.specs.Accepted.{IsTableOf}
-use Rattle.cts_engine.proofs.OneProblem.{table_fine}
+use Rattle.cts_model.specs.netlist.Netlists.{signals_of}
+use Rattle.cts_engine.specs.Accepted.{TellsDelays}
+use Rattle.cts_engine.proofs.OneProblem.{one_delays, table_accepted, table_fine}
 use Rattle.failure_lines.specs.declared.failure.Failure.{Failure}
 use Rattle.failure_lines.specs.declared.failure.Failure.TheVariants.{TooLong, CornerTech, CornerHost, Pairs}
 use Rattle.failure_lines.specs.declared.file_kind.FileKind.TheVariants.{Corner}
-use Rattle.cts_program.specs.CornerFiles.{is_hostless, TellsDelays, TellDelays, AcceptsCorners, AreCornerFiles, CornersJoinTooMany, IsCornersAnswer, HostsDifferFrom, IsTableRefusal, RefusesCorners}
+use Rattle.cts_program.specs.CornerFiles.{is_hostless, TellDelays, AcceptsCorners, AreCornerFiles, CornersJoinTooMany, IsCornersAnswer, HostsDifferFrom, IsTableRefusal, RefusesCorners}
 use Rattle.failure_lines.specs.Failures.{status_of}
 use Rattle.cts_program.specs.Files.{IsShortFile}
-use Rattle.cts_program.proofs.CornerAnswers.{one_delays, of_one_telling}
+use Rattle.cts_program.proofs.CornerAnswers.{of_one_telling}
 use Rattle.cts_program.proofs.FileRefusals.{Agree, agree_same, file_status, accepted_not_refused}
 
 -- ---- the status of a refusal
@@ -41,7 +42,7 @@ corners_refusal_status contents files failure (inr (all, pairs, many)) = ap stat
 -- an accepted table tells its delays
 record ToldAt (netlist table : List ℕ) (hostless : Bool) : Type 0 where
   tech : Tech
-  tells : TellsDelays netlist table tech
+  tells : TellsDelays (signals_of netlist) table tech
   short : IsShortFile table
   host : is_hostless tech ≡ hostless
 
@@ -58,7 +59,7 @@ told_at netlist (one ∷ tables) [] hostless before table more short tell hosts 
 told_at netlist (one ∷ tables) (tech ∷ techs) hostless [] table more short tell hosts agree within =
     record {
       tech = tech;
-      tells = subst (λ t. TellsDelays netlist t tech) agree.0 tell.0;
+      tells = subst (λ t. TellsDelays (signals_of netlist) t tech) agree.0 tell.0;
       short = subst IsShortFile agree.0 (All-head IsShortFile one tables short);
       host = All-head (λ tech. is_hostless tech ≡ hostless) tech techs hosts;
     }
@@ -67,19 +68,6 @@ told_at netlist (one ∷ tables) (tech ∷ techs) hostless (other ∷ before) ta
     told_at netlist tables techs hostless before table more (All-tail IsShortFile one tables short)
     tell.1 (All-tail (λ tech. is_hostless tech ≡ hostless) tech techs hosts) agree.1
     (omega (arith, within))
-
--- a table that tells delays has no fault
-is_table : (netlist table : List ℕ) (tech : Tech) → TellsDelays netlist table tech
-    → IsTableOf netlist table
-is_table netlist table tech tells = record {
-  used = tells.used;
-  kinds = tells.kinds;
-  table = record {
-    document = tells.accepts.document;
-    reads = tells.accepts.reads;
-    flawless = tells.accepts.flawless;
-  };
-}
 
 module _ (netlist : List ℕ) (tables : List (List ℕ)) (techs : List Tech)
     (accepts : AcceptsCorners netlist tables techs) (table : List ℕ) (more : List (List ℕ)) where
@@ -94,10 +82,10 @@ module _ (netlist : List ℕ) (tables : List (List ℕ)) (techs : List Tech)
       accepts.short accepts.tell accepts.hosts agree within in
       differ.differ
       (ap is_hostless
-      (one_delays netlist first differ.tech of_first.tech differ.tells of_first.tells)
+      (one_delays (signals_of netlist) first differ.tech of_first.tech differ.tells of_first.tells)
       ∙ of_first.host ∙ sym of_table.host
-      ∙ ap is_hostless (one_delays netlist table of_table.tech differ.other of_table.tells
-      differ.tells_other))
+      ∙ ap is_hostless (one_delays (signals_of netlist) table of_table.tech differ.other
+      of_table.tells differ.tells_other))
 
   -- so it isn't refused
   table_not_refused : (before : List (List ℕ)) → Agree tables (before ++ table ∷ more)
@@ -109,7 +97,8 @@ module _ (netlist : List ℕ) (tables : List (List ℕ)) (techs : List Tech)
   table_not_refused before agree within (CornerTech number fault) (is, short, has) =
       let told = told_at netlist tables techs accepts.hostless before table more accepts.short
       accepts.tell accepts.hosts agree within in
-      table_fine netlist table fault (is_table netlist table told.tech told.tells) has
+      table_fine netlist table fault
+      (table_accepted netlist table (signals_of netlist) told.tech refl told.tells) has
   table_not_refused before agree within (CornerHost number) (is, short, differ) =
       hosts_agree before agree within differ
   table_not_refused before agree within failure refused = refused

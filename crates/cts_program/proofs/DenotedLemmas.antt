@@ -5,8 +5,7 @@ use Rattle.cts_model.specs.declared.tech.Tech.{Tech}
 use Rattle.cts_model.specs.netlist.Paths.{IsLoop}
 use Rattle.cts_model.specs.timing.PairLists.{JoinsMoreThan}
 use Rattle.cts_model.specs.table.PlainTable.{IsPlainTable}
-use Rattle.cts_model.specs.netlist.UsedKinds.{AreUsedKinds}
-use Rattle.cts_engine.specs.Accepted.{IsHostedBy}
+use Rattle.cts_engine.specs.Accepted.{IsHostedBy, HasFaultFor}
 use Rattle.cts_engine.proofs.HostedLoops.{acyclic, both_acyclic}
 use Rattle.cts_engine.proofs.OneProblem.{table_accepted}
 use Rattle.command_line.specs.declared.command.Command.{Command}
@@ -38,8 +37,8 @@ pub accepted_table : {held denoted : Option (List ℕ)} {circuit : Circuit} {tec
     → IsTableFile netlist.bytes table.bytes
 accepted_table {circuit = circuit} {tech = tech} netlist table = record {
   short = table.short;
-  table = table_accepted netlist.bytes table.bytes circuit tech table.used netlist.accepts
-      table.kinds table.accepts;
+  table = table_accepted netlist.bytes table.bytes circuit.signals tech netlist.accepts.signals
+      table.delays;
 }
 
 module _ (holds : List ℕ → Option (List ℕ)) (bench : Bor (List ℕ)) where
@@ -69,9 +68,7 @@ module _ (holds : List ℕ → Option (List ℕ)) (bench : Bor (List ℕ)) where
     tell = record {
       bare = bare;
       accepts = netlist.accepts;
-      used = table.used;
-      kinds = table.kinds;
-      accepts_table = table.accepts;
+      delays = table.delays;
       hosted = hosted;
     };
   }
@@ -115,13 +112,7 @@ module _ (holds : List ℕ → Option (List ℕ)) (reads reads_now : List ℕ �
         let refused : IsFileRefusal (netlist.bytes ∷ bytes ∷ []) (failures.Tech fault) = (
           accepted_netlist netlist,
           short,
-          record {
-            named = has.named;
-            used = has.used;
-            kinds =
-                subst (λ signals. AreUsedKinds signals has.used) netlist.accepts.signals has.kinds;
-            cause = has.cause;
-          },
+          subst (λ signals. HasFaultFor signals bytes fault) netlist.accepts.signals has,
         ) in
         record {
           contents = netlist.bytes ∷ bytes ∷ [];

@@ -3,12 +3,10 @@
 use Rattle.std.specs.Prelude.{◌≡◌, ◌≢◌, ◌==◌, ◌⊎◌, ℕ, suc, Bool, List, [], ◌∷◌, ◌++◌, All, length, take}
 use Rattle.cts_model.specs.declared.circuit.Circuit.{Circuit}
 use Rattle.cts_model.specs.declared.tech.Tech.{Tech}
-use Rattle.cts_model.specs.table.AcceptedTables.{AcceptsTable}
 use Rattle.cts_model.specs.netlist.Netlists.{signals_of}
 use Rattle.cts_model.specs.timing.PairLists.{JoinsMoreThan}
-use Rattle.cts_model.specs.netlist.UsedKinds.{AreUsedKinds}
 use Rattle.corners.specs.CommonPeriods.{HasNoCommonPeriod}
-use Rattle.cts_engine.specs.Accepted.{TellBoth, HasTableFault}
+use Rattle.cts_engine.specs.Accepted.{TellsDelays, TellBoth, HasTableFault}
 use Rattle.failure_lines.specs.declared.failure.Failure.{Failure}
 use Rattle.failure_lines.specs.declared.failure.Failure.TheVariants.{TooLong, CornerTech, CornerHost}
 use Rattle.failure_lines.specs.declared.file_kind.FileKind.TheVariants.{Corner}
@@ -16,17 +14,11 @@ use Rattle.cts_program.specs.CornerTexts.{IsCornersText}
 use Rattle.cts_program.specs.Files.{IsShortFile}
 use Rattle.cts_program.specs.Judged.{IsNetlistFile, IsFileRefusal}
 
--- the table tells these delays, and gives each gate kind of the netlist
-pub record TellsDelays (netlist table : List ℕ) (tech : Tech) : Type 0 where
-  pub used : List Bool
-  pub kinds : AreUsedKinds (signals_of netlist) used
-  pub accepts : AcceptsTable used table tech
-
--- each of these tables does
+-- each of these tables tells its delays, and gives each gate kind of the netlist
 abbrev pub TellDelays : (netlist : List ℕ) → (tables : List (List ℕ)) → List Tech → Type 0
 TellDelays netlist [] [] = Unit {0}
 TellDelays netlist (table ∷ tables) (tech ∷ techs) =
-    TellsDelays netlist table tech × TellDelays netlist tables techs
+    TellsDelays (signals_of netlist) table tech × TellDelays netlist tables techs
 TellDelays netlist tables techs = ⊥
 
 -- whether a table gives the host no place
@@ -85,9 +77,9 @@ CornersFindNoPeriod contents = TellFewCorners contents HasNoCommonPeriod
 -- of two tables for the netlist one gives the host a place, and the other doesn't
 pub record HostsDiffer (netlist first table : List ℕ) : Type 0 where
   pub tech : Tech
-  pub tells : TellsDelays netlist first tech
+  pub tells : TellsDelays (signals_of netlist) first tech
   pub other : Tech
-  pub tells_other : TellsDelays netlist table other
+  pub tells_other : TellsDelays (signals_of netlist) table other
   pub differ : is_hostless tech ≢ is_hostless other
 
 -- of the first table and a later one, if there is a first

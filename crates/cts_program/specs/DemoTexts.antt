@@ -7,7 +7,6 @@ use Rattle.cts_model.specs.text.PrintedLines.{Words, text_of, count_line, period
 use Rattle.cts_model.specs.report.ReportLines.{length_text}
 use Rattle.cert_check.specs.declared.verdict.Verdict.TheVariants.{Shown}
 use Rattle.cert_check.specs.Verdicts.{IsVerdict}
-use Rattle.cts_io.specs.declared.memory_inputs.HeldFile.{HeldFile}
 use Rattle.demo_input.specs.NetlistLines.{netlist_text}
 use Rattle.demo_input.specs.PlacementLines.{placement_text}
 use Rattle.demo_input.specs.TableLines.{table_text}
@@ -19,13 +18,6 @@ use Rattle.cts_program.specs.SynthTexts.{IsFoundOrNever}
 abbrev pub demo_texts : (registers seed : ℕ) → List (List ℕ)
 demo_texts registers seed =
     netlist_text registers seed ∷ table_text ∷ placement_text registers seed ∷ []
-
--- they stand in memory, in place of files, under these names
-abbrev pub demo_files : (registers seed : ℕ) → List HeldFile
-demo_files registers seed =
-    record { name = codes "bench"; bytes = netlist_text registers seed }
-    ∷ record { name = codes "tech"; bytes = table_text }
-    ∷ record { name = codes "pl"; bytes = placement_text registers seed } ∷ []
 
 -- how many registers there are, the period in ticks, the wire in length units, and that the report
 -- is shown

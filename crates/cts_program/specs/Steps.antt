@@ -8,20 +8,15 @@ use Rattle.cts_model.specs.declared.problem.Problem.{Problem}
 use Rattle.cts_model.specs.declared.report.Report.{Report}
 use Rattle.cts_model.specs.declared.tech.Tech.{Tech}
 use Rattle.cts_model.specs.declared.tree.Topology.{Topology}
-use Rattle.cts_model.specs.table.AcceptedTables.{AcceptsTable}
 use Rattle.cts_model.specs.netlist.Netlists.{AcceptsNetlist}
 use Rattle.cts_model.specs.timing.PairLists.{JoinsMoreThan}
 use Rattle.cts_model.specs.placement.Placements.{AcceptsPlacement}
 use Rattle.cts_model.specs.report.ReportBounds.{Spells}
-use Rattle.cts_model.specs.netlist.UsedKinds.{AreUsedKinds}
-use Rattle.delay_tables.specs.declared.fault.TechFault.{TechFault}
-use Rattle.delay_tables.specs.declared.fault.TechFault.TheVariants as tech
-use Rattle.delay_tables.specs.Refusals.{RefusesTable}
 use Rattle.place_reader.specs.declared.fault.PlaceFault.{PlaceFault}
 use Rattle.move_session.specs.declared.moves.Move.{Move}
 use Rattle.move_session.specs.Moves.{AcceptsMoves}
 use Rattle.topology_file.specs.TopologyTexts.{AcceptsTopology}
-use Rattle.cts_engine.specs.Accepted.{HasFault}
+use Rattle.cts_engine.specs.Accepted.{TellsDelays, HasFault, HasFaultFor}
 use Rattle.failure_lines.specs.declared.failure.Failure.{Failure}
 use Rattle.failure_lines.specs.declared.failure.Failure.TheVariants as failures
 use Rattle.failure_lines.specs.declared.file_kind.FileKind.{FileKind}
@@ -69,16 +64,7 @@ pub record ReadsTable (signals : List Signal) (held : Option (List ℕ)) (tech :
   pub bytes : List ℕ
   pub denoted : IsReportedAs held bytes
   pub short : IsShortFile bytes
-  pub used : List Bool
-  pub kinds : AreUsedKinds signals used
-  pub accepts : AcceptsTable used bytes tech
-
--- a table has this fault
-pub record HasFaultFor (signals : List Signal) (bytes : List ℕ) (fault : TechFault) : Type 0 where
-  pub named : fault ≡ tech.NoMemory → ⊥
-  pub used : List Bool
-  pub kinds : AreUsedKinds signals used
-  pub cause : RefusesTable used bytes fault
+  pub delays : TellsDelays signals bytes tech
 
 -- a delay table isn't read, or has a fault
 abbrev pub FailsTable : List Signal → Option (List ℕ) → ℕ → ℕ → Failure → Type 0

@@ -1,28 +1,30 @@
 //! The command `demo`: a problem made from two numbers, its clock tree, and that the report of the
 //! tree is shown.
 
-ghost use Rattle.std.specs.Prelude.{◌≡◌, ◌≤◌, ◌<◌, ◌↔◌, ℕ, true, IsTrue, IfOk, IfErr};
+ghost use Rattle.std.specs.Prelude.{◌≡◌, ◌≤◌, ◌<◌, ◌↔◌, ℕ, true, IsTrue, List, IfOk, IfErr};
 ghost use Rattle.cts_model.specs.timing.PairLists.{JoinsMoreThan};
 ghost use Rattle.cts_model.specs.text.PrintedLines.{text_of};
 ghost use Rattle.cts_model.specs.declared.tech.Tech.{Tech};
 ghost use Rattle.cts_model.specs.report.ReportBounds.{IsOfSize, IsWithinBounds};
 ghost use Rattle.cts_model.specs.report.Shown.{IsShown};
 ghost use Rattle.cert_check.specs.Verdicts.{IsVerdict};
+ghost use Rattle.cts_engine.specs.Accepted.{HasPlacesFault};
 ghost use Rattle.cts_program.specs.Answers.{ending_status, IsDemoAnswer};
 ghost use Rattle.cts_program.specs.Checks.{AreOfProblem};
 ghost use Rattle.command_line.specs.Commands.{number_of, is_number_within};
-ghost use Rattle.cts_program.specs.DemoTexts.{demo_texts, demo_files, summary_lines, IsDemoText};
-ghost use Rattle.cts_program.specs.Steps.{FailsCircuit, FailsDemo};
+ghost use Rattle.cts_program.specs.DemoTexts.{demo_texts, summary_lines, IsDemoText};
+ghost use Rattle.cts_program.specs.Files.{IsShortFile};
+ghost use Rattle.cts_program.specs.Steps.{FailsCircuit, FailsDemo, GivesFault};
 
 use crate::ending::Answer;
-use crate::reading::{copied, read_problem};
+use crate::reading::placement_failure;
 use cert_check::Verdict;
-use cts_base::{Listed, NoMemory};
-use cts_engine::{Outcome, synthesize};
-use cts_io::{HeldFile, NeverFails};
+use cts_base::NoMemory;
+use cts_engine::{Outcome, Refusal, accept, accept_circuit, synthesize};
 use cts_model::{Problem, Report};
 use demo_input::Demo;
 use failure_lines::Failure;
+use place_reader::PlaceFault;
 use report_text::{push_count, push_line, push_period, push_total};
 use std::alloc::Global;
 
@@ -54,7 +56,8 @@ fn number(digits: &str) -> u32
     }
 }
 
-// The problem of a demonstration: what files that held its texts would tell.
+// The problem of a demonstration: what its texts tell. They are refused as files that held them
+// would be.
 fn demo_problem(alloc: Global, registers: u32, seed: u32) -> Result<Problem, Failure>
     requires some { 2 ≤ registers }
     requires few { registers ≤ 1000 }
@@ -62,31 +65,30 @@ fn demo_problem(alloc: Global, registers: u32, seed: u32) -> Result<Problem, Fai
     ensures ok { IfOk result (AreOfProblem (demo_texts registers seed)) }
     ensures cause { IfErr result (FailsDemo registers seed) }
 {
-    let mut inputs = demo_inputs(alloc, registers, seed)?;
-    read_problem(alloc, &mut inputs, "bench", "tech", "pl")
-}
-
-// The texts of a demonstration, in place of files.
-fn demo_inputs(alloc: Global, registers: u32, seed: u32) -> Result<NeverFails, NoMemory>
-    requires some { 2 ≤ registers }
-    requires few { registers ≤ 1000 }
-    requires seed { seed < 1000 }
-    ensures { IfOk result (λ inputs. inputs.files ≡ demo_files registers seed) }
-{
     let Demo { bench, tech, pl } = demo_input::demo(alloc, registers, seed)?;
-    let mut files = Listed::new(alloc);
-    files.push(held_file(alloc, b"bench", bench)?)?;
-    files.push(held_file(alloc, b"tech", tech)?)?;
-    files.push(held_file(alloc, b"pl", pl)?)?;
-    Ok(NeverFails::new(files))
+    let bench = bench.as_slice();
+    let tech = tech.as_slice();
+    match accept(alloc, bench, tech, pl.as_slice()) {
+        Ok(problem) => Ok(problem),
+        Err(Refusal::Bench(fault)) => Err(Failure::Bench(fault)),
+        Err(Refusal::Tech(fault)) => Err(Failure::Tech(fault)),
+        Err(Refusal::Places(fault)) => Err(places_failure(alloc, bench, tech, fault)),
+        Err(Refusal::NoMemory) => Err(Failure::NoMemory),
+    }
 }
 
-// A file of this name, in memory.
-fn held_file(alloc: Global, name: &[u8], bytes: Listed<u8>) -> Result<HeldFile, NoMemory>
-    ensures { IfOk result (λ file. file ≡ record { name = name.now; bytes = bytes }) }
+// The failure where the placement after a netlist and a delay table has this fault. The two tell
+// once more the circuit that names the register, as a refusal has only its number.
+fn places_failure(alloc: Global, bench: &[u8], tech: &[u8], fault: PlaceFault) -> Failure
+    requires bench { IsShortFile bench.now }
+    requires has { (places : List ℕ) × HasPlacesFault bench.now tech.now places fault }
+    ensures { (places : List ℕ) (has : HasPlacesFault bench.now tech.now places fault)
+        → GivesFault has.circuit fault result }
 {
-    let name = copied(alloc, name)?;
-    Ok(HeldFile { name, bytes })
+    match accept_circuit(alloc, bench, tech) {
+        Ok(denoted) => placement_failure(alloc, &denoted.circuit, fault),
+        Err(_) => Failure::NoMemory,
+    }
 }
 
 // The answer for a problem with this number of registers.

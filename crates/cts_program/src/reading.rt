@@ -10,5 +10,5 @@ mod problem;
 pub use circuit::read_circuit;
 pub use corner_files::{Corners, read_corners};
 pub use files::{read_moves_file, read_report_file, read_topology_file};
-pub use placement::copied;
+pub use placement::{copied, placement_failure};
 pub use problem::read_problem;

@@ -10,7 +10,7 @@ ghost use Rattle.cts_program.specs.Run.{Stops};
 ghost use Rattle.cts_program.specs.Steps.{ReadsCircuit, DenotesCircuit, IsAnyReadFault};
 
 use crate::reading::files::{read_netlist, read_table};
-use cts_engine::{Denoted, hosted};
+use cts_engine::Denoted;
 use cts_io::Inputs;
 use cts_model::Tech;
 use failure_lines::Failure;
@@ -47,10 +47,6 @@ pub fn read_circuit<I: Inputs>(
             circuit: bare,
             tech: Tech::plain(alloc),
         }),
-        Some(file) => {
-            let tech = read_table(alloc, inputs, file, &bare)?;
-            let circuit = hosted(alloc, bare, &tech)?;
-            Ok(Denoted { circuit, tech })
-        }
+        Some(file) => read_table(alloc, inputs, file, bare),
     }
 }

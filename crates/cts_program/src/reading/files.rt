@@ -4,6 +4,7 @@ ghost use Rattle.std.specs.Prelude.{◌≡◌, ◌≢◌, ◌≤◌, ◌↔◌, 
 ghost use Rattle.cts_model.specs.netlist.Circuits.{has_host};
 ghost use Rattle.cts_model.specs.tree.Problems.{GivesUsedKinds};
 ghost use Rattle.cts_model.specs.netlist.Hosts.{HasNoHost};
+ghost use Rattle.cts_engine.specs.Accepted.{IsHostedBy};
 ghost use Rattle.cts_program.specs.Checks.{RefusesReport};
 ghost use Rattle.cts_program.specs.Files.{IsShortFile};
 ghost use Rattle.cts_program.specs.MoveFiles.{RefusesMovesFile};
@@ -13,9 +14,9 @@ ghost use Rattle.cts_program.specs.Steps.{IsReportedAs, FailsToReadFile, ReadsNe
 use crate::reading::placement::placement_failure;
 use bench_reader::read_bench;
 use cts_base::Listed;
+use cts_engine::{Denoted, accept_table};
 use cts_io::{Inputs, ReadWhole, read_whole};
-use cts_model::{Circuit, Places, Problem, Report, Tech, Topology, used_kinds};
-use delay_tables::read_tech;
+use cts_model::{Circuit, Places, Problem, Report, Tech, Topology};
 use failure_lines::{Failure, FileKind};
 use move_session::{Move, read_moves};
 use place_reader::read_places;
@@ -49,7 +50,7 @@ pub fn read_netlist<I: Inputs>(
     Ok(read_bench(alloc, &bytes)?)
 }
 
-/// The delays that the table in a file denotes, for a circuit without the host.
+/// What the delay table in a file denotes for the circuit of a netlist.
 ///
 /// # Errors
 ///
@@ -58,11 +59,16 @@ pub fn read_table<I: Inputs>(
     alloc: Global,
     inputs: &mut I,
     file: &str,
-    circuit: &Circuit,
-) -> Result<Tech, Failure>
-    ensures ok { IfOk result (ReadsTable circuit.now.signals (I.holds inputs.old file.now)) }
-    ensures kinds { IfOk result (GivesUsedKinds circuit.now) }
-    ensures cause { IfErr result (FailsTable circuit.now.signals (I.holds inputs.old file.now)
+    circuit: Circuit,
+) -> Result<Denoted, Failure>
+    requires { HasNoHost circuit }
+    ensures ok { IfOk result (λ denoted.
+        ReadsTable circuit.signals (I.holds inputs.old file.now) denoted.tech) }
+    ensures hosted { IfOk result (λ denoted. IsHostedBy denoted.tech circuit denoted.circuit) }
+    ensures kinds { IfOk result (λ denoted. GivesUsedKinds denoted.circuit denoted.tech) }
+    ensures host { IfOk result (λ denoted.
+        IsTrue (has_host denoted.circuit.signals) ↔ (denoted.tech.host ≢ [])) }
+    ensures cause { IfErr result (FailsTable circuit.signals (I.holds inputs.old file.now)
         (I.faults inputs.old file.now) (I.faults inputs.new file.now)) }
     ensures files { (other : List ℕ) → I.holds inputs.new other ≡ I.holds inputs.old other }
     ensures counts { (other : List ℕ) → I.faults inputs.old other ≤ I.faults inputs.new other }
@@ -70,7 +76,7 @@ pub fn read_table<I: Inputs>(
         → (other : List ℕ) → I.faults inputs.new other ≡ I.faults inputs.old other }
 {
     let bytes = read_file(alloc, inputs, FileKind::Tech, file)?;
-    Ok(read_tech(alloc, &bytes, &used_kinds(circuit))?)
+    Ok(accept_table(alloc, circuit, &bytes)?)
 }
 
 /// Where the placement in a file has the circuit's registers and the table's source.

@@ -1,18 +1,79 @@
-use Rattle.std.proofs.Common.{[], refl}
-use Rattle.command_line.specs.declared.command.Command.TheVariants.{Synth}
-use Rattle.cts_program.proofs.DemoLemmas.{bench, tech, pl, files_hold, texts_denote, texts_stop}
-use Rattle.cts_program.proofs.ResultLemmas.{if_ok_from, if_err_from}
+use Rattle.std.proofs.Common.{◌≡◌, ◌≤◌, ℕ, List, [], ◌∷◌, length, inr, ap, ◌∙◌, subst, arith}
+use Rattle.demo_input.specs.NetlistLines.{netlist_text}
+use Rattle.demo_input.specs.PlacementLines.{placement_text}
+use Rattle.demo_input.specs.TableLines.{table_text}
+use Rattle.cts_program.specs.Checks.{AreOfProblem}
+use Rattle.cts_program.specs.DemoTexts.{demo_texts}
+use Rattle.cts_program.specs.Files.{IsShortFile}
+use Rattle.cts_program.proofs.DemoLemmas.{texts_told, netlist_refused, table_refused, placement_refused, demo_fails}
 use Rattle.cts_program.proofs.demo.demo_problem.Goals as goal
 
-pub returns-clause-ok : goal.returns-clause-ok
-returns-clause-ok c =
-    if_ok_from c.read_problem.result _ _ _ c.read_problem.ensures.ok c.read_problem.ensures.ok
-    (λ problem denoted again. texts_denote
-    (files_hold _ c.args.registers c.args.seed c.in_ok-inputs.ensures) problem denoted)
+-- three texts are those of a demonstration
+texts_are : (registers seed : ℕ) (bench table places : List ℕ)
+    → bench ≡ netlist_text registers seed → table ≡ table_text
+    → places ≡ placement_text registers seed
+    → (bench ∷ table ∷ places ∷ []) ≡ demo_texts registers seed
+texts_are registers seed bench table places first second third =
+    λ i. first i ∷ second i ∷ third i ∷ []
 
-pub returns-clause-cause : goal.returns-clause-cause
-returns-clause-cause c =
-    if_err_from c.read_problem.result _ _ c.read_problem.ensures.cause
-    (λ failure stops. texts_stop
-    (files_hold _ c.args.registers c.args.seed c.in_ok-inputs.ensures) failure
-    (stops (Synth bench tech pl) ([], refl)))
+-- a text of 100,000 bytes isn't longer than a file may be
+short : (text made : List ℕ) → text ≡ made → length made ≤ 100000 → IsShortFile text
+short text made same few = omega (arith, ap (λ (bytes : List ℕ). length bytes) same)
+
+pub accept-requires-clause-bench : goal.accept-requires-clause-bench
+accept-requires-clause-bench c = short _ _ c.as_slice-bench.ensures c.in_ok-bench.ensures.short.0
+
+pub accept-requires-clause-places : goal.accept-requires-clause-places
+accept-requires-clause-places c = short _ _ c.as_slice.ensures c.in_ok-bench.ensures.short.1.1
+
+pub places_failure-requires-clause-bench : goal.places_failure-requires-clause-bench
+places_failure-requires-clause-bench c =
+    short _ _ c.as_slice-bench.ensures c.in_ok-bench.ensures.short.0
+
+pub places_failure-requires-clause-has : goal.places_failure-requires-clause-has
+places_failure-requires-clause-has c =
+    (c.as_slice.result.now, (rw c.in-Err-Places.field-0-is at c.in-Err-Places.ensures.cause).2)
+
+pub returns-in-Ok-clause-ok : goal.returns-in-Ok-clause-ok
+returns-in-Ok-clause-ok c =
+    let made = c.in_ok-bench.ensures in
+    subst (λ (texts : List (List ℕ)). AreOfProblem texts c.in-Ok.problem)
+    (texts_are c.args.registers c.args.seed _ _ _ (c.as_slice-bench.ensures ∙ made.bench)
+    (c.as_slice-tech.ensures ∙ made.tech) (c.as_slice.ensures ∙ made.pl))
+    (texts_told (short _ _ c.as_slice-bench.ensures made.short.0)
+    (short _ _ c.as_slice-tech.ensures made.short.1.0)
+    (short _ _ c.as_slice.ensures made.short.1.1) c.in-Ok.problem c.in-Ok.ensures.ok)
+
+pub returns-in-Err-Bench-clause-cause : goal.returns-in-Err-Bench-clause-cause
+returns-in-Err-Bench-clause-cause c =
+    let made = c.in_ok-bench.ensures in
+    demo_fails c.args.registers c.args.seed _
+    (texts_are c.args.registers c.args.seed _ _ _ (c.as_slice-bench.ensures ∙ made.bench)
+    (c.as_slice-tech.ensures ∙ made.tech) (c.as_slice.ensures ∙ made.pl)) _
+    (inr (netlist_refused (short _ _ c.as_slice-bench.ensures made.short.0)
+    (short _ _ c.as_slice-tech.ensures made.short.1.0)
+    (short _ _ c.as_slice.ensures made.short.1.1) c.in-Err-Bench.fault
+    (rw c.in-Err-Bench.field-0-is at c.in-Err-Bench.ensures.cause)))
+
+pub returns-in-Err-Tech-clause-cause : goal.returns-in-Err-Tech-clause-cause
+returns-in-Err-Tech-clause-cause c =
+    let made = c.in_ok-bench.ensures in
+    let (netlist, has) = rw c.in-Err-Tech.field-0-is at c.in-Err-Tech.ensures.cause in
+    demo_fails c.args.registers c.args.seed _
+    (texts_are c.args.registers c.args.seed _ _ _ (c.as_slice-bench.ensures ∙ made.bench)
+    (c.as_slice-tech.ensures ∙ made.tech) (c.as_slice.ensures ∙ made.pl)) _
+    (inr (table_refused (short _ _ c.as_slice-bench.ensures made.short.0)
+    (short _ _ c.as_slice-tech.ensures made.short.1.0)
+    (short _ _ c.as_slice.ensures made.short.1.1) netlist c.in-Err-Tech.fault has))
+
+pub returns-in-Err-Places-clause-cause : goal.returns-in-Err-Places-clause-cause
+returns-in-Err-Places-clause-cause c =
+    let made = c.in_ok-bench.ensures in
+    let (netlist, table, has) = rw c.in-Err-Places.field-0-is at c.in-Err-Places.ensures.cause in
+    demo_fails c.args.registers c.args.seed _
+    (texts_are c.args.registers c.args.seed _ _ _ (c.as_slice-bench.ensures ∙ made.bench)
+    (c.as_slice-tech.ensures ∙ made.tech) (c.as_slice.ensures ∙ made.pl)) _
+    (placement_refused (short _ _ c.as_slice-bench.ensures made.short.0)
+    (short _ _ c.as_slice-tech.ensures made.short.1.0)
+    (short _ _ c.as_slice.ensures made.short.1.1) netlist table c.in-Err-Places.fault has
+    c.places_failure.result (c.places_failure.ensures _ has))

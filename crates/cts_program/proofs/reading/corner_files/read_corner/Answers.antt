@@ -18,9 +18,11 @@ returns-then-differs_from_first-clause-cause g c = (
       bytes = c.in_ok-bytes.bytes.items;
       denoted = c.in_ok-bytes.ensures.ok;
       short = c.in_ok-bytes.ensures.short;
-      used = c.used_kinds.result;
-      kinds = c.used_kinds.ensures;
-      accepts = rw c.deref.ensures.value at c.in-Ok.ensures.ok;
+      delays = record {
+        used = c.used_kinds.result;
+        kinds = c.used_kinds.ensures;
+        accepts = rw c.deref.ensures.value at c.in-Ok.ensures.ok;
+      };
     },
     c.differs_from_first.ensures.yes c.if-differs_from_first.true,
   ),
@@ -35,9 +37,11 @@ returns-clause-ok g c = record {
   bytes = c.in_ok-bytes.bytes.items;
   denoted = c.in_ok-bytes.ensures.ok;
   short = c.in_ok-bytes.ensures.short;
-  used = c.used_kinds.result;
-  kinds = c.used_kinds.ensures;
-  accepts = rw c.deref.ensures.value at c.in-Ok.ensures.ok;
+  delays = record {
+    used = c.used_kinds.result;
+    kinds = c.used_kinds.ensures;
+    accepts = rw c.deref.ensures.value at c.in-Ok.ensures.ok;
+  };
 }
 
 pub returns-clause-stays : goal.returns-clause-stays
