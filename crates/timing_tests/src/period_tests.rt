@@ -1,4 +1,4 @@
-use crate::constraint_lists::{constraints_of, hold, list_of, setup};
+use crate::constraint_lists::{constraints_of, hold, list_of, setup, slow_ring};
 use crate::engine_tests::Row;
 use crate::same::expect_same;
 use critical_cycle::{Period, least_period, least_period_in};

@@ -1,6 +1,6 @@
-use Rattle.std.proofs.Common.{◌+◌, ◌<◌, arith, inl, length, refl}
+use Rattle.std.proofs.Common.{◌≡◌, ◌+◌, ◌<◌, arith, inl, length, refl, subst}
 use Rattle.merge_up.proofs.WorkLemmas.{joined_held}
-use Rattle.move_session.proofs.StepsUp.{on_way_first, on_way_next}
+use Rattle.move_session.proofs.StepsUp.{IsOnWay, on_way_first, on_way_next, way_counted}
 use Rattle.move_session.proofs.way_up.renew_above.Goals as goal
 
 pub loop-place-init : goal.loop-place-init
@@ -24,3 +24,13 @@ loop-place-preserved c =
     on_way_next c.args.sinks.now c.args.topology.now.merges c.args.register c.requires.topology
     c.loop-place.place within c.loop-place.invariant c.renew_joining-node.new.work
     c.renew_joining-node.result c.renew_joining-node.ensures
+
+pub returns-clause-renewals : goal.returns-clause-renewals
+returns-clause-renewals c =
+    let sinks = c.args.sinks.now in
+    let merges = c.args.topology.now.merges in
+    let past : c.loop-place.place ≡ length merges =
+    omega (arith, c.loop-place-test.false, c.loop-place.auto.place-end, c.len-place-end.ensures) in
+    way_counted sinks merges c.args.register
+    (subst (λ place. IsOnWay sinks merges c.args.register place c.loop-place.node c.args.work.now
+    c.loop-place.work) past c.loop-place.invariant)
