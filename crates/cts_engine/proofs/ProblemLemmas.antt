@@ -68,6 +68,19 @@ no_bytes : (bytes : List ℕ) → length bytes ≡ 0 → bytes ≡ []
 no_bytes [] none = refl
 no_bytes (byte ∷ bytes) none = absurd (omega arith)
 
+-- no place is given to the host exactly where it isn't there
+pub hostless_exactly : (circuit : Circuit) (place : List ℕ)
+    → IsTrue (has_host circuit.signals) ↔ (place ≢ []) → (place ≡ []) ↔ HasNoHost circuit
+hostless_exactly circuit = at (has_host circuit.signals)
+  where
+    at : (has : Bool) (place : List ℕ) → IsTrue has ↔ (place ≢ []) → (place ≡ []) ↔ (has ≡ false)
+    at true place exactly = (
+      λ nothing. absurd (exactly.0 refl nothing),
+      λ hostless. absurd (true≢false hostless),
+    )
+    at false [] exactly = (λ nothing. refl, λ hostless. refl)
+    at false (byte ∷ place) exactly = absurd (true≢false (sym (exactly.1 (λ nothing. cc nothing))))
+
 -- the host is there where the table gives it a place
 pub has_host-hosted : (tech : Tech) (bare circuit : Circuit) → HasNoHost bare
     → IsHostedBy tech bare circuit → IsTrue (has_host circuit.signals) ↔ (tech.host ≢ [])

@@ -1,8 +1,13 @@
 use Rattle.std.proofs.lemmas.Result.{err_from_is_err_and}
 use Rattle.cts_engine.proofs.HostedLoops.{both_acyclic}
-use Rattle.cts_engine.proofs.ProblemLemmas.{problem_of}
+use Rattle.cts_engine.proofs.ProblemLemmas.{hostless_exactly, problem_of}
 use Rattle.cts_engine.proofs.RefusalLemmas.{circuit_refused, places_refused}
 use Rattle.cts_engine.proofs.acceptance.problem_denoted.Goals as goal
+
+pub read_places-requires-clause-host : goal.read_places-requires-clause-host
+read_places-requires-clause-host c =
+    rw c.as_slice-2.ensures (hostless_exactly c.in_ok-circuit.field-0.circuit
+    c.in_ok-circuit.field-0.tech.host c.in_ok-circuit.ensures.host)
 
 pub returns-in_err-circuit-clause-cause : goal.returns-in_err-circuit-clause-cause
 returns-in_err-circuit-clause-cause c =
