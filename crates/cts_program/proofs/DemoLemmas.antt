@@ -18,7 +18,7 @@ use Rattle.cts_program.specs.Judged.{IsNetlistFile}
 use Rattle.cts_program.specs.Steps.{FailsCircuit, FailsDemo, GivesFault}
 
 -- three texts that files could hold
-module _ {bench table places : List ℕ} (short_bench : IsShortFile bench)
+module _ (bench table places : List ℕ) (short_bench : IsShortFile bench)
     (short_table : IsShortFile table) (short_places : IsShortFile places) where
   -- a problem that they tell is theirs
   pub texts_told : (problem : Problem) → TellAll bench table places problem

@@ -2,6 +2,7 @@ use Rattle.std.proofs.Common.{◌≡◌, ◌≤◌, ℕ, List, [], ◌∷◌, le
 use Rattle.demo_input.specs.NetlistLines.{netlist_text}
 use Rattle.demo_input.specs.PlacementLines.{placement_text}
 use Rattle.demo_input.specs.TableLines.{table_text}
+use Rattle.failure_lines.specs.declared.failure.Failure.TheVariants as failures
 use Rattle.cts_program.specs.Checks.{AreOfProblem}
 use Rattle.cts_program.specs.DemoTexts.{demo_texts}
 use Rattle.cts_program.specs.Files.{IsShortFile}
@@ -37,43 +38,62 @@ places_failure-requires-clause-has c =
 pub returns-in-Ok-clause-ok : goal.returns-in-Ok-clause-ok
 returns-in-Ok-clause-ok c =
     let made = c.in_ok-bench.ensures in
+    let bench = c.as_slice-bench.result.now in
+    let table = c.as_slice-tech.result.now in
+    let places = c.as_slice.result.now in
     subst (λ (texts : List (List ℕ)). AreOfProblem texts c.in-Ok.problem)
-    (texts_are c.args.registers c.args.seed _ _ _ (c.as_slice-bench.ensures ∙ made.bench)
-    (c.as_slice-tech.ensures ∙ made.tech) (c.as_slice.ensures ∙ made.pl))
-    (texts_told (short _ _ c.as_slice-bench.ensures made.short.0)
+    (texts_are c.args.registers c.args.seed bench table places
+    (c.as_slice-bench.ensures ∙ made.bench) (c.as_slice-tech.ensures ∙ made.tech)
+    (c.as_slice.ensures ∙ made.pl))
+    (texts_told bench table places (short _ _ c.as_slice-bench.ensures made.short.0)
     (short _ _ c.as_slice-tech.ensures made.short.1.0)
     (short _ _ c.as_slice.ensures made.short.1.1) c.in-Ok.problem c.in-Ok.ensures.ok)
 
 pub returns-in-Err-Bench-clause-cause : goal.returns-in-Err-Bench-clause-cause
 returns-in-Err-Bench-clause-cause c =
     let made = c.in_ok-bench.ensures in
-    demo_fails c.args.registers c.args.seed _
-    (texts_are c.args.registers c.args.seed _ _ _ (c.as_slice-bench.ensures ∙ made.bench)
-    (c.as_slice-tech.ensures ∙ made.tech) (c.as_slice.ensures ∙ made.pl)) _
-    (inr (netlist_refused (short _ _ c.as_slice-bench.ensures made.short.0)
+    let bench = c.as_slice-bench.result.now in
+    let table = c.as_slice-tech.result.now in
+    let places = c.as_slice.result.now in
+    let fault = c.in-Err-Bench.fault in
+    demo_fails c.args.registers c.args.seed (bench ∷ table ∷ places ∷ [])
+    (texts_are c.args.registers c.args.seed bench table places
+    (c.as_slice-bench.ensures ∙ made.bench) (c.as_slice-tech.ensures ∙ made.tech)
+    (c.as_slice.ensures ∙ made.pl)) (failures.Bench fault)
+    (inr (netlist_refused bench table places (short _ _ c.as_slice-bench.ensures made.short.0)
     (short _ _ c.as_slice-tech.ensures made.short.1.0)
-    (short _ _ c.as_slice.ensures made.short.1.1) c.in-Err-Bench.fault
+    (short _ _ c.as_slice.ensures made.short.1.1) fault
     (rw c.in-Err-Bench.field-0-is at c.in-Err-Bench.ensures.cause)))
 
 pub returns-in-Err-Tech-clause-cause : goal.returns-in-Err-Tech-clause-cause
 returns-in-Err-Tech-clause-cause c =
     let made = c.in_ok-bench.ensures in
+    let bench = c.as_slice-bench.result.now in
+    let table = c.as_slice-tech.result.now in
+    let places = c.as_slice.result.now in
+    let fault = c.in-Err-Tech.fault in
     let (netlist, has) = rw c.in-Err-Tech.field-0-is at c.in-Err-Tech.ensures.cause in
-    demo_fails c.args.registers c.args.seed _
-    (texts_are c.args.registers c.args.seed _ _ _ (c.as_slice-bench.ensures ∙ made.bench)
-    (c.as_slice-tech.ensures ∙ made.tech) (c.as_slice.ensures ∙ made.pl)) _
-    (inr (table_refused (short _ _ c.as_slice-bench.ensures made.short.0)
+    demo_fails c.args.registers c.args.seed (bench ∷ table ∷ places ∷ [])
+    (texts_are c.args.registers c.args.seed bench table places
+    (c.as_slice-bench.ensures ∙ made.bench) (c.as_slice-tech.ensures ∙ made.tech)
+    (c.as_slice.ensures ∙ made.pl)) (failures.Tech fault)
+    (inr (table_refused bench table places (short _ _ c.as_slice-bench.ensures made.short.0)
     (short _ _ c.as_slice-tech.ensures made.short.1.0)
-    (short _ _ c.as_slice.ensures made.short.1.1) netlist c.in-Err-Tech.fault has))
+    (short _ _ c.as_slice.ensures made.short.1.1) netlist fault has))
 
 pub returns-in-Err-Places-clause-cause : goal.returns-in-Err-Places-clause-cause
 returns-in-Err-Places-clause-cause c =
     let made = c.in_ok-bench.ensures in
-    let (netlist, table, has) = rw c.in-Err-Places.field-0-is at c.in-Err-Places.ensures.cause in
-    demo_fails c.args.registers c.args.seed _
-    (texts_are c.args.registers c.args.seed _ _ _ (c.as_slice-bench.ensures ∙ made.bench)
-    (c.as_slice-tech.ensures ∙ made.tech) (c.as_slice.ensures ∙ made.pl)) _
-    (placement_refused (short _ _ c.as_slice-bench.ensures made.short.0)
+    let bench = c.as_slice-bench.result.now in
+    let table = c.as_slice-tech.result.now in
+    let places = c.as_slice.result.now in
+    let fault = c.in-Err-Places.fault in
+    let (netlist, table_is, has) = rw c.in-Err-Places.field-0-is at c.in-Err-Places.ensures.cause in
+    demo_fails c.args.registers c.args.seed (bench ∷ table ∷ places ∷ [])
+    (texts_are c.args.registers c.args.seed bench table places
+    (c.as_slice-bench.ensures ∙ made.bench) (c.as_slice-tech.ensures ∙ made.tech)
+    (c.as_slice.ensures ∙ made.pl)) c.places_failure.result
+    (placement_refused bench table places (short _ _ c.as_slice-bench.ensures made.short.0)
     (short _ _ c.as_slice-tech.ensures made.short.1.0)
-    (short _ _ c.as_slice.ensures made.short.1.1) netlist table c.in-Err-Places.fault has
-    c.places_failure.result (c.places_failure.ensures _ has))
+    (short _ _ c.as_slice.ensures made.short.1.1) netlist table_is fault has
+    c.places_failure.result (c.places_failure.ensures places has))
