@@ -25,7 +25,7 @@ pub accept-requires-clause-bench : goal.accept-requires-clause-bench
 accept-requires-clause-bench c = short _ _ c.as_slice-bench.ensures c.in_ok-bench.ensures.short.0
 
 pub accept-requires-clause-places : goal.accept-requires-clause-places
-accept-requires-clause-places c = short _ _ c.as_slice.ensures c.in_ok-bench.ensures.short.1.1
+accept-requires-clause-places c = short _ _ c.as_slice.ensures c.in_ok-bench.ensures.short.2
 
 pub places_failure-requires-clause-bench : goal.places_failure-requires-clause-bench
 places_failure-requires-clause-bench c =
@@ -46,8 +46,8 @@ returns-in-Ok-clause-ok c =
     (c.as_slice-bench.ensures ∙ made.bench) (c.as_slice-tech.ensures ∙ made.tech)
     (c.as_slice.ensures ∙ made.pl))
     (texts_told bench table places (short _ _ c.as_slice-bench.ensures made.short.0)
-    (short _ _ c.as_slice-tech.ensures made.short.1.0)
-    (short _ _ c.as_slice.ensures made.short.1.1) c.in-Ok.problem c.in-Ok.ensures.ok)
+    (short _ _ c.as_slice-tech.ensures made.short.1)
+    (short _ _ c.as_slice.ensures made.short.2) c.in-Ok.problem c.in-Ok.ensures.ok)
 
 pub returns-in-Err-Bench-clause-cause : goal.returns-in-Err-Bench-clause-cause
 returns-in-Err-Bench-clause-cause c =
@@ -61,8 +61,8 @@ returns-in-Err-Bench-clause-cause c =
     (c.as_slice-bench.ensures ∙ made.bench) (c.as_slice-tech.ensures ∙ made.tech)
     (c.as_slice.ensures ∙ made.pl)) (failures.Bench fault)
     (inr (netlist_refused bench table places (short _ _ c.as_slice-bench.ensures made.short.0)
-    (short _ _ c.as_slice-tech.ensures made.short.1.0)
-    (short _ _ c.as_slice.ensures made.short.1.1) fault
+    (short _ _ c.as_slice-tech.ensures made.short.1)
+    (short _ _ c.as_slice.ensures made.short.2) fault
     (rw c.in-Err-Bench.field-0-is at c.in-Err-Bench.ensures.cause)))
 
 pub returns-in-Err-Tech-clause-cause : goal.returns-in-Err-Tech-clause-cause
@@ -78,8 +78,8 @@ returns-in-Err-Tech-clause-cause c =
     (c.as_slice-bench.ensures ∙ made.bench) (c.as_slice-tech.ensures ∙ made.tech)
     (c.as_slice.ensures ∙ made.pl)) (failures.Tech fault)
     (inr (table_refused bench table places (short _ _ c.as_slice-bench.ensures made.short.0)
-    (short _ _ c.as_slice-tech.ensures made.short.1.0)
-    (short _ _ c.as_slice.ensures made.short.1.1) netlist fault has))
+    (short _ _ c.as_slice-tech.ensures made.short.1)
+    (short _ _ c.as_slice.ensures made.short.2) netlist fault has))
 
 pub returns-in-Err-Places-clause-cause : goal.returns-in-Err-Places-clause-cause
 returns-in-Err-Places-clause-cause c =
@@ -94,6 +94,6 @@ returns-in-Err-Places-clause-cause c =
     (c.as_slice-bench.ensures ∙ made.bench) (c.as_slice-tech.ensures ∙ made.tech)
     (c.as_slice.ensures ∙ made.pl)) c.places_failure.result
     (placement_refused bench table places (short _ _ c.as_slice-bench.ensures made.short.0)
-    (short _ _ c.as_slice-tech.ensures made.short.1.0)
-    (short _ _ c.as_slice.ensures made.short.1.1) netlist table_is fault has
+    (short _ _ c.as_slice-tech.ensures made.short.1)
+    (short _ _ c.as_slice.ensures made.short.2) netlist table_is fault has
     c.places_failure.result (c.places_failure.ensures places has))
