@@ -73,7 +73,7 @@ else
     left_out "yosys and berkeley-abc aren't both there" 'the way from Verilog to a netlist'
     cp "$top/examples/biquad.bench" "$netlist"
 fi
-awk -f "$flow/grid_placement.awk" "$netlist" >"$work/biquad.pl"
+"$flow/grid_placement.py" "$netlist" >"$work/biquad.pl"
 circuit=(--bench "$netlist" --tech "$table")
 problem=("${circuit[@]}" --pl "$work/biquad.pl")
 
@@ -171,6 +171,39 @@ holds 'a text without arrivals' \
     "$flow/arrivals_to_sdc.py" "$work/period"
 holds 'an empty text' refuses '/dev/null: the text is empty' "$flow/arrivals_to_sdc.py" /dev/null
 
+# A mapped netlist as others write it: a register by another name, escaped names with blanks before
+# their bits, assignments, and bits that stand together. Times are in another unit than the tick.
+cat >"$work/odd.v" <<'END'
+(* top = 1 *) module odd (clk, \in[0] , o, p); // no module ;
+  input clk; input \in[0] ; output [1:0] o; output p;
+  wire [0:0] \u.tsh ; /* wires; */ wire n1; wire [1:0] w = { \u.tsh [0], n1 } ;
+  DFFPOSX1 \u.r[1] (.CLK(clk), .D(\in[0] ), .Q(\u.tsh [0]));
+  DFFPOSX1 _689_ (.CLK(clk), .D(\u.tsh [0]),
+    .Q ( n1 ), .QN() );
+  FILL fill ();
+  assign o = w, p = 1'b0;
+endmodule
+END
+printf '%s\n' 'period 5/3' 'registers 2' '\u.tsh[0] 1/2 0 0' 'o[0] 7 0 0' >"$work/odd"
+cat >"$work/odd.sdc" <<'END'
+# The period is rounded up, and arrivals are rounded down.
+set_units -time ns
+create_clock -name clock -period 0.01667 [get_ports {clk}]
+set_clock_latency 0.00500 [get_pins {u.r\[1\]/CLK}]
+set_clock_latency 0.07000 [get_pins {_689_/CLK}]
+END
+odd() { "$flow/arrivals_to_sdc.py" "$1" --netlist "$work/odd.v" --clock clk --pin CLK --tick 10ps --unit ns; }
+in_ns() { odd "$work/odd" | diff - "$work/odd.sdc"; }
+holds 'the SDC of a mapped netlist' in_ns
+sed 's/^o\[0\]/o[2]/' "$work/odd" >"$work/unknown"
+holds 'a register that it lacks' refuses "$work/odd.v: no register drives o[2]" odd "$work/unknown"
+printf '%s\n' 'UCLA pl 1.0' '' '\u.r[1] 1 2 : N' 'fill 0 0' '_689_ 3 4 : N' 'CLK 0 9 : N /FIXED' >"$work/odd.pl"
+by_nets() {
+    "$flow/placement_by_nets.py" "$work/odd.v" "$work/odd.pl" --pin CLK | diff - <(printf '%s\n' 'UCLA pl 1.0' \
+        'u.tsh[0] 1 2 : N' 'w[1] 1 2 : N' 'o[1] 1 2 : N' 'n1 3 4 : N' 'w[0] 3 4 : N' 'o[0] 3 4 : N' 'CLK 0 9 : N /FIXED')
+}
+holds 'a placement by nets' by_nets
+
 # signed_off TEXT TABLE [NETLIST]: the slacks with the arrivals of the text, kept as TEXT.slacks.
 signed_off() {
     "$flow/arrivals_to_sdc.py" "$work/$1" --host "$2" "${3-$netlist}" >"$work/$1.sdc" &&
@@ -232,8 +265,12 @@ if has sta && python3 -c 'import tomllib' 2>/dev/null; then
     holds 'the worst slack of both corners is 0' near "$(worst both corners)" 0
 
     sed '0,/^set_clock_latency .*/s//set_clock_latency 0 [get_pins nowhere\/CK]/' "$work/schedule.sdc" >"$work/nowhere.sdc"
-    holds 'a pin that is missing' refuses "Warning: nowhere.sdc, 3 pin 'nowhere/CK' not found." \
+    holds 'a pin that is missing' refuses "Warning: nowhere.sdc, 4 pin 'nowhere/CK' not found." \
         "$flow/slacks.sh" "$netlist" "$table" "$work/nowhere.sdc"
+
+    sed 's/^set_units -time ps/set_units -time ns/' "$work/schedule.sdc" >"$work/other_unit.sdc"
+    line='Warning: other_unit.sdc, 2 time scale 1e-09 does not match library scale 1e-12.'
+    holds 'another unit' refuses "$line" "$flow/slacks.sh" "$netlist" "$table" "$work/other_unit.sdc"
 
     with_host "$table" >"$work/host.toml"
     holds 'a host' cts host schedule --bench "$netlist" --tech "$work/host.toml"
