@@ -92,6 +92,16 @@ merges report >"$work/topology"
 holds embed cts embedded embed "${problem[@]}" --topology "$work/topology"
 holds 'the printed merges give the report again' same "$work/report" "$work/embedded"
 
+# A longer period costs less wire. Equal arrivals are as short as they come.
+priced() {
+    "$flow/wire_by_period.py" "$netlist" "$table" "$work/biquad.pl" "$period" "$zero" \
+        --cts "$program" >"$work/prices"
+}
+holds 'wire by period' priced
+holds 'the first period is that of the report' \
+    same <(awk 'NR == 1 { print $1, $2 }' "$work/prices") <(echo "$period $(word wire report)")
+holds 'half of the wire is saved' at_least "$(awk 'NR == 1 { print $3 }' "$work/prices")" 2
+
 # At the period of equal arrivals, the margin is what useful skew gives to every check.
 holds margin cts margin margin "${circuit[@]}" --period "$zero"
 holds 'there is a margin' at_least "$(word margin margin)" 1
