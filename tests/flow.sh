@@ -92,6 +92,20 @@ merges report >"$work/topology"
 holds embed cts embedded embed "${problem[@]}" --topology "$work/topology"
 holds 'the printed merges give the report again' same "$work/report" "$work/embedded"
 
+# The drawing of the report is XML with a wire for each node, and a mark and a bar for each register.
+draw() { "$flow/report_to_svg.py" "$work/report" >"$work/report.svg"; }
+drawn() {
+    python3 -c '
+import sys, xml.etree.ElementTree
+kinds = [part.get("class") for part in xml.etree.ElementTree.parse(sys.argv[1]).iter()]
+wires = kinds.count("wire") + kinds.count("detour")
+marks = [kinds.count(kind) for kind in ("register", "bar", "merge", "source")]
+cycle = kinds.count("cycle setup") + kinds.count("cycle hold")
+print(wires, *marks, cycle)' "$work/report.svg" | diff - <(echo "$((2 * $1 - 1)) $1 $1 $(($1 - 1)) 1 $2")
+}
+holds 'a drawing' draw
+holds 'all is drawn' drawn "$(word registers report)" "$(word cycle report)"
+
 # A longer period costs less wire. Equal arrivals are as short as they come.
 priced() {
     "$flow/wire_by_period.py" "$netlist" "$table" "$work/biquad.pl" "$period" "$zero" \
