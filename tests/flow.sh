@@ -128,6 +128,34 @@ awk '$2 == "=" && $3 ~ /^[0-9]+$/ { $3 = int($3 * 7 / 10) } 1' "$table" >"$fast"
 holds corners cts corners corners --bench "$netlist" "$table" "$fast"
 holds 'two corners need no less' at_least "$(word period corners)" "$period"
 
+# The tree for given arrivals: of a schedule's own it is that of its report, and those of corners
+# and of a margin come out as they went in, in parts of a tick where they are fractions.
+tree_of() {
+    "$flow/arrivals_to_problem.py" "$work/$1" "$2" "$work/$1.given" &&
+        cts "$1.tree" synth --bench "$work/$1.given.bench" --tech "$work/$1.given.toml" --pl "$work/biquad.pl"
+}
+tree_lines() { sed -n '/^merges/,$p' "$work/$1"; }
+# kept TEXT PARTS: the tree has the arrivals of the text, in that many parts of a tick.
+kept() {
+    registers "$1" >"$work/expected"
+    registers "$1.tree" | reckon '
+        NR == FNR { given[$1] = value($2) * parts; next }
+        { same += !is_below(given[$1], $2) && !is_below($2, given[$1]) }
+        END { exit !FNR || same != FNR }' parts="$2" "$work/expected" -
+}
+# parts TEXT: the least number of which all times of the text are parts.
+parts() {
+    { word period "$1"; registers "$1" | cut -d ' ' -f 2; } | python3 -c 'import fractions, math, sys
+print(math.lcm(*(fractions.Fraction(line).denominator for line in sys.stdin)))'
+}
+holds 'the tree for the scheduled arrivals' tree_of report "$table"
+holds 'it is that of the report' same <(tree_lines report) <(tree_lines report.tree)
+holds 'the tree for the arrivals of corners' tree_of corners "$table"
+holds 'they are kept' kept corners "$(parts corners)"
+holds 'a margin at half a tick' cts half margin "${circuit[@]}" --period "$((2 * zero - 1))/2"
+holds 'the tree for its arrivals' tree_of half "$table"
+holds 'they are kept in parts of a tick' kept half "$(parts half)"
+
 # Two registers move: the wire is that of the same merges with the places as they are then.
 first=$(head -n 1 "$work/scheduled" | cut -d ' ' -f 1)
 last=$(tail -n 1 "$work/scheduled" | cut -d ' ' -f 1)

@@ -88,7 +88,8 @@ def draw_tree(report, drawing):
         else:
             titled("circle", "merge", {"cx": x, "cy": y, "r": 3}, f"node {node}")
     x, y = drawing.at(*report.wires[-1][0][:2])
-    titled("polygon", "source", {"points": f"{x},{y - 8} {x - 7},{y + 5} {x + 7},{y + 5}"}, "source")
+    corners = f"{x},{y - 8} {x - 7},{y + 5} {x + 7},{y + 5}"
+    titled("polygon", "source", {"points": corners}, "source")
 
 
 def draw_cycle(report, drawing):
