@@ -410,7 +410,8 @@ END
 spared() {
     registers "$1" | reckon '
         NR == FNR { setup[$1] = $2; hold[$1] = $3; next }
-        $3 != "-" && (!($1 in setup) || is_below(setup[$1], $3) || is_below(hold[$1], $4)) { wrong = 1; print }
+        $3 == "-" { next }
+        !($1 in setup) || is_below(setup[$1], $3) || is_below(hold[$1], $4) { wrong = 1; print }
         END { exit wrong || FNR == 0 }' "$work/$2.slacks" -
 }
 if has yosys && has berkeley-abc && has sta && [ -e "$library" ]; then
@@ -423,8 +424,10 @@ if has yosys && has berkeley-abc && has sta && [ -e "$library" ]; then
     holds 'an SDF of whole ticks' even_edges
     holds 'OpenSTA with it' signed_off_mapped mapped_report "$mapped.even.sdf"
     holds 'each slack is as printed there' printed mapped_report mapped_report
-    holds 'OpenSTA with the library' signed_off_mapped mapped_report
+    holds 'OpenSTA with its own SDF' signed_off_mapped mapped_report "$mapped.sdf"
     holds 'no slack is below the printed one' spared mapped_report mapped_report
+    holds 'OpenSTA with the library' signed_off_mapped mapped_report
+    holds 'no check fails' at_least "$(worst both mapped_report)" 0
     holds 'a drawing of it' draw mapped_report
     constraints=$(word cycle mapped_report)
     holds 'all of it is drawn' drawn mapped_report "$(word registers mapped_report)" "$constraints"
