@@ -69,6 +69,24 @@ if has yosys && has berkeley-abc; then
     holds 'Verilog to netlist' make_netlist
     cmp -s "$netlist" "$top/examples/biquad.bench" ||
         echo "flow: the tools make another netlist here than examples/biquad.bench"
+    # SystemVerilog in two files whose names have blanks, an initial value, and a reset that is tied.
+    mkdir "$work/two files"
+    cat >"$work/two files/leaf of it.sv" <<'END'
+module leaf(input logic clk, rst_n, d, output logic q);
+  initial q = 1'b1;
+  always_ff @(posedge clk or negedge rst_n) if (!rst_n) q <= 1'b0; else q <= ~d;
+endmodule
+END
+    cat >"$work/two files/it.sv" <<'END'
+module it(input logic clk, rst_n, d, output logic q); logic e;
+  leaf one(.clk, .rst_n, .d, .q(e)); leaf two(.clk, .rst_n, .d(e), .q);
+endmodule
+END
+    two_files() {
+        "$flow/verilog_to_bench.sh" -sv --tie rst_n=1 "$work/two files/leaf of it.sv" \
+            "$work/two files/it.sv" it | grep -c ' = DFF('
+    }
+    holds 'two files of SystemVerilog' same <(two_files) <(echo 2)
 else
     left_out "yosys and berkeley-abc aren't both there" 'the way from Verilog to a netlist'
     cp "$top/examples/biquad.bench" "$netlist"
@@ -93,7 +111,8 @@ holds embed cts embedded embed "${problem[@]}" --topology "$work/topology"
 holds 'the printed merges give the report again' same "$work/report" "$work/embedded"
 
 # The drawing of the report is XML with a wire for each node, and a mark and a bar for each register.
-draw() { "$flow/report_to_svg.py" "$work/report" >"$work/report.svg"; }
+draw() { "$flow/report_to_svg.py" "$work/$1" >"$work/$1.svg"; }
+# drawn TEXT REGISTERS CONSTRAINTS: what is in the drawing of a text.
 drawn() {
     python3 -c '
 import sys, xml.etree.ElementTree
@@ -101,17 +120,15 @@ kinds = [part.get("class") for part in xml.etree.ElementTree.parse(sys.argv[1]).
 wires = kinds.count("wire") + kinds.count("detour")
 marks = [kinds.count(kind) for kind in ("register", "bar", "merge", "source")]
 cycle = kinds.count("cycle setup") + kinds.count("cycle hold")
-print(wires, *marks, cycle)' "$work/report.svg" | diff - <(echo "$((2 * $1 - 1)) $1 $1 $(($1 - 1)) 1 $2")
+print(wires, *marks, cycle)' "$work/$1.svg" | diff - <(echo "$((2 * $2 - 1)) $2 $2 $(($2 - 1)) 1 $3")
 }
-holds 'a drawing' draw
-holds 'all is drawn' drawn "$(word registers report)" "$(word cycle report)"
+holds 'a drawing' draw report
+holds 'all is drawn' drawn report "$(word registers report)" "$(word cycle report)"
 
 # A longer period costs less wire. Equal arrivals are as short as they come.
-priced() {
-    "$flow/wire_by_period.py" "$netlist" "$table" "$work/biquad.pl" "$period" "$zero" \
-        --cts "$program" >"$work/prices"
-}
-holds 'wire by period' priced
+# priced NETLIST TABLE PLACEMENT PERIOD..: a line for each period.
+priced() { "$flow/wire_by_period.py" "$@" --cts "$program" >"$work/prices"; }
+holds 'wire by period' priced "$netlist" "$table" "$work/biquad.pl" "$period" "$zero"
 holds 'the first period is that of the report' \
     same <(awk 'NR == 1 { print $1, $2 }' "$work/prices") <(echo "$period $(word wire report)")
 holds 'half of the wire is saved' at_least "$(awk 'NR == 1 { print $3 }' "$work/prices")" 2
@@ -130,9 +147,11 @@ holds 'two corners need no less' at_least "$(word period corners)" "$period"
 
 # The tree for given arrivals: of a schedule's own it is that of its report, and those of corners
 # and of a margin come out as they went in, in parts of a tick where they are fractions.
+# tree_of TEXT TABLE PLACEMENT: the report for the arrivals of the text, kept as TEXT.tree.
 tree_of() {
-    "$flow/arrivals_to_problem.py" "$work/$1" "$2" "$work/$1.given" &&
-        cts "$1.tree" synth --bench "$work/$1.given.bench" --tech "$work/$1.given.toml" --pl "$work/biquad.pl"
+    local given=$work/$1.given
+    "$flow/arrivals_to_problem.py" "$work/$1" "$2" "$given" &&
+        cts "$1.tree" synth --bench "$given.bench" --tech "$given.toml" --pl "$3"
 }
 tree_lines() { sed -n '/^merges/,$p' "$work/$1"; }
 # kept TEXT PARTS: the tree has the arrivals of the text, in that many parts of a tick.
@@ -148,12 +167,12 @@ parts() {
     { word period "$1"; registers "$1" | cut -d ' ' -f 2; } | python3 -c 'import fractions, math, sys
 print(math.lcm(*(fractions.Fraction(line).denominator for line in sys.stdin)))'
 }
-holds 'the tree for the scheduled arrivals' tree_of report "$table"
+holds 'the tree for the scheduled arrivals' tree_of report "$table" "$work/biquad.pl"
 holds 'it is that of the report' same <(tree_lines report) <(tree_lines report.tree)
-holds 'the tree for the arrivals of corners' tree_of corners "$table"
+holds 'the tree for the arrivals of corners' tree_of corners "$table" "$work/biquad.pl"
 holds 'they are kept' kept corners "$(parts corners)"
 holds 'a margin at half a tick' cts half margin "${circuit[@]}" --period "$((2 * zero - 1))/2"
-holds 'the tree for its arrivals' tree_of half "$table"
+holds 'the tree for its arrivals' tree_of half "$table" "$work/biquad.pl"
 holds 'they are kept in parts of a tick' kept half "$(parts half)"
 
 # Two registers move: the wire is that of the same merges with the places as they are then.
@@ -339,6 +358,91 @@ if has sta && python3 -c 'import tomllib' 2>/dev/null; then
     holds 'each slack is as printed with thirds' printed thirds thirds
 else
     left_out "OpenSTA's sta and a Python of 3.11 aren't both there" sign-off
+fi
+
+# A netlist that others mapped, with a library in ns where a tick is 1 ps: its delays are those that
+# OpenSTA finds, and its slacks those of the report.
+library=/usr/share/qflow/tech/osu018/osu018_stdcells.lib
+mapped=$work/mapped
+map_logic() {
+    yosys -q -p "read_verilog $top/examples/biquad.v; synth -flatten -top biquad
+        dfflibmap -liberty $library; abc -liberty $library
+        splitnets w:\$*; opt_clean -purge; write_verilog -noattr $mapped.v"
+}
+# By instances, as a placer has it, and by nets again.
+place_mapped() {
+    "$flow/grid_placement.py" "$mapped.bench" >"$mapped.grid"
+    awk 'NR == FNR { instance[$2] = $1; next } $1 in instance { $1 = instance[$1] } 1' \
+        "$mapped.registers" "$mapped.grid" >"$mapped.instances"
+    "$flow/placement_by_nets.py" "$mapped.v" "$mapped.instances" --pin CLK >"$mapped.pl"
+}
+# signed_off_mapped TEXT [DELAYS.sdf]: the slacks in ticks by nets, kept as TEXT.slacks.
+signed_off_mapped() {
+    "$flow/arrivals_to_sdc.py" "$work/$1" --netlist "$mapped.v" --pin CLK --unit ns >"$work/$1.sdc" &&
+        "$flow/slacks.sh" "$mapped.v" "$library" "$work/$1.sdc" "${@:2}" >"$work/$1.in_ns" || return
+    awk 'NR == FNR { if (!($1 in net)) net[$1] = $2; next } { print net[$1], 1000 * $2, 1000 * $3 }' \
+        "$mapped.registers" "$work/$1.in_ns" >"$work/$1.slacks"
+}
+# An SDF of whole ticks where both edges are alike: exactly what the netlist has.
+even_edges() {
+    python3 - "$flow" "$mapped.v" "$mapped.sdf" >"$mapped.even.sdf" <<'END'
+import sys
+sys.path.insert(0, sys.argv[1])
+from arrivals_to_sdc import tick
+from mapped_verilog import Netlist
+from sdf_delays import Delays
+netlist, delays = Netlist(sys.argv[2]), Delays(sys.argv[3], tick("1ps"))
+print('(DELAYFILE (SDFVERSION "3.0") (DESIGN "biquad") (DIVIDER /) (TIMESCALE 1ps)')
+for cell, name, pins in netlist.instances:
+    print(f'(CELL (CELLTYPE "{cell}") (INSTANCE {name}) (DELAY (ABSOLUTE')
+    for output in pins:
+        for pin, (least, greatest) in delays.arcs.get((name, output), {}).items():
+            print(f"(IOPATH {pin} {output} ({least}::{greatest}))")
+    print(")) (TIMINGCHECK")
+    for word, checks in (("SETUP", delays.setup), ("HOLD", delays.hold)):
+        for pin, (_, most) in checks.get(name, {}).items():
+            print(f"({word} {pin} (posedge CLK) ({most}::{most}))")
+    print("))")
+print(")")
+END
+}
+# spared SCHEDULE TEXT: no slack is below the one that is printed.
+spared() {
+    registers "$1" | reckon '
+        NR == FNR { setup[$1] = $2; hold[$1] = $3; next }
+        $3 == "-" { next }
+        !($1 in setup) || is_below(setup[$1], $3) || is_below(hold[$1], $4) { wrong = 1; print }
+        END { exit wrong || FNR == 0 }' "$work/$2.slacks" -
+}
+if has yosys && has berkeley-abc && has sta && [ -e "$library" ]; then
+    holds 'a mapped netlist' map_logic
+    holds 'its delays' "$flow/mapped_to_bench.sh" "$mapped.v" "$library" "$mapped" --pin CLK
+    "$flow/mapped_verilog.py" "$mapped.v" --pin CLK >"$mapped.registers"
+    holds 'its placement by nets' place_mapped
+    circuit=(--bench "$mapped.bench" --tech "$mapped.toml")
+    holds 'its report' cts mapped_report synth "${circuit[@]}" --pl "$mapped.pl"
+    holds 'an SDF of whole ticks' even_edges
+    holds 'OpenSTA with it' signed_off_mapped mapped_report "$mapped.even.sdf"
+    holds 'each slack is as printed there' printed mapped_report mapped_report
+    holds 'OpenSTA with its own SDF' signed_off_mapped mapped_report "$mapped.sdf"
+    holds 'no slack is below the printed one' spared mapped_report mapped_report
+    holds 'OpenSTA with the library' signed_off_mapped mapped_report
+    holds 'no check fails' at_least "$(worst both mapped_report)" 0
+    holds 'a drawing of it' draw mapped_report
+    constraints=$(word cycle mapped_report)
+    holds 'all of it is drawn' drawn mapped_report "$(word registers mapped_report)" "$constraints"
+    holds 'its zero' cts mapped_zero zero "${circuit[@]}"
+    zero=$(word zero mapped_zero)
+    holds 'its wire at equal arrivals' priced "$mapped.bench" "$mapped.toml" "$mapped.pl" "$zero"
+    holds 'is less' at_least "$(word wire mapped_report)" "$(awk '{ print $2 }' "$work/prices")"
+    holds 'its margin' cts mapped_margin margin "${circuit[@]}" --period "$zero"
+    holds 'the tree for it' tree_of mapped_margin "$mapped.toml" "$mapped.pl"
+    holds 'which keeps its arrivals' kept mapped_margin "$(parts mapped_margin)"
+    holds 'OpenSTA at its margin' signed_off_mapped mapped_margin "$mapped.even.sdf"
+    worst_slack=$(worst both mapped_margin)
+    holds 'the worst slack is the margin there' near "$worst_slack" "$(word margin mapped_margin)"
+else
+    left_out "yosys, berkeley-abc, sta and $library aren't all there" 'a mapped netlist'
 fi
 
 echo "flow: $passed passed, $failed failed"
