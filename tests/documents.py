@@ -13,7 +13,7 @@ ROOT = os.path.dirname(os.path.dirname(os.path.abspath(__file__)))
 PAGES = ["README.md", "CONTRIBUTING.md"] + sorted(glob.glob("docs/*.md", root_dir=ROOT))
 PAGES += sorted(glob.glob("crates/*/README.md", root_dir=ROOT))
 # How many commands of a page run; of any other page, none.
-COUNTS = {"README.md": 4, "docs/COMMANDS.md": 10, "docs/DEFINITIONS.md": 1}
+COUNTS = {"README.md": 7, "docs/COMMANDS.md": 10, "docs/DEFINITIONS.md": 1, "docs/FLOW.md": 1}
 
 
 def text_of(page):

@@ -69,11 +69,29 @@ if has yosys && has berkeley-abc; then
     holds 'Verilog to netlist' make_netlist
     cmp -s "$netlist" "$top/examples/biquad.bench" ||
         echo "flow: the tools make another netlist here than examples/biquad.bench"
+    # SystemVerilog in two files whose names have blanks, an initial value, and a reset that is tied.
+    mkdir "$work/two files"
+    cat >"$work/two files/leaf of it.sv" <<'END'
+module leaf(input logic clk, rst_n, d, output logic q);
+  initial q = 1'b1;
+  always_ff @(posedge clk or negedge rst_n) if (!rst_n) q <= 1'b0; else q <= ~d;
+endmodule
+END
+    cat >"$work/two files/it.sv" <<'END'
+module it(input logic clk, rst_n, d, output logic q); logic e;
+  leaf one(.clk, .rst_n, .d, .q(e)); leaf two(.clk, .rst_n, .d(e), .q);
+endmodule
+END
+    two_files() {
+        "$flow/verilog_to_bench.sh" -sv --tie rst_n=1 "$work/two files/leaf of it.sv" \
+            "$work/two files/it.sv" it | grep -c ' = DFF('
+    }
+    holds 'two files of SystemVerilog' same <(two_files) <(echo 2)
 else
     left_out "yosys and berkeley-abc aren't both there" 'the way from Verilog to a netlist'
     cp "$top/examples/biquad.bench" "$netlist"
 fi
-awk -f "$flow/grid_placement.awk" "$netlist" >"$work/biquad.pl"
+"$flow/grid_placement.py" "$netlist" >"$work/biquad.pl"
 circuit=(--bench "$netlist" --tech "$table")
 problem=("${circuit[@]}" --pl "$work/biquad.pl")
 
@@ -92,6 +110,29 @@ merges report >"$work/topology"
 holds embed cts embedded embed "${problem[@]}" --topology "$work/topology"
 holds 'the printed merges give the report again' same "$work/report" "$work/embedded"
 
+# The drawing of the report is XML with a wire for each node, and a mark and a bar for each register.
+draw() { "$flow/report_to_svg.py" "$work/$1" >"$work/$1.svg"; }
+# drawn TEXT REGISTERS CONSTRAINTS: what is in the drawing of a text.
+drawn() {
+    python3 -c '
+import sys, xml.etree.ElementTree
+kinds = [part.get("class") for part in xml.etree.ElementTree.parse(sys.argv[1]).iter()]
+wires = kinds.count("wire") + kinds.count("detour")
+marks = [kinds.count(kind) for kind in ("register", "bar", "merge", "source")]
+cycle = kinds.count("cycle setup") + kinds.count("cycle hold")
+print(wires, *marks, cycle)' "$work/$1.svg" | diff - <(echo "$((2 * $2 - 1)) $2 $2 $(($2 - 1)) 1 $3")
+}
+holds 'a drawing' draw report
+holds 'all is drawn' drawn report "$(word registers report)" "$(word cycle report)"
+
+# A longer period costs less wire. Equal arrivals are as short as they come.
+# priced NETLIST TABLE PLACEMENT PERIOD..: a line for each period.
+priced() { "$flow/wire_by_period.py" "$@" --cts "$program" >"$work/prices"; }
+holds 'wire by period' priced "$netlist" "$table" "$work/biquad.pl" "$period" "$zero"
+holds 'the first period is that of the report' \
+    same <(awk 'NR == 1 { print $1, $2 }' "$work/prices") <(echo "$period $(word wire report)")
+holds 'half of the wire is saved' at_least "$(awk 'NR == 1 { print $3 }' "$work/prices")" 2
+
 # At the period of equal arrivals, the margin is what useful skew gives to every check.
 holds margin cts margin margin "${circuit[@]}" --period "$zero"
 holds 'there is a margin' at_least "$(word margin margin)" 1
@@ -103,6 +144,36 @@ fast=$work/fast.toml
 awk '$2 == "=" && $3 ~ /^[0-9]+$/ { $3 = int($3 * 7 / 10) } 1' "$table" >"$fast"
 holds corners cts corners corners --bench "$netlist" "$table" "$fast"
 holds 'two corners need no less' at_least "$(word period corners)" "$period"
+
+# The tree for given arrivals: of a schedule's own it is that of its report, and those of corners
+# and of a margin come out as they went in, in parts of a tick where they are fractions.
+# tree_of TEXT TABLE PLACEMENT: the report for the arrivals of the text, kept as TEXT.tree.
+tree_of() {
+    local given=$work/$1.given
+    "$flow/arrivals_to_problem.py" "$work/$1" "$2" "$given" &&
+        cts "$1.tree" synth --bench "$given.bench" --tech "$given.toml" --pl "$3"
+}
+tree_lines() { sed -n '/^merges/,$p' "$work/$1"; }
+# kept TEXT PARTS: the tree has the arrivals of the text, in that many parts of a tick.
+kept() {
+    registers "$1" >"$work/expected"
+    registers "$1.tree" | reckon '
+        NR == FNR { given[$1] = value($2) * parts; next }
+        { same += !is_below(given[$1], $2) && !is_below($2, given[$1]) }
+        END { exit !FNR || same != FNR }' parts="$2" "$work/expected" -
+}
+# parts TEXT: the least number of which all times of the text are parts.
+parts() {
+    { word period "$1"; registers "$1" | cut -d ' ' -f 2; } | python3 -c 'import fractions, math, sys
+print(math.lcm(*(fractions.Fraction(line).denominator for line in sys.stdin)))'
+}
+holds 'the tree for the scheduled arrivals' tree_of report "$table" "$work/biquad.pl"
+holds 'it is that of the report' same <(tree_lines report) <(tree_lines report.tree)
+holds 'the tree for the arrivals of corners' tree_of corners "$table" "$work/biquad.pl"
+holds 'they are kept' kept corners "$(parts corners)"
+holds 'a margin at half a tick' cts half margin "${circuit[@]}" --period "$((2 * zero - 1))/2"
+holds 'the tree for its arrivals' tree_of half "$table" "$work/biquad.pl"
+holds 'they are kept in parts of a tick' kept half "$(parts half)"
 
 # Two registers move: the wire is that of the same merges with the places as they are then.
 first=$(head -n 1 "$work/scheduled" | cut -d ' ' -f 1)
@@ -171,6 +242,39 @@ holds 'a text without arrivals' \
     "$flow/arrivals_to_sdc.py" "$work/period"
 holds 'an empty text' refuses '/dev/null: the text is empty' "$flow/arrivals_to_sdc.py" /dev/null
 
+# A mapped netlist as others write it: a register by another name, escaped names with blanks before
+# their bits, assignments, and bits that stand together. Times are in another unit than the tick.
+cat >"$work/odd.v" <<'END'
+(* top = 1 *) module odd (clk, \in[0] , o, p); // no module ;
+  input clk; input \in[0] ; output [1:0] o; output p;
+  wire [0:0] \u.tsh ; /* wires; */ wire n1; wire [1:0] w = { \u.tsh [0], n1 } ;
+  DFFPOSX1 \u.r[1] (.CLK(clk), .D(\in[0] ), .Q(\u.tsh [0]));
+  DFFPOSX1 _689_ (.CLK(clk), .D(\u.tsh [0]),
+    .Q ( n1 ), .QN() );
+  FILL fill ();
+  assign o = w, p = 1'b0;
+endmodule
+END
+printf '%s\n' 'period 5/3' 'registers 2' '\u.tsh[0] 1/2 0 0' 'o[0] 7 0 0' >"$work/odd"
+cat >"$work/odd.sdc" <<'END'
+# The period is rounded up, and arrivals are rounded down.
+set_units -time ns
+create_clock -name clock -period 0.01667 [get_ports {clk}]
+set_clock_latency 0.00500 [get_pins {u.r\[1\]/CLK}]
+set_clock_latency 0.07000 [get_pins {_689_/CLK}]
+END
+odd() { "$flow/arrivals_to_sdc.py" "$1" --netlist "$work/odd.v" --clock clk --pin CLK --tick 10ps --unit ns; }
+in_ns() { odd "$work/odd" | diff - "$work/odd.sdc"; }
+holds 'the SDC of a mapped netlist' in_ns
+sed 's/^o\[0\]/o[2]/' "$work/odd" >"$work/unknown"
+holds 'a register that it lacks' refuses "$work/odd.v: no register drives o[2]" odd "$work/unknown"
+printf '%s\n' 'UCLA pl 1.0' '' '\u.r[1] 1 2 : N' 'fill 0 0' '_689_ 3 4 : N' 'CLK 0 9 : N /FIXED' >"$work/odd.pl"
+by_nets() {
+    "$flow/placement_by_nets.py" "$work/odd.v" "$work/odd.pl" --pin CLK | diff - <(printf '%s\n' 'UCLA pl 1.0' \
+        'u.tsh[0] 1 2 : N' 'w[1] 1 2 : N' 'o[1] 1 2 : N' 'n1 3 4 : N' 'w[0] 3 4 : N' 'o[0] 3 4 : N' 'CLK 0 9 : N /FIXED')
+}
+holds 'a placement by nets' by_nets
+
 # signed_off TEXT TABLE [NETLIST]: the slacks with the arrivals of the text, kept as TEXT.slacks.
 signed_off() {
     "$flow/arrivals_to_sdc.py" "$work/$1" --host "$2" "${3-$netlist}" >"$work/$1.sdc" &&
@@ -232,8 +336,12 @@ if has sta && python3 -c 'import tomllib' 2>/dev/null; then
     holds 'the worst slack of both corners is 0' near "$(worst both corners)" 0
 
     sed '0,/^set_clock_latency .*/s//set_clock_latency 0 [get_pins nowhere\/CK]/' "$work/schedule.sdc" >"$work/nowhere.sdc"
-    holds 'a pin that is missing' refuses "Warning: nowhere.sdc, 3 pin 'nowhere/CK' not found." \
+    holds 'a pin that is missing' refuses "Warning: nowhere.sdc, 4 pin 'nowhere/CK' not found." \
         "$flow/slacks.sh" "$netlist" "$table" "$work/nowhere.sdc"
+
+    sed 's/^set_units -time ps/set_units -time ns/' "$work/schedule.sdc" >"$work/other_unit.sdc"
+    line='Warning: other_unit.sdc, 2 time scale 1e-09 does not match library scale 1e-12.'
+    holds 'another unit' refuses "$line" "$flow/slacks.sh" "$netlist" "$table" "$work/other_unit.sdc"
 
     with_host "$table" >"$work/host.toml"
     holds 'a host' cts host schedule --bench "$netlist" --tech "$work/host.toml"
@@ -250,6 +358,91 @@ if has sta && python3 -c 'import tomllib' 2>/dev/null; then
     holds 'each slack is as printed with thirds' printed thirds thirds
 else
     left_out "OpenSTA's sta and a Python of 3.11 aren't both there" sign-off
+fi
+
+# A netlist that others mapped, with a library in ns where a tick is 1 ps: its delays are those that
+# OpenSTA finds, and its slacks those of the report.
+library=/usr/share/qflow/tech/osu018/osu018_stdcells.lib
+mapped=$work/mapped
+map_logic() {
+    yosys -q -p "read_verilog $top/examples/biquad.v; synth -flatten -top biquad
+        dfflibmap -liberty $library; abc -liberty $library
+        splitnets w:\$*; opt_clean -purge; write_verilog -noattr $mapped.v"
+}
+# By instances, as a placer has it, and by nets again.
+place_mapped() {
+    "$flow/grid_placement.py" "$mapped.bench" >"$mapped.grid"
+    awk 'NR == FNR { instance[$2] = $1; next } $1 in instance { $1 = instance[$1] } 1' \
+        "$mapped.registers" "$mapped.grid" >"$mapped.instances"
+    "$flow/placement_by_nets.py" "$mapped.v" "$mapped.instances" --pin CLK >"$mapped.pl"
+}
+# signed_off_mapped TEXT [DELAYS.sdf]: the slacks in ticks by nets, kept as TEXT.slacks.
+signed_off_mapped() {
+    "$flow/arrivals_to_sdc.py" "$work/$1" --netlist "$mapped.v" --pin CLK --unit ns >"$work/$1.sdc" &&
+        "$flow/slacks.sh" "$mapped.v" "$library" "$work/$1.sdc" "${@:2}" >"$work/$1.in_ns" || return
+    awk 'NR == FNR { if (!($1 in net)) net[$1] = $2; next } { print net[$1], 1000 * $2, 1000 * $3 }' \
+        "$mapped.registers" "$work/$1.in_ns" >"$work/$1.slacks"
+}
+# An SDF of whole ticks where both edges are alike: exactly what the netlist has.
+even_edges() {
+    python3 - "$flow" "$mapped.v" "$mapped.sdf" >"$mapped.even.sdf" <<'END'
+import sys
+sys.path.insert(0, sys.argv[1])
+from arrivals_to_sdc import tick
+from mapped_verilog import Netlist
+from sdf_delays import Delays
+netlist, delays = Netlist(sys.argv[2]), Delays(sys.argv[3], tick("1ps"))
+print('(DELAYFILE (SDFVERSION "3.0") (DESIGN "biquad") (DIVIDER /) (TIMESCALE 1ps)')
+for cell, name, pins in netlist.instances:
+    print(f'(CELL (CELLTYPE "{cell}") (INSTANCE {name}) (DELAY (ABSOLUTE')
+    for output in pins:
+        for pin, (least, greatest) in delays.arcs.get((name, output), {}).items():
+            print(f"(IOPATH {pin} {output} ({least}::{greatest}))")
+    print(")) (TIMINGCHECK")
+    for word, checks in (("SETUP", delays.setup), ("HOLD", delays.hold)):
+        for pin, (_, most) in checks.get(name, {}).items():
+            print(f"({word} {pin} (posedge CLK) ({most}::{most}))")
+    print("))")
+print(")")
+END
+}
+# spared SCHEDULE TEXT: no slack is below the one that is printed.
+spared() {
+    registers "$1" | reckon '
+        NR == FNR { setup[$1] = $2; hold[$1] = $3; next }
+        $3 == "-" { next }
+        !($1 in setup) || is_below(setup[$1], $3) || is_below(hold[$1], $4) { wrong = 1; print }
+        END { exit wrong || FNR == 0 }' "$work/$2.slacks" -
+}
+if has yosys && has berkeley-abc && has sta && [ -e "$library" ]; then
+    holds 'a mapped netlist' map_logic
+    holds 'its delays' "$flow/mapped_to_bench.sh" "$mapped.v" "$library" "$mapped" --pin CLK
+    "$flow/mapped_verilog.py" "$mapped.v" --pin CLK >"$mapped.registers"
+    holds 'its placement by nets' place_mapped
+    circuit=(--bench "$mapped.bench" --tech "$mapped.toml")
+    holds 'its report' cts mapped_report synth "${circuit[@]}" --pl "$mapped.pl"
+    holds 'an SDF of whole ticks' even_edges
+    holds 'OpenSTA with it' signed_off_mapped mapped_report "$mapped.even.sdf"
+    holds 'each slack is as printed there' printed mapped_report mapped_report
+    holds 'OpenSTA with its own SDF' signed_off_mapped mapped_report "$mapped.sdf"
+    holds 'no slack is below the printed one' spared mapped_report mapped_report
+    holds 'OpenSTA with the library' signed_off_mapped mapped_report
+    holds 'no check fails' at_least "$(worst both mapped_report)" 0
+    holds 'a drawing of it' draw mapped_report
+    constraints=$(word cycle mapped_report)
+    holds 'all of it is drawn' drawn mapped_report "$(word registers mapped_report)" "$constraints"
+    holds 'its zero' cts mapped_zero zero "${circuit[@]}"
+    zero=$(word zero mapped_zero)
+    holds 'its wire at equal arrivals' priced "$mapped.bench" "$mapped.toml" "$mapped.pl" "$zero"
+    holds 'is less' at_least "$(word wire mapped_report)" "$(awk '{ print $2 }' "$work/prices")"
+    holds 'its margin' cts mapped_margin margin "${circuit[@]}" --period "$zero"
+    holds 'the tree for it' tree_of mapped_margin "$mapped.toml" "$mapped.pl"
+    holds 'which keeps its arrivals' kept mapped_margin "$(parts mapped_margin)"
+    holds 'OpenSTA at its margin' signed_off_mapped mapped_margin "$mapped.even.sdf"
+    worst_slack=$(worst both mapped_margin)
+    holds 'the worst slack is the margin there' near "$worst_slack" "$(word margin mapped_margin)"
+else
+    left_out "yosys, berkeley-abc, sta and $library aren't all there" 'a mapped netlist'
 fi
 
 echo "flow: $passed passed, $failed failed"

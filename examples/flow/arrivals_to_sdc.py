@@ -4,27 +4,43 @@
 The text is one of schedule, synth, embed, margin or corners, or one of wire_delays.py. A time that
 isn't a whole number of thousandths of a tick is rounded: the period up, and every arrival down. As
 all delays are whole ticks, what held before then still holds: no setup or hold slack that was at
-least 0 falls below 0. A host is a clock of its own,
-at whose arrival inputs other than the clock are launched and outputs captured; its times are those
-of the table.
+least 0 falls below 0. Without --netlist a register's instance has the register's name. With it, it
+is the instance of the mapped netlist whose output drives the net of that name. A host is a clock of
+its own, at whose arrival inputs other than the clock are launched and outputs captured; its times
+are those of the table.
 """
 import argparse
+import re
 import sys
 import tomllib
+from decimal import Decimal
 from fractions import Fraction
 from math import ceil, floor
 
-from bench_to_verilog import statements
+from bench_to_verilog import CLOCK, lines_of, statements
+from mapped_verilog import Netlist, plain
 
-CLOCK = "clock"  # the port that the clock comes in by
-PIN = "CK"  # the clock pin of a register
 HOST = "(host)"
-STEPS = 1000  # steps in a tick: 10 to the number of decimals
+STEPS = 1000  # steps in a tick, to which times are rounded
+UNITS = {"fs": 0, "ps": 3, "ns": 6, "us": 9}  # each as a power of ten of the first
 
 
-def decimal(time, to_whole=floor):
-    steps = to_whole(time * STEPS)
-    return f"{steps // STEPS}.{steps % STEPS:03}"
+def tick(text):
+    """A tick such as 1ps or 2.5ns, as a number with its unit."""
+    if not (parts := re.fullmatch(r"(\d+\.?\d*|)(fs|ps|ns|us)", text)):
+        raise ValueError
+    return Decimal(parts[1] or 1), parts[2]
+
+
+class Scale:
+    """How times in ticks are written in the unit of the SDC."""
+
+    def __init__(self, tick, unit):
+        self.unit = unit or tick[1]
+        self.step = tick[0].scaleb(UNITS[tick[1]] - UNITS[self.unit]) / STEPS
+
+    def decimal(self, time, to_whole=floor):
+        return f"{to_whole(time * STEPS) * self.step:f}"
 
 
 def pattern(name):
@@ -36,8 +52,7 @@ def pattern(name):
 def read(path):
     """The period and a list of names with their arrivals. A text without both is an error."""
     period, arrivals, due = None, [], 0
-    with open(path) as text:
-        lines = [line.split() for line in text]
+    lines = [line.split() for line in lines_of(path)]
     if not any(lines):
         sys.exit(f"{path}: the text is empty")
     if lines[0] == ["never"]:
@@ -55,40 +70,56 @@ def read(path):
     return period, arrivals
 
 
-def print_host(period, arrival, register, inputs):
-    ports = " ".join(map(pattern, inputs))
+def print_host(scale, period, arrival, table, netlist):
+    """The clock of all that is outside, and the times of inputs and outputs."""
+    with open(table, "rb") as file:
+        register = tomllib.load(file)["register"]
+    times = {key: scale.decimal(register[key]) for key in ("greatest", "least", "setup")}
+    inputs = dict.fromkeys(name for kind, name, _ in statements(netlist) if kind == "INPUT")
+    ports = " ".join(pattern(name) for name in inputs if name != CLOCK)
     print(f"create_clock -name host -period {period}")
-    print(f"set_clock_latency {arrival} [get_clocks host]")
-    print(f"set_input_delay -max {register['greatest']} -clock host [get_ports {{{ports}}}]")
-    print(f"set_input_delay -min {register['least']} -clock host [get_ports {{{ports}}}]")
-    print(f"set_output_delay -max {register['setup']} -clock host [all_outputs]")
-    print(f"set_output_delay -min {-register['hold']} -clock host [all_outputs]")
+    print(f"set_clock_latency {scale.decimal(arrival)} [get_clocks host]")
+    print(f"set_input_delay -max {times['greatest']} -clock host [get_ports {{{ports}}}]")
+    print(f"set_input_delay -min {times['least']} -clock host [get_ports {{{ports}}}]")
+    print(f"set_output_delay -max {times['setup']} -clock host [all_outputs]")
+    print(f"set_output_delay -min {scale.decimal(-register['hold'])} -clock host [all_outputs]")
 
 
 def main():
     parser = argparse.ArgumentParser(description=__doc__)
     parser.add_argument("text", metavar="TEXT")
     parser.add_argument("--host", nargs=2, metavar=("TABLE.toml", "NETLIST.bench"))
+    parser.add_argument("--netlist", metavar="MAPPED.v")
+    parser.add_argument("--clock", default=CLOCK, help="the port of the clock, else clock")
+    parser.add_argument("--pin", default="CK", help="the clock pin of a register, else CK")
+    parser.add_argument("--output", default="Q", help="the output of a register, else Q")
+    parser.add_argument("--tick", type=tick, default="1ps", help="how long a tick is, else 1ps")
+    parser.add_argument("--unit", choices=UNITS, help="the unit of the SDC, else that of the tick")
     words = parser.parse_args()
     period, arrivals = read(words.text)
+    instances = {plain(name): name for name, _ in arrivals}
+    if words.netlist:
+        instances = Netlist(words.netlist).registers(words.pin, words.output)
+    for name, _ in arrivals:
+        if name != HOST and plain(name) not in instances:
+            sys.exit(f"{words.netlist}: no register drives {name}")
+        if name == HOST and not words.host:
+            sys.exit(f"{words.text} has a host: --host wants the table and the netlist")
+    scale = Scale(words.tick, words.unit)
     times = [period] + [arrival for _, arrival in arrivals]
     if all(STEPS % time.denominator == 0 for time in times):
         print("# The times are exact.")
     else:
         print("# The period is rounded up, and arrivals are rounded down.")
-    period = decimal(period, ceil)
-    print(f"create_clock -name {CLOCK} -period {period} [get_ports {CLOCK}]")
+    print(f"set_units -time {scale.unit}")
+    period = scale.decimal(period, ceil)
+    print(f"create_clock -name {CLOCK} -period {period} [get_ports {{{pattern(words.clock)}}}]")
     for name, arrival in arrivals:
         if name == HOST:
-            if not words.host:
-                sys.exit(f"{words.text} has a host: --host wants the table and the netlist")
-            with open(words.host[0], "rb") as table:
-                register = tomllib.load(table)["register"]
-            inputs = [name for kind, name, _ in statements(words.host[1]) if kind == "INPUT"]
-            inputs = [name for name in dict.fromkeys(inputs) if name != CLOCK]
-            print_host(period, decimal(arrival), register, inputs)
+            print_host(scale, period, arrival, *words.host)
         else:
-            print(f"set_clock_latency {decimal(arrival)} [get_pins {{{pattern(name)}/{PIN}}}]")
+            pin = f"{pattern(instances[plain(name)])}/{words.pin}"
+            print(f"set_clock_latency {scale.decimal(arrival)} [get_pins {{{pin}}}]")
 
 
 if __name__ == "__main__":

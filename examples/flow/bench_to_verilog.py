@@ -12,9 +12,18 @@ import sys
 CLOCK = "clock"
 
 
+def lines_of(path):
+    """The lines of a file. One that can't be read is an error."""
+    try:
+        with open(path, encoding="utf-8", errors="surrogateescape") as file:
+            return file.readlines()
+    except OSError as error:
+        sys.exit(f"{path}: {error.strerror}")
+
+
 def statements(path):
     """(KIND, NAME, inputs) for each line: INPUT, OUTPUT, DFF or a gate's kind. BUF is BUFF."""
-    for line in open(path, encoding="latin-1"):
+    for line in lines_of(path):
         line = line.split("#")[0].strip()
         port = re.fullmatch(r"(INPUT|OUTPUT)\s*\(\s*(\S+)\s*\)", line, re.IGNORECASE)
         gate = re.fullmatch(r"(\S+)\s*=\s*(\w+)\s*\((.*)\)", line)

@@ -1,13 +1,16 @@
-# Has OpenSTA print the slack at each register. Its files are named by LEAST and GREATEST (Liberty),
-# NETLIST (Verilog) and CONSTRAINTS (SDC). Setup is checked with the greatest delays, and hold with
-# the least.
+# Has OpenSTA print the slack at each register of the module TOP. Its files are named by LEAST and
+# GREATEST (Liberty), NETLIST (Verilog), CONSTRAINTS (SDC) and DELAYS (SDF, if there is one). Setup
+# is checked with the greatest delays, and hold with the least.
 read_liberty -min $env(LEAST)
 read_liberty -max $env(GREATEST)
 read_verilog $env(NETLIST)
-link_design top
+link_design $env(TOP)
 set_operating_conditions -analysis_type bc_wc
 read_sdc $env(CONSTRAINTS)
+if { $env(DELAYS) != "" } {
+    read_sdf -analysis_type bc_wc $env(DELAYS)
+}
 puts "setup"
-report_checks -path_delay max -format end -group_count 1000000 -digits 3
+report_checks -path_delay max -format end -group_count 1000000 -digits 6
 puts "hold"
-report_checks -path_delay min -format end -group_count 1000000 -digits 3
+report_checks -path_delay min -format end -group_count 1000000 -digits 6
