@@ -61,8 +61,8 @@ pub(crate) fn s27() -> [Constraint; 14] {
     ]
 }
 
-// The constraints of 4,096 registers in a ring: each register and each way takes a tick, and the way
-// from the first to the second register up to a tick more.
+// The constraints of 4,096 registers in a ring: each register and each way takes a tick, and the
+// way from the first to the second register up to a tick more.
 pub(crate) fn slow_ring(alloc: Global) -> Result<Vec<Constraint>, AllocError> {
     let mut constraints = Vec::new(alloc);
     for register in 0..4096u32 {
