@@ -57,7 +57,7 @@ pub fn least_period_in(
 ///
 /// # Errors
 ///
-/// There is no memory for the lists, 28 bytes for each register.
+/// There is no memory for the lists, 36 bytes for each register and 4 for each constraint.
 pub fn least_period(
     alloc: Global,
     registers: usize,

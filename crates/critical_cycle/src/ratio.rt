@@ -12,7 +12,7 @@ use crate::search::Search;
 use crate::shown::Shown;
 use cts_base::{Fraction, Listed, NoMemory};
 use cts_model::Constraint;
-use relaxation::Relaxation;
+use relaxation::{Relaxation, Turns};
 use std::alloc::Global;
 
 /// The greatest ratio of the cycles of constraints, at or above a first one. It is the least ratio
@@ -43,7 +43,7 @@ pub enum Ratio {
 ///
 /// # Errors
 ///
-/// There is no memory for the lists, 28 bytes for each register.
+/// There is no memory for the lists, 36 bytes for each register and 4 for each constraint.
 pub fn greatest_ratio(
     alloc: Global,
     registers: usize,
@@ -61,7 +61,8 @@ pub fn greatest_ratio(
     let mut marks = vec![in alloc; 0u32; registers]?;
     let mut search = Search::at_first(measure, first, relaxation, places);
     search.look_at_short_cycles(list);
-    search.iterate(list, &mut marks);
+    let mut turns = Turns::new(alloc, registers, list)?;
+    search.iterate(list, &mut marks, &mut turns);
     Ok(settled(search, list))
 }
 

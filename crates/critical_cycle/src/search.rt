@@ -14,13 +14,10 @@ use crate::ring::go_round;
 use crate::shown::Shown;
 use cts_base::Fraction;
 use cts_model::Constraint;
-use relaxation::{Gains, Relaxation};
+use relaxation::{Gains, Relaxation, Turns};
 
 /// The most rounds of policy iteration.
 const ROUNDS: u32 = 256;
-
-/// How many sweeps are tried before it.
-const SWEEPS: usize = 3;
 
 /// A search for the greatest ratio of a cycle, from the first ratio upwards.
 #[derive(Drop)]
@@ -84,25 +81,29 @@ impl Search {
         }
     }
 
-    /// Policy iteration from the greatest ratio shown, unless a few sweeps show that this is
-    /// enough: rings of parents show greater ones. It ends where each constraint is satisfied, or
-    /// else after so many rounds as take little time.
-    pub(crate) fn iterate(&mut self, constraints: &[Constraint], marks: &mut [u32])
+    /// Policy iteration from the greatest ratio shown: rings of parents show greater ones, and where
+    /// none does, values rise along parents and by registers that hand theirs on in turn. It ends
+    /// where no register waits, or else after so many rounds as take little time.
+    pub(crate) fn iterate(
+        &mut self,
+        constraints: &[Constraint],
+        marks: &mut [u32],
+        turns: &mut Turns,
+    )
         requires search { IsSearch constraints.now self.old }
         requires marks { length marks.old ≡ length self.old.relaxation.parents.items }
         ensures search { IsSearch constraints.now self.new }
         ensures same { IsSameSearch self.old self.new }
     {
-        if !self.reach_shown() || self.sweep_a_little(constraints) {
+        if !self.reach_shown() {
             return;
         }
-        self.relaxation.values.fill(0);
-        self.relaxation.forget_parents();
         self.relaxation.choose_parents(constraints, self.trial);
         for _round in 0..ROUNDS {
-            if !self.improve(constraints, marks) {
+            if turns.are_over() || !self.reach_shown() {
                 return;
             }
+            self.improve(constraints, marks, turns);
         }
     }
 
@@ -162,37 +163,28 @@ impl Search {
         true
     }
 
-    // Sweeps a few times. True where each constraint is satisfied then.
-    fn sweep_a_little(&mut self, constraints: &[Constraint]) -> bool
+    // One round: a ring of parents that gains, or else values by the parents, which registers hand
+    // on. All wait where the ratio is a greater one than in the round before.
+    fn improve(&mut self, constraints: &[Constraint], marks: &mut [u32], turns: &mut Turns)
         requires search { IsSearch constraints.now self.old }
-        ensures search { IsSearch constraints.now self.new }
-        ensures same { IsSameSearch self.old self.new }
-    {
-        for before in 0..SWEEPS {
-            self.relaxation.rescale(self.trial, self.trial);
-            let changed = self.relaxation.sweep(constraints, self.trial, before);
-            if changed.is_none() {
-                return true;
-            }
-        }
-        false
-    }
-
-    // One round: a ring of parents that gains, or else values by the parents and a sweep. False
-    // where there is nothing more to do.
-    fn improve(&mut self, constraints: &[Constraint], marks: &mut [u32]) -> bool
-        requires search { IsSearch constraints.now self.old }
+        requires small { All (IsBelow (2 ^ 88)) self.old.relaxation.values.items }
         requires marks { length marks.old ≡ length self.old.relaxation.parents.items }
         ensures search { IsSearch constraints.now self.new }
         ensures same { IsSameSearch self.old self.new }
         ensures marks { length marks.new ≡ length marks.old }
     {
         if let Some(register) = self.relaxation.gaining_ring(constraints, self.trial, marks) {
+            turns.let_all_wait();
             self.take_ring(constraints, register, marks);
-            return self.reach_shown();
+            return;
         }
-        self.relaxation.evaluate(constraints, self.trial, marks);
-        self.relaxation.sweep(constraints, self.trial, 0).is_some()
+        if turns.do_all_wait() {
+            self.relaxation.evaluate(constraints, self.trial, marks);
+        } else {
+            self.relaxation
+                .follow_parents(constraints, self.trial, marks, turns);
+        }
+        self.relaxation.take_turns(constraints, self.trial, turns);
     }
 
     // Shows the ring of parents above the register where its ratio is greater than what is shown.

@@ -8,3 +8,4 @@ mod ClimbLemmas
 pub mod Climbs
 mod SettleLemmas
 mod PrepareLemmas
+mod TailLemmas

@@ -4,3 +4,4 @@ pub mod Parents
 pub mod Rises
 pub mod Relaxing
 pub mod Sweeps
+pub mod Tails

@@ -5,14 +5,22 @@ ghost use Rattle.relaxation.specs.Rises.{AreRaised};
 
 use crate::gains::Gains;
 use crate::relaxation::Relaxation;
+use crate::turns::Turns;
 use cts_model::Constraint;
 
 impl Relaxation {
     /// Raises each register by its parent, after the registers above it up the parents, so a long
     /// way of parents is gone in whatever order they stand. Each entry of the links becomes, for a
     /// register that was passed on a way up, 1 more than the register passed before it, or than
-    /// itself where the way begins; else 0. It passes each register once, and takes no memory.
-    pub fn follow_parents(&mut self, constraints: &[Constraint], gains: Gains, links: &mut [u32])
+    /// itself where the way begins; else 0. A register that is raised waits. It passes each register
+    /// once, and takes no memory.
+    pub fn follow_parents(
+        &mut self,
+        constraints: &[Constraint],
+        gains: Gains,
+        links: &mut [u32],
+        turns: &mut Turns,
+    )
         requires entries { HasEntries constraints.now self.old }
         requires links { length links.old ≡ length self.old.parents.items }
         requires small { All (IsBelow (2 ^ 93)) self.old.values.items }
@@ -25,7 +33,7 @@ impl Relaxation {
         links.fill(0);
         for register in 0..self.parents.len() {
             if let Some(top) = self.top_above(constraints, links, register as u32) {
-                self.raise_down(constraints, gains, links, top);
+                self.raise_down(constraints, gains, links, top, turns);
             }
         }
     }
@@ -58,7 +66,14 @@ impl Relaxation {
     }
 
     // Raises the registers from the top of a way down to where it began, each by its parent.
-    fn raise_down(&mut self, constraints: &[Constraint], gains: Gains, links: &[u32], top: u32)
+    fn raise_down(
+        &mut self,
+        constraints: &[Constraint],
+        gains: Gains,
+        links: &[u32],
+        top: u32,
+        turns: &mut Turns,
+    )
         requires entries { HasEntries constraints.now self.old }
         requires links { length links.now ≡ length self.old.parents.items }
         requires top { top < length self.old.parents.items }
@@ -69,7 +84,8 @@ impl Relaxation {
     {
         let mut register = top;
         for _step in 0..self.parents.len() {
-            self.raise_by_parent(constraints, gains, register);
+            let place = self.parents[register as usize] as usize;
+            self.relax_in_turn(constraints, gains, place, turns);
             let below = links[register as usize].wrapping_sub(1);
             if below == register || below as usize >= links.len() {
                 return;
@@ -78,18 +94,104 @@ impl Relaxation {
         }
     }
 
-    // Raises a register by its parent, if it has one.
-    fn raise_by_parent(&mut self, constraints: &[Constraint], gains: Gains, register: u32)
+    /// Lets the registers that wait hand their values on: in one sweep over the list where many
+    /// wait, else one after the other, and those that they raise too, until as many had their turn
+    /// as there are. A register that is raised waits. Moore, "The shortest path through a maze",
+    /// 1959; with parents Cherkassky and Goldberg, "Negative-cycle detection algorithms", 1999. It
+    /// takes no memory.
+    pub fn take_turns(&mut self, constraints: &[Constraint], gains: Gains, turns: &mut Turns)
         requires entries { HasEntries constraints.now self.old }
-        requires register { register < length self.old.parents.items }
+        requires small { All (IsBelow (2 ^ 105)) self.old.values.items }
+        ensures raised { AreRaised constraints.now gains
+            (length self.old.parents.items * length constraints.now)
+            self.old.values.items self.new.values.items }
+        ensures parents { length self.new.parents.items ≡ length self.old.parents.items }
+    {
+        if turns.do_many_wait() {
+            self.hand_all_on(constraints, gains, turns)
+        } else {
+            self.hand_on_by_turns(constraints, gains, turns)
+        }
+    }
+
+    // Relaxes all constraints, in the order of the list.
+    fn hand_all_on(&mut self, constraints: &[Constraint], gains: Gains, turns: &mut Turns)
+        requires entries { HasEntries constraints.now self.old }
+        requires small { All (IsBelow (2 ^ 105)) self.old.values.items }
+        ensures raised { AreRaised constraints.now gains
+            (length self.old.parents.items * length constraints.now)
+            self.old.values.items self.new.values.items }
+        ensures parents { length self.new.parents.items ≡ length self.old.parents.items }
+    {
+        turns.clear();
+        for place in 0..constraints.len() {
+            self.relax_in_turn(constraints, gains, place, turns);
+        }
+    }
+
+    // Lets as many registers as there are hand their values on, one after the other, or all that
+    // wait where these are fewer.
+    fn hand_on_by_turns(&mut self, constraints: &[Constraint], gains: Gains, turns: &mut Turns)
+        requires entries { HasEntries constraints.now self.old }
+        requires small { All (IsBelow (2 ^ 105)) self.old.values.items }
+        ensures raised { AreRaised constraints.now gains
+            (length self.old.parents.items * length constraints.now)
+            self.old.values.items self.new.values.items }
+        ensures parents { length self.new.parents.items ≡ length self.old.parents.items }
+    {
+        for _turn in 0..self.parents.len() {
+            let Some(register) = turns.next() else {
+                return;
+            };
+            self.hand_on(constraints, gains, register, turns);
+        }
+    }
+
+    // Relaxes each constraint that leads from a register.
+    fn hand_on(
+        &mut self,
+        constraints: &[Constraint],
+        gains: Gains,
+        register: u32,
+        turns: &mut Turns,
+    )
+        requires entries { HasEntries constraints.now self.old }
+        requires small { All (IsBelow (2 ^ 114)) self.old.values.items }
+        ensures raised { AreRaised constraints.now gains (length constraints.now)
+            self.old.values.items self.new.values.items }
+        ensures parents { length self.new.parents.items ≡ length self.old.parents.items }
+    {
+        let mut mark = turns.last_from(register);
+        for _step in 0..constraints.len() {
+            if mark == 0 {
+                return;
+            }
+            let place = mark as usize - 1;
+            self.relax_in_turn(constraints, gains, place, turns);
+            mark = turns.before(place);
+        }
+    }
+
+    // Raises the head of the constraint at a place, if there is one that gives it more. The head
+    // waits then.
+    fn relax_in_turn(
+        &mut self,
+        constraints: &[Constraint],
+        gains: Gains,
+        place: usize,
+        turns: &mut Turns,
+    )
+        requires entries { HasEntries constraints.now self.old }
         requires small { All (IsBelow (2 ^ 115)) self.old.values.items }
         ensures raised { AreRaised constraints.now gains 1 self.old.values.items
             self.new.values.items }
         ensures parents { length self.new.parents.items ≡ length self.old.parents.items }
     {
-        let place = self.parents[register as usize] as usize;
-        if place < constraints.len() {
-            self.relax(constraints, place, gains);
+        if place >= constraints.len() {
+            return;
+        }
+        if let Some(head) = self.relax(constraints, place, gains) {
+            turns.let_wait(head);
         }
     }
 }

@@ -7,6 +7,10 @@ mod gains;
 mod policy;
 mod relaxation;
 mod satisfy;
+mod tails;
+mod turns;
 
 pub use gains::Gains;
 pub use relaxation::Relaxation;
+pub use tails::ByTail;
+pub use turns::Turns;

@@ -34,7 +34,8 @@ pub enum Margin {
 ///
 /// # Errors
 ///
-/// There is no memory for the lists, at most 28 bytes for each register.
+/// There is no memory for the lists, at most 36 bytes for each register and 4 for each
+/// constraint.
 pub fn greatest_margin(
     alloc: Global,
     registers: usize,

@@ -16,7 +16,7 @@ use std::alloc::Global;
 ///
 /// # Errors
 ///
-/// There is no memory for the lists, 24 bytes for each register.
+/// There is no memory for the lists, 32 bytes for each register and 4 for each constraint.
 pub(crate) fn sparing_schedule(
     alloc: Global,
     registers: usize,

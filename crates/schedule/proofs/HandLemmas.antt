@@ -10,7 +10,7 @@ use Rattle.schedule.specs.declared.reach.Reach.{Reach}
 use Rattle.cts_model.specs.declared.schedule.Lead.TheVariants.{Tight}
 use Rattle.cts_model.specs.timing.Schedules.{arrival_of}
 use Rattle.cts_model.specs.timing.Leads.{IsTight, IsTightLead, depth_of, lead_at}
-use Rattle.schedule.specs.Tails.{IsLastBefore}
+use Rattle.relaxation.specs.Tails.{IsLastBefore}
 use Rattle.schedule.specs.Reaching.{IsAdded, IsGiven, IsGrown, IsHanded, IsHandedBy, IsReachKept, IsReached, IsReaching}
 use Rattle.relaxation.proofs.RelaxLemmas.{nowhere}
 use Rattle.schedule.proofs.ReachLemmas.{IsReachKept-added, IsReaching-added, flag_here}

@@ -3,7 +3,6 @@ mod BoundLemmas
 mod PeriodLemmas
 mod RiseLemmas
 mod TightLemmas
-mod TailLemmas
 mod ReachLemmas
 mod HandLemmas
 mod LeadLemmas

@@ -11,7 +11,7 @@ use crate::gains::gains_of;
 use crate::raising::raise_in_turns;
 use cts_base::{Fraction, Listed, NoMemory};
 use cts_model::{Constraint, Schedule};
-use relaxation::{Gains, Relaxation};
+use relaxation::{Gains, Relaxation, Turns};
 use std::alloc::Global;
 
 /// The least arrivals that satisfy the constraints at a period in ticks. The list has an entry for
@@ -43,7 +43,7 @@ pub fn least_schedule_in(
 ///
 /// # Errors
 ///
-/// There is no memory for the lists, 24 bytes for each register.
+/// There is no memory for the lists, 32 bytes for each register and 4 for each constraint.
 pub fn least_schedule(
     alloc: Global,
     registers: usize,
@@ -72,7 +72,7 @@ pub fn least_schedule(
 ///
 /// # Errors
 ///
-/// There is no memory for the lists, 24 bytes for each register.
+/// There is no memory for the lists, 32 bytes for each register and 4 for each constraint.
 pub fn least_arrivals(
     alloc: Global,
     registers: usize,
@@ -88,7 +88,8 @@ pub fn least_arrivals(
     let list = constraints.as_slice();
     let mut relaxation = Relaxation::new(alloc, registers)?;
     let mut links = vec![in alloc; 0u32; registers]?;
-    raise_in_turns(&mut relaxation, list, gains, &mut links);
+    let mut turns = Turns::new(alloc, registers, list)?;
+    raise_in_turns(&mut relaxation, list, gains, &mut links, &mut turns);
     Ok(settled(relaxation, list, gains))
 }
 

@@ -5,7 +5,6 @@ mod gains;
 mod least;
 mod raising;
 mod reach;
-mod tails;
 mod tight;
 
 pub use least::{least_arrivals, least_schedule, least_schedule_in};

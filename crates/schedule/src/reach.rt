@@ -1,12 +1,12 @@
 ghost use Rattle.std.specs.Prelude.{◌≡◌, ◌<◌, ◌≤◌, ◌+◌, List, IfOk, OnOk, length, slice_index_or};
 ghost use Rattle.cts_base.specs.declared.fraction.Fraction.{Fraction};
 ghost use Rattle.cts_model.specs.declared.constraint.Constraint.{Constraint};
-ghost use Rattle.schedule.specs.Tails.{AreByTail};
+ghost use Rattle.relaxation.specs.Tails.{AreByTail};
 
-use crate::tails::ByTail;
 use crate::tight::{depth_of, is_tight};
 use cts_base::{Fraction, NoMemory};
 use cts_model::{Constraint, Lead};
+use relaxation::ByTail;
 use std::alloc::Global;
 
 /// The registers that tight constraints reach from those at 0.

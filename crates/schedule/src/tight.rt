@@ -7,9 +7,9 @@ ghost use Rattle.cts_model.specs.timing.Leads.{EachLead, IsTight, depth_of, lead
 
 use crate::gains::gains_of;
 use crate::reach::Reach;
-use crate::tails::ByTail;
 use cts_base::{Fraction, Listed, NoMemory};
 use cts_model::{Constraint, Lead, Schedule};
+use relaxation::ByTail;
 use std::alloc::Global;
 
 /// What shows of each register that its arrival in the least schedule can't be earlier. It takes

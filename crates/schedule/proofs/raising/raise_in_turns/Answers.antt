@@ -13,37 +13,41 @@ pub follow_parents-requires-clause-small : goal.follow_parents-requires-clause-s
 follow_parents-requires-clause-small c =
     small_ready c.loop-round.relaxation.values.items _ (omega arith) c.loop-round.invariant.0
 
-pub sweep-requires-clause-constraints : goal.sweep-requires-clause-constraints
-sweep-requires-clause-constraints c =
-    (CanRaise-raised c.follow_parents.ensures.raised c.loop-round.invariant.0).can.small
+pub take_turns-requires-clause-entries : goal.take_turns-requires-clause-entries
+take_turns-requires-clause-entries c = record {
+  small = (CanRaise-raised c.follow_parents.ensures.raised c.loop-round.invariant.0).can.small;
+  parents = omega (
+    arith,
+    c.follow_parents.ensures.parents,
+    c.loop-round.invariant.1,
+    c.follow_parents.ensures.raised.registers,
+  );
+}
 
-pub sweep-requires-clause-small : goal.sweep-requires-clause-small
-sweep-requires-clause-small c = small_ready c.follow_parents.new.self.values.items _ (omega arith)
-    (CanRaise-raised c.follow_parents.ensures.raised c.loop-round.invariant.0)
-
-pub returns-then-is_none-clause-ready : goal.returns-then-is_none-clause-ready
-returns-then-is_none-clause-ready c = CanRaise-raised c.sweep.ensures.raised
+pub take_turns-requires-clause-small : goal.take_turns-requires-clause-small
+take_turns-requires-clause-small c =
+    small_ready c.follow_parents.new.self.values.items _ (omega arith)
     (CanRaise-raised c.follow_parents.ensures.raised c.loop-round.invariant.0)
 
 pub loop-round-preserved : goal.loop-round-preserved
 loop-round-preserved c = (
-  CanRaise-raised c.sweep.ensures.raised
+  CanRaise-raised c.take_turns.ensures.raised
       (CanRaise-raised c.follow_parents.ensures.raised c.loop-round.invariant.0),
   omega (
     arith,
-    c.sweep.ensures.parents,
+    c.take_turns.ensures.parents,
     c.follow_parents.ensures.parents,
     c.loop-round.invariant.1,
-    c.sweep.ensures.raised.registers,
+    c.take_turns.ensures.raised.registers,
     c.follow_parents.ensures.raised.registers,
   ),
-  c.sweep.ensures.raised.registers ∙ c.follow_parents.ensures.raised.registers
+  c.take_turns.ensures.raised.registers ∙ c.follow_parents.ensures.raised.registers
       ∙ c.loop-round.invariant.2,
   omega (
     arith,
     c.follow_parents.ensures.links,
     c.follow_parents.ensures.parents,
-    c.sweep.ensures.parents,
+    c.take_turns.ensures.parents,
     c.loop-round.invariant.3,
   ),
 )

@@ -4,12 +4,12 @@ use Rattle.relaxation.proofs.RiseLemmas.{AreRaised-more, small_raised}
 use Rattle.relaxation.proofs.StepLemmas.{entries_kept}
 use Rattle.relaxation.proofs.relaxation.Relaxation.raise_down.Goals as goal
 
-pub raise_by_parent-requires-clause-entries : goal.raise_by_parent-requires-clause-entries
-raise_by_parent-requires-clause-entries c = entries_kept c.loop-step.invariant.1.registers
+pub relax_in_turn-requires-clause-entries : goal.relax_in_turn-requires-clause-entries
+relax_in_turn-requires-clause-entries c = entries_kept c.loop-step.invariant.1.registers
     c.loop-step.invariant.2 c.requires.entries
 
-pub raise_by_parent-requires-clause-small : goal.raise_by_parent-requires-clause-small
-raise_by_parent-requires-clause-small c =
+pub relax_in_turn-requires-clause-small : goal.relax_in_turn-requires-clause-small
+relax_in_turn-requires-clause-small c =
     small_raised (2 ^ 114) (2 ^ 115)
     (omega (
       arith,
@@ -21,11 +21,11 @@ raise_by_parent-requires-clause-small c =
 pub returns-then-below-register-clause-raised : goal.returns-then-below-register-clause-raised
 returns-then-below-register-clause-raised c =
     AreRaised-more (omega (arith, c.loop-step-test.true)) c.loop-step.invariant.1
-    c.raise_by_parent.ensures.raised
+    c.relax_in_turn.ensures.raised
 
 pub loop-step-preserved : goal.loop-step-preserved
 loop-step-preserved c = (
-  omega (arith, c.raise_by_parent.ensures.parents, c.loop-step.invariant.2),
-  AreRaised-more (omega arith) c.loop-step.invariant.1 c.raise_by_parent.ensures.raised,
-  omega (arith, c.raise_by_parent.ensures.parents, c.loop-step.invariant.2),
+  omega (arith, c.relax_in_turn.ensures.parents, c.loop-step.invariant.2),
+  AreRaised-more (omega arith) c.loop-step.invariant.1 c.relax_in_turn.ensures.raised,
+  omega (arith, c.relax_in_turn.ensures.parents, c.loop-step.invariant.2),
 )

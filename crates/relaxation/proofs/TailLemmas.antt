@@ -4,7 +4,7 @@ use Rattle.std.proofs.lemmas.Bool.{cases_eq}
 use Rattle.std.proofs.lemmas.List.{get_or_default, get_or_read, get_or-set_same, get_or-set_other, length-set}
 use Rattle.cts_model.specs.declared.constraint.Constraint.{Constraint}
 use Rattle.relaxation.proofs.RelaxLemmas.{nowhere}
-use Rattle.schedule.specs.Tails.{IsLastBefore, AreByTail}
+use Rattle.relaxation.specs.Tails.{IsLastBefore, AreByTail}
 
 -- the tail of the constraint at a place
 abbrev tail_of : List Constraint → ℕ → Constraint → ℕ

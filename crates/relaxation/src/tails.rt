@@ -1,6 +1,6 @@
 ghost use Rattle.std.specs.Prelude.{IfOk, length};
 ghost use Rattle.cts_model.specs.timing.Constraints.{AreSmallConstraints};
-ghost use Rattle.schedule.specs.Tails.{AreByTail};
+ghost use Rattle.relaxation.specs.Tails.{AreByTail};
 
 use cts_base::NoMemory;
 use cts_model::Constraint;
@@ -8,16 +8,20 @@ use std::alloc::Global;
 
 /// The constraints that lead from each register, from the last of a list to the first.
 #[derive(Drop)]
-pub(crate) struct ByTail {
+pub struct ByTail {
     /// For each register 1 more than the place of the last constraint that leads from it, or 0.
-    pub(crate) last: Vec<u32>,
+    pub last: Vec<u32>,
     /// For each constraint 1 more than the place of the one before it that has its tail, or 0.
-    pub(crate) before: Vec<u32>,
+    pub before: Vec<u32>,
 }
 
 impl ByTail {
     /// Goes over the constraints once.
-    pub(crate) fn of(
+    ///
+    /// # Errors
+    ///
+    /// There is no memory for the lists, 4 bytes for each register and each constraint.
+    pub fn of(
         alloc: Global,
         registers: usize,
         constraints: &[Constraint],

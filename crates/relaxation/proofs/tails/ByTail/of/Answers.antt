@@ -1,8 +1,8 @@
 use Rattle.std.proofs.Common.{subst, arith}
-use Rattle.schedule.specs.Tails.{AreByTail}
+use Rattle.relaxation.specs.Tails.{AreByTail}
 use Rattle.relaxation.proofs.RelaxLemmas.{nowhere}
-use Rattle.schedule.proofs.TailLemmas.{AreByTail-more}
-use Rattle.schedule.proofs.tails.ByTail.of.Goals as goal
+use Rattle.relaxation.proofs.TailLemmas.{AreByTail-more}
+use Rattle.relaxation.proofs.tails.ByTail.of.Goals as goal
 
 pub loop-place-preserved : goal.loop-place-preserved
 loop-place-preserved c =
