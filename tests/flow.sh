@@ -281,6 +281,14 @@ if has_toml; then
     holds 'the SDC of a mapped netlist' in_ns
     holds 'a register that it lacks' refuses "$work/odd.v: no register drives o[2]" odd "$work/unknown"
 fi
+# Checks under a condition, as an analyzer writes them for a register with a reset.
+cat >"$work/odd.sdf" <<'END'
+(DELAYFILE (TIMESCALE 1ns) (CELL (CELLTYPE "DFFSR") (INSTANCE _689_)
+  (DELAY (ABSOLUTE (IOPATH CLK Q (0.2::0.3) (0.25)) (IOPATH R Q () (0.0::0.0))))
+  (TIMINGCHECK (SETUP (COND S\&R (negedge D)) (COND S\&R (posedge CLK)) (0.1::0.2)))))
+END
+in_ticks() { "$flow/sdf_delays.py" "$work/odd.sdf" | diff - <(printf '%s\n' '_689_ Q CLK 200 300' '_689_ Q R 0 0'); }
+! has_toml || holds 'an SDF with a condition' in_ticks
 printf '%s\n' 'UCLA pl 1.0' '' '\u.r[1] 1 2 : N' 'fill 0 0' '_689_ 3 4 : N' 'CLK 0 9 : N /FIXED' >"$work/odd.pl"
 by_nets() {
     "$flow/placement_by_nets.py" "$work/odd.v" "$work/odd.pl" --pin CLK | diff - <(printf '%s\n' 'UCLA pl 1.0' \
@@ -380,7 +388,7 @@ mapped=$work/mapped
 map_logic() {
     yosys -q -p "read_verilog $top/examples/biquad.v; synth -flatten -top biquad
         dfflibmap -liberty $library; abc -liberty $library
-        splitnets w:\$*; opt_clean -purge; write_verilog -noattr $mapped.v"
+        opt_clean -purge; write_verilog -noattr -simple-lhs $mapped.v"
 }
 # By instances, as a placer has it, and by nets again.
 place_mapped() {
