@@ -2,11 +2,11 @@
 //
 //   g++ -O2 -std=c++17 -o baseline bench/baseline.cc
 //   baseline F.bench F.toml         prints what schedule prints, without the cycle
-//   baseline F.bench F.toml F.pl    prints the milliseconds of its phases, for bench/beside.py
+//   baseline F.bench F.toml F.pl    prints the processor time of its phases in ms, for bench/beside.py
 //
 // It takes files that cts accepts, without a host, and makes no tree. Sums are of 64 bits.
-#include <chrono>
 #include <cstdio>
+#include <ctime>
 #include <iostream>
 #include <numeric>
 
@@ -67,14 +67,13 @@ static std::string fraction(Time over, Time under) {
 
 int main(int count, char **words) {
     if (count < 3) return std::cerr << "usage: baseline F.bench F.toml [F.pl]\n", 2;
-    using Clock = std::chrono::steady_clock;
-    Clock::time_point begun = Clock::now(), last = begun;
+    // Processor time, which says the same on a busy machine.
+    std::clock_t begun = std::clock(), last = begun;
     std::string phases;
-    auto ended = [&](const char *name, Clock::time_point since) {
+    auto ended = [&](const char *name, std::clock_t since) {
         char text[64];
-        std::chrono::duration<double, std::milli> took = Clock::now() - since;
-        snprintf(text, sizeof text, "%s %.3f ", name, took.count());
-        phases += text, last = Clock::now();
+        snprintf(text, sizeof text, "%s %.3f ", name, 1000.0 * (std::clock() - since) / CLOCKS_PER_SEC);
+        phases += text, last = std::clock();
     };
     Circuit circuit;
     circuit.signals = read_netlist(read_file(words[1]));

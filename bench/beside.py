@@ -5,15 +5,16 @@ usage: bench/beside.py [--runs N] [--program FILE] OTHER NETLIST..
 
 NETLIST is a path without suffix: NETLIST.bench, NETLIST.toml and NETLIST.pl are read. Or it is KIND:REGISTERS, an input of
 bench/inputs.py, as local:1636. Where OTHER is run as `OTHER F.bench F.toml` it prints what `schedule` prints, but no cycle: the two
-have to be the same. For its times it is run as `OTHER F.bench F.toml F.pl`
-and prints the milliseconds of its phases as words and numbers: `parse 7.1 levels 2.0 pairs 9.4 cons 0.6 period 1.2 schedule 0.3
-slacks 0.1 places 1.5 greedy64 12.0 embed 0.1 total 34.3`. A command counts the phases that it needs, and what the process of OTHER
-takes beside its phases. Times are the least processor time of some runs in turn, memory is the most that a run held.
+have to be the same. For its times it is run as `OTHER F.bench F.toml F.pl` and prints the milliseconds of processor time of its
+phases as words and numbers: `parse 7.1 levels 2.0 pairs 9.4 cons 0.6 period 1.2 schedule 0.3 slacks 0.1 places 1.5 greedy64 12.0
+embed 0.1 total 34.3`. A command counts the phases that it needs, and what the process of OTHER takes beside its phases. Times are
+the least of some runs in turn, memory is the most that a run held.
 """
 import argparse
 import os
 import re
 import resource
+import shutil
 import subprocess
 import sys
 import tempfile
@@ -82,6 +83,8 @@ def main():
     words.add_argument("other")
     words.add_argument("netlists", nargs="+")
     given = words.parse_args()
+    if not shutil.which("time"):
+        sys.exit("bench: GNU time isn't there, which says what memory a run takes")
     print("| Netlist | " + " | ".join(f"`{command}`" for command in PHASES) + " | Memory of `synth` and beside |")
     print("|---" * (len(PHASES) + 2) + "|")
     with tempfile.TemporaryDirectory() as room:

@@ -10,7 +10,7 @@ GATES = {
     "AND": (16, 28, 1, 3), "NAND": (10, 18, 1, 3), "OR": (17, 30, 2, 4), "NOR": (11, 22, 2, 4),
     "NOT": (8, 14, 0, 0), "XOR": (24, 45, 3, 6), "XNOR": (25, 46, 3, 6), "BUFF": (12, 20, 0, 0),
 }
-# setup, hold, least, greatest
+# setup, hold, least, greatest, and the floor of the period where there is one
 REGISTER = (35, 20, 19, 60)
 # The times of a corner as multiples of those of the first.
 CORNERS = (1, 1.3, 1.7, 2.2)
@@ -70,12 +70,48 @@ def dense(registers):
     return lines, GATES | {"OR": (17, 30, 0, 0)}, REGISTER
 
 
-KINDS = {"local": local, "sparse": sparse, "ring": ring, "dense": dense}
+def full(registers):
+    """Banks of 256 registers, of which each reads each by 15 layers of gates: 4,096 registers are at every limit, with 65,536
+    signals, 262,144 inputs of gates and 1,048,576 pairs."""
+    chance = random.Random(f"full/{registers}")
+    lines, size = [], min(registers, 256)
+    for bank in range(registers // size):
+        below = [f"r{bank * size + number}" for number in range(size)]
+        ends = below
+        for layer in range(15):
+            above = [f"g{bank}_{layer}_{number}" for number in range(size)]
+            for number, name in enumerate(above):
+                # The fourth neighbour on, so that all are reached in a few layers.
+                reads = [below[(4 * number + place) % size] for place in range(4)]
+                reads += [chance.choice(below)] if layer < 4 else []
+                lines.append(f"{name} = {chance.choice(['AND', 'NAND', 'OR', 'NOR'])}({', '.join(reads)})")
+            below = above
+        lines += [f"{name} = DFF({read})" for name, read in zip(ends, below)]
+    return lines, GATES, REGISTER
+
+
+def decoys(registers):
+    """Each register reads each, and a chain of them in a random order raises one after the other by a tick, up to one that asks
+    each for one tick less. The period is the floor: the hard case of the search for one."""
+    chance, floor = random.Random(f"decoys/{registers}"), 100000
+    order = list(range(registers - 1))
+    chance.shuffle(order)
+    lines = ["INPUT(x)", f"r{registers - 1} = DFF(x)"] + [f"r{i} = DFF(g{i})" for i in order]
+    lines += [f"c0 = NAND(r{registers - 1})", f"s = NOT(r{registers - 1})", "e0 = OR(s)", "g0 = AND(c0, e0, all)"]
+    for i in range(1, registers - 1):
+        lines += [f"c{i} = BUFF(c{i - 1})", f"e{i} = NOR(r{i - 1})", f"g{i} = AND(c{i}, e{i}, all)"]
+    lines.append("all = XOR(" + ", ".join(f"r{i}" for i in order) + ")")
+    times = {"NAND": floor, "NOT": floor + 1, "NOR": floor + 2, "BUFF": 2, "OR": 0, "AND": 0, "XOR": floor // 2}
+    return lines, {kind: (time, time, 0, 0) for kind, time in times.items()}, (0, 0, 0, 0, floor)
+
+
+KINDS = {"local": local, "sparse": sparse, "ring": ring, "dense": dense, "full": full, "decoys": decoys}
 
 
 def table_lines(gates, register, wire="1/50"):
     lines = ["[wire]", f'delay = "{wire}"', "[source]", 'place = "CLK"', "[register]"]
     lines += [f"{key} = {value}" for key, value in zip(("setup", "hold", "least", "greatest"), register)]
+    lines += [f"[period]\nfloor = {floor}" for floor in register[4:]]
     for kind, row in gates.items():
         keys = ("least", "greatest", "least_per_input", "greatest_per_input")
         lines += [f"[gate.{kind}]"] + [f"{key} = {value}" for key, value in zip(keys, row)]

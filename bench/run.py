@@ -2,9 +2,10 @@
 """Times each command of the built program on inputs of given sizes and of twice those, and some commands beside another
 one on the same files, with their memory. Prints two tables.
 
-usage: bench/run.py [--runs N] [--registers N] [--program FILE] [COMMAND..]
+usage: bench/run.py [--runs N] [--registers N] [--program FILE] [--limits] [COMMAND..]
 
-Without COMMAND all are timed, and where they are installed berkeley-abc, which reads the same netlist, and OpenSTA,
+With --limits it times each command on inputs that are at the limits instead, with as many tables and moves as there may be, and
+prints the longest call first. Without COMMAND all are timed, and where they are installed berkeley-abc, which reads the same netlist, and OpenSTA,
 which finds its worst setup path. A time is the least processor time of some runs. Memory is what GNU time prints, where
 it is installed.
 """
@@ -37,6 +38,9 @@ COMMANDS = {
     "demo": (),
 }
 DEMO_REGISTERS = 500
+# Inputs at the limits on registers, signals, inputs of gates and pairs, or on pairs alone. `demo` takes at most 1000 registers.
+LIMITS = {"full": 4096, "decoys": 1000}
+TABLES = 16
 
 
 class Bar(NamedTuple):
@@ -107,15 +111,15 @@ def topology_of(report, path):
 class Input:
     """An input of a kind and a size, with what its commands need besides, made when it is asked for first."""
 
-    def __init__(self, kind, registers, room, program):
-        self.base, self.program = f"{room}/{kind}{registers}", program
+    def __init__(self, kind, registers, room, program, tables=len(inputs.CORNERS)):
+        self.base, self.program, self.tables = f"{room}/{kind}{registers}", program, tables
         inputs.make(kind, registers, self.base)
 
     def option(self, name):
         """An option with its value."""
         path = f"{self.base}.{name}"
         if name == "tables":
-            return [f"{self.base}.corner{number}.toml" for number, _ in enumerate(inputs.CORNERS, 1)]
+            return [f"{self.base}.corner{1 + number % len(inputs.CORNERS)}.toml" for number in range(self.tables)]
         if name == "period":
             # That of equal arrivals.
             timed(self.words("zero"), 1, path)
@@ -212,6 +216,22 @@ def time_sizes(given, commands, room):
         row("`demo`", f"its own, {DEMO_REGISTERS}", *(timed(demo, given.runs, out) for demo in demos))
 
 
+def time_limits(given, commands, room):
+    """The table of calls at the limits, the longest first."""
+    ones = {kind: Input(kind, size, room, given.program, TABLES) for kind, size in LIMITS.items()}
+    calls = [(name, f"{kind}, {LIMITS[kind]}", ones[kind].words(name)) for name in commands if name != "demo" for kind in LIMITS]
+    if "demo" in commands:
+        calls.append(("demo", "its own, 1000", [given.program, "demo", "--registers", "1000", "--seed", "1"]))
+    rows = []
+    for name, kind, words in calls:
+        time, memory = timed(words, given.runs, room + "/out") / 1000, ""
+        if shutil.which("time"):
+            memory = f"{peak(words, room + '/out'):.0f} MB"
+        rows.append((time, f"| `{name}` | {kind} | {time:.2f} s | {memory} |"))
+    print("| What | Input, registers | Time | Memory |\n|---|---|---|---|")
+    print(*(line for _, line in sorted(rows, reverse=True)), sep="\n")
+
+
 def time_bars(given, commands, room):
     """The table of commands beside others."""
     print("\n| What | Input, registers | It takes | Beside | It takes | Ratio | At most |")
@@ -226,12 +246,16 @@ def main():
     words.add_argument("--runs", type=int, default=5)
     words.add_argument("--registers", type=int, help="the smaller size, for every kind")
     words.add_argument("--program", default=TOP + "/crates/cts_program/out/cts_program")
+    words.add_argument("--limits", action="store_true", help="time the calls at the limits instead")
     words.add_argument("commands", nargs="*", metavar="COMMAND", help=", ".join(COMMANDS))
     given = words.parse_args()
     commands = given.commands or list(COMMANDS)
     if not os.access(given.program, os.X_OK):
         sys.exit("bench: no built program: ./cts build makes it")
     with tempfile.TemporaryDirectory() as room:
+        if given.limits:
+            time_limits(given, commands, room)
+            return
         time_sizes(given, commands, room)
         time_bars(given, commands, room)
 

@@ -464,7 +464,7 @@ no proved program is newer than its sources; ./cts build makes one' '' env GIT_D
 # Each script says what it does, and does nothing else.
 scripts() {
     local script
-    for script in "$top"/tests/*.{sh,py} "$top"/examples/flow/*.{sh,py} "$top"/bench/{run,beside}.py; do
+    for script in "$top"/tests/*.{sh,py} "$top"/examples/flow/*.{sh,py} "$top"/bench/{run,beside,page,gate}.py; do
         PATH=$work/fake:$PATH timeout 10 "$script" --help >"$work/help" </dev/null && [ -s "$work/help" ] || echo "$script"
     done
 }

@@ -1,11 +1,11 @@
 #!/usr/bin/env python3
 """Prints a report as a drawing, in SVG.
 
-Squares are registers, dots merges, the triangle the source. Wires are drawn as the report has them:
-black, or orange where one is longer than the way between its ends, so that it delays the clock.
-Arrows are the critical cycle: a red one a path whose setup limits the period, from where it is
-launched to where it is captured, a blue one a hold, from where it is captured. Below stands a bar
-for each arrival, in the order of the registers. Each mark has its name as a title.
+Wires are drawn as the report has them, in orange where one is longer than the way between its ends,
+so that it delays the clock. What lies outside of all registers, merges and the source is drawn to a
+smaller scale. Arrows are the critical cycle: a red one a path whose setup limits the period, from
+where it is launched to where it is captured, a blue one a hold, from where it is captured. Below
+stands a bar for each arrival, in the order of the registers. Each mark has its name as a title.
 """
 import argparse
 from fractions import Fraction
@@ -14,14 +14,19 @@ from xml.sax.saxutils import escape, quoteattr
 
 from bench_to_verilog import lines_of
 
-SIDE, MARGIN, BARS = 800, 20, 160
-STYLE = """
+SIDE, MARGIN, BAND, BARS, LINE = 800, 20, 80, 140, 20
+STYLE = """<style>
   polyline { fill: none; stroke: black } .detour { stroke: darkorange; stroke-width: 2 }
-  .cycle { stroke-width: 2; marker-end: url(#tip) } .setup { stroke: red } .hold { stroke: blue }
+  .cycle { fill: none; stroke-width: 2 } .setup { stroke: red; marker-end: url(#red) }
+  .hold { stroke: blue; marker-end: url(#blue) } text { font: 14px sans-serif }
   .register, .bar { fill: seagreen } .merge { fill: gray } .source { fill: purple }
-"""
-TIP = """<defs><marker id="tip" viewBox="0 0 8 8" refX="8" refY="4" markerWidth="6"
-  markerHeight="6" orient="auto"><path d="M0,0 L8,4 L0,8 z"/></marker></defs>"""
+</style><rect width="100%" height="100%" fill="white"/>"""
+TIP = """<marker id="{0}" viewBox="0 0 8 8" refX="8" refY="4" markerWidth="6" markerHeight="6"
+  orient="auto"><path d="M0,0 L8,4 L0,8 z" fill="{0}"/></marker>"""
+LEGEND = " \u00a0 ".join(f'<tspan fill="{color}">{text}</tspan>' for color, text in (
+    ("seagreen", "\u25a0 register"), ("gray", "\u25cf merge"), ("purple", "\u25b2 source"),
+    ("black", "\u2014 wire"), ("darkorange", "\u2014 with a detour"), ("red", "\u2192 setup"),
+    ("blue", "\u2192 hold")))
 
 
 class Report:
@@ -33,84 +38,94 @@ class Report:
             if len(words) == 2 and words[0] in ("cycle", "registers", "merges", "nodes"):
                 # In version 2 each constraint of a cycle has a line with its path behind it.
                 paths = words[0] == "cycle" and "2" in parts.get("cts", [])
-                count = int(words[1]) * (2 if paths else 1)
-                parts[words[0]] = list(islice(lines, count))
+                parts[words[0]] = list(islice(lines, int(words[1]) * (1 + paths)))
             else:
                 parts.setdefault(words[0] if words else "", words)
         if not {"cts", "registers", "merges", "nodes"} <= parts.keys():
             raise SystemExit(f"{path}: not a report, as synth prints it")
-        cycle = parts.get("cycle", [])
-        self.cycle = [words for words in cycle if words[0] in ("setup", "hold")]
+        self.cycle = [words for words in parts.get("cycle", []) if words[0] != "path"]
         self.registers = [(words[0], Fraction(words[1])) for words in parts["registers"]]
+        self.title = f"period {parts['period'][1]}, wire {parts['wire'][1]}"
         self.places, self.lengths, self.wires = [], [], []
-        for words in parts["nodes"]:
-            numbers = [float(Fraction(word)) for word in words[1:]]
-            self.places.append(tuple(numbers[:2]))
-            self.lengths.append(Fraction(words[3]))
-            ends = [Fraction(word) for word in words[5:7] + words[-2:]]
-            self.wires.append((numbers[4:], abs(ends[0] - ends[2]) + abs(ends[1] - ends[3])))
+        for numbers in ([Fraction(word) for word in words[1:]] for words in parts["nodes"]):
+            self.places.append(numbers[:2])
+            self.lengths.append(numbers[2])
+            self.wires.append(list(zip(numbers[4::2], numbers[5::2])))
 
 
 class Drawing:
     """Places of a report on the sheet, where y goes down."""
 
     def __init__(self, report):
-        points = [number for wire, _ in report.wires for number in wire]
-        self.left, self.top = min(points[::2]), max(points[1::2])
-        width, height = max(points[::2]) - self.left, self.top - min(points[1::2])
-        self.scale = SIDE / (max(width, height) or 1)
+        self.box = [(min(line), max(line)) for line in zip(*report.places, report.wires[-1][0])]
+        points = (point for wire in report.wires for point in wire)
+        ends = [(min(line), max(line)) for line in zip(*points)]
+        far = max(abs(end - edge) for pair in zip(self.box, ends) for edge, end in zip(*pair))
+        self.scale = (SIDE - 2 * BAND) / (max(high - low for low, high in self.box) or 1)
+        self.outside = min(self.scale, BAND / far) if far > 0 else 0
+        self.bottom = self.along(1, self.box[1][1]) + BAND + 3 * LINE
+        self.bar = min(60, SIDE / len(report.registers))
+        self.is_named = all(9 * len(name) <= self.bar for name, _ in report.registers)
+
+    def along(self, axis, value):
+        low, high = self.box[axis]
+        inside = min(max(value, low), high)
+        return float(MARGIN + BAND + (inside - low) * self.scale + (value - inside) * self.outside)
 
     def at(self, x, y):
-        return (round(MARGIN + (x - self.left) * self.scale, 2),
-                round(MARGIN + (self.top - y) * self.scale, 2))
+        return round(self.along(0, x), 2), round(self.bottom + MARGIN - self.along(1, y), 2)
 
 
-def titled(shape, kind, attributes, title):
-    values = " ".join(f'{key}="{value}"' for key, value in attributes.items())
-    print(f'<{shape} class={quoteattr(kind)} {values}><title>{escape(title)}</title></{shape}>')
+def titled(shape, kind, title, **values):
+    values = " ".join(f'{key}="{value}"' for key, value in values.items())
+    print(f"<{shape} class={quoteattr(kind)} {values}><title>{escape(title)}</title></{shape}>")
+
+
+def write(x, y, text):
+    print(f'<text x="{x}" y="{y}">{text}</text>')
 
 
 def draw_tree(report, drawing):
-    count = len(report.registers)
-    for node, (wire, distance) in enumerate(report.wires):
-        points = [drawing.at(*point) for point in zip(wire[::2], wire[1::2])]
-        length = report.lengths[node]
-        kind = "detour" if length > distance else "wire"
-        text = " ".join(f"{x},{y}" for x, y in points)
+    for node, (wire, length) in enumerate(zip(report.wires, report.lengths)):
+        distance = sum(abs(one - other) for one, other in zip(wire[0], wire[-1]))
         title = f"node {node}: {length}, of which {distance} is needed"
-        titled("polyline", kind, {"points": text}, title)
+        points = " ".join("{},{}".format(*drawing.at(*point)) for point in wire)
+        titled("polyline", "detour" if length > distance else "wire", title, points=points)
+    side = min(8, 160 / len(report.registers) ** 0.5)
     for node, place in enumerate(report.places):
         x, y = drawing.at(*place)
-        if node < count:
-            name, arrival = report.registers[node]
-            box = {"x": x - 4, "y": y - 4, "width": 8, "height": 8}
-            titled("rect", "register", box, f"{name} at {arrival}")
-        else:
-            titled("circle", "merge", {"cx": x, "cy": y, "r": 3}, f"node {node}")
-    x, y = drawing.at(*report.wires[-1][0][:2])
-    corners = f"{x},{y - 8} {x - 7},{y + 5} {x + 7},{y + 5}"
-    titled("polygon", "source", {"points": corners}, "source")
+        if node >= len(report.registers):
+            titled("circle", "merge", f"node {node}", cx=x, cy=y, r=side * 3 / 8)
+            continue
+        name, arrival = report.registers[node]
+        box = {"x": x - side / 2, "y": y - side / 2, "width": side, "height": side}
+        titled("rect", "register", f"{name} at {arrival}", **box)
+        if drawing.is_named:
+            write(x + 6, y - 6, escape(name))
+    x, y = drawing.at(*report.wires[-1][0])
+    titled("polygon", "source", "source", points=f"{x},{y - 8} {x - 7},{y + 5} {x + 7},{y + 5}")
 
 
 def draw_cycle(report, drawing):
     numbers = {name: number for number, (name, _) in enumerate(report.registers)}
-    for kind, launching, capturing, weight in report.cycle:
-        ends = [numbers[launching], numbers[capturing]]
-        if kind == "hold":
-            ends.reverse()
-        (x1, y1), (x2, y2) = (drawing.at(*report.places[node]) for node in ends)
-        line = {"x1": x1, "y1": y1, "x2": x2, "y2": y2}
-        titled("line", f"cycle {kind}", line, f"{kind} {launching} {capturing} {weight}")
+    for kind, *names, weight in report.cycle:
+        ends = [drawing.at(*report.places[numbers[name]]) for name in names]
+        (x, y), end = ends if kind == "setup" else ends[::-1]
+        way = "L{},{}".format(*end) if end != (x, y) else "c-40,-40 -40,40 0,0"
+        titled("path", f"cycle {kind}", " ".join([kind, *names, weight]), d=f"M{x},{y} {way}")
 
 
-def draw_arrivals(report):
-    most = max(arrival for _, arrival in report.registers) or 1
-    width = SIDE / len(report.registers)
+def draw_arrivals(report, drawing, bottom):
+    times = [arrival for _, arrival in report.registers]
+    least, most = min([0, *times]), max(times)
+    write(MARGIN, bottom - BARS - 8, f"arrivals, the last at {most}")
     for number, (name, arrival) in enumerate(report.registers):
-        height = round(float(arrival / most) * (BARS - MARGIN), 2)
-        bar = {"x": round(MARGIN + number * width, 2), "y": SIDE + MARGIN + BARS - height,
-               "width": round(width * 0.9, 2), "height": height}
-        titled("rect", "bar", bar, f"{name} at {arrival}")
+        left = round(MARGIN + number * drawing.bar, 2)
+        height = round(float(BARS * (arrival - least) / (most - least or 1)), 2)
+        box = {"x": left, "y": bottom - height, "width": drawing.bar * 0.8, "height": height}
+        titled("rect", "bar", f"{name} at {arrival}", **box)
+        if drawing.is_named:
+            write(left, bottom + LINE - 4, escape(name))
 
 
 def main():
@@ -118,12 +133,15 @@ def main():
     parser.add_argument("report", metavar="REPORT.cts")
     report = Report(parser.parse_args().report)
     drawing = Drawing(report)
-    size = f'width="{SIDE + 2 * MARGIN}" height="{SIDE + BARS + 2 * MARGIN}"'
-    print(f'<svg xmlns="http://www.w3.org/2000/svg" {size}>\n<style>{STYLE}</style>')
-    print(TIP)
+    bottom = drawing.bottom + BARS + 3 * LINE
+    size = f'width="{SIDE + 2 * MARGIN}" height="{bottom + 2 * LINE}"'
+    print(f'<svg xmlns="http://www.w3.org/2000/svg" {size}>{STYLE}')
+    print(TIP.format("red"), TIP.format("blue"))
+    write(MARGIN, 24, report.title)
+    write(MARGIN, 24 + LINE, LEGEND)
     draw_tree(report, drawing)
     draw_cycle(report, drawing)
-    draw_arrivals(report)
+    draw_arrivals(report, drawing, bottom)
     print("</svg>")
 
 

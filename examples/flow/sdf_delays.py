@@ -39,8 +39,10 @@ def lists(node, name):
 
 
 def edgeless(pin):
-    """A pin without its edge and without marks before the signs of its name."""
-    return (pin[-1] if isinstance(pin, list) else pin).replace("\\", "")
+    """A pin without its condition, its edge and the marks before the signs of its name."""
+    while isinstance(pin, list):
+        pin = pin[-1]
+    return pin.replace("\\", "")
 
 
 class Delays:

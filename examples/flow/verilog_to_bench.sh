@@ -13,6 +13,10 @@ while [ $# -gt 2 ]; do
     case $1 in
         -sv) language=-sv ;;
         --tie)
+            if ! [[ $2 =~ ^[^=]+=[01]$ ]]; then
+                echo "verilog_to_bench.sh: --tie takes INPUT=0 or INPUT=1, and not $2" >&2
+                exit 1
+            fi
             ties+="delete -input w:${2%=*}; connect -set ${2%=*} 1'b${2#*=}; "
             shift
             ;;
@@ -36,6 +40,7 @@ cd "$work"
 if ! yosys -q -p "
     read_verilog $language $files
     hierarchy -top $top
+    proc
     cd $top; $ties cd ..
     synth -flatten -noabc -top $top
     setattr -unset init w:*
@@ -45,6 +50,9 @@ if ! yosys -q -p "
     opt_clean -purge
     write_blif logic.blif" >yosys.log 2>&1; then
     grep -m 1 ERROR yosys.log >&2 || cat yosys.log >&2
+    if grep -q 'async set or reset' yosys.log; then
+        echo "verilog_to_bench.sh: --tie INPUT=BIT holds the reset at the value at which it isn't active" >&2
+    fi
     exit 1
 fi
 
