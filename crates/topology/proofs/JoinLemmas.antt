@@ -1,13 +1,11 @@
 -- Which clusters there are, as sinks are added and pairs are merged.
-use Rattle.std.proofs.Common.{◌≡◌, ◌≢◌, ◌⊎◌, ℕ, ◌<◌, ◌≤◌, ◌+◌, List, [], ◌∷◌, ◌++◌, length, length-append, add-zero, get_or, take, Option, Some, None, pos, ◌≤ℤ◌, inl, inr, refl, sym, ap, subst, ◌∙◌, arith}
-use Rattle.std.specs.Option.{IsNone, IsSome}
+use Rattle.std.proofs.Common.{◌≡◌, ◌≢◌, ◌⊎◌, ℕ, ◌<◌, ◌≤◌, ◌+◌, List, [], ◌∷◌, ◌++◌, length, length-append, add-zero, get_or, take, Option, Some, None, inl, inr, refl, sym, ap, subst, ◌∙◌, arith}
+use Rattle.std.specs.Option.{IsNone, IsSome, option_to_list}
 use Rattle.std.specs.List.{All, slice_get}
 use Rattle.std.specs.List.Sorted.{IsPermutation}
-use Rattle.std.proofs.lemmas.Bool.{cases_eq, cases_lt, lt-ltb, le-ltb}
-use Rattle.std.proofs.lemmas.Int.{ints}
+use Rattle.std.proofs.lemmas.Bool.{cases_eq, le-ltb}
 use Rattle.std.proofs.lemmas.List.{take-append-le}
-use Rattle.std.proofs.lemmas.List.Elements.{All-append, All-cons, All-nil, Contains-append_right}
-use Rattle.std.proofs.lemmas.List.Sorted.{Contains-permutation}
+use Rattle.std.proofs.lemmas.List.Elements.{All-append, All-cons, All-nil}
 use Rattle.std.proofs.lemmas.Option.{slice_get-get_or}
 use Rattle.std.proofs.Math.ListN.{get_or-append}
 use Rattle.std.proofs.Math.Seq.{get_or-append_seam, take-append_seam}
@@ -22,13 +20,12 @@ use Rattle.cts_model.specs.tree.Regions.{IsUnion}
 use Rattle.tilted_rect.proofs.ExtremeLemmas.{append_is_union}
 use Rattle.topology.specs.declared.live.Live.{Live}
 use Rattle.topology.specs.declared.pair.Pair.{Pair}
-use Rattle.topology.specs.declared.waiting.Waiting.{Waiting}
-use Rattle.topology.specs.Pairs.{IsBefore, merge_of}
-use Rattle.topology.specs.LiveClusters.{HasCluster, IsPair, IsCheapestPair, IsAdded, IsJoined, IsLeft, IsCovered, AreCovered, AreKept, AreLive, AreWaiting, WereCheapest, AreFirstSinks, AreFirstCovered, IsUnjoined, cluster_of, owner_of}
-use Rattle.topology.proofs.EntryLemmas.{has_unjoined, node_within, one_cluster, unjoined_there}
+use Rattle.topology.specs.Pairs.{merge_of}
+use Rattle.topology.specs.LiveClusters.{HasCluster, IsPair, IsCheapestPair, IsAdded, IsJoined, IsLeft, IsMerging, IsNearest, AreCovered, AreKept, AreLive, WereCheapest, AreFirstSinks, IsUnjoined, cluster_of, owner_of}
+use Rattle.topology.proofs.CoverLemmas.{search_next}
+use Rattle.topology.proofs.EntryLemmas.{has_unjoined, node_within, one_cluster, place_there, unjoined_there}
 use Rattle.topology.proofs.ListLemmas.{pushed_cases}
 use Rattle.topology.proofs.MergeLemmas.{cheapest_is, node_live}
-use Rattle.topology.proofs.NearLemmas.{cost_least}
 
 -- ---- the sinks one by one
 
@@ -37,7 +34,7 @@ pub sink_added : (sinks : List Sink) (register : ℕ) (sink : Sink) (old new : L
     → AreFirstSinks sinks register old → IsAdded old new cluster
     → AreFirstSinks sinks (register + 1) new
 sink_added sinks register sink old new cluster here alone held added = record {
-  sinks_is = added.sinks ∙ held.sinks_is;
+  early = ap (λ n. n + 1) added.early ∙ held.early;
   ordered = added.ordered;
   count = omega (arith, added.count, held.count);
   clusters = λ node found has. elim (cases_eq node (length old.keys)) [
@@ -60,7 +57,6 @@ sink_added sinks register sink old new cluster here alone held added = record {
 pub sinks_live : (sinks : List Sink) (register : ℕ) (live : Live) → register ≡ length sinks
     → AreFirstSinks sinks register live → AreLive sinks [] live
 sinks_live sinks register live all held = record {
-  sinks_is = held.sinks_is;
   ordered = held.ordered;
   count = held.count ∙ all ∙ sym (add-zero (length sinks));
   clusters = held.clusters;
@@ -146,7 +142,7 @@ joins old middle last new pair one other both ordered first left second also_lef
       first = first;
       second = second_was;
       joined = joined;
-      sinks = added.sinks ∙ also_left.sinks ∙ left.sinks;
+      early = added.early ∙ also_left.early ∙ left.early;
       count = omega (arith, added.count, counts);
       left = omega (arith, added.left, also_left.left, left.left);
       made = ap (cluster_of new) (sym counts) ∙ added.made;
@@ -172,7 +168,7 @@ joins old middle last new pair one other both ordered first left second also_lef
 module _ {sinks : List Sink} {merges : List Merge} {old new : Live} {pair : Pair}
     (held : AreLive sinks merges old) (joined : IsJoined old new pair) where
   -- a cluster after the merge is that of the node made, or was there and isn't one of the two
-  still_cases : (node : ℕ) (cluster : Cluster) → HasCluster new node cluster
+  pub still_cases : (node : ℕ) (cluster : Cluster) → HasCluster new node cluster
       → ((node ≡ length old.keys) × (joined.both ≡ cluster))
       ⊎ (HasCluster old node cluster × (node ≢ pair.first) × (node ≢ pair.second))
   still_cases node cluster has = elim (cases_eq node (length old.keys)) [
@@ -226,7 +222,6 @@ module _ {sinks : List Sink} {merges : List Merge} {old new : Live} {pair : Pair
     pub merged_live : EachMerge (length sinks) merges
         → AreLive sinks (merges ++ merge_of pair ∷ []) new
     merged_live each = record {
-      sinks_is = joined.sinks ∙ held.sinks_is;
       ordered = joined.ordered;
       count = omega (arith, joined.count, held.count, length-append merges (merge_of pair ∷ []));
       clusters = λ node cluster has. elim (still_cases node cluster has) [
@@ -266,132 +261,40 @@ module _ {sinks : List Sink} {merges : List Merge} {old new : Live} {pair : Pair
       left = omega (arith, joined.left, held.left, length-append merges (merge_of pair ∷ []));
     }
 
-    -- pairs stay covered, as the node made waits
-    pub joined_covers : (from : ℕ) (kept : List Pair) → from ≤ length old.keys
-        → length sinks ≤ from → AreCovered old from kept → AreCovered new from kept
-    joined_covers from kept within past covered = λ other is below. elim (pair_was other is) [
+    -- pairs of the nodes that were there stay covered
+    pub joined_covers : (kept : List Pair) → AreKept old kept
+        → AreCovered new (length old.keys) kept
+    joined_covers kept was_kept = λ other is below. elim (pair_was other is) [
       | inl last ↦ absurd (omega (
         arith,
-        behind new.sinks other (omega (arith, last, within, past, joined.sinks, held.sinks_is)),
+        behind new.early other (omega (arith, last, joined.early, was_kept.early)),
         below,
         last,
-        within,
       ))
       | inr was ↦
-          let found = covered other was
-          (subst (λ n. owner_of n other < from) joined.sinks below) in
+          let found = was_kept.covered other was
+          (subst (λ n. owner_of n other < length old.keys) joined.early below) in
           record {
             least = found.least;
             among = found.among;
-            owner = subst (λ n. owner_of n found.least ≡ owner_of n other) (sym joined.sinks)
+            owner = subst (λ n. owner_of n found.least ≡ owner_of n other) (sym joined.early)
                 found.owner;
             at_most = found.at_most;
           }
     ]
       where
-        behind : (sinks : ℕ) (pair : Pair) → sinks ≤ pair.second → owner_of sinks pair ≡ pair.second
-        behind sinks pair from = rw (le-ltb pair.second sinks from) refl
-
-    -- and so does that node with those that wait
-    pub joined_waits : (waiting : Waiting) → AreWaiting old waiting → AreWaiting new waiting
-    joined_waits waiting waits = record {
-      made = omega (arith, waits.made, joined.sinks);
-      within = omega (arith, waits.within, joined.count);
-      lowest = λ node unjoined.
-          let (cluster, has) = unjoined_there new node unjoined in
-          elim (still_cases node cluster has) [
-            | inl (last, _) ↦ omega (
-              arith,
-              last,
-              waits.lowest pair.first (has_unjoined old pair.first is_pair.one is_pair.first),
-              node_within old pair.first is_pair.one is_pair.first,
-            )
-            | inr (was, _, _) ↦ waits.lowest node (has_unjoined old node cluster was)
-          ];
-    }
-
--- ---- before the first merge
-
--- the pairs of so many of the first sinks are covered by a lower bound
-pub first_covered : (sinks register : ℕ) (kept next : List Pair) (bound : Pair)
-    → bound.cost ≡ pos 0 → bound.first + 1 ≡ register → bound.second ≡ register
-    → IsPermutation (bound ∷ kept) next → AreFirstCovered sinks register kept
-    → AreFirstCovered sinks (register + 1) next
-first_covered sinks register kept next bound cost first second moved covered = λ pair below ordered
-    within least. elim (cases_lt (pair.first + 1) register) [
-      | inl before ↦
-          let found = covered pair before ordered within least in
-          record {
-            least = found.least;
-            among = Contains-permutation (bound ∷ kept) next found.least moved
-                (Contains-append_right (bound ∷ []) kept found.least found.among);
-            owner = found.owner;
-            at_most = found.at_most;
-          }
-      | inr from ↦ record {
-        least = bound;
-        among = Contains-permutation (bound ∷ kept) next bound moved (0, omega arith, refl);
-        owner = ahead bound (omega (arith, first, second, below, ordered, within, from))
-            ∙ omega (arith, first, below, from) ∙ sym (ahead pair within);
-        at_most = λ before. not_before pair before (omega (arith, first, below, from))
-            (omega (arith, first, second, below, from, ordered)) (sym cost) least;
-      }
-    ]
-  where
-    ahead : (pair : Pair) → pair.second < sinks → owner_of sinks pair ≡ pair.first
-    ahead pair within = rw (lt-ltb pair.second sinks within) refl
-
-    not_before : (pair : Pair) → IsBefore pair bound → bound.first ≡ pair.first
-        → bound.second ≤ pair.second → pos 0 ≡ bound.cost → pos 0 ≤ℤ pair.cost → ⊥
-    not_before pair before first second cost least = elim before [
-      | inl less ↦ omega (arith, ints, less, cost, least)
-      | inr (_, lower) ↦ elim lower [
-        | inl below ↦ omega (arith, below, first)
-        | inr (_, below) ↦ omega (arith, below, second)
-      ]
-    ]
-
-pub all_covered : (sinks : List Sink) (live : Live) (from : ℕ) (kept : List Pair)
-    → AreLive sinks [] live → AreFirstCovered (length sinks) (length sinks) kept
-    → AreCovered live from kept
-all_covered sinks live from kept held covered = λ pair is below.
-    let within : pair.second < length sinks = omega
-    (arith, (node_live held pair.second is.other is.second).made) in
-    subst (λ n. IsCovered n kept pair) (sym held.sinks_is)
-    (covered pair (omega (arith, is.ordered, within)) is.ordered within
-    (subst (λ z. pos 0 ≤ℤ z) (sym is.cost) (cost_least is.one is.other)))
+        behind : (early : ℕ) (pair : Pair) → early ≤ pair.second → owner_of early pair ≡ pair.second
+        behind early pair from = rw (le-ltb pair.second early from) refl
 
 -- ---- the merges one by one
 
--- all is right after so many merges
-pub record IsMerging (sinks : List Sink) (merges : List Merge) (clusters : Live)
-    (waiting : Waiting) (kept : List Pair) : Type 0 where
-  pub live : AreLive sinks merges clusters
-  pub cheapest : WereCheapest sinks merges
-  pub pairs : AreKept clusters waiting kept
-
--- before the first
-pub merging_starts : (sinks : List Sink) (merges : List Merge) (live : Live) (waiting : Waiting)
-    (kept : List Pair) → merges ≡ [] → AreLive sinks [] live → waiting.from ≡ length sinks
-    → waiting.lowest ≡ 0 → AreFirstCovered (length sinks) (length sinks) kept
-    → IsMerging sinks merges live waiting kept × (1 ≡ length merges + 1)
-merging_starts sinks merges live waiting kept none held from lowest covered =
-    subst (λ xs. IsMerging sinks xs live waiting kept × (1 ≡ length xs + 1)) (sym none) (
-      record {
-        live = held;
-        cheapest = λ place merge here. absurd (cc);
-        pairs = record {
-          ordered = held.ordered;
-          waits = record {
-            made = omega (arith, from, held.sinks_is);
-            within = omega (arith, from, held.count);
-            lowest = λ node unjoined. omega (arith, lowest);
-          };
-          covered = all_covered sinks live waiting.from kept held covered;
-        };
-      },
-      omega arith,
-    )
+-- while a cluster is left not all merges are made
+pub some_left : (sinks : List Sink) (merges : List Merge) (live : Live) (node : ℕ)
+    (cluster : Cluster) → AreLive sinks merges live → HasCluster live node cluster
+    → length merges < length sinks
+some_left sinks merges live node cluster held has =
+    let (place, within, _) = place_there live node cluster held.ordered has in
+    omega (arith, within, held.left)
 
 -- one merge more
 pub were_cheapest : (sinks : List Sink) (merges : List Merge) (merge : Merge)
@@ -409,23 +312,30 @@ were_cheapest sinks merges merge held cheapest = λ place next here.
     ]
 
 pub merging_next : (sinks : List Sink) (merges : List Merge) (old new : Live)
-    (before waiting : Waiting) (kept chosen : List Pair) (pair : Pair)
-    → IsMerging sinks merges old before kept → AreKept old waiting chosen
-    → IsCheapestPair old pair → IsJoined old new pair
-    → IsMerging sinks (merges ++ merge_of pair ∷ []) new waiting chosen
-merging_next sinks merges old new before waiting kept chosen pair held now cheapest
-    joined = record {
-      live = merged_live held.live joined cheapest.pair
-          (λ place merge here. (held.cheapest place merge here).merges);
+    (before chosen kept : List Pair) (pair : Pair) (found : Option Pair)
+    → IsMerging sinks merges old before → AreKept old chosen → IsCheapestPair old pair
+    → IsJoined old new pair → IsNearest new (length old.keys) found
+    → IsPermutation (option_to_list found ++ chosen) kept
+    → IsMerging sinks (merges ++ merge_of pair ∷ []) new kept
+merging_next sinks merges old new before chosen kept pair found held now cheapest joined nearest
+    moved = record {
+      live = live;
+      rest = some_left sinks (merges ++ merge_of pair ∷ []) new (length old.keys) joined.both live
+          joined.made;
       cheapest = were_cheapest sinks merges (merge_of pair) held.cheapest
           (cheapest_is held.live pair cheapest);
       pairs = record {
         ordered = joined.ordered;
-        waits = joined_waits held.live joined cheapest.pair waiting now.waits;
-        covered = joined_covers held.live joined cheapest.pair waiting.from chosen
-            now.waits.within (omega (arith, now.waits.made, held.live.sinks_is)) now.covered;
+        early = omega (arith, joined.early, joined.count, now.early);
+        covered = subst (λ n. AreCovered new n kept) (sym joined.count)
+            (search_next new (length old.keys) chosen kept found
+            (joined_covers held.live joined cheapest.pair chosen now) nearest moved);
       };
     }
+  where
+    live : AreLive sinks (merges ++ merge_of pair ∷ []) new
+    live = merged_live held.live joined cheapest.pair
+        (λ place merge here. (held.cheapest place merge here).merges)
 
 -- while more than one cluster is left a pair is found
 pub some_found : (live : Live) (found : Option Pair)

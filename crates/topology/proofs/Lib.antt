@@ -7,3 +7,4 @@ mod NearLemmas
 mod OrderLemmas
 mod PairLemmas
 mod QueueLemmas
+mod SweepLemmas

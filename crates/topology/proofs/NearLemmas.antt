@@ -138,10 +138,10 @@ cost_turned one other =
 -- ---- the two nodes of a pair
 
 -- the owner is the one of them, and the other is the other
-pub sides : (sinks : ℕ) (pair : Pair) (owner node : ℕ) → owner_of sinks pair ≡ owner
-    → other_of sinks pair ≡ node
+pub sides : (early : ℕ) (pair : Pair) (owner node : ℕ) → owner_of early pair ≡ owner
+    → other_of early pair ≡ node
     → ((pair.first ≡ owner) × (pair.second ≡ node)) ⊎ ((pair.first ≡ node) × (pair.second ≡ owner))
-sides sinks pair owner node = at (nat_lt pair.second sinks)
+sides early pair owner node = at (nat_lt pair.second early)
   where
     at : (b : Bool) → cond b pair.first pair.second ≡ owner → cond b pair.second pair.first ≡ node
         → ((pair.first ≡ owner) × (pair.second ≡ node))
@@ -151,8 +151,8 @@ sides sinks pair owner node = at (nat_lt pair.second sinks)
 
 -- no merge joins the other
 pub other_has : (live : Live) (owner : ℕ) (pair : Pair) → IsKept live owner pair
-    → (cluster : Cluster) × HasCluster live (other_of live.sinks pair) cluster
-other_has live owner pair kept = elim (sides live.sinks pair owner _ kept.owner refl) [
+    → (cluster : Cluster) × HasCluster live (other_of live.early pair) cluster
+other_has live owner pair kept = elim (sides live.early pair owner _ kept.owner refl) [
   | inl (_, second) ↦
       (kept.pair.other, ap (cluster_of live) (sym second) ∙ kept.pair.second)
   | inr (first, _) ↦ (kept.pair.one, ap (cluster_of live) (sym first) ∙ kept.pair.first)
@@ -182,7 +182,7 @@ pub kept_apart : (live : Live) (owner node : ℕ) (pair : Pair) (cluster : Clust
     → (other : Cluster) × HasCluster live node other
     × IsApart live.axis cluster other pair.cost
 kept_apart live owner node pair cluster held has = elim
-    (sides live.sinks pair owner node held.kept.owner held.other) [
+    (sides live.early pair owner node held.kept.owner held.other) [
       | inl (first, second) ↦ (
         parts.other,
         ap (cluster_of live) (sym second) ∙ parts.second,
@@ -211,7 +211,7 @@ pub kept_cost : (live : Live) (owner node : ℕ) (pair : Pair) (cluster other : 
     → IsKeptWith live owner node pair → HasCluster live owner cluster
     → HasCluster live node other → pair.cost ≡ cost_of cluster other
 kept_cost live owner node pair cluster other held has other_has = elim
-    (sides live.sinks pair owner node held.kept.owner held.other) [
+    (sides live.early pair owner node held.kept.owner held.other) [
       | inl (first, second) ↦ parts.cost
           ∙ ap (λ c. cost_of c parts.other) (same_cluster live pair.first owner parts.one cluster
           first parts.first has)
@@ -336,11 +336,11 @@ module _ {live : Live} {owner : ℕ} where
   pub look_passes : (IsPassed IsWanted : ℕ → Type 0) (old now : Option Pair) (gap : ℤ) (node : ℕ)
       → IsLooked live owner IsPassed old now
       → ((pair : Pair) → now ≡ Some pair → IsKept live owner pair)
-      → IsSomeAnd now (λ pair. IsPast live.sinks pair gap node)
+      → IsSomeAnd now (λ pair. IsPast live.early pair gap node)
       → ((other : ℕ) → IsWanted other → IsPassed other ⊎ ((pair : Pair)
       → other < length live.order.items
       → IsKeptWith live owner (node_at live other) pair
-      → (gap ≤ℤ pair.cost) × (pair.cost ≡ gap → node ≤ other_of live.sinks pair)))
+      → (gap ≤ℤ pair.cost) × (pair.cost ≡ gap → node ≤ other_of live.early pair)))
       → IsLooked live owner IsWanted old now
   look_passes IsPassed IsWanted old now gap node held kept past rest = record {
     stays = held.stays;
@@ -354,9 +354,9 @@ module _ {live : Live} {owner : ℕ} where
   }
     where
       at : (o : Option Pair) → ((pair : Pair) → o ≡ Some pair → IsKept live owner pair)
-          → IsSomeAnd o (λ pair. IsPast live.sinks pair gap node)
+          → IsSomeAnd o (λ pair. IsPast live.early pair gap node)
           → (pair : Pair) → IsKept live owner pair → gap ≤ℤ pair.cost
-          → (pair.cost ≡ gap → node ≤ other_of live.sinks pair) → IsAtMost o pair
+          → (pair.cost ≡ gap → node ≤ other_of live.early pair) → IsAtMost o pair
       at None kept past pair has apart behind = absurd past
       at (Some found) kept (inl less) pair has apart behind =
           less_is_at_most (Some found) pair gap less apart
@@ -366,7 +366,7 @@ module _ {live : Live} {owner : ℕ} where
           arith,
           lower,
           behind (cost ∙ same),
-          lower_from live.sinks pair.first pair.second found.first found.second has.pair.ordered
+          lower_from live.early pair.first pair.second found.first found.second has.pair.ordered
               (kept found refl).pair.ordered (has.owner ∙ sym (kept found refl).owner) first,
         )
       ]
@@ -400,7 +400,7 @@ module _ {live : Live} {owner : ℕ} where
         → other < length live.order.items
         → IsKeptWith live owner (node_at live other) pair
         → pair.cost ≡ (low_at live place -ℤ high_on live.axis cluster)
-        → node_at live place ≤ other_of live.sinks pair
+        → node_at live place ≤ other_of live.early pair
     behind_above place other pair from below with_it same = elim (cases_lt place other) [
       | inl before ↦
           let (found, here, is) = kept_apart live owner _ pair cluster with_it has in
@@ -462,7 +462,7 @@ pub looked_both : (live : Live) (owner from : ℕ) (middle found : Option Pair) 
     → IsLooked live owner (λ place. place < from) middle found → IsNearest live owner found
 looked_both live owner from middle found ordered up down = record {
   bound = λ pair held.
-      let node = other_of live.sinks pair in
+      let node = other_of live.early pair in
       let (cluster, has) = other_has live owner pair held in
       let (place, below, here) = place_there live node cluster ordered has in
       let with_it : IsKeptWith live owner (node_at live place) pair = record {
@@ -486,7 +486,7 @@ looked_both live owner from middle found ordered up down = record {
 pub none_nearest : (live : Live) (owner : ℕ)
     → ((cluster : Cluster) → ¬ HasCluster live owner cluster) → IsNearest live owner None
 none_nearest live owner none = record {
-  bound = λ pair held. elim (sides live.sinks pair owner _ held.owner refl) [
+  bound = λ pair held. elim (sides live.early pair owner _ held.owner refl) [
     | inl (first, _) ↦ absurd (none held.pair.one
         (subst (λ n. HasCluster live n held.pair.one) first held.pair.first))
     | inr (_, second) ↦ absurd (none held.pair.other

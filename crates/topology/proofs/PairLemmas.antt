@@ -55,59 +55,59 @@ found_pair live first second one other cost ordered has other_has cost_is pair =
 
 -- ---- who keeps it
 
-owner_ahead : (sinks : ℕ) (pair : Pair) → pair.second < sinks
-    → (owner_of sinks pair ≡ pair.first) × (other_of sinks pair ≡ pair.second)
-owner_ahead sinks pair below = rw (lt-ltb pair.second sinks below) (refl, refl)
+pub owner_ahead : (early : ℕ) (pair : Pair) → pair.second < early
+    → (owner_of early pair ≡ pair.first) × (other_of early pair ≡ pair.second)
+owner_ahead early pair below = rw (lt-ltb pair.second early below) (refl, refl)
 
-owner_behind : (sinks : ℕ) (pair : Pair) → sinks ≤ pair.second
-    → (owner_of sinks pair ≡ pair.second) × (other_of sinks pair ≡ pair.first)
-owner_behind sinks pair from = rw (le-ltb pair.second sinks from) (refl, refl)
+owner_behind : (early : ℕ) (pair : Pair) → early ≤ pair.second
+    → (owner_of early pair ≡ pair.second) × (other_of early pair ≡ pair.first)
+owner_behind early pair from = rw (le-ltb pair.second early from) (refl, refl)
 
-pub kept_behind : (live : Live) (owner other : ℕ) (found : Option Pair) → live.sinks ≤ owner
+pub kept_behind : (live : Live) (owner other : ℕ) (found : Option Pair) → live.early ≤ owner
     → ((pair : Pair) → (found ≡ Some pair) ↔ IsOf live other owner pair)
     → (pair : Pair) → (found ≡ Some pair) ↔ IsKeptWith live owner other pair
 kept_behind live owner other found behind law pair = (
   λ is.
       let (held, first, second) = (law pair).0 is in
-      let kept = owner_behind live.sinks pair (omega (arith, behind, second)) in
+      let kept = owner_behind live.early pair (omega (arith, behind, second)) in
       record {
         kept = record { pair = held; owner = kept.0 ∙ second };
         other = kept.1 ∙ first;
       },
-  λ held. (law pair).1 (elim (cases_lt pair.second live.sinks) [
+  λ held. (law pair).1 (elim (cases_lt pair.second live.early) [
     | inl below ↦ absurd (omega (
       arith,
-      (owner_ahead live.sinks pair below).0,
+      (owner_ahead live.early pair below).0,
       held.kept.owner,
       held.kept.pair.ordered,
       below,
       behind,
     ))
     | inr from ↦
-        let kept = owner_behind live.sinks pair from in
+        let kept = owner_behind live.early pair from in
         (held.kept.pair, sym kept.1 ∙ held.other, sym kept.0 ∙ held.kept.owner)
   ]),
 )
 
-pub kept_ahead : (live : Live) (owner other : ℕ) (found : Option Pair) → owner < live.sinks
-    → other < live.sinks
+pub kept_ahead : (live : Live) (owner other : ℕ) (found : Option Pair) → owner < live.early
+    → other < live.early
     → ((pair : Pair) → (found ≡ Some pair) ↔ IsOf live owner other pair)
     → (pair : Pair) → (found ≡ Some pair) ↔ IsKeptWith live owner other pair
 kept_ahead live owner other found ahead other_ahead law pair = (
   λ is.
       let (held, first, second) = (law pair).0 is in
-      let kept = owner_ahead live.sinks pair (omega (arith, other_ahead, second)) in
+      let kept = owner_ahead live.early pair (omega (arith, other_ahead, second)) in
       record {
         kept = record { pair = held; owner = kept.0 ∙ first };
         other = kept.1 ∙ second;
       },
-  λ held. (law pair).1 (elim (cases_lt pair.second live.sinks) [
+  λ held. (law pair).1 (elim (cases_lt pair.second live.early) [
     | inl below ↦
-        let kept = owner_ahead live.sinks pair below in
+        let kept = owner_ahead live.early pair below in
         (held.kept.pair, sym kept.0 ∙ held.kept.owner, sym kept.1 ∙ held.other)
     | inr from ↦ absurd (omega (
       arith,
-      (owner_behind live.sinks pair from).0,
+      (owner_behind live.early pair from).0,
       held.kept.owner,
       from,
       ahead,

@@ -1,6 +1,5 @@
 -- The clusters that no merge joins yet, and which pairs of them are kept.
-use Rattle.std.specs.Prelude.{◌≡◌, ◌≢◌, ◌↔◌, ◌⊎◌, ℕ, ◌<◌, ◌≤◌, ◌+◌, Option, Some, None, IsSome, IsSomeAnd, option_map, List, [], ◌++◌, All, Contains, length, take, slice_get, slice_index_or, ℤ, pos, ◌+ℤ◌, ◌≤ℤ◌, ◌<ℤ◌, nat_lt, if◌then◌else◌, ◌^◌}
-use Rattle.std.specs.List.Sorted.{IsPermutation}
+use Rattle.std.specs.Prelude.{◌≡◌, ◌≢◌, ◌↔◌, ◌⊎◌, ℕ, ◌<◌, ◌≤◌, ◌+◌, Option, Some, None, IsSome, IsSomeAnd, option_map, List, [], Contains, length, take, slice_get, slice_index_or, ℤ, pos, ◌+ℤ◌, ◌≤ℤ◌, ◌<ℤ◌, nat_lt, if◌then◌else◌, ◌^◌}
 use Rattle.std.specs.Option.{option_and_then, option_map_or}
 use Rattle.slab.specs.Slab.{get}
 use Rattle.cts_model.specs.placement.Points.{IsBelow}
@@ -14,7 +13,6 @@ use Rattle.tilted_rect.specs.ClusterSets.{IsCluster, cost_of}
 use Rattle.topology.specs.declared.live.Entry.{Entry}
 use Rattle.topology.specs.declared.live.Live.{Live}
 use Rattle.topology.specs.declared.pair.Pair.{Pair}
-use Rattle.topology.specs.declared.waiting.Waiting.{Waiting}
 use Rattle.topology.specs.Axes.{high_on, low_on}
 use Rattle.topology.specs.Pairs.{IsAtMost, IsBefore}
 
@@ -44,23 +42,23 @@ pub record IsPair (live : Live) (pair : Pair) : Type 0 where
   pub second : HasCluster live pair.second other
   pub cost : pair.cost ≡ cost_of one other
 
--- a pair is kept at the node made later, and that of two sinks at the first
-abbrev pub owner_of : (sinks : ℕ) → Pair → ℕ
-owner_of sinks pair = if nat_lt pair.second sinks then pair.first else pair.second
+-- a pair of two early nodes is kept at the first, any other at the later one
+abbrev pub owner_of : (early : ℕ) → Pair → ℕ
+owner_of early pair = if nat_lt pair.second early then pair.first else pair.second
 
 -- the other cluster of a pair
-abbrev pub other_of : (sinks : ℕ) → Pair → ℕ
-other_of sinks pair = if nat_lt pair.second sinks then pair.second else pair.first
+abbrev pub other_of : (early : ℕ) → Pair → ℕ
+other_of early pair = if nat_lt pair.second early then pair.second else pair.first
 
 -- the pair is kept at that node
 pub record IsKept (live : Live) (node : ℕ) (kept : Pair) : Type 0 where
   pub pair : IsPair live kept
-  pub owner : owner_of live.sinks kept ≡ node
+  pub owner : owner_of live.early kept ≡ node
 
 -- the pair is kept at that node, with that other
 pub record IsKeptWith (live : Live) (owner node : ℕ) (pair : Pair) : Type 0 where
   pub kept : IsKept live owner pair
-  pub other : other_of live.sinks pair ≡ node
+  pub other : other_of live.early pair ≡ node
 
 -- no pair that is kept at the node is to be merged before the one that is found
 pub record IsNearest (live : Live) (owner : ℕ) (found : Option Pair) : Type 0 where
@@ -110,9 +108,9 @@ StandsBefore live place low node = (low_at live place <ℤ low)
     ⊎ ((low_at live place ≡ low) × (node_at live place < node))
 
 -- the pair costs less than a gap, or as much and with a node below that one
-abbrev pub IsPast : (sinks : ℕ) → Pair → (gap : ℤ) → (node : ℕ) → Type 0
-IsPast sinks pair gap node = (pair.cost <ℤ gap)
-    ⊎ ((pair.cost ≡ gap) × (other_of sinks pair < node))
+abbrev pub IsPast : (early : ℕ) → Pair → (gap : ℤ) → (node : ℕ) → Type 0
+IsPast early pair gap node = (pair.cost <ℤ gap)
+    ⊎ ((pair.cost ≡ gap) × (other_of early pair < node))
 
 -- of the pairs that are kept at a node, with others at places passed, none is to be merged before
 -- the one that is found
@@ -126,39 +124,22 @@ pub record IsLooked (live : Live) (owner : ℕ) (IsPassed : ℕ → Type 0)
 -- ---- kept pairs
 
 -- a pair is kept that isn't to be merged after it, at the same node
-pub record IsCovered (sinks : ℕ) (kept : List Pair) (pair : Pair) : Type 0 where
+pub record IsCovered (early : ℕ) (kept : List Pair) (pair : Pair) : Type 0 where
   pub least : Pair
   pub among : Contains kept least
-  pub owner : owner_of sinks least ≡ owner_of sinks pair
+  pub owner : owner_of early least ≡ owner_of early pair
   pub at_most : ¬ IsBefore pair least
 
 -- so it is for each pair of a node below that number
 abbrev pub AreCovered : Live → (from : ℕ) → (kept : List Pair) → Type 0
-AreCovered live from kept = (pair : Pair) → IsPair live pair → owner_of live.sinks pair < from
-    → IsCovered live.sinks kept pair
+AreCovered live from kept = (pair : Pair) → IsPair live pair → owner_of live.early pair < from
+    → IsCovered live.early kept pair
 
--- a merge joins every node below that one
-abbrev pub AreJoinedBelow : Live → (lowest : ℕ) → Type 0
-AreJoinedBelow live lowest = (node : ℕ) → IsUnjoined live node → lowest ≤ node
-
--- nodes that merges made wait, and all those behind them
-pub record AreWaiting (live : Live) (waiting : Waiting) : Type 0 where
-  pub made : live.sinks ≤ waiting.from
-  pub within : waiting.from ≤ length live.keys
-  pub lowest : AreJoinedBelow live waiting.lowest
-
--- each pair of a node that doesn't wait is covered
-pub record AreKept (live : Live) (waiting : Waiting) (kept : List Pair) : Type 0 where
+-- so it is for each pair
+pub record AreKept (live : Live) (kept : List Pair) : Type 0 where
   pub ordered : IsOrdered live
-  pub waits : AreWaiting live waiting
-  pub covered : AreCovered live waiting.from kept
-
--- the pairs of nodes that waited are kept too
-pub record AreSearched (live : Live) (waiting : Waiting) (old new : List Pair) : Type 0 where
-  pub found : List Pair
-  pub pairs : All (IsPair live) found
-  pub more : IsPermutation (found ++ old) new
-  pub kept : AreKept live waiting new
+  pub early : live.early ≤ length live.keys
+  pub covered : AreCovered live (length live.keys) kept
 
 -- no pair of two clusters is to be merged before that one
 abbrev pub IsFirstOf : Live → (first : Option Pair) → Type 0
@@ -173,7 +154,7 @@ pub record IsCheapestPair (live : Live) (cheapest : Pair) : Type 0 where
 
 -- the cluster of one node more
 pub record IsAdded (old new : Live) (cluster : Cluster) : Type 0 where
-  pub sinks : new.sinks ≡ old.sinks
+  pub early : new.early ≡ old.early
   pub count : length new.keys ≡ length old.keys + 1
   pub left : length new.order.items ≡ length old.order.items + 1
   pub made : HasCluster new (length old.keys) cluster
@@ -182,7 +163,7 @@ pub record IsAdded (old new : Live) (cluster : Cluster) : Type 0 where
 
 -- a merge joins that node
 pub record IsLeft (old new : Live) (node : ℕ) : Type 0 where
-  pub sinks : new.sinks ≡ old.sinks
+  pub early : new.early ≡ old.early
   pub count : length new.keys ≡ length old.keys
   pub left : length new.order.items + 1 ≡ length old.order.items
   pub gone : cluster_of new node ≡ None
@@ -198,7 +179,7 @@ pub record IsJoined (old new : Live) (pair : Pair) : Type 0 where
   pub second : HasCluster old pair.second other
   pub joined : (first second sinks : List Sink) → IsUnion first second sinks
       → IsCluster first one → IsCluster second other → IsCluster sinks both
-  pub sinks : new.sinks ≡ old.sinks
+  pub early : new.early ≡ old.early
   pub count : length new.keys ≡ length old.keys + 1
   pub left : length new.order.items + 1 ≡ length old.order.items
   pub made : HasCluster new (length old.keys) both
@@ -212,7 +193,6 @@ pub record IsJoined (old new : Live) (pair : Pair) : Type 0 where
 
 -- each cluster is that of the sinks below its node, and those that no merge joins are live
 pub record AreLive (sinks : List Sink) (merges : List Merge) (live : Live) : Type 0 where
-  pub sinks_is : live.sinks ≡ length sinks
   pub ordered : IsOrdered live
   pub count : length live.keys ≡ length sinks + length merges
   pub clusters : (node : ℕ) (cluster : Cluster) → HasCluster live node cluster
@@ -222,7 +202,7 @@ pub record AreLive (sinks : List Sink) (merges : List Merge) (live : Live) : Typ
 
 -- so many of the first sinks have their clusters
 pub record AreFirstSinks (sinks : List Sink) (register : ℕ) (live : Live) : Type 0 where
-  pub sinks_is : live.sinks ≡ length sinks
+  pub early : live.early + 1 ≡ 2 ^ 32
   pub ordered : IsOrdered live
   pub count : length live.keys ≡ register
   pub clusters : (node : ℕ) (cluster : Cluster) → HasCluster live node cluster
@@ -235,8 +215,22 @@ abbrev pub WereCheapest : List Sink → List Merge → Type 0
 WereCheapest sinks merges = (place : ℕ) (merge : Merge) → slice_get merges place ≡ Some merge
     → IsCheapest sinks (take place merges) merge
 
--- pairs of two sinks are covered, whatever they cost, where the first is below the number less 1
-abbrev pub AreFirstCovered : (sinks register : ℕ) → (kept : List Pair) → Type 0
-AreFirstCovered sinks register kept = (pair : Pair) → pair.first + 1 < register
-    → pair.first < pair.second → pair.second < sinks → pos 0 ≤ℤ pair.cost
-    → IsCovered sinks kept pair
+-- all is right after so many merges
+pub record IsMerging (sinks : List Sink) (merges : List Merge) (clusters : Live)
+    (kept : List Pair) : Type 0 where
+  pub live : AreLive sinks merges clusters
+  pub rest : length merges < length sinks
+  pub cheapest : WereCheapest sinks merges
+  pub pairs : AreKept clusters kept
+
+-- and so it is while all nodes are early, and those below that number cost something to merge with
+-- any later one
+pub record IsSwept (sinks : List Sink) (merges : List Merge) (clusters : Live) (kept : List Pair)
+    (node : ℕ) : Type 0 where
+  pub live : AreLive sinks merges clusters
+  pub rest : length merges < length sinks
+  pub cheapest : WereCheapest sinks merges
+  pub early : clusters.early + 1 ≡ 2 ^ 32
+  pub costly : (pair : Pair) → Contains kept pair → pos 0 <ℤ pair.cost
+  pub made : (pair : Pair) → Contains kept pair → pair.second < length clusters.keys
+  pub covered : AreCovered clusters node kept

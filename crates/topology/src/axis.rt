@@ -73,8 +73,8 @@ impl Axis {
         }
     }
 
-    // How many sinks a search passes for the one at a place: those no further away on the axis than
-    // the nearest costs.
+    // How many sinks a search passes for the one at a place: those that are nearer on the axis than
+    // what the nearest costs.
     fn passed(self, sinks: &[Sink], place: usize, cost: u128) -> u64
         requires sinks { AreTreeSinks sinks.now }
         requires within { place < length sinks.now }
@@ -82,7 +82,7 @@ impl Axis {
         let from = self.low(&Cluster::of(sinks[place]));
         let mut passed = 0u64;
         for sink in sinks {
-            if self.low(&Cluster::of(*sink)).abs_diff(from) <= cost {
+            if self.low(&Cluster::of(*sink)).abs_diff(from) < cost {
                 passed = passed.saturating_add(1);
             }
         }

@@ -6,6 +6,5 @@ mod live;
 mod merging;
 mod pair;
 mod queue;
-mod waiting;
 
 pub use merging::greedy;

@@ -1,16 +1,16 @@
-ghost use Rattle.std.specs.Prelude.{◌≡◌, ◌≤◌, ◌<◌, [], length, pos, slice_get, IfOk, IfSome, IsNone, IsTrue, OnOk};
+ghost use Rattle.std.specs.Prelude.{◌≡◌, ◌+◌, ◌<◌, ◌^◌, List, [], length, IfOk, IfSome, IsNone, OnOk};
+ghost use Rattle.cts_model.specs.declared.place.Sink.{Sink};
 ghost use Rattle.cts_model.specs.tree.GreedyMerges.{IsGreedy};
 ghost use Rattle.cts_model.specs.tree.Sinks.{AreTreeSinks};
 ghost use Rattle.topology.specs.declared.pair.Pair.{Pair};
-ghost use Rattle.topology.specs.LiveClusters.{AreFirstCovered, AreJoinedBelow, AreKept, AreLive, AreSearched, IsCheapestPair, IsFirstOf, IsOrdered, IsPair};
+ghost use Rattle.topology.specs.LiveClusters.{AreKept, AreLive, IsCheapestPair, IsMerging, IsOrdered, IsPair, IsSwept};
 
 use crate::axis::Axis;
 use crate::live::Live;
-use crate::pair::{Pair, comes_first};
+use crate::pair::{Pair, costs_nothing};
 use crate::queue::Queue;
-use crate::waiting::Waiting;
 use cts_base::{Listed, NoMemory};
-use cts_model::{Sink, Topology};
+use cts_model::{Merge, Sink, Topology};
 use std::alloc::Global;
 use tilted_rect::Cluster;
 
@@ -18,8 +18,8 @@ use tilted_rect::Cluster;
 /// Of pairs that cost as much it merges that of the lower first node, and then of the lower second.
 /// The clusters stand in order on the axis (`u`, `v`, reach) on which searches for a few sinks pass
 /// the fewest. One looks at those that are near enough on it alone, and what it finds is kept until
-/// a merge breaks it up. Edahiro, "A Clustering-Based Optimization Algorithm in Zero-Skew
-/// Routings", 1993.
+/// a merge breaks it up. Sinks at one place with one offset cost nothing to merge: one sweep does
+/// that first. Edahiro, "A Clustering-Based Optimization Algorithm in Zero-Skew Routings", 1993.
 ///
 /// # Errors
 ///
@@ -28,17 +28,14 @@ pub fn greedy(alloc: Global, sinks: &[Sink]) -> Result<Topology, NoMemory>
     requires { AreTreeSinks sinks.now }
     ensures greedy { IfOk result (λ topology. IsGreedy sinks.now topology.merges) }
 {
-    let mut live = sink_clusters(alloc, sinks)?;
-    let mut queue = first_bounds(alloc, sinks.len() as u32)?;
-    let mut waiting = Waiting {
-        from: sinks.len() as u32,
-        lowest: 0,
-    };
+    let mut queue = Queue::new(alloc);
     let mut merges = Listed::new(alloc);
-    for _merge in 1..sinks.len() {
-        let pair = cheapest(&live, &mut queue, &mut waiting)?.unwrap();
+    let mut live = swept(alloc, sinks, &mut queue, &mut merges)?;
+    for _merge in merges.len() + 1..sinks.len() {
+        let pair = cheapest(&live, &mut queue).unwrap();
         merges.push(pair.merge())?;
         live.join(&pair)?;
+        queue.push_found(live.nearest(live.count() - 1))?;
     }
     Ok(Topology { merges })
 }
@@ -46,93 +43,77 @@ pub fn greedy(alloc: Global, sinks: &[Sink]) -> Result<Topology, NoMemory>
 // The clusters of the sinks, each alone.
 fn sink_clusters(alloc: Global, sinks: &[Sink]) -> Result<Live, NoMemory>
     requires { AreTreeSinks sinks.now }
-    ensures { IfOk result (AreLive sinks.now []) }
+    ensures early { IfOk result (λ live. live.early + 1 ≡ 2 ^ 32) }
+    ensures live { IfOk result (AreLive sinks.now []) }
 {
-    let mut live = Live::new(alloc, sinks.len() as u32, Axis::sparsest(sinks));
+    let mut live = Live::new(alloc, Axis::sparsest(sinks));
     for sink in sinks {
         live.add(Cluster::of(*sink))?;
     }
     Ok(live)
 }
 
-// A bound on the pairs of two nodes, and on those of the second with a node behind the first.
-fn bound(first: u32, second: u32) -> Pair
-    ensures { result ≡ record { cost = pos 0; first = first; second = second } }
+// The clusters that are left once all that cost nothing to merge are merged. These merges are put
+// into the list, and the cheapest pair of each node into the queue.
+fn swept(
+    alloc: Global,
+    sinks: &[Sink],
+    queue: &mut Queue,
+    merges: &mut Listed<Merge>,
+) -> Result<Live, NoMemory>
+    requires sinks { AreTreeSinks sinks.now }
+    requires queue { queue.old ≡ [] }
+    requires merges { merges.old ≡ [] }
+    ensures { IfOk result (λ live. IsMerging sinks.now merges.new live queue.new) }
 {
-    Pair {
-        cost: 0,
-        first,
-        second,
+    let mut live = sink_clusters(alloc, sinks)?;
+    let mut node = 0;
+    while node < live.count() {
+        sweep(&mut live, queue, merges, node)?;
+        node += 1;
     }
+    live.early = live.count();
+    Ok(live)
 }
 
-// Bounds on all pairs of sinks.
-fn first_bounds(alloc: Global, sinks: u32) -> Result<Queue, NoMemory>
-    requires { 1 ≤ sinks }
-    ensures { IfOk result (AreFirstCovered sinks sinks) }
+// Merges a node with the first later one where that costs nothing, and else keeps its cheapest
+// pair.
+fn sweep(
+    live: &mut Live,
+    queue: &mut Queue,
+    merges: &mut Listed<Merge>,
+    node: u32,
+) -> Result<(), NoMemory>
+    requires ordered { IsOrdered live.old }
+    requires few { length live.old.keys + 1 < 2 ^ 32 }
+    ensures { OnOk result ((sinks : List Sink)
+        → IsSwept sinks merges.old live.old queue.old node
+        → IsSwept sinks merges.new live.new queue.new (node + 1)) }
 {
-    let mut queue = Queue::new(alloc);
-    for register in 1..sinks {
-        queue.push(bound(register - 1, register))?;
+    let found = live.nearest(node);
+    if !costs_nothing(&found) {
+        queue.push_found(found)?;
+        return Ok(());
     }
-    Ok(queue)
+    let pair = found.unwrap();
+    merges.push(pair.merge())?;
+    live.join(&pair)?;
+    Ok(())
 }
 
 // The pair that is to be merged next. Pairs that were broken up by a merge are renewed where they
 // come first.
-fn cheapest(live: &Live, queue: &mut Queue, waiting: &mut Waiting) -> Result<Option<Pair>, NoMemory>
-    requires { AreKept live.now waiting.old queue.old }
-    ensures found { IfOk result (λ found. IfSome found (IsCheapestPair live.now)) }
-    ensures none { IfOk result (λ found. IsNone found → (pair : Pair) → ¬ IsPair live.now pair) }
-    ensures kept { OnOk result (AreKept live.now waiting.new queue.new) }
+fn cheapest(live: &Live, queue: &mut Queue) -> Option<Pair>
+    requires { AreKept live.now queue.old }
+    ensures found { IfSome result (IsCheapestPair live.now) }
+    ensures none { IsNone result → (pair : Pair) → ¬ IsPair live.now pair }
+    ensures kept { AreKept live.now queue.new }
 {
-    while let Some(pair) = first(live, queue, waiting)? {
+    while let Some(pair) = queue.first() {
         if live.has(&pair) {
-            return Ok(Some(pair));
+            return Some(pair);
         }
-        queue.replace_first(live.renewed(&pair));
+        queue.replace_first(live.nearest(live.owner(&pair)));
     }
-    Ok(None)
-}
-
-// A pair that no other is to be merged before, of those that are kept. Nodes that wait are searched
-// as long as they might have one.
-fn first(live: &Live, queue: &mut Queue, waiting: &mut Waiting) -> Result<Option<Pair>, NoMemory>
-    requires { AreKept live.now waiting.old queue.old }
-    ensures value { IfOk result (λ first. first ≡ slice_get queue.new 0) }
-    ensures first { IfOk result (IsFirstOf live.now) }
-    ensures searched { OnOk result (AreSearched live.now waiting.new queue.old queue.new) }
-{
-    waiting.lowest = lowest(live, waiting.lowest);
-    while is_due(live, queue, waiting) {
-        queue.push_found(live.nearest(waiting.from))?;
-        waiting.from += 1;
-    }
-    Ok(queue.first())
-}
-
-// The lowest node that no merge joins yet, from one on below which there are none.
-fn lowest(live: &Live, from: u32) -> u32
-    requires ordered { IsOrdered live.now }
-    requires joined { AreJoinedBelow live.now from }
-    ensures { AreJoinedBelow live.now result }
-{
-    match live.next_unjoined(from) {
-        Some(node) => node,
-        None => from,
-    }
-}
-
-// Whether a node that waits might have a pair that is to be merged before all that are kept.
-fn is_due(live: &Live, queue: &Queue, waiting: &Waiting) -> bool
-    requires { AreKept live.now waiting.now queue.now }
-    ensures within { IsTrue result → waiting.now.from < length live.now.keys }
-    ensures first { ¬ IsTrue result → IsFirstOf live.now (slice_get queue.now 0) }
-{
-    let top = queue.first();
-    if live.count() <= waiting.from {
-        return false;
-    }
-    let least = bound(waiting.lowest, waiting.from);
-    comes_first(&Some(least), &top)
+    None
 }

@@ -1,4 +1,4 @@
-ghost use Rattle.std.specs.Prelude.{◌≡◌, ◌↔◌, IsTrue};
+ghost use Rattle.std.specs.Prelude.{◌≡◌, ◌↔◌, IsSomeAnd, IsTrue, pos};
 ghost use Rattle.topology.specs.Pairs.{ComesFirst, IsBefore, IsCheaperOf, merge_of};
 
 use cts_model::Merge;
@@ -42,13 +42,23 @@ pub(crate) fn keep_cheaper(kept: &mut Option<Pair>, other: &Option<Pair>)
     }
 }
 
-/// Whether the one pair is there and to be merged before the other.
-pub(crate) fn comes_first(pair: &Option<Pair>, kept: &Option<Pair>) -> bool
+// Whether the one pair is there and to be merged before the other.
+fn comes_first(pair: &Option<Pair>, kept: &Option<Pair>) -> bool
     ensures { IsTrue result ↔ ComesFirst pair.now kept.now }
 {
     match (pair, kept) {
         (Some(pair), Some(kept)) => pair.is_before(kept),
         (Some(_), None) => true,
         (None, _) => false,
+    }
+}
+
+/// Whether there is a pair, and merging it costs nothing.
+pub(crate) fn costs_nothing(pair: &Option<Pair>) -> bool
+    ensures { IsTrue result ↔ IsSomeAnd pair.now (λ pair. pair.cost ≡ pos 0) }
+{
+    match pair {
+        Some(pair) => pair.cost == 0,
+        None => false,
     }
 }

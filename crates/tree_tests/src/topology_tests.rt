@@ -1,3 +1,5 @@
+ghost use Rattle.std.specs.Prelude.{◌^◌};
+ghost use Rattle.cts_model.specs.placement.Points.{IsBelow, IsMultipleOf};
 ghost use Rattle.cts_model.specs.tree.Sinks.{IsTreeSink};
 
 use crate::same::expect_same;
@@ -16,6 +18,31 @@ enum Row {
     Diagonal,
     // They stand at one place, each with its own offset.
     Late,
+    // Each 4,096 stand at one place, with no offset.
+    Together,
+    // Each 2,048 stand at one place, with no offset.
+    Halves,
+    // Each 2,048 stand at one place, each with its own offset.
+    LateHalves,
+}
+
+// The rows whose sinks stand apart.
+const APART: [Row; 2] = [Row::Flat, Row::Diagonal];
+
+// The rows whose sinks stand at one place or two.
+const AT_PLACES: [Row; 4] = [Row::Late, Row::Together, Row::Halves, Row::LateHalves];
+
+// The sink with that offset so many times 8,388,608 steps along the line u = v.
+fn far_along(place: u64, offset: i128) -> Sink
+    requires below { IsBelow (10 ^ 31) offset }
+    requires multiple { IsMultipleOf 8 offset }
+    ensures { IsTreeSink result }
+{
+    let steps = 8 * (1_048_576 * i128::from(place));
+    Sink {
+        at: Uv { u: steps, v: steps },
+        offset,
+    }
 }
 
 // The sink so many times 8 steps along a row.
@@ -36,6 +63,9 @@ fn sink(row: Row, place: u64) -> Sink
             at: Uv { u: 0, v: 0 },
             offset: steps,
         },
+        Row::Together => far_along(place / 4096, 0),
+        Row::Halves => far_along(place / 2048, 0),
+        Row::LateHalves => far_along(place / 2048, steps),
     }
 }
 
@@ -104,11 +134,23 @@ fn merges_a_row_that_doubles(rt: HostRuntime) -> Result<(), Fail> {
     assert_merged(&rt, alloc, Row::Flat, &places, &wanted)
 }
 
-// As many sinks as there may be, 8 steps from one to the next in their places or in their offsets:
-// each merge takes the next two nodes.
-#[test]
-fn merges_even_rows(rt: HostRuntime) -> Result<(), Fail> {
-    let alloc = rt.alloc();
+// The sinks at those places of each row are merged so.
+fn assert_rows(
+    rt: &impl Abort,
+    alloc: Global,
+    rows: &[Row],
+    places: &[u64],
+    wanted: &[(u32, u32)],
+) -> Result<(), Fail> {
+    for row in rows {
+        assert_merged(rt, alloc, *row, places, wanted)?;
+    }
+    Ok(())
+}
+
+// As many sinks as there may be of each row, one behind the other: each merge takes the next two
+// nodes.
+fn assert_even(rt: &impl Abort, alloc: Global, rows: &[Row]) -> Result<(), Fail> {
     let mut places = Vec::new(alloc);
     let mut wanted = Vec::new(alloc);
     for sink in 0..4096 {
@@ -117,8 +159,32 @@ fn merges_even_rows(rt: HostRuntime) -> Result<(), Fail> {
     for place in 0..4095 {
         wanted.push((2 * place, 2 * place + 1))?;
     }
-    for row in [Row::Flat, Row::Diagonal, Row::Late].as_slice() {
-        assert_merged(&rt, alloc, *row, &places, &wanted)?;
+    assert_rows(rt, alloc, rows, &places, &wanted)
+}
+
+#[test]
+fn merges_even_rows(rt: HostRuntime) -> Result<(), Fail> {
+    assert_even(&rt, rt.alloc(), &APART)
+}
+
+#[test]
+fn merges_one_place_or_two(rt: HostRuntime) -> Result<(), Fail> {
+    assert_even(&rt, rt.alloc(), &AT_PLACES)
+}
+
+// The same behind a sink that is far away, which the last merge takes.
+#[test]
+fn merges_one_far_away_last(rt: HostRuntime) -> Result<(), Fail> {
+    let alloc = rt.alloc();
+    let mut places = Vec::new(alloc);
+    let mut wanted = Vec::new(alloc);
+    places.push(1u64 << 60)?;
+    for sink in 0..4096 {
+        places.push(sink)?;
     }
-    Ok(())
+    for place in 0..4095 {
+        wanted.push((2 * place + 1, 2 * place + 2))?;
+    }
+    wanted.push((0, 8191))?;
+    assert_rows(&rt, alloc, &AT_PLACES, &places, &wanted)
 }

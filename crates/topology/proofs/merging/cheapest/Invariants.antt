@@ -2,9 +2,9 @@ use Rattle.topology.specs.LiveClusters.{AreKept}
 use Rattle.topology.proofs.CoverLemmas.{broken_pairs}
 use Rattle.topology.proofs.merging.cheapest.Given as goal
 
--- every pair of a node that doesn't wait is covered
+-- every pair is covered
 abbrev pub invariant-loop-pair : goal.invariant-loop-pair
-invariant-loop-pair l = AreKept l.live l.waiting l.queue
+invariant-loop-pair l = AreKept l.live l.queue
 
 -- how many pairs are broken up
 abbrev pub decreases-loop-pair : goal.decreases-loop-pair

@@ -1,8 +1,8 @@
 use Rattle.std.proofs.Common.{◌≡◌, ◌+◌, length}
-use Rattle.topology.proofs.JoinLemmas.{IsMerging}
+use Rattle.topology.specs.LiveClusters.{IsMerging}
 use Rattle.topology.proofs.merging.greedy.Given as goal
 
 -- all is right with the merges so far
 abbrev pub invariant-loop-merge : goal.invariant-loop-merge
-invariant-loop-merge l = IsMerging l.sinks l.merges l.live l.waiting l.queue
+invariant-loop-merge l = IsMerging l.sinks l.merges l.live l.queue
     × (l._merge ≡ length l.merges + 1)

@@ -9,6 +9,9 @@ loop-sink-preserved c = sink_added c.args.sinks.now c.loop-sink.sink-index _ c.l
     (slice_get-get_or c.args.sinks.now c.loop-sink.sink-index _ c.loop-sink-test.true)
     c.of.ensures.alone c.loop-sink.invariant c.in_ok-add.ensures
 
-pub returns : goal.returns
-returns c = sinks_live c.args.sinks.now c.loop-sink.sink-index c.loop-sink.live
+pub returns-clause-live : goal.returns-clause-live
+returns-clause-live c = sinks_live c.args.sinks.now c.loop-sink.sink-index c.loop-sink.live
     (omega (arith, c.loop-sink-test.false, c.loop-sink.auto.sink-index-end)) c.loop-sink.invariant
+
+pub returns-clause-early : goal.returns-clause-early
+returns-clause-early c = c.loop-sink.invariant.early

@@ -1,0 +1,25 @@
+use Rattle.std.proofs.Common.{◌≡◌, ◌+◌, ◌++◌, ◌∷◌, [], pos, true≢false, ap, sym, subst, ◌∙◌}
+use Rattle.std.specs.Option.{IsSomeAnd}
+use Rattle.topology.specs.declared.pair.Pair.{Pair}
+use Rattle.topology.specs.LiveClusters.{IsNearest, IsSwept}
+use Rattle.topology.proofs.SweepLemmas.{sweep_keeps, sweep_merges}
+use Rattle.topology.proofs.merging.sweep.Goals as goal
+
+pub returns-then-not-costs_nothing : goal.returns-then-not-costs_nothing
+returns-then-not-costs_nothing c = λ sinks held. sweep_keeps sinks c.args.merges.now
+    c.args.live.now c.args.queue.now c.push_found.new.self c.args.node c.nearest-found.result held
+    c.nearest-found.ensures
+    (λ free. true≢false (sym (c.costs_nothing.ensures.1 free) ∙ c.if-not-costs_nothing.true))
+    c.in_ok-push_found.ensures
+
+pub returns : goal.returns
+returns c =
+    let merges = c.args.merges.now in
+    let live = c.args.live.now in
+    λ sinks held. subst (λ xs. IsSwept sinks xs c.join.new.self c.args.queue.now (c.args.node + 1))
+    (sym (c.in_ok-push.ensures.ok ∙ ap (λ m. merges ++ m ∷ []) c.merge.ensures))
+    (sweep_merges sinks merges live c.join.new.self c.args.queue.now c.args.node
+    c.unwrap-pair.result held
+    (subst (IsNearest live c.args.node) c.unwrap-pair.ensures c.nearest-found.ensures)
+    (subst (λ o. IsSomeAnd o (λ (pair : Pair). pair.cost ≡ pos 0)) c.unwrap-pair.ensures
+    (c.costs_nothing.ensures.0 c.if-not-costs_nothing.false)) c.in_ok-join.ensures)

@@ -1,0 +1,35 @@
+use Rattle.std.proofs.Common.{sym, subst, arith}
+use Rattle.topology.specs.LiveClusters.{IsMerging}
+use Rattle.topology.proofs.SweepLemmas.{sweep_ends, sweep_starts}
+use Rattle.topology.proofs.merging.swept.Goals as goal
+
+pub loop-node-init : goal.loop-node-init
+loop-node-init c = sweep_starts c.args.sinks.now c.args.merges.now c.in_ok-live.live
+    c.args.queue.now c.requires.merges c.requires.queue (omega (arith, c.requires.sinks.some))
+    c.in_ok-live.ensures.early c.in_ok-live.ensures.live
+
+pub loop-node-preserved : goal.loop-node-preserved
+loop-node-preserved c = c.in_ok-sweep.ensures c.args.sinks.now c.loop-node.invariant
+
+pub loop-node-smaller : goal.loop-node-smaller
+loop-node-smaller c = omega (
+  arith,
+  c.loop-node-test.true,
+  c.count.ensures,
+  c.loop-node.invariant.live.count,
+  c.loop-node.invariant.rest,
+)
+
+pub returns : goal.returns
+returns c =
+    let live = c.loop-node.live in
+    subst (λ early. IsMerging c.args.sinks.now c.loop-node.merges (record {
+      early = early;
+      axis = live.axis;
+      clusters = live.clusters;
+      keys = live.keys;
+      order = live.order;
+      widest = live.widest;
+    }) c.loop-node.queue) (sym c.count-2.ensures)
+    (sweep_ends c.args.sinks.now c.loop-node.merges live c.loop-node.queue c.loop-node.node
+    c.loop-node.invariant (omega (arith, c.loop-node-test.false, c.count.ensures)))
