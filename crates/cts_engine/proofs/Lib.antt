@@ -1,6 +1,5 @@
 mod PlaceLemmas
 mod OutcomeLemmas
-mod CyclePathLemmas
 mod WireLemmas
 mod DrawLemmas
 mod DelayLemmas

@@ -331,26 +331,38 @@ module _ (signals : List Signal) (delay : ℕ → Sums) where
   module _ (Starts Begun : ℕ → Sums → Type 0) (Handed : ℕ → ℕ → Type 0) (at : ℕ → Option Sums)
       (carried : AreCarried signals delay Starts Begun Handed at)
       (begun : (signal : ℕ) (start : Sums) → Starts signal start → Begun signal start)
-      (all : (read gate : ℕ) (sums : Sums) → at read ≡ Some sums → Reads signals gate read
-      → Handed read gate) where
+      (IsDone : ℕ → Type 0)
+      (back : (read gate : ℕ) → Reads signals gate read → IsDone gate → IsDone read)
+      (all : (read gate : ℕ) (sums : Sums) → IsDone read → at read ≡ Some sums
+      → Reads signals gate read → Handed read gate) where
+    -- what leads to a signal that is done is so too
+    first_done : (first : ℕ) (gates : List ℕ) (last : ℕ) → IsDone last
+        → Follows signals first gates last → IsDone first
+    first_done first [] last done same = subst IsDone (sym same) done
+    first_done first (gate ∷ gates) last done (reads, rest) =
+        back first gate reads (first_done gate gates last done rest)
+
     -- no gates lead beyond what stands at their end
-    beyond : (first : ℕ) (gates : List ℕ) (last : ℕ) (start : Sums) → AreAround (at first) start
-        → Follows signals first gates last → AreAround (at last) (along delay start gates)
-    beyond first [] last start around same = subst (λ n. AreAround (at n) start) same around
-    beyond first (gate ∷ gates) last start around (reads, rest) =
+    beyond : (first : ℕ) (gates : List ℕ) (last : ℕ) (start : Sums) → IsDone last
+        → AreAround (at first) start → Follows signals first gates last
+        → AreAround (at last) (along delay start gates)
+    beyond first [] last start done around same = subst (λ n. AreAround (at n) start) same around
+    beyond first (gate ∷ gates) last start done around (reads, rest) =
         let known = there (at first) start around in
-        beyond gate gates last (sums_through start (delay gate))
+        let before = first_done first (gate ∷ gates) last done (reads, rest) in
+        beyond gate gates last (sums_through start (delay gate)) done
         (around_around (at gate) (sums_through known.0 (delay gate))
         (sums_through start (delay gate))
-        (carried.handed first gate (all first gate known.0 known.1 reads) reads known.0 known.1)
-        (around_through known.0 start (delay gate) known.2)) rest
+        (carried.handed first gate (all first gate known.0 before known.1 reads) reads known.0
+        known.1) (around_through known.0 start (delay gate) known.2)) rest
 
-    -- where all is handed on, the least and the greatest of all that comes stand at each signal
-    pub carried_end : (signal : ℕ)
+    -- where all that is done is handed on, the least and the greatest of all that comes stand at
+    -- each signal that is done
+    pub carried_end : (signal : ℕ) → IsDone signal
         → AreExtremesIfAny (Comes signals delay Starts signal) (at signal)
-    carried_end signal = extremes_made (Comes signals delay Starts signal) (at signal)
+    carried_end signal done = extremes_made (Comes signals delay Starts signal) (at signal)
         (carried.shown signal) (λ one comes. subst (AreAround (at signal)) comes.ends
-        (beyond comes.first comes.gates signal comes.start
+        (beyond comes.first comes.gates signal comes.start done
         (carried.started comes.first comes.start comes.starts
         (begun comes.first comes.start comes.starts)) comes.follows))
 

@@ -11,14 +11,14 @@ use Rattle.path_delays.specs.Carrying.{AreExtremesOf, StandsAt}
 use Rattle.path_delays.specs.ExtremePaths.{extreme_of, IsNoFurther, IsFurthest}
 
 -- the walk found this extreme at the signal
-abbrev pub FitsAt : Walk → Bool → ℤ → ℕ → Type 0
-FitsAt walk greatest extreme signal =
-    IsSomeAnd (sums_to walk 0 signal) (λ sums. extreme_of greatest sums ≡ extreme)
+abbrev pub FitsAt : Walk → (lane : ℕ) → Bool → ℤ → ℕ → Type 0
+FitsAt walk lane greatest extreme signal =
+    IsSomeAnd (sums_to walk lane signal) (λ sums. extreme_of greatest sums ≡ extreme)
 
 -- it did at none of so many signals
-abbrev pub NoneFitsBefore : Walk → List ℕ → Bool → ℤ → ℕ → Type 0
-NoneFitsBefore walk signals greatest extreme count =
-    (place : ℕ) → place < count → FitsAt walk greatest extreme (get_or signals place 0) → ⊥
+abbrev pub NoneFitsBefore : Walk → (lane : ℕ) → List ℕ → Bool → ℤ → ℕ → Type 0
+NoneFitsBefore walk lane signals greatest extreme count =
+    (place : ℕ) → place < count → FitsAt walk lane greatest extreme (get_or signals place 0) → ⊥
 
 -- what lies around sums is no further
 no_further_around : (greatest : Bool) (sums entry : Sums) → IsAround sums entry
@@ -26,14 +26,14 @@ no_further_around : (greatest : Bool) (sums entry : Sums) → IsAround sums entr
 no_further_around true sums entry around = around.greatest
 no_further_around false sums entry around = around.least
 
-module _ (walk : Walk) (signals : List ℕ) (greatest : Bool) (sums : Sums)
-    (are : AreExtremesOf (StandsAt (sums_to walk 0) (Contains signals)) sums) where
+module _ (walk : Walk) (lane : ℕ) (signals : List ℕ) (greatest : Bool) (sums : Sums)
+    (are : AreExtremesOf (StandsAt (sums_to walk lane) (Contains signals)) sums) where
   -- a signal where the walk found the extreme is the furthest
   pub furthest_found : (signal : ℕ) → Contains signals signal
-      → FitsAt walk greatest (extreme_of greatest sums) signal
-      → IsFurthest walk (Contains signals) greatest signal
+      → FitsAt walk lane greatest (extreme_of greatest sums) signal
+      → IsFurthest walk lane (Contains signals) greatest signal
   furthest_found signal listed fits =
-      let found = some_and (sums_to walk 0 signal)
+      let found = some_and (sums_to walk lane signal)
       (λ entry. extreme_of greatest entry ≡ extreme_of greatest sums) fits in
       record {
         is_one = listed;
@@ -45,26 +45,28 @@ module _ (walk : Walk) (signals : List ℕ) (greatest : Bool) (sums : Sums)
       }
 
   -- and there is one
-  pub some_fits : NoneFitsBefore walk signals greatest (extreme_of greatest sums) (length signals)
-      → ⊥
+  pub some_fits : NoneFitsBefore walk lane signals greatest (extreme_of greatest sums)
+      (length signals) → ⊥
   some_fits none = at greatest none
     where
-      at : (b : Bool) → NoneFitsBefore walk signals b (extreme_of b sums) (length signals) → ⊥
+      at : (b : Bool) → NoneFitsBefore walk lane signals b (extreme_of b sums) (length signals)
+          → ⊥
       at true none =
           let (high, (last, (place, within, stands), at_last), greatest_is) = are.shown.greatest in
-          none place within (subst (FitsAt walk true sums.greatest)
+          none place within (subst (FitsAt walk lane true sums.greatest)
           (sym stands ∙ get_or_default signals place last 0 within) (rw at_last greatest_is))
       at false none =
           let (low, (first, (place, within, stands), at_first), least_is) = are.shown.least in
-          none place within (subst (FitsAt walk false sums.least)
+          none place within (subst (FitsAt walk lane false sums.least)
           (sym stands ∙ get_or_default signals place first 0 within) (rw at_first least_is))
 
 -- one signal more at which it didn't
-pub none_fits_next : (walk : Walk) (signals : List ℕ) (greatest : Bool) (extreme : ℤ) (count : ℕ)
-    → (FitsAt walk greatest extreme (get_or signals count 0) → ⊥)
-    → NoneFitsBefore walk signals greatest extreme count
-    → NoneFitsBefore walk signals greatest extreme (count + 1)
-none_fits_next walk signals greatest extreme count unfit none place before fits =
+pub none_fits_next : (walk : Walk) (lane : ℕ) (signals : List ℕ) (greatest : Bool) (extreme : ℤ)
+    (count : ℕ)
+    → (FitsAt walk lane greatest extreme (get_or signals count 0) → ⊥)
+    → NoneFitsBefore walk lane signals greatest extreme count
+    → NoneFitsBefore walk lane signals greatest extreme (count + 1)
+none_fits_next walk lane signals greatest extreme count unfit none place before fits =
     elim (cases_lt place count) [
       | inl earlier ↦ none place earlier fits
       | inr later ↦ let same : place ≡ count = omega arith in unfit (rw same at fits)

@@ -22,5 +22,6 @@ mod PairWalk
 mod PairCounts
 mod PendingPairs
 mod BetweenLemmas
+mod CyclePathLemmas
 pub mod WindowLemmas
 mod SweepLemmas

@@ -1,5 +1,5 @@
 -- The walk back from the end of a path, each time to the signal that was found furthest.
-use Rattle.std.proofs.Common.{ℕ, ◌≡◌, ◌<◌, ◌⊎◌, Bool, List, [], ◌∷◌, ◌++◌, length, reverse, Option, Some, None, Contains, refl, sym, ◌∙◌, ap, subst, arith, inl, inr, ◌+ℤ◌}
+use Rattle.std.proofs.Common.{ℕ, ◌≡◌, ◌<◌, ◌≤◌, ◌⊎◌, Bool, List, [], ◌∷◌, ◌++◌, length, reverse, Option, Some, None, Contains, refl, sym, ◌∙◌, ap, subst, arith, inl, inr, ◌+ℤ◌}
 use Rattle.std.specs.List.{slice_get}
 use Rattle.std.proofs.lemmas.Bool.{true≢false}
 use Rattle.std.proofs.lemmas.Int.{ints}
@@ -13,7 +13,8 @@ use Rattle.gate_order.proofs.Rings.{follows_joined}
 use Rattle.path_delays.specs.declared.sums.Sums.{Sums}
 use Rattle.path_delays.specs.declared.walk.Walk.{Walk}
 use Rattle.path_delays.specs.Reaches.{IsChain, IsReach}
-use Rattle.path_delays.specs.WalkParts.{sums_to, HasReach}
+use Rattle.path_delays.specs.Handing.{rank_at}
+use Rattle.path_delays.specs.WalkParts.{HasRanksOf, HasReachBetween, sums_to}
 use Rattle.path_delays.specs.ExtremePaths.{delay_by, extreme_of, IsNoFurther, IsExtremePath, IsFurthest}
 use Rattle.path_delays.proofs.ExtremeDelays.{own_by, gate_by, through_by, delay_is, delay_push, IsReachBy, reach_by, same_extreme, no_further_than, no_further_after}
 use Rattle.path_delays.proofs.LaunchLemmas.{launched_at}
@@ -63,10 +64,10 @@ last_of circuit first (gate ∷ gates) last follows =
 
 -- what a register captures is its fan-in
 pub captures_furthest : (circuit : Circuit) (to : ℕ) (captured : Signal)
-    → register_signal circuit to ≡ Some captured → (walk : Walk) (greatest : Bool) (last : ℕ)
-    → IsFurthest walk (Contains captured.fan_in) greatest last
-    → IsFurthest walk (Captures circuit to) greatest last
-captures_furthest circuit to captured found walk greatest last furthest = record {
+    → register_signal circuit to ≡ Some captured → (walk : Walk) (lane : ℕ) (greatest : Bool)
+    (last : ℕ) → IsFurthest walk lane (Contains captured.fan_in) greatest last
+    → IsFurthest walk lane (Captures circuit to) greatest last
+captures_furthest circuit to captured found walk lane greatest last furthest = record {
   is_one = rw found furthest.is_one;
   sums = furthest.sums;
   here = furthest.here;
@@ -84,44 +85,53 @@ captures_within circuit to captured found signal captures =
 
 -- from a signal on, the path to the last one, whose sums are those of the signal and what the gates
 -- after it add
-pub record IsBack (circuit : Circuit) (tech : Tech) (walk : Walk) (greatest : Bool) (last : ℕ)
-    (path : List ℕ) (signal : ℕ) : Type 0 where
+pub record IsBack (circuit : Circuit) (tech : Tech) (walk : Walk) (lane top : ℕ)
+    (greatest : Bool) (last : ℕ) (path : List ℕ) (signal : ℕ) : Type 0 where
   pub rest : List ℕ
   pub is : reverse path ≡ signal ∷ rest
   pub within : signal < length circuit.signals
+  pub low : rank_at walk.network signal ≤ top
   pub follows : Follows circuit.signals signal rest last
   pub sums : Sums
-  pub here : sums_to walk 0 signal ≡ Some sums
+  pub here : sums_to walk lane signal ≡ Some sums
   pub end : Sums
-  pub end_here : sums_to walk 0 last ≡ Some end
+  pub end_here : sums_to walk lane last ≡ Some end
   pub total : extreme_of greatest end
       ≡ extreme_of greatest sums +ℤ through_by greatest circuit tech rest
 
-module _ (circuit : Circuit) (tech : Tech) (from : ℕ) (walk : Walk) (greatest : Bool)
-    (reach : HasReach circuit tech from 0 walk) where
+module _ (circuit : Circuit) (tech : Tech) (from to lane : ℕ) (walk : Walk) (greatest : Bool)
+    (ranks : HasRanksOf circuit walk) (reach : HasReachBetween circuit tech from to lane walk) where
+  -- the walk went up to the signal
+  abbrev IsLow : ℕ → Type 0
+  IsLow signal = rank_at walk.network signal ≤ reach.top
+
+  -- and to what it reads
+  read_low : (signal read : ℕ) → IsLow signal → Reads circuit.signals signal read → IsLow read
+  read_low signal read low reads = omega (arith, ranks.rising signal read reads)
+
   -- what the walk found at a signal are the delays of its chains
-  reached : (signal : ℕ) (sums : Sums) → sums_to walk 0 signal ≡ Some sums
+  reached : (signal : ℕ) (sums : Sums) → IsLow signal → sums_to walk lane signal ≡ Some sums
       → IsReachBy greatest circuit tech from signal sums
-  reached signal sums here = reach_by greatest circuit tech from signal sums
-      (subst (IsReach circuit tech from signal) here (reach.each signal))
+  reached signal sums low here = reach_by greatest circuit tech from signal sums
+      (subst (IsReach circuit tech from signal) here (reach.each signal low))
 
   -- where it found nothing, there is no chain
-  unreached : (signal : ℕ) (chain : List ℕ) → sums_to walk 0 signal ≡ None
+  unreached : (signal : ℕ) (chain : List ℕ) → IsLow signal → sums_to walk lane signal ≡ None
       → IsChain circuit from signal chain → ⊥
-  unreached signal chain nothing is_chain =
-      subst (IsReach circuit tech from signal) nothing (reach.each signal) chain is_chain
+  unreached signal chain low nothing is_chain =
+      subst (IsReach circuit tech from signal) nothing (reach.each signal low) chain is_chain
 
   -- a chain to a signal is no further than what the walk found there
-  chain_within : (signal : ℕ) (chain : List ℕ) → IsChain circuit from signal chain
-      → (sums : Sums) × (sums_to walk 0 signal ≡ Some sums)
+  chain_within : (signal : ℕ) (chain : List ℕ) → IsLow signal → IsChain circuit from signal chain
+      → (sums : Sums) × (sums_to walk lane signal ≡ Some sums)
       × IsNoFurther greatest (delay_by greatest circuit tech chain) (extreme_of greatest sums)
-  chain_within signal chain is_chain = at (sums_to walk 0 signal) refl
+  chain_within signal chain low is_chain = at (sums_to walk lane signal) refl
     where
-      at : (found : Option Sums) → sums_to walk 0 signal ≡ found
-          → (sums : Sums) × (sums_to walk 0 signal ≡ Some sums)
+      at : (found : Option Sums) → sums_to walk lane signal ≡ found
+          → (sums : Sums) × (sums_to walk lane signal ≡ Some sums)
           × IsNoFurther greatest (delay_by greatest circuit tech chain) (extreme_of greatest sums)
-      at None nothing = absurd (unreached signal chain nothing is_chain)
-      at (Some sums) here = (sums, here, (reached signal sums here).extreme chain is_chain)
+      at None nothing = absurd (unreached signal chain low nothing is_chain)
+      at (Some sums) here = (sums, here, (reached signal sums low here).extreme chain is_chain)
 
   -- a chain with a reader of its end after it is one to the reader
   chain_push : (first : ℕ) (prefix : List ℕ) (read gate : ℕ)
@@ -133,13 +143,13 @@ module _ (circuit : Circuit) (tech : Tech) (from : ℕ) (walk : Walk) (greatest 
   )
 
   -- so the walk found no less at a gate than what it reads and the gate add up to
-  reader_within : (signal read : ℕ) (sums read_sums : Sums) → Reads circuit.signals signal read
-      → sums_to walk 0 signal ≡ Some sums → sums_to walk 0 read ≡ Some read_sums
-      → IsNoFurther greatest
+  reader_within : (signal read : ℕ) (sums read_sums : Sums) → IsLow signal
+      → Reads circuit.signals signal read → sums_to walk lane signal ≡ Some sums
+      → sums_to walk lane read ≡ Some read_sums → IsNoFurther greatest
       (extreme_of greatest read_sums +ℤ gate_by greatest tech (slice_get circuit.signals signal))
       (extreme_of greatest sums)
-  reader_within signal read sums read_sums reads here read_here =
-      let shown = reached read read_sums read_here in
+  reader_within signal read sums read_sums low reads here read_here =
+      let shown = reached read read_sums (read_low signal read low reads) read_here in
       at shown.chain shown.is_chain shown.shown
     where
       at : (chain : List ℕ) → IsChain circuit from read chain
@@ -149,20 +159,21 @@ module _ (circuit : Circuit) (tech : Tech) (from : ℕ) (walk : Walk) (greatest 
           +ℤ gate_by greatest tech (slice_get circuit.signals signal)) (extreme_of greatest sums)
       at [] is_chain shown = absurd is_chain
       at (first ∷ prefix) is_chain shown =
-          let longer = (reached signal sums here).extreme (first ∷ prefix ++ signal ∷ [])
+          let longer = (reached signal sums low here).extreme (first ∷ prefix ++ signal ∷ [])
           (chain_push first prefix read signal is_chain reads) in
           rw (← shown) (rw (delay_push greatest circuit tech first prefix signal) at longer)
 
   -- at a gate the walk found what it found at the furthest signal that the gate reads, and the
   -- gate's delay
-  furthest_adds : (signal read : ℕ) (sums : Sums) → sums_to walk 0 signal ≡ Some sums
-      → (furthest : IsFurthest walk (Reads circuit.signals signal) greatest read)
+  furthest_adds : (signal read : ℕ) (sums : Sums) → IsLow signal
+      → sums_to walk lane signal ≡ Some sums
+      → (furthest : IsFurthest walk lane (Reads circuit.signals signal) greatest read)
       → extreme_of greatest sums ≡ extreme_of greatest furthest.sums
       +ℤ gate_by greatest tech (slice_get circuit.signals signal)
-  furthest_adds signal read sums here furthest =
-      let shown = reached signal sums here in
+  furthest_adds signal read sums low here furthest =
+      let shown = reached signal sums low here in
       same_extreme greatest _ _ (at shown.chain shown.is_chain shown.shown)
-      (reader_within signal read sums furthest.sums furthest.is_one here furthest.here)
+      (reader_within signal read sums furthest.sums low furthest.is_one here furthest.here)
     where
       suffix : (first : ℕ) (gates : List ℕ) → Launches circuit from first
           → IsAfter circuit first gates signal
@@ -171,8 +182,8 @@ module _ (circuit : Circuit) (tech : Tech) (from : ℕ) (walk : Walk) (greatest 
           (extreme_of greatest furthest.sums
           +ℤ gate_by greatest tech (slice_get circuit.signals signal))
       suffix first gates launches is_after shown =
-          let there =
-          chain_within is_after.read (first ∷ is_after.prefix) (launches, is_after.follows) in
+          let there = chain_within is_after.read (first ∷ is_after.prefix)
+          (read_low signal is_after.read low is_after.reads) (launches, is_after.follows) in
           let lower = no_further_than greatest _ _ _ there.2
           (furthest.furthest is_after.read there.0 is_after.reads there.1) in
           let whole = sym shown ∙ ap (λ l. delay_by greatest circuit tech (first ∷ l)) is_after.is
@@ -193,11 +204,11 @@ module _ (circuit : Circuit) (tech : Tech) (from : ℕ) (walk : Walk) (greatest 
       ]
 
   -- where the walk found nothing at what a signal reads, the register launches it
-  is_start : (signal : ℕ) (sums : Sums) → sums_to walk 0 signal ≡ Some sums
-      → ((read : ℕ) → Reads circuit.signals signal read → sums_to walk 0 read ≡ None)
+  is_start : (signal : ℕ) (sums : Sums) → IsLow signal → sums_to walk lane signal ≡ Some sums
+      → ((read : ℕ) → Reads circuit.signals signal read → sums_to walk lane read ≡ None)
       → Launches circuit from signal × (extreme_of greatest sums ≡ own_by greatest tech)
-  is_start signal sums here none =
-      let shown = reached signal sums here in at shown.chain shown.is_chain shown.shown
+  is_start signal sums low here none =
+      let shown = reached signal sums low here in at shown.chain shown.is_chain shown.shown
     where
       at : (chain : List ℕ) → IsChain circuit from signal chain
           → delay_by greatest circuit tech chain ≡ extreme_of greatest sums
@@ -210,36 +221,39 @@ module _ (circuit : Circuit) (tech : Tech) (from : ℕ) (walk : Walk) (greatest 
             (subst (Launches circuit from) alone.1 is_chain.0, omega (arith, ints, own, whole))
         | inr is_after ↦
             absurd (unreached is_after.read (first ∷ is_after.prefix)
+            (read_low signal is_after.read low is_after.reads)
             (none is_after.read is_after.reads) (is_chain.0, is_after.follows))
       ]
 
   -- the last signal by itself
-  pub back_first : (last : ℕ) (sums : Sums) (path : List ℕ) → path ≡ last ∷ []
-      → last < length circuit.signals → sums_to walk 0 last ≡ Some sums
-      → IsBack circuit tech walk greatest last path last
-  back_first last sums path is within here = record {
+  pub back_first : (last : ℕ) (path : List ℕ) → path ≡ last ∷ []
+      → last < length circuit.signals → (furthest : IsFurthest walk lane (Captures circuit to)
+      greatest last) → IsBack circuit tech walk lane reach.top greatest last path last
+  back_first last path is within furthest = record {
     rest = [];
     is = ap reverse is;
     within = within;
+    low = reach.captured last furthest.is_one;
     follows = refl;
-    sums = sums;
-    here = here;
-    end = sums;
-    end_here = here;
+    sums = furthest.sums;
+    here = furthest.here;
+    end = furthest.sums;
+    end_here = furthest.here;
     total = omega (arith, ints);
   }
 
   -- one signal further back
   pub back_next : (last signal read : ℕ) (path longer : List ℕ) → longer ≡ path ++ read ∷ []
-      → IsFurthest walk (Reads circuit.signals signal) greatest read
-      → IsBack circuit tech walk greatest last path signal
-      → IsBack circuit tech walk greatest last longer read
+      → IsFurthest walk lane (Reads circuit.signals signal) greatest read
+      → IsBack circuit tech walk lane reach.top greatest last path signal
+      → IsBack circuit tech walk lane reach.top greatest last longer read
   back_next last signal read path longer is furthest back =
-      let adds = furthest_adds signal read back.sums back.here furthest in
+      let adds = furthest_adds signal read back.sums back.low back.here furthest in
       record {
         rest = signal ∷ back.rest;
         is = ap reverse is ∙ reverse-append path (read ∷ []) ∙ ap (λ l. read ∷ l) back.is;
         within = reads_within circuit.signals signal read circuit.valid.read furthest.is_one;
+        low = read_low signal read back.low furthest.is_one;
         follows = (furthest.is_one, back.follows);
         sums = furthest.sums;
         here = furthest.here;
@@ -249,13 +263,13 @@ module _ (circuit : Circuit) (tech : Tech) (from : ℕ) (walk : Walk) (greatest 
       }
 
   -- back at a signal that the register launches, it is a path, and none is further
-  pub back_at_start : (to last signal : ℕ) (path rotated : List ℕ) → rotated ≡ reverse path
-      → IsFurthest walk (Captures circuit to) greatest last
-      → ((read : ℕ) → Reads circuit.signals signal read → sums_to walk 0 read ≡ None)
-      → IsBack circuit tech walk greatest last path signal
+  pub back_at_start : (last signal : ℕ) (path rotated : List ℕ) → rotated ≡ reverse path
+      → IsFurthest walk lane (Captures circuit to) greatest last
+      → ((read : ℕ) → Reads circuit.signals signal read → sums_to walk lane read ≡ None)
+      → IsBack circuit tech walk lane reach.top greatest last path signal
       → IsExtremePath circuit tech from to greatest rotated
-  back_at_start to last signal path rotated is furthest none back =
-      let start = is_start signal back.sums back.here none in
+  back_at_start last signal path rotated is furthest none back =
+      let start = is_start signal back.sums back.low back.here none in
       let own = delay_is greatest circuit tech signal back.rest in
       let sum = back.total in
       let delay : delay_by greatest circuit tech (signal ∷ back.rest)
@@ -266,7 +280,8 @@ module _ (circuit : Circuit) (tech : Tech) (from : ℕ) (walk : Walk) (greatest 
         is_path = (start.0, (last, back.follows, furthest.is_one));
         extreme = λ other is_path.
             let chain = chain_of_path circuit from to other is_path in
-            let there = chain_within chain.0 other chain.1 in
+            let there =
+            chain_within chain.0 other (reach.captured chain.0 chain.2) chain.1 in
             rw (delay, same_end)
             (no_further_than greatest _ _ _ there.2
             (furthest.furthest chain.0 there.0 chain.2 there.1));

@@ -14,7 +14,7 @@ use Rattle.cts_model.specs.timing.Delays.{least_delay, greatest_delay}
 use Rattle.path_delays.specs.declared.sums.Sums.{Sums}
 use Rattle.path_delays.specs.declared.walk.Walk.{Walk}
 use Rattle.path_delays.specs.Reaches.{IsChain, AreExtreme, IsReach}
-use Rattle.path_delays.specs.WalkParts.{sums_to, HasReach}
+use Rattle.path_delays.specs.WalkParts.{sums_to, ReachesEach}
 use Rattle.path_delays.specs.Captured.{AreCapturedBy}
 use Rattle.path_delays.specs.Carrying.{AreExtremesOf, StandsAt}
 use Rattle.path_delays.specs.JoinedPairs.{IsDelayBetween}
@@ -60,24 +60,27 @@ captured_is_fan_in circuit register signal found =
     λ number. (λ listed. rw found listed, λ captures. rw found at captures)
 
 module _ (circuit : Circuit) (tech : Tech) (from to lane : ℕ) (walk : Walk) (captured : List ℕ)
-    (exact : AreCapturedBy circuit to captured) (reach : HasReach circuit tech from lane walk) where
+    (exact : AreCapturedBy circuit to captured)
+    (reach : ReachesEach circuit tech from lane captured walk) where
   -- what the walk found at a signal are the delays of its chains
-  reached : (signal : ℕ) (entry : Sums) → sums_to walk lane signal ≡ Some entry
-      → AreExtreme circuit tech from signal entry
-  reached signal entry here = subst (IsReach circuit tech from signal) here (reach.each signal)
+  reached : (signal : ℕ) (entry : Sums) → Contains captured signal
+      → sums_to walk lane signal ≡ Some entry → AreExtreme circuit tech from signal entry
+  reached signal entry listed here =
+      subst (IsReach circuit tech from signal) here (reach signal listed)
 
   -- where it found nothing, there is no chain
-  no_chain : (signal : ℕ) (chain : List ℕ) → sums_to walk lane signal ≡ None
-      → IsChain circuit from signal chain → ⊥
-  no_chain signal chain nothing is_chain =
-      subst (IsReach circuit tech from signal) nothing (reach.each signal) chain is_chain
+  no_chain : (signal : ℕ) (chain : List ℕ) → Contains captured signal
+      → sums_to walk lane signal ≡ None → IsChain circuit from signal chain → ⊥
+  no_chain signal chain listed nothing is_chain =
+      subst (IsReach circuit tech from signal) nothing (reach signal listed) chain is_chain
 
   -- so no path joins the registers, where it found nothing at any
   pub no_path : ((signal : ℕ) → Contains captured signal → sums_to walk lane signal ≡ None)
       → (path : List ℕ) → IsPath circuit from to path → ⊥
   no_path none path is_path =
       let chain = chain_of_path circuit from to path is_path in
-      no_chain chain.0 path (none chain.0 ((exact chain.0).1 chain.2)) chain.1
+      let listed = (exact chain.0).1 chain.2 in
+      no_chain chain.0 path listed (none chain.0 listed) chain.1
 
   -- the delays of a path lie within the extremes at all captured signals
   path_within : (sums : Sums)
@@ -94,10 +97,10 @@ module _ (circuit : Circuit) (tech : Tech) (from to lane : ℕ) (walk : Walk) (c
           → (entry : Option Sums) → sums_to walk lane last ≡ entry
           → (sums.least ≤ℤ least_delay circuit tech path)
           × (greatest_delay circuit tech path ≤ℤ sums.greatest)
-      at last listed is_chain None nothing = absurd (no_chain last path nothing is_chain)
+      at last listed is_chain None nothing = absurd (no_chain last path listed nothing is_chain)
       at last listed is_chain (Some entry) here =
           let around = are.around entry (last, listed, here) in
-          let reaches = reached last entry here in
+          let reaches = reached last entry listed here in
           let low = reaches.least path is_chain in
           let high = reaches.greatest path is_chain in
           (omega (arith, ints, around.least), omega (arith, ints, around.greatest))
@@ -110,9 +113,9 @@ module _ (circuit : Circuit) (tech : Tech) (from to lane : ℕ) (walk : Walk) (c
   delays_between sums pair are from_is to_is least_is greatest_is =
       let (low, (first, first_listed, at_first), least) = are.shown.least in
       let (high, (last, last_listed, at_last), greatest) = are.shown.greatest in
-      let least_reach = reached first low at_first in
+      let least_reach = reached first low first_listed at_first in
       let least_chain = least_reach.shown.least in
-      let greatest_reach = reached last high at_last in
+      let greatest_reach = reached last high last_listed at_last in
       let greatest_chain = greatest_reach.shown.greatest in
       let here : (path : List ℕ) → IsPath circuit from to path
       → IsPath circuit pair.from pair.to path = λ path is_path. rw (from_is, to_is) is_path in

@@ -489,10 +489,11 @@ module _ (circuit : Circuit) (tech : Tech) (schedule : Schedule) where
     each = λ register window here. hull_of_extremes register window
         (extremes_of_extremes (sums_in windows) (Captures circuit register)
         (Comes signals delay AllStart) (option_map sums_of window)
-        (carried_end signals delay AllStart AllStart (HandedToPassed order (length order))
-        (sums_in windows) passed.carried (λ signal start starts. starts)
-        (λ read gate sums stands reads. rw (take_all (length order) order (omega arith))
-        (sorted.all gate (IsGate-from_Reads circuit.signals gate read reads))))
+        (λ signal. carried_end signals delay AllStart AllStart (HandedToPassed order (length order))
+        (sums_in windows) passed.carried (λ one start starts. starts) (λ one. Unit {0})
+        (λ read gate reads done. tt)
+        (λ read gate sums done stands reads. rw (take_all (length order) order (omega arith))
+        (sorted.all gate (IsGate-from_Reads circuit.signals gate read reads))) signal tt)
         (are.each register window here));
     small = λ register any within. small register (get_or captured register any)
         (are.each register (get_or captured register any)

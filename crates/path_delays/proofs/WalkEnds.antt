@@ -1,8 +1,9 @@
--- Where a walk ends: no rank waits, and each lane has the sums to all that its register reaches.
-use Rattle.std.proofs.Common.{◌≡◌, ◌<◌, ℕ, ◌+ℤ◌, pos, false, List, [], ◌∷◌, length, Option, Some, None, inl, inr, refl, sym, ◌∙◌, ap, subst, arith}
+-- Where a walk ends: no rank waits up to one, and each lane has the sums to all up to it that its
+-- register reaches.
+use Rattle.std.proofs.Common.{◌≡◌, ◌<◌, ◌≤◌, ℕ, ◌+ℤ◌, pos, true, List, [], ◌∷◌, length, Option, Some, None, inl, inr, refl, sym, ◌∙◌, ap, subst, arith}
 use Rattle.std.specs.Option.{option_and_then}
 use Rattle.std.specs.List.{slice_get}
-use Rattle.std.proofs.lemmas.Bool.{cases_lt, true≢false}
+use Rattle.std.proofs.lemmas.Bool.{cases_lt}
 use Rattle.std.proofs.lemmas.Int.{ints}
 use Rattle.std.proofs.lemmas.Option.{same_Some}
 use Rattle.cts_model.specs.declared.circuit.Circuit.{Circuit}
@@ -112,26 +113,31 @@ module _ (circuit : Circuit) (tech : Tech) where
           within = small sums refl;
         }
 
-    -- where no rank waits, the sums in the lane are those
+    -- where no rank waits up to one, the sums in the lane are those up to it
     pub reach_shown : (network : Network) → IsNetworkOf circuit tech network → (reach : Reach)
         (rank : ℕ) → lane < length registers → lane < 8
         → IsSpreadBelow circuit tech network registers (length registers) rank reach
-        → ((other : ℕ) → waits_at reach other ≡ false) → (signal : ℕ)
+        → (top : ℕ) → ((other : ℕ) → waits_at reach other ≡ true → top < other) → (signal : ℕ)
+        → rank_at network signal ≤ top
         → IsReach circuit tech from signal (sums_at reach lane signal)
-    reach_shown network is reach rank within low spread idle signal =
+    reach_shown network is reach rank within low spread top above signal below =
         reach_of_comes signal (sums_at reach lane signal)
         (carried_end circuit.signals delay Starts (LanesBelow (length registers) lane)
         (AllBelow network rank) (sums_at reach lane) (spread.carried lane low)
-        (λ one start starts. within) all signal) small
+        (λ one start starts. within) (λ one. rank_at network one ≤ top)
+        (λ read gate reads up_to. omega (arith, is.ranks.rising gate read reads)) all signal below)
+        small
       where
-        -- all that is reached has handed on its sums
-        all : (read gate : ℕ) (sums : Sums) → sums_at reach lane read ≡ Some sums
-            → Reads circuit.signals gate read → rank_at network read < rank
-        all read gate sums there reads = elim (cases_lt (rank_at network read) rank) [
+        -- all that is reached up to the rank has handed on its sums
+        all : (read gate : ℕ) (sums : Sums) → rank_at network read ≤ top
+            → sums_at reach lane read ≡ Some sums → Reads circuit.signals gate read
+            → rank_at network read < rank
+        all read gate sums up_to there reads = elim (cases_lt (rank_at network read) rank) [
           | inl before ↦ before
-          | inr later ↦ absurd (true≢false (sym (spread.waits read
-              (lanes_there (lanes_at reach read) lane sums there) later)
-              ∙ idle (rank_at network read)))
+          | inr later ↦
+              let waits = spread.waits read (lanes_there (lanes_at reach read) lane sums there)
+              later in
+              absurd (omega (arith, above (rank_at network read) waits))
         ]
 
         limit : ℕ

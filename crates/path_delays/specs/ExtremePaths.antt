@@ -37,17 +37,17 @@ IsExtremeIfAny circuit tech from to greatest found =
     MatchOption found ((path : List ℕ) → IsPath circuit from to path → ⊥)
     (IsExtremePath circuit tech from to greatest)
 
--- of what the walk found in its first lane at some signals none is further than at this one
-pub record IsFurthest (walk : Walk) (IsOne : ℕ → Type 0) (greatest : Bool)
+-- of what the walk found in a lane at some signals none is further than at this one
+pub record IsFurthest (walk : Walk) (lane : ℕ) (IsOne : ℕ → Type 0) (greatest : Bool)
     (signal : ℕ) : Type 0 where
   pub is_one : IsOne signal
   pub sums : Sums
-  pub here : sums_to walk 0 signal ≡ Some sums
-  pub furthest : (other : ℕ) (entry : Sums) → IsOne other → sums_to walk 0 other ≡ Some entry
+  pub here : sums_to walk lane signal ≡ Some sums
+  pub furthest : (other : ℕ) (entry : Sums) → IsOne other → sums_to walk lane other ≡ Some entry
       → IsNoFurther greatest (extreme_of greatest entry) (extreme_of greatest sums)
 
 -- nothing where the walk found nothing at any of them
-abbrev pub IsFurthestIfAny : Walk → (ℕ → Type 0) → Bool → Option ℕ → Type 0
-IsFurthestIfAny walk IsOne greatest found =
-    MatchOption found ((signal : ℕ) → IsOne signal → sums_to walk 0 signal ≡ None)
-    (IsFurthest walk IsOne greatest)
+abbrev pub IsFurthestIfAny : Walk → (lane : ℕ) → (ℕ → Type 0) → Bool → Option ℕ → Type 0
+IsFurthestIfAny walk lane IsOne greatest found =
+    MatchOption found ((signal : ℕ) → IsOne signal → sums_to walk lane signal ≡ None)
+    (IsFurthest walk lane IsOne greatest)

@@ -14,3 +14,4 @@ pub mod ExtremePaths
 pub mod TimedCircuits
 pub mod Windows
 pub mod WindowParts
+pub mod CyclePaths

@@ -8,12 +8,13 @@ use Rattle.cts_model.specs.declared.circuit.Circuit.{Circuit}
 use Rattle.cts_model.specs.declared.tech.Tech.{Tech}
 use Rattle.cts_model.specs.netlist.Kinds.{is_gate}
 use Rattle.cts_model.specs.netlist.Circuits.{gate_inputs}
-use Rattle.cts_model.specs.netlist.Paths.{IsGate, IsInput, Reads}
+use Rattle.cts_model.specs.netlist.Paths.{Captures, IsGate, IsInput, Reads}
 use Rattle.cts_model.specs.timing.Delays.{least_gate_delay, greatest_gate_delay}
 use Rattle.gate_order.specs.declared.groups.Groups.{Groups}
 use Rattle.gate_order.specs.GroupParts.{bounds_of, group_of}
 use Rattle.path_delays.specs.declared.sums.Sums.{Sums}
 use Rattle.path_delays.specs.declared.network.Network.{Network}
+use Rattle.path_delays.specs.Handing.{rank_at}
 
 -- the pairs of a signal that is read and a gate that reads it, of all gates below a number
 pub record AreAllReads (signals : List Signal) (below : ℕ) (pairs : List (ℕ × ℕ)) : Type 0 where
@@ -80,6 +81,11 @@ AreInputs circuit inputs = (signal : ℕ) → Contains inputs signal ↔ IsInput
 abbrev pub AreInputsBelow : Circuit → (below : ℕ) → List ℕ → Type 0
 AreInputsBelow circuit below inputs =
     (signal : ℕ) → Contains inputs signal ↔ ((signal < below) × IsInput circuit signal)
+
+-- no signal that the register captures has a higher rank
+abbrev pub AreCapturedUpTo : Circuit → Network → (register top : ℕ) → Type 0
+AreCapturedUpTo circuit network register top =
+    (signal : ℕ) → Captures circuit register signal → rank_at network signal ≤ top
 
 -- the readers, the ranks, the delays and the inputs of a circuit
 pub record IsNetworkOf (circuit : Circuit) (tech : Tech) (network : Network) : Type 0 where

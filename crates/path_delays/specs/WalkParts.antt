@@ -1,11 +1,11 @@
 -- What a walk from a register shows.
-use Rattle.std.specs.Prelude.{◌≡◌, ℕ, List, Option, Some, slice_get}
+use Rattle.std.specs.Prelude.{◌≡◌, ◌≤◌, ℕ, List, Contains, Option, Some, slice_get}
 use Rattle.cts_model.specs.declared.circuit.Circuit.{Circuit}
 use Rattle.cts_model.specs.declared.tech.Tech.{Tech}
 use Rattle.path_delays.specs.declared.sums.Sums.{Sums}
 use Rattle.path_delays.specs.declared.walk.Walk.{Walk}
-use Rattle.path_delays.specs.Networks.{IsNetworkOf}
-use Rattle.path_delays.specs.Handing.{HasReachRoom, sums_at}
+use Rattle.path_delays.specs.Networks.{AreCapturedUpTo, AreRanks, IsNetworkOf}
+use Rattle.path_delays.specs.Handing.{HasReachRoom, rank_at, sums_at}
 use Rattle.path_delays.specs.Reaches.{IsReach}
 
 -- the sums to a signal from the register in a lane, if that reaches it
@@ -25,3 +25,26 @@ pub record HasReach (circuit : Circuit) (tech : Tech) (from lane : ℕ) (walk : 
 abbrev pub HaveReach : Circuit → Tech → (registers : List ℕ) → Walk → Type 0
 HaveReach circuit tech registers walk = (lane from : ℕ) → slice_get registers lane ≡ Some from
     → HasReach circuit tech from lane walk
+
+-- a lane has the sums to each of some signals that the register reaches
+abbrev pub ReachesEach : Circuit → Tech → (from lane : ℕ) → List ℕ → Walk → Type 0
+ReachesEach circuit tech from lane signals walk = (signal : ℕ) → Contains signals signal
+    → IsReach circuit tech from signal (sums_to walk lane signal)
+
+-- a lane has the sums to all up to a rank, and no signal that another register captures is above it
+pub record HasReachBetween (circuit : Circuit) (tech : Tech) (from to lane : ℕ) (walk : Walk)
+    : Type 0 where
+  pub top : ℕ
+  pub each : (signal : ℕ) → rank_at walk.network signal ≤ top
+      → IsReach circuit tech from signal (sums_to walk lane signal)
+  pub captured : AreCapturedUpTo circuit walk.network to top
+
+-- and so has the lane of each of these pairs
+abbrev pub HaveReachBetween : Circuit → Tech → (pairs : List (ℕ × ℕ)) → Walk → Type 0
+HaveReachBetween circuit tech pairs walk = (lane from to : ℕ)
+    → slice_get pairs lane ≡ Some (from, to) → HasReachBetween circuit tech from to lane walk
+
+-- the walk's ranks are those of the circuit's gates
+abbrev pub HasRanksOf : Circuit → Walk → Type 0
+HasRanksOf circuit walk =
+    AreRanks circuit.signals walk.network.order.items walk.network.ranks.items

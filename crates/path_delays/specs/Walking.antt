@@ -67,8 +67,8 @@ abbrev pub IsSpreadBelow : Circuit → Tech → Network → (registers : List �
 IsSpreadBelow circuit tech network registers begun rank =
     IsSpread circuit tech network registers (LanesBelow begun) (AllBelow network rank) rank
 
--- each lane has the sums to all that its register reaches
-abbrev pub HaveReached : Circuit → Tech → List ℕ → Reach → Type 0
-HaveReached circuit tech registers reach = (lane from signal : ℕ)
-    → slice_get registers lane ≡ Some from
+-- each lane has the sums to all that its register reaches up to a rank
+abbrev pub HaveReachedUpTo : Circuit → Tech → Network → List ℕ → (top : ℕ) → Reach → Type 0
+HaveReachedUpTo circuit tech network registers top reach = (lane from signal : ℕ)
+    → slice_get registers lane ≡ Some from → rank_at network signal ≤ top
     → IsReach circuit tech from signal (sums_at reach lane signal)

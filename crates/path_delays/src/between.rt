@@ -3,7 +3,7 @@ ghost use Rattle.gate_order.specs.LevelParts.{IsLevelsOf};
 ghost use Rattle.path_delays.specs.WalkParts.{IsRoomFor};
 ghost use Rattle.path_delays.specs.JoinedPairs.{AreDelaysBetween};
 
-use crate::lanes::{LANES, block_end};
+use crate::lanes::block_end;
 use crate::pair::joined_pair;
 use crate::walk::Walk;
 use cts_base::{Listed, NoMemory};
@@ -13,7 +13,7 @@ use std::alloc::Global;
 
 /// The delays of pairs of registers, one pair after the other, over all paths between the two.
 /// `None` stands exactly where no path joins them. One walk for eight pairs, from the first of
-/// each, in the same room.
+/// each up to what the second ones capture, in the same room.
 ///
 /// # Errors
 ///
@@ -41,7 +41,7 @@ pub fn delays_between(
     Ok(Listed::from_vec(delays))
 }
 
-// Appends the delays of up to eight pairs: one walk from the first of each.
+// Appends the delays of up to eight pairs: one walk between them.
 fn push_delays(
     delays: &mut Vec<Option<PairDelay>>,
     walk: &mut Walk,
@@ -58,11 +58,7 @@ fn push_delays(
         → AreDelaysBetween circuit.now tech.now passed delays.old.items
         → AreDelaysBetween circuit.now tech.now (passed ++ pairs.now) delays.new.items) }
 {
-    let mut registers = [0; LANES];
-    for (lane, pair) in pairs.iter().enumerate() {
-        registers[lane] = pair.0;
-    }
-    walk.walk_from(circuit, tech, &registers[..pairs.len()]);
+    walk.walk_between(circuit, tech, pairs);
     for (lane, pair) in pairs.iter().enumerate() {
         let captured = circuit.register_signal(pair.1 as usize).fan_in.as_slice();
         delays.push(joined_pair(walk, lane, captured, pair.0, pair.1))?;

@@ -1,39 +1,39 @@
-ghost use Rattle.std.specs.Prelude.{◌≡◌, ◌<◌, ◌↔◌, length, Contains, IfOk, IsTrue, IsSomeAnd};
+ghost use Rattle.std.specs.Prelude.{◌≡◌, ◌<◌, ◌↔◌, ℕ, length, Contains, IfOk, IsTrue, IsSomeAnd};
+ghost use Rattle.cts_model.specs.declared.tech.Tech.{Tech};
 ghost use Rattle.cts_model.specs.netlist.Paths.{Reads};
-ghost use Rattle.path_delays.specs.WalkParts.{IsRoomFor};
+ghost use Rattle.path_delays.specs.WalkParts.{HasRanksOf, HasReachBetween};
 ghost use Rattle.path_delays.specs.ExtremePaths.{IsExtremeIfAny, IsFurthestIfAny, extreme_of};
 
 use crate::pair::captured_sums;
 use crate::sums::Sums;
 use crate::walk::Walk;
 use cts_base::{Listed, NoMemory};
-use cts_model::{Circuit, Tech};
+use cts_model::Circuit;
 use std::alloc::Global;
 
-/// Walks from a register, and finds a path to another.
-pub(crate) fn path_between(
-    walk: &mut Walk,
+/// A path from the register in a lane of a walk to another, which the walk went up to.
+pub(crate) fn path_back(
+    walk: &Walk,
     alloc: Global,
     circuit: &Circuit,
-    tech: &Tech,
-    from: u32,
+    lane: usize,
     to: u32,
     greatest: bool,
 ) -> Result<Option<Listed<u32>>, NoMemory>
-    requires room { IsRoomFor circuit.now tech.now walk.old }
-    requires from { from < length circuit.now.registers }
+    requires ranks { HasRanksOf circuit.now walk.now }
+    requires lane { lane < 8 }
     requires to { to < length circuit.now.registers }
-    ensures path { IfOk result (IsExtremeIfAny circuit.now tech.now from to greatest) }
-    ensures room { IsRoomFor circuit.now tech.now walk.new }
+    ensures { IfOk result (λ found. (tech : Tech) (from : ℕ)
+        → HasReachBetween circuit.now tech from to lane walk.now
+        → IsExtremeIfAny circuit.now tech from to greatest found) }
 {
-    walk.walk_from(circuit, tech, &[from]);
     let captured = circuit.register_signal(to as usize).fan_in.as_slice();
-    let Some(last) = furthest(walk, captured, greatest) else {
+    let Some(last) = furthest(walk, lane, captured, greatest) else {
         return Ok(None);
     };
     let mut path = vec![in alloc; last]?;
     let mut signal = last;
-    while let Some(read) = furthest_read(walk, circuit, signal, greatest) {
+    while let Some(read) = furthest_read(walk, circuit, lane, signal, greatest) {
         path.push(read)?;
         signal = read;
     }
@@ -41,26 +41,34 @@ pub(crate) fn path_between(
     Ok(Some(Listed::from_vec(path)))
 }
 
-// Of the signals that a gate reads the one that a walk found furthest.
-fn furthest_read(walk: &Walk, circuit: &Circuit, gate: u32, greatest: bool) -> Option<u32>
-    requires { gate < length circuit.now.signals }
-    ensures { IsFurthestIfAny walk.now (Reads circuit.now.signals gate) greatest result }
+// Of the signals that a gate reads the one that a walk found furthest in a lane.
+fn furthest_read(
+    walk: &Walk,
+    circuit: &Circuit,
+    lane: usize,
+    gate: u32,
+    greatest: bool,
+) -> Option<u32>
+    requires lane { lane < 8 }
+    requires gate { gate < length circuit.now.signals }
+    ensures { IsFurthestIfAny walk.now lane (Reads circuit.now.signals gate) greatest result }
 {
     let signal = &circuit.signals.as_slice()[gate as usize];
     if signal.kind.is_gate() {
-        furthest(walk, signal.fan_in.as_slice(), greatest)
+        furthest(walk, lane, signal.fan_in.as_slice(), greatest)
     } else {
         None
     }
 }
 
-// The first of some signals that a walk found furthest.
-fn furthest(walk: &Walk, signals: &[u32], greatest: bool) -> Option<u32>
-    ensures { IsFurthestIfAny walk.now (Contains signals.now) greatest result }
+// The first of some signals that a walk found furthest in a lane.
+fn furthest(walk: &Walk, lane: usize, signals: &[u32], greatest: bool) -> Option<u32>
+    requires { lane < 8 }
+    ensures { IsFurthestIfAny walk.now lane (Contains signals.now) greatest result }
 {
-    let sums = captured_sums(walk, 0, signals)?;
+    let sums = captured_sums(walk, lane, signals)?;
     for signal in signals {
-        if fits(walk.sums(0, *signal), sums, greatest) {
+        if fits(walk.sums(lane, *signal), sums, greatest) {
             return Some(*signal);
         }
     }

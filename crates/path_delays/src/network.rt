@@ -1,4 +1,4 @@
-ghost use Rattle.std.specs.Prelude.{◌≡◌, ◌≢◌, ◌<◌, ◌++◌, ◌^◌, IfOk, OnOk, All, AllPairs, length};
+ghost use Rattle.std.specs.Prelude.{◌≡◌, ◌≢◌, ◌<◌, ◌≤◌, ◌++◌, ◌^◌, IfOk, OnOk, All, AllPairs, length};
 
 use crate::gate_delays::gate_delays;
 use crate::launching::input_signals;
@@ -25,7 +25,8 @@ pub(crate) struct Network {
 
 impl Network {
     ghost use Rattle.gate_order.specs.LevelParts.{IsLevelsOf};
-    ghost use Rattle.path_delays.specs.Networks.{AreAllReads, ArePlaces, IsNetworkOf, all_reads_by};
+    ghost use Rattle.path_delays.specs.Handing.{rank_at};
+    ghost use Rattle.path_delays.specs.Networks.{AreAllReads, AreCapturedUpTo, ArePlaces, IsNetworkOf, all_reads_by};
 
     /// The network of a circuit: passes over its inputs and its gates.
     pub(crate) fn new(
@@ -52,6 +53,40 @@ impl Network {
             delays,
             inputs,
         })
+    }
+
+    /// The highest rank of what the second registers of some pairs capture.
+    pub(crate) fn top_captured(&self, circuit: &Circuit, pairs: &[(u32, u32)]) -> u32
+        requires { All (λ pair. pair.1 < length circuit.now.registers) pairs.now }
+        ensures { All (λ pair. AreCapturedUpTo circuit.now self.now pair.1 result) pairs.now }
+    {
+        let mut top = 0;
+        for pair in pairs {
+            let captured = circuit.register_signal(pair.1 as usize).fan_in.as_slice();
+            top = higher(top, self.top_of(captured));
+        }
+        top
+    }
+
+    // The highest rank of some signals.
+    fn top_of(&self, signals: &[u32]) -> u32
+        ensures { All (λ signal. rank_at self.now signal ≤ result) signals.now }
+    {
+        let mut top = 0;
+        for signal in signals {
+            top = higher(top, self.rank(*signal));
+        }
+        top
+    }
+
+    // The rank of a signal.
+    fn rank(&self, signal: u32) -> u32
+        ensures { result ≡ rank_at self.now signal }
+    {
+        match self.ranks.get(signal as usize) {
+            Some(rank) => *rank,
+            None => 0,
+        }
     }
 
     // The pairs of a signal that is read and a gate that reads it, one for each input of a gate.
@@ -98,4 +133,12 @@ impl Network {
         }
         Ok(places)
     }
+}
+
+// The higher of two ranks.
+fn higher(first: u32, second: u32) -> u32
+    ensures first { first ≤ result }
+    ensures second { second ≤ result }
+{
+    first.max(second)
 }

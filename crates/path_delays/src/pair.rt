@@ -2,7 +2,7 @@ ghost use Rattle.std.specs.Prelude.{◌≡◌, ◌<◌, length, Contains, IfOk};
 ghost use Rattle.cts_model.specs.declared.circuit.Circuit.{Circuit};
 ghost use Rattle.cts_model.specs.declared.tech.Tech.{Tech};
 ghost use Rattle.gate_order.specs.LevelParts.{IsLevelsOf};
-ghost use Rattle.path_delays.specs.WalkParts.{HasReach, IsRoomFor, sums_to};
+ghost use Rattle.path_delays.specs.WalkParts.{IsRoomFor, ReachesEach, sums_to};
 ghost use Rattle.path_delays.specs.Captured.{AreCapturedBy};
 ghost use Rattle.path_delays.specs.Carrying.{AreExtremesIfAny, StandsAt};
 ghost use Rattle.path_delays.specs.SumParts.{either_sums};
@@ -35,26 +35,9 @@ pub fn pair_delay(
     ensures { IfOk result (IsJoinedBy circuit.now tech.now from to) }
 {
     let mut walk = Walk::new(alloc, circuit, levels, tech)?;
-    Ok(delay_between(&mut walk, circuit, tech, from, to))
-}
-
-/// Walks from a register, and finds the delays to another. It takes no memory.
-pub(crate) fn delay_between(
-    walk: &mut Walk,
-    circuit: &Circuit,
-    tech: &Tech,
-    from: u32,
-    to: u32,
-) -> Option<PairDelay>
-    requires room { IsRoomFor circuit.now tech.now walk.old }
-    requires from { from < length circuit.now.registers }
-    requires to { to < length circuit.now.registers }
-    ensures joined { IsJoinedBy circuit.now tech.now from to result }
-    ensures room { IsRoomFor circuit.now tech.now walk.new }
-{
-    walk.walk_from(circuit, tech, &[from]);
+    walk.walk_between(circuit, tech, &[(from, to)]);
     let captured = circuit.register_signal(to as usize).fan_in.as_slice();
-    joined_pair(walk, 0, captured, from, to)
+    Ok(joined_pair(&walk, 0, captured, from, to))
 }
 
 /// The delays from the register in a lane of a walk to another, which captures these signals.
@@ -67,7 +50,8 @@ pub(crate) fn joined_pair(
 ) -> Option<PairDelay>
     requires { lane < 8 }
     ensures { (circuit : Circuit) (tech : Tech) → AreCapturedBy circuit to captured.now
-        → HasReach circuit tech from lane walk.now → IsJoinedBy circuit tech from to result }
+        → ReachesEach circuit tech from lane captured.now walk.now
+        → IsJoinedBy circuit tech from to result }
 {
     let sums = captured_sums(walk, lane, captured)?;
     Some(PairDelay {

@@ -2,15 +2,16 @@ ghost use Rattle.std.specs.Prelude.{◌<◌, length, IfOk};
 ghost use Rattle.gate_order.specs.LevelParts.{IsLevelsOf};
 ghost use Rattle.path_delays.specs.ExtremePaths.{IsExtremeIfAny};
 
-use crate::extreme_path::path_between;
+use crate::cycle_paths::paths_within;
+use crate::extreme_path::path_back;
 use crate::walk::Walk;
 use cts_base::{Listed, NoMemory};
-use cts_model::{Circuit, Tech};
+use cts_model::{Circuit, Constraint, Tech};
 use gate_order::Levels;
 use std::alloc::Global;
 use std::marker::Model;
 
-/// The paths of a circuit, looked for one after the other in the same room.
+/// The paths of a circuit, looked for in the same room.
 #[derive(Drop)]
 pub struct Paths<'a> {
     circuit: &'a Circuit,
@@ -30,9 +31,10 @@ impl<'a> Model for Paths<'a> {
 }
 
 impl<'a> Paths<'a> {
-    ghost use Rattle.std.specs.Prelude.{◌≡◌, ◌<◌, length, IfOk};
+    ghost use Rattle.std.specs.Prelude.{◌≡◌, All, IfOk};
+    ghost use Rattle.cts_model.specs.timing.ConstraintPaths.{ArePathsWithin};
+    ghost use Rattle.cts_model.specs.timing.Constraints.{IsConstraintOf};
     ghost use Rattle.gate_order.specs.LevelParts.{IsLevelsOf};
-    ghost use Rattle.path_delays.specs.ExtremePaths.{IsExtremeIfAny};
 
     /// The paths of a circuit. Which gates read each signal is listed once, for all of them.
     ///
@@ -57,34 +59,25 @@ impl<'a> Paths<'a> {
         })
     }
 
-    /// The signals of a path from one register to another with the greatest delay of all, or with
-    /// the least. `None` comes exactly where no path joins them; which path of several is free.
+    /// For each of some constraints a path that gives its weight: of a setup constraint one with
+    /// the greatest delay of all, of a hold constraint one with the least. They have 4,096 signals
+    /// at most: a path for which there is no room after the earlier ones is empty. One walk for
+    /// eight constraints, and none without room.
     ///
     /// # Errors
     ///
     /// `NoMemory` where memory is refused.
-    pub fn path(
+    pub fn of_constraints(
         &mut self,
         alloc: Global,
-        from: u32,
-        to: u32,
-        greatest: bool,
-    ) -> Result<Option<Listed<u32>>, NoMemory>
-        requires from { from < length self.old.circuit.registers }
-        requires to { to < length self.old.circuit.registers }
-        ensures path { IfOk result
-            (IsExtremeIfAny self.old.circuit self.old.tech from to greatest) }
+        constraints: &[Constraint],
+    ) -> Result<Listed<Listed<u32>>, NoMemory>
+        requires { All (IsConstraintOf self.old.circuit self.old.tech) constraints.now }
+        ensures paths { IfOk result
+            (ArePathsWithin self.old.circuit self.old.tech 4096 constraints.now) }
         ensures same { self.new ≡ self.old }
     {
-        path_between(
-            &mut self.walk,
-            alloc,
-            self.circuit,
-            self.tech,
-            from,
-            to,
-            greatest,
-        )
+        paths_within(&mut self.walk, alloc, self.circuit, self.tech, constraints)
     }
 }
 
@@ -108,6 +101,7 @@ pub fn path_of(
     requires to { to < length circuit.now.registers }
     ensures { IfOk result (IsExtremeIfAny circuit.now tech.now from to greatest) }
 {
-    let mut paths = Paths::new(alloc, circuit, levels, tech)?;
-    paths.path(alloc, from, to, greatest)
+    let mut walk = Walk::new(alloc, circuit, levels, tech)?;
+    walk.walk_between(circuit, tech, &[(from, to)]);
+    path_back(&walk, alloc, circuit, 0, to, greatest)
 }

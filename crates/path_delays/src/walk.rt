@@ -1,5 +1,6 @@
 ghost use Rattle.std.specs.Prelude.{◌≡◌, ◌<◌, ◌≤◌, ◌+◌, All, IfOk, length};
 
+use crate::lanes::LANES;
 use crate::launching::{launched, start_sums};
 use crate::network::Network;
 use crate::number_set::NumberSet;
@@ -20,7 +21,7 @@ pub(crate) struct Walk {
 impl Walk {
     ghost use Rattle.gate_order.specs.LevelParts.{IsLevelsOf};
     ghost use Rattle.path_delays.specs.NumberSets.{IsCommon};
-    ghost use Rattle.path_delays.specs.WalkParts.{HaveReach, IsRoomFor, sums_to};
+    ghost use Rattle.path_delays.specs.WalkParts.{HaveReach, HaveReachBetween, IsRoomFor, sums_to};
 
     /// Room for walks over a circuit.
     pub(crate) fn new(
@@ -49,7 +50,25 @@ impl Walk {
         ensures room { IsRoomFor circuit.now tech.now self.new }
     {
         self.reach
-            .reach_all(&self.network, circuit, tech, registers);
+            .reach_up_to(&self.network, circuit, tech, registers, u32::MAX);
+    }
+
+    /// Walks from the first of each of up to eight pairs of registers, each in a lane, up to the
+    /// highest rank of what the second ones capture. It takes no memory.
+    pub(crate) fn walk_between(&mut self, circuit: &Circuit, tech: &Tech, pairs: &[(u32, u32)])
+        requires room { IsRoomFor circuit.now tech.now self.old }
+        requires few { length pairs.now ≤ 8 }
+        requires pairs { All (λ pair. (pair.0 < length circuit.now.registers)
+            × (pair.1 < length circuit.now.registers)) pairs.now }
+        ensures reach { HaveReachBetween circuit.now tech.now pairs.now self.new }
+        ensures room { IsRoomFor circuit.now tech.now self.new }
+    {
+        let top = self.network.top_captured(circuit, pairs);
+        let mut registers = [0; LANES];
+        for (lane, pair) in pairs.iter().enumerate() {
+            registers[lane] = pair.0;
+        }
+        self.reach.reach_up_to(&self.network, circuit, tech, &registers[..pairs.len()], top);
     }
 
     /// Finds which of some signals the register reaches.
@@ -76,21 +95,33 @@ impl Walk {
 impl Reach {
     ghost use Rattle.path_delays.specs.Networks.{IsNetworkOf};
     ghost use Rattle.path_delays.specs.Handing.{HasReachRoom, IsCleared};
-    ghost use Rattle.path_delays.specs.Walking.{HaveReached, IsSpreadBelow};
+    ghost use Rattle.path_delays.specs.Walking.{HaveReachedUpTo, IsSpreadBelow};
 
-    // Reaches all that registers reach: each gate hands on its sums when no lower rank waits.
-    fn reach_all(&mut self, network: &Network, circuit: &Circuit, tech: &Tech, registers: &[u32])
+    // Reaches what registers reach up to a rank: each gate hands on its sums when no lower rank
+    // waits.
+    fn reach_up_to(
+        &mut self,
+        network: &Network,
+        circuit: &Circuit,
+        tech: &Tech,
+        registers: &[u32],
+        top: u32,
+    )
         requires network { IsNetworkOf circuit.now tech.now network.now }
         requires room { HasReachRoom network.now self.old }
         requires few { length registers.now ≤ 8 }
         requires registers { All (λ from. from < length circuit.now.registers) registers.now }
-        ensures reach { HaveReached circuit.now tech.now registers.now self.new }
+        ensures reach { HaveReachedUpTo circuit.now tech.now network.now registers.now top
+            self.new }
         ensures room { HasReachRoom network.now self.new }
     {
         self.clear();
         self.launch_all(network, circuit, tech, registers);
         let mut rank = 1;
         while let Some(next) = self.waiting.take_lowest(rank) {
+            if next > top {
+                return;
+            }
             self.hand_on(network, network.order[next as usize - 1]);
             rank = next + 1;
         }

@@ -3,6 +3,7 @@ use crate::circuits::{
     wide,
 };
 use crate::same::expect_same;
+use constraints::constraints_of;
 use cts_base::Listed;
 use cts_model::{Circuit, PairDelay, Tech, ZeroSkew};
 use gate_order::levels;
@@ -311,30 +312,30 @@ fn finds_the_paths_of_tables(rt: HostRuntime) -> Result<(), Fail> {
     Ok(())
 }
 
-// Nothing is left of a path in the room of the next.
+// Signals of a setup and a hold constraint's path for each pair: nothing is left of the first eight
+// in the room of the others.
+const S27_PATH_LENGTHS: [usize; 14] = [3, 3, 2, 2, 6, 6, 5, 5, 6, 6, 5, 5, 3, 3];
+
 #[test]
-fn finds_one_path_after_the_other(rt: HostRuntime) -> Result<(), Fail> {
+fn finds_the_paths_of_constraints(rt: HostRuntime) -> Result<(), Fail> {
     let alloc = rt.alloc();
+    let tech = Tech::plain(alloc);
     let circuit = circuit_of(&rt, alloc, S27, false)?;
-    let tech = table_of(alloc, &circuit, (1, 1, 1, 2), S27_GATES)?;
     let order = levels(alloc, &circuit)?;
-    assert!(rt; circuit.registers.len() == 3);
+    let pairs = pair_delays(alloc, &circuit, &order, &tech)?;
+    let constraints = constraints_of(alloc, &pairs, &tech)?;
     let mut search = Paths::new(alloc, &circuit, &order, &tech)?;
-    let least = search.path(alloc, 2, 1, false)?;
-    let greatest = search.path(alloc, 0, 1, true)?;
-    let none = search.path(alloc, 0, 2, true)?;
-    for (path, names) in [
-        (least, "G7 G12 G15 G9 G11 "),
-        (greatest, "G5 G11 "),
-        (none, ""),
-    ] {
-        expect_same(
-            &rt,
-            names_of(alloc, &circuit, &path)?.as_slice(),
-            names.as_bytes(),
-            &"names_of(alloc, &circuit, &path)?",
-        );
+    let paths = search.of_constraints(alloc, constraints.as_slice())?;
+    let mut lengths = Vec::new(alloc);
+    for path in paths.as_slice() {
+        lengths.push(path.len())?;
     }
+    expect_same(
+        &rt,
+        lengths.as_slice(),
+        S27_PATH_LENGTHS.as_slice(),
+        &"lengths",
+    );
     Ok(())
 }
 

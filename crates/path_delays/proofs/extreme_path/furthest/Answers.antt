@@ -8,22 +8,24 @@ use Rattle.path_delays.proofs.extreme_path.furthest.Goals as goal
 
 pub returns-in_err-sums : goal.returns-in_err-sums
 returns-in_err-sums c = rw c.from_residual.ensures
-    (nothing_at (sums_to c.args.walk.now 0) (Contains c.args.signals.now) c.in_err-sums.ensures)
+    (nothing_at (sums_to c.args.walk.now c.args.lane) (Contains c.args.signals.now)
+    c.in_err-sums.ensures)
 
 pub returns-then-fits : goal.returns-then-fits
 returns-then-fits c =
-    furthest_found c.args.walk.now c.args.signals.now c.args.greatest c.in_ok-sums.sums
+    furthest_found c.args.walk.now c.args.lane c.args.signals.now c.args.greatest c.in_ok-sums.sums
     c.in_ok-sums.ensures _
     (Contains-get_or c.args.signals.now c.loop-signal.signal-index 0 c.loop-signal-test.true)
     (rw c.sums.ensures at (c.fits.ensures.0 c.if-fits.true))
 
 pub loop-signal-preserved : goal.loop-signal-preserved
 loop-signal-preserved c =
-    none_fits_next c.args.walk.now c.args.signals.now c.args.greatest _ c.loop-signal.signal-index
+    none_fits_next c.args.walk.now c.args.lane c.args.signals.now c.args.greatest _
+    c.loop-signal.signal-index
     (λ fits. let passes = c.fits.ensures.1 (rw c.sums.ensures fits) in cc)
     c.loop-signal.invariant
 
 pub returns : goal.returns
 returns c = λ signal listed.
-    absurd (some_fits c.args.walk.now c.args.signals.now c.args.greatest c.in_ok-sums.sums
-    c.in_ok-sums.ensures (λ place within. c.loop-signal.invariant place (omega arith)))
+    absurd (some_fits c.args.walk.now c.args.lane c.args.signals.now c.args.greatest
+    c.in_ok-sums.sums c.in_ok-sums.ensures (λ place within. c.loop-signal.invariant place (omega arith)))

@@ -15,7 +15,7 @@ returns-in_err-push_joined-clause-many c =
     rw (fault.1, fault.2) (λ tech reach listed.
     let joined = c.joined_pair.ensures circuit tech
     (rw c.as_slice-captured.ensures (captured_is_fan_in circuit to c.register_signal.result.now
-    c.register_signal.ensures)) reach in
+    c.register_signal.ensures)) (λ signal listed. reach.each signal) in
     shows_too_many circuit tech c.args.from to _ _ _
     (passed_here c.requires.registers c.loop-to.invariant.1 tech c.loop-to.pairs.items
     (c.loop-to.invariant.2 tech reach listed) c.loop-to-test.true) joined
@@ -30,7 +30,8 @@ loop-to-preserved c =
       λ tech reach listed.
           let joined = c.joined_pair.ensures circuit tech
           (rw c.as_slice-captured.ensures (captured_is_fan_in circuit to
-          c.register_signal.result.now c.register_signal.ensures)) reach in
+          c.register_signal.result.now c.register_signal.ensures))
+          (λ signal listed. reach.each signal) in
           pair_next circuit tech c.args.from to c.loop-to.pairs.items c.push_joined.new.pairs.items
           c.joined_pair.result joined c.in_ok-push_joined.ensures.ok
           (passed_here c.requires.registers c.loop-to.invariant.1 tech c.loop-to.pairs.items

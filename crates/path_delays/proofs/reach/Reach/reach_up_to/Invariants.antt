@@ -2,7 +2,7 @@
 use Rattle.std.proofs.Common.{◌+◌, ◌-◌, ◌≤◌, length}
 use Rattle.path_delays.specs.Handing.{HasReachRoom}
 use Rattle.path_delays.specs.Walking.{IsSpreadBelow}
-use Rattle.path_delays.proofs.reach.Reach.reach_all.Given as goal
+use Rattle.path_delays.proofs.reach.Reach.reach_up_to.Given as goal
 
 abbrev pub invariant-loop-next : goal.invariant-loop-next
 invariant-loop-next l = record {

@@ -1,5 +1,6 @@
 -- The gate of the lowest rank that waits is taken, and hands on its sums.
-use Rattle.std.proofs.Common.{◌≡◌, ◌+◌, ℕ, length, refl, arith}
+use Rattle.std.proofs.Common.{◌≡◌, ◌+◌, ◌∙◌, ℕ, length, refl, sym, arith}
+use Rattle.std.proofs.lemmas.Bool.{true≢false}
 use Rattle.std.proofs.lemmas.Option.{slice_get_within}
 use Rattle.path_delays.specs.declared.reach.Reach.{Reach}
 use Rattle.path_delays.specs.Handing.{lanes_at, rank_at}
@@ -8,7 +9,7 @@ use Rattle.path_delays.proofs.Hands.{HasReachRoom-same}
 use Rattle.path_delays.proofs.LaneLemmas.{some_is}
 use Rattle.path_delays.proofs.WalkEnds.{reach_shown}
 use Rattle.path_delays.proofs.WalkSteps.{all_bounded, next_gate, next_within, IsSpread-taken, IsSpread-on}
-use Rattle.path_delays.proofs.reach.Reach.reach_all.Goals as goal
+use Rattle.path_delays.proofs.reach.Reach.reach_up_to.Goals as goal
 
 pub index-requires : goal.index-requires
 index-requires c =
@@ -81,6 +82,16 @@ loop-next-preserved c =
       counted = omega arith;
     }
 
+pub returns-then-next-top-clause-reach : goal.returns-then-next-top-clause-reach
+returns-then-next-top-clause-reach c lane from signal here below =
+    let registers = c.args.registers.now in
+    let within = slice_get_within registers lane from here in
+    reach_shown c.args.circuit.now c.args.tech.now registers from lane here c.args.network.now
+    c.requires.network c.loop-next.self c.loop-next.rank within
+    (omega (arith, within, c.requires.few)) c.loop-next.invariant.spread c.args.top
+    (λ other waits. omega (arith, c.if-next-top.true, c.in-Some.ensures.some.lowest other waits))
+    signal below
+
 pub returns : goal.returns
 returns c =
     let registers = c.args.registers.now in
@@ -90,12 +101,13 @@ returns c =
       waiting = c.take_lowest.new.self;
     } in
     record {
-      reach = λ lane from signal here.
+      reach = λ lane from signal here below.
           let within = slice_get_within registers lane from here in
           reach_shown c.args.circuit.now c.args.tech.now registers from lane here
           c.args.network.now c.requires.network c.loop-next.self c.loop-next.rank within
-          (omega (arith, within, c.requires.few)) c.loop-next.invariant.spread
-          c.in_default.ensures.none signal;
+          (omega (arith, within, c.requires.few)) c.loop-next.invariant.spread c.args.top
+          (λ other waits. absurd (true≢false (sym waits ∙ c.in_default.ensures.none other))) signal
+          below;
       room = HasReachRoom-same c.args.network.now c.loop-next.self taken
           (record { lanes = refl; reached = refl; waiting = c.in_default.ensures.covers })
           c.loop-next.invariant.room;

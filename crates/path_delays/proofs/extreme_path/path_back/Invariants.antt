@@ -1,0 +1,18 @@
+-- The path back so far; the rank of its first signal falls with each turn.
+use Rattle.std.proofs.Common.{◌<◌, ℕ, length}
+use Rattle.cts_model.specs.declared.tech.Tech.{Tech}
+use Rattle.path_delays.specs.Handing.{rank_at}
+use Rattle.path_delays.specs.WalkParts.{HasReachBetween}
+use Rattle.path_delays.proofs.PathsBack.{IsBack}
+use Rattle.path_delays.proofs.extreme_path.path_back.Given as goal
+
+abbrev pub invariant-loop-read : goal.invariant-loop-read
+invariant-loop-read l = record {
+  within : l.signal < length l.circuit.signals;
+  back : (tech : Tech) (from : ℕ)
+      → (reach : HasReachBetween l.circuit tech from l.to l.lane l.walk)
+      → IsBack l.circuit tech l.walk l.lane reach.top l.greatest l.last l.path.items l.signal;
+}
+
+abbrev pub decreases-loop-read : goal.decreases-loop-read
+decreases-loop-read l = rank_at l.walk.network l.signal

@@ -1,0 +1,8 @@
+-- None of the signals passed so far has a higher rank.
+use Rattle.std.proofs.Common.{◌<◌, ◌≤◌, ℕ, get_or}
+use Rattle.path_delays.specs.Handing.{rank_at}
+use Rattle.path_delays.proofs.network.Network.top_of.Given as goal
+
+abbrev pub invariant-loop-signal : goal.invariant-loop-signal
+invariant-loop-signal l = (place : ℕ) → place < l.signal-index
+    → rank_at l.self (get_or l.signals place 0) ≤ l.top

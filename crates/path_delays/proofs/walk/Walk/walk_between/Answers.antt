@@ -1,0 +1,42 @@
+-- The lanes hold the first registers, and none of the second captures beyond the highest rank.
+use Rattle.std.proofs.Common.{◌≡◌, ◌<◌, ◌∙◌, ℕ, Some, length, take, get_or, ap, arith, subst, sym}
+use Rattle.std.proofs.lemmas.List.{length-take, get_or-take, get_or_default}
+use Rattle.std.proofs.lemmas.Option.{same_Some, slice_get-get_or, slice_get_within}
+use Rattle.path_delays.specs.Networks.{AreCapturedUpTo}
+use Rattle.path_delays.proofs.walk.Walk.walk_between.Goals as goal
+
+pub reach_up_to-requires-clause-registers : goal.reach_up_to-requires-clause-registers
+reach_up_to-requires-clause-registers c k d inside =
+    let pairs = c.args.pairs.now in
+    let registers = c.loop-lane.registers in
+    let covered = length-take (length pairs) registers in
+    let short : k < length pairs = omega (arith, covered) in
+    let long : k < length registers = omega (arith, covered) in
+    let value : get_or (take (length pairs) registers) k d ≡ (get_or pairs k (0, 0)).0 =
+    get_or-take (length pairs) registers k d short
+    ∙ (get_or_default registers k d 0 long ∙ c.loop-lane.invariant.each k
+    (omega (arith, c.loop-lane-test.false))) in
+    omega (arith, value, (c.requires.pairs k (0, 0) short).0)
+
+pub returns-clause-reach : goal.returns-clause-reach
+returns-clause-reach c lane from to here =
+    let pairs = c.args.pairs.now in
+    let registers = c.loop-lane.registers in
+    let short = slice_get_within pairs lane (from, to) here in
+    let covered = length-take (length pairs) registers in
+    let inside : lane < length (take (length pairs) registers) =
+    omega (arith, covered, c.loop-lane.invariant.lanes, c.requires.few) in
+    let pair : get_or pairs lane (0, 0) ≡ (from, to) =
+    same_Some (get_or pairs lane (0, 0)) (from, to)
+    (sym (slice_get-get_or pairs lane (0, 0) short) ∙ here) in
+    let value : get_or (take (length pairs) registers) lane 0 ≡ from =
+    get_or-take (length pairs) registers lane 0 short
+    ∙ (c.loop-lane.invariant.each lane (omega (arith, c.loop-lane-test.false))
+    ∙ ap (λ p. p.0) pair) in
+    record {
+      top = c.top_captured-top.result;
+      each = λ signal low. c.reach_up_to.ensures.reach lane from signal
+          (slice_get-get_or (take (length pairs) registers) lane 0 inside ∙ ap Some value) low;
+      captured = subst (λ (p : ℕ × ℕ). AreCapturedUpTo c.args.circuit.now c.args.self.now.network
+          p.1 c.top_captured-top.result) pair (c.top_captured-top.ensures lane (0, 0) short);
+    }
