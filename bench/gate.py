@@ -77,6 +77,9 @@ def table(seconds):
 
 
 def main():
+    if sys.argv[1:] in (["--help"], ["-h"]):
+        print(__doc__.strip())
+        return
     if any(word.startswith("-") for word in sys.argv[1:]):
         sys.exit(__doc__.strip())
     began = time.time()
