@@ -12,17 +12,14 @@ GATES = {
 }
 # setup, hold, least, greatest, and the floor of the period where there is one
 REGISTER = (35, 20, 19, 60)
-# The times of a corner as multiples of those of the first.
-CORNERS = (1, 1.3, 1.7, 2.2)
-# As many moves as a file may have.
-MOVES = 10000
+# The times of a corner as multiples of those of the first, and as many moves as a file may have.
+CORNERS, MOVES = (1, 1.3, 1.7, 2.2), 10000
 
 
 def local(registers):
     """Random logic: 13 gates a register in 30 levels. Registers and gates lie along a line and read what is near."""
     chance = random.Random(f"local/{registers}")
-    depth, levels = 30, [[f"r{number}" for number in range(registers)]]
-    lines = []
+    lines, depth, levels = [], 30, [[f"r{number}" for number in range(registers)]]
     for level in range(1, depth + 1):
         size = max(1, int(13 * registers * 2 * (depth + 1 - level) / (depth * (depth + 1))))
         levels.append([f"g{level}_{number}" for number in range(size)])
@@ -71,17 +68,15 @@ def dense(registers):
 
 
 def full(registers):
-    """Banks of 256 registers, of which each reads each by 15 layers of gates: 4,096 registers are at every limit, with 65,536
-    signals, 262,144 inputs of gates and 1,048,576 pairs."""
+    """Banks of 256 registers, of which each reads each by 15 layers of gates (the fourth neighbour on, so that a few reach all):
+    4,096 registers are at every limit, with 65,536 signals, 262,144 inputs of gates and 1,048,576 pairs."""
     chance = random.Random(f"full/{registers}")
     lines, size = [], min(registers, 256)
     for bank in range(registers // size):
-        below = [f"r{bank * size + number}" for number in range(size)]
-        ends = below
+        below = ends = [f"r{bank * size + number}" for number in range(size)]
         for layer in range(15):
             above = [f"g{bank}_{layer}_{number}" for number in range(size)]
             for number, name in enumerate(above):
-                # The fourth neighbour on, so that all are reached in a few layers.
                 reads = [below[(4 * number + place) % size] for place in range(4)]
                 reads += [chance.choice(below)] if layer < 4 else []
                 lines.append(f"{name} = {chance.choice(['AND', 'NAND', 'OR', 'NOR'])}({', '.join(reads)})")
@@ -120,9 +115,8 @@ def table_lines(gates, register, wire="1/50"):
 
 def corner_lines(gates, register, multiple):
     """The table with all times that many times as long, to the nearest whole number."""
-    def longer(times):
-        return tuple(round(time * multiple) for time in times)
-    return table_lines({kind: longer(row) for kind, row in gates.items()}, longer(register))
+    longer = [tuple(round(time * multiple) for time in times) for times in (register, *gates.values())]
+    return table_lines(dict(zip(gates, longer[1:])), longer[0])
 
 
 def place_lines(registers):
