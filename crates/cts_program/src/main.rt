@@ -14,8 +14,6 @@ mod reading;
 mod run;
 mod scheduling;
 mod synth;
-#[cfg(test)]
-mod tests;
 mod zero;
 
 use call::answer_call;
