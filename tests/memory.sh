@@ -1,7 +1,8 @@
 #!/usr/bin/env bash
 # Refuses each request for memory in turn: the program then ends with status 6 and nothing on its
-# output, or with its own answer. It needs a C compiler and a dynamic linker that knows LD_PRELOAD;
-# where there is no compiler, it says so and tries nothing. usage: tests/memory.sh [PROGRAM]
+# output, or with its own answer. And lets each read of each file fail in turn: then it blames that
+# file. It needs a C compiler and a dynamic linker that knows LD_PRELOAD; where there is no compiler,
+# it says so and tries nothing. usage: tests/memory.sh [PROGRAM]
 set -u
 [ "${1-}" != --help ] || exec sed -n '2,/^[^#]/s/^# //p' "$0"
 top=$(cd "$(dirname "${BASH_SOURCE[0]}")/.." && pwd) || exit 1
@@ -21,24 +22,47 @@ if [ -z "$program" ]; then
     program=$top/crates/cts_program/out/cts_program
 fi
 
-# Refuses request number REFUSED, and tells so on descriptor 3. The program has one thread.
+# Refuses request number REFUSED, or lets read number READ of the file that is opened as number OPENED
+# fail, where a read gives at most 100 bytes, and tells so on descriptor 3. The program has one thread.
 cat >"$work/refuse.c" <<'END'
+#include <errno.h>
+#include <fcntl.h>
 #include <stdlib.h>
+#include <sys/syscall.h>
 #include <unistd.h>
 
 extern void *__libc_malloc(size_t);
 extern void *__libc_realloc(void *, size_t);
 
-static long requests;
+static long requests, opened, reads;
 
-static int refused(void) {
-    const char *number = getenv("REFUSED");
-    return number && ++requests == atol(number) && write(3, "refused\n", 8) == 8;
+static int is_number(const char *name, long number) {
+    const char *given = getenv(name);
+    return given && number == atol(given);
 }
+
+static int tells(void) { return write(3, "refused\n", 8) == 8; }
+
+static int refused(void) { return is_number("REFUSED", ++requests) && tells(); }
 
 void *malloc(size_t size) { return refused() ? NULL : __libc_malloc(size); }
 
 void *realloc(void *at, size_t size) { return refused() ? NULL : __libc_realloc(at, size); }
+
+int open(const char *name, int how, ...) {
+    opened++;
+    reads = 0;
+    return syscall(SYS_openat, AT_FDCWD, name, how, 0);
+}
+
+ssize_t read(int from, void *into, size_t size) {
+    reads++;
+    if (is_number("OPENED", opened) && is_number("READ", reads) && tells()) {
+        errno = EIO;
+        return -1;
+    }
+    return syscall(SYS_read, from, into, getenv("OPENED") && size > 100 ? 100 : size);
+}
 END
 cc -shared -fPIC -O1 -fno-builtin -o "$work/refuse.so" "$work/refuse.c" || exit 1
 
@@ -75,6 +99,47 @@ refuse() {
     fi
 }
 
+# blame KIND STATUS COMMAND..: what a run left in which a read of such a file failed.
+blame() {
+    if [ "$2" = 4 ] && [ ! -s "$work/out" ] && [ "$(cat "$work/err")" = "read fault $1" ]; then
+        passed=$((passed + 1))
+    else
+        failed=$((failed + 1))
+        echo "memory: read $number of $1 of ${*:3}: status $2, out: $(head -c 200 "$work/out"), err: $(head -c 200 "$work/err")"
+    fi
+}
+
+# fail KIND.. -- COMMAND..: a run for each read of each file that a command opens, of which there is
+# at least one; the files are of these kinds in their order. The last run for a file has no read that
+# fails, but short ones, and leaves the command's own answer.
+fail() {
+    local kinds=() kind file=0 number status own reads=0
+    while [ "$1" != -- ]; do
+        kinds+=("$1")
+        shift
+    done
+    shift
+    "$program" "$@" >"$work/own_out" 2>"$work/own_err"
+    own=$?
+    for kind in "${kinds[@]}"; do
+        file=$((file + 1))
+        for ((number = 1; ; number++)); do
+            LD_PRELOAD=$work/refuse.so OPENED=$file READ=$number "$program" "$@" \
+                >"$work/out" 2>"$work/err" 3>"$work/refused"
+            status=$?
+            [ -s "$work/refused" ] || break
+            blame "$kind" "$status" "$@"
+        done
+        judge "$status" "$@"
+        reads=$((reads + number - 1))
+        if [ "$number" = 1 ]; then
+            failed=$((failed + 1))
+            echo "memory: no read of $kind of $* failed"
+        fi
+    done
+    echo "memory: $1: $reads reads of ${#kinds[@]} files"
+}
+
 s27=(--bench "$top/examples/s27.bench" --tech "$top/examples/s27.toml" --pl "$top/examples/s27.pl")
 refuse synth "${s27[@]}"
 "$program" synth "${s27[@]}" >"$work/report"
@@ -90,6 +155,14 @@ refuse corners --bench "$top/examples/s27.bench" "$top/examples/s27.toml" "$top/
 refuse demo --registers 2 --seed 0
 printf 'A = DFF(A)\n' >"$work/itself.bench"
 refuse zero --bench "$work/itself.bench"
+
+fail bench tech -- zero --bench "$top/examples/s27.bench" --tech "$top/examples/s27.toml"
+fail bench tech pl -- synth "${s27[@]}"
+fail bench tech pl report -- check "${s27[@]}" --report "$work/report"
+fail bench tech pl topology -- embed "${s27[@]}" --topology "$top/examples/s27.topology"
+fail bench tech pl moves -- moves "${s27[@]}" --moves "$work/moves"
+fail bench 'corner 1' 'corner 2' -- \
+    corners --bench "$top/examples/s27.bench" "$top/examples/s27.toml" "$top/examples/s27_fast.toml"
 
 echo "memory: $passed passed, $failed failed"
 [ "$failed" -eq 0 ]
