@@ -9,10 +9,10 @@ use Rattle.cts_model.specs.declared.constraint.Constraint.{Constraint}
 use Rattle.cts_model.specs.timing.Constraints.{IsSmallConstraint}
 use Rattle.cts_model.specs.placement.Points.{IsBelow}
 use Rattle.relaxation.specs.declared.gains.Gains.{Gains}
-use Rattle.relaxation.specs.Gains.{SatisfiesGains, gain_of}
+use Rattle.relaxation.specs.Gains.{gain_of}
 use Rattle.relaxation.specs.Parents.{value_of}
 use Rattle.relaxation.specs.Relaxing.{GivesMore, offer_of}
-use Rattle.relaxation.specs.Rises.{AreBelow, AreFrom, AreRaised, AreRaisedBy, AreUpTo}
+use Rattle.relaxation.specs.Rises.{AreRaised, AreRaisedBy}
 use Rattle.relaxation.proofs.Climbs.{all_at}
 use Rattle.relaxation.proofs.GainLemmas.{gain_small}
 

@@ -12,7 +12,7 @@ use Rattle.relaxation.specs.Parents.{value_of}
 use Rattle.relaxation.specs.Rises.{AreRaised}
 use Rattle.relaxation.proofs.RiseLemmas.{small_wider}
 use Rattle.schedule.specs.Gains.{AreLeastArrivalsBy}
-use Rattle.schedule.specs.Rises.{CanRaise, IsRising}
+use Rattle.schedule.specs.Rises.{CanRaise}
 use Rattle.schedule.specs.Schedules.{CanSchedule}
 use Rattle.schedule.proofs.BoundLemmas.{small_rising}
 

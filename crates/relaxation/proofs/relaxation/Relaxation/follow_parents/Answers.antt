@@ -1,5 +1,5 @@
 -- Each way down raises, or nothing changes.
-use Rattle.std.proofs.Common.{◌≡◌, length, sym, subst, arith}
+use Rattle.std.proofs.Common.{sym, subst, arith}
 use Rattle.relaxation.specs.declared.relaxation.Relaxation.{Relaxation}
 use Rattle.relaxation.specs.Relaxing.{HasRisen}
 use Rattle.relaxation.proofs.StepLemmas.{HasRisen-more, HasRisen-none}
