@@ -81,9 +81,9 @@ impl Search {
         }
     }
 
-    /// Policy iteration from the greatest ratio shown: rings of parents show greater ones, and where
-    /// none does, values rise along parents and by registers that hand theirs on in turn. It ends
-    /// where no register waits, or else after so many rounds as take little time.
+    /// Policy iteration from the greatest ratio shown: rings of parents show greater ones, and
+    /// where none does, values rise along parents and by registers that hand theirs on in turn. It
+    /// ends where no register waits, or else after so many rounds as take little time.
     pub(crate) fn iterate(
         &mut self,
         constraints: &[Constraint],
@@ -150,16 +150,32 @@ impl Search {
         ensures same { IsSameSearch self.old self.new }
         ensures shown { self.new.shown ≡ self.old.shown }
         ensures reached { IsTrue result → IsAtShown self.new }
-        ensures small { IsTrue result → All (IsBelow (2 ^ 88)) self.new.relaxation.values.items }
+        ensures small { IsTrue result → All (IsBelow (2 ^ 94)) self.new.relaxation.values.items }
+        ensures never { result ≡ false → IsNeverAtAll self.new.shown }
+    {
+        let last = self.trial;
+        if !self.try_shown() {
+            return false;
+        }
+        self.relaxation.rescale(last, self.trial);
+        true
+    }
+
+    // Takes the trial of the greatest ratio shown, if some ratio may be enough.
+    fn try_shown(&mut self) -> bool
+        requires search { (constraints : List Constraint) × IsSearch constraints self.old }
+        ensures search { (constraints : List Constraint) → IsSearch constraints self.old
+            → IsSearch constraints self.new }
+        ensures same { IsSameSearch self.old self.new }
+        ensures shown { self.new.shown ≡ self.old.shown }
+        ensures reached { IsTrue result → IsAtShown self.new }
         ensures never { result ≡ false → IsNeverAtAll self.new.shown }
     {
         let Some(ratio) = self.shown.ratio(self.first) else {
             return false;
         };
-        let trial = self.measure.trial(ratio);
-        self.relaxation.rescale(self.trial, trial);
         self.ratio = ratio;
-        self.trial = trial;
+        self.trial = self.measure.trial(ratio);
         true
     }
 
@@ -167,7 +183,7 @@ impl Search {
     // on. All wait where the ratio is a greater one than in the round before.
     fn improve(&mut self, constraints: &[Constraint], marks: &mut [u32], turns: &mut Turns)
         requires search { IsSearch constraints.now self.old }
-        requires small { All (IsBelow (2 ^ 88)) self.old.relaxation.values.items }
+        requires small { All (IsBelow (2 ^ 94)) self.old.relaxation.values.items }
         requires marks { length marks.old ≡ length self.old.relaxation.parents.items }
         ensures search { IsSearch constraints.now self.new }
         ensures same { IsSameSearch self.old self.new }
@@ -178,13 +194,8 @@ impl Search {
             self.take_ring(constraints, register, marks);
             return;
         }
-        if turns.do_all_wait() {
-            self.relaxation.evaluate(constraints, self.trial, marks);
-        } else {
-            self.relaxation
-                .follow_parents(constraints, self.trial, marks, turns);
-        }
-        self.relaxation.take_turns(constraints, self.trial, turns);
+        self.relaxation
+            .take_round(constraints, self.trial, marks, turns);
     }
 
     // Shows the ring of parents above the register where its ratio is greater than what is shown.
@@ -218,16 +229,29 @@ impl Search {
         }
     }
 
-    // Two constraints that lead to one another's tail are a cycle.
+    // Two constraints that lead to one another's tail are a cycle. It is looked at closely where
+    // they gain something at the ratio that was shown last.
     fn look_at_pair(&mut self, constraints: &[Constraint], place: usize)
         requires search { IsSearch constraints.now self.old }
         requires place { place < length constraints.now }
         ensures search { IsSearch constraints.now self.new }
         ensures same { IsSameSearch self.old self.new }
     {
-        if closes_with_next(constraints, place) {
+        if closes_with_next(constraints, place) && self.gains_with_next(constraints, place) {
             self.consider(constraints, &[place as u32, place as u32 + 1]);
+            self.try_shown();
         }
+    }
+
+    // Whether a constraint and the next one, if there is one, gain something in all.
+    fn gains_with_next(&self, constraints: &[Constraint], place: usize) -> bool
+        requires search { IsSearch constraints.now self.now }
+        requires place { place < length constraints.now }
+    {
+        let Some(next) = constraints.get(place + 1) else {
+            return false;
+        };
+        self.trial.gain(&constraints[place]) + self.trial.gain(next) > 0
     }
 
     // Puts the cycle last in the list where its ratio is greater than what is shown.

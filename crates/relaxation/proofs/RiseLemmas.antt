@@ -9,56 +9,59 @@ use Rattle.cts_model.specs.declared.constraint.Constraint.{Constraint}
 use Rattle.cts_model.specs.timing.Constraints.{IsSmallConstraint}
 use Rattle.cts_model.specs.placement.Points.{IsBelow}
 use Rattle.relaxation.specs.declared.gains.Gains.{Gains}
-use Rattle.relaxation.specs.Gains.{SatisfiesGains, gain_of}
+use Rattle.relaxation.specs.Gains.{gain_of}
 use Rattle.relaxation.specs.Parents.{value_of}
 use Rattle.relaxation.specs.Relaxing.{GivesMore, offer_of}
-use Rattle.relaxation.specs.Rises.{AreBelow, AreBetween, AreRaised}
+use Rattle.relaxation.specs.Rises.{AreRaised, AreRaisedBy}
 use Rattle.relaxation.proofs.Climbs.{all_at}
 use Rattle.relaxation.proofs.GainLemmas.{gain_small}
 
--- values that are small are between two numbers
-AreBetween-below : (bound : ℕ) (values : List ℤ) → All (IsBelow bound) values
-    → AreBetween (neg_ℤ (pos bound)) (pos bound) values
-AreBetween-below bound values small = record {
-  low = λ register within. let it = small register (pos 0) within in omega (arith, ints, it.above);
-  high = λ register within. let it = small register (pos 0) within in omega (arith, ints, it.below);
-}
-
--- and the other way
-All-between : (bound : ℕ) (least greatest : ℤ) (values : List ℤ) → neg_ℤ (pos bound) <ℤ least
-    → greatest <ℤ pos bound → AreBetween least greatest values → All (IsBelow bound) values
-All-between bound least greatest values low high between place default within =
-    subst (IsBelow bound) (get_or_default values place (pos 0) default within)
-    (inside (between.low place within) (between.high place within))
-  where
-    inside : least ≤ℤ value_of values place → value_of values place ≤ℤ greatest
-        → IsBelow bound (value_of values place)
-    inside above below = record { above = omega (arith, ints); below = omega (arith, ints) }
+-- a greater bound does too
+pub small_wider : (bound more : ℕ) (values : List ℤ) → bound ≤ more → All (IsBelow bound) values
+    → All (IsBelow more) values
+small_wider bound more values enough small place default within =
+    let it = small place default within in
+    record { above = omega (arith, ints, it.above); below = omega (arith, ints, it.below) }
 
 module _ {constraints : List Constraint} {gains : Gains} where
   -- without a raise
-  pub AreRaised-none : (values : List ℤ) → AreRaised constraints gains 0 values values
+  pub AreRaised-none : (values : List ℤ) → AreRaised constraints gains values values
   AreRaised-none values = record {
     registers = refl;
-    between = λ least greatest between. record {
-      low = between.low;
-      high = λ register within. let it = between.high register within in omega (arith, ints);
-    };
+    low = λ least from. from;
     below = λ times other satisfied below. below;
   }
 
-  -- raises after raises, with room for some more
-  pub AreRaised-more : {raises more whole : ℕ} {old now later : List ℤ} → raises + more ≤ whole
-      → AreRaised constraints gains raises old now → AreRaised constraints gains more now later
-      → AreRaised constraints gains whole old later
-  AreRaised-more {raises} {more} {whole} {old} {now} {later} enough first second = record {
+  -- raises after raises
+  pub AreRaised-more : {old now later : List ℤ} → AreRaised constraints gains old now
+      → AreRaised constraints gains now later → AreRaised constraints gains old later
+  AreRaised-more first second = record {
     registers = second.registers ∙ first.registers;
-    between = λ least greatest between.
-        wider least greatest
-        (second.between least (greatest +ℤ pos (raises * 2 ^ 80))
-        (first.between least greatest between));
+    low = λ least from. second.low least (first.low least from);
     below = λ times other satisfied below.
         second.below times other satisfied (first.below times other satisfied below);
+  }
+
+  -- none of so many that may be
+  pub AreRaisedBy-none : (raises : ℕ) (values : List ℤ)
+      → AreRaisedBy constraints gains raises values values
+  AreRaisedBy-none raises values = record {
+    raised = AreRaised-none values;
+    high = λ greatest up_to register within. higher _ greatest (up_to register within);
+  }
+    where
+      higher : (z greatest : ℤ) → z ≤ℤ greatest → z ≤ℤ (greatest +ℤ pos (raises * 2 ^ 80))
+      higher z greatest high = omega (arith, ints)
+
+  -- so many after so many, with room for some more
+  pub AreRaisedBy-more : {raises more whole : ℕ} {old now later : List ℤ} → raises + more ≤ whole
+      → AreRaisedBy constraints gains raises old now → AreRaisedBy constraints gains more now later
+      → AreRaisedBy constraints gains whole old later
+  AreRaisedBy-more {raises} {more} {whole} {old} {now} {later} enough first second = record {
+    raised = AreRaised-more first.raised second.raised;
+    high = λ greatest up_to register within.
+        sum _ greatest (second.high (greatest +ℤ pos (raises * 2 ^ 80))
+        (first.high greatest up_to) register within);
   }
     where
       -- the sum of both is no more than the whole
@@ -66,22 +69,26 @@ module _ {constraints : List Constraint} {gains : Gains} where
           → z ≤ℤ (greatest +ℤ pos (whole * 2 ^ 80))
       sum z greatest high = omega (arith, ints)
 
-      wider : (least greatest : ℤ)
-          → AreBetween least ((greatest +ℤ pos (raises * 2 ^ 80)) +ℤ pos (more * 2 ^ 80)) later
-          → AreBetween least (greatest +ℤ pos (whole * 2 ^ 80)) later
-      wider least greatest between = record {
-        low = between.low;
-        high = λ register within. sum _ greatest (between.high register within);
-      }
-
   -- values that were small are no more than the raises higher
   pub small_raised : {raises : ℕ} {old new : List ℤ} (bound more : ℕ)
-      → bound + raises * 2 ^ 80 < more → AreRaised constraints gains raises old new
+      → bound + raises * 2 ^ 80 < more → AreRaisedBy constraints gains raises old new
       → All (IsBelow bound) old → All (IsBelow more) new
-  small_raised {raises} {old} {new} bound more enough raised small =
-      All-between more (neg_ℤ (pos bound)) (pos bound +ℤ pos (raises * 2 ^ 80)) new
-      (omega (arith, ints)) (omega (arith, ints))
-      (raised.between (neg_ℤ (pos bound)) (pos bound) (AreBetween-below bound old small))
+  small_raised {raises} {old} {new} bound more enough raised small place default within =
+      subst (IsBelow more) (get_or_default new place (pos 0) default within)
+      (inside _ (raised.raised.low (neg_ℤ (pos bound)) (λ register known.
+      lower _ (small register (pos 0) known)) place within)
+      (raised.high (pos bound) (λ register known. upper _ (small register (pos 0) known)) place
+      within))
+    where
+      lower : (z : ℤ) → IsBelow bound z → neg_ℤ (pos bound) ≤ℤ z
+      lower z it = omega (arith, ints, it.above)
+
+      upper : (z : ℤ) → IsBelow bound z → z ≤ℤ pos bound
+      upper z it = omega (arith, ints, it.below)
+
+      inside : (z : ℤ) → neg_ℤ (pos bound) ≤ℤ z → z ≤ℤ (pos bound +ℤ pos (raises * 2 ^ 80))
+          → IsBelow more z
+      inside z low high = record { above = omega (arith, ints); below = omega (arith, ints) }
 
 -- an offer is no more than a gain above the greatest
 offer_high : (from gain greatest : ℤ) → from ≤ℤ greatest → IsBelow (2 ^ 80) gain
@@ -127,29 +134,40 @@ module _ (gains : Gains) (values : List ℤ) (it : Constraint)
   ]
 
   -- one raise
-  pub AreRaised-one : (constraints : List Constraint) (place : ℕ)
+  pub AreRaisedBy-one : (constraints : List Constraint) (place : ℕ)
       → slice_get constraints place ≡ Some it → GivesMore gains values it
-      → AreRaised constraints gains 1 values raised_values
-  AreRaised-one constraints place here more =
-      record { registers = long; between = between; below = below }
-    where
-      between : (least greatest : ℤ) → AreBetween least greatest values
-          → AreBetween least (greatest +ℤ pos (1 * 2 ^ 80)) raised_values
-      between least greatest inside = record {
-        low = each (λ register z. least ≤ℤ z)
-            (offer_low least (value_of values it.head) (offer_of gains values it)
-            (inside.low it.head small.head) more) inside.low;
-        high = each (λ register z. z ≤ℤ (greatest +ℤ pos (1 * 2 ^ 80)))
-            (offer_high (value_of values it.tail) (gain_of gains it) greatest
-            (inside.high it.tail small.tail) (gain_small gains it small.weight))
-            (λ register within. stays_high _ greatest (inside.high register within));
-      }
-
-      below : (times : ℕ) (other : ℕ → ℤ) → SatisfiesGains constraints gains times other
-          → AreBelow values times other → AreBelow raised_values times other
-      below times other satisfied low =
-          each (λ register z. (pos times *ℤ z) ≤ℤ other register)
+      → AreRaisedBy constraints gains 1 values raised_values
+  AreRaisedBy-one constraints place here more = record {
+    raised = record {
+      registers = long;
+      low = λ least from. each (λ register z. least ≤ℤ z)
+          (offer_low least (value_of values it.head) (offer_of gains values it)
+          (from it.head small.head) more) from;
+      below = λ times other satisfied low. each (λ register z. (pos times *ℤ z) ≤ℤ other register)
           (offered_below times (gain_of gains it) (value_of values it.tail) (other it.tail)
           (other it.head) (low it.tail small.tail)
           (all_at (λ (c : Constraint). (other c.tail +ℤ (pos times *ℤ gain_of gains c))
-          ≤ℤ other c.head) constraints satisfied place it here)) low
+          ≤ℤ other c.head) constraints satisfied place it here)) low;
+    };
+    high = λ greatest up_to. each (λ register z. z ≤ℤ (greatest +ℤ pos (1 * 2 ^ 80)))
+        (offer_high (value_of values it.tail) (gain_of gains it) greatest
+        (up_to it.tail small.tail) (gain_small gains it small.weight))
+        (λ register within. stays_high _ greatest (up_to register within));
+  }
+
+  -- by a tail that isn't above the cap
+  pub small_capped : value_of values it.tail ≤ℤ pos (2 ^ 93) → GivesMore gains values it
+      → All (IsBelow (2 ^ 94)) values → All (IsBelow (2 ^ 94)) raised_values
+  small_capped capped more smalls place default within =
+      subst (IsBelow (2 ^ 94)) (get_or_default raised_values place (pos 0) default within)
+      (each (λ register z. IsBelow (2 ^ 94) z)
+      (between _ (gain_of gains it) _ capped (smalls it.head (pos 0) small.head)
+      more (gain_small gains it small.weight))
+      (λ register known. smalls register (pos 0) known) place within)
+    where
+      between : (from gain has : ℤ) → from ≤ℤ pos (2 ^ 93) → IsBelow (2 ^ 94) has
+          → has <ℤ (from +ℤ gain) → IsBelow (2 ^ 80) gain → IsBelow (2 ^ 94) (from +ℤ gain)
+      between from gain has low it higher little = record {
+        above = omega (arith, ints, it.above);
+        below = omega (arith, ints, little.below);
+      }

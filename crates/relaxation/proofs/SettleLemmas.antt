@@ -13,11 +13,11 @@ use Rattle.relaxation.specs.declared.relaxation.Relaxation.{Relaxation}
 use Rattle.relaxation.specs.Gains.{AdmitsGains, SatisfiesGains}
 use Rattle.relaxation.specs.Parents.{ReachesUp, parent_of, value_of}
 use Rattle.relaxation.specs.Relaxing.{IsFarUp}
-use Rattle.relaxation.specs.Rises.{AreRaised}
+use Rattle.relaxation.specs.Rises.{AreRaisedBy}
 use Rattle.relaxation.specs.Sweeps.{IsReady, IsSwept, IsSweep}
 use Rattle.relaxation.proofs.Climbs.{none_far_up}
 use Rattle.relaxation.proofs.PrepareLemmas.{no_parents}
-use Rattle.relaxation.proofs.RiseLemmas.{AreRaised-none, AreRaised-more, small_raised}
+use Rattle.relaxation.proofs.RiseLemmas.{AreRaisedBy-none, AreRaisedBy-more, small_raised}
 use Rattle.relaxation.proofs.SweepLemmas.{IsReady-first, IsReady-next, SatisfiesGains-swept, parents_above}
 
 -- what isn't some answer is none
@@ -31,7 +31,7 @@ pub record IsSettling (constraints : List Constraint) (gains : Gains) (sweeps : 
   pub long : length parents ≡ length begun
   pub few : sweeps < length begun
   pub ready : IsReady constraints gains (sweeps + 1) now parents
-  pub raised : AreRaised constraints gains (sweeps * 2097152) begun now
+  pub raised : AreRaisedBy constraints gains (sweeps * 2097152) begun now
 
 -- before the first sweep
 pub IsSettling-none : (constraints : List Constraint) (gains : Gains) (values : List ℤ)
@@ -43,7 +43,7 @@ IsSettling-none constraints gains values parents smalls long none = record {
   long = long;
   few = omega (arith, smalls.some);
   ready = IsReady-first constraints gains values parents none;
-  raised = AreRaised-none values;
+  raised = AreRaisedBy-none 0 values;
 }
 
 -- and where none are kept
@@ -61,21 +61,21 @@ module _ {constraints : List Constraint} {gains : Gains} {sweeps : ℕ} {begun n
   -- the constraints are between these registers
   pub smalls_settling : AreSmallConstraints (length now) constraints
   smalls_settling =
-      subst (λ n. AreSmallConstraints n constraints) (sym settling.raised.registers) smalls
+      subst (λ n. AreSmallConstraints n constraints) (sym settling.raised.raised.registers) smalls
 
   -- there is a parent for each of them
   pub long_settling : length parents ≡ length now
-  long_settling = settling.long ∙ sym settling.raised.registers
+  long_settling = settling.long ∙ sym settling.raised.raised.registers
 
   -- the values are small
-  pub small_settling : All (IsBelow (2 ^ 93)) begun → All (IsBelow (2 ^ 114)) now
-  small_settling = small_raised (2 ^ 93) (2 ^ 114)
+  pub small_settling : All (IsBelow (2 ^ 94)) begun → All (IsBelow (2 ^ 114)) now
+  small_settling = small_raised (2 ^ 94) (2 ^ 114)
       (omega (arith, settling.few, smalls.not_many)) settling.raised
 
   -- after one more sweep the values are raised so often
-  pub raised_later : {later : List ℤ} → AreRaised constraints gains (length constraints) now later
-      → AreRaised constraints gains ((sweeps + 1) * 2097152) begun later
-  raised_later raised = AreRaised-more (omega (arith, smalls.few)) settling.raised raised
+  pub raised_later : {later : List ℤ} → AreRaisedBy constraints gains (length constraints) now later
+      → AreRaisedBy constraints gains ((sweeps + 1) * 2097152) begun later
+  raised_later raised = AreRaisedBy-more (omega (arith, smalls.few)) settling.raised raised
 
   module _ {later : List ℤ} {next : List ℕ} {changed : ℕ} (long : length next ≡ length parents)
       (swept : IsSwept constraints gains (sweeps + 1) (Some changed) later next) where
@@ -107,7 +107,7 @@ module _ {constraints : List Constraint} {gains : Gains} {sweeps : ℕ} {begun n
             absurd (stops found.0 (found.1, found.2, found.3))
 
     -- so sweeps go on
-    pub IsSettling-more : AreRaised constraints gains (length constraints) now later
+    pub IsSettling-more : AreRaisedBy constraints gains (length constraints) now later
         → ((to : ℕ) → ReachesUp constraints next changed to → ⊥)
         → IsSettling constraints gains (sweeps + 1) begun later next
     IsSettling-more raised stops = record {

@@ -1,5 +1,5 @@
 -- How far a sweep has come: what one constraint after the other makes of all values.
-use Rattle.std.proofs.Common.{◌≡◌, ◌<◌, ◌≤◌, ◌+◌, ◌^◌, ◌∙◌, ℕ, ℤ, List, length, get_or, set, All, Option, Some, None, MatchOption, IfSome, ◌⊎◌, sym, subst, ap, refl, arith}
+use Rattle.std.proofs.Common.{◌≡◌, ◌<◌, ◌≤◌, ◌+◌, ◌^◌, ◌∙◌, ℕ, ℤ, pos, ◌≤ℤ◌, List, length, get_or, set, All, Option, Some, None, MatchOption, IfSome, ◌⊎◌, sym, subst, ap, refl, arith}
 use Rattle.std.specs.List.{slice_get}
 use Rattle.std.specs.Bool.{⊤}
 use Rattle.std.specs.Option.{option_or}
@@ -10,11 +10,12 @@ use Rattle.cts_model.specs.timing.Constraints.{AreSmallConstraints, IsSmallConst
 use Rattle.cts_model.specs.placement.Points.{IsBelow}
 use Rattle.relaxation.specs.declared.gains.Gains.{Gains}
 use Rattle.relaxation.specs.declared.relaxation.Relaxation.{Relaxation}
-use Rattle.relaxation.specs.Relaxing.{HasEntries, IsLeft, IsRaised, IsRelaxed}
-use Rattle.relaxation.specs.Rises.{AreRaised}
+use Rattle.relaxation.specs.Parents.{value_of}
+use Rattle.relaxation.specs.Relaxing.{HasEntries, HasRisen, HasRoom, IsLeft, IsRaised, IsRelaxed}
+use Rattle.relaxation.specs.Rises.{AreRaised, AreRaisedBy}
 use Rattle.relaxation.specs.Sweeps.{IsSweeping, IsReady, IsSweep, LeavesParents}
 use Rattle.relaxation.proofs.RelaxLemmas.{nowhere}
-use Rattle.relaxation.proofs.RiseLemmas.{AreRaised-none, AreRaised-one, AreRaised-more, small_raised}
+use Rattle.relaxation.proofs.RiseLemmas.{AreRaised-more, AreRaised-none, AreRaisedBy-none, AreRaisedBy-one, AreRaisedBy-more, small_capped, small_raised}
 use Rattle.relaxation.proofs.ParentLemmas.{IsRaise, IsRaise-set}
 use Rattle.relaxation.proofs.SweepLemmas.{IsSweeping-fewer, IsSweeping-left, IsSweeping-raised}
 
@@ -48,13 +49,12 @@ module _ {constraints : List Constraint} (gains : Gains) (place : ℕ) {constrai
 
   -- it is at most one raise
   raised_look : (answer : Option ℕ) → IsLook gains place constraint old answer new
-      → AreRaised constraints gains 1 old.values.items new.values.items
-  raised_look None left = subst (AreRaised constraints gains 1 old.values.items) (sym left.values)
-      (AreRaised-more (omega arith) (AreRaised-none old.values.items)
-      (AreRaised-none old.values.items))
+      → AreRaisedBy constraints gains 1 old.values.items new.values.items
+  raised_look None left = subst (AreRaisedBy constraints gains 1 old.values.items) (sym left.values)
+      (AreRaisedBy-none 1 old.values.items)
   raised_look (Some register) raised =
-      subst (AreRaised constraints gains 1 old.values.items) (sym raised.values)
-      (AreRaised-one gains old.values.items constraint small constraints place here raised.more)
+      subst (AreRaisedBy constraints gains 1 old.values.items) (sym raised.values)
+      (AreRaisedBy-one gains old.values.items constraint small constraints place here raised.more)
 
   -- one more place is seen
   pub sweeping_look : (answer : Option ℕ) → IsLook gains place constraint old answer new
@@ -78,7 +78,7 @@ module _ {constraints : List Constraint} (gains : Gains) (place : ℕ) {constrai
     sweeping = subst (λ r. IsSweeping constraints gains sweep Later (Some r) new.values.items
         (set parents constraint.head place)) (sym raised.head)
         (IsSweeping-raised before place constraint here Later seen
-        (raised_look (Some register) raised).registers small.head
+        (raised_look (Some register) raised).raised.registers small.head
         (raise_of register raised parents long));
   }
 
@@ -86,7 +86,7 @@ module _ {constraints : List Constraint} (gains : Gains) (place : ℕ) {constrai
 pub record IsUnderWay (constraints : List Constraint) (gains : Gains) (Seen : ℕ → Type 0)
     (count : ℕ) (changed : Option ℕ) (begun now : Relaxation) : Type 0 where
   pub parents : length now.parents.items ≡ length begun.parents.items
-  pub raised : AreRaised constraints gains count begun.values.items now.values.items
+  pub raised : AreRaisedBy constraints gains count begun.values.items now.values.items
   pub swept : (sweep : ℕ) (parents : List ℕ) → length parents ≡ length begun.values.items
       → IsReady constraints gains sweep begun.values.items parents
       → LeavesParents constraints gains sweep Seen changed begun now parents
@@ -107,7 +107,7 @@ module _ {constraints : List Constraint} {gains : Gains} {Seen : ℕ → Type 0}
     (way : IsUnderWay constraints gains Seen count changed begun now) where
   -- the constraints are between these registers
   pub smalls_now : AreSmallConstraints (length now.values.items) constraints
-  smalls_now = subst (λ n. AreSmallConstraints n constraints) (sym way.raised.registers) smalls
+  smalls_now = subst (λ n. AreSmallConstraints n constraints) (sym way.raised.raised.registers) smalls
 
   -- the values are small still
   pub small_now : count ≤ 2097152 → All (IsBelow (2 ^ 114)) begun.values.items
@@ -121,7 +121,7 @@ module _ {constraints : List Constraint} {gains : Gains} {Seen : ℕ → Type 0}
       → IsUnderWay constraints gains Later (count + 1) (option_or answer changed) begun later
   IsUnderWay-more place answer later Later within relaxed seen = record {
     parents = parents_length gains place (get_or constraints place nowhere) now later answer look ∙ way.parents;
-    raised = AreRaised-more (omega arith) way.raised
+    raised = AreRaisedBy-more (omega arith) way.raised
         (raised_look gains place now later here small answer look);
     swept = λ sweep parents long ready. goes_on sweep parents (way.swept sweep parents long ready)
         long;
@@ -148,7 +148,7 @@ module _ {constraints : List Constraint} {gains : Gains} {Seen : ℕ → Type 0}
           parents
       goes_on sweep parents left long =
           let next = sweeping_look gains place now later here small answer look sweep Seen Later
-          changed seen left.later (left.long ∙ long ∙ sym way.raised.registers) left.sweeping in
+          changed seen left.later (left.long ∙ long ∙ sym way.raised.raised.registers) left.sweeping in
           record {
             later = next.later;
             long = next.long ∙ left.long;
@@ -161,7 +161,7 @@ module _ {constraints : List Constraint} {gains : Gains} {Seen : ℕ → Type 0}
       → Seen place) → IsSweep constraints gains begun changed now
   IsSweep-all whole all = record {
     parents = way.parents;
-    raised = subst (λ n. AreRaised constraints gains n begun.values.items now.values.items) whole
+    raised = subst (λ n. AreRaisedBy constraints gains n begun.values.items now.values.items) whole
         way.raised;
     swept = λ sweep parents long ready. all_seen sweep parents (way.swept sweep parents long ready);
   }
@@ -179,16 +179,20 @@ module _ {constraints : List Constraint} {gains : Gains} {Seen : ℕ → Type 0}
             (slice_get_within constraints place constraint here));
       }
 
--- one constraint that is looked at raises at most once
-pub raised_by : {constraints : List Constraint} {gains : Gains} (place : ℕ) (answer : Option ℕ)
-    (old new : Relaxation) → AreSmallConstraints (length old.values.items) constraints
-    → place < length constraints → IsRelaxed constraints gains place old answer new
-    → AreRaised constraints gains 1 old.values.items new.values.items
-    × (length new.parents.items ≡ length old.parents.items)
-raised_by {constraints} {gains} place answer old new smalls within relaxed = (
-  raised_look gains place old new here small answer look,
-  parents_length gains place (get_or constraints place nowhere) old new answer look,
-)
+-- one constraint that is looked at, whose tail isn't above the cap, raises with room still
+pub HasRisen-one : {constraints : List Constraint} {gains : Gains} (place : ℕ) (answer : Option ℕ)
+    (old new : Relaxation) → HasRoom constraints old → place < length constraints
+    → value_of old.values.items (get_or constraints place nowhere).tail ≤ℤ pos (2 ^ 93)
+    → IsRelaxed constraints gains place old answer new → HasRisen constraints gains old new
+HasRisen-one {constraints} {gains} place answer old new room within capped relaxed = record {
+  room = record {
+    entries = entries_kept raised.registers
+        (parents_length gains place (get_or constraints place nowhere) old new answer look)
+        room.entries;
+    small = small_look answer look;
+  };
+  raised = raised;
+}
   where
     here : slice_get constraints place ≡ Some (get_or constraints place nowhere)
     here = slice_get-get_or constraints place nowhere within
@@ -198,4 +202,28 @@ raised_by {constraints} {gains} place answer old new smalls within relaxed = (
         here relaxed
 
     small : IsSmallConstraint (length old.values.items) (get_or constraints place nowhere)
-    small = smalls.each place nowhere within
+    small = room.entries.small.each place nowhere within
+
+    raised : AreRaised constraints gains old.values.items new.values.items
+    raised = (raised_look gains place old new here small answer look).raised
+
+    -- what is raised is small still
+    small_look : (it : Option ℕ) → IsLook gains place (get_or constraints place nowhere) old it new
+        → All (IsBelow (2 ^ 94)) new.values.items
+    small_look None left = subst (All (IsBelow (2 ^ 94))) (sym left.values) room.small
+    small_look (Some register) up = subst (All (IsBelow (2 ^ 94))) (sym up.values)
+        (small_capped gains old.values.items (get_or constraints place nowhere) small capped up.more
+        room.small)
+
+module _ {constraints : List Constraint} {gains : Gains} where
+  -- nothing has risen yet
+  pub HasRisen-none : {relaxation : Relaxation} → HasRoom constraints relaxation
+      → HasRisen constraints gains relaxation relaxation
+  HasRisen-none {relaxation} room =
+      record { room = room; raised = AreRaised-none relaxation.values.items }
+
+  -- and on
+  pub HasRisen-more : {old now later : Relaxation} → HasRisen constraints gains old now
+      → HasRisen constraints gains now later → HasRisen constraints gains old later
+  HasRisen-more first second =
+      record { room = second.room; raised = AreRaised-more first.raised second.raised }

@@ -1,17 +1,30 @@
 -- How values of registers are raised in place until constraints hold, each with the constraint that
 -- raised it. Cherkassky and Goldberg, "Negative-cycle detection algorithms", 1999.
-use Rattle.std.specs.Prelude.{◌≡◌, ◌<◌, ℕ, ℤ, ◌+ℤ◌, ◌≤ℤ◌, ◌<ℤ◌, List, length, slice_get, slice_set, Option, IfSome, MatchOption}
+use Rattle.std.specs.Prelude.{◌≡◌, ◌<◌, ◌^◌, All, ℕ, ℤ, ◌+ℤ◌, ◌≤ℤ◌, ◌<ℤ◌, List, length, slice_get, slice_set, Option, IfSome, MatchOption}
 use Rattle.cts_model.specs.declared.constraint.Constraint.{Constraint}
+use Rattle.cts_model.specs.placement.Points.{IsBelow}
 use Rattle.cts_model.specs.timing.Constraints.{AreSmallConstraints}
 use Rattle.relaxation.specs.declared.gains.Gains.{Gains}
 use Rattle.relaxation.specs.declared.relaxation.Relaxation.{Relaxation}
 use Rattle.relaxation.specs.Gains.{gain_of}
 use Rattle.relaxation.specs.Parents.{value_of, AreParents, EndsClimb}
+use Rattle.relaxation.specs.Rises.{AreRaised}
 
 -- a value and a parent for each register
 pub record HasEntries (constraints : List Constraint) (relaxation : Relaxation) : Type 0 where
   pub small : AreSmallConstraints (length relaxation.values.items) constraints
   pub parents : length relaxation.parents.items ≡ length relaxation.values.items
+
+-- and room above the values
+pub record HasRoom (constraints : List Constraint) (relaxation : Relaxation) : Type 0 where
+  pub entries : HasEntries constraints relaxation
+  pub small : All (IsBelow (2 ^ 94)) relaxation.values.items
+
+-- the values have risen, with room still
+pub record HasRisen (constraints : List Constraint) (gains : Gains) (old new : Relaxation) : Type 0
+  where
+    pub room : HasRoom constraints new
+    pub raised : AreRaised constraints gains old.values.items new.values.items
 
 -- what the constraint gives its head
 abbrev pub offer_of : Gains → List ℤ → Constraint → ℤ

@@ -7,7 +7,7 @@ use Rattle.relaxation.specs.declared.gains.Gains.{Gains}
 use Rattle.relaxation.specs.declared.relaxation.Relaxation.{Relaxation}
 use Rattle.relaxation.specs.Parents.{parent_of, AreParents}
 use Rattle.relaxation.specs.Relaxing.{GivesMore}
-use Rattle.relaxation.specs.Rises.{AreRaised}
+use Rattle.relaxation.specs.Rises.{AreRaisedBy}
 
 -- within a sweep that has seen some places: where a constraint gives more, its tail has changed
 -- since it was seen, and above a register that changed is one that changed a sweep before or later
@@ -54,7 +54,7 @@ pub record LeavesParents (constraints : List Constraint) (gains : Gains) (sweep 
 pub record IsSweep (constraints : List Constraint) (gains : Gains) (old : Relaxation)
     (changed : Option ℕ) (new : Relaxation) : Type 0 where
   pub parents : length new.parents.items ≡ length old.parents.items
-  pub raised : AreRaised constraints gains (length constraints) old.values.items new.values.items
+  pub raised : AreRaisedBy constraints gains (length constraints) old.values.items new.values.items
   pub swept : (sweep : ℕ) (parents : List ℕ) → length parents ≡ length old.values.items
       → IsReady constraints gains sweep old.values.items parents
       → LeavesParents constraints gains sweep (λ place. ⊤) changed old new parents

@@ -1,33 +1,92 @@
-ghost use Rattle.std.specs.Prelude.{◌≡◌, ◌<◌, ◌*◌, ◌^◌, All, IfSome, length};
-ghost use Rattle.cts_model.specs.placement.Points.{IsBelow};
-ghost use Rattle.relaxation.specs.Relaxing.{HasEntries};
-ghost use Rattle.relaxation.specs.Rises.{AreRaised};
+ghost use Rattle.std.specs.Prelude.{◌≡◌, ◌<◌, IfSome, length};
+ghost use Rattle.relaxation.specs.Relaxing.{HasEntries, HasRisen, HasRoom};
 
 use crate::gains::Gains;
 use crate::relaxation::Relaxation;
 use crate::turns::Turns;
 use cts_model::Constraint;
 
+/// No register hands on a value above this one.
+const CAP: i128 = 1 << 93;
+
 impl Relaxation {
-    /// Raises each register by its parent, after the registers above it up the parents, so a long
-    /// way of parents is gone in whatever order they stand. Each entry of the links becomes, for a
-    /// register that was passed on a way up, 1 more than the register passed before it, or than
-    /// itself where the way begins; else 0. A register that is raised waits. It passes each register
-    /// once, and takes no memory.
-    pub fn follow_parents(
+    /// Raises values along parents, and by registers that hand theirs on in turn, until no register
+    /// waits or there were as many rounds as there are registers. It takes no memory.
+    pub fn raise_in_rounds(
         &mut self,
         constraints: &[Constraint],
         gains: Gains,
         links: &mut [u32],
         turns: &mut Turns,
     )
-        requires entries { HasEntries constraints.now self.old }
-        requires links { length links.old ≡ length self.old.parents.items }
-        requires small { All (IsBelow (2 ^ 93)) self.old.values.items }
-        ensures raised { AreRaised constraints.now gains
-            (length self.old.parents.items * length self.old.parents.items)
-            self.old.values.items self.new.values.items }
-        ensures parents { length self.new.parents.items ≡ length self.old.parents.items }
+        requires room { HasRoom constraints.now self.old }
+        requires links { length links.old ≡ length self.old.values.items }
+        ensures { HasRisen constraints.now gains self.old self.new }
+    {
+        for _round in 0..self.values.len() {
+            if turns.are_over() {
+                return;
+            }
+            self.follow_parents(constraints, gains, links, turns);
+            self.take_turns(constraints, gains, turns);
+        }
+    }
+
+    /// Gives each register a value by its parents, from new ones where each register waits, and
+    /// lets those that wait hand their values on. It takes no memory.
+    pub fn take_round(
+        &mut self,
+        constraints: &[Constraint],
+        gains: Gains,
+        marks: &mut [u32],
+        turns: &mut Turns,
+    )
+        requires room { HasRoom constraints.now self.old }
+        requires marks { length marks.old ≡ length self.old.values.items }
+        ensures room { HasRoom constraints.now self.new }
+        ensures registers { length self.new.values.items ≡ length self.old.values.items }
+        ensures marks { length marks.new ≡ length marks.old }
+    {
+        self.value_by_parents(constraints, gains, marks, turns);
+        self.take_turns(constraints, gains, turns);
+    }
+
+    // Gives each register a value by its parents.
+    fn value_by_parents(
+        &mut self,
+        constraints: &[Constraint],
+        gains: Gains,
+        marks: &mut [u32],
+        turns: &mut Turns,
+    )
+        requires room { HasRoom constraints.now self.old }
+        requires marks { length marks.old ≡ length self.old.values.items }
+        ensures room { HasRoom constraints.now self.new }
+        ensures registers { length self.new.values.items ≡ length self.old.values.items }
+        ensures marks { length marks.new ≡ length marks.old }
+    {
+        if turns.do_all_wait() {
+            self.evaluate(constraints, gains, marks)
+        } else {
+            self.follow_parents(constraints, gains, marks, turns)
+        }
+    }
+
+    // Raises each register by its parent, after the registers above it up the parents, so a long
+    // way of parents is gone in whatever order they stand. Each entry of the links becomes, for a
+    // register that was passed on a way up, 1 more than the register passed before it, or than
+    // itself where the way begins; else 0. A register that is raised waits. It passes each register
+    // once.
+    fn follow_parents(
+        &mut self,
+        constraints: &[Constraint],
+        gains: Gains,
+        links: &mut [u32],
+        turns: &mut Turns,
+    )
+        requires room { HasRoom constraints.now self.old }
+        requires links { length links.old ≡ length self.old.values.items }
+        ensures risen { HasRisen constraints.now gains self.old self.new }
         ensures links { length links.new ≡ length links.old }
     {
         links.fill(0);
@@ -74,13 +133,10 @@ impl Relaxation {
         top: u32,
         turns: &mut Turns,
     )
-        requires entries { HasEntries constraints.now self.old }
+        requires room { HasRoom constraints.now self.old }
         requires links { length links.now ≡ length self.old.parents.items }
         requires top { top < length self.old.parents.items }
-        requires small { All (IsBelow (2 ^ 114)) self.old.values.items }
-        ensures raised { AreRaised constraints.now gains (length self.old.parents.items)
-            self.old.values.items self.new.values.items }
-        ensures parents { length self.new.parents.items ≡ length self.old.parents.items }
+        ensures { HasRisen constraints.now gains self.old self.new }
     {
         let mut register = top;
         for _step in 0..self.parents.len() {
@@ -94,18 +150,13 @@ impl Relaxation {
         }
     }
 
-    /// Lets the registers that wait hand their values on: in one sweep over the list where many
-    /// wait, else one after the other, and those that they raise too, until as many had their turn
-    /// as there are. A register that is raised waits. Moore, "The shortest path through a maze",
-    /// 1959; with parents Cherkassky and Goldberg, "Negative-cycle detection algorithms", 1999. It
-    /// takes no memory.
-    pub fn take_turns(&mut self, constraints: &[Constraint], gains: Gains, turns: &mut Turns)
-        requires entries { HasEntries constraints.now self.old }
-        requires small { All (IsBelow (2 ^ 105)) self.old.values.items }
-        ensures raised { AreRaised constraints.now gains
-            (length self.old.parents.items * length constraints.now)
-            self.old.values.items self.new.values.items }
-        ensures parents { length self.new.parents.items ≡ length self.old.parents.items }
+    // Lets the registers that wait hand their values on: in one sweep over the list where many
+    // wait, else one after the other, and those that they raise too, until as many had their turn
+    // as there are. A register that is raised waits. Moore, "The shortest path through a maze",
+    // 1959; with parents Cherkassky and Goldberg, "Negative-cycle detection algorithms", 1999.
+    fn take_turns(&mut self, constraints: &[Constraint], gains: Gains, turns: &mut Turns)
+        requires { HasRoom constraints.now self.old }
+        ensures { HasRisen constraints.now gains self.old self.new }
     {
         if turns.do_many_wait() {
             self.hand_all_on(constraints, gains, turns)
@@ -116,12 +167,8 @@ impl Relaxation {
 
     // Relaxes all constraints, in the order of the list.
     fn hand_all_on(&mut self, constraints: &[Constraint], gains: Gains, turns: &mut Turns)
-        requires entries { HasEntries constraints.now self.old }
-        requires small { All (IsBelow (2 ^ 105)) self.old.values.items }
-        ensures raised { AreRaised constraints.now gains
-            (length self.old.parents.items * length constraints.now)
-            self.old.values.items self.new.values.items }
-        ensures parents { length self.new.parents.items ≡ length self.old.parents.items }
+        requires { HasRoom constraints.now self.old }
+        ensures { HasRisen constraints.now gains self.old self.new }
     {
         turns.clear();
         for place in 0..constraints.len() {
@@ -132,12 +179,8 @@ impl Relaxation {
     // Lets as many registers as there are hand their values on, one after the other, or all that
     // wait where these are fewer.
     fn hand_on_by_turns(&mut self, constraints: &[Constraint], gains: Gains, turns: &mut Turns)
-        requires entries { HasEntries constraints.now self.old }
-        requires small { All (IsBelow (2 ^ 105)) self.old.values.items }
-        ensures raised { AreRaised constraints.now gains
-            (length self.old.parents.items * length constraints.now)
-            self.old.values.items self.new.values.items }
-        ensures parents { length self.new.parents.items ≡ length self.old.parents.items }
+        requires { HasRoom constraints.now self.old }
+        ensures { HasRisen constraints.now gains self.old self.new }
     {
         for _turn in 0..self.parents.len() {
             let Some(register) = turns.next() else {
@@ -155,11 +198,8 @@ impl Relaxation {
         register: u32,
         turns: &mut Turns,
     )
-        requires entries { HasEntries constraints.now self.old }
-        requires small { All (IsBelow (2 ^ 114)) self.old.values.items }
-        ensures raised { AreRaised constraints.now gains (length constraints.now)
-            self.old.values.items self.new.values.items }
-        ensures parents { length self.new.parents.items ≡ length self.old.parents.items }
+        requires { HasRoom constraints.now self.old }
+        ensures { HasRisen constraints.now gains self.old self.new }
     {
         let mut mark = turns.last_from(register);
         for _step in 0..constraints.len() {
@@ -173,7 +213,7 @@ impl Relaxation {
     }
 
     // Raises the head of the constraint at a place, if there is one that gives it more. The head
-    // waits then.
+    // waits then. A tail above the cap hands nothing on.
     fn relax_in_turn(
         &mut self,
         constraints: &[Constraint],
@@ -181,13 +221,10 @@ impl Relaxation {
         place: usize,
         turns: &mut Turns,
     )
-        requires entries { HasEntries constraints.now self.old }
-        requires small { All (IsBelow (2 ^ 115)) self.old.values.items }
-        ensures raised { AreRaised constraints.now gains 1 self.old.values.items
-            self.new.values.items }
-        ensures parents { length self.new.parents.items ≡ length self.old.parents.items }
+        requires { HasRoom constraints.now self.old }
+        ensures { HasRisen constraints.now gains self.old self.new }
     {
-        if place >= constraints.len() {
+        if place >= constraints.len() || self.values[constraints[place].tail as usize] > CAP {
             return;
         }
         if let Some(head) = self.relax(constraints, place, gains) {

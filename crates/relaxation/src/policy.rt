@@ -2,10 +2,9 @@
 //! the ratio. Howard, "Dynamic Programming and Markov Processes", 1960; for the ratios of cycles
 //! Dasdan, "Experimental analysis of the fastest optimum cycle ratio and mean algorithms", 2004.
 
-ghost use Rattle.std.specs.Prelude.{◌≡◌, ◌<◌, ◌^◌, All, IsTrue, IfSome, length};
-ghost use Rattle.cts_model.specs.placement.Points.{IsBelow};
+ghost use Rattle.std.specs.Prelude.{◌≡◌, ◌<◌, IsTrue, IfSome, length};
 ghost use Rattle.relaxation.specs.Parents.{HaveOwnHeads};
-ghost use Rattle.relaxation.specs.Relaxing.{HasEntries};
+ghost use Rattle.relaxation.specs.Relaxing.{HasEntries, HasRoom};
 
 use crate::gains::Gains;
 use crate::relaxation::Relaxation;
@@ -14,19 +13,22 @@ use cts_model::Constraint;
 /// The mark of a register whose value stands.
 const STANDS: u32 = u32::MAX;
 
+/// Less than any constraint gains.
+const NO_GAIN: i128 = -(1 << 80);
+
 impl Relaxation {
-    /// Makes the constraint that gains most of those that lead to a register its parent.
+    /// Makes the constraint that gains most of those that lead to a register its parent. All values
+    /// become 0.
     pub fn choose_parents(&mut self, constraints: &[Constraint], gains: Gains)
         requires entries { HasEntries constraints.now self.old }
-        ensures values { self.new.values.items ≡ self.old.values.items }
+        ensures values { length self.new.values.items ≡ length self.old.values.items }
         ensures parents { length self.new.parents.items ≡ length self.old.parents.items }
     {
+        self.values.fill(NO_GAIN);
         for place in 0..constraints.len() {
-            let constraint = &constraints[place];
-            if self.gains_more(constraints, constraint, gains) {
-                self.parents[constraint.head as usize] = place as u32;
-            }
+            self.prefer(constraints, gains, place);
         }
+        self.values.fill(0);
     }
 
     /// A register on a ring of parents whose gains come to more than 0. Where there is none, a
@@ -56,12 +58,11 @@ impl Relaxation {
 
     /// Gives each register the value that the parents above it give it from the next register whose
     /// value stands: one that is marked or has no parent.
-    pub fn evaluate(&mut self, constraints: &[Constraint], gains: Gains, marks: &mut [u32])
+    pub(crate) fn evaluate(&mut self, constraints: &[Constraint], gains: Gains, marks: &mut [u32])
         requires entries { HasEntries constraints.now self.old }
         requires marks { length marks.old ≡ length self.old.parents.items }
-        ensures values { length self.new.values.items ≡ length self.old.values.items }
-        ensures parents { self.new.parents.items ≡ self.old.parents.items }
-        ensures small { All (IsBelow (2 ^ 88)) self.new.values.items }
+        ensures room { HasRoom constraints.now self.new }
+        ensures registers { length self.new.values.items ≡ length self.old.values.items }
         ensures marks { length marks.new ≡ length marks.old }
     {
         for register in 0..self.parents.len() {
@@ -84,15 +85,20 @@ impl Relaxation {
         })
     }
 
-    // Whether a constraint gains more than the parent of its head.
-    fn gains_more(&self, constraints: &[Constraint], constraint: &Constraint, gains: Gains) -> bool
-        requires entries { HasEntries constraints.now self.now }
-        requires head { constraint.now.head < length self.now.parents.items }
-        requires small { IsBelow (10 ^ 11) constraint.now.weight }
+    // Makes a constraint its head's parent if it gains more than the head's value, which becomes
+    // that gain.
+    fn prefer(&mut self, constraints: &[Constraint], gains: Gains, place: usize)
+        requires entries { HasEntries constraints.now self.old }
+        requires place { place < length constraints.now }
+        ensures values { length self.new.values.items ≡ length self.old.values.items }
+        ensures parents { length self.new.parents.items ≡ length self.old.parents.items }
     {
-        match self.parent(constraints, constraint.head) {
-            Some(parent) => gains.gain(parent) < gains.gain(constraint),
-            None => true,
+        let constraint = &constraints[place];
+        let gain = gains.gain(constraint);
+        let head = constraint.head as usize;
+        if gain > self.values[head] {
+            self.values[head] = gain;
+            self.parents[head] = place as u32;
         }
     }
 

@@ -26,7 +26,7 @@ pub struct Relaxation {
 impl Relaxation {
     ghost use Rattle.relaxation.specs.Gains.{AdmitsGains, SatisfiesGains};
     ghost use Rattle.relaxation.specs.Parents.{ReachesUp, parent_of, value_of};
-    ghost use Rattle.relaxation.specs.Relaxing.{HasEntries, IsFarUp, IsRelaxed};
+    ghost use Rattle.relaxation.specs.Relaxing.{HasEntries, HasRoom, IsFarUp, IsRelaxed};
     ghost use Rattle.relaxation.specs.Rises.{AreRaised};
     ghost use Rattle.relaxation.specs.Sweeps.{IsSweep};
 
@@ -81,7 +81,7 @@ impl Relaxation {
     pub fn rescale(&mut self, last: Gains, next: Gains)
         ensures values { length self.new.values.items ≡ length self.old.values.items }
         ensures parents { self.new.parents.items ≡ self.old.parents.items }
-        ensures small { All (IsBelow (2 ^ 88)) self.new.values.items }
+        ensures small { All (IsBelow (2 ^ 94)) self.new.values.items }
     {
         for register in 0..self.values.len() {
             let value = self.values[register];
@@ -94,16 +94,15 @@ impl Relaxation {
     /// register at their top is answered; where some values satisfy the constraints there is none.
     /// It makes at most a sweep for each register, and takes no memory.
     pub fn settle(&mut self, constraints: &[Constraint], gains: Gains) -> Option<u32>
-        requires entries { HasEntries constraints.now self.old }
-        requires small { All (IsBelow (2 ^ 93)) self.old.values.items }
+        requires room { HasRoom constraints.now self.old }
         requires none { (register : ℕ)
             → parent_of constraints.now self.old.parents.items register ≡ None }
         ensures settled { MatchOption result
             (SatisfiesGains constraints.now gains 1 (value_of self.new.values.items))
             (IsFarUp constraints.now gains self.new) }
         ensures admitted { AdmitsGains constraints.now gains → result ≡ None }
-        ensures raised { (raises : ℕ)
-            × AreRaised constraints.now gains raises self.old.values.items self.new.values.items }
+        ensures raised { AreRaised constraints.now gains self.old.values.items
+            self.new.values.items }
         ensures parents { length self.new.parents.items ≡ length self.old.parents.items }
     {
         let mut sweeps = 0;
@@ -232,7 +231,7 @@ impl Relaxation {
 
 // A value at another scale, rounded and cut to a size below 2^88.
 fn rescaled(value: i128, last: Gains, next: Gains) -> i128
-    ensures { IsBelow (2 ^ 88) result }
+    ensures { IsBelow (2 ^ 94) result }
 {
     let kept = cut(value);
     if next.scale == last.scale {

@@ -17,12 +17,12 @@ impl Relaxation {
     pub fn satisfy(&mut self, constraints: &[Constraint], gains: Gains)
         requires constraints { AreSmallConstraints (length self.old.values.items)
             constraints.now }
-        requires small { All (IsBelow (2 ^ 93)) self.old.values.items }
+        requires small { All (IsBelow (2 ^ 94)) self.old.values.items }
         requires admitted { AdmitsGains constraints.now gains }
         ensures satisfied { SatisfiesGains constraints.now gains 1
             (value_of self.new.values.items) }
-        ensures raised { (raises : ℕ)
-            × AreRaised constraints.now gains raises self.old.values.items self.new.values.items }
+        ensures raised { AreRaised constraints.now gains self.old.values.items
+            self.new.values.items }
     {
         let mut sweeps = 0;
         while self.sweep(constraints, gains, sweeps).is_some() {

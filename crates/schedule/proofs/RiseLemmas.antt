@@ -9,24 +9,18 @@ use Rattle.cts_model.specs.timing.Schedules.{AreFromZero, arrival_of}
 use Rattle.relaxation.specs.declared.gains.Gains.{Gains}
 use Rattle.relaxation.specs.Gains.{SatisfiesGains}
 use Rattle.relaxation.specs.Parents.{value_of}
-use Rattle.relaxation.specs.Rises.{AreBetween, AreRaised}
+use Rattle.relaxation.specs.Rises.{AreRaised}
+use Rattle.relaxation.proofs.RiseLemmas.{small_wider}
 use Rattle.schedule.specs.Gains.{AreLeastArrivalsBy}
-use Rattle.schedule.specs.Rises.{CanRaise, IsRising}
+use Rattle.schedule.specs.Rises.{CanRaise}
 use Rattle.schedule.specs.Schedules.{CanSchedule}
 use Rattle.schedule.proofs.BoundLemmas.{small_rising}
-
--- a greater bound does too
-wider : (bound more : ℕ) (values : List ℤ) → bound ≤ more → All (IsBelow bound) values
-    → All (IsBelow more) values
-wider bound more values enough small place default within =
-    let it = small place default within in
-    record { above = omega (arith, ints, it.above); below = omega (arith, ints, it.below) }
 
 -- arrivals that can be raised are small
 pub small_ready : {constraints : List Constraint} {gains : Gains} (at : List ℤ) (bound : ℕ)
     → 2 ^ 93 ≤ bound → CanRaise constraints gains at → All (IsBelow bound) at
 small_ready {constraints} {gains} at bound enough ready =
-    wider (2 ^ 93) bound at enough (small_rising constraints gains at ready.can ready.rising)
+    small_wider (2 ^ 93) bound at enough (small_rising constraints gains at ready.can ready.rising)
 
 -- what is 0 is no later than what is from 0 on
 zero_first : (times : ℕ) (other : ℤ) → pos 0 ≤ℤ other → (pos times *ℤ pos 0) ≤ℤ other
@@ -57,48 +51,24 @@ CanRaise-zero {constraints} {gains} registers can = record {
     zero_at register within =
         get_or-replicate registers register (pos 0) (pos 0) (omega (arith, long))
 
-module _ {constraints : List Constraint} {gains : Gains} {raises : ℕ} {old new : List ℤ}
-    (can : CanSchedule constraints gains (length old)) (rising : IsRising constraints gains old)
-    (raised : AreRaised constraints gains raises old new) where
-  -- they are from 0 on and below a bound
-  from_zero_on : AreBetween (pos 0) (pos (2 ^ 93)) old
-  from_zero_on = record {
-    low = rising.from_zero;
-    high = λ register within.
-        under _ (small_rising constraints gains old can rising register (pos 0) within);
-  }
-    where
-      under : (z : ℤ) → IsBelow (2 ^ 93) z → z ≤ℤ pos (2 ^ 93)
-      under z small = omega (arith, ints, small.below)
-
-  -- raised arrivals are rising
-  pub IsRising-raised : IsRising constraints gains new
-  IsRising-raised = record {
-    from_zero = (raised.between (pos 0) (pos (2 ^ 93)) from_zero_on).low;
-    least = λ times other some others satisfied.
-        raised.below times other satisfied
-        (rising.least times other some (subst (λ n. AreFromZero n other) raised.registers others)
-        satisfied);
+module _ {constraints : List Constraint} {gains : Gains} {old new : List ℤ}
+    (raised : AreRaised constraints gains old new) where
+  -- what is raised can be raised on
+  pub CanRaise-raised : CanRaise constraints gains old → CanRaise constraints gains new
+  CanRaise-raised ready = record {
+    can = subst (CanSchedule constraints gains) (sym raised.registers) ready.can;
+    rising = record {
+      from_zero = raised.low (pos 0) ready.rising.from_zero;
+      least = λ times other some others satisfied.
+          raised.below times other satisfied
+          (ready.rising.least times other some
+          (subst (λ n. AreFromZero n other) raised.registers others) satisfied);
+    };
   }
 
-  -- and can be scheduled still
-  pub can_raised : CanSchedule constraints gains (length new)
-  can_raised = subst (CanSchedule constraints gains) (sym raised.registers) can
-
--- what is raised can be raised on
-pub CanRaise-raised : {constraints : List Constraint} {gains : Gains} {raises : ℕ}
-    {old new : List ℤ} → AreRaised constraints gains raises old new
-    → CanRaise constraints gains old → CanRaise constraints gains new
-CanRaise-raised raised ready = record {
-  can = can_raised ready.can ready.rising raised;
-  rising = IsRising-raised ready.can ready.rising raised;
-}
-
--- where they come to satisfy the constraints they are the least
-pub least_settled : {constraints : List Constraint} {gains : Gains} {raises : ℕ}
-    {old new : List ℤ} → SatisfiesGains constraints gains 1 (value_of new)
-    → AreRaised constraints gains raises old new → CanRaise constraints gains old
-    → AreLeastArrivalsBy constraints gains new
-least_settled satisfied raised ready =
-    let rising = IsRising-raised ready.can ready.rising raised in
-    record { satisfies = satisfied; from_zero = rising.from_zero; least = rising.least }
+  -- where they come to satisfy the constraints they are the least
+  pub least_settled : SatisfiesGains constraints gains 1 (value_of new)
+      → CanRaise constraints gains old → AreLeastArrivalsBy constraints gains new
+  least_settled satisfied ready =
+      let rising = (CanRaise-raised ready).rising in
+      record { satisfies = satisfied; from_zero = rising.from_zero; least = rising.least }

@@ -8,7 +8,6 @@ ghost use Rattle.schedule.specs.Schedules.{AreWithinWeights, IsAdmittedBy, IsLea
 ghost use Rattle.cts_model.specs.timing.Schedules.{IsSmallPeriod};
 
 use crate::gains::gains_of;
-use crate::raising::raise_in_turns;
 use cts_base::{Fraction, Listed, NoMemory};
 use cts_model::{Constraint, Schedule};
 use relaxation::{Gains, Relaxation, Turns};
@@ -89,7 +88,7 @@ pub fn least_arrivals(
     let mut relaxation = Relaxation::new(alloc, registers)?;
     let mut links = vec![in alloc; 0u32; registers]?;
     let mut turns = Turns::new(alloc, registers, list)?;
-    raise_in_turns(&mut relaxation, list, gains, &mut links, &mut turns);
+    relaxation.raise_in_rounds(list, gains, &mut links, &mut turns);
     Ok(settled(relaxation, list, gains))
 }
 

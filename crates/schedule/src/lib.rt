@@ -3,7 +3,6 @@
 
 mod gains;
 mod least;
-mod raising;
 mod reach;
 mod tight;
 

@@ -8,15 +8,15 @@ use Rattle.schedule.proofs.least.settled.Goals as goal
 
 pub satisfy-requires-clause-small : goal.satisfy-requires-clause-small
 satisfy-requires-clause-small c =
-    small_ready c.args.relaxation.values.items (2 ^ 93) (omega arith) c.requires
+    small_ready c.args.relaxation.values.items (2 ^ 94) (omega arith) c.requires
 
 pub returns-clause-least : goal.returns-clause-least
 returns-clause-least c =
     subst (AreLeastArrivalsBy c.args.constraints.now c.args.gains) (sym c.from_vec.ensures)
-    (least_settled c.satisfy.ensures.satisfied c.satisfy.ensures.raised.1 c.requires)
+    (least_settled c.satisfy.ensures.raised c.satisfy.ensures.satisfied c.requires)
 
 pub returns-clause-small : goal.returns-clause-small
 returns-clause-small c =
     subst (All (IsBelow (2 ^ 93))) (sym c.from_vec.ensures)
     (small_ready c.satisfy.new.self.values.items (2 ^ 93) (omega arith)
-    (CanRaise-raised c.satisfy.ensures.raised.1 c.requires))
+    (CanRaise-raised c.satisfy.ensures.raised c.requires))

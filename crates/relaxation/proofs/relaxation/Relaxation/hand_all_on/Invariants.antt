@@ -1,8 +1,5 @@
-use Rattle.std.proofs.Common.{◌≡◌, length}
-use Rattle.relaxation.specs.Rises.{AreRaised}
+use Rattle.relaxation.specs.Relaxing.{HasRisen}
 use Rattle.relaxation.proofs.relaxation.Relaxation.hand_all_on.Given as goal
 
 abbrev pub invariant-loop-place : goal.invariant-loop-place
-invariant-loop-place l =
-    AreRaised l.constraints l.gains l.place l.initial.self.values.items l.self.values.items
-    × (length l.self.parents.items ≡ length l.initial.self.parents.items)
+invariant-loop-place l = HasRisen l.constraints l.gains l.initial.self l.self

@@ -1,31 +1,23 @@
--- One raise a step, and no more steps than registers.
-use Rattle.std.proofs.Common.{◌^◌, arith}
-use Rattle.relaxation.proofs.RiseLemmas.{AreRaised-more, small_raised}
-use Rattle.relaxation.proofs.StepLemmas.{entries_kept}
+-- What has risen rises on, and the next register down is one.
+use Rattle.std.proofs.Common.{arith}
+use Rattle.relaxation.proofs.StepLemmas.{HasRisen-more, HasRisen-none}
 use Rattle.relaxation.proofs.relaxation.Relaxation.raise_down.Goals as goal
 
-pub relax_in_turn-requires-clause-entries : goal.relax_in_turn-requires-clause-entries
-relax_in_turn-requires-clause-entries c = entries_kept c.loop-step.invariant.1.registers
-    c.loop-step.invariant.2 c.requires.entries
+pub loop-step-init : goal.loop-step-init
+loop-step-init c = (HasRisen-none c.requires.room, c.requires.top)
 
-pub relax_in_turn-requires-clause-small : goal.relax_in_turn-requires-clause-small
-relax_in_turn-requires-clause-small c =
-    small_raised (2 ^ 114) (2 ^ 115)
-    (omega (
-      arith,
-      c.loop-step-test.true,
-      c.requires.entries.parents,
-      c.requires.entries.small.not_many,
-    )) c.loop-step.invariant.1 c.requires.small
-
-pub returns-then-below-register-clause-raised : goal.returns-then-below-register-clause-raised
-returns-then-below-register-clause-raised c =
-    AreRaised-more (omega (arith, c.loop-step-test.true)) c.loop-step.invariant.1
-    c.relax_in_turn.ensures.raised
+pub returns-then-below-register : goal.returns-then-below-register
+returns-then-below-register c = HasRisen-more c.loop-step.invariant.0 c.relax_in_turn.ensures
 
 pub loop-step-preserved : goal.loop-step-preserved
 loop-step-preserved c = (
-  omega (arith, c.relax_in_turn.ensures.parents, c.loop-step.invariant.2),
-  AreRaised-more (omega arith) c.loop-step.invariant.1 c.relax_in_turn.ensures.raised,
-  omega (arith, c.relax_in_turn.ensures.parents, c.loop-step.invariant.2),
+  HasRisen-more c.loop-step.invariant.0 c.relax_in_turn.ensures,
+  omega (
+    arith,
+    c.relax_in_turn.ensures.room.entries.parents,
+    c.relax_in_turn.ensures.raised.registers,
+    c.loop-step.invariant.0.raised.registers,
+    c.requires.room.entries.parents,
+    c.requires.links,
+  ),
 )

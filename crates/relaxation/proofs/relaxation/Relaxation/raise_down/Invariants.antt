@@ -1,8 +1,7 @@
-use Rattle.std.proofs.Common.{◌≡◌, ◌<◌, length}
-use Rattle.relaxation.specs.Rises.{AreRaised}
+use Rattle.std.proofs.Common.{◌<◌, length}
+use Rattle.relaxation.specs.Relaxing.{HasRisen}
 use Rattle.relaxation.proofs.relaxation.Relaxation.raise_down.Given as goal
 
 abbrev pub invariant-loop-step : goal.invariant-loop-step
-invariant-loop-step l = (l.register < length l.self.parents.items)
-    × AreRaised l.constraints l.gains l._step l.initial.self.values.items l.self.values.items
-    × (length l.self.parents.items ≡ length l.initial.self.parents.items)
+invariant-loop-step l = HasRisen l.constraints l.gains l.initial.self l.self
+    × (l.register < length l.self.parents.items)

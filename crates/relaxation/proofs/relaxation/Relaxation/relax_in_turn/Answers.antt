@@ -1,24 +1,37 @@
--- A constraint raises its head at most once, or nothing changes.
-use Rattle.std.proofs.Common.{arith}
-use Rattle.relaxation.proofs.StepLemmas.{raised_by}
+-- A constraint whose tail isn't above the cap raises its head, or nothing changes.
+use Rattle.std.proofs.Common.{◌≡◌, ◌<◌, ◌^◌, ℕ, ℤ, pos, ◌≤ℤ◌, List, Option, length, get_or, subst, arith}
+use Rattle.std.proofs.lemmas.Int.{ints}
+use Rattle.std.proofs.lemmas.List.{get_or_read}
+use Rattle.cts_model.specs.declared.constraint.Constraint.{Constraint}
+use Rattle.relaxation.specs.declared.gains.Gains.{Gains}
+use Rattle.relaxation.specs.declared.relaxation.Relaxation.{Relaxation}
+use Rattle.relaxation.specs.Relaxing.{HasRisen, HasRoom, IsRelaxed}
+use Rattle.relaxation.proofs.RelaxLemmas.{nowhere}
+use Rattle.relaxation.proofs.StepLemmas.{HasRisen-one}
 use Rattle.relaxation.proofs.relaxation.Relaxation.relax_in_turn.Goals as goal
 
-pub returns-in-Some-clause-raised : goal.returns-in-Some-clause-raised
-returns-in-Some-clause-raised c =
-    (raised_by c.args.place c.relax.result c.args.self.now c.relax.new.self c.requires.entries.small
-    (omega (arith, c.if-place-constraints.false)) c.relax.ensures).0
+-- what is read at the tail is its value
+risen : (constraints : List Constraint) (gains : Gains) (place : ℕ) (answer : Option ℕ)
+    (old new : Relaxation) (tail : ℤ) → HasRoom constraints old → place < length constraints
+    → tail ≡ get_or old.values.items (get_or constraints place nowhere).tail tail
+    → tail ≤ℤ pos (2 ^ 93) → IsRelaxed constraints gains place old answer new
+    → HasRisen constraints gains old new
+risen constraints gains place answer old new tail room within read low relaxed =
+    HasRisen-one place answer old new room within
+    (subst (λ z. z ≤ℤ pos (2 ^ 93))
+    (get_or_read old.values.items (get_or constraints place nowhere).tail tail
+    (room.entries.small.each place nowhere within).tail read (pos 0)) low) relaxed
 
-pub returns-in-Some-clause-parents : goal.returns-in-Some-clause-parents
-returns-in-Some-clause-parents c =
-    (raised_by c.args.place c.relax.result c.args.self.now c.relax.new.self c.requires.entries.small
-    (omega (arith, c.if-place-constraints.false)) c.relax.ensures).1
+pub returns-in-Some : goal.returns-in-Some
+returns-in-Some c =
+    risen c.args.constraints.now c.args.gains c.args.place c.relax.result c.args.self.now
+    c.relax.new.self c.index.result.now c.requires
+    (omega (arith, c.if-place-constraints.false)) c.index.ensures
+    (omega (arith, ints, c.if-index-gt-CAP.false)) c.relax.ensures
 
-pub returns-in_default-clause-raised : goal.returns-in_default-clause-raised
-returns-in_default-clause-raised c =
-    (raised_by c.args.place c.relax.result c.args.self.now c.relax.new.self c.requires.entries.small
-    (omega (arith, c.if-place-constraints.false)) c.relax.ensures).0
-
-pub returns-in_default-clause-parents : goal.returns-in_default-clause-parents
-returns-in_default-clause-parents c =
-    (raised_by c.args.place c.relax.result c.args.self.now c.relax.new.self c.requires.entries.small
-    (omega (arith, c.if-place-constraints.false)) c.relax.ensures).1
+pub returns-in_default : goal.returns-in_default
+returns-in_default c =
+    risen c.args.constraints.now c.args.gains c.args.place c.relax.result c.args.self.now
+    c.relax.new.self c.index.result.now c.requires
+    (omega (arith, c.if-place-constraints.false)) c.index.ensures
+    (omega (arith, ints, c.if-index-gt-CAP.false)) c.relax.ensures

@@ -31,7 +31,5 @@ returns-clause-satisfied c =
     (is_none c.sweep.result (sym c.is_some.ensures ∙ c.loop-gains-test.false))
 
 pub returns-clause-raised : goal.returns-clause-raised
-returns-clause-raised c = (
-  _,
-  raised_later c.requires.constraints c.loop-gains.invariant.1 c.sweep.ensures.raised,
-)
+returns-clause-raised c =
+    (raised_later c.requires.constraints c.loop-gains.invariant.1 c.sweep.ensures.raised).raised
