@@ -14,13 +14,13 @@ use Rattle.timing_report.specs.ListedPairs.{IsFirstOf, IsTooQuick}
 abbrev pub is_quick : ℤ → PairDelay → Bool
 is_quick hold pair = int_lt pair.least hold
 
--- where it passes, the delay is below
-quick_true : (hold least : ℤ) → int_lt least hold ≡ true → least <ℤ hold
-quick_true hold least passes = grind (arith, ints)
+-- where the code's comparison passes, the one is less
+pub is_less : (other one : ℤ) → int_lt one other ≡ true → one <ℤ other
+is_less other one passes = grind (arith, ints)
 
 -- where it fails, it is not
-quick_false : (hold least : ℤ) → int_lt least hold ≡ false → hold ≤ℤ least
-quick_false hold least fails = grind (arith, ints)
+pub is_no_less : (other one : ℤ) → int_lt one other ≡ false → other ≤ℤ one
+is_no_less other one fails = grind (arith, ints)
 
 -- where the search finds a pair, it is the first that comes before the hold time
 pub first_found : (hold shown : ℤ) (pairs : List PairDelay) (pair : PairDelay) → shown ≡ hold
@@ -35,10 +35,10 @@ first_found hold shown pairs pair same found =
       place = place;
       within = within;
       here = here;
-      holds = quick_true hold pair.least
+      holds = is_less hold pair.least
           (rw here at (passes_at_first (is_quick hold) pairs pair within));
       first = λ earlier other before quick.
-          let fails = quick_false hold (get_or pairs earlier other).least
+          let fails = is_no_less hold (get_or pairs earlier other).least
           (fails_before_first (is_quick hold) pairs earlier other before) in
           omega (arith, ints);
     }
@@ -48,7 +48,7 @@ pub none_found : (hold shown : ℤ) (pairs : List PairDelay) → shown ≡ hold
     → find (is_quick shown) pairs ≡ None → All (λ p. hold ≤ℤ p.least) pairs
 none_found hold shown pairs same none place other within =
     elim (cases_lt place (position_or_len (is_quick hold) pairs)) [
-      | inl before ↦ quick_false hold (get_or pairs place other).least
+      | inl before ↦ is_no_less hold (get_or pairs place other).least
           (fails_before_first (is_quick hold) pairs place other before)
       | inr past ↦
           let inside : position_or_len (is_quick hold) pairs < length pairs = omega arith in

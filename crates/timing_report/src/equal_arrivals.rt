@@ -1,5 +1,6 @@
-ghost use Rattle.std.specs.Prelude.{◌≡◌, int_lt, if◌then◌else◌, length, All, MatchOption, find};
+ghost use Rattle.std.specs.Prelude.{◌≡◌, ◌<◌, int_lt, if◌then◌else◌, length, All, MatchOption, find, slice_index_or};
 ghost use Rattle.cts_model.specs.declared.circuit.Circuit.{Circuit};
+ghost use Rattle.cts_model.specs.declared.timing.PairDelay.{PairDelay};
 ghost use Rattle.cts_model.specs.timing.EqualArrivals.{IsZeroSkew};
 ghost use Rattle.cts_model.specs.timing.PairLists.{ListsPairs, IsSmallPair, HasSmallDelays};
 ghost use Rattle.timing_report.specs.ListedPairs.{IsMostDelayed, IsZeroSkewOf};
@@ -49,18 +50,22 @@ fn first_too_quick(pairs: &[PairDelay], hold: i128) -> Option<PairDelay>
 fn most_delayed(pairs: &[PairDelay]) -> Option<PairDelay>
     ensures { MatchOption result (length pairs.now ≡ 0) (IsMostDelayed pairs.now) }
 {
-    let mut most = *pairs.first()?;
-    for pair in pairs {
-        most = more_delayed(most, *pair);
+    let mut most = 0;
+    for place in 0..pairs.len() {
+        most = more_delayed(pairs, most, place);
     }
-    Some(most)
+    pairs.get(most).copied()
 }
 
-// The pair with the greater delay, and the first where both have the same.
-fn more_delayed(first: PairDelay, second: PairDelay) -> PairDelay
-    ensures { result ≡ (if int_lt first.greatest second.greatest then second else first) }
+// The place of the pair with the greater delay, and the first where both have the same.
+fn more_delayed(pairs: &[PairDelay], first: usize, second: usize) -> usize
+    requires first { first < length pairs.now }
+    requires second { second < length pairs.now }
+    ensures { (default : PairDelay)
+        → result ≡ (if int_lt (slice_index_or pairs.now first default).greatest
+        (slice_index_or pairs.now second default).greatest then second else first) }
 {
-    if first.greatest < second.greatest {
+    if pairs[first].greatest < pairs[second].greatest {
         second
     } else {
         first

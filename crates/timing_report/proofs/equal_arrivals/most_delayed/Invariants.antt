@@ -1,5 +1,5 @@
 use Rattle.timing_report.proofs.MostDelayedPairs.{IsMostSoFar}
 use Rattle.timing_report.proofs.equal_arrivals.most_delayed.Given as goal
 
-abbrev pub invariant-loop-pair : goal.invariant-loop-pair
-invariant-loop-pair l = IsMostSoFar l.pairs l.pair-index l.most
+abbrev pub invariant-loop-place : goal.invariant-loop-place
+invariant-loop-place l = IsMostSoFar l.pairs l.place l.most
