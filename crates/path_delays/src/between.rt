@@ -1,5 +1,4 @@
 ghost use Rattle.std.specs.Prelude.{◌<◌, ◌≤◌, ◌++◌, ℕ, All, IfOk, List, OnOk, length};
-ghost use Rattle.gate_order.specs.LevelParts.{IsLevelsOf};
 ghost use Rattle.path_delays.specs.WalkParts.{IsRoomFor};
 ghost use Rattle.path_delays.specs.JoinedPairs.{AreDelaysBetween};
 
@@ -8,34 +7,27 @@ use crate::pair::joined_pair;
 use crate::walk::Walk;
 use cts_base::{Listed, NoMemory};
 use cts_model::{Circuit, PairDelay, Tech};
-use gate_order::Levels;
 use std::alloc::Global;
 
-/// The delays of pairs of registers, one pair after the other, over all paths between the two.
-/// `None` stands exactly where no path joins them. One walk for eight pairs, from the first of
-/// each up to what the second ones capture, in the same room.
-///
-/// # Errors
-///
-/// `NoMemory` where memory is refused.
-pub fn delays_between(
+/// The delays of these pairs, walked between eight at a time in the same room.
+pub(crate) fn walked_delays(
+    walk: &mut Walk,
     alloc: Global,
     circuit: &Circuit,
-    levels: &Levels,
     tech: &Tech,
     pairs: &[(u32, u32)],
 ) -> Result<Listed<Option<PairDelay>>, NoMemory>
-    requires levels { IsLevelsOf circuit.now levels.now }
+    requires room { IsRoomFor circuit.now tech.now walk.old }
     requires pairs { All (λ pair. (pair.0 < length circuit.now.registers)
         × (pair.1 < length circuit.now.registers)) pairs.now }
-    ensures { IfOk result (AreDelaysBetween circuit.now tech.now pairs.now) }
+    ensures delays { IfOk result (AreDelaysBetween circuit.now tech.now pairs.now) }
+    ensures room { IsRoomFor circuit.now tech.now walk.new }
 {
-    let mut walk = Walk::new(alloc, circuit, levels, tech)?;
     let mut delays = Vec::new(alloc);
     let mut first = 0;
     while first < pairs.len() {
         let end = block_end(first, pairs.len());
-        push_delays(&mut delays, &mut walk, circuit, tech, &pairs[first..end])?;
+        push_delays(&mut delays, walk, circuit, tech, &pairs[first..end])?;
         first = end;
     }
     Ok(Listed::from_vec(delays))

@@ -2,7 +2,6 @@ ghost use Rattle.std.specs.Prelude.{◌≡◌, ◌<◌, ◌≤◌, ◌+◌, ◌-
 ghost use Rattle.std.specs.Option.{option_to_list};
 ghost use Rattle.cts_model.specs.declared.tech.Tech.{Tech};
 ghost use Rattle.cts_model.specs.timing.PairLists.{JoinsMoreThan};
-ghost use Rattle.gate_order.specs.LevelParts.{IsLevelsOf};
 ghost use Rattle.path_delays.specs.WalkParts.{HasReach, IsRoomFor};
 ghost use Rattle.path_delays.specs.Capturings.{AreAllReached, IsCapturingOf};
 ghost use Rattle.path_delays.specs.JoinedPairs.{ListsPairsBefore, ArePairs, ShowsTooMany, MeetsLimit, pair_limit};
@@ -14,44 +13,30 @@ use crate::pair::joined_pair;
 use crate::walk::Walk;
 use cts_base::Listed;
 use cts_model::{Circuit, PairDelay, Tech};
-use gate_order::Levels;
 use std::alloc::Global;
 
 /// How many joined pairs of registers a circuit may have.
 const MAX_PAIRS: usize = 1_048_576;
 
-/// The delays of all pairs of registers that paths join, by the register that launches and then by
-/// the one that captures.
-///
-/// # Errors
-///
-/// `TooManyPairs` where more than 1,048,576 pairs are joined, `NoMemory` where memory is refused.
-pub fn pair_delays(
+/// The delays of all joined pairs, walked to from eight registers at a time in the same room.
+pub(crate) fn walked_pairs(
+    walk: &mut Walk,
     alloc: Global,
     circuit: &Circuit,
-    levels: &Levels,
     tech: &Tech,
 ) -> Result<Listed<PairDelay>, PairFault>
-    requires { IsLevelsOf circuit.now levels.now }
+    requires { IsRoomFor circuit.now tech.now walk.old }
     ensures ok { IfOk result (ArePairs circuit.now tech.now) }
     ensures few { IfOk result (λ _. JoinsMoreThan circuit.now pair_limit → ⊥) }
     ensures many { IfErr result (ShowsTooMany circuit.now) }
+    ensures room { IsRoomFor circuit.now tech.now walk.new }
 {
-    let mut walk = Walk::new(alloc, circuit, levels, tech)?;
     let mut capturing = Capturing::new(alloc, circuit)?;
     let mut pairs = Vec::new(alloc);
     let mut first = 0;
     while first < circuit.registers.len() {
         let end = block_end(first, circuit.registers.len());
-        push_block(
-            &mut pairs,
-            &mut walk,
-            &mut capturing,
-            circuit,
-            tech,
-            first,
-            end,
-        )?;
+        push_block(&mut pairs, walk, &mut capturing, circuit, tech, first, end)?;
         first = end;
     }
     Ok(Listed::from_vec(pairs))

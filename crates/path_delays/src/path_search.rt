@@ -1,17 +1,18 @@
-ghost use Rattle.std.specs.Prelude.{◌<◌, length, IfOk};
-ghost use Rattle.gate_order.specs.LevelParts.{IsLevelsOf};
-ghost use Rattle.path_delays.specs.ExtremePaths.{IsExtremeIfAny};
+ghost use Rattle.std.specs.Prelude.{◌<◌, length};
 
+use crate::PairFault;
+use crate::between::walked_delays;
 use crate::cycle_paths::paths_within;
 use crate::extreme_path::path_back;
+use crate::pairs::walked_pairs;
 use crate::walk::Walk;
 use cts_base::{Listed, NoMemory};
-use cts_model::{Circuit, Constraint, Tech};
+use cts_model::{Circuit, Constraint, PairDelay, Tech};
 use gate_order::Levels;
 use std::alloc::Global;
 use std::marker::Model;
 
-/// The paths of a circuit, looked for in the same room.
+/// The paths of a circuit and their delays, looked for in the same room.
 #[derive(Drop)]
 pub struct Paths<'a> {
     circuit: &'a Circuit,
@@ -31,10 +32,13 @@ impl<'a> Model for Paths<'a> {
 }
 
 impl<'a> Paths<'a> {
-    ghost use Rattle.std.specs.Prelude.{◌≡◌, All, IfOk};
+    ghost use Rattle.std.specs.Prelude.{◌≡◌, All, IfErr, IfOk};
     ghost use Rattle.cts_model.specs.timing.ConstraintPaths.{ArePathsWithin};
     ghost use Rattle.cts_model.specs.timing.Constraints.{IsConstraintOf};
+    ghost use Rattle.cts_model.specs.timing.PairLists.{JoinsMoreThan};
     ghost use Rattle.gate_order.specs.LevelParts.{IsLevelsOf};
+    ghost use Rattle.path_delays.specs.ExtremePaths.{IsExtremeIfAny};
+    ghost use Rattle.path_delays.specs.JoinedPairs.{AreDelaysBetween, ArePairs, ShowsTooMany, pair_limit};
 
     /// The paths of a circuit. Which gates read each signal is listed once, for all of them.
     ///
@@ -59,6 +63,67 @@ impl<'a> Paths<'a> {
         })
     }
 
+    /// The delays of all pairs of registers that paths join, by the register that launches and then
+    /// by the one that captures. One walk for eight registers that launch.
+    ///
+    /// # Errors
+    ///
+    /// `TooManyPairs` where more than 1,048,576 pairs are joined, `NoMemory` where memory is
+    /// refused.
+    pub fn pair_delays(&mut self, alloc: Global) -> Result<Listed<PairDelay>, PairFault>
+        ensures ok { IfOk result (ArePairs self.old.circuit self.old.tech) }
+        ensures few { IfOk result (λ _. JoinsMoreThan self.old.circuit pair_limit → ⊥) }
+        ensures many { IfErr result (ShowsTooMany self.old.circuit) }
+        ensures same { self.new ≡ self.old }
+    {
+        walked_pairs(&mut self.walk, alloc, self.circuit, self.tech)
+    }
+
+    /// The delays of pairs of registers, one pair after the other, over all paths between the two.
+    /// `None` stands exactly where no path joins them. One walk for eight pairs, from the first of
+    /// each up to what the second ones capture.
+    ///
+    /// # Errors
+    ///
+    /// `NoMemory` where memory is refused.
+    pub fn delays_between(
+        &mut self,
+        alloc: Global,
+        pairs: &[(u32, u32)],
+    ) -> Result<Listed<Option<PairDelay>>, NoMemory>
+        requires { All (λ pair. (pair.0 < length self.old.circuit.registers)
+            × (pair.1 < length self.old.circuit.registers)) pairs.now }
+        ensures delays { IfOk result
+            (AreDelaysBetween self.old.circuit self.old.tech pairs.now) }
+        ensures same { self.new ≡ self.old }
+    {
+        walked_delays(&mut self.walk, alloc, self.circuit, self.tech, pairs)
+    }
+
+    /// The signals of a path from one register to another with the greatest delay of all, or with
+    /// the least. `None` comes exactly where no path joins them; which path of several is free.
+    ///
+    /// # Errors
+    ///
+    /// `NoMemory` where memory is refused.
+    pub fn path_of(
+        &mut self,
+        alloc: Global,
+        from: u32,
+        to: u32,
+        greatest: bool,
+    ) -> Result<Option<Listed<u32>>, NoMemory>
+        requires from { from < length self.old.circuit.registers }
+        requires to { to < length self.old.circuit.registers }
+        ensures path { IfOk result
+            (IsExtremeIfAny self.old.circuit self.old.tech from to greatest) }
+        ensures same { self.new ≡ self.old }
+    {
+        self.walk
+            .walk_between(self.circuit, self.tech, &[(from, to)]);
+        path_back(&self.walk, alloc, self.circuit, 0, to, greatest)
+    }
+
     /// For each of some constraints a path that gives its weight: of a setup constraint one with
     /// the greatest delay of all, of a hold constraint one with the least. They have 4,096 signals
     /// at most: a path for which there is no room after the earlier ones is empty. One walk for
@@ -79,29 +144,4 @@ impl<'a> Paths<'a> {
     {
         paths_within(&mut self.walk, alloc, self.circuit, self.tech, constraints)
     }
-}
-
-/// The signals of a path from one register to another with the greatest delay of all, or with the
-/// least. `None` comes exactly where no path joins them; which path of several is free.
-///
-/// # Errors
-///
-/// `NoMemory` where memory is refused.
-pub fn path_of(
-    alloc: Global,
-    circuit: &Circuit,
-    levels: &Levels,
-    tech: &Tech,
-    from: u32,
-    to: u32,
-    greatest: bool,
-) -> Result<Option<Listed<u32>>, NoMemory>
-    requires levels { IsLevelsOf circuit.now levels.now }
-    requires from { from < length circuit.now.registers }
-    requires to { to < length circuit.now.registers }
-    ensures { IfOk result (IsExtremeIfAny circuit.now tech.now from to greatest) }
-{
-    let mut walk = Walk::new(alloc, circuit, levels, tech)?;
-    walk.walk_between(circuit, tech, &[(from, to)]);
-    path_back(&walk, alloc, circuit, 0, to, greatest)
 }

@@ -2,7 +2,7 @@
 use Rattle.std.proofs.Common.{arith, subst, take}
 use Rattle.path_delays.specs.JoinedPairs.{AreDelaysBetween}
 use Rattle.path_delays.proofs.BetweenLemmas.{take_on}
-use Rattle.path_delays.proofs.between.delays_between.Goals as goal
+use Rattle.path_delays.proofs.between.walked_delays.Goals as goal
 
 pub loop-first-preserved : goal.loop-first-preserved
 loop-first-preserved c =

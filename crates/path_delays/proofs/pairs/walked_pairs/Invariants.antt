@@ -2,7 +2,7 @@ use Rattle.std.proofs.Common.{◌≤◌, ◌-◌, length, vec_len}
 use Rattle.path_delays.specs.WalkParts.{IsRoomFor}
 use Rattle.path_delays.specs.Capturings.{IsCapturingOf}
 use Rattle.path_delays.specs.JoinedPairs.{ListsPairsBefore, pair_limit}
-use Rattle.path_delays.proofs.pairs.pair_delays.Given as goal
+use Rattle.path_delays.proofs.pairs.walked_pairs.Given as goal
 
 abbrev pub invariant-loop-first : goal.invariant-loop-first
 invariant-loop-first l = record {

@@ -1,11 +1,11 @@
 use Rattle.std.proofs.Common.{arith}
 use Rattle.path_delays.proofs.PairWalk.{none_before, all_listed}
 use Rattle.path_delays.proofs.PairCounts.{not_more}
-use Rattle.path_delays.proofs.pairs.pair_delays.Goals as goal
+use Rattle.path_delays.proofs.pairs.walked_pairs.Goals as goal
 
 pub loop-first-init : goal.loop-first-init
 loop-first-init c = record {
-  room = c.in_ok-walk.ensures;
+  room = c.requires;
   capturing = c.in_ok-capturing.ensures;
   listed = rw c.new-pairs.ensures.items (none_before c.args.circuit.now c.args.tech.now);
   few = omega arith;

@@ -2,7 +2,7 @@
 use Rattle.std.proofs.Common.{◌≤◌, ◌-◌, length, take}
 use Rattle.path_delays.specs.WalkParts.{IsRoomFor}
 use Rattle.path_delays.specs.JoinedPairs.{AreDelaysBetween}
-use Rattle.path_delays.proofs.between.delays_between.Given as goal
+use Rattle.path_delays.proofs.between.walked_delays.Given as goal
 
 abbrev pub invariant-loop-first : goal.invariant-loop-first
 invariant-loop-first l = record {
