@@ -67,6 +67,9 @@ pub(crate) fn captured_sums(walk: &Walk, lane: usize, signals: &[u32]) -> Option
     requires { lane < 8 }
     ensures { AreExtremesIfAny (StandsAt (sums_to walk.now lane) (Contains signals.now)) result }
 {
+    if let [signal] = signals {
+        return walk.sums(lane, *signal);
+    }
     let mut captured = None;
     for signal in signals {
         captured = either(captured, walk.sums(lane, *signal));
