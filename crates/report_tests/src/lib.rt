@@ -1,4 +1,4 @@
-//! Tests on the public calls of the crates of reports, a file for each crate.
+//! Tests on the public calls of the crates of reports.
 #![tactic(auto)]
 
 #[cfg(test)]
@@ -7,5 +7,3 @@ mod problems;
 mod same;
 #[cfg(test)]
 mod text_tests;
-#[cfg(test)]
-mod verdict_tests;

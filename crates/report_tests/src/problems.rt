@@ -20,27 +20,16 @@ pub(crate) const S27: Case = Case {
 G5 = DFF(G10)\nG6 = DFF(G11)\nG7 = DFF(G13)\nG14 = NOT(G0)\nG17 = NOT(G11)\nG8 = AND(G14, G6)
 G15 = OR(G12, G8)\nG16 = OR(G3, G8)\nG9 = NAND(G16, G15)\nG10 = NOR(G14, G11)
 G11 = NOR(G5, G9)\nG12 = NOR(G1, G7)\nG13 = NOR(G2, G12)\n",
-    tech: S27_TABLE,
+    tech: "[wire]\ndelay = \"1/1\"\n[source]\nplace = \"CLK\"\n[register]
+setup = 1\nhold = 1\nleast = 1\ngreatest = 2\n[gate.NOT]\nleast = 1\ngreatest = 2
+[gate.NAND]\nleast = 1\ngreatest = 2\n[gate.NOR]\nleast = 1\ngreatest = 2\n[gate.AND]
+least = 2\ngreatest = 3\n[gate.OR]\nleast = 2\ngreatest = 3\n",
     places: "UCLA pl 1.0\nG5 0 0 : N\nG6 4 2 : N\nG7 10 0 : N\nCLK 5 10 : N /FIXED\n",
     report: "cts 2\nperiod 13\ncycle 1\nsetup G6 G6 13\npath 5 G6 G8 G16 G9 G11\nregisters 3
 G5 2 0 2\nG6 0 0 3\nG7 0 6 2\nlead 1 setup G6 G5 15\nlead 0\nlead 0\nmerges 2
 3 0 1 2 pair G5 G6\n4 2 3 4 pair G5 G7\nsource 15 sink G7\nnodes 5\n0 0 0 4 2 4 0 0 0
 1 4 2 2 2 4 0 4 2\n2 10 0 4 2 6 0 10 0\n3 4 0 2 2 6 0 4 0\n4 6 0 11 3 5 10 6 10 6 0
 wire 23\n",
-};
-
-const S27_TABLE: &str = "[wire]\ndelay = \"1/1\"\n[source]\nplace = \"CLK\"\n[register]
-setup = 1\nhold = 1\nleast = 1\ngreatest = 2\n[gate.NOT]\nleast = 1\ngreatest = 2
-[gate.NAND]\nleast = 1\ngreatest = 2\n[gate.NOR]\nleast = 1\ngreatest = 2\n[gate.AND]
-least = 2\ngreatest = 3\n[gate.OR]\nleast = 2\ngreatest = 3\n";
-
-/// The same with the floor 13, which is its period.
-pub(crate) const S27_AT_FLOOR: Case = Case {
-    tech: "[wire]\ndelay = \"1/1\"\n[source]\nplace = \"CLK\"\n[register]
-setup = 1\nhold = 1\nleast = 1\ngreatest = 2\n[gate.NOT]\nleast = 1\ngreatest = 2
-[gate.NAND]\nleast = 1\ngreatest = 2\n[gate.NOR]\nleast = 1\ngreatest = 2\n[gate.AND]
-least = 2\ngreatest = 3\n[gate.OR]\nleast = 2\ngreatest = 3\n[period]\nfloor = 13\n",
-    ..S27
 };
 
 /// Two paths of 7 and 4 ticks between two registers: the period isn't whole, and a wire has a
@@ -101,10 +90,4 @@ pub(crate) fn first_version(alloc: Global, report: &str) -> Result<String, Alloc
         }
     }
     Ok(first)
-}
-
-/// A text with another in the place of the first such part.
-pub(crate) fn changed(rt: &impl Abort, alloc: Global, text: &str, old: &str, new: &str) -> String {
-    let (prefix, suffix) = text.split_once(old).expect(rt, "in the text");
-    format!(in alloc; "{prefix}{new}{suffix}").expect(rt, "memory")
 }
