@@ -2,7 +2,7 @@
 #![tactic(auto)]
 
 #[cfg(test)]
-mod problems;
+mod cases;
 #[cfg(test)]
 mod same;
 #[cfg(test)]
