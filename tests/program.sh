@@ -150,9 +150,13 @@ handed_back() {
     embed "$work/row.bench" "$work/row.toml" "$work/row.pl" "$work/row.topology" | cmp - "$work/row.cts"
 }
 expect 'the topology of a row' 0 '' '' handed_back
-chain() { seq 1 4095 | awk '{ print 4095 + $1, $1, $1 == 1 ? 0 : 4094 + $1 }'; }
+chain() { seq 1 4095 | awk '{ print 4095 + $1, $1 == 1 ? "0 1" : $1 " " (4094 + $1) }'; }
 chain >"$work/chain.topology"
-chained() { embed "$work/row.bench" "$work/row.toml" "$work/row.pl" "$work/chain.topology" | grep -E '^(8190 4095 8189|source|wire) '; }
+chained() {
+    embed "$work/row.bench" "$work/row.toml" "$work/row.pl" "$work/chain.topology" >"$work/chain.cts"
+    topology <"$work/chain.cts" | cmp - "$work/chain.topology"
+    grep -E '^(8190 4095 8189|source|wire) ' "$work/chain.cts"
+}
 # The last merge reaches half of the row. Each register adds its half of the way from the first.
 expect 'a chain of registers' 0 "$(printf '%s\n' '8190 4095 8189 4095/2 pair r0 r4095' 'source 4095 sink r4095' \
     'wire 4197375')" '' chained

@@ -92,14 +92,12 @@ def left_by(program, row, texts):
                 file.write(text.encode())
         for name in row.get("pipes", []):
             os.mkfifo(os.path.join(folder, name))
-        # The signal for a write past the limit stays ignored, as it is in Python: the write fails.
-        def limit():
-            if "room" in row:
-                resource.setrlimit(resource.RLIMIT_FSIZE, (row["room"], row["room"]))
-
         call = [program, *shlex.split(filled(row["call"], texts))]
+        limit = (row["room"], row["room"]) if "room" in row else resource.getrlimit(resource.RLIMIT_FSIZE)
+        # The signal for a write past the limit stays ignored, as it is in Python: the write fails.
         done = subprocess.run(call, cwd=folder, stdin=subprocess.DEVNULL, stdout=out, stderr=subprocess.PIPE, timeout=100,
-                              check=False, restore_signals=False, preexec_fn=limit)
+                              check=False, restore_signals=False,
+                              preexec_fn=lambda: resource.setrlimit(resource.RLIMIT_FSIZE, limit))
         out.seek(0)
         return done.returncode, out.read(), done.stderr
 

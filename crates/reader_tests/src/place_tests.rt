@@ -7,13 +7,6 @@ use std::alloc::Global;
 use std::process::Abort;
 use std::test::Fail;
 
-// The registers of s27 are G5, G6 and G7, in this order.
-const S27: &str = "\
-INPUT(G0)\nINPUT(G1)\nINPUT(G2)\nINPUT(G3)\nOUTPUT(G17)\n\
-G5 = DFF(G10)\nG6 = DFF(G11)\nG7 = DFF(G13)\nG14 = NOT(G0)\nG17 = NOT(G11)\n\
-G8 = AND(G14, G6)\nG15 = OR(G12, G8)\nG16 = OR(G3, G8)\nG9 = NAND(G16, G15)\n\
-G10 = NOR(G14, G11)\nG11 = NOR(G5, G9)\nG12 = NOR(G1, G7)\nG13 = NOR(G2, G12)\n";
-
 // Three registers and nothing else.
 const REGISTERS: &str = "G5 = DFF(G6)\nG6 = DFF(G7)\nG7 = DFF(G5)\n";
 
@@ -21,16 +14,15 @@ fn at(x: i128, y: i128) -> Point {
     Point { x, y }
 }
 
-// What a placement denotes of the registers and the source of a netlist without a host.
+// What a placement denotes of the three registers and the source.
 fn read(
     rt: &impl Abort,
     alloc: Global,
-    netlist: &str,
     text: &str,
     source: &str,
 ) -> Result<Result<Places, PlaceFault>, Fail> {
-    assert!(rt; netlist.len() <= 16_777_216 && text.len() <= 16_777_216);
-    let circuit = read_bench(alloc, netlist.as_bytes())?;
+    assert!(rt; text.len() <= 16_777_216);
+    let circuit = read_bench(alloc, REGISTERS.as_bytes())?;
     Ok(read_places(alloc, text.as_bytes(), &circuit, source.as_bytes(), b""))
 }
 
@@ -52,25 +44,9 @@ fn expect_places(rt: &impl Abort, places: &Places, source: Point, registers: &[P
     expect_same(rt, places.registers.as_slice(), registers, &row);
 }
 
-fn expect_placement(rt: &impl Abort, alloc: Global, text: &str) -> Result<(), Fail> {
-    let places = read(rt, alloc, S27, text, "CLK")??;
-    let registers = [at(0, 0), at(4_000_000, 2_000_000), at(10_000_000, 0)];
-    expect_places(rt, &places, at(5_000_000, 10_000_000), &registers, text);
-    Ok(())
-}
-
-#[test]
-fn reads_a_placement_of_s27(rt: HostRuntime) -> Result<(), Fail> {
-    let plain = "UCLA pl 1.0\nG5 0 0 : N\nG6 4 2 : N\nG7 10 0 : N\nCLK 5 10 : N /FIXED\n";
-    expect_placement(&rt, rt.alloc(), plain)?;
-    let loose = "UCLA pl 1.0\n# from a placer\nG5 0.000000 0 : N\nG6 4 2 : FS /FIXED\n\
-p1 77.1234567 3 : N\nG7 1e+01 0.0\nCLK 5 10 :N /FIXED_NI\n";
-    expect_placement(&rt, rt.alloc(), loose)
-}
-
 // G5 at (1, 2), G6 at (3, 4), G7 at (5, 6) and the source at (7, 8), in millionths.
 fn expect_millionths(rt: &impl Abort, alloc: Global, text: &str) -> Result<(), Fail> {
-    let places = read(rt, alloc, REGISTERS, text, "CLK")??;
+    let places = read(rt, alloc, text, "CLK")??;
     expect_places(rt, &places, at(7, 8), &[at(1, 2), at(3, 4), at(5, 6)], text);
     Ok(())
 }
@@ -105,7 +81,7 @@ fn expect_refused(
     source: &str,
     fault: PlaceFault,
 ) -> Result<(), Fail> {
-    let refused = read(rt, alloc, REGISTERS, text, source)?.err();
+    let refused = read(rt, alloc, text, source)?.err();
     expect_same(rt, refused, Some(fault), &text);
     Ok(())
 }
@@ -178,7 +154,7 @@ fn misses_places(rt: HostRuntime) -> Result<(), Fail> {
 #[test]
 fn places_one_node_for_two(rt: HostRuntime) -> Result<(), Fail> {
     let text = "G7 5e-6 6e-6\nG6 3e-6 4e-6\nG5 1e-6 2e-6";
-    let places = read(&rt, rt.alloc(), REGISTERS, text, "G5")??;
+    let places = read(&rt, rt.alloc(), text, "G5")??;
     expect_places(
         &rt,
         &places,

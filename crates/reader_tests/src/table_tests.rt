@@ -230,10 +230,3 @@ fn answers_short_tables(rt: HostRuntime) {
         expect_answer(&rt, rt.alloc(), bytes, expected);
     }
 }
-
-#[test]
-fn a_gate_that_is_no_table(rt: HostRuntime) {
-    let (prefix, _) = TABLE.split_once("[gate.NOT]").expect(&rt, "in the table");
-    let text = format!(in rt.alloc(); "{prefix}[gate]\nAND = 1").expect(&rt, "memory");
-    expect_answer(&rt, rt.alloc(), text.as_bytes(), "3 gate.AND");
-}

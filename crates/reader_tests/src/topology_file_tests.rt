@@ -1,6 +1,6 @@
 use bench_reader::read_bench;
 use cts_model::{Circuit, Merge, Topology, with_host};
-use std::alloc::{AllocError, Global};
+use std::alloc::Global;
 use std::process::Abort;
 use std::test::Fail;
 use topology_file::{TopologyFault, read_topology};
@@ -147,36 +147,5 @@ fn joins_the_host_too(rt: HostRuntime) -> Result<(), Fail> {
     assert_eq!(rt; topology.merges.as_slice(), wanted.as_slice());
     let refused = read_for(&rt, rt.alloc(), &circuit, "3 0 1").err();
     assert_eq!(rt; refused, Some(TopologyFault::BadLine(1)));
-    Ok(())
-}
-
-// Registers r0, r1 and so on.
-fn registers(alloc: Global, count: u32) -> Result<String, AllocError> {
-    let mut text = format!(in alloc; "INPUT(x)\n")?;
-    for register in 0..count {
-        text.push_str(format!(in alloc; "r{register} = DFF(x)\n")?.as_str())?;
-    }
-    Ok(text)
-}
-
-// Each merge joins the one before with the next of 40 registers.
-#[test]
-fn reads_a_chain(rt: HostRuntime) -> Result<(), Fail> {
-    let mut text = format!(in rt.alloc(); "40 0 1\n")?;
-    for next in 2..40u32 {
-        let (made, before) = (next + 39, next + 38);
-        text.push_str(format!(in rt.alloc(); "{made} {next} {before}\n")?.as_str())?;
-    }
-    let netlist = registers(rt.alloc(), 40)?;
-    let topology = read(&rt, rt.alloc(), netlist.as_str(), text.as_str())??;
-    assert_eq!(rt; topology.merges.len(), 39);
-    assert_eq!(rt; topology.merges.get(0).copied(), Some(join(0, 1)));
-    for place in 1..39u32 {
-        assert_eq!(rt;
-            topology.merges.get(place as usize).copied(),
-            Some(join(place + 1, place + 39)),
-            "at {place}"
-        );
-    }
     Ok(())
 }

@@ -1,11 +1,9 @@
-//! Tests on the public calls of the crates of reports, a file for each crate.
+//! Tests on the public calls of the crates of reports.
 #![tactic(auto)]
 
 #[cfg(test)]
-mod problems;
+mod cases;
 #[cfg(test)]
 mod same;
 #[cfg(test)]
 mod text_tests;
-#[cfg(test)]
-mod verdict_tests;

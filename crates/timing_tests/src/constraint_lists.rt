@@ -5,12 +5,14 @@ ghost use Rattle.cts_model.specs.timing.Schedules.{IsSmallPeriod, arrival_of};
 ghost use Rattle.schedule.specs.Schedules.{IsAdmittedBy};
 
 use crate::constraint_tests::constraint;
-use crate::engine_tests::Row;
 use cts_base::{Fraction, Listed};
 use cts_model::Constraint;
 use std::alloc::{AllocError, Global};
 use std::process::Abort;
 use std::test::Fail;
+
+// A constraint: whether it is a setup constraint, its tail, its head and its weight.
+pub(crate) type Row = (bool, u32, u32, i128);
 
 // A setup constraint: its tail, its head and its weight.
 pub(crate) fn setup(tail: u32, head: u32, weight: i128) -> Constraint {
@@ -32,7 +34,7 @@ pub(crate) fn hold(tail: u32, head: u32, weight: i128) -> Constraint {
     }
 }
 
-// Constraints: whether each is a setup constraint, its tail, its head and its weight.
+// The constraints of these rows.
 pub(crate) fn constraints_of(rt: &impl Abort, alloc: Global, rows: &[Row]) -> Vec<Constraint> {
     let mut constraints = Vec::new(alloc);
     for row in rows {

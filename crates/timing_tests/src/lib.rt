@@ -5,6 +5,8 @@
 #[cfg(test)]
 mod acceptance_tests;
 #[cfg(test)]
+mod arrival_tests;
+#[cfg(test)]
 mod circuits;
 #[cfg(test)]
 mod constraint_lists;
@@ -28,7 +30,3 @@ mod period_tests;
 mod same;
 #[cfg(test)]
 mod schedule_tests;
-#[cfg(test)]
-mod scheduling_tests;
-#[cfg(test)]
-mod slack_tests;

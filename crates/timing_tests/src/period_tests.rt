@@ -1,5 +1,4 @@
-use crate::constraint_lists::{constraints_of, hold, list_of, setup, slow_ring};
-use crate::engine_tests::Row;
+use crate::constraint_lists::{Row, constraints_of, hold, list_of, setup, slow_ring};
 use crate::same::expect_same;
 use critical_cycle::{Period, least_period, least_period_in};
 use cts_base::Listed;

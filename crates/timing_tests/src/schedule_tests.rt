@@ -1,7 +1,6 @@
 use crate::constraint_lists::{
-    constraints_of, expect_admitted, list_of, s27, setup, slow_ring, small_period,
+    Row, constraints_of, expect_admitted, list_of, s27, setup, slow_ring, small_period,
 };
-use crate::engine_tests::Row;
 use crate::same::expect_same;
 use cts_base::Listed;
 use cts_model::{Constraint, Schedule};

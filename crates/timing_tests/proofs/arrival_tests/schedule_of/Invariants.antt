@@ -2,7 +2,7 @@
 use Rattle.std.proofs.Common.{◌≡◌, ◌^◌, length}
 use Rattle.std.specs.Prelude.{All}
 use Rattle.cts_model.specs.placement.Points.{IsBelow}
-use Rattle.timing_tests.proofs.slack_tests.schedule_of.Given as goal
+use Rattle.timing_tests.proofs.arrival_tests.schedule_of.Given as goal
 
 abbrev pub invariant-loop-arrival : goal.invariant-loop-arrival
 invariant-loop-arrival l = All (IsBelow (10 ^ 19)) l.at.items

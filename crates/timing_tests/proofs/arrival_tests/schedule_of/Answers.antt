@@ -4,7 +4,7 @@ use Rattle.std.proofs.lemmas.List.{length_push}
 use Rattle.std.proofs.lemmas.List.Elements.{All-push}
 use Rattle.cts_model.specs.placement.Points.{IsBelow}
 use Rattle.path_delays.proofs.WindowLemmas.{kept_time}
-use Rattle.timing_tests.proofs.slack_tests.schedule_of.Goals as goal
+use Rattle.timing_tests.proofs.arrival_tests.schedule_of.Goals as goal
 
 pub loop-arrival-preserved : goal.loop-arrival-preserved
 loop-arrival-preserved c =
