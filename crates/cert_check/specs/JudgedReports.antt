@@ -1,10 +1,11 @@
 -- What is judged of a report at each place, as its judge has it.
-use Rattle.std.specs.Prelude.{ℕ, List, length}
+use Rattle.std.specs.Prelude.{◌≡◌, ℕ, List, length}
 use Rattle.cts_model.specs.declared.schedule.Slack.{Slack}
 use Rattle.cts_model.specs.report.Judgements.{HasShape, HasSlack, HoldsTogether, IsDrawnEdge, IsEarliest, IsGivenPath, IsLongEnough, IsOfCircuit, IsReachShown, IsSkewed, MeetsAt}
 use Rattle.cts_model.specs.report.ReportLines.{number_at}
 use Rattle.cts_model.specs.timing.Slacks.{AreSlacks}
 use Rattle.cts_model.specs.tree.Embeddings.{Embedding, embedding_of}
+use Rattle.path_delays.specs.TimedCircuits.{TimedCircuit}
 use Rattle.cert_check.specs.declared.judge.Judge.{Judge}
 use Rattle.cert_check.specs.declared.verdict.Reason.TheVariants.{TooShort, WireSum}
 use Rattle.cert_check.specs.declared.verdict.Verdict.{Verdict}
@@ -15,6 +16,13 @@ use Rattle.cert_check.specs.Verdicts.{PeriodJudged, ReachesJudged, RestJudged}
 abbrev pub HasSlacks : Judge → List Slack → Type 0
 HasSlacks judge slacks = AreSlacks judge.problem.now.circuit judge.problem.now.tech
     judge.report.now.period judge.report.now.schedule slacks
+
+-- paths of the problem's circuit
+abbrev pub HasPaths : Judge → TimedCircuit → Type 0
+HasPaths judge paths = paths ≡ record {
+  circuit = judge.problem.now.circuit;
+  tech = judge.problem.now.tech;
+}
 
 -- where the nodes of the report's tree stand, and how long its edges are
 abbrev pub tree_of : Judge → Embedding

@@ -1,11 +1,11 @@
-ghost use Rattle.std.specs.Prelude.{◌≡◌, ◌↔◌, IfOk};
+ghost use Rattle.std.specs.Prelude.{◌≡◌, ◌↔◌, IfOk, OnOk};
 ghost use Rattle.cts_model.specs.report.ReportBounds.{IsOfSize, IsWithinBounds};
 ghost use Rattle.cts_model.specs.report.SaidReports.{ShowsWhatItSays};
 ghost use Rattle.cts_model.specs.report.Shown.{IsShown, ShowsLeast, cycle_of};
 ghost use Rattle.gate_order.specs.LevelParts.{IsLevelsOf};
 ghost use Rattle.cert_check.specs.declared.verdict.Verdict.{Verdict};
 ghost use Rattle.cert_check.specs.Judged.{Decides};
-ghost use Rattle.cert_check.specs.JudgedReports.{HasSlacks, JudgedPeriod, JudgedRest, JudgedTree};
+ghost use Rattle.cert_check.specs.JudgedReports.{HasPaths, HasSlacks, JudgedPeriod, JudgedRest, JudgedTree};
 ghost use Rattle.cert_check.specs.Verdicts.{IsVerdict, IsVerdictBy};
 
 use crate::Verdict;
@@ -17,6 +17,7 @@ use crate::verdict::Stop;
 use cts_base::NoMemory;
 use cts_model::{Constraint, PeriodShow, Problem, Report, Slack, laws};
 use gate_order::{LevelFault, Levels, levels};
+use path_delays::Paths;
 use std::alloc::Global;
 use timing_report::slacks;
 
@@ -72,17 +73,18 @@ fn judge_report(alloc: Global, problem: &Problem, report: &Report) -> Result<(),
         &report.schedule,
         report.period,
     )?;
-    judge_all(alloc, &judge, &levels, slacks.as_slice())
+    let mut paths = Paths::new(alloc, &problem.circuit, &levels, &problem.tech)?;
+    judge_all(alloc, &judge, &mut paths, slacks.as_slice())
 }
 
 // All judgements, in their order.
-fn judge_all(alloc: Global, judge: &Judge, levels: &Levels, slacks: &[Slack]) -> Result<(), Stop>
-    requires levels { IsLevelsOf judge.now.problem.now.circuit levels.now }
+fn judge_all(alloc: Global, judge: &Judge, paths: &mut Paths, slacks: &[Slack]) -> Result<(), Stop>
+    requires paths { HasPaths judge.now paths.old }
     requires slacks { HasSlacks judge.now slacks.now }
     ensures { Decides (IsVerdictBy judge.now.problem.now judge.now.report.now judge.now.cycle.now
         judge.now.sinks.now judge.now.source) result }
 {
-    judge_period(alloc, judge, levels, slacks)?;
+    judge_period(alloc, judge, paths, slacks)?;
     judge.judge_shape(alloc)?;
     let parents = parents_of(alloc, &judge.merges())?;
     let tree = ShapedTree {
@@ -90,19 +92,25 @@ fn judge_all(alloc: Global, judge: &Judge, levels: &Levels, slacks: &[Slack]) ->
         parents,
     };
     judge_tree(alloc, &tree)?;
-    judge_rest(alloc, judge, levels, slacks)
+    judge_rest(alloc, judge, paths, slacks)
 }
 
 // The period, what shows it, and the schedule.
-fn judge_period(alloc: Global, judge: &Judge, levels: &Levels, slacks: &[Slack]) -> Result<(), Stop>
-    requires levels { IsLevelsOf judge.now.problem.now.circuit levels.now }
+fn judge_period(
+    alloc: Global,
+    judge: &Judge,
+    paths: &mut Paths,
+    slacks: &[Slack],
+) -> Result<(), Stop>
+    requires paths { HasPaths judge.now paths.old }
     requires slacks { HasSlacks judge.now slacks.now }
-    ensures { Decides
+    ensures decides { Decides
         (λ verdict. JudgedPeriod judge.now verdict (verdict ≡ Verdict.Shown)) result }
+    ensures paths { OnOk result (HasPaths judge.now paths.new) }
 {
     judge.judge_floor()?;
     judge.judge_joins(alloc)?;
-    judge.judge_constraints(alloc, levels)?;
+    judge.judge_constraints(alloc, paths)?;
     judge.judge_value()?;
     judge.judge_schedule(slacks)
 }
@@ -120,15 +128,15 @@ fn judge_tree(alloc: Global, tree: &ShapedTree) -> Result<(), Stop>
 }
 
 // The slacks, the paths and the leads.
-fn judge_rest(alloc: Global, judge: &Judge, levels: &Levels, slacks: &[Slack]) -> Result<(), Stop>
-    requires levels { IsLevelsOf judge.now.problem.now.circuit levels.now }
+fn judge_rest(alloc: Global, judge: &Judge, paths: &mut Paths, slacks: &[Slack]) -> Result<(), Stop>
+    requires paths { HasPaths judge.now paths.old }
     requires slacks { HasSlacks judge.now slacks.now }
     ensures { Decides
         (λ verdict. JudgedRest judge.now verdict (verdict ≡ Verdict.Shown)) result }
 {
     judge.judge_slacks(slacks)?;
     judge.judge_paths()?;
-    judge.judge_leads(alloc, levels)
+    judge.judge_leads(alloc, paths)
 }
 
 // The gates of a problem, each after those that it reads.

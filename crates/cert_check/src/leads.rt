@@ -4,8 +4,7 @@ ghost use Rattle.cts_model.specs.timing.Leads.{IsLedBy, IsTight, ShowsEarliest, 
 ghost use Rattle.cts_model.specs.placement.Points.{IsBelow};
 ghost use Rattle.cts_model.specs.report.ReportBounds.{IsSmallLead, LeadsAmong};
 ghost use Rattle.cts_model.specs.timing.Schedules.{IsSmallPeriod, arrival_of};
-ghost use Rattle.gate_order.specs.LevelParts.{IsLevelsOf};
-ghost use Rattle.cert_check.specs.JudgedReports.{Earliest};
+ghost use Rattle.cert_check.specs.JudgedReports.{Earliest, HasPaths};
 ghost use Rattle.cert_check.specs.TightLeads.{FitsLeads, IsTested, tight_constraints};
 
 use crate::down::are_same;
@@ -14,7 +13,7 @@ use crate::value::{asked, count_of};
 use crate::verdict::{Reason, Stop};
 use cts_base::NoMemory;
 use cts_model::{Constraint, Lead};
-use gate_order::Levels;
+use path_delays::Paths;
 use std::alloc::Global;
 
 impl Judge<'_> {
@@ -24,8 +23,8 @@ impl Judge<'_> {
 
     /// Whether, where leads are printed, each arrival is from 0 on and its lead shows that none is
     /// earlier.
-    pub(crate) fn judge_leads(&self, alloc: Global, levels: &Levels) -> Result<(), Stop>
-        requires { IsLevelsOf self.now.problem.now.circuit levels.now }
+    pub(crate) fn judge_leads(&self, alloc: Global, paths: &mut Paths) -> Result<(), Stop>
+        requires { HasPaths self.now paths.old }
         ensures { Judges (length self.now.problem.now.circuit.registers)
             (λ register. self.now.report.now.version ≡ Second → Earliest self.now register)
             NotLeast result }
@@ -35,7 +34,7 @@ impl Judge<'_> {
             return Ok(());
         }
         let constraints = tight_constraints(alloc, leads)?;
-        let delays = self.delays_of(alloc, levels, constraints.as_slice())?;
+        let delays = self.delays_of(alloc, paths, constraints.as_slice())?;
         let mut tight = 0;
         for register in 0..leads.len() {
             let given = self.is_given(constraints.as_slice(), delays.as_slice(), tight);

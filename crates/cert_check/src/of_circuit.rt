@@ -3,7 +3,6 @@ ghost use Rattle.cts_model.specs.report.Judgements.{IsOfCircuit};
 ghost use Rattle.cts_model.specs.timing.PairLists.{IsSmallPair};
 ghost use Rattle.cts_model.specs.placement.Points.{IsBelow};
 ghost use Rattle.cts_model.specs.report.ReportBounds.{IsBetweenRegisters};
-ghost use Rattle.gate_order.specs.LevelParts.{IsLevelsOf};
 ghost use Rattle.path_delays.specs.JoinedPairs.{AreDelaysBetween};
 ghost use Rattle.cert_check.specs.GivenConstraints.{pair_of, weight_by};
 
@@ -11,21 +10,22 @@ use crate::judge::Judge;
 use crate::verdict::{Reason, Stop};
 use cts_base::{Listed, NoMemory};
 use cts_model::{Constraint, PairDelay, Tech};
-use gate_order::Levels;
-use path_delays::delays_between;
+use path_delays::Paths;
 use std::alloc::Global;
 
 impl Judge<'_> {
     ghost use Rattle.cert_check.specs.declared.verdict.Reason.TheVariants.{NotOfCircuit};
     ghost use Rattle.cert_check.specs.Judged.{Judges};
-    ghost use Rattle.cert_check.specs.JudgedReports.{OfCircuit};
+    ghost use Rattle.cert_check.specs.JudgedReports.{HasPaths, OfCircuit};
 
     /// Whether the constraint at each place of the cycle is one of the circuit.
-    pub(crate) fn judge_constraints(&self, alloc: Global, levels: &Levels) -> Result<(), Stop>
-        requires { IsLevelsOf self.now.problem.now.circuit levels.now }
-        ensures { Judges (length self.now.cycle.now) (OfCircuit self.now) NotOfCircuit result }
+    pub(crate) fn judge_constraints(&self, alloc: Global, paths: &mut Paths) -> Result<(), Stop>
+        requires { HasPaths self.now paths.old }
+        ensures judges { Judges (length self.now.cycle.now) (OfCircuit self.now) NotOfCircuit
+            result }
+        ensures paths { HasPaths self.now paths.new }
     {
-        let delays = self.delays_of(alloc, levels, self.cycle)?;
+        let delays = self.delays_of(alloc, paths, self.cycle)?;
         for place in 0..self.cycle.len() {
             if !self.is_given(self.cycle, delays.as_slice(), place) {
                 return Err(Stop::At(Reason::NotOfCircuit(place as u32)));
@@ -39,24 +39,18 @@ impl Judge<'_> {
     pub(crate) fn delays_of(
         &self,
         alloc: Global,
-        levels: &Levels,
+        paths: &mut Paths,
         constraints: &[Constraint],
     ) -> Result<Listed<Option<PairDelay>>, NoMemory>
-        requires levels { IsLevelsOf self.now.problem.now.circuit levels.now }
+        requires paths { HasPaths self.now paths.old }
         requires among { All (IsBetweenRegisters (length self.now.problem.now.circuit.registers))
             constraints.now }
-        ensures { IfOk result (AreDelaysBetween self.now.problem.now.circuit
+        ensures delays { IfOk result (AreDelaysBetween self.now.problem.now.circuit
             self.now.problem.now.tech (map pair_of constraints.now)) }
+        ensures paths { HasPaths self.now paths.new }
     {
         let pairs = pairs_of(alloc, constraints)?;
-        let problem = self.problem;
-        delays_between(
-            alloc,
-            &problem.circuit,
-            levels,
-            &problem.tech,
-            pairs.as_slice(),
-        )
+        paths.delays_between(alloc, pairs.as_slice())
     }
 
     /// Whether the constraint at a place, if there is one, is one of the circuit, by what joins the

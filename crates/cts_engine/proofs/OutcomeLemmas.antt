@@ -5,20 +5,18 @@ use Rattle.std.proofs.lemmas.Int.{ints}
 use Rattle.cts_base.specs.declared.fraction.Fraction.{Fraction}
 use Rattle.cts_model.specs.declared.circuit.Circuit.{Circuit}
 use Rattle.cts_model.specs.declared.tech.Tech.{Tech}
-use Rattle.cts_model.specs.declared.timing.ZeroSkew.{ZeroSkew}
 use Rattle.cts_model.specs.declared.constraint.Constraint.{Constraint}
-use Rattle.cts_model.specs.declared.period.PeriodShow.TheVariants.{Cycle, Floor}
-use Rattle.cts_model.specs.timing.EqualArrivals.{IsZeroSkew}
+use Rattle.cts_model.specs.declared.period.PeriodShow.TheVariants.{Cycle}
 use Rattle.cts_model.specs.timing.Timing.{IsLeastPeriod}
 use Rattle.cts_model.specs.timing.Constraints.{IsConstraintOf}
 use Rattle.cts_model.specs.timing.Cycles.{IsLeastPeriodOf}
 use Rattle.cts_model.specs.timing.Schedules.{arrival_of, AreLeastArrivals}
 use Rattle.schedule.specs.Schedules.{IsLeastScheduleOf}
-use Rattle.cts_model.specs.timing.LeastPeriods.{IsFloorPeriod, IsForbidding, HasNoPeriod}
+use Rattle.cts_model.specs.timing.LeastPeriods.{IsForbidding, IsPeriodShow, HasNoPeriod}
 use Rattle.cts_model.proofs.CircuitConstraints.{forbidding_at_all}
 use Rattle.cts_engine.specs.declared.period.PeriodOutcome.{PeriodOutcome}
 use Rattle.cts_engine.specs.declared.period.PeriodOutcome.TheVariants.{Found, Never}
-use Rattle.cts_engine.specs.Outcomes.{IsFound, IsPeriodOutcome, IsNeverOutcome, AreConstraintsOf}
+use Rattle.cts_engine.specs.Outcomes.{IsPeriodOutcome, IsNeverOutcome, AreConstraintsOf}
 use Rattle.critical_cycle.specs.CyclePlaces.{constraints_at}
 use Rattle.critical_cycle.specs.Periods.{IsShownPeriod, IsForbidden}
 use Rattle.cts_engine.proofs.PlaceLemmas.{All-constraints_at}
@@ -34,7 +32,7 @@ whole_fraction num den value some low same =
 module _ {circuit : Circuit} {tech : Tech} {constraints : List Constraint}
     (are : AreConstraintsOf circuit tech constraints) where
   -- the least period of the constraints is that of the circuit
-  least_of_circuit : (numerator : ℤ) (denominator : ℕ)
+  pub least_of_circuit : (numerator : ℤ) (denominator : ℕ)
       → IsLeastPeriodOf constraints tech.floor numerator denominator
       → IsLeastPeriod circuit tech numerator denominator
   least_of_circuit numerator denominator is_least = record {
@@ -58,29 +56,15 @@ module _ {circuit : Circuit} {tech : Tech} {constraints : List Constraint}
         is_least.least times other some from ((are.meets _ _ other).1 met);
   }
 
-  -- what a cycle of the constraints shows is found
-  pub found_by_cycle : (zero_skew : ZeroSkew) (value : Fraction) (cycle : List ℕ)
-      → IsZeroSkew circuit tech zero_skew → IsShownPeriod constraints tech.floor value cycle
-      → IsFound circuit tech zero_skew value (Cycle (constraints_at constraints cycle))
-  found_by_cycle zero_skew value cycle is_zero shown = record {
-    zero = is_zero;
-    least = least_of_circuit value.num (nat_abs value.den) shown.least;
-    shown = record {
-      of_circuit =
-          All-constraints_at (IsConstraintOf circuit tech) constraints cycle are.each shown.within;
-      above_floor = shown.above;
-      shows = shown.shows;
-    };
-  }
-
-  -- and so is the floor where it is the least period of the constraints
-  pub found_by_floor : (zero_skew : ZeroSkew) (period : Fraction)
-      → IsZeroSkew circuit tech zero_skew → IsLeastPeriodOf constraints tech.floor tech.floor 1
-      → IsFloorPeriod tech period → IsFound circuit tech zero_skew period Floor
-  found_by_floor zero_skew period is_zero is_least is_floor = record {
-    zero = is_zero;
-    least = rw (is_floor.value, is_floor.whole) (least_of_circuit tech.floor 1 is_least);
-    shown = is_floor;
+  -- a cycle of the constraints shows the period of the circuit
+  pub shown_by_cycle : (value : Fraction) (cycle : List ℕ)
+      → IsShownPeriod constraints tech.floor value cycle
+      → IsPeriodShow circuit tech value (Cycle (constraints_at constraints cycle))
+  shown_by_cycle value cycle shown = record {
+    of_circuit =
+        All-constraints_at (IsConstraintOf circuit tech) constraints cycle are.each shown.within;
+    above_floor = shown.above;
+    shows = shown.shows;
   }
 
   -- what a cycle of the constraints forbids, one of the circuit forbids

@@ -1,6 +1,6 @@
 -- The outcome of a circuit: its least period and what shows it, or what forbids every period.
 -- Fishburn, "Clock Skew Optimization", 1990.
-use Rattle.std.specs.Prelude.{◌↔◌, ℕ, ℤ, List, All, length}
+use Rattle.std.specs.Prelude.{◌↔◌, ℕ, ℤ, List, All}
 use Rattle.cts_base.specs.declared.fraction.Fraction.{Fraction}
 use Rattle.cts_model.specs.declared.circuit.Circuit.{Circuit}
 use Rattle.cts_model.specs.declared.tech.Tech.{Tech}
@@ -8,19 +8,17 @@ use Rattle.cts_model.specs.declared.timing.PairDelay.{PairDelay}
 use Rattle.cts_model.specs.declared.timing.ZeroSkew.{ZeroSkew}
 use Rattle.cts_model.specs.declared.constraint.Constraint.{Constraint}
 use Rattle.cts_model.specs.declared.period.PeriodShow.{PeriodShow}
-use Rattle.cts_model.specs.declared.period.PeriodShow.TheVariants.{Cycle, Floor}
 use Rattle.cts_model.specs.timing.EqualArrivals.{IsZeroSkew}
 use Rattle.cts_model.specs.timing.PairLists.{HasSmallDelays}
 use Rattle.cts_model.specs.netlist.Paths.{IsPath}
 use Rattle.cts_model.specs.timing.Timing.{Meets}
-use Rattle.cts_model.specs.timing.Constraints.{AreSmallConstraints, IsConstraintOf, Satisfies}
-use Rattle.cts_model.specs.timing.Schedules.{IsSmallPeriod}
+use Rattle.cts_model.specs.timing.Constraints.{IsConstraintOf, Satisfies}
 use Rattle.cts_model.specs.timing.LeastPeriods.{IsLeastFraction, IsPeriodShow, IsForbidding}
 use Rattle.critical_cycle.specs.CyclePlaces.{IsFromLowest}
 use Rattle.path_delays.specs.JoinedPairs.{IsDelayBetween}
-use Rattle.cts_engine.specs.declared.period.Timing.{Timing}
 use Rattle.cts_engine.specs.declared.period.PeriodOutcome.{PeriodOutcome}
 use Rattle.cts_engine.specs.declared.period.PeriodOutcome.TheVariants.{Found, Never}
+use Rattle.cts_engine.specs.CyclePaths.{ShowsFromLowest}
 
 -- the least period with and without skew, and what shows the one with it
 pub record IsFound (circuit : Circuit) (tech : Tech) (zero_skew : ZeroSkew) (fraction : Fraction)
@@ -44,15 +42,9 @@ abbrev pub HasSmallZero : PeriodOutcome → Type 0
 HasSmallZero (Found zero period shown) = HasSmallDelays zero
 HasSmallZero (Never cycle) = Unit {0}
 
--- the least period, if there is one, is small
-abbrev pub HasSmallPeriod : PeriodOutcome → Type 0
-HasSmallPeriod (Found zero period shown) = IsSmallPeriod period
-HasSmallPeriod (Never cycle) = Unit {0}
-
 -- the cycle that is shown, if any, begins at its lowest register
 abbrev pub BeginsLowest : PeriodOutcome → Type 0
-BeginsLowest (Found zero period (Cycle cycle)) = IsFromLowest cycle
-BeginsLowest (Found zero period Floor) = Unit {0}
+BeginsLowest (Found zero period shown) = ShowsFromLowest shown
 BeginsLowest (Never cycle) = IsFromLowest cycle
 
 -- constraints of the circuit, and whoever satisfies them meets the period over every path
@@ -66,13 +58,3 @@ pub record AreConstraintsOf (circuit : Circuit) (tech : Tech)
 abbrev pub HasSmallPairs : Circuit → Tech → Type 0
 HasSmallPairs circuit tech = (from to : ℕ) (path : List ℕ) → IsPath circuit from to path
     → (pair : PairDelay) × IsDelayBetween circuit tech from to pair
-
--- the constraints of the circuit, and its outcome
-pub record IsTiming (circuit : Circuit) (tech : Tech) (timing : Timing) : Type 0 where
-  pub constraints : AreConstraintsOf circuit tech timing.constraints
-  pub small : AreSmallConstraints (length circuit.registers) timing.constraints
-  pub delays : HasSmallPairs circuit tech
-  pub outcome : IsPeriodOutcome circuit tech timing.outcome
-  pub lowest : BeginsLowest timing.outcome
-  pub zero : HasSmallZero timing.outcome
-  pub period : HasSmallPeriod timing.outcome

@@ -9,11 +9,15 @@ use Rattle.cts_model.specs.declared.tech.Tech.{Tech}
 use Rattle.cts_model.specs.timing.ConstraintPaths.{ArePathsOf}
 use Rattle.cts_model.specs.timing.Constraints.{AreSmallConstraints, IsConstraintOf}
 use Rattle.cts_model.specs.timing.Leads.{EachLead, depth_of, lead_at}
-use Rattle.cts_model.specs.timing.LeastPeriods.{IsLeastFraction, IsPeriodShow}
+use Rattle.cts_model.specs.timing.LeastPeriods.{IsForbidding, IsLeastFraction, IsPeriodShow}
 use Rattle.cts_model.specs.timing.Schedules.{IsLeastSchedule, IsSmallPeriod, arrival_of}
 use Rattle.cts_model.specs.timing.Slacks.{AreSlacks}
 use Rattle.cts_model.specs.table.Tables.{IsWithin}
+use Rattle.critical_cycle.specs.CyclePlaces.{IsFromLowest}
+use Rattle.cts_engine.specs.CyclePaths.{ShowsFromLowest}
 use Rattle.cts_engine.specs.Outcomes.{AreConstraintsOf, HasSmallPairs}
+use Rattle.cts_engine.specs.declared.period.Timing.{Timing}
+use Rattle.cts_engine.specs.declared.period.Timing.TheVariants.{Found, Never}
 use Rattle.cts_engine.specs.declared.times.Times.{Times}
 
 -- the constraints are the circuit's, and the period is its least, as shown
@@ -25,6 +29,13 @@ pub record HasLeastPeriod (circuit : Circuit) (tech : Tech) (constraints : List 
   pub least : IsLeastFraction circuit tech period
   pub is_shown : IsPeriodShow circuit tech period shown
   pub range : IsSmallPeriod period
+
+-- the least period of the circuit's constraints, or a cycle of it that forbids every period; what is
+-- shown begins at its lowest register
+abbrev pub IsTiming : Circuit → Tech → Timing → Type 0
+IsTiming circuit tech (Found period shown constraints) =
+    HasLeastPeriod circuit tech constraints period shown × ShowsFromLowest shown
+IsTiming circuit tech (Never cycle) = IsForbidding circuit tech cycle × IsFromLowest cycle
 
 -- no arrival is above 1,200,000,000,000,000,000 ticks over the denominator
 abbrev pub AreTreeArrivals : (at : List ℤ) → Type 0

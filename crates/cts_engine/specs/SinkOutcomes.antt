@@ -10,8 +10,8 @@ use Rattle.critical_cycle.specs.CyclePlaces.{IsFromLowest}
 use Rattle.cts_engine.specs.declared.sink_times.SinkOutcome.{SinkOutcome}
 use Rattle.cts_engine.specs.declared.sink_times.SinkOutcome.TheVariants.{Found, Never}
 use Rattle.cts_engine.specs.declared.sink_times.TimedSinks.{TimedSinks}
+use Rattle.cts_engine.specs.CyclePaths.{ShowsFromLowest}
 use Rattle.cts_engine.specs.RegisterTimes.{AreTimes, HasLeastPeriod}
-use Rattle.cts_engine.specs.SynthesisOutcomes.{ShowsFromLowest}
 
 -- the registers as sinks with the offsets of the least schedule at the least period
 pub record AreTimedSinks (problem : Problem) (timed : TimedSinks) : Type 0 where

@@ -1,7 +1,5 @@
 -- The outcome of a synthesis: the report of the tree, or what forbids every period. Fishburn,
 -- "Clock Skew Optimization", 1990.
-use Rattle.cts_model.specs.declared.period.PeriodShow.{PeriodShow}
-use Rattle.cts_model.specs.declared.period.PeriodShow.TheVariants.{Cycle, Floor}
 use Rattle.cts_model.specs.declared.problem.Problem.{Problem}
 use Rattle.cts_model.specs.declared.tree.Topology.{Topology}
 use Rattle.cts_model.specs.timing.LeastPeriods.{IsForbidding}
@@ -9,6 +7,7 @@ use Rattle.cts_model.specs.report.Shown.{IsShown}
 use Rattle.critical_cycle.specs.CyclePlaces.{IsFromLowest}
 use Rattle.cts_engine.specs.declared.synthesis.Outcome.{Outcome}
 use Rattle.cts_engine.specs.declared.synthesis.Outcome.TheVariants.{Done, Never}
+use Rattle.cts_engine.specs.CyclePaths.{ShowsFromLowest}
 use Rattle.cts_engine.specs.Syntheses.{IsReportOf, IsReportWith}
 
 -- the report of the problem with a topology, or a cycle of its circuit that forbids every period
@@ -30,11 +29,6 @@ IsShownOutcome problem (Never cycle) = Unit {0}
 abbrev pub IsNeverOutcome : Outcome → Type 0
 IsNeverOutcome (Done report) = ⊥
 IsNeverOutcome (Never cycle) = Unit {0}
-
--- the cycle that shows a period, if one does, begins at its lowest register
-abbrev pub ShowsFromLowest : PeriodShow → Type 0
-ShowsFromLowest (Cycle cycle) = IsFromLowest cycle
-ShowsFromLowest Floor = Unit {0}
 
 -- the cycle that is shown, if any, begins at its lowest register
 abbrev pub BeginsLowest : Outcome → Type 0

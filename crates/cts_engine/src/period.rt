@@ -1,22 +1,18 @@
 ghost use Rattle.std.specs.Prelude.{◌≡◌, ◌↔◌, ℕ, List, IfOk, IfErr};
-ghost use Rattle.cts_model.specs.declared.circuit.Circuit.{Circuit};
-ghost use Rattle.cts_model.specs.timing.EqualArrivals.{IsZeroSkew};
 ghost use Rattle.cts_model.specs.timing.LeastPeriods.{HasNoPeriod};
-ghost use Rattle.cts_model.specs.timing.PairLists.{HasSmallDelays, JoinsMoreThan};
+ghost use Rattle.cts_model.specs.timing.PairLists.{JoinsMoreThan};
 ghost use Rattle.cts_model.specs.netlist.Paths.{IsLoop};
 ghost use Rattle.critical_cycle.specs.CyclePlaces.{AreWithin, constraints_at};
-ghost use Rattle.critical_cycle.specs.Periods.{HasSmallValue, IsPeriodOf};
-ghost use Rattle.gate_order.specs.LevelParts.{IsLevelsOf};
-ghost use Rattle.path_delays.specs.JoinedPairs.{ShowsTooMany};
-ghost use Rattle.cts_engine.specs.Outcomes.{AreConstraintsOf, BeginsLowest, HasSmallPeriod, HasSmallZero, IsNeverOutcome, IsPeriodOutcome, IsTiming};
+ghost use Rattle.path_delays.specs.JoinedPairs.{ArePairs, ShowsTooMany};
+ghost use Rattle.cts_engine.specs.Outcomes.{BeginsLowest, HasSmallZero, IsNeverOutcome, IsPeriodOutcome};
+ghost use Rattle.cts_engine.specs.RegisterTimes.{IsTiming};
 
 use crate::SynthFault;
 use crate::order::levels_of;
 use constraints::constraints_of;
 use critical_cycle::{Period, least_period};
 use cts_base::{Fraction, Listed, NoMemory};
-use cts_model::{Circuit, Constraint, PeriodShow, Tech, ZeroSkew};
-use gate_order::Levels;
+use cts_model::{Circuit, Constraint, PairDelay, PeriodShow, Tech, ZeroSkew};
 use path_delays::pair_delays;
 use std::alloc::Global;
 use timing_report::zero_skew;
@@ -54,70 +50,57 @@ pub fn period_of(alloc: Global, circuit: &Circuit, tech: &Tech) -> Result<Period
     ensures many { IfErr result (ShowsTooMany circuit.now) }
 {
     let levels = levels_of(alloc, circuit)?;
-    Ok(timing_of(alloc, circuit, &levels, tech)?.outcome)
+    let pairs = pair_delays(alloc, circuit, &levels, tech)?;
+    let zero = zero_skew(&pairs, tech);
+    match timing_of(alloc, circuit, tech, &pairs)? {
+        Timing::Never { cycle } => Ok(PeriodOutcome::Never { cycle }),
+        Timing::Found { period, shown, .. } => Ok(PeriodOutcome::Found {
+            zero,
+            period,
+            shown,
+        }),
+    }
 }
 
-/// The constraints of a circuit, and what comes of its least period.
+/// What comes of the least period of a circuit, without that at equal arrivals.
 #[derive(Drop)]
-pub(crate) struct Timing {
-    pub(crate) constraints: Listed<Constraint>,
-    pub(crate) outcome: PeriodOutcome,
+pub(crate) enum Timing {
+    /// The least period, what shows it, and the constraints of the circuit.
+    Found {
+        period: Fraction,
+        shown: PeriodShow,
+        constraints: Listed<Constraint>,
+    },
+    /// Constraints that forbid every period.
+    Never {
+        cycle: Listed<Constraint>,
+    },
 }
 
-/// The same of a circuit whose gates are in order.
+/// The least period of a circuit with these joined pairs.
 pub(crate) fn timing_of(
     alloc: Global,
     circuit: &Circuit,
-    levels: &Levels,
     tech: &Tech,
-) -> Result<Timing, SynthFault>
-    requires { IsLevelsOf circuit.now levels.now }
-    ensures ok { IfOk result (IsTiming circuit.now tech.now) }
-    ensures few { IfOk result (λ _. JoinsMoreThan circuit.now 1048576 → ⊥) }
-    ensures many { IfErr result (ShowsTooMany circuit.now) }
+    pairs: &Listed<PairDelay>,
+) -> Result<Timing, NoMemory>
+    requires { ArePairs circuit.now tech.now pairs.now }
+    ensures { IfOk result (IsTiming circuit.now tech.now) }
 {
-    let pairs = pair_delays(alloc, circuit, levels, tech)?;
-    let zero = zero_skew(&pairs, tech);
-    let constraints = constraints_of(alloc, &pairs, tech)?;
-    let period = least_period(alloc, circuit.registers.len(), &constraints, tech.floor)?;
-    let outcome = outcome(alloc, &constraints, tech, zero, period)?;
-    Ok(Timing {
-        constraints,
-        outcome,
-    })
-}
-
-// The outcome of a circuit with these constraints, of which this is the least period.
-fn outcome(
-    alloc: Global,
-    constraints: &Listed<Constraint>,
-    tech: &Tech,
-    zero: ZeroSkew,
-    period: Period,
-) -> Result<PeriodOutcome, NoMemory>
-    requires period { IsPeriodOf constraints.now tech.now.floor period }
-    requires small { HasSmallDelays zero }
-    requires value { HasSmallValue period }
-    ensures ok { IfOk result (λ outcome. (circuit : Circuit) → IsZeroSkew circuit tech.now zero
-        → AreConstraintsOf circuit tech.now constraints.now
-        → IsPeriodOutcome circuit tech.now outcome) }
-    ensures lowest { IfOk result BeginsLowest }
-    ensures small { IfOk result HasSmallZero }
-    ensures period { IfOk result HasSmallPeriod }
-{
-    match period {
-        Period::Cycle { value, cycle } => Ok(PeriodOutcome::Found {
-            zero,
+    let constraints = constraints_of(alloc, pairs, tech)?;
+    match least_period(alloc, circuit.registers.len(), &constraints, tech.floor)? {
+        Period::Cycle { value, cycle } => Ok(Timing::Found {
             period: value,
-            shown: PeriodShow::Cycle(constraints_at(alloc, constraints, &cycle)?),
+            shown: PeriodShow::Cycle(constraints_at(alloc, &constraints, &cycle)?),
+            constraints,
         }),
-        Period::Floor => Ok(PeriodOutcome::Found {
-            zero,
+        Period::Floor => Ok(Timing::Found {
             period: Fraction::of(tech.floor, 1),
             shown: PeriodShow::Floor,
+            constraints,
         }),
-        Period::Never { cycle } => Ok(PeriodOutcome::Never {
-            cycle: constraints_at(alloc, constraints, &cycle)?,
+        Period::Never { cycle } => Ok(Timing::Never {
+            cycle: constraints_at(alloc, &constraints, &cycle)?,
         }),
     }
 }

@@ -8,12 +8,13 @@ ghost use Rattle.cts_engine.specs.ScheduleOutcomes.{HasSmallTimes, IsScheduleOut
 
 use crate::SynthFault;
 use crate::order::levels_of;
-use crate::period::{PeriodOutcome, Timing, timing_of};
+use crate::period::{Timing, timing_of};
 use cts_base::{Fraction, Listed};
 use cts_model::{Circuit, Constraint, PeriodShow, Schedule, Slack, Tech, ZeroSkew};
+use path_delays::pair_delays;
 use schedule::least_schedule;
 use std::alloc::Global;
-use timing_report::slacks;
+use timing_report::{slacks, zero_skew};
 
 /// When the clock is to reach each register of a circuit, in ticks.
 #[derive(Debug, Drop)]
@@ -56,16 +57,16 @@ pub fn schedule_of(
     ensures many { IfErr result (ShowsTooMany circuit.now) }
 {
     let levels = levels_of(alloc, circuit)?;
-    let Timing {
-        constraints,
-        outcome,
-    } = timing_of(alloc, circuit, &levels, tech)?;
-    match outcome {
-        PeriodOutcome::Never { cycle } => Ok(ScheduleOutcome::Never { cycle }),
-        PeriodOutcome::Found {
-            zero,
+    let pairs = pair_delays(alloc, circuit, &levels, tech)?;
+    let zero = zero_skew(&pairs, tech);
+    let timing = timing_of(alloc, circuit, tech, &pairs)?;
+    drop(pairs);
+    match timing {
+        Timing::Never { cycle } => Ok(ScheduleOutcome::Never { cycle }),
+        Timing::Found {
             period,
             shown,
+            constraints,
         } => {
             let registers = circuit.registers.len();
             let schedule = least_schedule(alloc, registers, &constraints, period)?;

@@ -7,11 +7,12 @@ ghost use Rattle.cts_engine.specs.SinkOutcomes.{AreTimedSinks, IsSinkOutcome, St
 
 use crate::SynthFault;
 use crate::order::levels_of;
-use crate::period::{PeriodOutcome, Timing, timing_of};
+use crate::period::{Timing, timing_of};
 use crate::times::{Times, times_of};
 use cts_base::{Fraction, Listed, NoMemory};
 use cts_model::{Constraint, Grid, PeriodShow, Problem, Sink};
 use gate_order::Levels;
+use path_delays::Paths;
 use std::alloc::Global;
 
 /// The registers of a problem as the sinks of a tree, and the times that give their offsets.
@@ -40,14 +41,26 @@ pub(crate) fn timed_sinks(alloc: Global, problem: &Problem) -> Result<SinkOutcom
     ensures many { IfErr result (ShowsTooMany problem.now.circuit) }
 {
     let levels = levels_of(alloc, &problem.circuit)?;
-    let Timing {
-        constraints,
-        outcome,
-    } = timing_of(alloc, &problem.circuit, &levels, &problem.tech)?;
-    match outcome {
-        PeriodOutcome::Never { cycle } => Ok(SinkOutcome::Never(cycle)),
-        PeriodOutcome::Found { period, shown, .. } => {
-            let timed = sinks_at(alloc, problem, &levels, &constraints, period, shown)?;
+    let mut paths = Paths::new(alloc, &problem.circuit, &levels, &problem.tech)?;
+    let pairs = paths.pair_delays(alloc)?;
+    let timing = timing_of(alloc, &problem.circuit, &problem.tech, &pairs)?;
+    drop(pairs);
+    match timing {
+        Timing::Never { cycle } => Ok(SinkOutcome::Never(cycle)),
+        Timing::Found {
+            period,
+            shown,
+            constraints,
+        } => {
+            let timed = sinks_at(
+                alloc,
+                problem,
+                &levels,
+                &mut paths,
+                &constraints,
+                period,
+                shown,
+            )?;
             Ok(SinkOutcome::Found(timed))
         }
     }
@@ -58,21 +71,25 @@ fn sinks_at(
     alloc: Global,
     problem: &Problem,
     levels: &Levels,
+    paths: &mut Paths,
     constraints: &Listed<Constraint>,
     period: Fraction,
     shown: PeriodShow,
 ) -> Result<TimedSinks, NoMemory>
     requires levels { IsLevelsOf problem.now.circuit levels.now }
+    requires paths { paths.old
+        ≡ record { circuit = problem.now.circuit; tech = problem.now.tech } }
     requires period { HasLeastPeriod problem.now.circuit problem.now.tech constraints.now period
         shown }
     ensures ok { IfOk result (AreTimedSinks problem.now) }
     ensures shown { IfOk result (λ timed. timed.shown ≡ shown) }
 {
-    let circuit = &problem.circuit;
-    let tech = &problem.tech;
-    let times = times_of(alloc, circuit, levels, tech, constraints, period, &shown)?;
+    let times = times_of(alloc, problem, levels, paths, constraints, period, &shown)?;
     let places = problem.places.registers.as_slice();
-    let grid = Grid { period, tech };
+    let grid = Grid {
+        period,
+        tech: &problem.tech,
+    };
     let sinks = grid.sinks(alloc, places, times.schedule.at.as_slice())?;
     Ok(TimedSinks {
         period,

@@ -1,11 +1,12 @@
-ghost use Rattle.std.specs.Prelude.{IfOk, length};
+ghost use Rattle.std.specs.Prelude.{◌≡◌, IfOk, length};
 ghost use Rattle.gate_order.specs.LevelParts.{IsLevelsOf};
 ghost use Rattle.cts_engine.specs.RegisterTimes.{AreTimes, HasLeastPeriod};
 
 use crate::cycle_paths::cycle_paths;
 use cts_base::{Fraction, Listed, NoMemory};
-use cts_model::{Circuit, Constraint, Lead, PeriodShow, Schedule, Slack, Tech};
+use cts_model::{Constraint, Lead, PeriodShow, Problem, Schedule, Slack};
 use gate_order::Levels;
+use path_delays::Paths;
 use schedule::{leads, least_schedule};
 use std::alloc::Global;
 use timing_report::slacks;
@@ -19,22 +20,26 @@ pub(crate) struct Times {
     pub(crate) leads: Listed<Lead>,
 }
 
-/// The times at the least period of a circuit, which these constraints have.
+/// The times at the least period of a problem's circuit, which these constraints have.
 pub(crate) fn times_of(
     alloc: Global,
-    circuit: &Circuit,
+    problem: &Problem,
     levels: &Levels,
-    tech: &Tech,
+    paths: &mut Paths,
     constraints: &Listed<Constraint>,
     period: Fraction,
     shown: &PeriodShow,
 ) -> Result<Times, NoMemory>
-    requires levels { IsLevelsOf circuit.now levels.now }
-    requires period { HasLeastPeriod circuit.now tech.now constraints.now period shown.now }
-    ensures { IfOk result (AreTimes circuit.now tech.now period shown.now) }
+    requires levels { IsLevelsOf problem.now.circuit levels.now }
+    requires paths { paths.old
+        ≡ record { circuit = problem.now.circuit; tech = problem.now.tech } }
+    requires period { HasLeastPeriod problem.now.circuit problem.now.tech constraints.now period
+        shown.now }
+    ensures { IfOk result (AreTimes problem.now.circuit problem.now.tech period shown.now) }
 {
+    let Problem { circuit, tech, .. } = problem;
     let registers = circuit.registers.len();
-    let paths = cycle_paths(alloc, circuit, levels, tech, shown)?;
+    let paths = cycle_paths(alloc, paths, shown)?;
     let schedule = least_schedule(alloc, registers, constraints, period)?;
     let slacks = slacks(alloc, circuit, levels, tech, &schedule, period)?;
     let leads = leads(alloc, registers, constraints, period, &schedule)?;

@@ -8,7 +8,7 @@ use Rattle.cts_model.specs.report.ReportLines.{report_lines}
 use Rattle.cert_check.specs.declared.verdict.Verdict.TheVariants.{Shown}
 use Rattle.cert_check.specs.Verdicts.{IsVerdict}
 use Rattle.cts_engine.specs.Syntheses.{IsReportWith, IsReportOf}
-use Rattle.cts_engine.specs.SynthesisOutcomes.{ShowsFromLowest}
+use Rattle.cts_engine.specs.CyclePaths.{ShowsFromLowest}
 use Rattle.cts_program.specs.DemoTexts.{summary_lines, IsSummaryText}
 use Rattle.cts_program.specs.Headline.{IsTreeText, IsSynthesisText, IsEmbeddingText}
 

@@ -20,7 +20,7 @@ use Rattle.cts_model.specs.timing.Slacks.{AreSlacks}
 use Rattle.cts_model.specs.tree.WireDelays.{MeetsByWire}
 use Rattle.cts_model.specs.report.Shown.{sinks_in, source_in}
 use Rattle.cts_engine.specs.Syntheses.{AreDrawn, IsPlacedTree}
-use Rattle.cts_engine.specs.SynthesisOutcomes.{ShowsFromLowest}
+use Rattle.cts_engine.specs.CyclePaths.{ShowsFromLowest}
 
 -- the bytes spell a clock tree for the problem
 pub record IsTreeText (problem : Problem) (text : List ℕ) : Type 0 where

@@ -17,7 +17,7 @@ returns-in_err-judge_period c =
     c.from_residual.result c.in_err-judge_period.field-0.0
     c.from_residual.ensures.1
     (λ why judged. period_then judge (λ other is. is) judged (λ is. absurd (not_shown refl is)))
-    c.in_err-judge_period.ensures
+    c.in_err-judge_period.ensures.decides
 
 pub returns-in_err-judge_shape : goal.returns-in_err-judge_shape
 returns-in_err-judge_shape c =
@@ -29,7 +29,7 @@ returns-in_err-judge_shape c =
     (stops_places (2 * length judge.sinks.now) (Shaped judge) TreeShape _
     (IsVerdictBy judge.problem.now judge.report.now judge.cycle.now judge.sinks.now judge.source)
     stop c.in_err-judge_shape.ensures.shape
-    (λ verdict judged. period_then judge (kept_shown verdict) c.in_ok-judge_period.ensures
+    (λ verdict judged. period_then judge (kept_shown verdict) c.in_ok-judge_period.ensures.decides
     (λ _. judged)))
 
 pub returns-in_err-judge_tree : goal.returns-in_err-judge_tree
@@ -39,7 +39,7 @@ returns-in_err-judge_tree c =
     (IsVerdictBy judge.problem.now judge.report.now judge.cycle.now judge.sinks.now judge.source)
     c.from_residual-in_err-judge_tree.result c.in_err-judge_tree.field-0.0
     c.from_residual-in_err-judge_tree.ensures.1
-    (λ why judged. period_then judge (kept_shown _) c.in_ok-judge_period.ensures
+    (λ why judged. period_then judge (kept_shown _) c.in_ok-judge_period.ensures.decides
     (λ _. inr (
       c.in_ok-judge_shape.ensures.shape,
       tree_then judge (λ other is. is) judged (λ is. absurd (not_shown refl is)),
@@ -51,7 +51,7 @@ returns c =
     decides_after (λ verdict. JudgedRest judge verdict (verdict ≡ Shown))
     (IsVerdictBy judge.problem.now judge.report.now judge.cycle.now judge.sinks.now judge.source)
     c.judge_rest.result
-    (λ verdict rest. period_then judge (kept_shown verdict) c.in_ok-judge_period.ensures
+    (λ verdict rest. period_then judge (kept_shown verdict) c.in_ok-judge_period.ensures.decides
     (λ _. inr (
       c.in_ok-judge_shape.ensures.shape,
       tree_then judge (kept_shown verdict) c.in_ok-judge_tree.ensures (λ _. rest),

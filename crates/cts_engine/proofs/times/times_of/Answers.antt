@@ -12,8 +12,8 @@ least_schedule-requires-clause-admitted c =
 
 pub returns : goal.returns
 returns c =
-    let circuit = c.args.circuit.now in
-    let tech = c.args.tech.now in
+    let circuit = c.args.problem.now.circuit in
+    let tech = c.args.problem.now.tech in
     let constraints = c.args.constraints.now in
     let period = c.args.period in
     let at = c.in_ok-schedule.schedule.at in
@@ -21,7 +21,7 @@ returns c =
     let found = c.in_ok-schedule.ensures in
     let registers = found.registers ∙ c.len-registers.ensures in
     record {
-      paths = c.in_ok-paths.ensures;
+      paths = rw c.requires.paths at c.in_ok-paths.ensures;
       schedule = record {
         den = found.den;
         registers = registers;

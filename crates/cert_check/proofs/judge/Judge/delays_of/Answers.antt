@@ -5,16 +5,16 @@ use Rattle.path_delays.specs.JoinedPairs.{AreDelaysBetween}
 use Rattle.cert_check.proofs.ConstraintTests.{pairs_among}
 use Rattle.cert_check.proofs.judge.Judge.delays_of.Goals as goal
 
-pub delays_between-requires-clause-pairs : goal.delays_between-requires-clause-pairs
-delays_between-requires-clause-pairs c =
+pub delays_between-requires : goal.delays_between-requires
+delays_between-requires c =
     let registers = length c.args.self.now.problem.now.circuit.registers in
-    subst (λ pairs. All (λ (pair : ℕ × ℕ). (pair.0 < registers) × (pair.1 < registers)) pairs)
+    rw c.requires.paths
+    (subst (λ pairs. All (λ (pair : ℕ × ℕ). (pair.0 < registers) × (pair.1 < registers)) pairs)
     (sym (c.as_slice.ensures.value ∙ c.in_ok-pairs.ensures))
-    (pairs_among registers c.args.constraints.now c.requires.among)
+    (pairs_among registers c.args.constraints.now c.requires.among))
 
-pub returns : goal.returns
-returns c =
-    let problem = c.args.self.now.problem.now in
-    subst (λ pairs. IfOk c.delays_between.result
-    (AreDelaysBetween problem.circuit problem.tech pairs))
-    (c.as_slice.ensures.value ∙ c.in_ok-pairs.ensures) c.delays_between.ensures
+pub returns-clause-delays : goal.returns-clause-delays
+returns-clause-delays c =
+    rw c.requires.paths at (subst (λ pairs. IfOk c.delays_between.result
+    (AreDelaysBetween c.args.paths.now.circuit c.args.paths.now.tech pairs))
+    (c.as_slice.ensures.value ∙ c.in_ok-pairs.ensures) c.delays_between.ensures.delays)
