@@ -5,11 +5,12 @@ usage: bench/gate.py [NAME..]     the words are those of `rt ci`; its output goe
 
 An edit's check begins with a check of the whole crate, which is counted by itself. Times are those of the prover's processes, read
 once a second from /proc; what ends within a second is missed. What a run keeps from earlier ones has no time here, so the whole
-table needs a run from nothing on a machine that does nothing else.
+table needs a run from nothing on a machine that does nothing else. A run that is ended by a signal leaves the table of what it did.
 """
 
 import collections
 import os
+import signal
 import subprocess
 import sys
 import time
@@ -85,6 +86,7 @@ def main():
     began = time.time()
     seconds = {}
     gate = subprocess.Popen(["rt", "ci", *sys.argv[1:]], stdout=sys.stderr)
+    signal.signal(signal.SIGTERM, lambda *_: gate.terminate())
     while gate.poll() is None:
         look(gate.pid, seconds)
         time.sleep(1)
