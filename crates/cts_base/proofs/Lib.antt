@@ -16,6 +16,7 @@ pub mod Quotients
 pub mod Divisors
 pub mod GreatestDivisors
 pub mod LineSplits
+pub mod LineFaults
 pub mod ListPlaces
 pub mod ListTests
 pub mod OneFraction

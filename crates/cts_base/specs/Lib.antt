@@ -1,5 +1,6 @@
 pub mod Decimals
 pub mod Fractions
+pub mod LineFormats
 pub mod Lines
 pub mod NumberTexts
 pub mod Words

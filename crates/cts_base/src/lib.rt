@@ -3,6 +3,7 @@
 
 mod divisor;
 mod fraction;
+mod line_format;
 mod line_walk;
 mod listed;
 mod no_memory;
@@ -12,6 +13,7 @@ mod word_walk;
 
 pub use divisor::gcd;
 pub use fraction::{Fraction, push_fraction, push_quotient};
+pub use line_format::{LineFormat, read_lines};
 pub use line_walk::{Line, Lines};
 pub use listed::{Listed, Name};
 pub use no_memory::NoMemory;
