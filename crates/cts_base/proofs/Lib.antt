@@ -12,6 +12,7 @@ mod QuotientReading
 pub mod FractionReading
 pub mod OneNumberText
 pub mod OneSpelling
+pub mod PlainNumerals
 pub mod Quotients
 pub mod Divisors
 pub mod GreatestDivisors

@@ -1,7 +1,9 @@
 -- Whole numbers, quotients and fractions as this project's own texts spell them: `0`, `-13`,
 -- `3/2`. Texts may be of any length, so the digits are determined by the number that they write:
 -- std's `decimal` keeps the last 64 digits. The forms are this project's choice.
-use Rattle.std.specs.Prelude.{◌≡◌, ℕ, suc, ◌^◌, min, Bool, ◌==◌, IsTrue, ◌⊎◌, List, ◌∷◌, ◌++◌, length, drop, slice_index, ℤ, pos, negsuc, neg_ℤ, ◌≤ℤ◌}
+use Rattle.std.specs.Prelude.{◌≡◌, ℕ, suc, ◌^◌, min, Bool, not, ◌==◌, ◌&&◌, ◌||◌, IsTrue, ◌⊎◌, List, ◌∷◌, ◌++◌, length, drop, slice_index, ℤ, pos, negsuc, neg_ℤ, ◌≤ℤ◌}
+use Rattle.std.specs.Char.{is_ascii_digit}
+use Rattle.std.specs.List.{list_all}
 use Rattle.std.specs.Str.Parse.{IsNumeral, digits_value, starts_with_minus}
 use Rattle.cts_base.specs.Fractions.{HasSizeBelow, IsLowest}
 use Rattle.cts_base.specs.declared.number.NumberFault.{NumberFault}
@@ -14,6 +16,12 @@ is_slash byte = byte == 47
 -- one digit or more, and the first is no `0` unless it stands alone
 abbrev pub IsPlainNumeral : List ℕ → Type 0
 IsPlainNumeral digits = IsNumeral 10 digits × (slice_index digits 0 ≡ 48 → length digits ≡ 1)
+
+-- the same as a test
+abbrev pub is_plain_numeral : List ℕ → Bool
+is_plain_numeral digits =
+    not (length digits == 0) && list_all is_ascii_digit digits
+    && (not (slice_index digits 0 == 48) || (length digits == 1))
 
 -- the digits spell the number
 abbrev pub SpellsSize : List ℕ → ℕ → Type 0

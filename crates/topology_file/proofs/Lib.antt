@@ -1,5 +1,3 @@
-mod WordNumbers
 mod EntryLemmas
 mod TakenLines
-mod TopologyWalk
-pub mod OneFault
+mod WordNumbers

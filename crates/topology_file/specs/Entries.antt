@@ -2,16 +2,18 @@
 -- merge makes and the two that it joins, in either order. What a line denotes is determined by its
 -- words, its comment cut off. The form is this project's choice; the nodes are numbered as in the
 -- topologies of clock trees.
-use Rattle.std.specs.Prelude.{◌≡◌, ℕ, ◌+◌, min, max, List, [], ◌∷◌, map, Some, slice_get}
+use Rattle.std.specs.Prelude.{ℕ, ◌+◌, ◌==◌, ◌&&◌, Bool, false, not, nat_lt, min, max, List, [], ◌∷◌, map, length}
+use Rattle.std.specs.List.{list_all}
 use Rattle.std.specs.Str.Parse.{digits_value}
-use Rattle.cts_base.specs.NumberTexts.{IsPlainNumeral, SpellsSize}
+use Rattle.cts_base.specs.NumberTexts.{is_plain_numeral}
 use Rattle.cts_model.specs.declared.tree.Merge.{Merge}
 
 -- three whole numbers without a sign, and the first is the node that is due
-abbrev pub IsEntry : (due : ℕ) → List (List ℕ) → Type 0
-IsEntry due (made ∷ one ∷ other ∷ []) =
-    SpellsSize made due × IsPlainNumeral one × IsPlainNumeral other
-IsEntry due _ = ⊥
+abbrev pub is_entry : (due : ℕ) → List (List ℕ) → Bool
+is_entry due (made ∷ one ∷ other ∷ []) =
+    is_plain_numeral made && is_plain_numeral one && is_plain_numeral other
+    && (digits_value 10 made == due)
+is_entry due _ = false
 
 -- the merge of an entry, the lower node first
 abbrev pub merge_of : List (List ℕ) → Merge
@@ -25,7 +27,14 @@ merge_of _ = record { first = 0; second = 0 }
 abbrev pub merges_of : List (List (List ℕ)) → List Merge
 merges_of entries = map merge_of entries
 
--- the entries make the nodes after the sinks, one after the other
-pub record AreEntries (sinks : ℕ) (entries : List (List (List ℕ))) : Type 0 where
-  pub each : (place : ℕ) (entry : List (List ℕ)) → slice_get entries place ≡ Some entry
-      → IsEntry (sinks + place) entry
+-- the node is a sink or made by these merges, and none of them joins it
+abbrev pub is_open : (sinks : ℕ) → List Merge → (node : ℕ) → Bool
+is_open sinks merges node =
+    nat_lt node (sinks + length merges)
+    && list_all (λ merge. not (merge.first == node) && not (merge.second == node)) merges
+
+-- the merge joins two such nodes, the lower number first
+abbrev pub joins_open : (sinks : ℕ) → List Merge → Merge → Bool
+joins_open sinks merges merge =
+    nat_lt merge.first merge.second && is_open sinks merges merge.first
+    && is_open sinks merges merge.second

@@ -1,12 +1,12 @@
 -- Numbers of any length as the reader keeps them.
-use Rattle.std.specs.Prelude.{◌≡◌, ◌-◌, ◌^◌, ℕ, min}
+use Rattle.std.specs.Prelude.{◌-◌, ◌^◌, ℕ, min}
 use Rattle.cts_model.specs.declared.tree.Merge.{Merge}
 
 -- the number, and where it is above the greatest `u32`, which no node has, that one
 abbrev pub kept_number : ℕ → ℕ
 kept_number number = min number (2 ^ 32 - 1)
 
--- the nodes of a merge so
-pub record IsKept (merge kept : Merge) : Type 0 where
-  pub first : kept.first ≡ kept_number merge.first
-  pub second : kept.second ≡ kept_number merge.second
+-- a merge with its nodes so
+abbrev pub kept_merge : Merge → Merge
+kept_merge merge =
+    record { first = kept_number merge.first; second = kept_number merge.second }

@@ -1,17 +1,17 @@
--- What the reader has taken in from the lines so far.
-use Rattle.std.specs.Prelude.{◌≡◌, ◌<◌, ◌+◌, ℕ, true, false, List, [], ◌∷◌, ◌++◌, length, slice_index_or, slice_set}
+-- What the reader keeps of the lines so far.
+use Rattle.std.specs.Prelude.{◌≡◌, ◌<◌, ◌+◌, ℕ, true, false, List, [], ◌∷◌, ◌++◌, length, slice_get, slice_index_or, slice_set, take, Some}
 use Rattle.cts_model.specs.declared.tree.Merge.{Merge}
 use Rattle.cts_model.specs.tree.Marks.{AreMarked}
+use Rattle.cts_model.specs.tree.Topologies.{IsMerge}
 use Rattle.cts_model.specs.text.Entries.{entries_in}
 use Rattle.topology_file.specs.declared.joining.Joining.{Joining}
 use Rattle.topology_file.specs.Entries.{merges_of}
-use Rattle.topology_file.specs.Flaws.{AreFlawless}
 
--- this is taken in from the lines
-pub record HasTaken (sinks : ℕ) (joining : Joining) (lines : List (List ℕ)) : Type 0 where
-  pub sinks_are : joining.sinks ≡ sinks
+-- the merges are those of the lines, each of two open nodes, and the nodes that they join are marked
+pub record HasTaken (joining : Joining) (lines : List (List ℕ)) : Type 0 where
   pub merges_are : joining.merges ≡ merges_of (entries_in lines)
-  pub flawless : AreFlawless sinks (entries_in lines)
+  pub each : (place : ℕ) (merge : Merge) → slice_get joining.merges place ≡ Some merge
+      → IsMerge joining.sinks (take place joining.merges) merge
   pub marked : AreMarked joining.merges joining.joined.items
 
 -- the merge joins two nodes that are made and aren't marked, the lower first
@@ -23,7 +23,6 @@ pub record IsOfOpen (joining : Joining) (merge : Merge) : Type 0 where
 
 -- a merge is taken in
 pub record TakesMerge (old new : Joining) (merge : Merge) : Type 0 where
-  pub sinks : new.sinks ≡ old.sinks
   pub merges : new.merges ≡ old.merges ++ merge ∷ []
   pub joined : new.joined.items
       ≡ slice_set (slice_set old.joined.items merge.first true) merge.second true

@@ -1,9 +1,9 @@
-ghost use Rattle.std.specs.Prelude.{◌≡◌, ◌<◌, ◌-◌, ◌^◌, ◌∷◌, IfSome, IsNone};
+ghost use Rattle.std.specs.Prelude.{◌≡◌, ◌<◌, ◌-◌, ◌^◌, ◌∷◌, Some, None, if◌then◌else◌};
 ghost use Rattle.std.specs.Str.Parse.{digits_value};
-ghost use Rattle.cts_base.specs.NumberTexts.{IsPlainNumeral};
+ghost use Rattle.cts_base.specs.NumberTexts.{is_plain_numeral};
 ghost use Rattle.cts_model.specs.text.Entries.{words_in};
-ghost use Rattle.topology_file.specs.Entries.{IsEntry, merge_of};
-ghost use Rattle.topology_file.specs.Kept.{kept_number, IsKept};
+ghost use Rattle.topology_file.specs.Entries.{is_entry, merge_of};
+ghost use Rattle.topology_file.specs.Kept.{kept_number, kept_merge};
 
 use cts_base::{Words, before_comment, read_whole, words};
 use cts_model::Merge;
@@ -19,9 +19,8 @@ pub(crate) fn words_in<'a>(line: &'a [u8]) -> Words<'a>
 /// the first is the node that is due. Numbers are kept as `number_of` keeps them.
 pub(crate) fn merge_of(due: u32, made: &[u8], mut words: Words) -> Option<Merge>
     requires { due < 2 ^ 32 - 1 }
-    ensures some { IfSome result (λ merge. IsEntry due (made.now ∷ words.entry)
-        × IsKept (merge_of (made.now ∷ words.entry)) merge) }
-    ensures none { IsNone result → ¬ (IsEntry due (made.now ∷ words.entry)) }
+    ensures { result ≡ (if is_entry due (made.now ∷ words.entry)
+        then Some (kept_merge (merge_of (made.now ∷ words.entry))) else None) }
 {
     let made = number_of(made)?;
     let one = number_of(words.next()?)?;
@@ -37,9 +36,8 @@ pub(crate) fn merge_of(due: u32, made: &[u8], mut words: Words) -> Option<Merge>
 
 // The number that a word spells without a sign. One that no node has is kept at the greatest `u32`.
 fn number_of(word: &[u8]) -> Option<u32>
-    ensures some { IfSome result (λ number. IsPlainNumeral word.now
-        × (number ≡ kept_number (digits_value 10 word.now))) }
-    ensures none { IsNone result → ¬ (IsPlainNumeral word.now) }
+    ensures { result ≡ (if is_plain_numeral word.now
+        then Some (kept_number (digits_value 10 word.now)) else None) }
 {
     let number = read_whole(word)?;
     if number < 0 {

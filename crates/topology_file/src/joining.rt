@@ -1,9 +1,8 @@
-ghost use Rattle.std.specs.Prelude.{◌≡◌, ◌≤◌, ◌<◌, ◌+◌, ◌*◌, List, ℕ, [], ◌∷◌, ◌++◌, ◌≢◌, length, IsTrue, ◌↔◌, OnOk, IfOk, IfSome, IsNone, MatchOption, MatchResult, vec_len};
-ghost use Rattle.topology_file.specs.LineFaults.{IsLineFault};
+ghost use Rattle.std.specs.Prelude.{◌≡◌, ◌≤◌, ◌<◌, ◌+◌, ◌*◌, ◌==◌, List, ℕ, [], ◌∷◌, ◌++◌, length, IsTrue, ◌↔◌, OnOk, IfOk, MatchOption, Some, None, vec_len, if◌then◌else◌};
 
+use crate::TopologyFault;
 use crate::entry::{merge_of, words_in};
-use crate::line_fault::LineFault;
-use cts_base::{Listed, NoMemory};
+use cts_base::{Line, LineFormat, Listed, NoMemory};
 use cts_model::{Merge, Topology};
 use std::alloc::Global;
 
@@ -25,36 +24,14 @@ impl Joining {
     /// No merges.
     pub(crate) fn new(alloc: Global, sinks: usize) -> Result<Joining, NoMemory>
         requires { sinks ≤ 4097 }
-        ensures { IfOk result (λ joining. HasTaken sinks joining []) }
+        ensures sinks { IfOk result (λ joining. joining.sinks ≡ sinks) }
+        ensures none { IfOk result (λ joining. HasTaken joining []) }
     {
         Ok(Joining {
             sinks,
             merges: Listed::new(alloc),
             joined: vec![in alloc; false; 2 * sinks]?,
         })
-    }
-
-    /// Takes in the merge of the next line, if nothing is wrong with it.
-    pub(crate) fn add_line(&mut self, line: &[u8]) -> Result<(), LineFault>
-        ensures { (sinks : ℕ) (earlier : List (List ℕ)) → HasTaken sinks self.old earlier
-            → MatchResult result (λ _. HasTaken sinks self.new (earlier ++ line.now ∷ []))
-            (IsLineFault sinks earlier line.now) }
-    {
-        let mut words = words_in(line);
-        let Some(made) = words.next() else {
-            return Ok(());
-        };
-        let Some(due) = self.due_node() else {
-            return Err(LineFault::Extra);
-        };
-        let Some(merge) = merge_of(due, made, words) else {
-            return Err(LineFault::BadLine);
-        };
-        if !self.has_open(merge) {
-            return Err(LineFault::NotOpen);
-        }
-        self.join(merge)?;
-        Ok(())
     }
 
     // The node that the next merge makes, if not all sinks are joined.
@@ -72,9 +49,8 @@ impl Joining {
 
     /// The merges, if they join all sinks.
     pub(crate) fn topology(self) -> Option<Topology>
-        ensures some { IfSome result (λ topology. (topology.merges ≡ self.merges)
-            × (self.sinks ≡ length self.merges + 1)) }
-        ensures none { IsNone result → self.sinks ≢ length self.merges + 1 }
+        ensures { result ≡ (if length self.merges + 1 == self.sinks
+            then Some (record { merges = self.merges }) else None) }
     {
         if self.merges.len() + 1 == self.sinks {
             Some(Topology {
@@ -99,11 +75,44 @@ impl Joining {
     fn join(&mut self, merge: Merge) -> Result<(), NoMemory>
         requires open { IsOfOpen self.old merge }
         requires due { length self.old.merges + 1 < self.old.sinks }
-        ensures { OnOk result (TakesMerge self.old self.new merge) }
+        ensures sinks { self.new.sinks ≡ self.old.sinks }
+        ensures taken { OnOk result (TakesMerge self.old self.new merge) }
     {
         self.merges.push(merge)?;
         self.joined[merge.first as usize] = true;
         self.joined[merge.second as usize] = true;
+        Ok(())
+    }
+}
+
+impl<'a> LineFormat<'a> for Joining {
+    ghost use Rattle.topology_file.specs.TopologyTexts.{fault_of};
+    ghost use Rattle.topology_file.specs.Taken.{HasTaken};
+    ghost use Rattle.topology_file.specs.declared.fault.TopologyFault.TheVariants.{NoMemory};
+
+    type Fault = TopologyFault;
+
+    ghost no_memory = { NoMemory };
+
+    ghost fault_of = { λ joining. fault_of joining.sinks };
+
+    ghost has_read = { λ joining lines. HasTaken joining lines };
+
+    fn read_line(&mut self, line: Line<'a>) -> Result<(), TopologyFault> {
+        let mut words = words_in(line.text);
+        let Some(made) = words.next() else {
+            return Ok(());
+        };
+        let Some(due) = self.due_node() else {
+            return Err(TopologyFault::Extra(line.number));
+        };
+        let Some(merge) = merge_of(due, made, words) else {
+            return Err(TopologyFault::BadLine(line.number));
+        };
+        if !self.has_open(merge) {
+            return Err(TopologyFault::NotOpen(line.number));
+        }
+        self.join(merge)?;
         Ok(())
     }
 }

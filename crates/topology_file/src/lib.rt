@@ -4,7 +4,6 @@
 mod entry;
 mod fault;
 mod joining;
-mod line_fault;
 mod read;
 
 pub use fault::TopologyFault;

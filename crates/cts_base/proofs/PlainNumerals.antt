@@ -1,0 +1,37 @@
+-- The test whether digits are plain.
+use Rattle.std.proofs.Common.{◌≡◌, ◌<◌, ◌↔◌, ◌==◌, ◌&&◌, ◌||◌, ℕ, Bool, true, not, List, length, slice_index, refl, arith}
+use Rattle.std.proofs.lemmas.Bool.Decides.{nat_tests}
+use Rattle.std.specs.Char.{is_ascii_digit}
+use Rattle.std.specs.List.{list_all}
+use Rattle.cts_base.specs.NumberTexts.{IsPlainNumeral, is_plain_numeral}
+use Rattle.cts_base.proofs.DecimalLemmas.{both_true, digits_tested, true_and}
+
+module _ (digits : List ℕ) where
+  abbrev is_some : Bool
+  is_some = not (length digits == 0)
+
+  abbrev are_digits : Bool
+  are_digits = list_all is_ascii_digit digits
+
+  abbrev leads_plainly : Bool
+  leads_plainly = not (slice_index digits 0 == 48) || (length digits == 1)
+
+  -- digits that pass it are plain
+  pub plain_from_test : is_plain_numeral digits ≡ true → IsPlainNumeral digits
+  plain_from_test passed =
+      let parts = both_true (is_some && are_digits) leads_plainly passed in
+      let digits_are = both_true is_some are_digits parts.0 in
+      let some = digits_are.0 in
+      let lead = parts.1 in
+      let some_digit : 0 < length digits = grind (arith, nat_tests) in
+      ((some_digit, (digits_tested _ digits refl).0 digits_are.1), λ zero. grind (arith, nat_tests))
+
+  -- and plain digits pass it
+  pub test_from_plain : IsPlainNumeral digits → is_plain_numeral digits ≡ true
+  test_from_plain plain =
+      let some_digit = plain.0.0 in
+      let alone = plain.1 in
+      let some : is_some ≡ true = grind (arith, nat_tests) in
+      let lead : leads_plainly ≡ true = grind (arith, nat_tests) in
+      true_and (is_some && are_digits) leads_plainly
+      (true_and is_some are_digits some ((digits_tested _ digits refl).1 plain.0.1)) lead
