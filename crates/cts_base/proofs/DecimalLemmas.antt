@@ -15,7 +15,7 @@ pub both_true : (a b : Bool) → (a && b) ≡ true → (a ≡ true) × (b ≡ tr
 both_true true b is = (refl, is)
 both_true false b is = cc
 
-pub true_and : (a b : Bool) → a ≡ true → b ≡ true → (a && b) ≡ true
+true_and : (a b : Bool) → a ≡ true → b ≡ true → (a && b) ≡ true
 true_and true b first second = second
 true_and false b first second = first
 

@@ -1,10 +1,11 @@
 -- The test whether digits are plain.
-use Rattle.std.proofs.Common.{◌≡◌, ◌<◌, ◌↔◌, ◌==◌, ◌&&◌, ◌||◌, ℕ, Bool, true, not, List, length, slice_index, refl, arith}
+use Rattle.std.proofs.Common.{◌≡◌, ◌<◌, ◌==◌, ◌&&◌, ◌||◌, ℕ, Bool, true, false, not, List, length, slice_index, refl, arith}
 use Rattle.std.proofs.lemmas.Bool.Decides.{nat_tests}
 use Rattle.std.specs.Char.{is_ascii_digit}
 use Rattle.std.specs.List.{list_all}
 use Rattle.cts_base.specs.NumberTexts.{IsPlainNumeral, is_plain_numeral}
-use Rattle.cts_base.proofs.DecimalLemmas.{both_true, digits_tested, true_and}
+use Rattle.std.proofs.lemmas.Bool.{and_from, and_parts}
+use Rattle.cts_base.proofs.DecimalLemmas.{digits_tested}
 
 module _ (digits : List ℕ) where
   abbrev is_some : Bool
@@ -19,8 +20,8 @@ module _ (digits : List ℕ) where
   -- digits that pass it are plain
   pub plain_from_test : is_plain_numeral digits ≡ true → IsPlainNumeral digits
   plain_from_test passed =
-      let parts = both_true (is_some && are_digits) leads_plainly passed in
-      let digits_are = both_true is_some are_digits parts.0 in
+      let parts = and_parts (is_some && are_digits) leads_plainly passed in
+      let digits_are = and_parts is_some are_digits parts.0 in
       let some = digits_are.0 in
       let lead = parts.1 in
       let some_digit : 0 < length digits = grind (arith, nat_tests) in
@@ -33,5 +34,12 @@ module _ (digits : List ℕ) where
       let alone = plain.1 in
       let some : is_some ≡ true = grind (arith, nat_tests) in
       let lead : leads_plainly ≡ true = grind (arith, nat_tests) in
-      true_and (is_some && are_digits) leads_plainly
-      (true_and is_some are_digits some ((digits_tested _ digits refl).1 plain.0.1)) lead
+      and_from (is_some && are_digits) leads_plainly
+      (and_from is_some are_digits some ((digits_tested _ digits refl).1 plain.0.1)) lead
+
+  -- others don't
+  pub fails_unless_plain : (IsPlainNumeral digits → ⊥) → is_plain_numeral digits ≡ false
+  fails_unless_plain other = at (is_plain_numeral digits) refl where
+    at : (passed : Bool) → is_plain_numeral digits ≡ passed → passed ≡ false
+    at true is = absurd (other (plain_from_test is))
+    at false is = refl

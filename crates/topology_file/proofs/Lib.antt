@@ -1,3 +1,3 @@
-mod EntryLemmas
+mod OpenNodes
 mod TakenLines
 mod WordNumbers

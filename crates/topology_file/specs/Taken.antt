@@ -8,7 +8,8 @@ use Rattle.topology_file.specs.declared.joining.Joining.{Joining}
 use Rattle.topology_file.specs.Entries.{merges_of}
 
 -- the merges are those of the lines, each of two open nodes, and the nodes that they join are marked
-pub record HasTaken (joining : Joining) (lines : List (List ℕ)) : Type 0 where
+pub record HasTaken (sinks : ℕ) (joining : Joining) (lines : List (List ℕ)) : Type 0 where
+  pub sinks_are : joining.sinks ≡ sinks
   pub merges_are : joining.merges ≡ merges_of (entries_in lines)
   pub each : (place : ℕ) (merge : Merge) → slice_get joining.merges place ≡ Some merge
       → IsMerge joining.sinks (take place joining.merges) merge
@@ -23,6 +24,7 @@ pub record IsOfOpen (joining : Joining) (merge : Merge) : Type 0 where
 
 -- a merge is taken in
 pub record TakesMerge (old new : Joining) (merge : Merge) : Type 0 where
+  pub sinks : new.sinks ≡ old.sinks
   pub merges : new.merges ≡ old.merges ++ merge ∷ []
   pub joined : new.joined.items
       ≡ slice_set (slice_set old.joined.items merge.first true) merge.second true

@@ -24,8 +24,7 @@ impl Joining {
     /// No merges.
     pub(crate) fn new(alloc: Global, sinks: usize) -> Result<Joining, NoMemory>
         requires { sinks ≤ 4097 }
-        ensures sinks { IfOk result (λ joining. joining.sinks ≡ sinks) }
-        ensures none { IfOk result (λ joining. HasTaken joining []) }
+        ensures { IfOk result (λ joining. HasTaken sinks joining []) }
     {
         Ok(Joining {
             sinks,
@@ -75,8 +74,7 @@ impl Joining {
     fn join(&mut self, merge: Merge) -> Result<(), NoMemory>
         requires open { IsOfOpen self.old merge }
         requires due { length self.old.merges + 1 < self.old.sinks }
-        ensures sinks { self.new.sinks ≡ self.old.sinks }
-        ensures taken { OnOk result (TakesMerge self.old self.new merge) }
+        ensures { OnOk result (TakesMerge self.old self.new merge) }
     {
         self.merges.push(merge)?;
         self.joined[merge.first as usize] = true;
@@ -94,9 +92,9 @@ impl<'a> LineFormat<'a> for Joining {
 
     ghost no_memory = { NoMemory };
 
-    ghost fault_of = { λ joining. fault_of joining.sinks };
+    ghost fault_of = { λ start. fault_of start.sinks };
 
-    ghost has_read = { λ joining lines. HasTaken joining lines };
+    ghost has_read = { λ start. HasTaken start.sinks };
 
     fn read_line(&mut self, line: Line<'a>) -> Result<(), TopologyFault> {
         let mut words = words_in(line.text);
