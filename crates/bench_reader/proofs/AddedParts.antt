@@ -5,8 +5,8 @@ use Rattle.std.proofs.lemmas.List.{map_push}
 use Rattle.std.proofs.lemmas.List.Elements.{All-nil, All-cons, All-head, All-push, All-tail}
 use Rattle.cts_model.specs.netlist.Circuits.{registers_of}
 use Rattle.cts_model.specs.netlist.Statements.{Statement, Blank, Input, Output, Assign, Definition, statement_of, definition_of, mention_of}
-use Rattle.cts_model.specs.netlist.Flaws.{statements_in, definitions_in}
-use Rattle.cts_model.specs.netlist.Netlists.{AreDefined, UsesDefined, signal_of, number_of, first_mentions}
+use Rattle.cts_model.specs.netlist.Definitions.{statements_in, definitions_in}
+use Rattle.cts_model.specs.netlist.Netlists.{signal_of, number_of, first_mentions}
 use Rattle.indexmap.specs.IndexSet.{insert_key}
 use Rattle.bench_reader.specs.declared.circuit_parts.CircuitParts.{CircuitParts}
 use Rattle.bench_reader.specs.Said.{unless_blank}
@@ -15,6 +15,7 @@ use Rattle.cts_model.proofs.RegisterLists.{filter_map_push_none, filter_map_push
 use Rattle.bench_reader.proofs.LineStatements.{statements_push, definitions_push_some, definitions_push_none}
 use Rattle.bench_reader.proofs.PartLists.{mentions_push}
 use Rattle.bench_reader.proofs.SaidLemmas.{IsSilent}
+use Rattle.bench_reader.specs.Uses.{AreDefined, UsesDefined}
 
 module _ (names : List (List ℕ)) (line : List ℕ) (old new : CircuitParts) {earlier : List (List ℕ)}
     (has : HasParts names old earlier) (statement : Statement)

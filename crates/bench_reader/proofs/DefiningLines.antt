@@ -3,15 +3,17 @@ use Rattle.std.proofs.Common.{◌≡◌, ℕ, ◌+◌, cond, true, List, [], ◌
 use Rattle.std.specs.List.{list_all}
 use Rattle.std.proofs.lemmas.List.{length-map, map_push}
 use Rattle.std.proofs.lemmas.List.Sums.{sum_by_push}
+use Rattle.cts_base.specs.LineFormats.{IsFaultOf}
 use Rattle.cts_model.specs.netlist.Kinds.{is_register}
 use Rattle.cts_model.specs.text.Names.{is_short}
 use Rattle.cts_model.specs.netlist.Statements.{Statement, Definition, statement_of, definition_of, names_of}
-use Rattle.cts_model.specs.netlist.Flaws.{definitions_in, defined_names, register_count, gate_inputs_of, gate_input_count, has_kind, has_valid_inputs, definition_excess, flaw_of}
+use Rattle.cts_model.specs.netlist.Definitions.{definitions_in, defined_names, register_count, gate_inputs_of, gate_input_count}
 use Rattle.bench_reader.specs.declared.definitions.Definitions.{Definitions}
-use Rattle.bench_reader.specs.declared.line_fault.LineFault.{LineFault}
-use Rattle.bench_reader.specs.LineFaults.{IsFaultOf, IsLineFault}
-use Rattle.bench_reader.specs.Taken.{HasDefinitions, Adds, excess_after, flaw_after}
+use Rattle.bench_reader.specs.declared.fault.BenchFault.{BenchFault}
+use Rattle.bench_reader.specs.declared.fault.BenchFault.TheVariants.{NoMemory}
+use Rattle.bench_reader.specs.Taken.{HasDefinitions, Adds, excess_after, fault_after}
 use Rattle.bench_reader.proofs.LineStatements.{definitions_push_some, definitions_push_none}
+use Rattle.bench_reader.specs.Faults.{has_kind, has_valid_inputs, definition_excess, fault_of}
 
 module _ (earlier : List (List ℕ)) (line : List ℕ) (statement : Statement)
     (form : statement_of line ≡ Some statement) where
@@ -28,7 +30,7 @@ module _ (earlier : List (List ℕ)) (line : List ℕ) (statement : Statement)
   pub silent_adds : definition_of statement ≡ None → has_kind statement ≡ true
       → list_all is_short (names_of statement) ≡ true
       → (definitions : Definitions) → HasDefinitions definitions earlier
-      → (flaw_of earlier line ≡ None) × HasDefinitions definitions (earlier ++ line ∷ [])
+      → (fault_of earlier line ≡ None) × HasDefinitions definitions (earlier ++ line ∷ [])
   silent_adds none kind short definitions has =
       (rw (form, kind, none, short), silent_has none definitions has)
 
@@ -78,24 +80,27 @@ module _ (earlier : List (List ℕ)) (line : List ℕ) (statement : Statement)
     module _ (kind : has_kind statement ≡ true)
         (valid_inputs : has_valid_inputs definition ≡ true) where
       -- as does what is wrong with its line
-      flaw_is : {old : Definitions} → HasDefinitions old earlier
-          → flaw_of earlier line ≡ flaw_after old definition.name definition.kind
+      fault_is : {old : Definitions} (number : ℕ) → number ≡ length earlier + 1
+          → HasDefinitions old earlier
+          → fault_of earlier line ≡ fault_after number old definition.name definition.kind
           (length definition.inputs) (list_all is_short (names_of statement))
-      flaw_is {old} has = rw (form, kind, some, valid_inputs, excess_is has, has.names)
+      fault_is {old} number here has =
+          rw (here, form, kind, some, valid_inputs, excess_is has, has.names)
 
       -- so a judgement by the counts is one of the line
-      pub defining_adds : {T : Type 0} {old : Definitions} (new : Definitions)
-          (result : Result T LineFault)
+      pub defining_adds : {T : Type 0} {old : Definitions} (number : ℕ) (new : Definitions)
+          (result : Result T BenchFault)
           → MatchResult result
-          (λ _. (flaw_after old definition.name definition.kind (length definition.inputs)
+          (λ _. (fault_after number old definition.name definition.kind (length definition.inputs)
           (list_all is_short (names_of statement)) ≡ None)
           × Adds old new definition.name definition.kind (length definition.inputs))
-          (IsFaultOf (flaw_after old definition.name definition.kind (length definition.inputs)
-          (list_all is_short (names_of statement))))
-          → HasDefinitions old earlier
+          (IsFaultOf NoMemory (fault_after number old definition.name definition.kind
+          (length definition.inputs) (list_all is_short (names_of statement))))
+          → HasDefinitions old earlier → number ≡ length earlier + 1
           → MatchResult result
-          (λ _. (flaw_of earlier line ≡ None) × HasDefinitions new (earlier ++ line ∷ []))
-          (IsLineFault earlier line)
-      defining_adds new (Ok done) judged has = (flaw_is has ∙ judged.0, defining_has has judged.1)
-      defining_adds new (Err fault) judged has =
-          subst (λ flaw. IsFaultOf flaw fault) (sym (flaw_is has)) judged
+          (λ _. (fault_of earlier line ≡ None) × HasDefinitions new (earlier ++ line ∷ []))
+          (IsFaultOf NoMemory (fault_of earlier line))
+      defining_adds number new (Ok done) judged has here =
+          (fault_is number here has ∙ judged.0, defining_has has judged.1)
+      defining_adds number new (Err fault) judged has here =
+          subst (λ it. IsFaultOf NoMemory it fault) (sym (fault_is number here has)) judged

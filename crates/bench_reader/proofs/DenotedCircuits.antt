@@ -1,26 +1,30 @@
 -- What the circuit is whose parts the lines tell.
-use Rattle.std.proofs.Common.{◌≡◌, ℕ, ◌<◌, List, length, map, ap, ◌∙◌, subst, arith}
+use Rattle.std.proofs.Common.{◌≡◌, ℕ, ◌<◌, ◌==◌, if◌then◌else◌, Option, Some, None, inl, inr, List, length, map, ap, ◌∙◌, subst, arith}
 use Rattle.std.specs.List.{filter_map}
+use Rattle.std.specs.Option.{option_or}
+use Rattle.std.proofs.lemmas.Bool.{eq-eqb, ne_eqb}
+use Rattle.cts_base.specs.LineFormats.{IsFaultOf, first_fault}
 use Rattle.cts_base.specs.Lines.{lines_of}
 use Rattle.cts_model.specs.declared.circuit.Circuit.{Circuit}
 use Rattle.cts_model.specs.netlist.Circuits.{IsCircuit, registers_of}
 use Rattle.cts_model.specs.netlist.Hosts.{HasNoHost}
 use Rattle.cts_model.specs.netlist.Statements.{definition_of, mention_of}
-use Rattle.cts_model.specs.netlist.Flaws.{statements_in, definitions_in, register_count}
-use Rattle.cts_model.specs.netlist.Netlists.{AreFlawless, UsesDefined, names_in, signal_of}
+use Rattle.cts_model.specs.netlist.Definitions.{statements_in, definitions_in, register_count}
+use Rattle.cts_model.specs.netlist.Netlists.{names_in, signal_of}
 use Rattle.bench_reader.specs.declared.fault.BenchFault.{BenchFault}
 use Rattle.bench_reader.specs.declared.fault.BenchFault.TheVariants as faults
 use Rattle.bench_reader.specs.declared.circuit_parts.CircuitParts.{CircuitParts}
-use Rattle.bench_reader.specs.LineFaults.{RefusesLine, RefusesUse}
-use Rattle.bench_reader.specs.Refusals.{RefusesNetlist, HasNoRegisters}
+use Rattle.bench_reader.specs.Faults.{fault_of, netlist_fault, use_fault}
 use Rattle.bench_reader.specs.Taken.{HasParts, DenotesCircuit}
 use Rattle.bench_reader.proofs.Lists.{All-filter_map}
+use Rattle.bench_reader.proofs.UseFaults.{none_undefined}
 use Rattle.bench_reader.proofs.ValidDefinitions.{valid_lines}
 use Rattle.bench_reader.proofs.Hostless.{hostless_lines, has_host-lines}
 use Rattle.bench_reader.proofs.NetlistCircuits.{HasDefinedInputs, inputs_defined, length-registers_of, circuit_from}
+use Rattle.bench_reader.specs.Uses.{UsesDefined}
 
 module _ (text : List ℕ) (names : List (List ℕ)) (parts : CircuitParts)
-    (flawless : AreFlawless (lines_of text)) (known : names ≡ names_in text)
+    (flawless : first_fault fault_of text ≡ None) (known : names ≡ names_in text)
     (has : HasParts names parts (lines_of text)) where
   -- the parts, by the names that the text defines
   has_here : HasParts (names_in text) parts (lines_of text)
@@ -34,13 +38,21 @@ module _ (text : List ℕ) (names : List (List ℕ)) (parts : CircuitParts)
       has_here.registers_are ∙ ap registers_of has_here.signals_are in
       ap length registers ∙ length-registers_of _ (definitions_in (lines_of text))
 
+  -- where each line passes, only a register may be missing
+  by_registers : netlist_fault text
+      ≡ (if register_count (definitions_in (lines_of text)) == 0 then Some faults.NoRegisters
+      else None)
+  by_registers =
+      let defined = none_undefined (names_in text) (lines_of text) has_here.defined in
+      λ i. option_or (flawless i) (option_or (defined i)
+      (if register_count (definitions_in (lines_of text)) == 0 then Some faults.NoRegisters
+      else None))
+
   -- without a register that is their fault
-  pub no_registers : length parts.registers ≡ 0 → HasNoRegisters text
-  no_registers none = record {
-    flawless = flawless;
-    defined = has_here.defined;
-    none = omega (arith, registers_counted);
-  }
+  pub no_registers : length parts.registers ≡ 0 → netlist_fault text ≡ Some faults.NoRegisters
+  no_registers none = by_registers ∙ ap (λ b. if b then Some faults.NoRegisters else None)
+      (eq-eqb (register_count (definitions_in (lines_of text))) 0
+      (omega (arith, registers_counted)))
 
   module _ (some : 0 < length parts.registers) (outputs : List ℕ)
       (same : outputs ≡ parts.outputs.keys) where
@@ -61,9 +73,9 @@ module _ (text : List ℕ) (names : List (List ℕ)) (parts : CircuitParts)
         → circuit.registers ≡ parts.registers → circuit.outputs ≡ outputs
         → DenotesCircuit text circuit
     parts_denoted circuit signals registers outputs_here = record {
-      flawless = flawless;
-      defined = has_here.defined;
-      some_register = omega (arith, registers_counted);
+      flawless = by_registers ∙ ap (λ b. if b then Some faults.NoRegisters else None)
+          (ne_eqb (register_count (definitions_in (lines_of text))) 0
+          (λ zero. omega (arith, zero, registers_counted)));
       signals = signals ∙ has_here.signals_are;
       registers = registers ∙ has_here.registers_are ∙ ap registers_of has_here.signals_are;
       outputs = outputs_here ∙ same ∙ has_here.outputs_are;
@@ -75,23 +87,23 @@ pub denoted_hostless : (text : List ℕ) (circuit : Circuit) → DenotesCircuit 
 denoted_hostless text circuit denoted =
     rw denoted.signals (has_host-lines (names_in text) (lines_of text))
 
--- what the first walk refuses is the fault of the text
-pub line_refused : (text : List ℕ) (fault : BenchFault) → RefusesLine text fault
-    → RefusesNetlist text fault
-line_refused text (faults.Undefined number) refused = absurd refused
-line_refused text (faults.CombLoop names) refused = absurd refused
-line_refused text faults.NoRegisters refused = absurd refused
-line_refused text (faults.BadLine number) refused = refused
-line_refused text (faults.UnknownKind number) refused = refused
-line_refused text (faults.WrongInputs number) refused = refused
-line_refused text (faults.SignalTwice number) refused = refused
-line_refused text (faults.TooLarge number which) refused = refused
-line_refused text faults.NoMemory refused = refused
+module _ (text : List ℕ) (fault : BenchFault) where
+  -- the fault of a text, by that of a line and by that of a use
+  abbrev by_faults : (line used : Option BenchFault) → Option BenchFault
+  by_faults line used = option_or line (option_or used
+      (if register_count (definitions_in (lines_of text)) == 0 then Some faults.NoRegisters
+      else None))
 
--- and so is what the second walk refuses
-pub use_refused : (text : List ℕ) (fault : BenchFault) → AreFlawless (lines_of text)
-    → RefusesUse text fault → RefusesNetlist text fault
-use_refused text (faults.Undefined number) flawless first =
-    record { flawless = flawless; first = first }
-use_refused text faults.NoMemory flawless first = tt
-use_refused text _ flawless refused = absurd refused
+  -- what the walk over the lines refuses is the fault of the text
+  pub line_refused : IsFaultOf faults.NoMemory (first_fault fault_of text) fault
+      → IsFaultOf faults.NoMemory (netlist_fault text) fault
+  line_refused (inl found) =
+      inl (ap (λ it. by_faults it (first_fault (use_fault (names_in text)) text)) found)
+  line_refused (inr memory) = inr memory
+
+  -- and so is what the walk over uses refuses
+  pub use_refused : first_fault fault_of text ≡ None
+      → IsFaultOf faults.NoMemory (first_fault (use_fault (names_in text)) text) fault
+      → IsFaultOf faults.NoMemory (netlist_fault text) fault
+  use_refused flawless (inl found) = inl (λ i. by_faults (flawless i) (found i))
+  use_refused flawless (inr memory) = inr memory

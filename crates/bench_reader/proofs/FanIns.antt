@@ -5,9 +5,8 @@ use Rattle.std.proofs.lemmas.List.Elements.{All-push}
 use Rattle.cts_model.specs.netlist.Netlists.{number_of}
 use Rattle.cts_model.specs.netlist.Statements.{Statement, uses_of}
 use Rattle.cts_model.proofs.RegisterLists.{filter_map_push_some}
-use Rattle.bench_reader.specs.LineFaults.{IsUseFault, MissesName}
-use Rattle.bench_reader.specs.declared.use_fault.UseFault.{UseFault}
-use Rattle.bench_reader.specs.declared.use_fault.UseFault.TheVariants as use_fault
+use Rattle.bench_reader.specs.declared.fault.BenchFault.{BenchFault}
+use Rattle.bench_reader.specs.Uses.{IsUseFault}
 
 -- the name has a number
 abbrev IsNumbered : List (List ℕ) → List ℕ → Type 0
@@ -48,8 +47,8 @@ module _ {names used left : List (List ℕ)} {numbers : List ℕ}
   all_numbered = subst (All (IsNumbered names)) whole before.defined
 
 -- whoever misses a name that a statement uses refuses the statement
-pub misses_use : (names used : List (List ℕ)) (statement : Statement) (fault : UseFault)
-    → uses_of statement ≡ used → MissesName names used fault → IsUseFault names statement fault
-misses_use names used statement use_fault.Undefined is misses = λ uses.
-    misses (subst (All (λ name. IsSome (number_of names name))) is uses)
-misses_use names used statement use_fault.NoMemory is misses = tt
+pub misses_use : (number : ℕ) (names used : List (List ℕ)) (statement : Statement)
+    (fault : BenchFault) → uses_of statement ≡ used → IsUseFault number names used fault
+    → IsUseFault number names (uses_of statement) fault
+misses_use number names used statement fault is misses =
+    subst (λ names_used. IsUseFault number names names_used fault) (sym is) misses

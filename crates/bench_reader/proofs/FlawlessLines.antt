@@ -1,10 +1,14 @@
--- What a line without a flaw says.
-use Rattle.std.proofs.Common.{◌≡◌, ℕ, Bool, true, false, not, if◌then◌else◌, List, Option, Some, None, refl}
+-- What a line without a fault says.
+use Rattle.std.proofs.Common.{◌≡◌, ◌+◌, ℕ, length, Bool, true, false, not, if◌then◌else◌, List, Option, Some, None, refl}
 use Rattle.std.specs.Option.{option_map, option_and_then, option_map_or}
 use Rattle.std.specs.List.{list_all}
 use Rattle.cts_model.specs.text.Names.{is_short}
 use Rattle.cts_model.specs.netlist.Statements.{Statement, Definition, statement_of, definition_of, names_of}
-use Rattle.cts_model.specs.netlist.Flaws.{Limit, Name, BadLine, UnknownKind, WrongInputs, SignalTwice, TooLarge, definitions_in, has_kind, has_valid_inputs, is_defined_before, definition_excess, statement_flaw, flaw_of}
+use Rattle.cts_model.specs.netlist.Definitions.{definitions_in}
+use Rattle.bench_reader.specs.Faults.{has_kind, has_valid_inputs, is_defined_before, definition_excess, fault_of, statement_fault}
+use Rattle.bench_reader.specs.declared.fault.Which.TheVariants.{Name}
+use Rattle.bench_reader.specs.declared.fault.Which.{Which}
+use Rattle.bench_reader.specs.declared.fault.BenchFault.TheVariants.{BadLine, UnknownKind, WrongInputs, SignalTwice, TooLarge}
 
 -- nothing is wrong with a statement after these definitions
 pub record IsSound (earlier : List Definition) (statement : Statement) : Type 0 where
@@ -20,42 +24,43 @@ pub record IsSoundLine (earlier : List (List ℕ)) (line : List ℕ) : Type 0 wh
   pub form : statement_of line ≡ Some statement
   pub sound : IsSound (definitions_in earlier) statement
 
--- a statement without a flaw
-sound_statement : (earlier : List Definition) (statement : Statement)
-    → statement_flaw earlier statement ≡ None → IsSound earlier statement
-sound_statement earlier statement =
+-- a statement without a fault
+sound_statement : (number : ℕ) (earlier : List Definition) (statement : Statement)
+    → statement_fault number earlier statement ≡ None → IsSound earlier statement
+sound_statement number earlier statement =
     at (has_kind statement) (option_map_or has_valid_inputs (definition_of statement) true)
     (option_map_or (is_defined_before earlier) (definition_of statement) false)
     (list_all is_short (names_of statement))
     (option_and_then (definition_excess earlier) (definition_of statement)) refl refl refl refl refl
   where
-    at : (kind inputs twice short : Bool) (excess : Option Limit) → has_kind statement ≡ kind
+    at : (kind inputs twice short : Bool) (excess : Option Which) → has_kind statement ≡ kind
         → option_map_or has_valid_inputs (definition_of statement) true ≡ inputs
         → option_map_or (is_defined_before earlier) (definition_of statement) false ≡ twice
         → list_all is_short (names_of statement) ≡ short
         → option_and_then (definition_excess earlier) (definition_of statement) ≡ excess
-        → (if not kind then Some UnknownKind else if not inputs then Some WrongInputs else if twice
-        then Some SignalTwice else option_map TooLarge (if short then excess else Some Name)) ≡ None
+        → (if not kind then Some (UnknownKind number) else if not inputs then Some (WrongInputs number) else if twice
+        then Some (SignalTwice number) else option_map (TooLarge number) (if short then excess else Some Name)) ≡ None
         → IsSound earlier statement
     at false inputs twice short excess k i t s e none = cc none
     at true false twice short excess k i t s e none = cc none
     at true true true short excess k i t s e none = cc none
     at true true false false excess k i t s e none = cc none
-    at true true false true (Some limit) k i t s e none = cc none
+    at true true false true (Some which) k i t s e none = cc none
     at true true false true None k i t s e none =
         record { kind = k; inputs = i; once = t; short = s; within = e }
 
--- a line without a flaw
-pub sound_line : (earlier : List (List ℕ)) (line : List ℕ) → flaw_of earlier line ≡ None
+-- a line without a fault
+pub sound_line : (earlier : List (List ℕ)) (line : List ℕ) → fault_of earlier line ≡ None
     → IsSoundLine earlier line
 sound_line earlier line = at (statement_of line) refl
   where
     at : (o : Option Statement) → statement_of line ≡ o
-        → option_map_or (statement_flaw (definitions_in earlier)) o (Some BadLine) ≡ None
+        → option_map_or (statement_fault (length earlier + 1) (definitions_in earlier)) o
+        (Some (BadLine (length earlier + 1))) ≡ None
         → IsSoundLine earlier line
     at None form none = cc none
     at (Some statement) form none = record {
       statement = statement;
       form = form;
-      sound = sound_statement (definitions_in earlier) statement none;
+      sound = sound_statement (length earlier + 1) (definitions_in earlier) statement none;
     }

@@ -12,7 +12,7 @@ use Rattle.cts_model.specs.declared.kind.Kind.TheVariants.{And, Nand, Or, Nor, N
 use Rattle.cts_model.specs.netlist.Kinds.{is_host, kind_of}
 use Rattle.cts_model.specs.netlist.Circuits.{has_host}
 use Rattle.cts_model.specs.netlist.Statements.{Statement, Blank, Input, Output, Assign, Definition, definition_of}
-use Rattle.cts_model.specs.netlist.Flaws.{statements_in, definitions_in}
+use Rattle.cts_model.specs.netlist.Definitions.{statements_in, definitions_in}
 use Rattle.cts_model.specs.netlist.Netlists.{signal_of}
 use Rattle.bench_reader.proofs.Lists.{All-filter_map}
 

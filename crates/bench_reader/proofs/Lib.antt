@@ -1,7 +1,6 @@
 mod AddedParts
 mod DefiningLines
 mod SaidLemmas
-mod DefinitionWalk
 mod FanIns
 mod FlawlessLines
 mod Hostless
@@ -19,4 +18,5 @@ mod SignalNames
 mod StatementNames
 mod DenotedCircuits
 mod TokenLemmas
+mod UseFaults
 pub mod OneFault

@@ -3,7 +3,7 @@ use Rattle.std.proofs.Common.{◌≡◌, ℕ, List, [], ◌∷◌, ◌++◌, Som
 use Rattle.std.specs.List.{filter_map, cons_option}
 use Rattle.std.proofs.lemmas.List.Elements.{All-contains, filter_map-append, Contains-append_right, Contains-get_or}
 use Rattle.cts_model.specs.netlist.Statements.{Statement, Definition, statement_of, definition_of}
-use Rattle.cts_model.specs.netlist.Flaws.{statements_in, definitions_in}
+use Rattle.cts_model.specs.netlist.Definitions.{statements_in, definitions_in}
 use Rattle.cts_model.proofs.RegisterLists.{filter_map_push_none, filter_map_push_some}
 
 module _ (earlier : List (List ℕ)) (line : List ℕ) {statement : Statement} where

@@ -13,11 +13,12 @@ use Rattle.cts_model.specs.declared.kind.Kind.{Kind}
 use Rattle.cts_model.specs.netlist.Kinds.{is_register, is_gate, is_host, is_valid, kind_of}
 use Rattle.cts_model.specs.netlist.Circuits.{IsCircuit, is_named, register_number, registers_of, gate_inputs}
 use Rattle.cts_model.specs.netlist.Statements.{Statement, Blank, Input, Output, Assign, Definition, definition_of}
-use Rattle.cts_model.specs.netlist.Flaws.{defined_names, register_count, gate_inputs_of, gate_input_count}
-use Rattle.cts_model.specs.netlist.Netlists.{UsesDefined, number_of, signal_of, first_mentions}
+use Rattle.cts_model.specs.netlist.Definitions.{defined_names, register_count, gate_inputs_of, gate_input_count}
+use Rattle.cts_model.specs.netlist.Netlists.{number_of, signal_of, first_mentions}
 use Rattle.bench_reader.proofs.Lists.{All-filter_map, length-filter_map, AllPairs-map, AllPairs-cons}
 use Rattle.bench_reader.proofs.ValidDefinitions.{AreValid}
 use Rattle.bench_reader.proofs.Hostless.{IsHostless, no_host}
+use Rattle.bench_reader.specs.Uses.{UsesDefined}
 
 -- a name's number is below the count of the names
 number_within : (names : List (List ℕ)) (name : List ℕ)

@@ -1,23 +1,28 @@
 -- The walk that takes in what each line says, where the names of all lines are known.
-use Rattle.std.proofs.Common.{◌≡◌, ℕ, suc, ◌+◌, ◌<◌, ◌≤◌, true, drop, get_or, List, [], ◌∷◌, ◌++◌, length, Some, ap, refl, sym, ◌∙◌, subst, arith, length-append, append_assoc}
+use Rattle.std.proofs.Common.{◌≡◌, ℕ, suc, ◌+◌, ◌<◌, ◌≤◌, true, drop, get_or, List, [], ◌∷◌, ◌++◌, length, Some, None, ap, refl, sym, ◌∙◌, subst, arith, length-append, append_assoc}
 use Rattle.std.specs.List.{filter_map}
 use Rattle.std.proofs.Math.Seq.{drop-cons}
 use Rattle.std.proofs.lemmas.List.{get_or-map, length-map, length_push}
 use Rattle.std.proofs.lemmas.List.Elements.{filter_map-append}
+use Rattle.cts_base.specs.LineFormats.{first_fault, first_fault_after}
 use Rattle.cts_base.specs.Lines.{lines_of}
+use Rattle.cts_base.proofs.LineFaults.{flawless_at}
 use Rattle.cts_model.specs.netlist.Statements.{Statement, statement_of, definition_of}
-use Rattle.cts_model.specs.netlist.Flaws.{statements_in, definitions_in, has_kind}
-use Rattle.cts_model.specs.netlist.Netlists.{AreDefined, UsesDefined, signal_of}
+use Rattle.cts_model.specs.netlist.Definitions.{statements_in, definitions_in}
+use Rattle.cts_model.specs.netlist.Netlists.{signal_of}
 use Rattle.bench_reader.specs.declared.circuit_parts.CircuitParts.{CircuitParts}
+use Rattle.bench_reader.specs.declared.fault.BenchFault.TheVariants.{Undefined}
 use Rattle.bench_reader.specs.declared.said.Said.{Said}
-use Rattle.bench_reader.specs.Lines.{IsFirstUndefined, UsesUndefined}
 use Rattle.bench_reader.specs.Said.{IsReading, kept_of, said_in}
 use Rattle.bench_reader.specs.Taken.{HasParts}
 use Rattle.bench_reader.specs.View.{said_by}
 use Rattle.bench_reader.proofs.AddedParts.{silents_denoted}
 use Rattle.bench_reader.proofs.FlawlessLines.{sound_line}
 use Rattle.bench_reader.proofs.SaidLemmas.{IsNextSaid, all_silent, next_said}
+use Rattle.bench_reader.proofs.UseFaults.{undefined_first}
 use Rattle.bench_reader.proofs.ValidDefinitions.{valid_lines}
+use Rattle.bench_reader.specs.Faults.{fault_of, has_kind, use_fault}
+use Rattle.bench_reader.specs.Uses.{UsesDefined}
 
 -- this is what the lines so far tell, and this is left of what lines say
 pub record DenotesPassed (text : List ℕ) (names : List (List ℕ)) (left : List (ℕ × Statement))
@@ -116,7 +121,8 @@ module _ {text : List ℕ} {names : List (List ℕ)} {said : List Said}
       pub has_kind_next : has_kind statement ≡ true
       has_kind_next =
           let sound = sound_line earlier next.line
-          (reading.flawless.each earlier next.line next.later parted) in
+          (flawless_at fault_of [] earlier next.line next.later
+          (subst (λ lines. first_fault_after fault_of [] lines ≡ None) parted reading.flawless)) in
           let same : sound.statement ≡ statement = cc (sound.form, next.says) in
           subst (λ s. has_kind s ≡ true) same sound.sound.kind
 
@@ -134,12 +140,10 @@ module _ {text : List ℕ} {names : List (List ℕ)} {said : List Said}
       }
 
       -- a refusal
-      pub undefined_next : (UsesDefined names statement → ⊥) → IsFirstUndefined text number
-      undefined_next refuses = record {
-        earlier = earlier;
-        line = next.line;
-        place = record { later = next.later; split = parted; number_is = number_is };
-        defined = subst (λ n. AreDefined n earlier) reading.names_are has_earlier.defined;
-        refused = subst (λ n. UsesUndefined n next.line) reading.names_are
-            (record { statement = statement; form = next.says; undefined = refuses });
-      }
+      pub undefined_next : (UsesDefined names statement → ⊥)
+          → first_fault (use_fault names) text ≡ Some (Undefined number)
+      undefined_next refuses =
+          ap (first_fault_after (use_fault names) []) parted
+          ∙ undefined_first names earlier next.line next.later statement next.says
+          has_earlier.defined refuses
+          ∙ ap (λ n. Some (Undefined n)) (sym number_is)

@@ -5,7 +5,7 @@ use Rattle.std.specs.List.{slice_get}
 use Rattle.std.proofs.lemmas.Option.{slice_get-get_or}
 use Rattle.std.proofs.lemmas.List.{take_more, map_push}
 use Rattle.cts_model.specs.declared.signal.Signal.{Signal}
-use Rattle.bench_reader.specs.Refusals.{names_of_signals}
+use Rattle.bench_reader.specs.Netlists.{names_of_signals}
 
 module _ (signals : List Signal) (numbers : List ℕ) where
   -- the name of the signal of a number

@@ -1,19 +1,22 @@
--- What the definitions of lines without a flaw keep.
-use Rattle.std.proofs.Common.{◌≡◌, ◌≢◌, ℕ, ◌≤◌, ◌<◌, Bool, true, false, nat_le, nat_lt, if◌then◌else◌, ◌&&◌, List, [], ◌∷◌, ◌++◌, length, Option, Some, None, All, AllPairs, Contains, IsTrue, refl, sym, ◌∙◌, subst, arith, append_assoc, append-nil}
+-- What the definitions of lines without a fault keep.
+use Rattle.std.proofs.Common.{◌≡◌, ◌≢◌, ℕ, ◌≤◌, ◌<◌, Bool, true, false, nat_le, nat_lt, if◌then◌else◌, ◌&&◌, List, [], ◌∷◌, ◌++◌, length, Option, Some, None, All, AllPairs, Contains, IsTrue, refl, ◌∙◌, subst, arith, append_assoc, append-nil}
 use Rattle.std.specs.Option.{option_map_or, option_and_then}
 use Rattle.std.proofs.lemmas.Bool.Decides.{nat_tests}
 use Rattle.std.proofs.lemmas.List.{length_push, length-map, get_or-map}
 use Rattle.std.proofs.lemmas.List.Elements.{All-nil, All-push, Contains-get_or}
 use Rattle.std.proofs.lemmas.List.Quantifiers.{all_pairs_push}
+use Rattle.cts_base.specs.LineFormats.{first_fault_after}
+use Rattle.cts_base.proofs.LineFaults.{neither}
 use Rattle.cts_model.specs.text.Names.{is_name, is_short}
 use Rattle.cts_model.specs.netlist.Kinds.{is_valid}
 use Rattle.cts_model.specs.netlist.Statements.{Definition, definition_of}
-use Rattle.cts_model.specs.netlist.Flaws.{Signals, Registers, Inputs, definitions_in, defined_names, register_count, gate_input_count, has_valid_inputs, is_defined_before, definition_excess, flaw_of}
-use Rattle.cts_model.specs.netlist.Netlists.{AreFlawless}
+use Rattle.cts_model.specs.netlist.Definitions.{definitions_in, defined_names, register_count, gate_input_count}
 use Rattle.bench_reader.proofs.LineStatements.{definitions_push_some, definitions_push_none}
 use Rattle.bench_reader.proofs.FlawlessLines.{IsSoundLine, sound_line}
 use Rattle.bench_reader.proofs.StatementNames.{defined_name}
 use Rattle.bench_reader.proofs.Keys.{absent_from_any}
+use Rattle.bench_reader.specs.Faults.{has_valid_inputs, is_defined_before, definition_excess, fault_of}
+use Rattle.bench_reader.specs.declared.fault.Which.TheVariants.{Signals, Registers, Inputs}
 
 -- a name that is short enough
 abbrev pub HasName : List ℕ → Type 0
@@ -113,19 +116,18 @@ valid_line earlier line before here =
         }))
 
 -- and more lines
-valid_after : (prefix rest : List (List ℕ))
-    → ((earlier : List (List ℕ)) (line : List ℕ) (later : List (List ℕ))
-    → prefix ++ rest ≡ earlier ++ line ∷ later → flaw_of earlier line ≡ None)
+valid_after : (prefix rest : List (List ℕ)) → first_fault_after fault_of prefix rest ≡ None
     → AreValid (definitions_in prefix) → AreValid (definitions_in (prefix ++ rest))
-valid_after prefix [] each before = rw append-nil before
-valid_after prefix (line ∷ rest) each before =
+valid_after prefix [] none before = rw append-nil before
+valid_after prefix (line ∷ rest) none before =
     let parts : (prefix ++ line ∷ []) ++ rest ≡ prefix ++ line ∷ rest =
     append_assoc prefix (line ∷ []) rest in
+    let (here, later) = neither (fault_of prefix line) _ none in
     rw (← parts)
-    (valid_after (prefix ++ line ∷ []) rest
-    (λ earlier next later split. each earlier next later (sym parts ∙ split))
-    (valid_line prefix line before (sound_line prefix line (each prefix line rest refl))))
+    (valid_after (prefix ++ line ∷ []) rest later
+    (valid_line prefix line before (sound_line prefix line here)))
 
--- lines without a flaw define what a netlist may have
-pub valid_lines : (lines : List (List ℕ)) → AreFlawless lines → AreValid (definitions_in lines)
-valid_lines lines flawless = valid_after [] lines flawless.each none_valid
+-- lines without a fault define what a netlist may have
+pub valid_lines : (lines : List (List ℕ)) → first_fault_after fault_of [] lines ≡ None
+    → AreValid (definitions_in lines)
+valid_lines lines flawless = valid_after [] lines flawless none_valid

@@ -1,8 +1,8 @@
+pub mod Faults
 pub mod Inputs
-pub mod LineFaults
-pub mod Lines
-pub mod Refusals
+pub mod Netlists
 pub mod Said
 pub mod Taken
 pub mod Tallies
+pub mod Uses
 pub mod View

@@ -3,11 +3,15 @@
 use Rattle.std.specs.Prelude.{◌≡◌, ◌+◌, ℕ, List, [], ◌∷◌, map, Option, Some, None}
 use Rattle.std.specs.Option.{option_map}
 use Rattle.std.specs.List.{cons_option}
+use Rattle.cts_base.specs.LineFormats.{first_fault}
 use Rattle.cts_base.specs.Lines.{lines_of}
-use Rattle.cts_model.specs.netlist.Netlists.{AreFlawless, names_in}
+use Rattle.cts_model.specs.netlist.Netlists.{names_in}
 use Rattle.cts_model.specs.netlist.Statements.{Blank, statement_of}
 use Rattle.cts_model.specs.netlist.Statements as formats
+use Rattle.bench_reader.specs.declared.definitions.Definitions.{Definitions}
 use Rattle.bench_reader.specs.declared.said.Said.{Said}
+use Rattle.bench_reader.specs.Faults.{fault_of}
+use Rattle.bench_reader.specs.Taken.{HasDefinitions}
 use Rattle.bench_reader.specs.View.{said_by}
 
 -- a statement, unless it says nothing
@@ -31,8 +35,14 @@ said_in number (line ∷ lines) =
 abbrev pub kept_of : List Said → List (ℕ × formats.Statement)
 kept_of said = map (λ one. (one.number, said_by one.statement)) said
 
--- no line of the text has a flaw, these are the names that it defines, and this is what it says
+-- no line of the text has a fault, these are the names that it defines, and this is what it says
 pub record IsReading (text : List ℕ) (names : List (List ℕ)) (said : List Said) : Type 0 where
-  pub flawless : AreFlawless (lines_of text)
+  pub flawless : first_fault fault_of text ≡ None
   pub names_are : names ≡ names_in text
   pub said_are : kept_of said ≡ said_in 1 (lines_of text)
+
+-- these are the definitions of the lines so far, and this is what they say
+pub record HasRead (definitions : Definitions) (said : List Said) (lines : List (List ℕ))
+    : Type 0 where
+  pub has : HasDefinitions definitions lines
+  pub said_are : kept_of said ≡ said_in 1 lines

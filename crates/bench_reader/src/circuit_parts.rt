@@ -1,22 +1,23 @@
-ghost use Rattle.std.specs.Prelude.{◌≡◌, ◌≤◌, List, ℕ, Some, true, [], ◌∷◌, ◌++◌, length, IfOk, IfErr, OnOk, IsSome, IsSomeAnd, All, nat_eq};
+ghost use Rattle.std.specs.Prelude.{◌≡◌, ◌≤◌, List, ℕ, Some, true, [], ◌∷◌, ◌++◌, length, IfOk, IfErr, OnOk, IsSomeAnd, nat_eq};
 ghost use Rattle.std.specs.List.{filter_map};
+ghost use Rattle.cts_base.specs.LineFormats.{IsFaultOf, first_fault};
 ghost use Rattle.cts_base.specs.Lines.{lines_of};
 ghost use Rattle.cts_model.specs.netlist.Circuits.{registers_of};
-ghost use Rattle.cts_model.specs.netlist.Flaws.{has_kind};
 ghost use Rattle.cts_model.specs.netlist.Netlists.{number_of};
-ghost use Rattle.cts_model.specs.netlist.Statements.{statement_of};
+ghost use Rattle.cts_model.specs.netlist.Statements.{statement_of, uses_of};
 ghost use Rattle.indexmap.specs.IndexSet.{insert_key};
-ghost use Rattle.bench_reader.specs.LineFaults.{MissesName, IsUseFault, RefusesUse};
+ghost use Rattle.bench_reader.specs.declared.fault.BenchFault.{BenchFault};
+ghost use Rattle.bench_reader.specs.Faults.{has_kind, use_fault};
 ghost use Rattle.bench_reader.specs.Taken.{HasParts};
+ghost use Rattle.bench_reader.specs.Uses.{AreNumbered, IsUseFault};
 ghost use Rattle.bench_reader.specs.View.{said_by};
 
 use crate::BenchFault;
 use crate::input_list::InputList;
 use crate::kinds::kind_of;
 use crate::names::Names;
-use crate::said::Reading;
+use crate::said::{Reading, Said};
 use crate::statement::Statement;
-use crate::use_fault::UseFault;
 use cts_base::{Listed, NoMemory};
 use cts_model::{FanIn, Kind, Signal};
 use indexmap::IndexSet;
@@ -44,27 +45,28 @@ impl CircuitParts {
     }
 
     // Takes in what a line says.
-    fn add(&mut self, alloc: Global, names: &Names, statement: &Statement) -> Result<(), UseFault>
-        requires kind { has_kind (said_by statement.now) ≡ true }
+    fn add(&mut self, alloc: Global, names: &Names, said: &Said) -> Result<(), BenchFault>
+        requires kind { has_kind (said_by said.now.statement) ≡ true }
         requires few { length self.old.signals ≤ 65536 }
         ensures denoted { OnOk result ((earlier : List (List ℕ)) (line : List ℕ)
-            → statement_of line ≡ Some (said_by statement.now)
+            → statement_of line ≡ Some (said_by said.now.statement)
             → HasParts names.now self.old earlier
             → HasParts names.now self.new (earlier ++ line ∷ [])) }
-        ensures refused { IfErr result (IsUseFault names.now (said_by statement.now)) }
+        ensures refused { IfErr result
+            (IsUseFault said.now.number names.now (uses_of (said_by said.now.statement))) }
     {
-        match statement {
+        match &said.statement {
             Statement::Blank => Ok(()),
             Statement::Input(name) => {
                 self.add_signal(alloc, name, Kind::Input, FanIn::new(alloc))?;
                 Ok(())
             }
             Statement::Output(name) => {
-                self.add_output(names, name)?;
+                self.add_output(names, name, said.number)?;
                 Ok(())
             }
             Statement::Assign { name, word, inputs } => {
-                let fan_in = fan_in(alloc, names, inputs)?;
+                let fan_in = fan_in(alloc, names, inputs, said.number)?;
                 self.add_signal(alloc, name, kind_of(word).unwrap(), fan_in)?;
                 Ok(())
             }
@@ -96,36 +98,41 @@ impl CircuitParts {
         }
     }
 
-    // Takes in that a name is mentioned as a primary output.
-    fn add_output(&mut self, names: &Names, name: &[u8]) -> Result<(), UseFault>
+    // Takes in that the line of this number mentions a name as a primary output.
+    fn add_output(&mut self, names: &Names, name: &[u8], number: u32) -> Result<(), BenchFault>
         ensures signals { OnOk result (self.new.signals ≡ self.old.signals) }
         ensures registers { OnOk result (self.new.registers ≡ self.old.registers) }
         ensures outputs { OnOk result (IsSomeAnd (number_of names.now name.now)
-            (λ number. self.new.outputs.keys ≡ insert_key nat_eq self.old.outputs.keys number)) }
-        ensures refused { IfErr result (MissesName names.now (name.now ∷ [])) }
+            (λ signal. self.new.outputs.keys ≡ insert_key nat_eq self.old.outputs.keys signal)) }
+        ensures refused { IfErr result (IsUseFault number names.now (name.now ∷ [])) }
     {
-        let Some(number) = names.number_of(name) else {
-            return Err(UseFault::Undefined);
+        let Some(signal) = names.number_of(name) else {
+            return Err(BenchFault::Undefined(number));
         };
-        self.outputs.insert(number)?;
+        self.outputs.insert(signal)?;
         Ok(())
     }
 }
 
-// The numbers of the names that a signal reads.
-fn fan_in(alloc: Global, names: &Names, inputs: &InputList) -> Result<FanIn, UseFault>
+// The numbers of the names that a signal reads, which the line of this number defines.
+fn fan_in(
+    alloc: Global,
+    names: &Names,
+    inputs: &InputList,
+    number: u32,
+) -> Result<FanIn, BenchFault>
     ensures numbers { IfOk result (λ fan_in. fan_in ≡ filter_map (number_of names.now) inputs.now) }
-    ensures defined { OnOk result (All (λ name. IsSome (number_of names.now name)) inputs.now) }
-    ensures refused { IfErr result (MissesName names.now inputs.now) }
+    ensures defined { OnOk result (AreNumbered names.now inputs.now) }
+    ensures refused { IfErr result (IsUseFault number names.now inputs.now) }
 {
-    let mut numbers = FanIn::new(alloc);
+    let mut fan_in = FanIn::new(alloc);
     for name in inputs.names() {
-        let Some(number) = names.number_of(name) else {
-            return Err(UseFault::Undefined);
+        let Some(signal) = names.number_of(name) else {
+            return Err(BenchFault::Undefined(number));
         };
-        numbers.push(number)?;
+        fan_in.push(signal)?;
     }
-    Ok(numbers)
+    Ok(fan_in)
 }
 
 /// The parts of the circuit that a netlist tells, or the first line that uses a name which none
@@ -133,16 +140,12 @@ fn fan_in(alloc: Global, names: &Names, inputs: &InputList) -> Result<FanIn, Use
 pub(crate) fn read_parts(alloc: Global, reading: &Reading) -> Result<CircuitParts, BenchFault>
     ensures denoted { IfOk result (λ parts.
         HasParts reading.now.names parts (lines_of reading.now.text.now)) }
-    ensures refused { IfErr result (RefusesUse reading.now.text.now) }
+    ensures refused { IfErr result (IsFaultOf BenchFault.NoMemory
+        (first_fault (use_fault reading.now.names) reading.now.text.now)) }
 {
     let mut parts = CircuitParts::new(alloc);
     for place in 0..reading.said.len() {
-        let said = &reading.said[place];
-        match parts.add(alloc, &reading.names, &said.statement) {
-            Ok(()) => {}
-            Err(UseFault::Undefined) => return Err(BenchFault::Undefined(said.number)),
-            Err(UseFault::NoMemory) => return Err(BenchFault::NoMemory),
-        }
+        parts.add(alloc, &reading.names, &reading.said[place])?;
     }
     Ok(parts)
 }

@@ -1,20 +1,16 @@
-ghost use Rattle.std.specs.Prelude.{◌≡◌, ◌≤◌, List, ℕ, [], ◌∷◌, ◌++◌, false, None, Some, OnOk, MatchResult, if◌then◌else◌};
-ghost use Rattle.std.specs.Option.{option_map};
-ghost use Rattle.std.specs.List.{list_any};
-ghost use Rattle.std.specs.Str.{bytes_eq};
+ghost use Rattle.std.specs.Prelude.{◌≡◌, ◌≤◌, ◌+◌, List, ℕ, [], ◌∷◌, ◌++◌, None, Some, length, MatchResult, if◌then◌else◌};
+ghost use Rattle.cts_base.specs.LineFormats.{IsFaultOf};
 ghost use Rattle.cts_model.specs.netlist.Kinds.{is_register, is_gate};
-ghost use Rattle.cts_model.specs.netlist.Flaws.{Name, flaw_of};
 ghost use Rattle.cts_model.specs.netlist.Statements.{statement_of};
-ghost use Rattle.bench_reader.specs.Refusals.{limit_of};
-ghost use Rattle.bench_reader.specs.LineFaults.{IsFaultOf, IsLineFault};
+ghost use Rattle.bench_reader.specs.Faults.{fault_of};
+ghost use Rattle.bench_reader.specs.declared.fault.BenchFault.{BenchFault};
+ghost use Rattle.bench_reader.specs.declared.fault.Which.{Which};
 ghost use Rattle.bench_reader.specs.View.{said_by};
 
-use crate::Which;
 use crate::kinds::{kind_of, may_have};
-use crate::line_fault::LineFault;
 use crate::names::Names;
 use crate::statement::Statement;
-use cts_base::NoMemory;
+use crate::{BenchFault, Which};
 use cts_model::Kind;
 use std::alloc::Global;
 
@@ -35,7 +31,7 @@ pub(crate) struct Definitions<'a> {
 }
 
 impl<'a> Definitions<'a> {
-    ghost use Rattle.bench_reader.specs.Taken.{HasDefinitions, Adds, excess_after, flaw_after};
+    ghost use Rattle.bench_reader.specs.Taken.{HasDefinitions, Adds, excess_after, fault_after};
 
     /// No definitions yet. It takes no memory.
     pub(crate) fn new(alloc: Global) -> Definitions<'a>
@@ -48,30 +44,31 @@ impl<'a> Definitions<'a> {
         }
     }
 
-    /// Takes in what a statement defines, if nothing is wrong with it.
-    pub(crate) fn add(&mut self, statement: &Statement<'a>) -> Result<(), LineFault>
+    /// Takes in what the statement of the line of this number defines, if nothing is wrong with it.
+    pub(crate) fn add(&mut self, statement: &Statement<'a>, number: u32) -> Result<(), BenchFault>
         ensures { (earlier : List (List ℕ)) (line : List ℕ)
             → statement_of line ≡ Some (said_by statement.now) → HasDefinitions self.old earlier
+            → number ≡ length earlier + 1
             → MatchResult result
-            (λ _. (flaw_of earlier line ≡ None)
+            (λ _. (fault_of earlier line ≡ None)
             × HasDefinitions self.new (earlier ++ line ∷ []))
-            (IsLineFault earlier line) }
+            (IsFaultOf BenchFault.NoMemory (fault_of earlier line)) }
     {
         let short = statement.has_short_names();
         match statement {
             Statement::Blank => Ok(()),
             Statement::Output(_) if short => Ok(()),
-            Statement::Output(_) => Err(LineFault::TooLarge(Which::Name)),
-            Statement::Input(name) => self.define(name, Kind::Input, 0, short),
+            Statement::Output(_) => Err(BenchFault::TooLarge(number, Which::Name)),
+            Statement::Input(name) => self.define(number, name, Kind::Input, 0, short),
             Statement::Assign { name, word, inputs } => {
                 let Some(kind) = kind_of(word) else {
-                    return Err(LineFault::UnknownKind);
+                    return Err(BenchFault::UnknownKind(number));
                 };
                 let count = inputs.len();
                 if !may_have(kind, count) {
-                    return Err(LineFault::WrongInputs);
+                    return Err(BenchFault::WrongInputs(number));
                 }
-                self.define(name, kind, count, short)
+                self.define(number, name, kind, count, short)
             }
         }
     }
@@ -80,25 +77,27 @@ impl<'a> Definitions<'a> {
     // wrong with it.
     fn define(
         &mut self,
+        number: u32,
         name: &'a [u8],
         kind: Kind,
         inputs: usize,
         short: bool,
-    ) -> Result<(), LineFault>
+    ) -> Result<(), BenchFault>
         ensures { MatchResult result
-            (λ _. (flaw_after self.old name.now kind inputs short ≡ None)
+            (λ _. (fault_after number self.old name.now kind inputs short ≡ None)
             × Adds self.old self.new name.now kind inputs)
-            (IsFaultOf (flaw_after self.old name.now kind inputs short)) }
+            (IsFaultOf BenchFault.NoMemory
+            (fault_after number self.old name.now kind inputs short)) }
     {
         if let Some(which) = self.excess(kind, inputs, short) {
             return Err(if self.names.is_defined(name) {
-                LineFault::SignalTwice
+                BenchFault::SignalTwice(number)
             } else {
-                LineFault::TooLarge(which)
+                BenchFault::TooLarge(number, which)
             });
         }
         if !self.names.define(name)? {
-            return Err(LineFault::SignalTwice);
+            return Err(BenchFault::SignalTwice(number));
         }
         self.registers += register_count(kind);
         self.gate_inputs += gate_input_count(kind, inputs);
@@ -107,8 +106,8 @@ impl<'a> Definitions<'a> {
 
     // The first limit that one more definition passes.
     fn excess(&self, kind: Kind, inputs: usize, short: bool) -> Option<Which>
-        ensures { option_map limit_of result
-            ≡ (if short then excess_after self.now kind inputs else Some Name) }
+        ensures { result
+            ≡ (if short then excess_after self.now kind inputs else Some Which.Name) }
     {
         if !short {
             Some(Which::Name)

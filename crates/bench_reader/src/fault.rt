@@ -2,7 +2,7 @@ ghost use Rattle.std.specs.Prelude.{◌≡◌};
 ghost use Rattle.bench_reader.specs.declared.fault.BenchFault.TheVariants as fault;
 
 use cts_base::{Listed, Name, NoMemory};
-use std::alloc::AllocError;
+use std::alloc::{AllocError, AllocFailed};
 
 /// A limit of this project on netlists.
 #[derive(Clone, Copy, Debug, PartialEq, Eq)]
@@ -55,6 +55,14 @@ impl From<AllocError> for BenchFault {
     ghost from_gives = { λ _ given. given ≡ fault.NoMemory };
 
     fn from(_refused: AllocError) -> BenchFault {
+        BenchFault::NoMemory
+    }
+}
+
+impl<T: Drop> From<AllocFailed<T>> for BenchFault {
+    ghost from_gives = { λ _ given. given ≡ fault.NoMemory };
+
+    fn from(_refused: AllocFailed<T>) -> BenchFault {
         BenchFault::NoMemory
     }
 }

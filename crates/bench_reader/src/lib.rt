@@ -6,7 +6,6 @@ mod definitions;
 mod fault;
 mod input_list;
 mod kinds;
-mod line_fault;
 mod names;
 mod read;
 mod reading;
@@ -14,7 +13,6 @@ mod said;
 mod statement;
 mod tally;
 mod token;
-mod use_fault;
 
 pub use fault::{BenchFault, Which};
 pub use read::read_bench;

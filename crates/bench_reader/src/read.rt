@@ -1,13 +1,14 @@
-ghost use Rattle.std.specs.Prelude.{◌≡◌, ◌≤◌, ◌<◌, ◌≢◌, ◌⊎◌, length, All, IfOk, IfErr, IsErrAnd, IsOkUnless};
+ghost use Rattle.std.specs.Prelude.{◌≡◌, ◌≤◌, ◌<◌, ◌⊎◌, length, All, IfOk, IfErr, MatchResult};
+ghost use Rattle.cts_base.specs.LineFormats.{IsFaultOf};
 ghost use Rattle.cts_model.specs.netlist.Hosts.{HasNoHost};
-ghost use Rattle.cts_model.specs.netlist.Netlists.{IsNetlist, AcceptsNetlist};
 ghost use Rattle.bench_reader.specs.declared.fault.BenchFault.{BenchFault};
-ghost use Rattle.bench_reader.specs.Refusals.{RefusesNetlist, IsSameFault, names_of_signals};
+ghost use Rattle.bench_reader.specs.Faults.{netlist_fault};
+ghost use Rattle.bench_reader.specs.Netlists.{AcceptsNetlist, RefusesNetlist, names_of_signals};
 ghost use Rattle.bench_reader.specs.Taken.{DenotesCircuit};
 
 use crate::BenchFault;
 use crate::circuit_parts::{CircuitParts, read_parts};
-use crate::reading::read_lines;
+use crate::reading::read_statements;
 use cts_base::{Listed, Name, NoMemory};
 use cts_model::Circuit;
 use gate_order::{LevelFault, levels};
@@ -20,25 +21,10 @@ use std::alloc::Global;
 /// The first fault of the text, or `NoMemory` where memory is refused.
 pub fn read_bench(alloc: Global, bytes: &[u8]) -> Result<Circuit, BenchFault>
     requires { length bytes.now ≤ 16777216 }
-    // Ok comes exactly on a netlist, and its circuit is the one that the bytes tell.
-    ensures ok { IfOk result (AcceptsNetlist bytes.now) }
+    // The circuit that the bytes tell, or their fault; memory is free, and which ring is named.
+    ensures told { MatchResult result (AcceptsNetlist bytes.now)
+        (λ fault. RefusesNetlist bytes.now fault ⊎ (fault ≡ BenchFault.NoMemory)) }
     ensures hostless { IfOk result HasNoHost }
-    ensures accepted { IsNetlist bytes.now → IsOkUnless result BenchFault.NoMemory }
-    // A fault comes exactly where the bytes have it; memory alone is free, and which ring is named.
-    ensures refused { IfErr result (RefusesNetlist bytes.now) }
-    ensures faulty { (fault : BenchFault) → fault ≢ BenchFault.NoMemory
-        → RefusesNetlist bytes.now fault
-        → IsErrAnd result (λ found. IsSameFault fault found ⊎ (found ≡ BenchFault.NoMemory)) }
-{
-    circuit_denoted(alloc, bytes)
-}
-
-// The circuit, or the first fault.
-fn circuit_denoted(alloc: Global, bytes: &[u8]) -> Result<Circuit, BenchFault>
-    requires { length bytes.now ≤ 16777216 }
-    ensures ok { IfOk result (AcceptsNetlist bytes.now) }
-    ensures hostless { IfOk result HasNoHost }
-    ensures refused { IfErr result (RefusesNetlist bytes.now) }
 {
     let circuit = circuit_of_lines(alloc, bytes)?;
     match levels(alloc, &circuit) {
@@ -56,9 +42,9 @@ fn circuit_denoted(alloc: Global, bytes: &[u8]) -> Result<Circuit, BenchFault>
 fn circuit_of_lines(alloc: Global, bytes: &[u8]) -> Result<Circuit, BenchFault>
     requires { length bytes.now ≤ 16777216 }
     ensures denoted { IfOk result (DenotesCircuit bytes.now) }
-    ensures refused { IfErr result (RefusesNetlist bytes.now) }
+    ensures refused { IfErr result (IsFaultOf BenchFault.NoMemory (netlist_fault bytes.now)) }
 {
-    let reading = read_lines(alloc, bytes)?;
+    let reading = read_statements(alloc, bytes)?;
     let CircuitParts {
         signals,
         registers,

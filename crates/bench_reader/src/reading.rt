@@ -1,61 +1,79 @@
-ghost use Rattle.std.specs.Prelude.{◌≡◌, ◌≤◌, ◌∷◌, ◌++◌, [], ℕ, List, None, IfErr, IfOk, MatchResult, OnOk, length};
-ghost use Rattle.std.specs.Option.{option_to_list};
-ghost use Rattle.cts_model.specs.netlist.Flaws.{flaw_of};
-ghost use Rattle.bench_reader.specs.LineFaults.{IsLineFault, RefusesLine};
-ghost use Rattle.bench_reader.specs.Said.{kept_of, numbered_statement};
-ghost use Rattle.bench_reader.specs.Taken.{HasDefinitions};
+ghost use Rattle.std.specs.Prelude.{◌≡◌, ◌≤◌, ◌++◌, IfErr, IfOk, OnOk, Some, length};
+ghost use Rattle.std.specs.Option.{option_map, option_to_list};
+ghost use Rattle.cts_base.specs.LineFormats.{IsFaultOf, first_fault};
+ghost use Rattle.bench_reader.specs.declared.fault.BenchFault.{BenchFault};
+ghost use Rattle.bench_reader.specs.Faults.{fault_of};
+ghost use Rattle.bench_reader.specs.Said.{kept_of, unless_blank};
+ghost use Rattle.bench_reader.specs.View.{said_by};
 
 use crate::BenchFault;
 use crate::definitions::Definitions;
-use crate::line_fault::LineFault;
 use crate::said::{Reading, Said};
 use crate::statement::Statement;
-use cts_base::{Line, lines};
+use cts_base::{Line, LineFormat, read_lines};
 use std::alloc::Global;
 
-// Takes in what a line defines and keeps what it says, if nothing is wrong with it.
-fn take_line<'a>(
-    definitions: &mut Definitions<'a>,
+// What the lines so far define, and what they say.
+#[derive(Drop)]
+struct Statements<'a> {
+    definitions: Definitions<'a>,
+    said: Vec<Said<'a>>,
+}
+
+impl<'a> LineFormat<'a> for Statements<'a> {
+    ghost use Rattle.bench_reader.specs.Faults.{fault_of};
+    ghost use Rattle.bench_reader.specs.Said.{HasRead};
+    ghost use Rattle.bench_reader.specs.declared.fault.BenchFault.TheVariants.{NoMemory};
+
+    type Fault = BenchFault;
+
+    ghost no_memory = { NoMemory };
+
+    ghost fault_of = { λ _. fault_of };
+
+    ghost has_read = { λ _ statements. HasRead statements.definitions statements.said.items };
+
+    fn read_line(&mut self, line: Line<'a>) -> Result<(), BenchFault> {
+        let Some(statement) = Statement::of(line.text) else {
+            return Err(BenchFault::BadLine(line.number));
+        };
+        self.definitions.add(&statement, line.number)?;
+        keep(&mut self.said, line.number, statement)
+    }
+}
+
+// Keeps what the line of this number says, unless it is blank.
+fn keep<'a>(
     said: &mut Vec<Said<'a>>,
-    line: Line<'a>,
-) -> Result<(), LineFault>
-    ensures defines { (earlier : List (List ℕ)) → HasDefinitions definitions.old earlier
-        → MatchResult result
-        (λ _. (flaw_of earlier line.entry.text.now ≡ None)
-        × HasDefinitions definitions.new (earlier ++ line.entry.text.now ∷ []))
-        (IsLineFault earlier line.entry.text.now) }
-    ensures said { OnOk result (kept_of said.new.items ≡ kept_of said.old.items
-        ++ option_to_list (numbered_statement line.entry.number line.entry.text.now)) }
+    number: u32,
+    statement: Statement<'a>,
+) -> Result<(), BenchFault>
+    ensures kept { OnOk result (kept_of said.new.items ≡ kept_of said.old.items
+        ++ option_to_list
+        (option_map (λ it. (number, it)) (unless_blank (Some (said_by statement.entry))))) }
+    ensures refused { IfErr result (λ fault. fault ≡ BenchFault.NoMemory) }
 {
-    let Some(statement) = Statement::of(line.text) else {
-        return Err(LineFault::BadLine);
-    };
-    definitions.add(&statement)?;
     if !statement.is_blank() {
-        said.push(Said {
-            number: line.number,
-            statement,
-        })?;
+        said.push(Said { number, statement })?;
     }
     Ok(())
 }
 
-/// Reads the lines of a netlist one after the other, or finds the first that has a flaw.
-pub(crate) fn read_lines(alloc: Global, bytes: &[u8]) -> Result<Reading<'_>, BenchFault>
+/// Reads the lines of a netlist one after the other, or finds the first that has a fault.
+pub(crate) fn read_statements(alloc: Global, bytes: &[u8]) -> Result<Reading<'_>, BenchFault>
     requires { length bytes.now ≤ 16777216 }
     ensures text { IfOk result (λ reading. reading.text.now ≡ bytes.now) }
-    ensures refused { IfErr result (RefusesLine bytes.now) }
+    ensures refused { IfErr result
+        (IsFaultOf BenchFault.NoMemory (first_fault fault_of bytes.now)) }
 {
-    let mut definitions = Definitions::new(alloc);
-    let mut said = Vec::new(alloc);
-    for line in lines(bytes) {
-        if let Err(fault) = take_line(&mut definitions, &mut said, line) {
-            return Err(fault.at(line.number));
-        }
-    }
+    let mut statements = Statements {
+        definitions: Definitions::new(alloc),
+        said: Vec::new(alloc),
+    };
+    read_lines(&mut statements, bytes)?;
     Ok(Reading {
         text: bytes,
-        names: definitions.names,
-        said,
+        names: statements.definitions.names,
+        said: statements.said,
     })
 }

@@ -11,7 +11,7 @@ pub(crate) struct Said<'a> {
     pub(crate) statement: Statement<'a>,
 }
 
-/// A netlist whose lines have no flaw, read once: the names that it defines, and what it says.
+/// A netlist whose lines have no fault, read once: the names that it defines, and what it says.
 #[derive(Drop)]
 pub(crate) struct Reading<'a> {
     pub(crate) text: &'a [u8],

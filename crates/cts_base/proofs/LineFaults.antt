@@ -1,5 +1,5 @@
 -- A walk over the lines of a text, to the first that is faulty.
-use Rattle.std.proofs.Common.{◌≡◌, ◌∙◌, ◌+◌, ◌++◌, ◌∷◌, [], ℕ, List, length, Option, Some, None, refl, sym, ap, ◌<◌, ◌≤◌, ◌^◌, arith, append-nil, append_assoc}
+use Rattle.std.proofs.Common.{◌≡◌, ◌∙◌, ◌+◌, ◌++◌, ◌∷◌, [], ℕ, List, length, Option, Some, None, refl, sym, subst, ap, ◌<◌, ◌≤◌, ◌^◌, arith, append-nil, append_assoc}
 use Rattle.std.specs.Option.{option_or}
 use Rattle.std.specs.List.{slice_split}
 use Rattle.std.specs.Str.Lines.{strip_carriage_return}
@@ -103,3 +103,41 @@ module _ {Fault : Type 0} {fault_of : List (List ℕ) → List ℕ → Option Fa
     -- and none is faulty
     pub flawless_last : first_fault fault_of text ≡ None
     flawless_last = flawless.rest [] (sym passed_last ∙ sym (append-nil passed))
+
+-- where neither of two faults is, none is
+pub neither : {Fault : Type 0} (one other : Option Fault) → option_or one other ≡ None
+    → (one ≡ None) × (other ≡ None)
+neither None other none = (refl, none)
+neither (Some fault) other none = cc none
+
+module _ {Fault : Type 0} (fault_of : List (List ℕ) → List ℕ → Option Fault) where
+  -- lines that aren't faulty are passed over
+  pub passed_over : (passed lines later : List (List ℕ))
+      → ((earlier : List (List ℕ)) (line : List ℕ) (more : List (List ℕ))
+      → lines ≡ earlier ++ line ∷ more → fault_of (passed ++ earlier) line ≡ None)
+      → first_fault_after fault_of passed (lines ++ later)
+      ≡ first_fault_after fault_of (passed ++ lines) later
+  passed_over passed [] later each =
+      ap (λ before. first_fault_after fault_of before later) (sym (append-nil passed))
+  passed_over passed (line ∷ lines) later each =
+      let here : fault_of passed line ≡ None =
+      subst (λ before. fault_of before line ≡ None) (append-nil passed) (each [] line lines refl) in
+      ap (λ it. by_fault fault_of passed (lines ++ later) it line) here
+      ∙ passed_over (passed ++ line ∷ []) lines later
+      (λ earlier next more split. subst (λ before. fault_of before next ≡ None)
+      (sym (append_assoc passed (line ∷ []) earlier))
+      (each (line ∷ earlier) next more (ap (λ rest. line ∷ rest) split)))
+      ∙ ap (λ before. first_fault_after fault_of before later)
+      (append_assoc passed (line ∷ []) lines)
+
+  -- where none is faulty, no line is
+  pub flawless_at : (passed earlier : List (List ℕ)) (line : List ℕ) (later : List (List ℕ))
+      → first_fault_after fault_of passed (earlier ++ line ∷ later) ≡ None
+      → fault_of (passed ++ earlier) line ≡ None
+  flawless_at passed [] line later none =
+      subst (λ before. fault_of before line ≡ None) (sym (append-nil passed))
+      (neither (fault_of passed line) _ none).0
+  flawless_at passed (first ∷ earlier) line later none =
+      subst (λ before. fault_of before line ≡ None) (append_assoc passed (first ∷ []) earlier)
+      (flawless_at (passed ++ first ∷ []) earlier line later
+      (neither (fault_of passed first) _ none).1)

@@ -3,6 +3,6 @@ pub mod Statements
 pub mod Circuits
 pub mod Hosts
 pub mod UsedKinds
-pub mod Flaws
+pub mod Definitions
 pub mod Netlists
 pub mod Paths

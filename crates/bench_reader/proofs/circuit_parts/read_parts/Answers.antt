@@ -1,5 +1,6 @@
 -- What is said is taken in one after the other.
-use Rattle.std.proofs.Common.{arith}
+use Rattle.std.proofs.Common.{◌∙◌, Some, inl, inr, sym, ap, arith}
+use Rattle.std.proofs.lemmas.Result.{err_from_is_err_and}
 use Rattle.std.proofs.lemmas.List.{drop_all}
 use Rattle.bench_reader.specs.Said.{kept_of}
 use Rattle.bench_reader.proofs.PartWalk.{all_denoted, denotes_next, denotes_none, few_so_far, has_kind_next, kept_length, left_next, undefined_next}
@@ -13,8 +14,8 @@ pub add-requires-clause-kind : goal.add-requires-clause-kind
 add-requires-clause-kind c =
     let said = c.args.reading.now.said.items in
     has_kind_next c.args.reading.now.valid c.loop-place.invariant _ _ _
-    (left_next said c.loop-place.place c.index-said.result.now
-    (omega (arith, c.len-place-end.ensures, c.loop-place-test.true)) c.index-said.ensures)
+    (left_next said c.loop-place.place c.index.result.now
+    (omega (arith, c.len-place-end.ensures, c.loop-place-test.true)) c.index.ensures)
 
 pub add-requires-clause-few : goal.add-requires-clause-few
 add-requires-clause-few c = few_so_far c.args.reading.now.valid c.loop-place.invariant
@@ -23,17 +24,21 @@ pub loop-place-preserved : goal.loop-place-preserved
 loop-place-preserved c =
     let said = c.args.reading.now.said.items in
     denotes_next c.args.reading.now.valid c.loop-place.invariant _ _ _
-    (left_next said c.loop-place.place c.index-said.result.now
-    (omega (arith, c.len-place-end.ensures, c.loop-place-test.true)) c.index-said.ensures)
-    c.in-Ok.ensures.denoted
+    (left_next said c.loop-place.place c.index.result.now
+    (omega (arith, c.len-place-end.ensures, c.loop-place-test.true)) c.index.ensures)
+    c.in_ok-add.ensures.denoted
 
-pub returns-in-Err-Undefined-clause-refused : goal.returns-in-Err-Undefined-clause-refused
-returns-in-Err-Undefined-clause-refused c =
+pub returns-in_err-add-clause-refused : goal.returns-in_err-add-clause-refused
+returns-in_err-add-clause-refused c =
     let said = c.args.reading.now.said.items in
-    let refused = rw c.in-Err-Undefined.field-0-is at c.in-Err-Undefined.ensures.refused in
-    undefined_next c.args.reading.now.valid c.loop-place.invariant _ _ _
-    (left_next said c.loop-place.place c.index-said.result.now
-    (omega (arith, c.len-place-end.ensures, c.loop-place-test.true)) c.index-said.ensures) refused
+    let p = err_from_is_err_and c.from_residual.result c.from_residual.ensures.1 in
+    rw (p.1, p.2) (elim c.in_err-add.ensures.refused [
+      | inl used ↦ inl (undefined_next c.args.reading.now.valid c.loop-place.invariant _ _ _
+          (left_next said c.loop-place.place c.index.result.now
+          (omega (arith, c.len-place-end.ensures, c.loop-place-test.true)) c.index.ensures) used.1
+          ∙ ap Some (sym used.0))
+      | inr memory ↦ inr memory
+    ])
 
 pub returns-clause-denoted : goal.returns-clause-denoted
 returns-clause-denoted c =

@@ -5,23 +5,23 @@ use Rattle.bench_reader.proofs.DefiningLines.{silent_adds, defining_adds}
 use Rattle.bench_reader.proofs.definitions.Definitions.add.Goals as goal
 
 pub returns-in-Blank : goal.returns-in-Blank
-returns-in-Blank c earlier line form =
-    silent_adds earlier line Blank (rw c.in-Blank.is at form) refl refl refl c.args.self.now
+returns-in-Blank c earlier line form has number =
+    silent_adds earlier line Blank (rw c.in-Blank.is at form) refl refl refl c.args.self.now has
 
 pub returns-in-Output : goal.returns-in-Output
-returns-in-Output c earlier line form =
+returns-in-Output c earlier line form has number =
     let name = c.in-Output.field-0.now in
     let short = rw c.in-Output.is at c.has_short_names-short.ensures in
     silent_adds earlier line (Output name) (rw c.in-Output.is at form)
-    refl refl (sym short ∙ c.if-short.true) c.args.self.now
+    refl refl (sym short ∙ c.if-short.true) c.args.self.now has
 
 pub returns-in-Input : goal.returns-in-Input
 returns-in-Input c earlier line form =
     let name = c.in-Input.name.now in
     let short = rw c.in-Input.is at c.has_short_names-short.ensures in
     defining_adds earlier line (Input name) (rw c.in-Input.is at form)
-    (record { name = name; kind = kinds.Input; inputs = [] }) refl refl refl c.define.new.self
-    c.define.result (rw short at c.define.ensures)
+    (record { name = name; kind = kinds.Input; inputs = [] }) refl refl refl
+    c.args.number c.define.new.self c.define.result (rw short at c.define.ensures)
 
 pub returns-else-not-may_have : goal.returns-else-not-may_have
 returns-else-not-may_have c earlier line form =
@@ -35,4 +35,5 @@ returns-else-not-may_have c earlier line form =
     defining_adds earlier line (Assign name word c.in-Assign.inputs) (rw c.in-Assign.is at form)
     (record { name = name; kind = c.in-Some.kind; inputs = c.in-Assign.inputs })
     (rw kind refl)
-    (rw kind refl) valid_inputs c.define-in-Assign.new.self c.define-in-Assign.result judged
+    (rw kind refl) valid_inputs c.args.number c.define-in-Assign.new.self
+    c.define-in-Assign.result judged
