@@ -5,8 +5,7 @@ mod DecimalLemmas
 mod ScaleLemmas
 mod MicroLemmas
 mod SizeLemmas
-mod OneNumberFault
-pub mod NumberFaults
+pub mod Micros
 mod WholeReading
 mod QuotientReading
 pub mod FractionReading
