@@ -1,18 +1,23 @@
--- Accepted placements in the Bookshelf format (.pl), and the places that each denotes for a
--- circuit's registers, its source and its host.
-use Rattle.std.specs.Prelude.{◌≡◌, ◌⊎◌, ℕ, Bool, false, IsTrue, IsFalse, MatchBool, ◌||◌, List, [], ◌∷◌, ◌++◌, map, Contains, Option, Some, None, if◌then◌else◌, slice_get, ℤ}
-use Rattle.std.specs.Option.{option_map_or}
-use Rattle.std.specs.List.{list_any, cons_option}
+-- Placements in the Bookshelf format (.pl), and what each tells of a circuit: where its registers,
+-- its source and its host stand, in millionths, or why the text is refused.
+use Rattle.std.specs.Prelude.{◌≡◌, ℕ, ◌+◌, Bool, List, [], ◌∷◌, ◌++◌, length, map, Option, Some, None, Result, Ok, Err, if◌then◌else◌, slice_get, IsOk, ℤ}
+use Rattle.std.specs.Option.{option_map, option_map_or, option_to_list}
+use Rattle.std.specs.Result.{result_map_both, result_ok}
+use Rattle.std.specs.List.{list_any}
+use Rattle.std.specs.Map.{lookup}
 use Rattle.std.specs.Str.{bytes_eq}
+use Rattle.cts_base.specs.Decimals.{micros_of}
+use Rattle.cts_base.specs.LineFormats.{first_fault, unless_faulty}
 use Rattle.cts_base.specs.Lines.{lines_of}
-use Rattle.cts_base.specs.Decimals.{IsRead, RefusesNumber}
 use Rattle.cts_base.specs.declared.number.NumberFault.{NumberFault}
 use Rattle.cts_model.specs.declared.signal.Signal.{Signal}
 use Rattle.cts_model.specs.declared.circuit.Circuit.{Circuit}
 use Rattle.cts_model.specs.declared.place.Point.{Point}
 use Rattle.cts_model.specs.declared.place.Places.{Places}
 use Rattle.cts_model.specs.netlist.Kinds.{is_host}
-use Rattle.cts_model.specs.placement.PlaceLines.{Node, Entry, Blank, Header, Stands, is_not_blank, place_words, entry_of_words, entry_after}
+use Rattle.cts_model.specs.placement.PlaceLines.{Node, Entry, Blank, Header, Stands, entry_after}
+use Rattle.place_reader.specs.declared.fault.PlaceFault.{PlaceFault}
+use Rattle.place_reader.specs.declared.fault.PlaceFault.TheVariants.{BadLine, BadNumber, PlaceTwice, NoPlace, NoSource}
 
 -- the node where a register stands: the one of its name, and for the host the one that is given
 abbrev pub node_name : (host : List ℕ) → Signal → List ℕ
@@ -24,103 +29,97 @@ register_nodes circuit host =
     map (λ number. option_map_or (node_name host) (slice_get circuit.signals number) [])
     circuit.registers
 
--- the nodes that are to have a place
-abbrev pub wanted_nodes : Circuit → (source host : List ℕ) → List (List ℕ)
-wanted_nodes circuit source host = register_nodes circuit host ++ source ∷ []
-
 -- the name is one of these
 abbrev pub is_among : List (List ℕ) → List ℕ → Bool
 is_among names name = list_any (bytes_eq name) names
 
--- the node that a line places, if it places one
-abbrev pub placed_by : Option Entry → Option Node
-placed_by None = None
-placed_by (Some Blank) = None
-placed_by (Some Header) = None
-placed_by (Some (Stands node)) = Some node
+-- the nodes that are to have a place
+abbrev pub wanted_nodes : Circuit → (source host : List ℕ) → List (List ℕ)
+wanted_nodes circuit source host = register_nodes circuit host ++ source ∷ []
 
--- the nodes that lines place, in order, the first of which may be a header where none has begun
-abbrev pub nodes_from : (begun : Bool) → List (List ℕ) → List Node
-nodes_from begun [] = []
-nodes_from begun (line ∷ lines) =
-    cons_option (placed_by (entry_of_words begun (place_words line)))
-    (nodes_from (begun || is_not_blank line) lines)
+-- the point of two coordinates, or why x is refused, or else y
+abbrev pub point_from : (x y : Result ℤ NumberFault) → Result Point NumberFault
+point_from (Err fault) y = Err fault
+point_from (Ok x) (Err fault) = Err fault
+point_from (Ok x) (Ok y) = Ok (record { x = x; y = y })
 
-abbrev pub nodes_in : List (List ℕ) → List Node
-nodes_in lines = nodes_from false lines
+-- where a node stands
+abbrev pub point_of : Node → Result Point NumberFault
+point_of node = point_from (micros_of node.x) (micros_of node.y)
 
--- one of the nodes has this name
-abbrev pub is_placed : List Node → List ℕ → Bool
-is_placed nodes name = list_any (λ node. bytes_eq name node.name) nodes
+-- the name and the point that a line gives, if it gives one
+abbrev pub place_by : Option Entry → Option (List ℕ × Point)
+place_by (Some (Stands node)) =
+    option_map (λ point. (node.name, point)) (result_ok (point_of node))
+place_by _ = None
 
--- what is wrong with a line
-pub data Flaw : Type 0 where
-  BadLine : Flaw
-  BadNumber : (fault : NumberFault) → Flaw
-  PlaceTwice : Flaw
+-- those that lines give which come after others
+abbrev pub places_after : (earlier lines : List (List ℕ)) → List (List ℕ × Point)
+places_after earlier [] = []
+places_after earlier (line ∷ later) =
+    option_to_list (place_by (entry_after earlier line))
+    ++ places_after (earlier ++ line ∷ []) later
 
--- the text is a number
-abbrev pub IsNumber : List ℕ → Type 0
-IsNumber text = (micros : ℤ) × IsRead text micros
+-- where the node of a name stands by these: the first of the name
+abbrev pub place_of : List (List ℕ × Point) → List ℕ → Option Point
+place_of places name = lookup (bytes_eq name) places
 
--- what is wrong with the line of a wanted node, if anything is: its x is judged first, then its y,
--- and then whether an earlier line places it
-abbrev pub HasNodeFlaw : Node → (placed : Bool) → Option Flaw → Type 0
-HasNodeFlaw node placed None = IsNumber node.x × IsNumber node.y × IsFalse placed
-HasNodeFlaw node placed (Some BadLine) = ⊥
-HasNodeFlaw node placed (Some (BadNumber fault)) =
-    RefusesNumber node.x fault ⊎ (IsNumber node.x × RefusesNumber node.y fault)
-HasNodeFlaw node placed (Some PlaceTwice) =
-    IsNumber node.x × IsNumber node.y × IsTrue placed
+-- what is wrong with the line of a wanted node, if anything is: its numbers are judged first, and
+-- then whether the node has a place
+abbrev pub node_fault : (number : ℕ) → Result Point NumberFault → (before : Option Point)
+    → Option PlaceFault
+node_fault number (Err fault) before = Some (BadNumber number fault)
+node_fault number (Ok point) None = None
+node_fault number (Ok point) (Some before) = Some (PlaceTwice number)
 
--- what is wrong with a line that is this, after these lines
-abbrev pub HasEntryFlaw : (wanted earlier : List (List ℕ)) → Option Entry → Option Flaw → Type 0
-HasEntryFlaw wanted earlier None flaw = flaw ≡ Some BadLine
-HasEntryFlaw wanted earlier (Some Blank) flaw = flaw ≡ None
-HasEntryFlaw wanted earlier (Some Header) flaw = flaw ≡ None
-HasEntryFlaw wanted earlier (Some (Stands node)) flaw = MatchBool (is_among wanted node.name)
-    (HasNodeFlaw node (is_placed (nodes_in earlier) node.name) flaw) (flaw ≡ None)
+-- what is wrong with the line of this number where these places are given before it
+abbrev pub entry_fault : (wanted : List ℕ → Bool) → List (List ℕ × Point) → (number : ℕ)
+    → Option Entry → Option PlaceFault
+entry_fault wanted places number None = Some (BadLine number)
+entry_fault wanted places number (Some Blank) = None
+entry_fault wanted places number (Some Header) = None
+entry_fault wanted places number (Some (Stands node)) =
+    if wanted node.name then node_fault number (point_of node) (place_of places node.name)
+    else None
 
 -- what is wrong with a line after the lines before it, if anything is
-abbrev pub HasFlaw : (wanted earlier : List (List ℕ)) → List ℕ → Option Flaw → Type 0
-HasFlaw wanted earlier line flaw = HasEntryFlaw wanted earlier (entry_after earlier line) flaw
+abbrev pub fault_of : (wanted : List ℕ → Bool) → (earlier : List (List ℕ)) → List ℕ
+    → Option PlaceFault
+fault_of wanted earlier line =
+    entry_fault wanted (places_after [] earlier) (length earlier + 1) (entry_after earlier line)
 
--- nothing is wrong with any line after the lines before it
-pub record AreFlawless (wanted lines : List (List ℕ)) : Type 0 where
-  pub each : (earlier : List (List ℕ)) (line : List ℕ) (later : List (List ℕ))
-      → lines ≡ earlier ++ line ∷ later → HasFlaw wanted earlier line None
+-- the points of registers from this number on, or the first that has none
+abbrev pub points_from : (number : ℕ) → List (Option Point) → Result (List Point) PlaceFault
+points_from number [] = Ok []
+points_from number (None ∷ places) = Err (NoPlace number)
+points_from number (Some point ∷ places) =
+    result_map_both (λ points. point ∷ points) (λ fault. fault) (points_from (number + 1) places)
 
--- each of the names is one of the nodes
-abbrev pub ArePlaced : List Node → (names : List (List ℕ)) → Type 0
-ArePlaced nodes names =
-    (number : ℕ) (name : List ℕ) → slice_get names number ≡ Some name
-    → IsTrue (is_placed nodes name)
+-- the places of the registers and of the source
+abbrev pub with_source : Result (List Point) PlaceFault → (source : Option Point)
+    → Result Places PlaceFault
+with_source (Err fault) source = Err fault
+with_source (Ok points) None = Err NoSource
+with_source (Ok points) (Some source) = Ok (record { source = source; registers = points })
 
--- a text that is a placement of the circuit's registers and of the source
-pub record IsPlacement (text : List ℕ) (circuit : Circuit) (source host : List ℕ) : Type 0 where
-  pub flawless : AreFlawless (wanted_nodes circuit source host) (lines_of text)
-  pub registers : ArePlaced (nodes_in (lines_of text)) (register_nodes circuit host)
-  pub source_placed : IsTrue (is_placed (nodes_in (lines_of text)) source)
+-- what a text tells of a circuit
+unfoldable pub places_in : (text : List ℕ) → Circuit → (source host : List ℕ)
+    → Result Places PlaceFault
+places_in text circuit source host =
+    let places = places_after [] (lines_of text) in
+    unless_faulty (first_fault (fault_of (is_among (wanted_nodes circuit source host))) text)
+    (with_source (points_from 0 (map (place_of places) (register_nodes circuit host)))
+    (place_of places source))
 
--- a node of that name stands at the point, in micros
-pub record StandsAt (nodes : List Node) (name : List ℕ) (point : Point) : Type 0 where
-  pub node : Node
-  pub among : Contains nodes node
-  pub named : node.name ≡ name
-  pub x : IsRead node.x point.x
-  pub y : IsRead node.y point.y
+-- the text is a placement of the circuit's registers and of the source, and tells these places
+abbrev pub AcceptsPlacement : (text : List ℕ) → Circuit → (source host : List ℕ) → Places → Type 0
+AcceptsPlacement text circuit source host places = places_in text circuit source host ≡ Ok places
 
--- the nodes stand at these points, one by one
-abbrev pub StandAt : List Node → (names : List (List ℕ)) → List Point → Type 0
-StandAt nodes [] [] = Unit {0}
-StandAt nodes [] (point ∷ points) = ⊥
-StandAt nodes (name ∷ names) [] = ⊥
-StandAt nodes (name ∷ names) (point ∷ points) =
-    StandsAt nodes name point × StandAt nodes names points
+-- it is one
+abbrev pub IsPlacement : (text : List ℕ) → Circuit → (source host : List ℕ) → Type 0
+IsPlacement text circuit source host = IsOk (places_in text circuit source host)
 
--- a placement, and the places that its lines tell
-pub record AcceptsPlacement (text : List ℕ) (circuit : Circuit) (source host : List ℕ)
-    (places : Places) : Type 0 where
-  pub placement : IsPlacement text circuit source host
-  pub registers : StandAt (nodes_in (lines_of text)) (register_nodes circuit host) places.registers
-  pub at_source : StandsAt (nodes_in (lines_of text)) source places.source
+-- it is refused so
+abbrev pub RefusesPlacement : (text : List ℕ) → Circuit → (source host : List ℕ) → PlaceFault
+    → Type 0
+RefusesPlacement text circuit source host fault = places_in text circuit source host ≡ Err fault
