@@ -16,6 +16,7 @@ pub mod Divisors
 pub mod GreatestDivisors
 pub mod LineSplits
 pub mod LineFaults
+pub mod Told
 pub mod ListPlaces
 pub mod ListTests
 pub mod OneFraction

@@ -1,3 +1,4 @@
 mod NameLemmas
 mod PlacedLemmas
 mod PlaceLemmas
+mod ToldPlaces

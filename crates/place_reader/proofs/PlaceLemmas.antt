@@ -1,6 +1,5 @@
 -- The places that lines give, and what is kept of them.
-use Rattle.std.proofs.Common.{◌≡◌, ℕ, ◌+◌, Bool, true, false, ◌||◌, cond, IsTrue, List, [], ◌∷◌, ◌++◌, length, Option, Some, None, Result, Ok, Err, refl, sym, ap, ◌∙◌, subst, append_assoc, append-nil}
-use Rattle.std.specs.List.{list_any}
+use Rattle.std.proofs.Common.{◌≡◌, ℕ, ◌+◌, Bool, true, false, ◌||◌, cond, IsTrue, List, [], ◌∷◌, ◌++◌, length, Some, None, Result, Ok, Err, refl, sym, ap, ◌∙◌, subst, append_assoc, append-nil}
 use Rattle.std.specs.Map.{lookup}
 use Rattle.std.specs.Option.{option_map, option_or, option_to_list}
 use Rattle.std.specs.Result.{result_ok}
@@ -10,9 +9,8 @@ use Rattle.std.proofs.lemmas.List.Folds.{list_any-append}
 use Rattle.std.proofs.lemmas.Slice.Eq.{bytes_eq-Decides}
 use Rattle.cts_base.specs.declared.number.NumberFault.{NumberFault}
 use Rattle.cts_model.specs.declared.place.Point.{Point}
-use Rattle.cts_model.specs.placement.PlaceLines.{Node, Entry, Blank, Header, Stands, entry_after, entry_of_words, has_begun, is_not_blank, place_words}
+use Rattle.cts_model.specs.placement.PlaceLines.{Entry, Blank, Header, Stands, entry_after, entry_of_words, has_begun, is_not_blank, place_words}
 use Rattle.place_reader.specs.declared.placing.Placing.{Placing}
-use Rattle.place_reader.specs.declared.fault.PlaceFault.{PlaceFault}
 use Rattle.place_reader.specs.Placements.{entry_fault, fault_of, is_among, node_fault, place_by, place_of, places_after, point_of}
 use Rattle.place_reader.specs.Taken.{AreSamePlaces, HasTaken, TakesLine, wanted_place}
 use Rattle.place_reader.specs.View.{is_written}
@@ -76,28 +74,28 @@ module _ (wanted : List ℕ → Bool) where
       at false passed (Ok point) = by (bytes_eq name node.name) refl passed point
 
   module _ (places others : List (List ℕ × Point)) (same : AreSamePlaces wanted places others)
-      where
-    -- of a line only the place of a wanted node matters
-    same_more : (entry : Entry) → AreSamePlaces wanted (places ++ wanted_place wanted entry)
-        (others ++ option_to_list (place_by (Some entry)))
-    same_more entry name wants =
-        lookup-append (bytes_eq name) places (wanted_place wanted entry)
-        ∙ (λ i. option_or (same name wants i) (wanted_alone entry name wants i))
-        ∙ sym (lookup-append (bytes_eq name) others (option_to_list (place_by (Some entry))))
+    where
+      -- of a line only the place of a wanted node matters
+      same_more : (entry : Entry) → AreSamePlaces wanted (places ++ wanted_place wanted entry)
+          (others ++ option_to_list (place_by (Some entry)))
+      same_more entry name wants =
+          lookup-append (bytes_eq name) places (wanted_place wanted entry)
+          ∙ (λ i. option_or (same name wants i) (wanted_alone entry name wants i))
+          ∙ sym (lookup-append (bytes_eq name) others (option_to_list (place_by (Some entry))))
 
-    -- and the same is wrong with a line
-    same_fault : (number : ℕ) (entry : Entry)
-        → entry_fault wanted places number (Some entry)
-        ≡ entry_fault wanted others number (Some entry)
-    same_fault number Blank = refl
-    same_fault number Header = refl
-    same_fault number (Stands node) = at (wanted node.name) refl
-      where
-        at : (b : Bool) → wanted node.name ≡ b
-            → cond b (node_fault number (point_of node) (place_of places node.name)) None
-            ≡ cond b (node_fault number (point_of node) (place_of others node.name)) None
-        at true wants = ap (node_fault number (point_of node)) (same node.name wants)
-        at false passed = refl
+      -- and the same is wrong with a line
+      same_fault : (number : ℕ) (entry : Entry)
+          → entry_fault wanted places number (Some entry)
+          ≡ entry_fault wanted others number (Some entry)
+      same_fault number Blank = refl
+      same_fault number Header = refl
+      same_fault number (Stands node) = at (wanted node.name) refl
+        where
+          at : (b : Bool) → wanted node.name ≡ b
+              → cond b (node_fault number (point_of node) (place_of places node.name)) None
+              ≡ cond b (node_fault number (point_of node) (place_of others node.name)) None
+          at true wants = ap (node_fault number (point_of node)) (same node.name wants)
+          at false passed = refl
 
 module _ {start old : Placing} {earlier : List (List ℕ)} (line : List ℕ) (entry : Entry)
     (has : HasTaken start old earlier)

@@ -1,5 +1,5 @@
 -- What the reader keeps of the lines so far, and what a line changes.
-use Rattle.std.specs.Prelude.{◌≡◌, ℕ, Bool, ◌||◌, List, [], ◌++◌, Option, Some, None, if◌then◌else◌, IsTrue}
+use Rattle.std.specs.Prelude.{◌≡◌, ℕ, Bool, ◌||◌, List, [], ◌++◌, Some, None, if◌then◌else◌, IsTrue}
 use Rattle.std.specs.Option.{option_to_list}
 use Rattle.cts_model.specs.declared.place.Point.{Point}
 use Rattle.cts_model.specs.placement.PlaceLines.{Entry, Blank, Header, Stands, has_begun}

@@ -1,6 +1,7 @@
-ghost use Rattle.std.specs.Prelude.{◌≡◌, ℕ, List, [], None, OnOk, IfErr};
+ghost use Rattle.std.specs.Prelude.{◌≡◌, ℕ, List, [], None, OnOk, IfOk, IfErr};
 ghost use Rattle.cts_base.specs.LineFormats.{IsFaultOf};
-ghost use Rattle.place_reader.specs.Placements.{entry_fault, fault_of, is_among, point_of};
+ghost use Rattle.place_reader.specs.Names.{AreSameNames};
+ghost use Rattle.place_reader.specs.Placements.{entry_fault, fault_of, is_among, point_of, wanted_nodes};
 ghost use Rattle.place_reader.specs.View.{node_said, said_by};
 ghost use Rattle.place_reader.specs.declared.fault.PlaceFault.TheVariants as fault;
 ghost use Rattle.cts_model.specs.placement.PlaceLines as format;
@@ -9,8 +10,8 @@ use crate::PlaceFault;
 use crate::entry::{Entry, Node};
 use crate::node_names::NodeNames;
 use crate::placed::Placed;
-use cts_base::{Line, LineFormat, NumberFault, read_micro};
-use cts_model::Point;
+use cts_base::{Line, LineFormat, NoMemory, NumberFault, read_micro};
+use cts_model::{Circuit, Point};
 use std::alloc::Global;
 
 /// What the lines so far place.
@@ -44,16 +45,23 @@ impl<'a> LineFormat<'a> for Placing {
 impl Placing {
     ghost use Rattle.place_reader.specs.Taken.{HasTaken, TakesLine};
 
-    /// Nothing is placed. It takes no memory.
-    pub(crate) fn new(alloc: Global, wanted: NodeNames) -> Placing
-        ensures wanted { result.wanted ≡ wanted }
-        ensures none { HasTaken result result [] }
+    /// Nothing is placed of what is wanted.
+    pub(crate) fn new(
+        alloc: Global,
+        circuit: &Circuit,
+        source: &[u8],
+        host: &[u8],
+    ) -> Result<Placing, NoMemory>
+        ensures { IfOk result (λ placing.
+            AreSameNames placing.wanted (wanted_nodes circuit.now source.now host.now)
+            × HasTaken placing placing []) }
     {
-        Placing {
+        let wanted = NodeNames::wanted(alloc, circuit, source, host)?;
+        Ok(Placing {
             wanted,
             placed: Placed::new(alloc),
             begun: false,
-        }
+        })
     }
 
     // Takes in what the line of this number is, if nothing is wrong with it.

@@ -4,7 +4,7 @@ ghost use Rattle.cts_model.specs.netlist.Hosts.{HasNoHost};
 ghost use Rattle.place_reader.specs.Placements.{place_of, places_in, points_from, register_nodes};
 
 use crate::PlaceFault;
-use crate::node_names::{NodeNames, register_node};
+use crate::node_names::register_node;
 use crate::placed::Placed;
 use crate::placing::Placing;
 use cts_base::{Listed, read_lines};
@@ -29,8 +29,7 @@ pub fn read_places(
     ensures { IsToldBy PlaceFault.NoMemory
         (places_in bytes.now circuit.now source.now host.now) result }
 {
-    let wanted = NodeNames::wanted(alloc, circuit, source, host)?;
-    let mut placing = Placing::new(alloc, wanted);
+    let mut placing = Placing::new(alloc, circuit, source, host)?;
     read_lines(&mut placing, bytes)?;
     let registers = register_places(alloc, circuit, host, &placing.placed)?;
     let Some(source) = placing.placed.place_of(source) else {

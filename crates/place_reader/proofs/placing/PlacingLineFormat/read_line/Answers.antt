@@ -12,8 +12,7 @@ returns-clause-flawless c = OnOk-map c.take.result _ _
     (λ takes start earlier has number_is.
     let said = c.in-Some.ensures.said in
     let line = c.args.line.text.now in
-    let entry = said_by c.in-Some.entry in
-    (
+    let entry = said_by c.in-Some.entry in (
       sym (fault_is line entry has said c.args.line.number number_is) ∙ takes.flawless,
       line_taken line entry has said c.take.ensures.wanted c.in-Some.ensures.written takes,
     )) c.take.ensures.taken

@@ -1,0 +1,16 @@
+-- What a call answers that is told by a text, but where memory is refused.
+use Rattle.std.proofs.Common.{◌≡◌, ◌⊎◌, inl, inr, Result, Ok, Err, sym}
+use Rattle.cts_base.specs.LineFormats.{IsToldBy}
+
+-- a value is the one that is told
+pub told_ok : {Value Fault : Type 0} (no_memory : Fault) (told : Result Value Fault) (value : Value)
+    → IsToldBy no_memory told (Ok value) → told ≡ Ok value
+told_ok no_memory told value (inl same) = sym same
+told_ok no_memory told value (inr memory) = cc
+
+-- a fault is the one that is told, or want of memory
+pub told_err : {Value Fault : Type 0} (no_memory : Fault) (told : Result Value Fault)
+    (fault : Fault) → IsToldBy no_memory told (Err fault)
+    → (told ≡ Err fault) ⊎ (fault ≡ no_memory)
+told_err no_memory told fault (inl same) = inl (sym same)
+told_err no_memory told fault (inr memory) = inr (cc)
