@@ -5,8 +5,7 @@ mod DecimalLemmas
 mod ScaleLemmas
 mod MicroLemmas
 mod SizeLemmas
-mod OneNumberFault
-pub mod NumberFaults
+pub mod Micros
 mod WholeReading
 mod QuotientReading
 pub mod FractionReading
@@ -18,6 +17,7 @@ pub mod Divisors
 pub mod GreatestDivisors
 pub mod LineSplits
 pub mod LineFaults
+pub mod Told
 pub mod ListPlaces
 pub mod ListTests
 pub mod OneFraction

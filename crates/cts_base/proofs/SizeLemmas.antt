@@ -1,12 +1,14 @@
 -- What the steps of reading a size in millionths say of the number's text.
-use Rattle.std.proofs.Common.{◌≡◌, ℕ, ◌+◌, ◌*◌, ◌-◌, ◌^◌, ◌<◌, min, ◌⊎◌, lit≤, Bool, true, false, cond, List, ◌++◌, length, take, drop, refl, sym, ap, subst, ◌∙◌, arith}
+use Rattle.std.proofs.Common.{◌≡◌, ℕ, ◌+◌, ◌*◌, ◌-◌, ◌^◌, ◌<◌, min, ◌⊎◌, lit<, lit≤, ◌≤◌, ◌/◌, ◌%◌, Ok, Err, Bool, true, false, cond, List, ◌++◌, length, take, drop, refl, sym, ap, ◌∙◌, arith}
+use Rattle.std.proofs.Math.Nat.{mod-add-div', mul-div_cancel, mul-mod_left, one-le-pow}
+use Rattle.std.proofs.lemmas.Bool.{eq-eqb, le-ltb, lt-ltb, ne_eqb}
 use Rattle.std.proofs.lemmas.Int.Digits.{digits_value-lt}
 use Rattle.std.proofs.lemmas.List.{length-append, length-drop}
 use Rattle.std.specs.List.{list_all}
 use Rattle.std.specs.Str.Parse.{digits_value, starts_with_minus, without_leading_sign}
-use Rattle.cts_base.specs.Decimals.{is_zero, exponent, whole_digits, fraction_digits, digits, exponent_size, raised, lowered, IsDecimal, IsMicrosSize, IsSizeRead, RefusesSize}
-use Rattle.cts_base.specs.declared.number.NumberFault.TheVariants.{TooLarge}
-use Rattle.cts_base.proofs.DecimalLemmas.{digits_short}
+use Rattle.cts_base.specs.Decimals.{is_zero, exponent, whole_digits, fraction_digits, digits, exponent_size, raised, lowered, is_decimal, is_fine_enough, micros_size, size_of}
+use Rattle.cts_base.specs.declared.number.NumberFault.TheVariants.{TooFine, TooLarge}
+use Rattle.cts_base.proofs.DecimalLemmas.{digits_short, has_digits}
 use Rattle.cts_base.proofs.MicroLemmas.{digits_value-split, zeros_value, others_value, IsAligned, IsLeft, places_of, kept_cut, raise_cut, shape, size_is, no_size, raised_cut}
 use Rattle.cts_base.proofs.ScaleLemmas.{digits_of_append, digits_of_drop}
 
@@ -69,21 +71,46 @@ shape_of text places kept short place =
 empty_prefix : (ds : List ℕ) (kept : ℕ) → kept ≡ 0 → digits_value 10 (take kept ds) ≡ 0
 empty_prefix ds kept none = ap (λ k. digits_value 10 (take k ds)) none
 
+-- the size of the value is so many millionths
+abbrev IsMicrosSize : List ℕ → ℕ → Type 0
+IsMicrosSize text size = size * 10 ^ lowered text ≡ digits text * 10 ^ raised text * 10 ^ 6
+
+-- then it is a whole number of them, and this one
+pub size_told : (text : List ℕ) (size : ℕ) → IsMicrosSize text size
+    → (is_fine_enough text ≡ true) × (micros_size text ≡ size)
+unfolding is_fine_enough micros_size
+size_told text size same =
+    let power : 1 ≤ 10 ^ lowered text = one-le-pow (lowered text) 10 (lit< tt) in (
+      eq-eqb _ 0 (ap (λ n. n % 10 ^ lowered text) (sym same) ∙ mul-mod_left size (10 ^ lowered text)),
+      ap (λ n. n / 10 ^ lowered text) (sym same) ∙ mul-div_cancel size power,
+    )
+
+-- else it is none
+not_told : (text : List ℕ) → ((size : ℕ) → IsMicrosSize text size → ⊥)
+    → is_fine_enough text ≡ false
+unfolding is_fine_enough micros_size
+not_told text none =
+    let total = digits text * 10 ^ raised text * 10 ^ 6 in
+    ne_eqb _ 0 (λ over. none (micros_size text)
+    (omega (arith, over, mod-add-div' total (10 ^ lowered text))))
+
 -- where there is more than zeros after, the value is no multiple of a millionth
-pub too_fine : (text : List ℕ) (places kept : ℕ) → length text < 2 ^ 64 → IsDecimal text
-    → IsPlacedIn text places kept
-    → list_all is_zero (drop kept (whole_digits text ++ fraction_digits text)) ≡ false → (size : ℕ)
-    → IsMicrosSize text size → ⊥
-unfolding digits
-too_fine text places kept short decimal place more size same =
+pub too_fine : (text : List ℕ) (places kept : ℕ) → length text < 2 ^ 64
+    → is_decimal text ≡ true → IsPlacedIn text places kept
+    → list_all is_zero (drop kept (whole_digits text ++ fraction_digits text)) ≡ false
+    → Err TooFine ≡ size_of text
+unfolding digits size_of
+too_fine text places kept short decimal place more =
     let ds = whole_digits text ++ fraction_digits text in
     let rest = drop kept ds in
+    let has = has_digits text decimal in
     let rest_digits = digits_of_drop kept ds
-    (digits_of_append (whole_digits text) (fraction_digits text) decimal.whole decimal.fraction) in
-    no_size kept (digits_value 10 (take kept ds)) (digits_value 10 rest) (digits_value 10 ds)
+    (digits_of_append (whole_digits text) (fraction_digits text) has.whole has.fraction) in
+    let none = not_told text (λ size same. no_size kept (digits_value 10 (take kept ds)) (digits_value 10 rest) (digits_value 10 ds)
     (length rest) (raise_of text kept) (lowered text) (raised text) size
     (empty_prefix ds kept) (digits_value-split kept ds) (digits_value-lt 10 rest rest_digits)
-    (others_value rest rest_digits more) (shape_of text places kept short place) same
+    (others_value rest rest_digits more) (shape_of text places kept short place) same) in
+    rw none refl
 
 -- and else what is kept, raised, is the size, up to a ceiling
 pub record IsSizeUpTo (text : List ℕ) (ceiling size : ℕ) : Type 0 where
@@ -125,15 +152,19 @@ size_up_to text places kept number size short place zeros number_is size_is_min 
 
 -- a size below the ceiling is exact
 pub size_below : (text : List ℕ) (size : ℕ) → IsSizeUpTo text 1000000000000001 size
-    → (size ≡ 1000000000000001 → ⊥) → IsSizeRead text size
+    → (size ≡ 1000000000000001 → ⊥) → Ok size ≡ size_of text
+unfolding size_of
 size_below text size up other =
-    let exact : up.exact ≡ size = omega (arith, up.kept, other) in
-    record {
-      value = subst (λ n. IsMicrosSize text n) exact up.value;
-      within = omega (arith, up.kept, other);
-    }
+    let told = size_told text up.exact up.value in
+    let exact : micros_size text ≡ size = told.1 ∙ omega (arith, up.kept, other) in
+    let within = le-ltb (10 ^ 15) size (omega (arith, up.kept, other)) in
+    rw (told.0, exact, within) refl
 
 -- at the ceiling the exact one is above the limit
 pub size_above : (text : List ℕ) (size : ℕ) → IsSizeUpTo text 1000000000000001 size
-    → size ≡ 1000000000000001 → RefusesSize text TooLarge
-size_above text size up at = (up.exact, up.value, omega (arith, up.kept))
+    → size ≡ 1000000000000001 → Err TooLarge ≡ size_of text
+unfolding size_of
+size_above text size up at =
+    let told = size_told text up.exact up.value in
+    let above = lt-ltb (10 ^ 15) up.exact (omega (arith, up.kept)) in
+    rw (told.0, told.1, above) refl

@@ -2,9 +2,11 @@
 -- a number is spelled; it is this project's choice to take an optional sign, digits with at most
 -- one point among, before or after them, and an exponent of ten if wanted. The value is digits *
 -- 10^raised / 10^lowered, with the sign.
-use Rattle.std.specs.Prelude.{◌≡◌, ℕ, ◌+◌, ◌*◌, ◌^◌, ◌<◌, ◌≤◌, Bool, false, ◌==◌, ◌||◌, IsTrue, List, ◌++◌, length, ℤ, pos, ◌≤ℤ◌, nat_abs, if◌then◌else◌}
-use Rattle.std.specs.List.{before_first, after_first}
-use Rattle.std.specs.Str.Parse.{AllDigits, IsNumeral, digits_value, starts_with_minus, without_leading_sign}
+use Rattle.std.specs.Prelude.{ℕ, ◌+◌, ◌*◌, ◌/◌, ◌%◌, ◌^◌, nat_lt, Bool, not, ◌==◌, ◌&&◌, ◌||◌, List, ◌++◌, length, ℤ, pos, neg_ℤ, Result, Ok, Err, if◌then◌else◌}
+use Rattle.std.specs.Char.{is_ascii_digit}
+use Rattle.std.specs.List.{before_first, after_first, list_all}
+use Rattle.std.specs.Result.{result_map_both}
+use Rattle.std.specs.Str.Parse.{digits_value, starts_with_minus, without_leading_sign}
 use Rattle.cts_base.specs.declared.number.NumberFault.{NumberFault}
 use Rattle.cts_base.specs.declared.number.NumberFault.TheVariants.{NotNumber, TooFine, TooLarge}
 
@@ -34,14 +36,20 @@ whole_digits text = before_first is_point (coefficient text)
 abbrev pub fraction_digits : List ℕ → List ℕ
 fraction_digits text = after_first is_point (coefficient text)
 
+-- there is a mark, with or without an exponent after it
+abbrev pub is_marked : List ℕ → Bool
+is_marked text = nat_lt (length (coefficient text)) (length (without_leading_sign text))
+
+-- digits, and at least one
+abbrev pub is_numeral : List ℕ → Bool
+is_numeral bytes = not (length bytes == 0) && list_all is_ascii_digit bytes
+
 -- the text has the form of a decimal number
-pub record IsDecimal (text : List ℕ) : Type 0 where
-  pub whole : AllDigits 10 (whole_digits text)
-  pub fraction : AllDigits 10 (fraction_digits text)
-  pub some_digit : 0 < length (whole_digits text) + length (fraction_digits text)
-  -- where there is a mark, digits stand after it
-  pub exponent_digits : length (coefficient text) < length (without_leading_sign text)
-      → IsNumeral 10 (without_leading_sign (exponent text))
+unfoldable pub is_decimal : List ℕ → Bool
+is_decimal text =
+    list_all is_ascii_digit (whole_digits text) && list_all is_ascii_digit (fraction_digits text)
+    && not (length (whole_digits text) + length (fraction_digits text) == 0)
+    && (not (is_marked text) || is_numeral (without_leading_sign (exponent text)))
 
 -- the digits as one whole number, the point passed over
 unfoldable pub digits : List ℕ → ℕ
@@ -60,46 +68,27 @@ lowered text =
     length (fraction_digits text) + (if starts_with_minus (exponent text) then exponent_size text
     else 0)
 
--- the size of the value is so many millionths
-abbrev pub IsMicrosSize : List ℕ → ℕ → Type 0
-IsMicrosSize text size = size * 10 ^ lowered text ≡ digits text * 10 ^ raised text * 10 ^ 6
+-- the size of the value in whole millionths, and whether that is all of it
+unfoldable pub micros_size : List ℕ → ℕ
+micros_size text = digits text * 10 ^ raised text * 10 ^ 6 / 10 ^ lowered text
 
--- the value is so many millionths
-pub record IsMicros (text : List ℕ) (micros : ℤ) : Type 0 where
-  pub size : IsMicrosSize text (nat_abs micros)
-  pub negative : IsTrue (starts_with_minus text) → micros ≤ℤ pos 0
-  pub positive : starts_with_minus text ≡ false → pos 0 ≤ℤ micros
+unfoldable pub is_fine_enough : List ℕ → Bool
+is_fine_enough text = digits text * 10 ^ raised text * 10 ^ 6 % 10 ^ lowered text == 0
 
--- the value is a whole number of millionths
-abbrev pub IsFineEnough : List ℕ → Type 0
-IsFineEnough text = (micros : ℤ) × IsMicros text micros
+-- the size in millionths of a number, or why it is refused: it is to be at most 10^9
+unfoldable pub size_of : List ℕ → Result ℕ NumberFault
+size_of text =
+    if not (is_fine_enough text) then Err TooFine
+    else if nat_lt (10 ^ 15) (micros_size text) then Err TooLarge
+    else Ok (micros_size text)
 
--- the size of the value is above 10^9, or not
-abbrev pub IsAboveLimit : List ℕ → Type 0
-IsAboveLimit text = 10 ^ 9 * 10 ^ lowered text < digits text * 10 ^ raised text
+-- so many millionths with that sign
+abbrev pub signed : (minus : Bool) → ℕ → ℤ
+signed minus size = if minus then neg_ℤ (pos size) else pos size
 
-abbrev pub IsWithinLimit : List ℕ → Type 0
-IsWithinLimit text = digits text * 10 ^ raised text ≤ 10 ^ 9 * 10 ^ lowered text
-
--- the text is a number, of so many millionths, and its size isn't above the limit
-pub record IsRead (text : List ℕ) (micros : ℤ) : Type 0 where
-  pub decimal : IsDecimal text
-  pub value : IsMicros text micros
-  pub within : IsWithinLimit text
-
--- why a text is refused
-abbrev pub RefusesNumber : List ℕ → NumberFault → Type 0
-RefusesNumber text NotNumber = ¬ (IsDecimal text)
-RefusesNumber text TooFine = IsDecimal text × ¬ (IsFineEnough text)
-RefusesNumber text TooLarge = IsDecimal text × IsFineEnough text × IsAboveLimit text
-
--- why the size of a number is refused
-abbrev pub RefusesSize : List ℕ → NumberFault → Type 0
-RefusesSize text NotNumber = ⊥
-RefusesSize text TooFine = (size : ℕ) → ¬ (IsMicrosSize text size)
-RefusesSize text TooLarge = (size : ℕ) × IsMicrosSize text size × (10 ^ 15 < size)
-
--- the size of a number in millionths, within the limit
-pub record IsSizeRead (text : List ℕ) (size : ℕ) : Type 0 where
-  pub value : IsMicrosSize text size
-  pub within : size ≤ 10 ^ 15
+-- the number of millionths that a text writes, or why it is refused
+unfoldable pub micros_of : List ℕ → Result ℤ NumberFault
+micros_of text =
+    if is_decimal text then result_map_both (signed (starts_with_minus text)) (λ fault. fault)
+    (size_of text)
+    else Err NotNumber

@@ -1,6 +1,5 @@
-ghost use Rattle.std.specs.Prelude.{◌≡◌, ◌^◌, ◌≤◌, ◌↔◌, ℤ, pos, neg_ℤ, if◌then◌else◌, IfOk, length, MatchResult};
-ghost use Rattle.std.specs.Result.{IsErrOf};
-ghost use Rattle.cts_base.specs.Decimals.{IsDecimal, IsRead, IsFineEnough, IsAboveLimit, RefusesNumber};
+ghost use Rattle.std.specs.Prelude.{◌≡◌, ◌^◌, ◌≤◌};
+ghost use Rattle.cts_base.specs.Decimals.{micros_of, signed};
 
 use crate::number::parts::{begins_with_minus, is_decimal};
 use crate::number::size::size_of;
@@ -31,18 +30,7 @@ pub enum NumberFault {
 ///
 /// The first fault of the text, in the order of `NumberFault`.
 pub fn read_micro(text: &[u8]) -> Result<i64, NumberFault>
-    ensures ok { IfOk result (IsRead text.now) }
-    ensures not_number { IsErrOf result NumberFault.NotNumber ↔ (¬ (IsDecimal text.now)) }
-    ensures too_fine { IsErrOf result NumberFault.TooFine
-        ↔ (IsDecimal text.now × ¬ (IsFineEnough text.now)) }
-    ensures too_large { IsErrOf result NumberFault.TooLarge
-        ↔ (IsDecimal text.now × IsFineEnough text.now × IsAboveLimit text.now) }
-{
-    judged(text)
-}
-
-fn judged(text: &[u8]) -> Result<i64, NumberFault>
-    ensures { MatchResult result (IsRead text.now) (RefusesNumber text.now) }
+    ensures { result ≡ micros_of text.now }
 {
     if !is_decimal(text) {
         return Err(NumberFault::NotNumber);
@@ -55,7 +43,7 @@ fn judged(text: &[u8]) -> Result<i64, NumberFault>
 
 fn signed(minus: bool, size: u64) -> i64
     requires { size ≤ 10 ^ 15 }
-    ensures { result ≡ (if minus then neg_ℤ (pos size) else pos size) }
+    ensures { result ≡ signed minus size }
 {
     if minus { -(size as i64) } else { size as i64 }
 }

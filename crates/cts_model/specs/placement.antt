@@ -1,3 +1,3 @@
 pub mod Points
 pub mod PlaceLines
-pub mod Placements
+pub mod Coordinates

@@ -3,6 +3,7 @@
 
 mod circuit;
 mod constraint;
+mod coordinates;
 mod fan_in;
 mod gate_delay;
 mod grid;
@@ -22,6 +23,7 @@ mod usage;
 
 pub use circuit::Circuit;
 pub use constraint::Constraint;
+pub use coordinates::read_point;
 pub use fan_in::FanIn;
 pub use grid::{Grid, product};
 pub use host::with_host;

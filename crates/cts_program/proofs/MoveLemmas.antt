@@ -1,11 +1,13 @@
 -- What the command `moves` is left with: moves that are refused, too many pairs, or lines of wire.
 use Rattle.std.proofs.Common.{ℕ, List, Option, Result, Ok, Err, IfOk, Bor, refl, inr}
+use Rattle.cts_base.specs.LineFormats.{IsToldBy}
+use Rattle.cts_base.proofs.Told.{told_fault}
 use Rattle.cts_model.specs.declared.problem.Problem.{Problem}
 use Rattle.cts_model.specs.timing.PairLists.{JoinsMoreThan}
 use Rattle.move_session.specs.declared.fault.MovesFault.{MovesFault}
 use Rattle.move_session.specs.declared.fault.MovesFault.TheVariants as fault
 use Rattle.move_session.specs.declared.moves.Move.{Move}
-use Rattle.move_session.specs.Refusals.{RefusesMoves}
+use Rattle.move_session.specs.Moves.{moves_in}
 use Rattle.command_line.specs.declared.command.Command.TheVariants.{Moves}
 use Rattle.cts_program.specs.declared.ending.Answer.{Answer}
 use Rattle.failure_lines.specs.declared.failure.Failure.{Failure}
@@ -24,11 +26,14 @@ use Rattle.cts_program.proofs.LastFiles.{all_contents, all_are, end_with, last_s
 -- a text that is no moves is the failure that it is reported as
 pub refused_moves : (problem : Problem) (held : Option (List ℕ)) (before now : ℕ)
     (bytes : List ℕ) → IsReportedAs held bytes → IsShortFile bytes → (found : MovesFault)
-    → RefusesMoves bytes problem.circuit found
+    → IsToldBy fault.NoMemory (moves_in bytes problem.circuit) (Err found)
     → FailsLast kinds.Moves (RefusesMovesFile problem) held before now (moves_failure_of found)
-refused_moves problem held before now bytes denoted short fault.NoMemory refuses = tt
-refused_moves problem held before now bytes denoted short found refuses =
-    (bytes, denoted, (short, (λ e. cc e), refuses))
+refused_moves problem held before now bytes denoted short fault.NoMemory told = tt
+refused_moves problem held before now bytes denoted short found told = (
+  bytes,
+  denoted,
+  (short, told_fault fault.NoMemory (moves_in bytes problem.circuit) found (λ same. cc same) told),
+)
 
 -- what refuses the file makes the command refuse it
 moving_refused : (problem : Problem) (bytes : List ℕ) (failure : Failure)

@@ -7,8 +7,8 @@ use Rattle.cts_model.specs.timing.PairLists.{JoinsMoreThan}
 use Rattle.cts_model.specs.table.PlainTable.{IsPlainTable}
 use Rattle.cts_model.specs.text.PrintedLines.{text_of}
 use Rattle.cts_model.proofs.OneRecord.{same_tech}
-use Rattle.cts_model.specs.text.Entries.{entries_of}
-use Rattle.move_session.proofs.EntryLemmas.{length-DenoteEach}
+use Rattle.cts_base.proofs.Told.{one_value}
+use Rattle.move_session.specs.Moves.{moves_in}
 use Rattle.cts_engine.proofs.OneProblem.{one_netlist, one_both}
 use Rattle.command_line.specs.declared.command.Command.{Command}
 use Rattle.command_line.specs.declared.command.Command.TheVariants.{Zero, Period, Schedule, Synth, Check, Demo, Margin, Embed, Moves, Corners}
@@ -22,7 +22,7 @@ use Rattle.cts_program.specs.CornerFiles.{IsCornersAnswer}
 use Rattle.cts_program.specs.DemoTexts.{IsDemoText}
 use Rattle.cts_program.specs.Judged.{AreAccepted, Tell}
 use Rattle.cts_program.specs.MarginTexts.{IsMarginText}
-use Rattle.cts_program.specs.MoveFiles.{IsMovesFile, IsMovedFor, IsMovedBy}
+use Rattle.cts_program.specs.MoveFiles.{IsMovedFor, IsMovedBy}
 use Rattle.cts_program.specs.PeriodTexts.{IsPeriodText}
 use Rattle.cts_program.specs.ScheduleTexts.{IsScheduleText}
 use Rattle.cts_program.specs.SynthTexts.{IsSynthText}
@@ -268,10 +268,10 @@ moves_or_not form = inr (λ same. cc same)
 one_count : (problem : Problem) (bytes : List ℕ) (moves others : ℕ)
     → HasMoves moves problem bytes → HasMoves others problem bytes → moves ≡ others
 one_count problem bytes moves others has has' =
-    has.as_many ∙ count has.accepted.file ∙ sym (count has'.accepted.file) ∙ sym has'.as_many
-  where
-    count : (file : IsMovesFile problem bytes) → length file.moves ≡ length (entries_of bytes)
-    count file = length-DenoteEach problem.circuit (entries_of bytes) file.moves file.accepts.each
+    let same : has.accepted.file.moves ≡ has'.accepted.file.moves =
+    one_value (moves_in bytes problem.circuit) has.accepted.file.moves has'.accepted.file.moves
+    has.accepted.file.accepts has'.accepted.file.accepts in
+    has.as_many ∙ ap length same ∙ sym has'.as_many
 
 module _ (form : Form) (given : List Given) (contents : List (List ℕ)) (status : ℕ)
     (text : List ℕ) (answer : AnswersByOne form given contents status text) where

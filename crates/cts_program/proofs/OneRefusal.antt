@@ -19,8 +19,9 @@ use Rattle.failure_lines.specs.declared.file_kind.FileKind.TheVariants as kinds
 use Rattle.command_line.specs.Commands.{Given, options_of}
 use Rattle.failure_lines.specs.Failures.{status_of}
 use Rattle.command_line.specs.CommandTable.{form_of}
-use Rattle.move_session.proofs.OneFault as move_faults
 use Rattle.topology_file.proofs.OneFault.{no_fault}
+use Rattle.cts_base.proofs.Told as told
+use Rattle.move_session.specs.Moves.{moves_in}
 use Rattle.cts_program.specs.Answers.{JoinTooMany, RefusesText, RefusesAccepted, IsRefusal, IsAccepted, IsStatusOf, texts_for, texts_of}
 use Rattle.cts_program.specs.Checks.{EndWith, IsShownReport, RefusesReport}
 use Rattle.cts_program.specs.Files.{files_of, AreAll}
@@ -110,9 +111,8 @@ one_moving : (problem : Problem) (bytes : List ℕ) (failure : Failure)
     → IsMovedFor problem bytes → RefusesMoving problem bytes failure → ⊥
 one_moving problem bytes failures.Pairs accepted (file, many) = accepted.few many
 one_moving problem bytes (failures.TooLong kinds.Moves) accepted long = long accepted.file.short
-one_moving problem bytes (failures.Moves fault) accepted (short, named, refuses) =
-    named (move_faults.no_fault bytes problem.circuit fault accepted.file.moves
-    accepted.file.accepts refuses)
+one_moving problem bytes (failures.Moves fault) accepted (short, refuses) =
+    told.no_fault (moves_in bytes problem.circuit) accepted.file.moves fault accepted.file.accepts refuses
 one_moving problem bytes failure accepted refuses = absurd refuses
 
 -- the status for those that are refused is 3

@@ -1,9 +1,7 @@
 -- The lines of wire of a session, one for the places as they are and one after each move.
-use Rattle.std.proofs.Common.{◌≡◌, ℕ, ℤ, List, [], ◌∷◌, ◌++◌, length, map, Option, Some, None, refl, ap, sym, subst, ◌∙◌}
+use Rattle.std.proofs.Common.{◌≡◌, ℕ, ℤ, List, [], ◌∷◌, ◌++◌, length, map, Option, refl, ap, sym, subst, ◌∙◌}
 use Rattle.std.specs.List.{All}
-use Rattle.std.specs.Option.{IsSomeAnd}
 use Rattle.std.proofs.lemmas.List.{map_push}
-use Rattle.std.proofs.lemmas.List.Elements.{All-nil, All-cons}
 use Rattle.cts_base.specs.declared.fraction.Fraction.{Fraction}
 use Rattle.cts_model.specs.declared.place.Point.{Point}
 use Rattle.cts_model.specs.declared.problem.Problem.{Problem}
@@ -13,11 +11,9 @@ use Rattle.cts_model.specs.tree.GreedyMerges.{IsGreedy}
 use Rattle.cts_model.specs.text.PrintedLines.{line_of, text_of}
 use Rattle.cts_model.specs.tree.Problems.{sinks_of}
 use Rattle.cts_model.proofs.SkewLemmas.{length-sinks_of}
-use Rattle.cts_model.specs.text.Entries.{entries_of}
 use Rattle.move_session.specs.declared.moves.Move.{Move}
-use Rattle.move_session.specs.Entries.{Fields, fields_of}
-use Rattle.move_session.specs.Moves.{DenoteEach, IsMove}
 use Rattle.move_session.specs.Sessions.{SessionState}
+use Rattle.move_session.proofs.ToldMoves.{IsToldMove, each_told}
 use Rattle.cts_engine.specs.SessionOutcomes.{IsSessionOf, StandsAt}
 use Rattle.cts_engine.proofs.ProblemLemmas.{near_coordinate}
 use Rattle.report_text.specs.WireLines.{wire_line}
@@ -27,34 +23,23 @@ use Rattle.cts_program.specs.Steps.{ReadsMoves}
 
 -- ---- moves that were read
 
--- a move that three words denote is near
-near_move : (problem : Problem) (fields : Option Fields) (move : Move)
-    → IsSomeAnd fields (λ fields. IsMove problem.circuit fields move)
+-- a move that is told is near
+near_move : (problem : Problem) (move : Move) → IsToldMove problem.circuit move
     → IsNearMove (length problem.circuit.registers) move
-near_move problem None move is = absurd is
-near_move problem (Some fields) move is = record {
-  within = is.register.within;
+near_move problem move told = record {
+  within = told.within;
   near = record {
-    x = near_coordinate fields.x move.at.x is.x;
-    y = near_coordinate fields.y move.at.y is.y;
+    x = near_coordinate told.x move.at.x told.x_is;
+    y = near_coordinate told.y move.at.y told.y_is;
   };
 }
 
 -- so are all
-near_each : (problem : Problem) (entries : List (List (List ℕ))) (moves : List Move)
-    → DenoteEach problem.circuit entries moves
-    → All (IsNearMove (length problem.circuit.registers)) moves
-near_each problem [] [] each = All-nil (IsNearMove (length problem.circuit.registers))
-near_each problem [] (move ∷ moves) each = absurd each
-near_each problem (entry ∷ entries) [] each = absurd each
-near_each problem (entry ∷ entries) (move ∷ moves) each =
-    All-cons (IsNearMove (length problem.circuit.registers)) move moves
-    (near_move problem (fields_of entry) move each.0) (near_each problem entries moves each.1)
-
 pub near_moves : (problem : Problem) (held : Option (List ℕ)) (moves : List Move)
     → ReadsMoves problem held moves → All (IsNearMove (length problem.circuit.registers)) moves
 near_moves problem held moves read =
-    near_each problem (entries_of read.bytes) moves read.accepts.each
+    each_told problem.circuit (IsNearMove (length problem.circuit.registers)) (near_move problem)
+    read.bytes moves read.accepts
 
 -- ---- places and wires
 

@@ -1,12 +1,10 @@
 -- What the command `moves` makes of moves that are given: how long the clock tree is after each, or
 -- why they are refused.
-use Rattle.std.specs.Prelude.{◌≢◌, ℕ, List}
+use Rattle.std.specs.Prelude.{ℕ, List}
 use Rattle.cts_model.specs.declared.problem.Problem.{Problem}
 use Rattle.cts_model.specs.timing.PairLists.{JoinsMoreThan}
-use Rattle.move_session.specs.declared.fault.MovesFault.TheVariants.{NoMemory}
 use Rattle.move_session.specs.declared.moves.Move.{Move}
-use Rattle.move_session.specs.Moves.{AcceptsMoves}
-use Rattle.move_session.specs.Refusals.{RefusesMoves}
+use Rattle.move_session.specs.Moves.{AcceptsMoves, RefusesMoves}
 use Rattle.failure_lines.specs.declared.failure.Failure.{Failure}
 use Rattle.failure_lines.specs.declared.failure.Failure.TheVariants.{TooLong, Moves, Pairs}
 use Rattle.failure_lines.specs.declared.file_kind.FileKind.TheVariants as kinds
@@ -33,8 +31,8 @@ pub record IsMovedBy (status : ℕ) (text : List ℕ) (problem : Problem) (bytes
 -- the file holds no moves of the problem's registers: it is too long, or has this fault
 abbrev pub RefusesMovesFile : Problem → List ℕ → Failure → Type 0
 RefusesMovesFile problem bytes (TooLong kinds.Moves) = IsShortFile bytes → ⊥
-RefusesMovesFile problem bytes (Moves fault) = IsShortFile bytes × (fault ≢ NoMemory)
-    × RefusesMoves bytes problem.circuit fault
+RefusesMovesFile problem bytes (Moves fault) =
+    IsShortFile bytes × RefusesMoves bytes problem.circuit fault
 RefusesMovesFile problem bytes _ = ⊥
 
 -- so the command refuses it, and one that is accepted where too many pairs are joined

@@ -1,9 +1,7 @@
 mod NameNumbers
-pub mod EntryLemmas
-mod TakenLines
-mod MovesWalk
-pub mod OneFault
 mod AgreeingSinks
 mod StepsUp
 mod MovedSinks
 mod PlacedShows
+mod TakenLines
+pub mod ToldMoves

@@ -1,15 +1,14 @@
 -- Registers with their numbers as the entries of a map.
-use Rattle.std.proofs.Common.{◌≡◌, ◌<◌, ◌+◌, ℕ, Bool, true, false, cond, List, [], ◌∷◌, map, length, Option, Some, None, inl, inr, refl, sym, ap, subst, ◌∙◌, arith}
+use Rattle.std.proofs.Common.{◌≡◌, ◌≤◌, ◌+◌, ◌-◌, ℕ, Bool, true, false, cond, List, [], ◌∷◌, map, length, Option, Some, refl, sym, ap, ◌∙◌, arith, suc}
+use Rattle.std.specs.List.{find, range_with_len}
 use Rattle.std.specs.Map.{lookup}
 use Rattle.std.specs.Str.{bytes_eq}
-use Rattle.std.proofs.lemmas.Bool.{cases_lt}
-use Rattle.std.proofs.lemmas.Option.{same_Some}
 use Rattle.std.proofs.lemmas.Slice.Eq.{bytes_eq-Decides}
 use Rattle.indexmap.specs.IndexMap.{insert_entry}
 use Rattle.cts_model.specs.declared.circuit.Circuit.{Circuit}
 use Rattle.cts_model.specs.netlist.Paths.{register_name}
-use Rattle.move_session.specs.Moves.{IsNamed, NamesRegister}
-use Rattle.move_session.specs.Numbers.{Assigns, HasNumbers, number_of}
+use Rattle.move_session.specs.Moves.{register_of}
+use Rattle.move_session.specs.Numbers.{Assigns, HasNumbers, number_in}
 
 -- ---- tests in a row
 
@@ -82,57 +81,30 @@ module _ {K : Type 0} (bytes : K → List ℕ) where
 
 -- ---- registers
 
--- no register has a number
-pub numbers_none : (circuit : Circuit) (numbers : List (List ℕ × ℕ)) → numbers ≡ []
-    → HasNumbers circuit 0 numbers
-numbers_none circuit numbers none = subst (HasNumbers circuit 0) (sym none) (record {
-  right = λ name register found. absurd cc;
-  all = λ register below. absurd (omega arith);
-})
+module _ (circuit : Circuit) where
+  -- the first register of a name among so many from one on
+  abbrev first_named : List ℕ → (register left : ℕ) → Option ℕ
+  first_named name register left =
+      find (λ other. bytes_eq name (register_name circuit other)) (range_with_len register left)
 
-module _ (circuit : Circuit) (register : ℕ) (within : register < length circuit.registers)
-    (old new : List (List ℕ × ℕ)) (before : HasNumbers circuit register old)
-    (assigns : Assigns old new (register_name circuit register) register) where
-  abbrev is_next : List ℕ → Bool
-  is_next name = bytes_eq name (register_name circuit register)
+  -- a register more, before the others
+  pub numbers_next : (register next : ℕ) (old new : List (List ℕ × ℕ)) → next ≡ register + 1
+      → next ≤ length circuit.registers → HasNumbers circuit next old
+      → Assigns old new (register_name circuit register) register
+      → HasNumbers circuit register new
+  numbers_next register next old new one within has assigns name =
+      let left : suc (length circuit.registers - next) ≡ length circuit.registers - register =
+      omega (arith, one, within) in
+      assigns name
+      ∙ ap (cond (bytes_eq name (register_name circuit register)) (Some register)) (has name
+      ∙ ap (λ from. first_named name from (length circuit.registers - next)) one)
+      ∙ ap (first_named name register) left
 
-  -- what is found is right
-  right_next : (name : List ℕ) (found : ℕ) → (same : Bool) → is_next name ≡ same
-      → cond same (Some register) (number_of old name) ≡ Some found → IsNamed circuit found name
-  right_next name found true same here = subst (λ n. IsNamed circuit n name)
-      (same_Some register found here)
-      (record {
-        within = within;
-        named = sym ((bytes_eq-Decides name (register_name circuit register)).0 same);
-      })
-  right_next name found false differs here = before.right name found here
-
-  -- and each register so far is found
-  all_next : (other : ℕ) → other < register + 1 → (same : Bool)
-      → is_next (register_name circuit other) ≡ same
-      → cond same (Some register) (number_of old (register_name circuit other)) ≡ None → ⊥
-  all_next other below true same none = cc
-  all_next other below false differs none = elim (cases_lt other register) [
-    | inl earlier ↦ before.all other earlier none
-    | inr not_earlier ↦
-        let here : other ≡ register = omega (arith, below, not_earlier) in
-        differ (sym ((bytes_eq-Decides (register_name circuit other)
-        (register_name circuit register)).1 (ap (register_name circuit) here)) ∙ differs)
-  ]
-
-  -- one more register has its number
-  pub numbers_next : HasNumbers circuit (register + 1) new
-  numbers_next = record {
-    right = λ name found here. right_next name found (is_next name) refl
-        (sym (assigns name) ∙ here);
-    all = λ other below none.
-        all_next other below (is_next (register_name circuit other)) refl
-        (sym (assigns (register_name circuit other)) ∙ none);
-  }
-
--- a name without a number is that of no register
-pub unnamed : (circuit : Circuit) (numbers : List (List ℕ × ℕ)) (name : List ℕ)
-    → HasNumbers circuit (length circuit.registers) numbers → number_of numbers name ≡ None
-    → NamesRegister circuit name → ⊥
-unnamed circuit numbers name has none some =
-    has.all some.0 some.1.within (ap (number_of numbers) some.1.named ∙ none)
+  -- from the first on all have their numbers
+  pub numbers_all : (register : ℕ) (numbers : List (List ℕ × ℕ)) → register ≤ 0
+      → HasNumbers circuit register numbers → number_in numbers ≡ register_of circuit
+  numbers_all register numbers first has =
+      let none : register ≡ 0 = omega (arith, first) in
+      let left : length circuit.registers - register ≡ length circuit.registers =
+      omega (arith, first) in
+      λ i name. (has name ∙ (λ j. first_named name (none j) (left j))) i

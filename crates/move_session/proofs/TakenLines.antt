@@ -1,88 +1,65 @@
--- What is taken in from one more line, or what is wrong with it.
-use Rattle.std.proofs.Common.{◌≡◌, ◌<◌, ◌≤◌, ℕ, true, List, [], ◌∷◌, ◌++◌, length, Option, Some, None, IsSomeAnd, refl, sym, ap, subst, ◌∙◌, arith, length-append}
-use Rattle.cts_model.specs.declared.circuit.Circuit.{Circuit}
+-- What is taken in from one more line.
+use Rattle.std.proofs.Common.{◌≡◌, ◌<◌, ◌+◌, ℕ, true, List, [], ◌∷◌, ◌++◌, length, Option, Some, None, Result, Ok, Err, sym, ap, ◌∙◌, arith, cond, nat_lt}
+use Rattle.std.specs.List.{cons_option}
+use Rattle.std.specs.Option.{option_or}
+use Rattle.std.specs.Result.{result_err, result_ok}
+use Rattle.std.proofs.lemmas.Bool.Decides.{nat_tests}
+use Rattle.std.proofs.lemmas.List.{length_push}
+use Rattle.std.proofs.lemmas.List.Elements.{filter_map-append}
 use Rattle.cts_model.specs.text.Entries.{entries_in, has_words, words_in}
-use Rattle.cts_model.proofs.EntryLemmas.{entries_blank, entries_round, written}
-use Rattle.move_session.specs.declared.line_fault.LineFault.{LineFault}
-use Rattle.move_session.specs.declared.line_fault.LineFault.TheVariants as faults
+use Rattle.cts_model.proofs.EntryLemmas.{entries_round, written}
+use Rattle.move_session.specs.declared.fault.MovesFault.{MovesFault}
+use Rattle.move_session.specs.declared.fault.MovesFault.TheVariants.{TooMany}
 use Rattle.move_session.specs.declared.moves.Move.{Move}
 use Rattle.move_session.specs.declared.moving.Moving.{Moving}
-use Rattle.move_session.specs.Entries.{Fields, fields_of}
-use Rattle.move_session.specs.Flaws.{BadLine, BadNumber, Flaw, HasEntryFlaw, HasFlaw, TooMany, UnknownRegister}
-use Rattle.move_session.specs.LineFaults.{IsFieldsFault, IsLineFault}
-use Rattle.move_session.specs.Moves.{AreMoves, IsMove}
-use Rattle.move_session.specs.Numbers.{HasNumbers}
+use Rattle.move_session.specs.Moves.{entry_fault, fault_of, move_of, moves_of, told_at}
+use Rattle.move_session.specs.Numbers.{number_in}
 use Rattle.move_session.specs.Taken.{HasTaken}
-use Rattle.move_session.proofs.EntryLemmas.{DenoteEach-push, length-DenoteEach}
 
-module _ (circuit : Circuit) (earlier : List (List ℕ)) (line : List ℕ) (moving : Moving)
-    (has : HasTaken circuit moving earlier) where
-  abbrev entries : List (List (List ℕ))
-  entries = entries_in earlier
+-- a move is told whatever the line's number
+told_move : (number : ℕ) (move : Move) (told : Result Move (ℕ → MovesFault))
+    → told_at number told ≡ Ok move → result_ok told ≡ Some move
+told_move number move (Ok own) same = ap result_ok same
+told_move number move (Err fault) same = ap result_ok same
 
-  -- there are as many moves as entries
-  count : length moving.moves ≡ length entries
-  count = length-DenoteEach circuit entries moving.moves has.moves.each
+module _ (start old : Moving) (earlier : List (List ℕ)) (line : List ℕ) (name : List ℕ)
+    (words : List (List ℕ)) (number : ℕ) (move : Move) (has : HasTaken start old earlier)
+    (number_is : number ≡ length earlier + 1) (read : words_in line ≡ name ∷ words)
+    (told : Ok move ≡ told_at number (move_of (number_in old.numbers) (name ∷ words))) where
+  -- the numbers of the start
+  abbrev number_of : List ℕ → Option ℕ
+  number_of = number_in start.numbers
 
-  -- a blank line
-  pub blank_taken : words_in line ≡ [] → HasTaken circuit moving (earlier ++ line ∷ [])
-  blank_taken blank = record {
-    numbers = has.numbers;
-    moves = subst (λ es. AreMoves circuit es moving.moves) (sym (entries_blank earlier line blank))
-        has.moves;
-  }
+  -- the line tells the move
+  line_told : told_at number (move_of number_of (name ∷ words)) ≡ Ok move
+  line_told = sym (told ∙ ap (λ n. told_at number (move_of (number_in n) (name ∷ words))) has.numbers)
 
-  module _ (word : List ℕ) (words : List (List ℕ)) (read : words_in line ≡ word ∷ words) where
-    -- any other line is one with words
-    some : has_words (words_in line) ≡ true
-    some = ap has_words read ∙ written word words
+  -- it isn't faulty
+  pub move_flawless : length old.moves < 10000 → fault_of number_of earlier line ≡ None
+  move_flawless room =
+      let few : nat_lt (length (entries_in earlier)) 10000 ≡ true =
+      grind (arith, nat_tests, has.count, room) in
+      ap (entry_fault number_of (length earlier + 1) (length (entries_in earlier))) read
+      ∙ (λ i. option_or (result_err (told_at (sym number_is i) (move_of number_of (name ∷ words))))
+      (cond (few i) None (Some (TooMany (length earlier + 1)))))
+      ∙ ap (λ told. option_or (result_err told) None) line_told
 
-    -- so it is the next entry
-    next : entries_in (earlier ++ line ∷ []) ≡ entries ++ (word ∷ words) ∷ []
-    next = entries_round earlier line [] some ∙ ap (λ entry. entries ++ entry ∷ []) read
-
-    -- a flaw of its entry is one of the line
-    line_flaw : (fields : Option Fields) → fields_of (word ∷ words) ≡ fields → (flaw : Flaw)
-        → HasEntryFlaw circuit (length entries) fields flaw → HasFlaw circuit earlier line flaw
-    line_flaw fields are flaw flawed = record {
-      written = some;
-      flawed = subst (λ f. HasEntryFlaw circuit (length entries) f flaw)
-          (sym (ap fields_of read ∙ are)) flawed;
-    }
-
-    -- words that aren't three
-    pub is_bad : fields_of (word ∷ words) ≡ None → HasFlaw circuit earlier line BadLine
-    is_bad none = line_flaw None none BadLine refl
-
-    module _ (fields : Fields) (are : fields_of (word ∷ words) ≡ Some fields) where
-      -- three words that denote no move
-      pub is_no_move : (fault : LineFault) → IsFieldsFault circuit fields fault
-          → IsLineFault circuit earlier line fault
-      is_no_move faults.UnknownRegister refused =
-          line_flaw (Some fields) are UnknownRegister refused
-      is_no_move (faults.BadNumber fault) refused =
-          line_flaw (Some fields) are (BadNumber fault) refused
-      is_no_move faults.BadLine refused = absurd refused
-      is_no_move faults.TooMany refused = absurd refused
-      is_no_move faults.NoMemory refused = tt
-
-      module _ (move : Move) (is : IsMove circuit fields move) where
-        -- a move too many
-        pub is_extra : 10000 ≤ length moving.moves → HasFlaw circuit earlier line TooMany
-        is_extra full = line_flaw (Some fields) are TooMany
-            (omega (arith, full, count, has.moves.few), (move, is))
-
-        -- a move that is taken in
-        pub move_taken : (new : Moving) → new.numbers ≡ moving.numbers
-            → new.moves ≡ moving.moves ++ move ∷ [] → length moving.moves < 10000
-            → HasTaken circuit new (earlier ++ line ∷ [])
-        move_taken new numbers moves room = record {
-          numbers = subst (HasNumbers circuit (length circuit.registers)) (sym numbers) has.numbers;
-          moves = subst (λ ms. AreMoves circuit (entries_in (earlier ++ line ∷ [])) ms) (sym moves)
-              (subst (λ es. AreMoves circuit es (moving.moves ++ move ∷ [])) (sym next) (record {
-                each = DenoteEach-push circuit entries moving.moves (word ∷ words) move
-                    has.moves.each
-                    (subst (λ f. IsSomeAnd f (λ own. IsMove circuit own move)) (sym are) is);
-                few = omega (arith, room, count, length-append entries ((word ∷ words) ∷ []));
-              }));
-        }
+  -- and is taken in
+  pub move_taken : (new : Moving) → new.numbers ≡ old.numbers
+      → new.moves ≡ old.moves ++ move ∷ [] → HasTaken start new (earlier ++ line ∷ [])
+  move_taken new numbers moves =
+      let some : has_words (words_in line) ≡ true = ap has_words read ∙ written name words in
+      let next : entries_in (earlier ++ line ∷ []) ≡ entries_in earlier ++ (name ∷ words) ∷ [] =
+      entries_round earlier line [] some ∙ ap (λ entry. entries_in earlier ++ entry ∷ []) read in
+      let all : moves_of number_of (entries_in (earlier ++ line ∷ [])) ≡ old.moves ++ move ∷ [] =
+      ap (moves_of number_of) next
+      ∙ filter_map-append (λ entry. result_ok (move_of number_of entry)) (entries_in earlier)
+      ((name ∷ words) ∷ [])
+      ∙ (λ i. sym has.moves i
+      ++ cons_option (told_move number move (move_of number_of (name ∷ words)) line_told i) []) in
+      record {
+        numbers = numbers ∙ has.numbers;
+        moves = moves ∙ sym all;
+        count = ap length moves ∙ length_push old.moves move ∙ ap (λ n. n + 1) has.count
+            ∙ sym (length_push (entries_in earlier) (name ∷ words)) ∙ ap length (sym next);
+      }

@@ -1,11 +1,6 @@
-pub mod Entries
-pub mod Flaws
-pub mod LineFaults
 pub mod Moves
 pub mod Numbers
-pub mod Refusals
 pub mod Taken
-pub mod View
 pub mod Sessions
 pub mod SessionViews
 pub mod MergesAbove

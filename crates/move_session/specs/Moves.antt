@@ -1,45 +1,75 @@
--- Texts of moves, and the moves that each denotes.
-use Rattle.std.specs.Prelude.{◌≡◌, ◌<◌, ◌≤◌, ℕ, List, [], ◌∷◌, length, IsSomeAnd}
-use Rattle.cts_base.specs.Decimals.{IsRead}
+-- Texts of moves, and what each tells. A line that isn't blank has three words, a register's name
+-- and the two coordinates of the place where it goes. The form is this project's choice; comments
+-- and words are those of the ISCAS'89 and Bookshelf formats.
+use Rattle.std.specs.Prelude.{◌≡◌, ◌+◌, ℕ, nat_lt, List, [], ◌∷◌, length, find, filter_map, Option, Some, None, Result, Ok, Err, if◌then◌else◌}
+use Rattle.std.specs.List.{range_with_len}
+use Rattle.std.specs.Option.{option_or}
+use Rattle.std.specs.Result.{result_ok, result_err}
+use Rattle.std.specs.Str.{bytes_eq}
+use Rattle.cts_base.specs.LineFormats.{first_fault, unless_faulty}
+use Rattle.cts_base.specs.declared.number.NumberFault.{NumberFault}
 use Rattle.cts_model.specs.declared.circuit.Circuit.{Circuit}
+use Rattle.cts_model.specs.declared.place.Point.{Point}
 use Rattle.cts_model.specs.netlist.Paths.{register_name}
-use Rattle.cts_model.specs.text.Entries.{entries_of}
+use Rattle.cts_model.specs.placement.Coordinates.{point_of}
+use Rattle.cts_model.specs.text.Entries.{entries_in, entries_of, words_in}
+use Rattle.move_session.specs.declared.fault.MovesFault.{MovesFault}
+use Rattle.move_session.specs.declared.fault.MovesFault.TheVariants.{BadLine, UnknownRegister, BadNumber, TooMany}
 use Rattle.move_session.specs.declared.moves.Move.{Move}
-use Rattle.move_session.specs.Entries.{Fields, fields_of}
 
--- the register of this number has the name; the host's is `(host)`
-pub record IsNamed (circuit : Circuit) (register : ℕ) (name : List ℕ) : Type 0 where
-  pub within : register < length circuit.registers
-  pub named : register_name circuit register ≡ name
+-- the first register of that name; the host's is `(host)`
+abbrev pub register_of : Circuit → (name : List ℕ) → Option ℕ
+register_of circuit name = find (λ register. bytes_eq name (register_name circuit register))
+    (range_with_len 0 (length circuit.registers))
 
--- some register has the name
-abbrev pub NamesRegister : Circuit → List ℕ → Type 0
-NamesRegister circuit name = (register : ℕ) × IsNamed circuit register name
+-- a register's move to a place, or what is wrong with the line of a number; that no register has
+-- the name is judged before the place
+abbrev pub move_to : (register : Option ℕ) → (place : Result Point NumberFault)
+    → Result Move (ℕ → MovesFault)
+move_to None place = Err UnknownRegister
+move_to (Some register) (Ok at) = Ok (record { register = register; at = at })
+move_to (Some register) (Err fault) = Err (λ number. BadNumber number fault)
 
--- the fields are the register's name and the coordinates of its new place, in micros
-pub record IsMove (circuit : Circuit) (fields : Fields) (move : Move) : Type 0 where
-  pub register : IsNamed circuit move.register fields.name
-  pub x : IsRead fields.x move.at.x
-  pub y : IsRead fields.y move.at.y
+-- what the words of a line tell, where each register has its number
+abbrev pub move_of : (number_of : List ℕ → Option ℕ) → (words : List (List ℕ))
+    → Result Move (ℕ → MovesFault)
+move_of number_of (name ∷ x ∷ y ∷ []) = move_to (number_of name) (point_of x y)
+move_of number_of _ = Err BadLine
 
--- an entry of three words that denote the move
-abbrev pub Denotes : Circuit → List (List ℕ) → Move → Type 0
-Denotes circuit entry move = IsSomeAnd (fields_of entry) (λ fields. IsMove circuit fields move)
+-- the moves that entries tell, in order
+abbrev pub moves_of : (number_of : List ℕ → Option ℕ) → (entries : List (List (List ℕ)))
+    → List Move
+moves_of number_of entries = filter_map (λ words. result_ok (move_of number_of words)) entries
 
--- entries that denote the moves, one by one
-abbrev pub DenoteEach : Circuit → List (List (List ℕ)) → List Move → Type 0
-DenoteEach circuit [] [] = Unit {0}
-DenoteEach circuit [] (move ∷ moves) = ⊥
-DenoteEach circuit (entry ∷ entries) [] = ⊥
-DenoteEach circuit (entry ∷ entries) (move ∷ moves) =
-    Denotes circuit entry move × DenoteEach circuit entries moves
+-- what the words of the line of this number tell
+abbrev pub told_at : (number : ℕ) → Result Move (ℕ → MovesFault) → Result Move MovesFault
+told_at number (Ok move) = Ok move
+told_at number (Err fault) = Err (fault number)
 
--- entries that denote the moves, in order and no other, and they are at most 10,000
-pub record AreMoves (circuit : Circuit) (entries : List (List (List ℕ))) (moves : List Move)
-    : Type 0 where
-  pub each : DenoteEach circuit entries moves
-  pub few : length entries ≤ 10000
+-- what is wrong with the line of this number, after so many that aren't blank: that it is the
+-- 10,001st is judged last
+abbrev pub entry_fault : (number_of : List ℕ → Option ℕ) → (number entries : ℕ)
+    → (words : List (List ℕ)) → Option MovesFault
+entry_fault number_of number entries [] = None
+entry_fault number_of number entries (word ∷ words) =
+    option_or (result_err (told_at number (move_of number_of (word ∷ words))))
+    (if nat_lt entries 10000 then None else Some (TooMany number))
 
--- a text whose entries denote these moves
-abbrev pub AcceptsMoves : List ℕ → Circuit → List Move → Type 0
-AcceptsMoves text circuit moves = AreMoves circuit (entries_of text) moves
+-- what is wrong with a line after the lines before it
+abbrev pub fault_of : (number_of : List ℕ → Option ℕ) → (earlier : List (List ℕ))
+    → (line : List ℕ) → Option MovesFault
+fault_of number_of earlier line =
+    entry_fault number_of (length earlier + 1) (length (entries_in earlier)) (words_in line)
+
+-- the moves of a circuit's registers in a text, or its first fault
+unfoldable pub moves_in : (text : List ℕ) → Circuit → Result (List Move) MovesFault
+moves_in text circuit = unless_faulty (first_fault (fault_of (register_of circuit)) text)
+    (Ok (moves_of (register_of circuit) (entries_of text)))
+
+-- the text is one of these moves
+abbrev pub AcceptsMoves : (text : List ℕ) → Circuit → List Move → Type 0
+AcceptsMoves text circuit moves = moves_in text circuit ≡ Ok moves
+
+-- the text has this fault
+abbrev pub RefusesMoves : (text : List ℕ) → Circuit → MovesFault → Type 0
+RefusesMoves text circuit fault = moves_in text circuit ≡ Err fault

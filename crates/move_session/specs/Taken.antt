@@ -1,12 +1,12 @@
 -- What the reader has taken in from the lines so far.
-use Rattle.std.specs.Prelude.{ℕ, List, length}
-use Rattle.cts_model.specs.declared.circuit.Circuit.{Circuit}
+use Rattle.std.specs.Prelude.{◌≡◌, ℕ, List, length}
 use Rattle.cts_model.specs.text.Entries.{entries_in}
 use Rattle.move_session.specs.declared.moving.Moving.{Moving}
-use Rattle.move_session.specs.Moves.{AreMoves}
-use Rattle.move_session.specs.Numbers.{HasNumbers}
+use Rattle.move_session.specs.Moves.{moves_of}
+use Rattle.move_session.specs.Numbers.{number_in}
 
--- the registers have their numbers, and the lines denote the moves
-pub record HasTaken (circuit : Circuit) (moving : Moving) (lines : List (List ℕ)) : Type 0 where
-  pub numbers : HasNumbers circuit (length circuit.registers) moving.numbers
-  pub moves : AreMoves circuit (entries_in lines) moving.moves
+-- the numbers are those of the start, and the moves those of the lines, one for each entry
+pub record HasTaken (start moving : Moving) (lines : List (List ℕ)) : Type 0 where
+  pub numbers : moving.numbers ≡ start.numbers
+  pub moves : moving.moves ≡ moves_of (number_in start.numbers) (entries_in lines)
+  pub count : length moving.moves ≡ length (entries_in lines)

@@ -1,9 +1,7 @@
 //! Moves of registers, read from a text, and clock trees that are kept up to date with them.
 #![tactic(auto)]
 
-mod entry;
 mod fault;
-mod line_fault;
 mod moves;
 mod moving;
 mod read;

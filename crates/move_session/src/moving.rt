@@ -1,16 +1,13 @@
-ghost use Rattle.std.specs.Prelude.{◌∷◌, ◌++◌, [], List, ℕ, length, IfOk, MatchResult};
-ghost use Rattle.cts_model.specs.declared.circuit.Circuit.{Circuit};
-ghost use Rattle.move_session.specs.LineFaults.{IsFieldsFault, IsLineFault};
-ghost use Rattle.move_session.specs.Moves.{IsMove};
-ghost use Rattle.move_session.specs.Numbers.{HasNumbers};
-ghost use Rattle.move_session.specs.View.{said_by};
+ghost use Rattle.std.specs.Prelude.{◌≡◌, ◌∷◌, [], IfOk};
+ghost use Rattle.cts_model.specs.text.Entries.{words_in};
+ghost use Rattle.move_session.specs.Moves.{fault_of, move_of, register_of, told_at};
+ghost use Rattle.move_session.specs.Numbers.{number_in};
+ghost use Rattle.move_session.specs.declared.fault.MovesFault.TheVariants as fault;
 
-use crate::Move;
-use crate::entry::{Entry, entry_of, place_of, words_in};
-use crate::line_fault::LineFault;
 use crate::register_numbers::RegisterNumbers;
-use cts_base::{Listed, NoMemory};
-use cts_model::Circuit;
+use crate::{Move, MovesFault};
+use cts_base::{Line, LineFormat, Listed, NoMemory, Words, before_comment, words};
+use cts_model::{Circuit, read_point};
 use std::alloc::Global;
 
 // The most moves that a text has.
@@ -28,7 +25,8 @@ impl Moving {
 
     /// No moves.
     pub(crate) fn new(alloc: Global, circuit: &Circuit) -> Result<Moving, NoMemory>
-        ensures { IfOk result (λ moving. HasTaken circuit.now moving []) }
+        ensures numbers { IfOk result (λ moving. number_in moving.numbers ≡ register_of circuit.now) }
+        ensures fresh { IfOk result (λ moving. HasTaken moving moving []) }
     {
         Ok(Moving {
             numbers: RegisterNumbers::of(alloc, circuit)?,
@@ -36,38 +34,51 @@ impl Moving {
         })
     }
 
-    /// Takes in the move of the next line, if nothing is wrong with it.
-    pub(crate) fn add_line(&mut self, line: &[u8]) -> Result<(), LineFault>
-        ensures { (circuit : Circuit) (earlier : List (List ℕ)) → HasTaken circuit self.old earlier
-            → MatchResult result (λ _. HasTaken circuit self.new (earlier ++ line.now ∷ []))
-            (IsLineFault circuit earlier line.now) }
+    // The move that a name and the words after it tell, in the line of a number.
+    fn move_of(&self, number: u32, name: &[u8], mut words: Words) -> Result<Move, MovesFault>
+        ensures { result ≡ told_at number (move_of (number_in self.now.numbers) (name.now ∷ words.entry)) }
     {
-        let mut words = words_in(line);
+        let (Some(x), Some(y), None) = (words.next(), words.next(), words.next()) else {
+            return Err(MovesFault::BadLine(number));
+        };
+        let Some(register) = self.numbers.number_of(name) else {
+            return Err(MovesFault::UnknownRegister(number));
+        };
+        match read_point(x, y) {
+            Ok(at) => Ok(Move { register, at }),
+            Err(fault) => Err(MovesFault::BadNumber(number, fault)),
+        }
+    }
+}
+
+impl<'a> LineFormat<'a> for Moving {
+    ghost use Rattle.move_session.specs.Taken.{HasTaken};
+
+    type Fault = MovesFault;
+
+    ghost no_memory = { fault.NoMemory };
+
+    ghost fault_of = { λ start. fault_of (number_in start.numbers) };
+
+    ghost has_read = { HasTaken };
+
+    fn read_line(&mut self, line: Line<'a>) -> Result<(), MovesFault> {
+        let mut words = words_in(line.text);
         let Some(name) = words.next() else {
             return Ok(());
         };
-        let Some(entry) = entry_of(name, words) else {
-            return Err(LineFault::BadLine);
-        };
-        let next = self.move_of(entry)?;
+        let next = self.move_of(line.number, name, words)?;
         if self.moves.len() >= MAX_MOVES {
-            return Err(LineFault::TooMany);
+            return Err(MovesFault::TooMany(line.number));
         }
         self.moves.push(next)?;
         Ok(())
     }
+}
 
-    // The move that an entry denotes.
-    fn move_of(&self, entry: Entry) -> Result<Move, LineFault>
-        ensures { (circuit : Circuit)
-            → HasNumbers circuit (length circuit.registers) self.now.numbers
-            → MatchResult result (IsMove circuit (said_by entry.entry))
-            (IsFieldsFault circuit (said_by entry.entry)) }
-    {
-        let Some(register) = self.numbers.number_of(entry.name) else {
-            return Err(LineFault::UnknownRegister);
-        };
-        let at = place_of(entry)?;
-        Ok(Move { register, at })
-    }
+// The words of a line, its comment cut off.
+fn words_in<'a>(line: &'a [u8]) -> Words<'a>
+    ensures { result ≡ words_in line.now }
+{
+    words(before_comment(line))
 }

@@ -1,12 +1,10 @@
-ghost use Rattle.std.specs.Prelude.{◌≡◌, ◌≢◌, ◌≤◌, ◌⊎◌, List, length, IfOk, IfErr, IsErrAnd, IsOkUnless};
-ghost use Rattle.move_session.specs.Moves.{AcceptsMoves};
-ghost use Rattle.move_session.specs.Refusals.{RefusesMoves};
-ghost use Rattle.move_session.specs.declared.fault.MovesFault.{MovesFault};
-ghost use Rattle.move_session.specs.declared.moves.Move.{Move};
+ghost use Rattle.std.specs.Prelude.{◌≤◌, length};
+ghost use Rattle.cts_base.specs.LineFormats.{IsToldBy};
+ghost use Rattle.move_session.specs.Moves.{moves_in};
 
 use crate::moving::Moving;
 use crate::{Move, MovesFault};
-use cts_base::{Listed, lines};
+use cts_base::{Listed, read_lines};
 use cts_model::Circuit;
 use std::alloc::Global;
 
@@ -18,36 +16,16 @@ use std::alloc::Global;
 ///
 /// The first faulty line with its first fault, or `NoMemory` where there is none for the names or
 /// the moves.
+#[tactic(auto, unfolding(crate::specs::Moves::moves_in))]
 pub fn read_moves(
     alloc: Global,
     bytes: &[u8],
     circuit: &Circuit,
 ) -> Result<Listed<Move>, MovesFault>
     requires { length bytes.now ≤ 16777216 }
-    // Ok comes exactly on a text of moves, and they are those that the bytes denote.
-    ensures ok { IfOk result (AcceptsMoves bytes.now circuit.now) }
-    ensures accepted { (moves : List Move) → AcceptsMoves bytes.now circuit.now moves
-        → IsOkUnless result MovesFault.NoMemory }
-    // A fault comes exactly where the bytes have it; memory alone is free.
-    ensures refused { IfErr result (RefusesMoves bytes.now circuit.now) }
-    ensures faulty { (fault : MovesFault) → fault ≢ MovesFault.NoMemory
-        → RefusesMoves bytes.now circuit.now fault
-        → IsErrAnd result (λ found. (found ≡ fault) ⊎ (found ≡ MovesFault.NoMemory)) }
-{
-    moves_denoted(alloc, bytes, circuit)
-}
-
-// The moves, or the first fault.
-fn moves_denoted(alloc: Global, bytes: &[u8], circuit: &Circuit) -> Result<Listed<Move>, MovesFault>
-    requires { length bytes.now ≤ 16777216 }
-    ensures ok { IfOk result (AcceptsMoves bytes.now circuit.now) }
-    ensures refused { IfErr result (RefusesMoves bytes.now circuit.now) }
+    ensures { IsToldBy MovesFault.NoMemory (moves_in bytes.now circuit.now) result }
 {
     let mut moving = Moving::new(alloc, circuit)?;
-    for line in lines(bytes) {
-        if let Err(fault) = moving.add_line(line.text) {
-            return Err(fault.at(line.number));
-        }
-    }
+    read_lines(&mut moving, bytes)?;
     Ok(moving.moves)
 }

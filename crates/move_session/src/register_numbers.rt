@@ -1,5 +1,6 @@
-ghost use Rattle.std.specs.Prelude.{◌≡◌, List, ℕ, [], map, length, IfOk, OnOk};
-ghost use Rattle.move_session.specs.Numbers.{Assigns, HasNumbers, number_of};
+ghost use Rattle.std.specs.Prelude.{◌≡◌, List, ℕ, [], map, IfOk, OnOk};
+ghost use Rattle.move_session.specs.Moves.{register_of};
+ghost use Rattle.move_session.specs.Numbers.{Assigns, number_in};
 
 use cts_base::NoMemory;
 use cts_model::Circuit;
@@ -40,12 +41,12 @@ impl RegisterNumbers {
         Ok(())
     }
 
-    /// The numbers of a circuit's registers.
+    /// The numbers of a circuit's registers. Where several have one name, the first counts.
     pub(crate) fn of(alloc: Global, circuit: &Circuit) -> Result<RegisterNumbers, NoMemory>
-        ensures { IfOk result (HasNumbers circuit.now (length circuit.now.registers)) }
+        ensures { IfOk result (λ numbers. number_in numbers ≡ register_of circuit.now) }
     {
         let mut numbers = RegisterNumbers::new(alloc);
-        for register in 0..circuit.registers.len() {
+        for register in (0..circuit.registers.len()).rev() {
             numbers.assign(circuit.register_name(register), register as u32)?;
         }
         Ok(numbers)
@@ -53,7 +54,7 @@ impl RegisterNumbers {
 
     /// The number of the register of that name. `None` says that no register has it.
     pub(crate) fn number_of(&self, name: &[u8]) -> Option<u32>
-        ensures { result ≡ number_of self.now name.now }
+        ensures { result ≡ number_in self.now name.now }
     {
         self.numbers.get(name).copied()
     }

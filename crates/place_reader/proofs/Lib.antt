@@ -1,9 +1,4 @@
 mod NameLemmas
-mod NodeLemmas
 mod PlacedLemmas
-mod PlacePush
-mod PlaceWalk
-mod RegisterPlaces
-mod TakenLines
-mod DenotedPlaces
-pub mod OneFault
+mod PlaceLemmas
+mod ToldPlaces

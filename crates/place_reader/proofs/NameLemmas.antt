@@ -10,8 +10,8 @@ use Rattle.std.proofs.lemmas.List.Folds.{list_any-append}
 use Rattle.std.proofs.lemmas.Map.Steps.{list_any_congr}
 use Rattle.cts_base.proofs.ListTests.{list_any-map}
 use Rattle.indexmap.specs.IndexSet.{insert_key}
-use Rattle.cts_model.specs.placement.Placements.{is_among}
-use Rattle.place_reader.specs.Known.{AreSameNames}
+use Rattle.place_reader.specs.Names.{AreSameNames}
+use Rattle.place_reader.specs.Placements.{is_among}
 
 -- a name is one of these with one more
 among_push : (names : List (List ℕ)) (name other : List ℕ)

@@ -1,6 +1,4 @@
-pub mod Coordinates
-pub mod Known
-pub mod LineFaults
-pub mod Refusals
+pub mod Names
+pub mod Placements
 pub mod Taken
 pub mod View

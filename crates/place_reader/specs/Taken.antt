@@ -1,42 +1,33 @@
--- What the reader has taken in from the lines so far.
-use Rattle.std.specs.Prelude.{◌≡◌, ℕ, List, [], ◌∷◌, ◌++◌, None, IsTrue, is_some, MatchBool}
+-- What the reader keeps of the lines so far, and what a line changes.
+use Rattle.std.specs.Prelude.{◌≡◌, ℕ, Bool, ◌||◌, List, [], ◌++◌, Some, None, if◌then◌else◌, IsTrue}
+use Rattle.std.specs.Option.{option_to_list}
 use Rattle.cts_model.specs.declared.place.Point.{Point}
-use Rattle.cts_model.specs.placement.PlaceLines.{has_begun}
-use Rattle.cts_model.specs.placement.Placements.{is_among, nodes_in}
-use Rattle.place_reader.specs.declared.entry.Node.{Node}
+use Rattle.cts_model.specs.placement.PlaceLines.{Entry, Blank, Header, Stands, has_begun}
 use Rattle.place_reader.specs.declared.placing.Placing.{Placing}
-use Rattle.place_reader.specs.declared.line_fault.LineFault.{LineFault}
-use Rattle.place_reader.specs.declared.line_fault.LineFault.TheVariants.{BadLine, BadNumber, PlaceTwice, NoMemory}
-use Rattle.place_reader.specs.Known.{place_of, HasPlaces}
-use Rattle.place_reader.specs.Coordinates.{IsPointOf, IsPointFault}
+use Rattle.place_reader.specs.View.{is_written}
+use Rattle.place_reader.specs.Placements.{entry_fault, is_among, place_by, place_of, places_after}
 
--- this is taken in from the lines
-pub record HasTaken (wanted : List (List ℕ)) (placing : Placing) (lines : List (List ℕ))
-    : Type 0 where
-  pub names : placing.wanted ≡ wanted
+-- the wanted nodes have the same places
+abbrev pub AreSamePlaces : (wanted : List ℕ → Bool) → (places others : List (List ℕ × Point))
+    → Type 0
+AreSamePlaces wanted places others =
+    (name : List ℕ) → IsTrue (wanted name) → place_of places name ≡ place_of others name
+
+-- this is what the start has become by the lines: of the places those of the wanted nodes are kept
+pub record HasTaken (start placing : Placing) (lines : List (List ℕ)) : Type 0 where
+  pub wanted : placing.wanted ≡ start.wanted
   pub begun : placing.begun ≡ has_begun lines
-  pub places : HasPlaces wanted placing.placed (nodes_in lines)
+  pub places : AreSamePlaces (is_among start.wanted) placing.placed (places_after [] lines)
 
--- a wanted node gets its place
-pub record GivesPlace (old new : Placing) (node : Node) : Type 0 where
-  pub point : Point
-  pub point_is : IsPointOf node point
-  pub unplaced : place_of old.placed node.name.now ≡ None
-  pub placed : new.placed ≡ old.placed ++ (node.name.now, point) ∷ []
+-- the place that a line gives, where its node is wanted
+abbrev pub wanted_place : (wanted : List ℕ → Bool) → Entry → List (List ℕ × Point)
+wanted_place wanted Blank = []
+wanted_place wanted Header = []
+wanted_place wanted (Stands node) =
+    if wanted node.name then option_to_list (place_by (Some (Stands node))) else []
 
--- a node's line is taken in: a node that isn't wanted is passed over
-pub record TakesNode (old new : Placing) (node : Node) : Type 0 where
-  pub wanted : new.wanted ≡ old.wanted
-  pub begun : new.begun ≡ old.begun
-  pub placed : MatchBool (is_among old.wanted node.name.now) (GivesPlace old new node)
-      (new.placed ≡ old.placed)
-
--- what is wrong with a node's line; memory may run out at any
-abbrev pub IsNodeFault : Placing → Node → LineFault → Type 0
-IsNodeFault placing node BadLine = ⊥
-IsNodeFault placing node (BadNumber fault) =
-    IsTrue (is_among placing.wanted node.name.now) × IsPointFault node fault
-IsNodeFault placing node PlaceTwice =
-    IsTrue (is_among placing.wanted node.name.now) × ((point : Point) × IsPointOf node point)
-    × IsTrue (is_some (place_of placing.placed node.name.now))
-IsNodeFault placing node NoMemory = Unit {0}
+-- nothing is wrong with the line of this number, and it is taken in
+pub record TakesLine (old new : Placing) (number : ℕ) (entry : Entry) : Type 0 where
+  pub flawless : entry_fault (is_among old.wanted) old.placed number (Some entry) ≡ None
+  pub begun : new.begun ≡ (old.begun || is_written entry)
+  pub placed : new.placed ≡ old.placed ++ wanted_place (is_among old.wanted) entry

@@ -1,7 +1,7 @@
-ghost use Rattle.std.specs.Prelude.{◌≡◌, ◌≤◌, length};
+ghost use Rattle.std.specs.Prelude.{◌≡◌, ◌≤◌, length, IfSome};
 ghost use Rattle.std.specs.Option.{option_map};
-ghost use Rattle.cts_model.specs.placement.PlaceLines.{entry_of_words, is_header, place_words, y_len};
-ghost use Rattle.place_reader.specs.View.{said_by};
+ghost use Rattle.cts_model.specs.placement.PlaceLines.{entry_of_words, is_header, is_not_blank, place_words, y_len};
+ghost use Rattle.place_reader.specs.View.{is_written, said_by};
 
 use crate::tail::is_tail;
 use cts_base::{before_comment, words};
@@ -29,7 +29,9 @@ impl<'a> Entry<'a> {
     /// Reads a line; `begun` says that an earlier one isn't blank. `None` says that it has no form
     /// of the format.
     pub(crate) fn of(begun: bool, line: &'a [u8]) -> Option<Entry<'a>>
-        ensures { option_map said_by result ≡ entry_of_words begun (place_words line.now) }
+        ensures said { option_map said_by result ≡ entry_of_words begun (place_words line.now) }
+        ensures written { IfSome result
+            (λ entry. is_written (said_by entry) ≡ is_not_blank line.now) }
     {
         let mut words = words(before_comment(line));
         let Some(name) = words.next() else {

@@ -3,7 +3,6 @@
 
 mod entry;
 mod fault;
-mod line_fault;
 mod node_names;
 mod placed;
 mod placing;

@@ -1,116 +1,119 @@
-ghost use Rattle.std.specs.Prelude.{◌≡◌, ◌≤◌, List, ℕ, [], ◌∷◌, ◌++◌, length, None, IfOk, IfErr, MatchResult};
-ghost use Rattle.cts_base.specs.Lines.{lines_of};
-ghost use Rattle.cts_model.specs.placement.Placements.{AreFlawless, HasFlaw, nodes_in};
-ghost use Rattle.place_reader.specs.LineFaults.{IsLineFault, RefusesLine};
-ghost use Rattle.place_reader.specs.Coordinates.{IsPointOf, IsPointFault};
-ghost use Rattle.place_reader.specs.Known.{HasPlaces};
+ghost use Rattle.std.specs.Prelude.{◌≡◌, ℕ, List, [], None, OnOk, IfOk, IfErr};
+ghost use Rattle.cts_base.specs.LineFormats.{IsFaultOf};
+ghost use Rattle.place_reader.specs.Names.{AreSameNames};
+ghost use Rattle.place_reader.specs.Placements.{entry_fault, fault_of, is_among, point_of, wanted_nodes};
+ghost use Rattle.place_reader.specs.View.{node_said, said_by};
+ghost use Rattle.place_reader.specs.declared.fault.PlaceFault.TheVariants as fault;
+ghost use Rattle.cts_model.specs.placement.PlaceLines as format;
 
 use crate::PlaceFault;
 use crate::entry::{Entry, Node};
-use crate::line_fault::LineFault;
 use crate::node_names::NodeNames;
 use crate::placed::Placed;
-use cts_base::{NumberFault, lines, read_micro};
-use cts_model::Point;
+use cts_base::{Line, LineFormat, NoMemory, NumberFault, read_micro};
+use cts_model::{Circuit, Point};
 use std::alloc::Global;
 
 /// What the lines so far place.
 #[derive(Drop)]
 pub(crate) struct Placing {
     wanted: NodeNames,
-    placed: Placed,
+    pub(crate) placed: Placed,
     // Whether a line so far isn't blank.
     begun: bool,
 }
 
-impl Placing {
-    ghost use Rattle.place_reader.specs.Taken.{HasTaken, TakesNode, IsNodeFault};
+impl<'a> LineFormat<'a> for Placing {
+    type Fault = PlaceFault;
 
-    fn new(alloc: Global, wanted: NodeNames) -> Placing
-        ensures { HasTaken wanted result [] }
+    ghost use Rattle.place_reader.specs.Taken.{HasTaken};
+
+    ghost no_memory = { fault.NoMemory };
+
+    ghost fault_of = { λ start. fault_of (is_among start.wanted) };
+
+    ghost has_read = { HasTaken };
+
+    fn read_line(&mut self, line: Line<'a>) -> Result<(), PlaceFault> {
+        let Some(entry) = Entry::of(self.begun, line.text) else {
+            return Err(PlaceFault::BadLine(line.number));
+        };
+        self.take(line.number, entry)
+    }
+}
+
+impl Placing {
+    ghost use Rattle.place_reader.specs.Taken.{HasTaken, TakesLine};
+
+    /// Nothing is placed of what is wanted.
+    pub(crate) fn new(
+        alloc: Global,
+        circuit: &Circuit,
+        source: &[u8],
+        host: &[u8],
+    ) -> Result<Placing, NoMemory>
+        ensures { IfOk result (λ placing.
+            AreSameNames placing.wanted (wanted_nodes circuit.now source.now host.now)
+            × HasTaken placing placing []) }
     {
-        Placing {
+        let wanted = NodeNames::wanted(alloc, circuit, source, host)?;
+        Ok(Placing {
             wanted,
             placed: Placed::new(alloc),
             begun: false,
-        }
+        })
     }
 
-    // Takes in what the next line places, if nothing is wrong with it.
-    fn add_line(&mut self, line: &[u8]) -> Result<(), LineFault>
-        ensures { (wanted earlier : List (List ℕ)) → HasTaken wanted self.old earlier
-            → MatchResult result
-            (λ _. HasFlaw wanted earlier line.now None
-            × HasTaken wanted self.new (earlier ++ line.now ∷ []))
-            (IsLineFault wanted earlier line.now) }
+    // Takes in what the line of this number is, if nothing is wrong with it.
+    fn take(&mut self, number: u32, entry: Entry) -> Result<(), PlaceFault>
+        ensures wanted { self.new.wanted ≡ self.old.wanted }
+        ensures taken { OnOk result (TakesLine self.old self.new number (said_by entry.entry)) }
+        ensures faulty { IfErr result (IsFaultOf fault.NoMemory (entry_fault
+            (is_among self.old.wanted) self.old.placed number (Some (said_by entry.entry)))) }
     {
-        match Entry::of(self.begun, line) {
-            None => Err(LineFault::BadLine),
-            Some(Entry::Blank) => Ok(()),
-            Some(Entry::Header) => {
+        match entry {
+            Entry::Blank => Ok(()),
+            Entry::Header => {
                 self.begun = true;
                 Ok(())
             }
-            Some(Entry::Stands(node)) => {
-                self.begun = true;
-                self.add_node(node)
-            }
+            Entry::Stands(node) => self.take_node(number, node),
         }
     }
 
-    // Takes in a node's line, if nothing is wrong with it; a node that isn't wanted is passed over.
-    fn add_node(&mut self, node: Node) -> Result<(), LineFault>
-        ensures { MatchResult result (λ _. TakesNode self.old self.new node.entry)
-            (IsNodeFault self.old node.entry) }
+    // The same for a node's line; a node that isn't wanted is passed over.
+    fn take_node(&mut self, number: u32, node: Node) -> Result<(), PlaceFault>
+        ensures wanted { self.new.wanted ≡ self.old.wanted }
+        ensures taken { OnOk result
+            (TakesLine self.old self.new number (format.Stands (node_said node.entry))) }
+        ensures faulty { IfErr result (IsFaultOf fault.NoMemory (entry_fault
+            (is_among self.old.wanted) self.old.placed number
+            (Some (format.Stands (node_said node.entry))))) }
     {
+        self.begun = true;
         if !self.wanted.has(node.name) {
             return Ok(());
         }
-        let point = point_of(node)?;
+        let point = match point_of(node) {
+            Ok(point) => point,
+            Err(fault) => return Err(PlaceFault::BadNumber(number, fault)),
+        };
         if self.placed.place_of(node.name).is_some() {
-            return Err(LineFault::PlaceTwice);
+            return Err(PlaceFault::PlaceTwice(number));
         }
         self.placed.put(node.name, point)?;
         Ok(())
     }
 }
 
-// The point of a node's line.
+// Where a node stands.
 fn point_of(node: Node) -> Result<Point, NumberFault>
-    ensures { MatchResult result (IsPointOf node.entry) (IsPointFault node.entry) }
+    ensures { result ≡ point_of (node_said node.entry) }
 {
     let x = read_micro(node.x)?;
     let y = read_micro(node.y)?;
-    Ok(point(x, y))
-}
-
-fn point(x: i64, y: i64) -> Point
-    ensures x { result.x ≡ x }
-    ensures y { result.y ≡ y }
-{
-    Point {
-        x: x as i128,
-        y: y as i128,
-    }
-}
-
-/// The places of the wanted nodes, by the lines of a placement.
-pub(crate) fn read_nodes(
-    alloc: Global,
-    bytes: &[u8],
-    wanted: NodeNames,
-) -> Result<Placed, PlaceFault>
-    requires { length bytes.now ≤ 16777216 }
-    ensures flawless { IfOk result (λ _. AreFlawless wanted (lines_of bytes.now)) }
-    ensures places { IfOk result
-        (λ placed. HasPlaces wanted placed (nodes_in (lines_of bytes.now))) }
-    ensures refused { IfErr result (RefusesLine wanted bytes.now) }
-{
-    let mut placing = Placing::new(alloc, wanted);
-    for line in lines(bytes) {
-        if let Err(fault) = placing.add_line(line.text) {
-            return Err(fault.at(line.number));
-        }
-    }
-    Ok(placing.placed)
+    Ok(Point {
+        x: i128::from(x),
+        y: i128::from(y),
+    })
 }

@@ -1,8 +1,8 @@
-ghost use Rattle.std.specs.Prelude.{◌≡◌, ◌≤◌, ◌<◌, ◌+◌, ◌↔◌, ◌||◌, IsTrue, length};
+ghost use Rattle.std.specs.Prelude.{◌≡◌, ◌+◌, ◌==◌, ◌↔◌, IsTrue, length};
 ghost use Rattle.std.specs.List.{before_first, after_first, list_all, position};
 ghost use Rattle.std.specs.Char.{is_ascii_digit};
 ghost use Rattle.std.specs.Str.Parse.{AllDigits, IsNumeral, starts_with_minus, without_leading_sign};
-ghost use Rattle.cts_base.specs.Decimals.{is_point, is_exponent_mark, coefficient, exponent, whole_digits, fraction_digits, IsDecimal};
+ghost use Rattle.cts_base.specs.Decimals.{is_decimal, is_exponent_mark, is_marked, is_numeral, is_point, exponent, whole_digits, fraction_digits};
 
 /// The parts that the spelling of a number has.
 #[derive(Clone, Copy, Debug)]
@@ -22,8 +22,7 @@ pub fn parts_of<'a>(text: &'a [u8]) -> Parts<'a>
     ensures whole { result.whole.now ≡ whole_digits text.now }
     ensures fraction { result.fraction.now ≡ fraction_digits text.now }
     ensures exponent { result.exponent.now ≡ exponent text.now }
-    ensures is_marked { IsTrue result.is_marked
-        ↔ (length (coefficient text.now) < length (without_leading_sign text.now)) }
+    ensures is_marked { result.is_marked ≡ is_marked text.now }
 {
     let body = without_sign(text);
     let coefficient = before_mark(body);
@@ -36,8 +35,9 @@ pub fn parts_of<'a>(text: &'a [u8]) -> Parts<'a>
 }
 
 /// Whether a text has the form of a number.
+#[tactic(auto, unfolding(crate::specs::Decimals::is_decimal))]
 pub fn is_decimal(text: &[u8]) -> bool
-    ensures { IsTrue result ↔ IsDecimal text.now }
+    ensures { result ≡ is_decimal text.now }
 {
     let parts = parts_of(text);
     if !are_digits(parts.whole) {
@@ -53,7 +53,7 @@ pub fn is_decimal(text: &[u8]) -> bool
 }
 
 fn is_nothing(whole: &[u8], fraction: &[u8]) -> bool
-    ensures { IsTrue result ↔ (length whole.now + length fraction.now ≡ 0) }
+    ensures { result ≡ (length whole.now + length fraction.now == 0) }
 {
     whole.is_empty() && fraction.is_empty()
 }
@@ -128,7 +128,8 @@ fn point_of(body: &[u8]) -> Option<usize>
 }
 
 fn are_digits(bytes: &[u8]) -> bool
-    ensures { IsTrue result ↔ AllDigits 10 bytes.now }
+    ensures tested { result ≡ list_all is_ascii_digit bytes.now }
+    ensures digits { IsTrue result ↔ AllDigits 10 bytes.now }
 {
     all_ascii_digits(bytes)
 }
@@ -141,7 +142,8 @@ fn all_ascii_digits(bytes: &[u8]) -> bool
 
 /// Whether bytes are digits, and at least one.
 pub fn is_numeral(bytes: &[u8]) -> bool
-    ensures { IsTrue result ↔ IsNumeral 10 bytes.now }
+    ensures tested { result ≡ is_numeral bytes.now }
+    ensures numeral { IsTrue result ↔ IsNumeral 10 bytes.now }
 {
     !bytes.is_empty() && are_digits(bytes)
 }

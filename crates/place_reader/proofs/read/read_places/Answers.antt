@@ -1,11 +1,48 @@
-use Rattle.place_reader.proofs.OneFault.{accepts_each, names_each}
+use Rattle.std.proofs.Common.{inl, inr, sym, ap, ◌∙◌, Err}
+use Rattle.std.proofs.lemmas.Result.{err_from_is_err_and}
+use Rattle.cts_base.proofs.Told.{told_err, told_ok}
+use Rattle.place_reader.specs.declared.fault.PlaceFault.TheVariants.{NoMemory}
+use Rattle.place_reader.specs.Placements.{place_of, with_source}
+use Rattle.place_reader.proofs.ToldPlaces.{kept_told, line_refused}
 use Rattle.place_reader.proofs.read.read_places.Goals as goal
 
-pub returns-clause-accepted : goal.returns-clause-accepted
-returns-clause-accepted c = accepts_each c.args.bytes.now c.args.circuit.now c.args.source.now
-    c.args.host.now c.places_denoted.result c.places_denoted.ensures.refused
+pub returns-in_err-read_lines : goal.returns-in_err-read_lines
+returns-in_err-read_lines c =
+    let p = err_from_is_err_and c.from_residual-in_err-read_lines.result
+    c.from_residual-in_err-read_lines.ensures.1 in
+    rw (p.1, p.2)
+    (elim c.in_err-read_lines.ensures.flawed [
+      | inl found ↦ inl (sym (line_refused c.args.bytes.now c.args.circuit.now c.args.source.now
+          c.args.host.now c.in_ok-placing.placing.wanted c.in_ok-placing.ensures.0 _ found))
+      | inr memory ↦ inr (ap Err memory)
+    ])
 
-pub returns-clause-faulty : goal.returns-clause-faulty
-returns-clause-faulty c =
-    names_each c.args.bytes.now c.args.circuit.now c.args.source.now c.args.host.now
-    c.places_denoted.result c.places_denoted.ensures.ok c.places_denoted.ensures.refused
+pub returns-in_err-registers : goal.returns-in_err-registers
+returns-in_err-registers c =
+    let p = err_from_is_err_and c.from_residual-in_err-registers.result
+    c.from_residual-in_err-registers.ensures.1 in
+    let told = kept_told c.args.bytes.now c.args.circuit.now c.args.source.now
+    c.args.host.now c.in_ok-placing.placing.wanted c.in_ok-placing.ensures.0 c.read_lines.new.format.placed
+    c.in_ok-read_lines.ensures.flawless c.in_ok-read_lines.ensures.read.places in
+    rw (p.1, p.2)
+    (elim (told_err NoMemory _ _ c.in_err-registers.ensures) [
+      | inl found ↦ inl (sym (told ∙ ap (λ points. with_source points
+          (place_of c.read_lines.new.format.placed c.args.source.now)) found))
+      | inr memory ↦ inr (ap Err memory)
+    ])
+
+pub returns-in_default : goal.returns-in_default
+returns-in_default c =
+    let told = kept_told c.args.bytes.now c.args.circuit.now c.args.source.now
+    c.args.host.now c.in_ok-placing.placing.wanted c.in_ok-placing.ensures.0 c.read_lines.new.format.placed
+    c.in_ok-read_lines.ensures.flawless c.in_ok-read_lines.ensures.read.places in
+    let points = told_ok NoMemory _ _ c.in_ok-registers.ensures in
+    inl (sym (told ∙ (λ i. with_source (points i) (sym c.in_default.ensures i))))
+
+pub returns : goal.returns
+returns c =
+    let told = kept_told c.args.bytes.now c.args.circuit.now c.args.source.now
+    c.args.host.now c.in_ok-placing.placing.wanted c.in_ok-placing.ensures.0 c.read_lines.new.format.placed
+    c.in_ok-read_lines.ensures.flawless c.in_ok-read_lines.ensures.read.places in
+    let points = told_ok NoMemory _ _ c.in_ok-registers.ensures in
+    inl (sym (told ∙ (λ i. with_source (points i) (sym c.in-Some.ensures i))))

@@ -1,18 +1,38 @@
-use Rattle.std.proofs.Common.{sym}
-use Rattle.cts_model.specs.placement.Placements.{register_nodes}
-use Rattle.place_reader.proofs.RegisterPlaces.{points_next, first_without}
+use Rattle.std.proofs.Common.{◌+◌, inl, subst, sym, arith, []}
+use Rattle.std.specs.List.{slice_get}
+use Rattle.std.specs.Option.{option_map_or}
+use Rattle.std.proofs.lemmas.List.{length-map}
+use Rattle.place_reader.specs.Placements.{node_name, place_of, register_nodes}
+use Rattle.place_reader.proofs.ToldPlaces.{ArePoints, all_points, no_point, no_points, point_more}
 use Rattle.place_reader.proofs.read.register_places.Goals as goal
+
+pub loop-register-init : goal.loop-register-init
+loop-register-init c =
+    let place = place_of c.args.placed.now in
+    let names = register_nodes c.args.circuit.now c.args.host.now in
+    subst (ArePoints place names 0) (sym c.new-points.ensures) (no_points place names)
 
 pub loop-register-preserved : goal.loop-register-preserved
 loop-register-preserved c =
-    points_next c.args.placed.now
-    (register_nodes c.args.circuit.now c.args.host.now) c.loop-register.register _
-    c.loop-register.points c.register_node.ensures c.loop-register.invariant
-    c.push.new.self c.in-Some.point (sym c.in-Some.ensures) c.in_ok-push.ensures.ok
+    let place = place_of c.args.placed.now in
+    let names = register_nodes c.args.circuit.now c.args.host.now in
+    let register = c.loop-register.register in
+    subst (ArePoints place names (register + 1)) (sym c.in_ok-push.ensures.ok)
+    (point_more place names register c.loop-register.points c.loop-register.invariant
+    c.register_node.result.now c.register_node.ensures c.in-Some.point (sym c.in-Some.ensures))
 
-pub returns-in_default-clause-refused : goal.returns-in_default-clause-refused
-returns-in_default-clause-refused c =
-    first_without c.args.placed.now
-    (register_nodes c.args.circuit.now c.args.host.now) c.loop-register.register _
-    c.loop-register.points c.register_node.ensures c.loop-register.invariant
-    (sym c.in_default.ensures)
+pub returns-in_default : goal.returns-in_default
+returns-in_default c =
+    inl (sym (no_point (place_of c.args.placed.now)
+    (register_nodes c.args.circuit.now c.args.host.now) c.loop-register.register
+    c.loop-register.points c.loop-register.invariant c.register_node.result.now
+    c.register_node.ensures (sym c.in_default.ensures)))
+
+pub returns : goal.returns
+returns c =
+    let names = register_nodes c.args.circuit.now c.args.host.now in
+    let last = length-map c.args.circuit.now.registers
+    (λ number. option_map_or (node_name c.args.host.now)
+    (slice_get c.args.circuit.now.signals number) []) in
+    inl (sym (all_points (place_of c.args.placed.now) names c.loop-register.register
+    c.loop-register.points c.loop-register.invariant (omega (arith, last))))

@@ -1,8 +1,7 @@
-use Rattle.std.proofs.Common.{◌≡◌, map, take, Some}
-use Rattle.cts_model.specs.placement.Placements.{register_nodes}
-use Rattle.place_reader.specs.Known.{place_of}
+use Rattle.place_reader.specs.Placements.{place_of, register_nodes}
+use Rattle.place_reader.proofs.ToldPlaces.{ArePoints}
 use Rattle.place_reader.proofs.read.register_places.Given as goal
 
 abbrev pub invariant-loop-register : goal.invariant-loop-register
 invariant-loop-register l =
-    map Some l.points ≡ map (place_of l.placed) (take l.register (register_nodes l.circuit l.host))
+    ArePoints (place_of l.placed) (register_nodes l.circuit l.host) l.register l.points

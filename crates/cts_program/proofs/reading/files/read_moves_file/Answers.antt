@@ -1,4 +1,7 @@
 use Rattle.std.proofs.lemmas.Result.{err_from_is_err_and}
+use Rattle.cts_base.proofs.Told.{told_ok}
+use Rattle.move_session.specs.declared.fault.MovesFault.TheVariants.{NoMemory}
+use Rattle.move_session.specs.Moves.{moves_in}
 use Rattle.failure_lines.specs.declared.file_kind.FileKind.TheVariants as kinds
 use Rattle.cts_program.specs.MoveFiles.{RefusesMovesFile}
 use Rattle.cts_program.proofs.MoveLemmas.{refused_moves}
@@ -17,14 +20,15 @@ returns-in_err-read_moves-clause-cause g c =
     c.from_residual-in_err-read_moves.ensures.1 in
     rw (p.1, p.2) (refused_moves c.args.problem.now _ _ _ c.in_ok-bytes.bytes.items
     c.in_ok-bytes.ensures.ok c.in_ok-bytes.ensures.short _
-    (rw c.deref.ensures.value at c.in_err-read_moves.ensures.refused))
+    (rw c.deref.ensures.value at c.in_err-read_moves.ensures))
 
 pub returns-clause-ok : goal.returns-clause-ok
 returns-clause-ok g c = record {
   bytes = c.in_ok-bytes.bytes.items;
   denoted = c.in_ok-bytes.ensures.ok;
   short = c.in_ok-bytes.ensures.short;
-  accepts = rw c.deref.ensures.value at c.in_ok-read_moves.ensures.ok;
+  accepts = told_ok NoMemory (moves_in c.in_ok-bytes.bytes.items c.args.problem.now.circuit) _
+      (rw c.deref.ensures.value at c.in_ok-read_moves.ensures);
 }
 
 pub returns-clause-stays : goal.returns-clause-stays

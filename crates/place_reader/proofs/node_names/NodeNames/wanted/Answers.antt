@@ -1,4 +1,4 @@
-use Rattle.cts_model.specs.placement.Placements.{register_nodes}
+use Rattle.place_reader.specs.Placements.{register_nodes}
 use Rattle.place_reader.proofs.NameLemmas.{names_next}
 use Rattle.place_reader.proofs.node_names.NodeNames.wanted.Goals as goal
 

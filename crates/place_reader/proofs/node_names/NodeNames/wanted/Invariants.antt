@@ -1,6 +1,6 @@
 use Rattle.std.proofs.Common.{take}
-use Rattle.cts_model.specs.placement.Placements.{register_nodes}
-use Rattle.place_reader.specs.Known.{AreSameNames}
+use Rattle.place_reader.specs.Placements.{register_nodes}
+use Rattle.place_reader.specs.Names.{AreSameNames}
 use Rattle.place_reader.proofs.node_names.NodeNames.wanted.Given as goal
 
 abbrev pub invariant-loop-register : goal.invariant-loop-register

@@ -1,0 +1,100 @@
+-- Moves that a text tells.
+use Rattle.std.proofs.Common.{◌≡◌, ◌<◌, ◌+◌, ℕ, Bool, true, false, cond, List, [], ◌∷◌, length, Option, Some, None, Result, Ok, Err, refl, ap, ◌∙◌, arith, subst, suc, zero, ℤ, All, find}
+use Rattle.std.specs.List.{cons_option, range_with_len}
+use Rattle.std.specs.Result.{result_ok}
+use Rattle.std.specs.Str.{bytes_eq}
+use Rattle.std.proofs.lemmas.List.Elements.{All-nil, All-cons}
+use Rattle.cts_base.specs.Decimals.{micros_of}
+use Rattle.cts_base.specs.LineFormats.{first_fault, unless_faulty}
+use Rattle.cts_base.specs.declared.number.NumberFault.{NumberFault}
+use Rattle.cts_model.specs.declared.circuit.Circuit.{Circuit}
+use Rattle.cts_model.specs.netlist.Paths.{register_name}
+use Rattle.cts_model.specs.placement.Coordinates.{point_from}
+use Rattle.cts_model.specs.text.Entries.{entries_of}
+use Rattle.move_session.specs.declared.fault.MovesFault.{MovesFault}
+use Rattle.move_session.specs.declared.moves.Move.{Move}
+use Rattle.move_session.specs.Moves.{AcceptsMoves, fault_of, move_of, move_to, moves_in, moves_of, register_of}
+
+-- what is found in a range is in it
+found_below : (test : ℕ → Bool) (from left found : ℕ)
+    → find test (range_with_len from left) ≡ Some found → found < from + left
+found_below test from zero found is = cc
+found_below test from (suc left) found is =
+    at (test from) (found_below test (from + 1) left found) is
+  where
+    at : (passes : Bool)
+        → (find test (range_with_len (from + 1) left) ≡ Some found → found < from + 1 + left)
+        → cond passes (Some from) (find test (range_with_len (from + 1) left)) ≡ Some found
+        → found < from + suc left
+    at true later is = let same : from ≡ found = cc is in omega (arith, same)
+    at false later is = omega (arith, later is)
+
+-- the move is of a register, to a place whose coordinates words name
+pub record IsToldMove (circuit : Circuit) (move : Move) : Type 0 where
+  pub within : move.register < length circuit.registers
+  pub x : List ℕ
+  pub y : List ℕ
+  pub x_is : micros_of x ≡ Ok move.at.x
+  pub y_is : micros_of y ≡ Ok move.at.y
+
+module _ (circuit : Circuit) where
+  -- by its parts
+  by_parts : (x y : List ℕ) (register : Option ℕ) (across up : Result ℤ NumberFault) (move : Move)
+      → ((found : ℕ) → register ≡ Some found → found < length circuit.registers)
+      → micros_of x ≡ across → micros_of y ≡ up
+      → move_to register (point_from across up) ≡ Ok move → IsToldMove circuit move
+  by_parts x y None across up move below x_is y_is told = cc
+  by_parts x y (Some register) (Err fault) up move below x_is y_is told = cc
+  by_parts x y (Some register) (Ok across) (Err fault) move below x_is y_is told = cc
+  by_parts x y (Some register) (Ok across) (Ok up) move below x_is y_is told =
+      let same : record { register = register; at = record { x = across; y = up } } ≡ move =
+      cc told in record {
+        within = subst (λ m. m.register < length circuit.registers) same (below register refl);
+        x = x;
+        y = y;
+        x_is = x_is ∙ ap (λ m. Ok m.at.x) same;
+        y_is = y_is ∙ ap (λ m. Ok m.at.y) same;
+      }
+
+  -- the words of a line tell it
+  by_words : (words : List (List ℕ)) (move : Move) → move_of (register_of circuit) words ≡ Ok move
+      → IsToldMove circuit move
+  by_words (name ∷ x ∷ y ∷ []) move told =
+      by_parts x y (register_of circuit name) (micros_of x) (micros_of y) move
+      (λ found is. omega (
+        arith,
+        found_below
+            (λ register. bytes_eq name (register_name circuit register)) 0 (length circuit.registers)
+            found is,
+      )) refl refl told
+  by_words words move told = cc
+
+  module _ (Holds : Move → Type 0) (holds : (move : Move) → IsToldMove circuit move → Holds move)
+    where
+      -- what holds of each told move holds of those of entries
+      by_entries : (entries : List (List (List ℕ))) → All Holds (moves_of (register_of circuit) entries)
+      by_entries [] = All-nil Holds
+      by_entries (words ∷ entries) =
+          at (move_of (register_of circuit) words) refl (by_entries entries)
+        where
+          at : (told : Result Move (ℕ → MovesFault)) → move_of (register_of circuit) words ≡ told
+              → All Holds (moves_of (register_of circuit) entries)
+              → All Holds (cons_option (result_ok told) (moves_of (register_of circuit) entries))
+          at (Ok move) is rest = All-cons Holds move (moves_of (register_of circuit) entries)
+              (holds move (by_words words move is)) rest
+          at (Err fault) is rest = rest
+
+      by_fault : (fault : Option MovesFault) (moves others : List Move)
+          → unless_faulty fault (Ok moves) ≡ Ok others → All Holds moves → All Holds others
+      by_fault None moves others same each =
+          let equal : moves ≡ others = cc same in subst (All Holds) equal each
+      by_fault (Some fault) moves others same each = cc
+
+      -- and of those of a text
+      pub each_told : (text : List ℕ) (moves : List Move) → AcceptsMoves text circuit moves
+          → All Holds moves
+      unfolding moves_in
+      each_told text moves accepts =
+          by_fault (first_fault (fault_of (register_of circuit)) text)
+          (moves_of (register_of circuit) (entries_of text)) moves accepts
+          (by_entries (entries_of text))
