@@ -1,5 +1,5 @@
 -- What a call answers that is told by a text, but where memory is refused.
-use Rattle.std.proofs.Common.{◌≡◌, ◌⊎◌, inl, inr, Result, Ok, Err, sym}
+use Rattle.std.proofs.Common.{◌≡◌, ◌⊎◌, inl, inr, Result, Ok, Err, sym, ◌∙◌}
 use Rattle.cts_base.specs.LineFormats.{IsToldBy}
 
 -- a value is the one that is told
@@ -14,3 +14,20 @@ pub told_err : {Value Fault : Type 0} (no_memory : Fault) (told : Result Value F
     → (told ≡ Err fault) ⊎ (fault ≡ no_memory)
 told_err no_memory told fault (inl same) = inl (sym same)
 told_err no_memory told fault (inr memory) = inr (cc)
+
+-- one value is told
+pub one_value : {Value Fault : Type 0} (told : Result Value Fault) (value other : Value)
+    → told ≡ Ok value → told ≡ Ok other → value ≡ other
+one_value told value other first second =
+    let same = sym first ∙ second in cc same
+
+-- or one fault, and never both
+pub one_fault : {Value Fault : Type 0} (told : Result Value Fault) (fault other : Fault)
+    → told ≡ Err fault → told ≡ Err other → fault ≡ other
+one_fault told fault other first second =
+    let same = sym first ∙ second in cc same
+
+pub not_both : {Value Fault : Type 0} (told : Result Value Fault) (value : Value) (fault : Fault)
+    → told ≡ Ok value → told ≡ Err fault → ⊥
+not_both told value fault first second =
+    let same = sym first ∙ second in cc same
