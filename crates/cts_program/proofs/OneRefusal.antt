@@ -112,7 +112,7 @@ one_moving : (problem : Problem) (bytes : List ℕ) (failure : Failure)
 one_moving problem bytes failures.Pairs accepted (file, many) = accepted.few many
 one_moving problem bytes (failures.TooLong kinds.Moves) accepted long = long accepted.file.short
 one_moving problem bytes (failures.Moves fault) accepted (short, refuses) =
-    told.no_fault (moves_in bytes problem.circuit) accepted.file.moves fault accepted.file.accepts refuses
+    told.not_both (moves_in bytes problem.circuit) accepted.file.moves fault accepted.file.accepts refuses
 one_moving problem bytes failure accepted refuses = absurd refuses
 
 -- the status for those that are refused is 3

@@ -2,3 +2,4 @@ mod NameLemmas
 mod PlacedLemmas
 mod PlaceLemmas
 mod ToldPlaces
+pub mod TellsPlaces

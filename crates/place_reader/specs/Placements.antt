@@ -1,6 +1,6 @@
 -- Placements in the Bookshelf format (.pl), and what each tells of a circuit: where its registers,
 -- its source and its host stand, in millionths, or why the text is refused.
-use Rattle.std.specs.Prelude.{◌≡◌, ℕ, ◌+◌, Bool, List, [], ◌∷◌, ◌++◌, length, map, Option, Some, None, Result, Ok, Err, if◌then◌else◌, slice_get, IsOk, ℤ}
+use Rattle.std.specs.Prelude.{◌≡◌, ℕ, ◌+◌, Bool, List, [], ◌∷◌, ◌++◌, length, map, Option, Some, None, Result, Ok, Err, if◌then◌else◌, slice_get, ℤ}
 use Rattle.std.specs.Option.{option_map, option_map_or, option_to_list}
 use Rattle.std.specs.Result.{result_map_both, result_ok}
 use Rattle.std.specs.List.{list_any}
@@ -117,7 +117,8 @@ AcceptsPlacement text circuit source host places = places_in text circuit source
 
 -- it is one
 abbrev pub IsPlacement : (text : List ℕ) → Circuit → (source host : List ℕ) → Type 0
-IsPlacement text circuit source host = IsOk (places_in text circuit source host)
+IsPlacement text circuit source host =
+    (places : Places) × AcceptsPlacement text circuit source host places
 
 -- it is refused so
 abbrev pub RefusesPlacement : (text : List ℕ) → Circuit → (source host : List ℕ) → PlaceFault

@@ -22,16 +22,6 @@ impl Model for NodeNames {
 }
 
 impl NodeNames {
-    // No nodes. It takes no memory.
-    fn new(alloc: Global) -> NodeNames
-        ensures { result ≡ [] }
-    {
-        NodeNames {
-            alloc,
-            names: IndexSet::new(alloc),
-        }
-    }
-
     /// Whether a node is one of these.
     pub(crate) fn has(&self, name: &[u8]) -> bool
         ensures { result ≡ is_among self.now name.now }
@@ -58,7 +48,10 @@ impl NodeNames {
         ensures { IfOk result
             (λ names. AreSameNames names (wanted_nodes circuit.now source.now host.now)) }
     {
-        let mut names = NodeNames::new(alloc);
+        let mut names = NodeNames {
+            alloc,
+            names: IndexSet::new(alloc),
+        };
         for register in 0..circuit.registers.len() {
             names.add(register_node(circuit, host, register))?;
         }

@@ -1,0 +1,161 @@
+-- What a text that is a placement, and one that leaves a register without a place, say.
+use Rattle.std.proofs.Common.{◌≡◌, ℕ, ◌+◌, ◌<◌, Bool, true, false, cond, List, [], ◌∷◌, ◌++◌, map, length, Option, Some, None, Result, Ok, Err, refl, sym, ap, ◌∙◌, arith}
+use Rattle.std.specs.Option.{option_or}
+use Rattle.std.specs.Result.{result_map_both}
+use Rattle.std.proofs.lemmas.List.{length-map}
+use Rattle.cts_base.specs.LineFormats.{first_fault, first_fault_after, unless_faulty}
+use Rattle.cts_base.specs.Lines.{lines_of}
+use Rattle.cts_base.specs.declared.number.NumberFault.{NumberFault}
+use Rattle.cts_model.specs.declared.circuit.Circuit.{Circuit}
+use Rattle.cts_model.specs.declared.place.Places.{Places}
+use Rattle.cts_model.specs.declared.place.Point.{Point}
+use Rattle.cts_model.specs.placement.PlaceLines.{Entry, Blank, Header, Stands}
+use Rattle.place_reader.specs.declared.fault.PlaceFault.{PlaceFault}
+use Rattle.place_reader.specs.declared.fault.PlaceFault.TheVariants.{NoPlace, NoSource}
+use Rattle.place_reader.specs.Placements.{AcceptsPlacement, RefusesPlacement, entry_fault, fault_of, is_among, node_fault, place_of, places_after, places_in, point_of, points_from, register_nodes, wanted_nodes, with_source}
+
+-- the lines give the places of a placement
+pub record GivePlaces (given : List (List ℕ × Point)) (circuit : Circuit) (source host : List ℕ)
+    (places : Places) : Type 0 where
+  pub registers : map (place_of given) (register_nodes circuit host) ≡ map Some places.registers
+  pub at_source : place_of given source ≡ Some places.source
+
+-- points that are told are each there
+points_told : (number : ℕ) (places : List (Option Point)) (points : List Point)
+    → points_from number places ≡ Ok points → places ≡ map Some points
+points_told number [] [] told = refl
+points_told number [] (point ∷ points) told = cc
+points_told number (None ∷ places) points told = cc
+points_told number (Some first ∷ places) points told =
+    at (points_from (number + 1) places) points told (points_told (number + 1) places)
+  where
+    at : (rest : Result (List Point) PlaceFault) (points : List Point)
+        → result_map_both (λ more. first ∷ more) (λ fault. fault) rest ≡ Ok points
+        → ((more : List Point) → rest ≡ Ok more → places ≡ map Some more)
+        → Some first ∷ places ≡ map Some points
+    at (Err fault) points told before = cc
+    at (Ok more) [] told before = cc
+    at (Ok more) (point ∷ points) told before =
+        let rest = before more refl in
+        let same : first ≡ point = cc told in
+        let others : more ≡ points = cc told in
+        (λ i. Some (same i) ∷ rest i) ∙ ap (λ ps. Some point ∷ map Some ps) others
+
+-- a register that has none is one of them
+unplaced_below : (number : ℕ) (places : List (Option Point)) (register : ℕ)
+    → points_from number places ≡ Err (NoPlace register) → register < number + length places
+unplaced_below number [] register told = cc
+unplaced_below number (None ∷ places) register told =
+    let same : number ≡ register = cc told in omega (arith, same)
+unplaced_below number (Some first ∷ places) register told =
+    at (points_from (number + 1) places) told (unplaced_below (number + 1) places register)
+  where
+    at : (rest : Result (List Point) PlaceFault)
+        → result_map_both (λ more. first ∷ more) (λ fault. fault) rest ≡ Err (NoPlace register)
+        → (rest ≡ Err (NoPlace register) → register < number + 1 + length places)
+        → register < number + length (Some first ∷ places)
+    at (Ok more) told before = cc
+    at (Err fault) told before =
+        let same : fault ≡ NoPlace register = cc told in
+        let below = before (ap Err same) in
+        omega (arith, below)
+
+module _ (register : ℕ) where
+  -- no line is refused for a register
+  not_of_node : (number : ℕ) (point : Result Point NumberFault) (before : Option Point)
+      → node_fault number point before ≡ Some (NoPlace register) → ⊥
+  not_of_node number (Err fault) before found = cc
+  not_of_node number (Ok point) None found = cc
+  not_of_node number (Ok point) (Some there) found = cc
+
+  not_of_entry : (wanted : List ℕ → Bool) (places : List (List ℕ × Point)) (number : ℕ)
+      (entry : Option Entry) → entry_fault wanted places number entry ≡ Some (NoPlace register) → ⊥
+  not_of_entry wanted places number None found = cc
+  not_of_entry wanted places number (Some Blank) found = cc
+  not_of_entry wanted places number (Some Header) found = cc
+  not_of_entry wanted places number (Some (Stands node)) found = at (wanted node.name) found
+    where
+      at : (b : Bool)
+          → cond b (node_fault number (point_of node) (place_of places node.name)) None
+          ≡ Some (NoPlace register) → ⊥
+      at true found = not_of_node number (point_of node) (place_of places node.name) found
+      at false found = cc
+
+  not_of_lines : (wanted : List ℕ → Bool) (earlier lines : List (List ℕ))
+      → first_fault_after (fault_of wanted) earlier lines ≡ Some (NoPlace register) → ⊥
+  not_of_lines wanted earlier [] found = cc
+  not_of_lines wanted earlier (line ∷ later) found =
+      at (fault_of wanted earlier line) refl found (not_of_lines wanted (earlier ++ line ∷ []) later)
+    where
+      at : (o : Option PlaceFault) → fault_of wanted earlier line ≡ o
+          → option_or o (first_fault_after (fault_of wanted) (earlier ++ line ∷ []) later)
+          ≡ Some (NoPlace register)
+          → (first_fault_after (fault_of wanted) (earlier ++ line ∷ []) later
+          ≡ Some (NoPlace register) → ⊥) → ⊥
+      at None known found rest = rest found
+      at (Some fault) known found rest = not_of_entry wanted _ _ _ (known ∙ found)
+
+  -- nor is a text for one that is placed
+  not_of_source : (points : Result (List Point) PlaceFault) (source : Option Point)
+      → with_source points source ≡ Err (NoPlace register) → points ≡ Err (NoPlace register)
+  not_of_source (Ok points) None told = cc
+  not_of_source (Ok points) (Some source) told = cc
+  not_of_source (Err fault) source told = cc
+
+module _ (text : List ℕ) (circuit : Circuit) (source host : List ℕ) where
+  -- what is given by the lines
+  abbrev given : List (List ℕ × Point)
+  given = places_after [] (lines_of text)
+
+  -- of these a placement has its places
+  pub accepted_gives : (places : Places) → AcceptsPlacement text circuit source host places
+      → GivePlaces given circuit source host places
+  unfolding places_in
+  accepted_gives places accepts =
+      at (first_fault (fault_of (is_among (wanted_nodes circuit source host))) text) accepts
+    where
+      by : (points : Result (List Point) PlaceFault) (there : Option Point)
+          → points_from 0 (map (place_of given) (register_nodes circuit host)) ≡ points
+          → place_of given source ≡ there → with_source points there ≡ Ok places
+          → GivePlaces given circuit source host places
+      by (Err fault) there known here told = cc
+      by (Ok points) None known here told = cc
+      by (Ok points) (Some there) known here told =
+          let same : points ≡ places.registers = cc told in
+          let at_source : there ≡ places.source = cc told in
+          record {
+            registers = points_told 0 _ places.registers (known ∙ ap Ok same);
+            at_source = here ∙ ap Some at_source;
+          }
+
+      at : (o : Option PlaceFault)
+          → unless_faulty o (with_source
+          (points_from 0 (map (place_of given) (register_nodes circuit host)))
+          (place_of given source)) ≡ Ok places
+          → GivePlaces given circuit source host places
+      at (Some fault) told = cc
+      at None told = by _ _ refl refl told
+
+  -- a register that has no place is one of the circuit
+  pub unplaced_within : (register : ℕ)
+      → RefusesPlacement text circuit source host (NoPlace register)
+      → register < length circuit.registers
+  unfolding places_in
+  unplaced_within register refuses =
+      at (first_fault (fault_of (is_among (wanted_nodes circuit source host))) text) refl refuses
+    where
+      at : (o : Option PlaceFault)
+          → first_fault (fault_of (is_among (wanted_nodes circuit source host))) text ≡ o
+          → unless_faulty o (with_source
+          (points_from 0 (map (place_of given) (register_nodes circuit host)))
+          (place_of given source)) ≡ Err (NoPlace register)
+          → register < length circuit.registers
+      at (Some fault) known told =
+          let same : fault ≡ NoPlace register = cc told in
+          absurd (not_of_lines register _ [] (lines_of text) (known ∙ ap Some same))
+      at None known told =
+          let below = unplaced_below 0 (map (place_of given) (register_nodes circuit host)) register
+          (not_of_source register _ (place_of given source) told) in
+          let nodes : length (register_nodes circuit host) ≡ length circuit.registers =
+          length-map circuit.registers _ in
+          omega (arith, below, length-map (register_nodes circuit host) (place_of given), nodes)
