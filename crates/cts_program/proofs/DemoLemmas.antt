@@ -2,11 +2,11 @@
 -- would have.
 use Rattle.std.proofs.Common.{◌≡◌, ◌⊎◌, inl, inr, ℕ, List, [], ◌∷◌, refl, sym, subst}
 use Rattle.cts_model.specs.declared.problem.Problem.{Problem}
-use Rattle.cts_model.specs.netlist.Netlists.{IsNetlist}
+use Rattle.bench_reader.specs.Netlists.{IsNetlist, RefusesNetlist}
 use Rattle.bench_reader.specs.declared.fault.BenchFault.{BenchFault}
 use Rattle.delay_tables.specs.declared.fault.TechFault.{TechFault}
 use Rattle.place_reader.specs.declared.fault.PlaceFault.{PlaceFault}
-use Rattle.cts_engine.specs.Accepted.{TellAll, IsTableOf, HasFault, HasTableFault, HasPlacesFault}
+use Rattle.cts_engine.specs.Accepted.{TellAll, IsTableOf, HasTableFault, HasPlacesFault}
 use Rattle.cts_engine.proofs.OneProblem.{table_accepted}
 use Rattle.failure_lines.specs.declared.failure.Failure.{Failure}
 use Rattle.failure_lines.specs.declared.failure.Failure.TheVariants as failures
@@ -47,7 +47,7 @@ module _ (bench table places : List ℕ) (short_bench : IsShortFile bench)
       }
 
   -- a fault of the netlist refuses them
-  pub netlist_refused : (fault : BenchFault) → HasFault bench fault
+  pub netlist_refused : (fault : BenchFault) → RefusesNetlist bench fault
       → RefusesText (bench ∷ table ∷ places ∷ []) (failures.Bench fault)
   netlist_refused fault has = record { count = 1; refusal = (short_bench, has) }
 

@@ -1,13 +1,14 @@
 -- What the command `embed` is left with: a topology that is refused, too many pairs, or a clock
 -- tree.
 use Rattle.std.proofs.Common.{ℕ, List, length, Option, Result, Ok, Err, IfOk, Bor, refl, sym, subst}
+use Rattle.cts_base.specs.LineFormats.{IsToldBy}
+use Rattle.cts_base.proofs.Told.{told_fault}
 use Rattle.cts_model.specs.declared.problem.Problem.{Problem}
 use Rattle.cts_model.specs.declared.tree.Topology.{Topology}
 use Rattle.cts_model.specs.timing.PairLists.{JoinsMoreThan}
-use Rattle.cts_model.specs.tree.Topologies.{IsTopology}
 use Rattle.topology_file.specs.declared.fault.TopologyFault.{TopologyFault}
 use Rattle.topology_file.specs.declared.fault.TopologyFault.TheVariants as fault
-use Rattle.topology_file.specs.Refusals.{RefusesTopology}
+use Rattle.topology_file.specs.TopologyTexts.{topology_in}
 use Rattle.command_line.specs.declared.command.Command.TheVariants.{Embed}
 use Rattle.cts_program.specs.declared.ending.Answer.{Answer}
 use Rattle.failure_lines.specs.declared.failure.Failure.{Failure}
@@ -25,20 +26,19 @@ use Rattle.cts_program.proofs.LastFiles.{all_contents, all_are, end_with, last_s
 -- a text that is no topology is the failure that it is reported as
 pub refused_topology : (problem : Problem) (held : Option (List ℕ)) (before now : ℕ)
     (bytes : List ℕ) → IsReportedAs held bytes → IsShortFile bytes → (found : TopologyFault)
-    → RefusesTopology bytes (length problem.circuit.registers) found
+    → IsToldBy fault.NoMemory (topology_in bytes (length problem.circuit.registers)) (Err found)
     → FailsLast kinds.Topology (RefusesTopologyFile problem) held before now
     (topology_failure_of found)
-refused_topology problem held before now bytes denoted short fault.NoMemory refuses = tt
-refused_topology problem held before now bytes denoted short found refuses =
-    (bytes, denoted, (short, (λ e. cc e), refuses))
-
--- a topology that was read is one
-pub topology_of : (problem : Problem) (held : Option (List ℕ)) (topology : Topology)
-    → ReadsTopology problem held topology
-    → IsTopology (length problem.circuit.registers) topology.merges
-topology_of problem held topology read =
-    subst (IsTopology (length problem.circuit.registers)) (sym read.accepts.merges)
-    read.accepts.accepted.joined
+refused_topology problem held before now bytes denoted short fault.NoMemory told = tt
+refused_topology problem held before now bytes denoted short found told = (
+  bytes,
+  denoted,
+  (
+    short,
+    told_fault fault.NoMemory (topology_in bytes (length problem.circuit.registers)) found
+        (λ same. cc same) told,
+  ),
+)
 
 -- what refuses the file makes the command refuse it
 embedding_refused : (problem : Problem) (bytes : List ℕ) (failure : Failure)

@@ -1,11 +1,11 @@
 -- What a file that isn't read, or isn't accepted, leaves a command with.
-use Rattle.std.proofs.Common.{◌≡◌, ◌<◌, ℕ, Bool, List, length, Option, Some, None, replicate, refl, arith}
+use Rattle.std.proofs.Common.{◌≡◌, ◌<◌, ◌⊎◌, inl, inr, ℕ, Bool, List, length, Option, Some, None, replicate, refl, arith}
 use Rattle.std.proofs.lemmas.List.{length-replicate}
 use Rattle.cts_model.specs.declared.signal.Signal.{Signal}
 use Rattle.cts_model.specs.netlist.UsedKinds.{AreUsedKinds}
 use Rattle.bench_reader.specs.declared.fault.BenchFault.{BenchFault}
 use Rattle.bench_reader.specs.declared.fault.BenchFault.TheVariants as bench
-use Rattle.bench_reader.specs.Refusals as netlist
+use Rattle.bench_reader.specs.Netlists as netlist
 use Rattle.delay_tables.specs.declared.fault.TechFault.{TechFault}
 use Rattle.delay_tables.specs.declared.fault.TechFault.TheVariants as tech
 use Rattle.delay_tables.specs.Refusals as table
@@ -29,11 +29,12 @@ long_file None long =
 module _ (held : Option (List ℕ)) (before now : ℕ) (bytes : List ℕ)
     (denoted : IsReportedAs held bytes) (short : IsShortFile bytes) where
   -- a refused netlist is the failure that it is reported as
-  pub refused_netlist : (fault : BenchFault) → netlist.RefusesNetlist bytes fault
+  pub refused_netlist : (fault : BenchFault)
+      → netlist.RefusesNetlist bytes fault ⊎ (fault ≡ bench.NoMemory)
       → FailsNetlist held before now (bench_failure_of fault)
   refused_netlist bench.NoMemory cause = tt
-  refused_netlist fault cause =
-      (bytes, denoted, short, record { named = λ e. cc e; cause = cause })
+  refused_netlist fault (inl cause) = (bytes, denoted, short, cause)
+  refused_netlist fault (inr memory) = cc memory
 
   -- and so is a refused table
   pub refused_table : (signals : List Signal) (used : List Bool) → AreUsedKinds signals used

@@ -7,7 +7,8 @@ use Rattle.bench_reader.specs.declared.fault.BenchFault.{BenchFault}
 use Rattle.bench_reader.proofs.OneFault.{no_fault}
 use Rattle.delay_tables.specs.declared.fault.TechFault.{TechFault}
 use Rattle.place_reader.specs.declared.fault.PlaceFault.TheVariants as place
-use Rattle.cts_engine.specs.Accepted.{HasFault, HasTableFault}
+use Rattle.bench_reader.specs.Netlists.{RefusesNetlist}
+use Rattle.cts_engine.specs.Accepted.{HasTableFault}
 use Rattle.cts_engine.proofs.OneProblem.{table_fine, placement_fine}
 use Rattle.command_line.specs.declared.command.Command.{Command}
 use Rattle.command_line.specs.declared.command.Command.TheVariants.{Check, Demo, Embed, Moves, Corners}
@@ -78,7 +79,7 @@ agree_prefixes count count' contents others agree =
 -- why the first file, the second or the third is refused, and the status for it
 refused_first : (netlist : List ℕ) (failure : Failure) → IsFileRefusal (netlist ∷ []) failure
     → (status_of failure ≡ 3)
-    × ((IsShortFile netlist → ⊥) ⊎ ((fault : BenchFault) × HasFault netlist fault))
+    × ((IsShortFile netlist → ⊥) ⊎ ((fault : BenchFault) × RefusesNetlist netlist fault))
 refused_first netlist (failures.TooLong kinds.Bench) refused = (refl, inl refused)
 refused_first netlist (failures.Bench fault) refused = (refl, inr (fault, refused.1))
 refused_first netlist failure refused = absurd refused
@@ -114,10 +115,10 @@ file_status (netlist ∷ table ∷ places ∷ []) failure refusal =
 file_status (netlist ∷ table ∷ places ∷ more ∷ rest) failure refusal = absurd refusal
 
 first_fine : (netlist : List ℕ) → IsNetlistFile netlist → (IsShortFile netlist → ⊥) ⊎
-    ((fault : BenchFault) × HasFault netlist fault) → ⊥
+    ((fault : BenchFault) × RefusesNetlist netlist fault) → ⊥
 first_fine netlist file (inl long) = long file.short
 first_fine netlist file (inr (fault, has)) =
-    has.named (no_fault netlist fault file.netlist has.cause)
+    no_fault netlist fault file.netlist has
 
 second_fine : (netlist table : List ℕ) → IsTableFile netlist table → (IsShortFile table → ⊥) ⊎
     ((fault : TechFault) × HasTableFault netlist table fault) → ⊥

@@ -19,7 +19,7 @@ use Rattle.failure_lines.specs.declared.file_kind.FileKind.TheVariants as kinds
 use Rattle.command_line.specs.Commands.{Given, options_of}
 use Rattle.failure_lines.specs.Failures.{status_of}
 use Rattle.command_line.specs.CommandTable.{form_of}
-use Rattle.topology_file.proofs.OneFault.{no_fault}
+use Rattle.topology_file.specs.TopologyTexts.{topology_in}
 use Rattle.cts_base.proofs.Told as told
 use Rattle.move_session.specs.Moves.{moves_in}
 use Rattle.cts_program.specs.Answers.{JoinTooMany, RefusesText, RefusesAccepted, IsRefusal, IsAccepted, IsStatusOf, texts_for, texts_of}
@@ -91,9 +91,9 @@ one_embedding : (problem : Problem) (bytes : List ℕ) (failure : Failure)
 one_embedding problem bytes failures.Pairs accepted (file, many) = accepted.few many
 one_embedding problem bytes (failures.TooLong kinds.Topology) accepted long =
     long accepted.file.short
-one_embedding problem bytes (failures.Topology fault) accepted (short, named, refuses) =
-    named (no_fault bytes (length problem.circuit.registers) fault
-    accepted.file.accepts.accepted refuses)
+one_embedding problem bytes (failures.Topology fault) accepted (short, refuses) =
+    told.not_both (topology_in bytes (length problem.circuit.registers)) accepted.file.topology
+    fault accepted.file.accepts refuses
 one_embedding problem bytes failure accepted refuses = absurd refuses
 
 -- the status for one that is refused is 3
@@ -112,7 +112,8 @@ one_moving : (problem : Problem) (bytes : List ℕ) (failure : Failure)
 one_moving problem bytes failures.Pairs accepted (file, many) = accepted.few many
 one_moving problem bytes (failures.TooLong kinds.Moves) accepted long = long accepted.file.short
 one_moving problem bytes (failures.Moves fault) accepted (short, refuses) =
-    told.not_both (moves_in bytes problem.circuit) accepted.file.moves fault accepted.file.accepts refuses
+    told.not_both (moves_in bytes problem.circuit) accepted.file.moves fault
+    accepted.file.accepts refuses
 one_moving problem bytes failure accepted refuses = absurd refuses
 
 -- the status for those that are refused is 3

@@ -5,13 +5,13 @@ use Rattle.std.specs.Prelude.{◌≡◌, ℕ, List, [], ◌∷◌}
 use Rattle.cts_model.specs.declared.circuit.Circuit.{Circuit}
 use Rattle.cts_model.specs.declared.tech.Tech.{Tech}
 use Rattle.cts_model.specs.declared.problem.Problem.{Problem}
-use Rattle.cts_model.specs.netlist.Netlists.{IsNetlist, AcceptsNetlist}
+use Rattle.bench_reader.specs.Netlists.{IsNetlist, AcceptsNetlist, RefusesNetlist}
 use Rattle.cts_model.specs.netlist.Paths.{register_name}
 use Rattle.cts_model.specs.table.PlainTable.{IsPlainTable}
 use Rattle.place_reader.specs.declared.fault.PlaceFault.{PlaceFault}
 use Rattle.place_reader.specs.declared.fault.PlaceFault.TheVariants as place
 use Rattle.place_reader.specs.Refusals as placement
-use Rattle.cts_engine.specs.Accepted.{TellBoth, TellAll, IsTableOf, IsPlacementOf, HasFault, HasTableFault}
+use Rattle.cts_engine.specs.Accepted.{TellBoth, TellAll, IsTableOf, IsPlacementOf, HasTableFault}
 use Rattle.failure_lines.specs.declared.failure.Failure.{Failure}
 use Rattle.failure_lines.specs.declared.failure.Failure.TheVariants as failures
 use Rattle.failure_lines.specs.declared.file_kind.FileKind.TheVariants as kinds
@@ -84,7 +84,7 @@ pub record HasPlacementFault (netlist table bytes : List ℕ) (fault : Placement
 abbrev pub IsFileRefusal : List (List ℕ) → Failure → Type 0
 IsFileRefusal (netlist ∷ []) (failures.TooLong kinds.Bench) = IsShortFile netlist → ⊥
 IsFileRefusal (netlist ∷ []) (failures.Bench fault) =
-    IsShortFile netlist × HasFault netlist fault
+    IsShortFile netlist × RefusesNetlist netlist fault
 IsFileRefusal (netlist ∷ table ∷ []) (failures.TooLong kinds.Tech) =
     IsNetlistFile netlist × (IsShortFile table → ⊥)
 IsFileRefusal (netlist ∷ table ∷ []) (failures.Tech fault) =

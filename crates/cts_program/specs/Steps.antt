@@ -8,7 +8,6 @@ use Rattle.cts_model.specs.declared.problem.Problem.{Problem}
 use Rattle.cts_model.specs.declared.report.Report.{Report}
 use Rattle.cts_model.specs.declared.tech.Tech.{Tech}
 use Rattle.cts_model.specs.declared.tree.Topology.{Topology}
-use Rattle.cts_model.specs.netlist.Netlists.{AcceptsNetlist}
 use Rattle.cts_model.specs.timing.PairLists.{JoinsMoreThan}
 use Rattle.cts_model.specs.placement.Placements.{AcceptsPlacement}
 use Rattle.cts_model.specs.report.ReportBounds.{Spells}
@@ -16,7 +15,9 @@ use Rattle.place_reader.specs.declared.fault.PlaceFault.{PlaceFault}
 use Rattle.move_session.specs.declared.moves.Move.{Move}
 use Rattle.move_session.specs.Moves.{AcceptsMoves}
 use Rattle.topology_file.specs.TopologyTexts.{AcceptsTopology}
-use Rattle.cts_engine.specs.Accepted.{TellsDelays, HasFault, HasFaultFor}
+use Rattle.bench_reader.specs.Netlists.{AcceptsNetlist, RefusesNetlist}
+use Rattle.cts_model.specs.tree.Topologies.{IsTopology}
+use Rattle.cts_engine.specs.Accepted.{TellsDelays, HasFaultFor}
 use Rattle.failure_lines.specs.declared.failure.Failure.{Failure}
 use Rattle.failure_lines.specs.declared.failure.Failure.TheVariants as failures
 use Rattle.failure_lines.specs.declared.file_kind.FileKind.{FileKind}
@@ -56,7 +57,7 @@ pub record ReadsNetlist (held : Option (List ℕ)) (circuit : Circuit) : Type 0 
 -- a netlist isn't read, or has a fault
 abbrev pub FailsNetlist : Option (List ℕ) → ℕ → ℕ → Failure → Type 0
 FailsNetlist held before now (failures.Bench fault) =
-    (bytes : List ℕ) × IsReportedAs held bytes × IsShortFile bytes × HasFault bytes fault
+    (bytes : List ℕ) × IsReportedAs held bytes × IsShortFile bytes × RefusesNetlist bytes fault
 FailsNetlist held before now failure = FailsToReadFile kinds.Bench held before now failure
 
 -- the delay table in a file denotes these delays, and gives each gate kind of these signals
@@ -197,6 +198,7 @@ pub record ReadsTopology (problem : Problem) (held : Option (List ℕ)) (topolog
   pub denoted : IsReportedAs held bytes
   pub short : IsShortFile bytes
   pub accepts : AcceptsTopology bytes (length problem.circuit.registers) topology
+  pub joins : IsTopology (length problem.circuit.registers) topology.merges
 
 -- the file holds these moves of the problem's registers
 pub record ReadsMoves (problem : Problem) (held : Option (List ℕ)) (moves : List Move)

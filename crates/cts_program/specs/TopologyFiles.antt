@@ -1,12 +1,10 @@
 -- What the command `embed` makes of a topology that is given: the clock tree by it, or why it is
 -- refused.
-use Rattle.std.specs.Prelude.{◌≢◌, ℕ, List, length}
+use Rattle.std.specs.Prelude.{ℕ, List, length}
 use Rattle.cts_model.specs.declared.problem.Problem.{Problem}
 use Rattle.cts_model.specs.declared.tree.Topology as trees
 use Rattle.cts_model.specs.timing.PairLists.{JoinsMoreThan}
-use Rattle.topology_file.specs.declared.fault.TopologyFault.TheVariants.{NoMemory}
-use Rattle.topology_file.specs.Refusals.{RefusesTopology}
-use Rattle.topology_file.specs.TopologyTexts.{AcceptsTopology}
+use Rattle.topology_file.specs.TopologyTexts.{AcceptsTopology, RefusesTopology}
 use Rattle.failure_lines.specs.declared.failure.Failure.{Failure}
 use Rattle.failure_lines.specs.declared.failure.Failure.TheVariants.{TooLong, Topology, Pairs}
 use Rattle.failure_lines.specs.declared.file_kind.FileKind.TheVariants as kinds
@@ -33,8 +31,8 @@ pub record IsEmbeddedBy (status : ℕ) (text : List ℕ) (problem : Problem) (by
 -- the file holds no topology of the problem's registers: it is too long, or has this fault
 abbrev pub RefusesTopologyFile : Problem → List ℕ → Failure → Type 0
 RefusesTopologyFile problem bytes (TooLong kinds.Topology) = IsShortFile bytes → ⊥
-RefusesTopologyFile problem bytes (Topology fault) = IsShortFile bytes × (fault ≢ NoMemory)
-    × RefusesTopology bytes (length problem.circuit.registers) fault
+RefusesTopologyFile problem bytes (Topology fault) =
+    IsShortFile bytes × RefusesTopology bytes (length problem.circuit.registers) fault
 RefusesTopologyFile problem bytes _ = ⊥
 
 -- so the command refuses it, and one that is accepted where too many pairs are joined

@@ -1,5 +1,5 @@
 -- Topology files: the topology that a text tells, or the first fault that it has.
-use Rattle.std.specs.Prelude.{ℕ, ◌+◌, ◌==◌, not, nat_le, List, length, Option, Some, None, Result, Ok, Err, if◌then◌else◌}
+use Rattle.std.specs.Prelude.{◌≡◌, ℕ, ◌+◌, ◌==◌, not, nat_le, List, length, Option, Some, None, Result, Ok, Err, if◌then◌else◌}
 use Rattle.cts_base.specs.LineFormats.{first_fault, unless_faulty}
 use Rattle.cts_base.specs.Lines.{lines_of}
 use Rattle.cts_model.specs.declared.tree.Merge.{Merge}
@@ -33,3 +33,11 @@ topology_in text sinks = unless_faulty (first_fault (fault_of sinks) text)
     (if length (entries_of text) + 1 == sinks
     then Ok (record { merges = merges_of (entries_of text) })
     else Err (Missing (length (lines_of text) + 1)))
+
+-- the text is a topology file of so many sinks, and tells this topology
+abbrev pub AcceptsTopology : (text : List ℕ) → (sinks : ℕ) → Topology → Type 0
+AcceptsTopology text sinks topology = topology_in text sinks ≡ Ok topology
+
+-- the text has this fault
+abbrev pub RefusesTopology : (text : List ℕ) → (sinks : ℕ) → TopologyFault → Type 0
+RefusesTopology text sinks fault = topology_in text sinks ≡ Err fault

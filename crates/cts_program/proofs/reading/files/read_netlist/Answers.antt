@@ -8,4 +8,4 @@ returns-in_err-read_bench-clause-cause g c =
     c.from_residual-in_err-read_bench.ensures.1 in
     rw (p.1, p.2)
     (refused_netlist _ _ _ c.in_ok-bytes.bytes.items c.in_ok-bytes.ensures.ok
-    c.in_ok-bytes.ensures.short _ (rw c.deref.ensures.value at c.in_err-read_bench.ensures.refused))
+    c.in_ok-bytes.ensures.short _ (rw c.deref.ensures.value at c.in_err-read_bench.ensures.told))
