@@ -14,6 +14,5 @@ pub mod SessionLemmas
 pub mod MarginLemmas
 pub mod ProblemLemmas
 pub mod HostedLoops
-mod OnePlaces
 pub mod OneProblem
 mod RefusalLemmas

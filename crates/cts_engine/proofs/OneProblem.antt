@@ -10,9 +10,9 @@ use Rattle.cts_model.specs.declared.tech.Tech.{Tech}
 use Rattle.cts_model.specs.table.AcceptedTables.{AcceptsTable}
 use Rattle.cts_model.specs.netlist.Hosts.{IsWithHost}
 use Rattle.cts_model.specs.netlist.Netlists.{AcceptsNetlist, signals_of}
-use Rattle.cts_model.specs.placement.Placements.{AcceptsPlacement}
 use Rattle.cts_model.specs.tree.Problems.{IsProblem}
 use Rattle.cts_model.specs.netlist.UsedKinds.{AreUsedKinds}
+use Rattle.cts_base.proofs.Told.{not_both, one_value}
 use Rattle.cts_model.proofs.OneRecord.{same_circuit, one_use}
 use Rattle.bench_reader.proofs.OneFault.{no_fault}
 use Rattle.delay_tables.specs.declared.fault.TechFault.{TechFault}
@@ -20,12 +20,11 @@ use Rattle.delay_tables.specs.Refusals.{RefusesTable}
 use Rattle.delay_tables.proofs.OneFault.{not_refused}
 use Rattle.delay_tables.proofs.OneTable.{one_table}
 use Rattle.place_reader.specs.declared.fault.PlaceFault.{PlaceFault}
-use Rattle.place_reader.specs.Refusals as placements
-use Rattle.place_reader.proofs.OneFault as placement_faults
+use Rattle.place_reader.specs.Placements as placements
+use Rattle.place_reader.specs.Placements.{AcceptsPlacement}
 use Rattle.cts_engine.specs.declared.refusals.Refusal.{Refusal}
 use Rattle.cts_engine.specs.declared.refusals.Refusal.TheVariants as refusals
 use Rattle.cts_engine.specs.Accepted.{IsHostedBy, TellsDelays, TellBoth, TellAll, IsTableOf, IsPlacementOf, HasTableFault, HasPlacesFault, IsRefusal}
-use Rattle.cts_engine.proofs.OnePlaces.{one_places}
 
 -- ---- one circuit and one table
 
@@ -136,8 +135,7 @@ module _ (netlist table placement : List ℕ) where
       other.places) tech (subst (λ c. AcceptsPlacement placement c other.tech.source other.tech.host
       other.places) circuit denotes'.places) in
       same_problem problem other (sym circuit) (sym tech)
-      (one_places placement problem.circuit problem.tech.source problem.tech.host problem.places
-      other.places denotes.places placed)
+      (one_value _ problem.places other.places denotes.places placed)
 
   -- nor has a placement that is accepted
   pub placement_fine : (fault : PlaceFault) → IsPlacementOf netlist table placement
@@ -149,8 +147,7 @@ module _ (netlist table placement : List ℕ) where
       subst (λ t. placements.RefusesPlacement placement accepted.circuit t.source t.host fault)
       tech (subst (λ c. placements.RefusesPlacement placement c has.tech.source has.tech.host fault)
       circuit has.cause) in
-      has.named (placement_faults.no_fault placement accepted.circuit accepted.tech.source
-      accepted.tech.host fault accepted.placement cause)
+      not_both _ accepted.placement.0 fault accepted.placement.1 cause
 
   -- nor have texts that tell a problem a refusal
   unrefused : (problem : Problem) → TellAll netlist table placement problem → (refusal : Refusal)
@@ -166,7 +163,7 @@ module _ (netlist table placement : List ℕ) where
         circuit = problem.circuit;
         tech = problem.tech;
         tell = denotes.tell;
-        placement = denotes.places.placement;
+        placement = (problem.places, denotes.places);
       }) has)
   unrefused problem denotes refusals.NoMemory any = refl
 

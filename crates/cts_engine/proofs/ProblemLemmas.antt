@@ -1,14 +1,18 @@
 -- What the texts of a problem tell keeps to what a problem is: its delays serve its circuit, which
 -- has the host where the table gives it a place, and its registers have places that aren't far
 -- away.
-use Rattle.std.proofs.Common.{◌≡◌, ◌≢◌, ◌≤◌, ◌*◌, ◌^◌, ◌+◌, ◌==◌, ◌↔◌, inl, inr, lit<, ℕ, suc, ℤ, pos, negsuc, nat_abs, Bool, true, false, IsTrue, MatchBool, List, [], ◌∷◌, length, get_or, All, refl, sym, ap, ◌∙◌, subst, true≢false, arith}
-use Rattle.std.proofs.Math.Nat.{one-le-pow, mul-le-mul_right}
-use Rattle.std.proofs.lemmas.Bool.{cases_lt}
+use Rattle.std.proofs.Common.{◌≡◌, ◌≢◌, ◌≤◌, ◌*◌, ◌^◌, ◌+◌, ◌==◌, ◌↔◌, inl, inr, lit<, ℕ, suc, ℤ, pos, negsuc, nat_abs, Bool, true, false, IsTrue, MatchBool, List, [], ◌∷◌, length, map, ◌++◌, cond, Option, Some, None, Result, Ok, Err, get_or, All, refl, sym, ap, ◌∙◌, subst, true≢false, arith}
 use Rattle.std.proofs.lemmas.Bool.Decides.{Decides-eqb}
 use Rattle.std.proofs.lemmas.Int.{ints}
 use Rattle.std.proofs.lemmas.List.{get_or_default, length-map}
 use Rattle.std.proofs.lemmas.List.Elements.{All-append, All-cons, All-nil}
-use Rattle.cts_base.specs.Decimals.{digits, raised, lowered, IsRead}
+use Rattle.std.specs.Option.{option_map, option_to_list}
+use Rattle.std.specs.Result.{result_ok}
+use Rattle.std.specs.Str.{bytes_eq}
+use Rattle.cts_base.specs.Decimals.{micros_of}
+use Rattle.cts_base.specs.Lines.{lines_of}
+use Rattle.cts_base.specs.declared.number.NumberFault.{NumberFault}
+use Rattle.cts_base.proofs.Micros.{micros_within}
 use Rattle.cts_model.specs.declared.circuit.Circuit.{Circuit}
 use Rattle.cts_model.specs.declared.place.Places.{Places}
 use Rattle.cts_model.specs.declared.place.Point.{Point}
@@ -20,12 +24,13 @@ use Rattle.cts_model.specs.timing.Delays.{delay_of}
 use Rattle.cts_model.specs.netlist.Hosts.{HasNoHost, IsWithHost}
 use Rattle.cts_model.specs.netlist.Kinds.{is_gate}
 use Rattle.cts_model.specs.netlist.Paths.{IsLoop}
-use Rattle.cts_model.specs.placement.PlaceLines.{Node}
-use Rattle.cts_model.specs.placement.Placements.{AcceptsPlacement, StandsAt, StandAt}
+use Rattle.cts_model.specs.placement.PlaceLines.{Node, Entry, Blank, Header, Stands, entry_after}
 use Rattle.cts_model.specs.placement.Points.{IsBelow, IsPointBelow}
 use Rattle.cts_model.specs.tree.Problems.{GivesUsedKinds, IsProblem}
 use Rattle.cts_model.specs.netlist.UsedKinds.{AreUsedKinds}
 use Rattle.cts_model.proofs.HostedCircuits.{has_host-with_host}
+use Rattle.place_reader.specs.Placements.{AcceptsPlacement, place_by, place_of, places_after, point_from, point_of, register_nodes}
+use Rattle.place_reader.proofs.TellsPlaces.{accepted_gives}
 use Rattle.cts_engine.specs.Accepted.{IsHostedBy}
 
 -- ---- delays
@@ -100,56 +105,80 @@ has_host-hosted tech bare circuit none hosted = at (length tech.host == 0) refl 
 
 -- ---- places
 
--- 10^9 length units are 10^15 micros
-within_limit : (size lowered digits : ℕ) → size * 10 ^ lowered ≡ digits * 10 ^ 6
-    → digits ≤ 10 ^ 9 * 10 ^ lowered → size ≤ 10 ^ 15
-within_limit size lowered digits same within = elim (cases_lt (10 ^ 15) size) [
-  | inl above ↦
-      let power : 1 ≤ 10 ^ lowered = one-le-pow lowered 10 (lit< tt) in
-      let grown : (10 ^ 15 + 1) * 10 ^ lowered ≤ size * 10 ^ lowered =
-      mul-le-mul_right (10 ^ lowered) (omega arith) in
-      absurd (omega arith)
-  | inr not_above ↦ omega arith
-]
-
 -- a number of that size
 of_size : (micros : ℤ) → nat_abs micros ≤ 10 ^ 15 → IsBelow 1000000000000001 micros
 of_size (pos n) small = record { above = omega (arith, ints); below = omega (arith, ints) }
 of_size (negsuc n) small = record { above = omega (arith, ints); below = omega (arith, ints) }
 
 -- a coordinate that is read isn't far away
-pub near_coordinate : (text : List ℕ) (micros : ℤ) → IsRead text micros
+pub near_coordinate : (text : List ℕ) (micros : ℤ) → micros_of text ≡ Ok micros
     → IsBelow 1000000000000001 micros
-near_coordinate text micros read =
-    of_size micros (within_limit (nat_abs micros) (lowered text) (digits text * 10 ^ raised text)
-    read.value.size read.within)
+near_coordinate text micros told = of_size micros (micros_within text micros told)
 
 -- so is a node
-near_node : (nodes : List Node) (name : List ℕ) (point : Point) → StandsAt nodes name point
+near_node : (node : Node) (point : Point) → point_of node ≡ Ok point
     → IsPointBelow 1000000000000001 point
-near_node nodes name point stands = record {
-  x = near_coordinate stands.node.x point.x stands.x;
-  y = near_coordinate stands.node.y point.y stands.y;
-}
+near_node node point told = at (micros_of node.x) (micros_of node.y) refl refl told
+  where
+    at : (x y : Result ℤ NumberFault) → micros_of node.x ≡ x → micros_of node.y ≡ y
+        → point_from x y ≡ Ok point → IsPointBelow 1000000000000001 point
+    at (Err fault) y first second told = cc
+    at (Ok x) (Err fault) first second told = cc
+    at (Ok x) (Ok y) first second told =
+        let same : ◌≡◌ {A = Point} (record { x = x; y = y }) point = cc told in
+        subst (IsPointBelow 1000000000000001) same (record {
+          x = near_coordinate node.x x first;
+          y = near_coordinate node.y y second;
+        })
+
+-- and so is each place that lines give
+near_given : (earlier lines : List (List ℕ)) (name : List ℕ) (point : Point)
+    → place_of (places_after earlier lines) name ≡ Some point → IsPointBelow 1000000000000001 point
+near_given earlier [] name point found = cc
+near_given earlier (line ∷ later) name point found =
+    at (entry_after earlier line) found (near_given (earlier ++ line ∷ []) later name point)
+  where
+    rest : List (List ℕ × Point)
+    rest = places_after (earlier ++ line ∷ []) later
+
+    hit : (b : Bool) (there : Point) → IsPointBelow 1000000000000001 there
+        → cond b (Some there) (place_of rest name) ≡ Some point
+        → (place_of rest name ≡ Some point → IsPointBelow 1000000000000001 point)
+        → IsPointBelow 1000000000000001 point
+    hit true there near found later_near =
+        let same : there ≡ point = cc found in subst (IsPointBelow 1000000000000001) same near
+    hit false there near found later_near = later_near found
+
+    by : (node : Node) (told : Result Point NumberFault) → point_of node ≡ told
+        → place_of (option_to_list (option_map (λ p. (node.name, p)) (result_ok told)) ++ rest) name
+        ≡ Some point
+        → (place_of rest name ≡ Some point → IsPointBelow 1000000000000001 point)
+        → IsPointBelow 1000000000000001 point
+    by node (Err fault) known found later_near = later_near found
+    by node (Ok there) known found later_near =
+        hit (bytes_eq name node.name) there (near_node node there known) found later_near
+
+    at : (entry : Option Entry)
+        → place_of (option_to_list (place_by entry) ++ rest) name ≡ Some point
+        → (place_of rest name ≡ Some point → IsPointBelow 1000000000000001 point)
+        → IsPointBelow 1000000000000001 point
+    at None found later_near = later_near found
+    at (Some Blank) found later_near = later_near found
+    at (Some Header) found later_near = later_near found
+    at (Some (Stands node)) found later_near = by node (point_of node) refl found later_near
 
 -- and so are all
-near_nodes : (nodes : List Node) (names : List (List ℕ)) (points : List Point)
-    → StandAt nodes names points → All (IsPointBelow 1000000000000001) points
-near_nodes nodes [] [] stand = All-nil (IsPointBelow 1000000000000001)
-near_nodes nodes [] (point ∷ points) stand = absurd stand
-near_nodes nodes (name ∷ names) [] stand = absurd stand
-near_nodes nodes (name ∷ names) (point ∷ points) stand =
-    All-cons (IsPointBelow 1000000000000001) point points (near_node nodes name point stand.0)
-    (near_nodes nodes names points stand.1)
-
--- there is one place for each name
-as_many_places : (nodes : List Node) (names : List (List ℕ)) (points : List Point)
-    → StandAt nodes names points → length points ≡ length names
-as_many_places nodes [] [] stand = refl
-as_many_places nodes [] (point ∷ points) stand = absurd stand
-as_many_places nodes (name ∷ names) [] stand = absurd stand
-as_many_places nodes (name ∷ names) (point ∷ points) stand =
-    ap suc (as_many_places nodes names points stand.1)
+near_all : (lines names : List (List ℕ)) (points : List Point)
+    → map (place_of (places_after [] lines)) names ≡ map Some points
+    → All (IsPointBelow 1000000000000001) points
+near_all lines [] [] are = All-nil (IsPointBelow 1000000000000001)
+near_all lines [] (point ∷ points) are = cc
+near_all lines (name ∷ names) [] are = cc
+near_all lines (name ∷ names) (point ∷ points) are =
+    let first : place_of (places_after [] lines) name ≡ Some point = cc are in
+    let rest : map (place_of (places_after [] lines)) names ≡ map Some points = cc are in
+    All-cons (IsPointBelow 1000000000000001) point points (near_given [] lines name point first)
+    (near_all lines names points rest)
 
 -- ---- a problem
 
@@ -158,12 +187,17 @@ pub problem_of : (circuit : Circuit) (tech : Tech) (places : Places) (text : Lis
     → ((loop : List ℕ) → IsLoop circuit.signals loop → ⊥) → GivesUsedKinds circuit tech
     → IsTrue (has_host circuit.signals) ↔ (tech.host ≢ [])
     → AcceptsPlacement text circuit tech.source tech.host places → IsProblem circuit tech places
-problem_of circuit tech places text acyclic kinds host accepts = record {
-  acyclic = acyclic;
-  kinds = kinds;
-  host = host;
-  registers = as_many_places _ _ places.registers accepts.registers
-      ∙ length-map circuit.registers _;
-  near = near_nodes _ _ places.registers accepts.registers;
-  source_near = near_node _ _ places.source accepts.at_source;
-}
+problem_of circuit tech places text acyclic kinds host accepts =
+    let gives = accepted_gives text circuit tech.source tech.host places accepts in
+    let nodes = register_nodes circuit tech.host in
+    let given = place_of (places_after [] (lines_of text)) in
+    let as_many : length nodes ≡ length circuit.registers = length-map circuit.registers _ in
+    record {
+      acyclic = acyclic;
+      kinds = kinds;
+      host = host;
+      registers = sym (length-map places.registers Some) ∙ ap length (sym gives.registers)
+          ∙ length-map nodes given ∙ as_many;
+      near = near_all (lines_of text) nodes places.registers gives.registers;
+      source_near = near_given [] (lines_of text) tech.source places.source gives.at_source;
+    }

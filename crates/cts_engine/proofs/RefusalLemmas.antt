@@ -1,5 +1,7 @@
 -- What a text that isn't read leaves of the texts of a problem: a refusal, or want of memory.
-use Rattle.std.proofs.Common.{ℕ, Bool, List, subst}
+use Rattle.std.proofs.Common.{ℕ, Bool, List, Err, subst}
+use Rattle.cts_base.specs.LineFormats.{IsToldBy}
+use Rattle.cts_base.proofs.Told.{told_fault}
 use Rattle.cts_model.specs.declared.circuit.Circuit.{Circuit}
 use Rattle.cts_model.specs.declared.tech.Tech.{Tech}
 use Rattle.cts_model.specs.netlist.Netlists.{AcceptsNetlist}
@@ -12,7 +14,7 @@ use Rattle.delay_tables.specs.declared.fault.TechFault.TheVariants as tech
 use Rattle.delay_tables.specs.Refusals as tables
 use Rattle.place_reader.specs.declared.fault.PlaceFault.{PlaceFault}
 use Rattle.place_reader.specs.declared.fault.PlaceFault.TheVariants as place
-use Rattle.place_reader.specs.Refusals as placements
+use Rattle.place_reader.specs.Placements.{places_in}
 use Rattle.cts_engine.specs.declared.refusals.Refusal.{Refusal}
 use Rattle.cts_engine.specs.declared.refusals.Refusal.TheVariants as refusals
 use Rattle.cts_engine.specs.Accepted.{TellBoth, bench_refusal_of, tech_refusal_of, places_refusal_of, IsCircuitRefusal, IsRefusal}
@@ -53,11 +55,18 @@ module _ (netlist table : List ℕ) where
     -- a placement that isn't read, after a netlist and a table that tell this circuit
     pub places_refused : (circuit : Circuit) (tech : Tech) → TellBoth netlist table circuit tech
         → (fault : PlaceFault)
-        → placements.RefusesPlacement placement circuit tech.source tech.host fault
+        → IsToldBy place.NoMemory (places_in placement circuit tech.source tech.host) (Err fault)
         → IsRefusal netlist table placement (places_refusal_of fault)
-    places_refused circuit tech tell place.NoMemory cause = tt
-    places_refused circuit tech tell fault cause = (
+    places_refused circuit tech tell place.NoMemory told = tt
+    places_refused circuit tech tell fault told = (
       tell.accepts.netlist,
       table_accepted netlist table tell.bare.signals tech tell.accepts.signals tell.delays,
-      record { named = λ e. cc e; circuit = circuit; tech = tech; tell = tell; cause = cause },
+      record {
+        named = λ e. cc e;
+        circuit = circuit;
+        tech = tech;
+        tell = tell;
+        cause = told_fault place.NoMemory (places_in placement circuit tech.source tech.host) fault
+            (λ e. cc e) told;
+      },
     )

@@ -8,7 +8,6 @@ use Rattle.cts_model.specs.declared.tech.Tech.{Tech}
 use Rattle.cts_model.specs.table.AcceptedTables.{IsDelayTable, AcceptsTable}
 use Rattle.cts_model.specs.netlist.Hosts.{IsWithHost}
 use Rattle.cts_model.specs.netlist.Netlists.{IsNetlist, AcceptsNetlist, signals_of}
-use Rattle.cts_model.specs.placement.Placements.{IsPlacement, AcceptsPlacement}
 use Rattle.cts_model.specs.netlist.UsedKinds.{AreUsedKinds}
 use Rattle.bench_reader.specs.declared.fault.BenchFault.{BenchFault}
 use Rattle.bench_reader.specs.declared.fault.BenchFault.TheVariants as bench
@@ -18,7 +17,7 @@ use Rattle.delay_tables.specs.declared.fault.TechFault.TheVariants as tech
 use Rattle.delay_tables.specs.Refusals as tables
 use Rattle.place_reader.specs.declared.fault.PlaceFault.{PlaceFault}
 use Rattle.place_reader.specs.declared.fault.PlaceFault.TheVariants as place
-use Rattle.place_reader.specs.Refusals as placements
+use Rattle.place_reader.specs.Placements.{AcceptsPlacement, IsPlacement, RefusesPlacement}
 use Rattle.cts_engine.specs.declared.refusals.Refusal.{Refusal}
 use Rattle.cts_engine.specs.declared.refusals.Refusal.TheVariants as refusals
 
@@ -81,7 +80,7 @@ pub record HasPlacesFault (netlist table bytes : List ℕ) (fault : PlaceFault) 
   pub circuit : Circuit
   pub tech : Tech
   pub tell : TellBoth netlist table circuit tech
-  pub cause : placements.RefusesPlacement bytes circuit tech.source tech.host fault
+  pub cause : RefusesPlacement bytes circuit tech.source tech.host fault
 
 -- the refusal where the netlist, the table or the placement isn't read
 abbrev pub bench_refusal_of : BenchFault → Refusal
