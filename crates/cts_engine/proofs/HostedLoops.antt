@@ -13,7 +13,7 @@ use Rattle.cts_model.specs.declared.tech.Tech.{Tech}
 use Rattle.cts_model.specs.netlist.Circuits.{host_signal}
 use Rattle.cts_model.specs.netlist.Hosts.{IsWithHost}
 use Rattle.cts_model.specs.netlist.Kinds.{is_gate}
-use Rattle.cts_model.specs.netlist.Netlists.{AcceptsNetlist}
+use Rattle.bench_reader.specs.Netlists.{AcceptsNetlist}
 use Rattle.cts_model.specs.netlist.Paths.{Reads, Follows, IsLoop}
 use Rattle.cts_engine.specs.Accepted.{IsHostedBy, TellBoth}
 

@@ -9,11 +9,12 @@ use Rattle.cts_model.specs.declared.signal.Signal.{Signal}
 use Rattle.cts_model.specs.declared.tech.Tech.{Tech}
 use Rattle.cts_model.specs.table.AcceptedTables.{AcceptsTable}
 use Rattle.cts_model.specs.netlist.Hosts.{IsWithHost}
-use Rattle.cts_model.specs.netlist.Netlists.{AcceptsNetlist, signals_of}
+use Rattle.cts_model.specs.netlist.Netlists.{signals_of}
 use Rattle.cts_model.specs.tree.Problems.{IsProblem}
 use Rattle.cts_model.specs.netlist.UsedKinds.{AreUsedKinds}
 use Rattle.cts_base.proofs.Told.{not_both, one_value}
 use Rattle.cts_model.proofs.OneRecord.{same_circuit, one_use}
+use Rattle.bench_reader.specs.Netlists.{AcceptsNetlist}
 use Rattle.bench_reader.proofs.OneFault.{no_fault}
 use Rattle.delay_tables.specs.declared.fault.TechFault.{TechFault}
 use Rattle.delay_tables.specs.Refusals.{RefusesTable}
@@ -153,7 +154,7 @@ module _ (netlist table placement : List ℕ) where
   unrefused : (problem : Problem) → TellAll netlist table placement problem → (refusal : Refusal)
       → IsRefusal netlist table placement refusal → refusal ≡ refusals.NoMemory
   unrefused problem denotes (refusals.Bench fault) has =
-      absurd (has.named (no_fault netlist fault denotes.tell.accepts.netlist has.cause))
+      absurd (no_fault netlist fault denotes.tell.accepts.netlist has)
   unrefused problem denotes (refusals.Tech fault) (accepted, has) =
       let tell = denotes.tell in
       absurd (table_fine netlist table fault (table_accepted netlist table tell.bare.signals

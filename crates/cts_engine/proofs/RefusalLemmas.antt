@@ -1,14 +1,13 @@
 -- What a text that isn't read leaves of the texts of a problem: a refusal, or want of memory.
-use Rattle.std.proofs.Common.{ℕ, Bool, List, Err, subst}
+use Rattle.std.proofs.Common.{◌≡◌, ◌⊎◌, inl, inr, ℕ, Bool, List, Err, subst}
 use Rattle.cts_base.specs.LineFormats.{IsToldBy}
 use Rattle.cts_base.proofs.Told.{told_fault}
 use Rattle.cts_model.specs.declared.circuit.Circuit.{Circuit}
 use Rattle.cts_model.specs.declared.tech.Tech.{Tech}
-use Rattle.cts_model.specs.netlist.Netlists.{AcceptsNetlist}
 use Rattle.cts_model.specs.netlist.UsedKinds.{AreUsedKinds}
 use Rattle.bench_reader.specs.declared.fault.BenchFault.{BenchFault}
 use Rattle.bench_reader.specs.declared.fault.BenchFault.TheVariants as bench
-use Rattle.bench_reader.specs.Refusals as netlists
+use Rattle.bench_reader.specs.Netlists.{AcceptsNetlist, RefusesNetlist}
 use Rattle.delay_tables.specs.declared.fault.TechFault.{TechFault}
 use Rattle.delay_tables.specs.declared.fault.TechFault.TheVariants as tech
 use Rattle.delay_tables.specs.Refusals as tables
@@ -22,10 +21,11 @@ use Rattle.cts_engine.proofs.OneProblem.{table_accepted}
 
 module _ (netlist table : List ℕ) where
   -- a netlist that isn't read
-  pub bench_refused : (fault : BenchFault) → netlists.RefusesNetlist netlist fault
+  pub bench_refused : (fault : BenchFault) → RefusesNetlist netlist fault ⊎ (fault ≡ bench.NoMemory)
       → IsCircuitRefusal netlist table (bench_refusal_of fault)
   bench_refused bench.NoMemory cause = tt
-  bench_refused fault cause = record { named = λ e. cc e; cause = cause }
+  bench_refused fault (inl cause) = cause
+  bench_refused fault (inr memory) = cc memory
 
   -- a table that isn't, after a netlist that denotes this circuit
   pub tech_refused : (circuit : Circuit) → AcceptsNetlist netlist circuit → (used : List Bool)

@@ -7,11 +7,11 @@ use Rattle.cts_model.specs.declared.signal.Signal.{Signal}
 use Rattle.cts_model.specs.declared.tech.Tech.{Tech}
 use Rattle.cts_model.specs.table.AcceptedTables.{IsDelayTable, AcceptsTable}
 use Rattle.cts_model.specs.netlist.Hosts.{IsWithHost}
-use Rattle.cts_model.specs.netlist.Netlists.{IsNetlist, AcceptsNetlist, signals_of}
+use Rattle.cts_model.specs.netlist.Netlists.{signals_of}
 use Rattle.cts_model.specs.netlist.UsedKinds.{AreUsedKinds}
 use Rattle.bench_reader.specs.declared.fault.BenchFault.{BenchFault}
 use Rattle.bench_reader.specs.declared.fault.BenchFault.TheVariants as bench
-use Rattle.bench_reader.specs.Refusals as netlists
+use Rattle.bench_reader.specs.Netlists.{IsNetlist, AcceptsNetlist, RefusesNetlist}
 use Rattle.delay_tables.specs.declared.fault.TechFault.{TechFault}
 use Rattle.delay_tables.specs.declared.fault.TechFault.TheVariants as tech
 use Rattle.delay_tables.specs.Refusals as tables
@@ -58,11 +58,6 @@ pub record IsPlacementOf (netlist table text : List ℕ) : Type 0 where
   pub tell : TellBoth netlist table circuit tech
   pub placement : IsPlacement text circuit tech.source tech.host
 
--- the netlist has this fault
-pub record HasFault (bytes : List ℕ) (fault : BenchFault) : Type 0 where
-  pub named : fault ≢ bench.NoMemory
-  pub cause : netlists.RefusesNetlist bytes fault
-
 -- the table for a circuit of these signals has this fault
 pub record HasFaultFor (signals : List Signal) (bytes : List ℕ) (fault : TechFault) : Type 0 where
   pub named : fault ≢ tech.NoMemory
@@ -97,7 +92,7 @@ places_refusal_of fault = refusals.Places fault
 
 -- why a netlist and a delay table are refused; memory may run out at any texts
 abbrev pub IsCircuitRefusal : (netlist table : List ℕ) → Refusal → Type 0
-IsCircuitRefusal netlist table (refusals.Bench fault) = HasFault netlist fault
+IsCircuitRefusal netlist table (refusals.Bench fault) = RefusesNetlist netlist fault
 IsCircuitRefusal netlist table (refusals.Tech fault) =
     IsNetlist netlist × HasTableFault netlist table fault
 IsCircuitRefusal netlist table (refusals.Places fault) = ⊥
