@@ -1,5 +1,6 @@
 -- Digits: what tests on them say, and the numbers that they write.
 use Rattle.std.proofs.Common.{◌≡◌, ℕ, ◌+◌, ◌-◌, ◌≤◌, Bool, true, false, not, ◌&&◌, ◌||◌, ◌↔◌, ◌==◌, cond, min, List, [], ◌∷◌, length, drop, slice_index, refl, sym, ◌∙◌, arith, subst}
+use Rattle.std.proofs.lemmas.Bool.{and_from, and_parts}
 use Rattle.std.proofs.lemmas.Bool.Decides.{nat_tests}
 use Rattle.std.proofs.lemmas.List.{length-take, length-drop, drop_all}
 use Rattle.std.proofs.lemmas.Bool.{ltb-false}
@@ -11,15 +12,6 @@ use Rattle.std.specs.List.{list_all, position_or_len}
 use Rattle.std.specs.Str.Parse.{AllDigits, starts_with_minus, without_leading_sign}
 use Rattle.cts_base.specs.Decimals.{is_point, is_exponent_mark, is_marked, is_numeral, is_decimal, exponent, coefficient, whole_digits, fraction_digits}
 
--- both of two tests passed
-pub both_true : (a b : Bool) → (a && b) ≡ true → (a ≡ true) × (b ≡ true)
-both_true true b is = (refl, is)
-both_true false b is = cc
-
-true_and : (a b : Bool) → a ≡ true → b ≡ true → (a && b) ≡ true
-true_and true b first second = second
-true_and false b first second = first
-
 in_range : (c : ℕ) → is_ascii_digit c ≡ true → IsInRange 48 57 c
 in_range c is = grind (arith, nat_tests)
 
@@ -30,7 +22,7 @@ range_in c low high = grind (arith, nat_tests)
 digits_from_test : (ds : List ℕ) → list_all is_ascii_digit ds ≡ true → AllDigits 10 ds
 digits_from_test [] is = tt
 digits_from_test (c ∷ cs) is =
-    let parts = both_true (is_ascii_digit c) (list_all is_ascii_digit cs) is in (
+    let parts = and_parts (is_ascii_digit c) (list_all is_ascii_digit cs) is in (
       omega (arith, in_range c parts.0, digit_value_digit c (in_range c parts.0)),
       digits_from_test cs parts.1,
     )
@@ -40,7 +32,7 @@ test_from_digits : (ds : List ℕ) → AllDigits 10 ds → list_all is_ascii_dig
 test_from_digits [] digits = refl
 test_from_digits (c ∷ cs) digits =
     let range = digit_from_value c digits.0 in
-    true_and (is_ascii_digit c) (list_all is_ascii_digit cs) (range_in c range.0 range.1)
+    and_from (is_ascii_digit c) (list_all is_ascii_digit cs) (range_in c range.0 range.1)
     (test_from_digits cs digits.1)
 
 pub digits_tested : (r : Bool) (ds : List ℕ) → r ≡ list_all is_ascii_digit ds
@@ -81,8 +73,8 @@ has_digits text decimal =
     let fraction = list_all is_ascii_digit (fraction_digits text) in
     let some = not (length (whole_digits text) + length (fraction_digits text) == 0) in
     let last = not (is_marked text) || is_numeral (without_leading_sign (exponent text)) in
-    let parts = both_true (whole && fraction && some) last decimal in
-    let digits = both_true whole fraction (both_true (whole && fraction) some parts.0).0 in
+    let parts = and_parts (whole && fraction && some) last decimal in
+    let digits = and_parts whole fraction (and_parts (whole && fraction) some parts.0).0 in
     record {
       whole = digits_from_test (whole_digits text) digits.0;
       fraction = digits_from_test (fraction_digits text) digits.1;
@@ -93,7 +85,7 @@ has_digits text decimal =
         → (not marked || is_numeral (without_leading_sign (exponent text))) ≡ true
         → AllDigits 10 (without_leading_sign (exponent text))
     at true known digits = digits_from_test (without_leading_sign (exponent text))
-        (both_true (not (length (without_leading_sign (exponent text)) == 0))
+        (and_parts (not (length (without_leading_sign (exponent text)) == 0))
         (list_all is_ascii_digit (without_leading_sign (exponent text))) digits).1
     at false none _ = subst (λ e. AllDigits 10 (without_leading_sign e)) (sym (no_exponent text none)) tt
 

@@ -15,9 +15,7 @@ pub mod PlainNumerals
 pub mod Quotients
 pub mod Divisors
 pub mod GreatestDivisors
-pub mod LineSplits
 pub mod LineFaults
 pub mod Told
-pub mod ListPlaces
 pub mod ListTests
 pub mod OneFraction

@@ -1,7 +1,7 @@
 -- A walk over the lines of a text, to the first that is faulty.
 use Rattle.std.proofs.Common.{◌≡◌, ◌∙◌, ◌+◌, ◌++◌, ◌∷◌, [], ℕ, List, length, Option, Some, None, refl, sym, subst, ap, ◌<◌, ◌≤◌, ◌^◌, arith, append-nil, append_assoc}
 use Rattle.std.specs.Option.{option_or}
-use Rattle.std.specs.List.{slice_split}
+use Rattle.std.specs.List.{enumerate_from, slice_split}
 use Rattle.std.specs.Str.Lines.{strip_carriage_return}
 use Rattle.std.proofs.lemmas.Bool.Decides.{nat_tests}
 use Rattle.std.proofs.lemmas.List.{length-append, length-map, length_push}
@@ -9,7 +9,6 @@ use Rattle.std.proofs.lemmas.List.Splits.{length-slice_split}
 use Rattle.std.proofs.lemmas.List.Sums.{count_by-le-length}
 use Rattle.cts_base.specs.Lines.{lines_of, numbered_lines, is_line_feed, without_empty_last}
 use Rattle.cts_base.specs.LineFormats.{first_fault, first_fault_after}
-use Rattle.cts_base.proofs.LineSplits.{IsPassed, all_passed, next_line, none_passed}
 
 -- no line is left out but an empty last one
 length-without_empty_last : (parts : List (List ℕ))
@@ -30,13 +29,42 @@ few_lines text = omega (
   count_by-le-length is_line_feed text,
 )
 
--- none of the passed lines is faulty, and the next one has this number
-pub record AreFlawless {Fault : Type 0} (fault_of : List (List ℕ) → List ℕ → Option Fault)
+-- these lines are passed and none of them is faulty; those that are left have their numbers
+pub record ArePassed {Fault : Type 0} (fault_of : List (List ℕ) → List ℕ → Option Fault)
     (text : List ℕ) (left : List (ℕ × List ℕ)) (next : ℕ) (passed : List (List ℕ)) : Type 0 where
-  pub walk : IsPassed text left passed
-  pub rest : (later : List (List ℕ)) → lines_of text ≡ passed ++ later
-      → first_fault fault_of text ≡ first_fault_after fault_of passed later
+  pub later : List (List ℕ)
+  pub split : lines_of text ≡ passed ++ later
+  pub left_is : left ≡ enumerate_from next later
   pub next_is : next ≡ length passed + 1
+  pub rest : first_fault fault_of text ≡ first_fault_after fault_of passed later
+
+-- the next line, and those after it
+record IsNext (later : List (List ℕ)) (more : List (ℕ × List ℕ)) (next number : ℕ)
+    (line : List ℕ) : Type 0 where
+  others : List (List ℕ)
+  later_is : later ≡ line ∷ others
+  number_is : number ≡ next
+  more_is : more ≡ enumerate_from (next + 1) others
+
+next_line : (later : List (List ℕ)) (more : List (ℕ × List ℕ)) (next number : ℕ) (line : List ℕ)
+    → enumerate_from next later ≡ (number, line) ∷ more → IsNext later more next number line
+next_line [] more next number line same = cc
+next_line (first ∷ others) more next number line same =
+    let here : ◌≡◌ {A = ℕ × List ℕ} (next, first) (number, line) = cc in
+    let line_is : first ≡ line = ap (λ p. p.1) here in
+    let number_is : next ≡ number = ap (λ p. p.0) here in
+    let rest : enumerate_from (next + 1) others ≡ more = cc in
+    record {
+      others = others;
+      later_is = ap (λ l. l ∷ others) line_is;
+      number_is = sym number_is;
+      more_is = sym rest;
+    }
+
+-- where none is left none comes later
+none_later : (next : ℕ) (later : List (List ℕ)) → enumerate_from next later ≡ [] → later ≡ []
+none_later next [] none = refl
+none_later next (line ∷ later) none = cc
 
 -- what is found where this is wrong with the line after some
 abbrev by_fault : {Fault : Type 0} (fault_of : List (List ℕ) → List ℕ → Option Fault)
@@ -46,63 +74,73 @@ by_fault fault_of passed later fault line =
 
 module _ {Fault : Type 0} {fault_of : List (List ℕ) → List ℕ → Option Fault} {text : List ℕ} where
   -- at the start
-  pub flawless_first : {left : List (ℕ × List ℕ)} → left ≡ numbered_lines text
-      → AreFlawless fault_of text left 1 []
-  flawless_first {left} all = record {
-    walk = none_passed text left all;
-    rest = λ later split. ap (first_fault_after fault_of []) split;
+  pub passed_first : {left : List (ℕ × List ℕ)} → left ≡ numbered_lines text
+      → ArePassed fault_of text left 1 []
+  passed_first {left} all = record {
+    later = lines_of text;
+    split = refl;
+    left_is = all;
     next_is = refl;
+    rest = refl;
   }
 
   module _ {left more : List (ℕ × List ℕ)} {next number : ℕ} {line : List ℕ}
-      {passed : List (List ℕ)} (flawless : AreFlawless fault_of text left next passed)
+      {passed : List (List ℕ)} (walk : ArePassed fault_of text left next passed)
       (some : left ≡ (number, line) ∷ more) where
+    step : IsNext walk.later more next number line
+    step = next_line walk.later more next number line (sym walk.left_is ∙ some)
+
     -- the line's number is one more than how many are passed
     pub number_passed : number ≡ length passed + 1
-    number_passed = (next_line number line more flawless.walk some).place.number_is
+    number_passed = step.number_is ∙ walk.next_is
 
     -- it is small
     pub number_small : length text ≤ 16777216 → number + 1 < 2 ^ 32
-    number_small short =
-        let place = (next_line number line more flawless.walk some).place in
-        omega (
-          arith,
-          short,
-          few_lines text,
-          ap length place.split,
-          place.number_is,
-          length-append passed (line ∷ place.later),
-        )
+    number_small short = omega (
+      arith,
+      short,
+      few_lines text,
+      number_passed,
+      ap length (walk.split ∙ ap (λ later. passed ++ later) step.later_is),
+      length-append passed (line ∷ step.others),
+    )
+
+    -- the first fault of the text, by what is wrong with the line
+    found : (fault : Option Fault) → fault_of passed line ≡ fault
+        → first_fault fault_of text ≡ by_fault fault_of passed step.others fault line
+    found fault has = walk.rest ∙ ap (first_fault_after fault_of passed) step.later_is
+        ∙ ap (λ it. by_fault fault_of passed step.others it line) has
 
     -- a faulty line is the first
     pub first_found : (fault : Fault) → fault_of passed line ≡ Some fault
         → first_fault fault_of text ≡ Some fault
-    first_found fault has =
-        let place = (next_line number line more flawless.walk some).place in
-        flawless.rest (line ∷ place.later) place.split
-        ∙ ap (λ it. by_fault fault_of passed place.later it line) has
+    first_found fault has = found (Some fault) has
 
     -- after one that isn't
-    pub flawless_next : fault_of passed line ≡ None
-        → AreFlawless fault_of text more (number + 1) (passed ++ line ∷ [])
-    flawless_next none =
-        let step = next_line number line more flawless.walk some in record {
-          walk = step.passed_next;
-          rest = λ later split.
-              flawless.rest (line ∷ later) (split ∙ append_assoc passed (line ∷ []) later)
-              ∙ ap (λ it. by_fault fault_of passed later it line) none;
-          next_is = omega (arith, step.place.number_is, length_push passed line);
-        }
+    pub passed_next : fault_of passed line ≡ None
+        → ArePassed fault_of text more (number + 1) (passed ++ line ∷ [])
+    passed_next none = record {
+      later = step.others;
+      split = walk.split ∙ ap (λ later. passed ++ later) step.later_is
+          ∙ sym (append_assoc passed (line ∷ []) step.others);
+      left_is = step.more_is ∙ ap (λ n. enumerate_from (n + 1) step.others) (sym step.number_is);
+      next_is = omega (arith, number_passed, length_push passed line);
+      rest = found None none;
+    }
 
   module _ {left : List (ℕ × List ℕ)} {next : ℕ} {passed : List (List ℕ)}
-      (flawless : AreFlawless fault_of text left next passed) (none : left ≡ []) where
+      (walk : ArePassed fault_of text left next passed) (none : left ≡ []) where
+    ended : walk.later ≡ []
+    ended = none_later next walk.later (sym walk.left_is ∙ none)
+
     -- at the end all lines are passed
     pub passed_last : passed ≡ lines_of text
-    passed_last = all_passed flawless.walk none
+    passed_last =
+        sym (walk.split ∙ ap (λ later. passed ++ later) ended ∙ append-nil passed)
 
     -- and none is faulty
     pub flawless_last : first_fault fault_of text ≡ None
-    flawless_last = flawless.rest [] (sym passed_last ∙ sym (append-nil passed))
+    flawless_last = walk.rest ∙ ap (first_fault_after fault_of passed) ended
 
 -- where neither of two faults is, none is
 pub neither : {Fault : Type 0} (one other : Option Fault) → option_or one other ≡ None

@@ -12,7 +12,7 @@ use Rattle.std.specs.Char.{digit_value}
 use Rattle.std.specs.List.{list_all}
 use Rattle.std.specs.Str.Parse.{AllDigits, digits_value, digits_value_after}
 use Rattle.cts_base.specs.Decimals.{is_zero}
-use Rattle.cts_base.proofs.DecimalLemmas.{both_true}
+use Rattle.std.proofs.lemmas.Bool.{and_parts}
 use Rattle.cts_base.proofs.ScaleLemmas.{digits_value_after-append, raised_enough}
 
 -- ---- digits by their places
@@ -44,7 +44,7 @@ digits_value-split kept ds =
 pub zeros_value : (ds : List ℕ) → list_all is_zero ds ≡ true → digits_value 10 ds ≡ 0
 zeros_value [] is = refl
 zeros_value (d ∷ ds) is =
-    let parts = both_true (is_zero d) (list_all is_zero ds) is in
+    let parts = and_parts (is_zero d) (list_all is_zero ds) is in
     let zero : d ≡ 48 = grind (arith, nat_tests, parts.0) in
     ap (λ c. digits_value_after 10 (0 * 10 + digit_value c) ds) zero ∙ zeros_value ds parts.1
 

@@ -1,7 +1,7 @@
 -- The lines of a text: it is cut at each line feed, and a carriage return before one, or before the
 -- end of the text, belongs to the line's end. The ISCAS'89 and Bookshelf files are texts of such
 -- lines.
-use Rattle.std.specs.Prelude.{◌≡◌, ◌+◌, ℕ, Bool, List, [], ◌∷◌, ◌++◌, length, map, ◌==◌, if◌then◌else◌}
+use Rattle.std.specs.Prelude.{ℕ, Bool, List, [], ◌∷◌, length, map, ◌==◌, if◌then◌else◌}
 use Rattle.std.specs.List.{slice_split, enumerate_from}
 use Rattle.std.specs.Str.Lines.{strip_carriage_return}
 
@@ -22,10 +22,3 @@ lines_of text = map strip_carriage_return (without_empty_last (slice_split is_li
 -- each line after its number; the first line has the number 1
 abbrev pub numbered_lines : List ℕ → List (ℕ × List ℕ)
 numbered_lines text = enumerate_from 1 (lines_of text)
-
--- the line of this number, after these lines
-pub record IsLine (text : List ℕ) (number : ℕ) (earlier : List (List ℕ)) (line : List ℕ)
-    : Type 0 where
-  pub later : List (List ℕ)
-  pub split : lines_of text ≡ earlier ++ line ∷ later
-  pub number_is : number ≡ length earlier + 1

@@ -24,12 +24,13 @@ use Rattle.cts_model.specs.timing.Delays.{delay_of}
 use Rattle.cts_model.specs.netlist.Hosts.{HasNoHost, IsWithHost}
 use Rattle.cts_model.specs.netlist.Kinds.{is_gate}
 use Rattle.cts_model.specs.netlist.Paths.{IsLoop}
+use Rattle.cts_model.specs.placement.Coordinates.{point_from, point_of}
 use Rattle.cts_model.specs.placement.PlaceLines.{Node, Entry, Blank, Header, Stands, entry_after}
 use Rattle.cts_model.specs.placement.Points.{IsBelow, IsPointBelow}
 use Rattle.cts_model.specs.tree.Problems.{GivesUsedKinds, IsProblem}
 use Rattle.cts_model.specs.netlist.UsedKinds.{AreUsedKinds}
 use Rattle.cts_model.proofs.HostedCircuits.{has_host-with_host}
-use Rattle.place_reader.specs.Placements.{AcceptsPlacement, place_by, place_of, places_after, point_from, point_of, register_nodes}
+use Rattle.place_reader.specs.Placements.{AcceptsPlacement, place_by, place_of, places_after, register_nodes}
 use Rattle.place_reader.proofs.TellsPlaces.{accepted_gives}
 use Rattle.cts_engine.specs.Accepted.{IsHostedBy}
 
@@ -116,7 +117,7 @@ pub near_coordinate : (text : List ℕ) (micros : ℤ) → micros_of text ≡ Ok
 near_coordinate text micros told = of_size micros (micros_within text micros told)
 
 -- so is a node
-near_node : (node : Node) (point : Point) → point_of node ≡ Ok point
+near_node : (node : Node) (point : Point) → point_of node.x node.y ≡ Ok point
     → IsPointBelow 1000000000000001 point
 near_node node point told = at (micros_of node.x) (micros_of node.y) refl refl told
   where
@@ -149,7 +150,7 @@ near_given earlier (line ∷ later) name point found =
         let same : there ≡ point = cc found in subst (IsPointBelow 1000000000000001) same near
     hit false there near found later_near = later_near found
 
-    by : (node : Node) (told : Result Point NumberFault) → point_of node ≡ told
+    by : (node : Node) (told : Result Point NumberFault) → point_of node.x node.y ≡ told
         → place_of (option_to_list (option_map (λ p. (node.name, p)) (result_ok told)) ++ rest) name
         ≡ Some point
         → (place_of rest name ≡ Some point → IsPointBelow 1000000000000001 point)
@@ -165,7 +166,7 @@ near_given earlier (line ∷ later) name point found =
     at None found later_near = later_near found
     at (Some Blank) found later_near = later_near found
     at (Some Header) found later_near = later_near found
-    at (Some (Stands node)) found later_near = by node (point_of node) refl found later_near
+    at (Some (Stands node)) found later_near = by node (point_of node.x node.y) refl found later_near
 
 -- and so are all
 near_all : (lines names : List (List ℕ)) (points : List Point)

@@ -9,9 +9,10 @@ use Rattle.std.proofs.lemmas.List.Folds.{list_any-append}
 use Rattle.std.proofs.lemmas.Slice.Eq.{bytes_eq-Decides}
 use Rattle.cts_base.specs.declared.number.NumberFault.{NumberFault}
 use Rattle.cts_model.specs.declared.place.Point.{Point}
+use Rattle.cts_model.specs.placement.Coordinates.{point_of}
 use Rattle.cts_model.specs.placement.PlaceLines.{Entry, Blank, Header, Stands, entry_after, entry_of_words, has_begun, is_not_blank, place_words}
 use Rattle.place_reader.specs.declared.placing.Placing.{Placing}
-use Rattle.place_reader.specs.Placements.{entry_fault, fault_of, is_among, node_fault, place_by, place_of, places_after, point_of}
+use Rattle.place_reader.specs.Placements.{entry_fault, fault_of, is_among, node_fault, place_by, place_of, places_after}
 use Rattle.place_reader.specs.Taken.{AreSamePlaces, HasTaken, TakesLine, wanted_place}
 use Rattle.place_reader.specs.View.{is_written}
 
@@ -55,7 +56,7 @@ module _ (wanted : List ℕ → Bool) where
       ≡ place_of (option_to_list (place_by (Some entry))) name
   wanted_alone Blank name wants = refl
   wanted_alone Header name wants = refl
-  wanted_alone (Stands node) name wants = at (wanted node.name) refl (point_of node)
+  wanted_alone (Stands node) name wants = at (wanted node.name) refl (point_of node.x node.y)
     where
       by : (b : Bool) → bytes_eq name node.name ≡ b → wanted node.name ≡ false → (point : Point)
           → None ≡ cond b (Some point) None
@@ -92,9 +93,9 @@ module _ (wanted : List ℕ → Bool) where
       same_fault number (Stands node) = at (wanted node.name) refl
         where
           at : (b : Bool) → wanted node.name ≡ b
-              → cond b (node_fault number (point_of node) (place_of places node.name)) None
-              ≡ cond b (node_fault number (point_of node) (place_of others node.name)) None
-          at true wants = ap (node_fault number (point_of node)) (same node.name wants)
+              → cond b (node_fault number (point_of node.x node.y) (place_of places node.name)) None
+              ≡ cond b (node_fault number (point_of node.x node.y) (place_of others node.name)) None
+          at true wants = ap (node_fault number (point_of node.x node.y)) (same node.name wants)
           at false passed = refl
 
 module _ {start old : Placing} {earlier : List (List ℕ)} (line : List ℕ) (entry : Entry)

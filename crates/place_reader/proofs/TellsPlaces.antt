@@ -9,10 +9,11 @@ use Rattle.cts_base.specs.declared.number.NumberFault.{NumberFault}
 use Rattle.cts_model.specs.declared.circuit.Circuit.{Circuit}
 use Rattle.cts_model.specs.declared.place.Places.{Places}
 use Rattle.cts_model.specs.declared.place.Point.{Point}
+use Rattle.cts_model.specs.placement.Coordinates.{point_of}
 use Rattle.cts_model.specs.placement.PlaceLines.{Entry, Blank, Header, Stands}
 use Rattle.place_reader.specs.declared.fault.PlaceFault.{PlaceFault}
 use Rattle.place_reader.specs.declared.fault.PlaceFault.TheVariants.{NoPlace, NoSource}
-use Rattle.place_reader.specs.Placements.{AcceptsPlacement, RefusesPlacement, entry_fault, fault_of, is_among, node_fault, place_of, places_after, places_in, point_of, points_from, register_nodes, wanted_nodes, with_source}
+use Rattle.place_reader.specs.Placements.{AcceptsPlacement, RefusesPlacement, entry_fault, fault_of, is_among, node_fault, place_of, places_after, places_in, points_from, register_nodes, wanted_nodes, with_source}
 
 -- the lines give the places of a placement
 pub record GivePlaces (given : List (List ℕ × Point)) (circuit : Circuit) (source host : List ℕ)
@@ -76,9 +77,9 @@ module _ (register : ℕ) where
   not_of_entry wanted places number (Some (Stands node)) found = at (wanted node.name) found
     where
       at : (b : Bool)
-          → cond b (node_fault number (point_of node) (place_of places node.name)) None
+          → cond b (node_fault number (point_of node.x node.y) (place_of places node.name)) None
           ≡ Some (NoPlace register) → ⊥
-      at true found = not_of_node number (point_of node) (place_of places node.name) found
+      at true found = not_of_node number (point_of node.x node.y) (place_of places node.name) found
       at false found = cc
 
   not_of_lines : (wanted : List ℕ → Bool) (earlier lines : List (List ℕ))

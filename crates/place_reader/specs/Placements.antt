@@ -6,7 +6,6 @@ use Rattle.std.specs.Result.{result_map_both, result_ok}
 use Rattle.std.specs.List.{list_any}
 use Rattle.std.specs.Map.{lookup}
 use Rattle.std.specs.Str.{bytes_eq}
-use Rattle.cts_base.specs.Decimals.{micros_of}
 use Rattle.cts_base.specs.LineFormats.{first_fault, unless_faulty}
 use Rattle.cts_base.specs.Lines.{lines_of}
 use Rattle.cts_base.specs.declared.number.NumberFault.{NumberFault}
@@ -15,6 +14,7 @@ use Rattle.cts_model.specs.declared.circuit.Circuit.{Circuit}
 use Rattle.cts_model.specs.declared.place.Point.{Point}
 use Rattle.cts_model.specs.declared.place.Places.{Places}
 use Rattle.cts_model.specs.netlist.Kinds.{is_host}
+use Rattle.cts_model.specs.placement.Coordinates.{point_of}
 use Rattle.cts_model.specs.placement.PlaceLines.{Node, Entry, Blank, Header, Stands, entry_after}
 use Rattle.place_reader.specs.declared.fault.PlaceFault.{PlaceFault}
 use Rattle.place_reader.specs.declared.fault.PlaceFault.TheVariants.{BadLine, BadNumber, PlaceTwice, NoPlace, NoSource}
@@ -37,20 +37,10 @@ is_among names name = list_any (bytes_eq name) names
 abbrev pub wanted_nodes : Circuit → (source host : List ℕ) → List (List ℕ)
 wanted_nodes circuit source host = register_nodes circuit host ++ source ∷ []
 
--- the point of two coordinates, or why x is refused, or else y
-abbrev pub point_from : (x y : Result ℤ NumberFault) → Result Point NumberFault
-point_from (Err fault) y = Err fault
-point_from (Ok x) (Err fault) = Err fault
-point_from (Ok x) (Ok y) = Ok (record { x = x; y = y })
-
--- where a node stands
-abbrev pub point_of : Node → Result Point NumberFault
-point_of node = point_from (micros_of node.x) (micros_of node.y)
-
 -- the name and the point that a line gives, if it gives one
 abbrev pub place_by : Option Entry → Option (List ℕ × Point)
 place_by (Some (Stands node)) =
-    option_map (λ point. (node.name, point)) (result_ok (point_of node))
+    option_map (λ point. (node.name, point)) (result_ok (point_of node.x node.y))
 place_by _ = None
 
 -- those that lines give which come after others
@@ -79,8 +69,8 @@ entry_fault wanted places number None = Some (BadLine number)
 entry_fault wanted places number (Some Blank) = None
 entry_fault wanted places number (Some Header) = None
 entry_fault wanted places number (Some (Stands node)) =
-    if wanted node.name then node_fault number (point_of node) (place_of places node.name)
-    else None
+    if wanted node.name
+    then node_fault number (point_of node.x node.y) (place_of places node.name) else None
 
 -- what is wrong with a line after the lines before it, if anything is
 abbrev pub fault_of : (wanted : List ℕ → Bool) → (earlier : List (List ℕ)) → List ℕ

@@ -1,7 +1,7 @@
 ghost use Rattle.std.specs.Prelude.{◌≡◌, ℕ, List, [], None, OnOk, IfOk, IfErr};
 ghost use Rattle.cts_base.specs.LineFormats.{IsFaultOf};
 ghost use Rattle.place_reader.specs.Names.{AreSameNames};
-ghost use Rattle.place_reader.specs.Placements.{entry_fault, fault_of, is_among, point_of, wanted_nodes};
+ghost use Rattle.place_reader.specs.Placements.{entry_fault, fault_of, is_among, wanted_nodes};
 ghost use Rattle.place_reader.specs.View.{node_said, said_by};
 ghost use Rattle.place_reader.specs.declared.fault.PlaceFault.TheVariants as fault;
 ghost use Rattle.cts_model.specs.placement.PlaceLines as format;
@@ -10,8 +10,8 @@ use crate::PlaceFault;
 use crate::entry::{Entry, Node};
 use crate::node_names::NodeNames;
 use crate::placed::Placed;
-use cts_base::{Line, LineFormat, NoMemory, NumberFault, read_micro};
-use cts_model::{Circuit, Point};
+use cts_base::{Line, LineFormat, NoMemory};
+use cts_model::{Circuit, read_point};
 use std::alloc::Global;
 
 /// What the lines so far place.
@@ -94,7 +94,7 @@ impl Placing {
         if !self.wanted.has(node.name) {
             return Ok(());
         }
-        let point = match point_of(node) {
+        let point = match read_point(node.x, node.y) {
             Ok(point) => point,
             Err(fault) => return Err(PlaceFault::BadNumber(number, fault)),
         };
@@ -104,16 +104,4 @@ impl Placing {
         self.placed.put(node.name, point)?;
         Ok(())
     }
-}
-
-// Where a node stands.
-fn point_of(node: Node) -> Result<Point, NumberFault>
-    ensures { result ≡ point_of (node_said node.entry) }
-{
-    let x = read_micro(node.x)?;
-    let y = read_micro(node.y)?;
-    Ok(Point {
-        x: i128::from(x),
-        y: i128::from(y),
-    })
 }

@@ -1,7 +1,7 @@
 -- One line more that isn't faulty each turn.
 use Rattle.std.proofs.Common.{◌∙◌, ◌+◌, ◌++◌, ◌∷◌, [], length, inl, inr, arith, subst, ap}
 use Rattle.std.proofs.lemmas.Result.{err_from_is_err_and}
-use Rattle.cts_base.proofs.LineFaults.{first_found, flawless_last, flawless_next, number_passed, number_small, passed_last}
+use Rattle.cts_base.proofs.LineFaults.{first_found, flawless_last, number_passed, number_small, passed_last, passed_next}
 use Rattle.cts_base.proofs.line_format.read_lines.Goals as goal
 
 pub returns-in_err-read_line-clause-flawed : goal.returns-in_err-read_line-clause-flawed
@@ -31,7 +31,7 @@ loop-line-preserved g c =
       (
         passed ++ c.in-Some.line.text.now ∷ [],
         step.1,
-        flawless_next walk c.in-Some.ensures.steps step.0,
+        passed_next walk c.in-Some.ensures.steps step.0,
       ),
     )
 
