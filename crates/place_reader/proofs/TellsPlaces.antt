@@ -62,24 +62,20 @@ unplaced_below number (Some first ∷ places) register told =
 
 module _ (register : ℕ) where
   -- no line is refused for a register
-  not_of_node : (number : ℕ) (point : Result Point NumberFault) (before : Option Point)
-      → node_fault number point before ≡ Some (NoPlace register) → ⊥
-  not_of_node number (Err fault) before found = cc
-  not_of_node number (Ok point) None found = cc
-  not_of_node number (Ok point) (Some there) found = cc
-
   not_of_entry : (wanted : List ℕ → Bool) (places : List (List ℕ × Point)) (number : ℕ)
       (entry : Option Entry) → entry_fault wanted places number entry ≡ Some (NoPlace register) → ⊥
   not_of_entry wanted places number None found = cc
   not_of_entry wanted places number (Some Blank) found = cc
   not_of_entry wanted places number (Some Header) found = cc
-  not_of_entry wanted places number (Some (Stands node)) found = at (wanted node.name) found
+  not_of_entry wanted places number (Some (Stands node)) found =
+      at (wanted node.name) (point_of node) (place_of places node.name) found
     where
-      at : (b : Bool)
-          → cond b (node_fault number (point_of node) (place_of places node.name)) None
-          ≡ Some (NoPlace register) → ⊥
-      at true found = not_of_node number (point_of node) (place_of places node.name) found
-      at false found = cc
+      at : (b : Bool) (point : Result Point NumberFault) (before : Option Point)
+          → cond b (node_fault number point before) None ≡ Some (NoPlace register) → ⊥
+      at false point before found = cc
+      at true (Err fault) before found = cc
+      at true (Ok point) None found = cc
+      at true (Ok point) (Some there) found = cc
 
   not_of_lines : (wanted : List ℕ → Bool) (earlier lines : List (List ℕ))
       → first_fault_after (fault_of wanted) earlier lines ≡ Some (NoPlace register) → ⊥
