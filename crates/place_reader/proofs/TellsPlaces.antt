@@ -1,5 +1,5 @@
 -- What a text that is a placement, and one that leaves a register without a place, say.
-use Rattle.std.proofs.Common.{◌≡◌, ℕ, ◌+◌, ◌<◌, Bool, true, false, cond, List, [], ◌∷◌, ◌++◌, map, length, Option, Some, None, Result, Ok, Err, refl, sym, ap, ◌∙◌, arith}
+use Rattle.std.proofs.Common.{◌≡◌, ℕ, ◌+◌, ◌<◌, Bool, true, false, cond, List, [], ◌∷◌, ◌++◌, map, length, Option, Some, None, Result, Ok, Err, refl, ap, ◌∙◌, arith}
 use Rattle.std.specs.Option.{option_or}
 use Rattle.std.specs.Result.{result_map_both}
 use Rattle.std.proofs.lemmas.List.{length-map}
@@ -11,7 +11,7 @@ use Rattle.cts_model.specs.declared.place.Places.{Places}
 use Rattle.cts_model.specs.declared.place.Point.{Point}
 use Rattle.cts_model.specs.placement.PlaceLines.{Entry, Blank, Header, Stands}
 use Rattle.place_reader.specs.declared.fault.PlaceFault.{PlaceFault}
-use Rattle.place_reader.specs.declared.fault.PlaceFault.TheVariants.{NoPlace, NoSource}
+use Rattle.place_reader.specs.declared.fault.PlaceFault.TheVariants.{NoPlace}
 use Rattle.place_reader.specs.Placements.{AcceptsPlacement, RefusesPlacement, entry_fault, fault_of, is_among, node_fault, place_of, places_after, places_in, point_of, points_from, register_nodes, wanted_nodes, with_source}
 
 -- the lines give the places of a placement
