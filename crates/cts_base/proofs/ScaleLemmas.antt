@@ -58,44 +58,32 @@ capped_through ceiling number (d ∷ ds) =
     (capped_step number (digit_value d) ceiling)
     ∙ capped_through ceiling (number * 10 + digit_value d) ds
 
--- the first so many of two lists in a row
-take-append : (n : ℕ) (xs ys : List ℕ)
-    → take n (xs ++ ys) ≡ take (min n (length xs)) xs ++ take (n - min n (length xs)) ys
-take-append n xs ys = at (cases_lt n (length xs)) where
-  at : (n < length xs) ⊎ (length xs ≤ n)
-      → take n (xs ++ ys) ≡ take (min n (length xs)) xs ++ take (n - min n (length xs)) ys
-  at (inl less) =
-      let within : n ≤ length xs = omega arith in
-      let first : n ≡ min n (length xs) = omega arith in
-      let none : 0 ≡ n - min n (length xs) = omega arith in
-      take-append-le n xs ys within ∙ sym (append-nil (take n xs))
-      ∙ (λ i. take (first i) xs ++ take (none i) ys)
-  at (inr past) =
-      let sum : n ≡ length xs + (n - min n (length xs)) = omega arith in
-      let first : length xs ≡ min n (length xs) = omega arith in
-      ap (λ k. take k (xs ++ ys)) sum
-      ∙ take-append-add xs ys (n - min n (length xs))
-      ∙ ap (λ zs. zs ++ take (n - min n (length xs)) ys)
-      (sym (take-length xs) ∙ ap (λ k. take k xs) first)
+-- the first so many of two lists in a row, and what is after them
+abbrev IsCut : (n k : ℕ) (xs ys : List ℕ) → Type 0
+IsCut n k xs ys = (take n (xs ++ ys) ≡ take k xs ++ take (n - k) ys)
+    × (drop n (xs ++ ys) ≡ drop k xs ++ drop (n - k) ys)
 
--- and what is after them
-drop-append : (n : ℕ) (xs ys : List ℕ)
-    → drop n (xs ++ ys) ≡ drop (min n (length xs)) xs ++ drop (n - min n (length xs)) ys
-drop-append n xs ys = at (cases_lt n (length xs)) where
-  at : (n < length xs) ⊎ (length xs ≤ n)
-      → drop n (xs ++ ys) ≡ drop (min n (length xs)) xs ++ drop (n - min n (length xs)) ys
+cut : (n : ℕ) (xs ys : List ℕ) → IsCut n (min n (length xs)) xs ys
+cut n xs ys = at (cases_lt n (length xs)) where
+  at : (n < length xs) ⊎ (length xs ≤ n) → IsCut n (min n (length xs)) xs ys
   at (inl less) =
       let within : n ≤ length xs = omega arith in
       let first : n ≡ min n (length xs) = omega arith in
-      let none : 0 ≡ n - min n (length xs) = omega arith in
-      drop-append-le n xs ys within ∙ (λ i. drop (first i) xs ++ drop (none i) ys)
+      let none : 0 ≡ n - min n (length xs) = omega arith in (
+        take-append-le n xs ys within ∙ sym (append-nil (take n xs))
+            ∙ (λ i. take (first i) xs ++ take (none i) ys),
+        drop-append-le n xs ys within ∙ (λ i. drop (first i) xs ++ drop (none i) ys),
+      )
   at (inr past) =
       let sum : n ≡ length xs + (n - min n (length xs)) = omega arith in
-      let first : length xs ≡ min n (length xs) = omega arith in
-      ap (λ k. drop k (xs ++ ys)) sum
-      ∙ drop-append-add xs ys (n - min n (length xs))
-      ∙ ap (λ zs. zs ++ drop (n - min n (length xs)) ys)
-      (sym (drop-length xs) ∙ ap (λ k. drop k xs) first)
+      let first : length xs ≡ min n (length xs) = omega arith in (
+        ap (λ k. take k (xs ++ ys)) sum ∙ take-append-add xs ys (n - min n (length xs))
+            ∙ ap (λ zs. zs ++ take (n - min n (length xs)) ys)
+            (sym (take-length xs) ∙ ap (λ k. take k xs) first),
+        ap (λ k. drop k (xs ++ ys)) sum ∙ drop-append-add xs ys (n - min n (length xs))
+            ∙ ap (λ zs. zs ++ drop (n - min n (length xs)) ys)
+            (sym (drop-length xs) ∙ ap (λ k. drop k xs) first),
+      )
 
 -- the number that the first so many digits of two lists write, kept at a ceiling
 pub kept_value : (whole fraction : List ℕ) (kept ceiling first second : ℕ)
@@ -110,7 +98,7 @@ kept_value whole fraction kept ceiling first second first_is second_is =
     ∙ ap (λ n. min (digits_value_after 10 n back) ceiling) first_is
     ∙ capped_through ceiling (digits_value 10 prefix) back
     ∙ ap (λ n. min n ceiling) (sym (digits_value_after-append 0 prefix back))
-    ∙ ap (λ ds. min (digits_value 10 ds) ceiling) (sym (take-append kept whole fraction))
+    ∙ ap (λ ds. min (digits_value 10 ds) ceiling) (sym (cut kept whole fraction).0)
 
 -- whether what is after the first so many digits of two lists passes a test
 pub rest_passes : (p : ℕ → Bool) (whole fraction : List ℕ) (kept : ℕ)
@@ -120,7 +108,7 @@ pub rest_passes : (p : ℕ → Bool) (whole fraction : List ℕ) (kept : ℕ)
 rest_passes p whole fraction kept =
     sym (list_all-append p (drop (min kept (length whole)) whole)
     (drop (kept - min kept (length whole)) fraction))
-    ∙ ap (λ ds. list_all p ds) (sym (drop-append kept whole fraction))
+    ∙ ap (λ ds. list_all p ds) (sym (cut kept whole fraction).1)
 
 -- digits stay digits in a part and after one another
 pub digits_of_take : (n : ℕ) (ds : List ℕ) → AllDigits 10 ds → AllDigits 10 (take n ds)

@@ -6,9 +6,10 @@ use Rattle.std.proofs.lemmas.Int.Digits.{digits_value-lt}
 use Rattle.std.proofs.lemmas.List.{length-append, length-drop}
 use Rattle.std.specs.List.{list_all}
 use Rattle.std.specs.Str.Parse.{digits_value, starts_with_minus, without_leading_sign}
-use Rattle.cts_base.specs.Decimals.{is_zero, exponent, whole_digits, fraction_digits, digits, exponent_size, raised, lowered, is_decimal, is_fine_enough, micros_size, size_of}
+use Rattle.cts_base.specs.Decimals.{is_zero, exponent, whole_digits, fraction_digits, digits, exponent_size, raised, lowered, is_fine_enough, micros_size, size_of}
+use Rattle.cts_base.specs.NumberParts.{HasDigits}
 use Rattle.cts_base.specs.declared.number.NumberFault.TheVariants.{TooFine, TooLarge}
-use Rattle.cts_base.proofs.DecimalLemmas.{digits_short, has_digits}
+use Rattle.cts_base.proofs.DecimalLemmas.{digits_short}
 use Rattle.cts_base.proofs.MicroLemmas.{digits_value-split, zeros_value, others_value, IsAligned, IsLeft, places_of, kept_cut, raise_cut, shape, size_is, no_size, raised_cut}
 use Rattle.cts_base.proofs.ScaleLemmas.{digits_of_append, digits_of_drop}
 
@@ -96,14 +97,13 @@ not_told text none =
 
 -- where there is more than zeros after, the value is no multiple of a millionth
 pub too_fine : (text : List ℕ) (places kept : ℕ) → length text < 2 ^ 64
-    → is_decimal text ≡ true → IsPlacedIn text places kept
+    → HasDigits text → IsPlacedIn text places kept
     → list_all is_zero (drop kept (whole_digits text ++ fraction_digits text)) ≡ false
     → Err TooFine ≡ size_of text
 unfolding digits size_of
-too_fine text places kept short decimal place more =
+too_fine text places kept short has place more =
     let ds = whole_digits text ++ fraction_digits text in
     let rest = drop kept ds in
-    let has = has_digits text decimal in
     let rest_digits = digits_of_drop kept ds
     (digits_of_append (whole_digits text) (fraction_digits text) has.whole has.fraction) in
     let none = not_told text (λ size same. no_size kept (digits_value 10 (take kept ds)) (digits_value 10 rest) (digits_value 10 ds)

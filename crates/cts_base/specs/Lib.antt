@@ -2,5 +2,6 @@ pub mod Decimals
 pub mod Fractions
 pub mod LineFormats
 pub mod Lines
+pub mod NumberParts
 pub mod NumberTexts
 pub mod Words

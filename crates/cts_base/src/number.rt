@@ -29,6 +29,7 @@ pub enum NumberFault {
 /// # Errors
 ///
 /// The first fault of the text, in the order of `NumberFault`.
+#[tactic(auto, unfolding(crate::specs::Decimals::micros_of))]
 pub fn read_micro(text: &[u8]) -> Result<i64, NumberFault>
     ensures { result ≡ micros_of text.now }
 {

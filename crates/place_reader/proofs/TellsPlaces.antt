@@ -1,5 +1,5 @@
 -- What a text that is a placement, and one that leaves a register without a place, say.
-use Rattle.std.proofs.Common.{◌≡◌, ℕ, ◌+◌, ◌<◌, Bool, true, false, cond, List, [], ◌∷◌, ◌++◌, map, length, Option, Some, None, Result, Ok, Err, refl, sym, ap, ◌∙◌, arith}
+use Rattle.std.proofs.Common.{◌≡◌, ℕ, ◌+◌, ◌<◌, Bool, true, false, cond, List, [], ◌∷◌, ◌++◌, map, length, Option, Some, None, Result, Ok, Err, refl, ap, ◌∙◌, arith}
 use Rattle.std.specs.Option.{option_or}
 use Rattle.std.specs.Result.{result_map_both}
 use Rattle.std.proofs.lemmas.List.{length-map}
@@ -12,7 +12,7 @@ use Rattle.cts_model.specs.declared.place.Point.{Point}
 use Rattle.cts_model.specs.placement.Coordinates.{point_of}
 use Rattle.cts_model.specs.placement.PlaceLines.{Entry, Blank, Header, Stands}
 use Rattle.place_reader.specs.declared.fault.PlaceFault.{PlaceFault}
-use Rattle.place_reader.specs.declared.fault.PlaceFault.TheVariants.{NoPlace, NoSource}
+use Rattle.place_reader.specs.declared.fault.PlaceFault.TheVariants.{NoPlace}
 use Rattle.place_reader.specs.Placements.{AcceptsPlacement, RefusesPlacement, entry_fault, fault_of, is_among, node_fault, place_of, places_after, places_in, points_from, register_nodes, wanted_nodes, with_source}
 
 -- the lines give the places of a placement
@@ -63,24 +63,20 @@ unplaced_below number (Some first ∷ places) register told =
 
 module _ (register : ℕ) where
   -- no line is refused for a register
-  not_of_node : (number : ℕ) (point : Result Point NumberFault) (before : Option Point)
-      → node_fault number point before ≡ Some (NoPlace register) → ⊥
-  not_of_node number (Err fault) before found = cc
-  not_of_node number (Ok point) None found = cc
-  not_of_node number (Ok point) (Some there) found = cc
-
   not_of_entry : (wanted : List ℕ → Bool) (places : List (List ℕ × Point)) (number : ℕ)
       (entry : Option Entry) → entry_fault wanted places number entry ≡ Some (NoPlace register) → ⊥
   not_of_entry wanted places number None found = cc
   not_of_entry wanted places number (Some Blank) found = cc
   not_of_entry wanted places number (Some Header) found = cc
-  not_of_entry wanted places number (Some (Stands node)) found = at (wanted node.name) found
+  not_of_entry wanted places number (Some (Stands node)) found =
+      at (wanted node.name) (point_of node.x node.y) (place_of places node.name) found
     where
-      at : (b : Bool)
-          → cond b (node_fault number (point_of node.x node.y) (place_of places node.name)) None
-          ≡ Some (NoPlace register) → ⊥
-      at true found = not_of_node number (point_of node.x node.y) (place_of places node.name) found
-      at false found = cc
+      at : (b : Bool) (point : Result Point NumberFault) (before : Option Point)
+          → cond b (node_fault number point before) None ≡ Some (NoPlace register) → ⊥
+      at false point before found = cc
+      at true (Err fault) before found = cc
+      at true (Ok point) None found = cc
+      at true (Ok point) (Some there) found = cc
 
   not_of_lines : (wanted : List ℕ → Bool) (earlier lines : List (List ℕ))
       → first_fault_after (fault_of wanted) earlier lines ≡ Some (NoPlace register) → ⊥

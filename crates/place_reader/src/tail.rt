@@ -53,10 +53,7 @@ fn next_part<'a>(part: &'a [u8], words: &mut Words<'a>) -> Option<&'a [u8]>
 fn begins_with(byte: u8, word: &[u8]) -> bool
     ensures { result ≡ begins_with byte word.now }
 {
-    match word.first() {
-        Some(first) => *first == byte,
-        None => false,
-    }
+    word.first() == Some(&byte)
 }
 
 fn is_orientation(word: &[u8]) -> bool

@@ -3,6 +3,7 @@ ghost use Rattle.std.specs.List.{before_first, after_first, list_all, position};
 ghost use Rattle.std.specs.Char.{is_ascii_digit};
 ghost use Rattle.std.specs.Str.Parse.{AllDigits, IsNumeral, starts_with_minus, without_leading_sign};
 ghost use Rattle.cts_base.specs.Decimals.{is_decimal, is_exponent_mark, is_marked, is_numeral, is_point, exponent, whole_digits, fraction_digits};
+ghost use Rattle.cts_base.specs.NumberParts.{HasDigits};
 
 /// The parts that the spelling of a number has.
 #[derive(Clone, Copy, Debug)]
@@ -37,7 +38,8 @@ pub fn parts_of<'a>(text: &'a [u8]) -> Parts<'a>
 /// Whether a text has the form of a number.
 #[tactic(auto, unfolding(crate::specs::Decimals::is_decimal))]
 pub fn is_decimal(text: &[u8]) -> bool
-    ensures { result ≡ is_decimal text.now }
+    ensures form { result ≡ is_decimal text.now }
+    ensures digits { IsTrue result → HasDigits text.now }
 {
     let parts = parts_of(text);
     if !are_digits(parts.whole) {

@@ -1,6 +1,7 @@
-ghost use Rattle.std.specs.Prelude.{◌≡◌, ◌+◌, ◌-◌, ◌≤◌, if◌then◌else◌, min, IsTrue};
+ghost use Rattle.std.specs.Prelude.{◌≡◌, ◌+◌, ◌-◌, ◌≤◌, if◌then◌else◌, ◌^◌, min, IfOk};
 ghost use Rattle.std.specs.Str.Parse.{AllDigits, digits_value, without_leading_sign};
-ghost use Rattle.cts_base.specs.Decimals.{is_decimal, size_of};
+ghost use Rattle.cts_base.specs.Decimals.{size_of};
+ghost use Rattle.cts_base.specs.NumberParts.{HasDigits};
 
 use crate::number::NumberFault;
 use crate::number::parts::{begins_with_minus, parts_of, without_sign};
@@ -11,8 +12,9 @@ const GREATEST_EXPONENT: u128 = 1_267_650_600_228_229_401_496_703_205_376;
 
 /// The size of a number in millionths.
 pub fn size_of(text: &[u8]) -> Result<u64, NumberFault>
-    requires { IsTrue (is_decimal text.now) }
-    ensures { result ≡ size_of text.now }
+    requires { HasDigits text.now }
+    ensures told { result ≡ size_of text.now }
+    ensures within { IfOk result (λ size. size ≤ 10 ^ 15) }
 {
     let parts = parts_of(text);
     let minus = begins_with_minus(parts.exponent);

@@ -1,5 +1,5 @@
 -- One line more that isn't faulty each turn.
-use Rattle.std.proofs.Common.{◌∙◌, ◌+◌, ◌++◌, ◌∷◌, [], length, inl, inr, arith, subst, ap}
+use Rattle.std.proofs.Common.{◌∙◌, ◌+◌, ◌++◌, ◌∷◌, [], length, inl, inr, subst, ap}
 use Rattle.std.proofs.lemmas.Result.{err_from_is_err_and}
 use Rattle.cts_base.proofs.LineFaults.{first_found, flawless_last, number_passed, number_small, passed_last, passed_next}
 use Rattle.cts_base.proofs.line_format.read_lines.Goals as goal

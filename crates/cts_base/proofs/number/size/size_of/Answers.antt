@@ -1,28 +1,12 @@
-use Rattle.std.proofs.Common.{◌++◌, min, drop, take, sym, subst, ◌∙◌, arith}
+use Rattle.std.proofs.Common.{◌++◌, min, drop, take, sym, ◌∙◌, arith}
 use Rattle.std.specs.List.{list_all}
-use Rattle.std.specs.Str.Parse.{AllDigits, digits_value, without_leading_sign}
+use Rattle.std.specs.Str.Parse.{digits_value}
 use Rattle.cts_base.specs.Decimals.{is_zero}
 use Rattle.cts_base.proofs.SizeLemmas.{placed, too_fine, size_up_to, size_below, size_above}
-use Rattle.cts_base.proofs.DecimalLemmas.{has_digits}
 use Rattle.cts_base.proofs.number.size.size_of.Goals as goal
 
-pub exponent_of-requires : goal.exponent_of-requires
-exponent_of-requires c =
-    subst (λ e. AllDigits 10 (without_leading_sign e)) (sym c.parts_of-parts.ensures.exponent)
-    (has_digits c.args.text.now c.requires).exponent
-
-pub kept_number-number-requires-clause-whole : goal.kept_number-number-requires-clause-whole
-kept_number-number-requires-clause-whole c =
-    subst (AllDigits 10) (sym c.parts_of-parts.ensures.whole)
-    (has_digits c.args.text.now c.requires).whole
-
-pub kept_number-number-requires-clause-fraction : goal.kept_number-number-requires-clause-fraction
-kept_number-number-requires-clause-fraction c =
-    subst (AllDigits 10) (sym c.parts_of-parts.ensures.fraction)
-    (has_digits c.args.text.now c.requires).fraction
-
-pub returns-then-not-is_zero_after : goal.returns-then-not-is_zero_after
-returns-then-not-is_zero_after c =
+pub returns-then-not-is_zero_after-clause-told : goal.returns-then-not-is_zero_after-clause-told
+returns-then-not-is_zero_after-clause-told c =
     let parts = c.parts_of-parts.ensures in
     let kept = c.kept_of-kept.result in
     let place = placed c.args.text.now _ _ _ _ _ _ _ parts.whole parts.fraction parts.exponent
@@ -32,8 +16,8 @@ returns-then-not-is_zero_after c =
     ∙ sym c.is_zero_after.ensures ∙ c.if-not-is_zero_after.true in
     too_fine c.args.text.now c.places_of-places.result kept (omega arith) c.requires place more
 
-pub returns-then-size-eq-CEILING : goal.returns-then-size-eq-CEILING
-returns-then-size-eq-CEILING c =
+pub returns-then-size-eq-CEILING-clause-told : goal.returns-then-size-eq-CEILING-clause-told
+returns-then-size-eq-CEILING-clause-told c =
     let parts = c.parts_of-parts.ensures in
     let kept = c.kept_of-kept.result in
     let place = placed c.args.text.now _ _ _ _ _ _ _ parts.whole parts.fraction parts.exponent
@@ -49,8 +33,8 @@ returns-then-size-eq-CEILING c =
     c.raised_number-size.result (omega arith) place zeros number c.raised_number-size.ensures)
     c.if-size-eq-CEILING.true
 
-pub returns : goal.returns
-returns c =
+pub returns-clause-told : goal.returns-clause-told
+returns-clause-told c =
     let parts = c.parts_of-parts.ensures in
     let kept = c.kept_of-kept.result in
     let place = placed c.args.text.now _ _ _ _ _ _ _ parts.whole parts.fraction parts.exponent
