@@ -32,7 +32,8 @@ module _ (start old : Moving) (earlier : List (List ℕ)) (line : List ℕ) (nam
 
   -- the line tells the move
   line_told : told_at number (move_of number_of (name ∷ words)) ≡ Ok move
-  line_told = sym (told ∙ ap (λ n. told_at number (move_of (number_in n) (name ∷ words))) has.numbers)
+  line_told =
+      sym (told ∙ ap (λ n. told_at number (move_of (number_in n) (name ∷ words))) has.numbers)
 
   -- it isn't faulty
   pub move_flawless : length old.moves < 10000 → fault_of number_of earlier line ≡ None

@@ -56,32 +56,38 @@ module _ (circuit : Circuit) where
         y_is = y_is ∙ ap (λ m. Ok m.at.y) same;
       }
 
+  -- the number of a register by its name
+  abbrev number_of : List ℕ → Option ℕ
+  number_of = register_of circuit
+
+  register_below : (name : List ℕ) (found : ℕ) → number_of name ≡ Some found
+      → found < length circuit.registers
+  register_below name found is =
+      let below = found_below (λ register. bytes_eq name (register_name circuit register)) 0
+      (length circuit.registers) found is in
+      omega (arith, below)
+
   -- the words of a line tell it
-  by_words : (words : List (List ℕ)) (move : Move) → move_of (register_of circuit) words ≡ Ok move
+  by_words : (words : List (List ℕ)) (move : Move) → move_of number_of words ≡ Ok move
       → IsToldMove circuit move
   by_words (name ∷ x ∷ y ∷ []) move told =
-      by_parts x y (register_of circuit name) (micros_of x) (micros_of y) move
-      (λ found is. omega (
-        arith,
-        found_below
-            (λ register. bytes_eq name (register_name circuit register)) 0 (length circuit.registers)
-            found is,
-      )) refl refl told
+      by_parts x y (number_of name) (micros_of x) (micros_of y) move (register_below name) refl refl
+      told
   by_words words move told = cc
 
   module _ (Holds : Move → Type 0) (holds : (move : Move) → IsToldMove circuit move → Holds move)
     where
       -- what holds of each told move holds of those of entries
-      by_entries : (entries : List (List (List ℕ))) → All Holds (moves_of (register_of circuit) entries)
+      by_entries : (entries : List (List (List ℕ))) → All Holds (moves_of number_of entries)
       by_entries [] = All-nil Holds
-      by_entries (words ∷ entries) =
-          at (move_of (register_of circuit) words) refl (by_entries entries)
+      by_entries (words ∷ entries) = at (move_of number_of words) refl (by_entries entries)
         where
-          at : (told : Result Move (ℕ → MovesFault)) → move_of (register_of circuit) words ≡ told
-              → All Holds (moves_of (register_of circuit) entries)
-              → All Holds (cons_option (result_ok told) (moves_of (register_of circuit) entries))
-          at (Ok move) is rest = All-cons Holds move (moves_of (register_of circuit) entries)
-              (holds move (by_words words move is)) rest
+          at : (told : Result Move (ℕ → MovesFault)) → move_of number_of words ≡ told
+              → All Holds (moves_of number_of entries)
+              → All Holds (cons_option (result_ok told) (moves_of number_of entries))
+          at (Ok move) is rest =
+              All-cons Holds move (moves_of number_of entries) (holds move (by_words words move is))
+              rest
           at (Err fault) is rest = rest
 
       by_fault : (fault : Option MovesFault) (moves others : List Move)
@@ -95,6 +101,5 @@ module _ (circuit : Circuit) where
           → All Holds moves
       unfolding moves_in
       each_told text moves accepts =
-          by_fault (first_fault (fault_of (register_of circuit)) text)
-          (moves_of (register_of circuit) (entries_of text)) moves accepts
-          (by_entries (entries_of text))
+          by_fault (first_fault (fault_of number_of) text) (moves_of number_of (entries_of text))
+          moves accepts (by_entries (entries_of text))

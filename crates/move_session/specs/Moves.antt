@@ -30,7 +30,7 @@ move_to None place = Err UnknownRegister
 move_to (Some register) (Ok at) = Ok (record { register = register; at = at })
 move_to (Some register) (Err fault) = Err (λ number. BadNumber number fault)
 
--- what the words of a line tell, where each register has its number
+-- what the words of a line tell, with the number of each register by its name
 abbrev pub move_of : (number_of : List ℕ → Option ℕ) → (words : List (List ℕ))
     → Result Move (ℕ → MovesFault)
 move_of number_of (name ∷ x ∷ y ∷ []) = move_to (number_of name) (point_of x y)

@@ -25,7 +25,8 @@ impl Moving {
 
     /// No moves.
     pub(crate) fn new(alloc: Global, circuit: &Circuit) -> Result<Moving, NoMemory>
-        ensures numbers { IfOk result (λ moving. number_in moving.numbers ≡ register_of circuit.now) }
+        ensures numbers { IfOk result
+            (λ moving. number_in moving.numbers ≡ register_of circuit.now) }
         ensures fresh { IfOk result (λ moving. HasTaken moving moving []) }
     {
         Ok(Moving {
@@ -36,7 +37,8 @@ impl Moving {
 
     // The move that a name and the words after it tell, in the line of a number.
     fn move_of(&self, number: u32, name: &[u8], mut words: Words) -> Result<Move, MovesFault>
-        ensures { result ≡ told_at number (move_of (number_in self.now.numbers) (name.now ∷ words.entry)) }
+        ensures { result ≡ told_at number
+            (move_of (number_in self.now.numbers) (name.now ∷ words.entry)) }
     {
         let (Some(x), Some(y), None) = (words.next(), words.next(), words.next()) else {
             return Err(MovesFault::BadLine(number));
