@@ -38,8 +38,10 @@ sound_statement number earlier statement =
         → option_map_or (is_defined_before earlier) (definition_of statement) false ≡ twice
         → list_all is_short (names_of statement) ≡ short
         → option_and_then (definition_excess earlier) (definition_of statement) ≡ excess
-        → (if not kind then Some (UnknownKind number) else if not inputs then Some (WrongInputs number) else if twice
-        then Some (SignalTwice number) else option_map (TooLarge number) (if short then excess else Some Name)) ≡ None
+        → (if not kind then Some (UnknownKind number) else if not inputs then Some
+        (WrongInputs number) else if twice
+        then Some (SignalTwice number) else option_map (TooLarge number)
+        (if short then excess else Some Name)) ≡ None
         → IsSound earlier statement
     at false inputs twice short excess k i t s e none = cc none
     at true false twice short excess k i t s e none = cc none

@@ -82,7 +82,8 @@ pub size_told : (text : List ℕ) (size : ℕ) → IsMicrosSize text size
 unfolding is_fine_enough micros_size
 size_told text size same =
     let power : 1 ≤ 10 ^ lowered text = one-le-pow (lowered text) 10 (lit< tt) in (
-      eq-eqb _ 0 (ap (λ n. n % 10 ^ lowered text) (sym same) ∙ mul-mod_left size (10 ^ lowered text)),
+      eq-eqb _ 0 (ap (λ n. n % 10 ^ lowered text) (sym same) ∙ mul-mod_left size
+          (10 ^ lowered text)),
       ap (λ n. n / 10 ^ lowered text) (sym same) ∙ mul-div_cancel size power,
     )
 
@@ -106,7 +107,8 @@ too_fine text places kept short has place more =
     let rest = drop kept ds in
     let rest_digits = digits_of_drop kept ds
     (digits_of_append (whole_digits text) (fraction_digits text) has.whole has.fraction) in
-    let none = not_told text (λ size same. no_size kept (digits_value 10 (take kept ds)) (digits_value 10 rest) (digits_value 10 ds)
+    let none = not_told text (λ size same. no_size kept (digits_value 10 (take kept ds))
+    (digits_value 10 rest) (digits_value 10 ds)
     (length rest) (raise_of text kept) (lowered text) (raised text) size
     (empty_prefix ds kept) (digits_value-split kept ds) (digits_value-lt 10 rest rest_digits)
     (others_value rest rest_digits more) (shape_of text places kept short place) same) in

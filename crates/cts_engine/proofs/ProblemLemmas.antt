@@ -166,7 +166,8 @@ near_given earlier (line ∷ later) name point found =
     at None found later_near = later_near found
     at (Some Blank) found later_near = later_near found
     at (Some Header) found later_near = later_near found
-    at (Some (Stands node)) found later_near = by node (point_of node.x node.y) refl found later_near
+    at (Some (Stands node)) found later_near = by node
+        (point_of node.x node.y) refl found later_near
 
 -- and so are all
 near_all : (lines names : List (List ℕ)) (points : List Point)

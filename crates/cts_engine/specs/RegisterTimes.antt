@@ -30,8 +30,8 @@ pub record HasLeastPeriod (circuit : Circuit) (tech : Tech) (constraints : List 
   pub is_shown : IsPeriodShow circuit tech period shown
   pub range : IsSmallPeriod period
 
--- the least period of the circuit's constraints, or a cycle of it that forbids every period; what is
--- shown begins at its lowest register
+-- the least period of the circuit's constraints, or a cycle of it that forbids every period; what
+-- is shown begins at its lowest register
 abbrev pub IsTiming : Circuit → Tech → Timing → Type 0
 IsTiming circuit tech (Found period shown constraints) =
     HasLeastPeriod circuit tech constraints period shown × ShowsFromLowest shown

@@ -82,7 +82,8 @@ module _ (register : ℕ) where
       → first_fault_after (fault_of wanted) earlier lines ≡ Some (NoPlace register) → ⊥
   not_of_lines wanted earlier [] found = cc
   not_of_lines wanted earlier (line ∷ later) found =
-      at (fault_of wanted earlier line) refl found (not_of_lines wanted (earlier ++ line ∷ []) later)
+      at (fault_of wanted earlier line) refl found
+      (not_of_lines wanted (earlier ++ line ∷ []) later)
     where
       at : (o : Option PlaceFault) → fault_of wanted earlier line ≡ o
           → option_or o (first_fault_after (fault_of wanted) (earlier ++ line ∷ []) later)

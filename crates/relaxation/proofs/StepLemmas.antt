@@ -107,7 +107,8 @@ module _ {constraints : List Constraint} {gains : Gains} {Seen : ℕ → Type 0}
     (way : IsUnderWay constraints gains Seen count changed begun now) where
   -- the constraints are between these registers
   pub smalls_now : AreSmallConstraints (length now.values.items) constraints
-  smalls_now = subst (λ n. AreSmallConstraints n constraints) (sym way.raised.raised.registers) smalls
+  smalls_now = subst (λ n. AreSmallConstraints n constraints)
+      (sym way.raised.raised.registers) smalls
 
   -- the values are small still
   pub small_now : count ≤ 2097152 → All (IsBelow (2 ^ 114)) begun.values.items
@@ -120,7 +121,8 @@ module _ {constraints : List Constraint} {gains : Gains} {Seen : ℕ → Type 0}
       → ((other : ℕ) → Later other → (Seen other) ⊎ (other ≡ place))
       → IsUnderWay constraints gains Later (count + 1) (option_or answer changed) begun later
   IsUnderWay-more place answer later Later within relaxed seen = record {
-    parents = parents_length gains place (get_or constraints place nowhere) now later answer look ∙ way.parents;
+    parents = parents_length gains place (get_or constraints place nowhere) now later answer look
+        ∙ way.parents;
     raised = AreRaisedBy-more (omega arith) way.raised
         (raised_look gains place now later here small answer look);
     swept = λ sweep parents long ready. goes_on sweep parents (way.swept sweep parents long ready)
@@ -148,7 +150,8 @@ module _ {constraints : List Constraint} {gains : Gains} {Seen : ℕ → Type 0}
           parents
       goes_on sweep parents left long =
           let next = sweeping_look gains place now later here small answer look sweep Seen Later
-          changed seen left.later (left.long ∙ long ∙ sym way.raised.raised.registers) left.sweeping in
+          changed seen left.later (left.long ∙ long ∙ sym way.raised.raised.registers) left.sweeping
+          in
           record {
             later = next.later;
             long = next.long ∙ left.long;

@@ -10,8 +10,8 @@ use Rattle.timing_report.proofs.FirstPairs.{is_less, is_no_less}
 abbrev pub delay_at : List PairDelay → ℕ → PairDelay → ℤ
 delay_at pairs place default = (get_or pairs place default).greatest
 
--- of so many pairs none has a greater delay than the one at the place, and none before it as great a
--- delay
+-- of so many pairs none has a greater delay than the one at the place, and none before it as great
+-- a delay
 pub record IsMostSoFar (pairs : List PairDelay) (count place : ℕ) : Type 0 where
   pub low : place ≤ count
   pub within : 0 < count → place < count
@@ -54,12 +54,19 @@ IsMostSoFar-more pairs count place next chosen most = record {
     greatest k default early true more is =
         subst (λ n. delay_at pairs k default ≤ℤ delay_at pairs n default) (sym is)
         (at (λ n. delay_at pairs n default ≤ℤ delay_at pairs count default) k early
-        (λ inside. omega (arith, ints, most.greatest k default inside, is_less (delay_at pairs count default) (delay_at pairs place default) more))
+        (λ inside. omega (
+          arith,
+          ints,
+          most.greatest k default inside,
+          is_less
+              (delay_at pairs count default) (delay_at pairs place default) more,
+        ))
         (omega (arith, ints)))
     greatest k default early false more is =
         subst (λ n. delay_at pairs k default ≤ℤ delay_at pairs n default) (sym is)
         (at (λ n. delay_at pairs n default ≤ℤ delay_at pairs place default) k early
-        (λ inside. most.greatest k default inside) (is_no_less (delay_at pairs count default) (delay_at pairs place default) more))
+        (λ inside. most.greatest k default inside)
+        (is_no_less (delay_at pairs count default) (delay_at pairs place default) more))
 
     first : (k : ℕ) (default : PairDelay) → k < next → (test : Bool)
         → int_lt (delay_at pairs place default) (delay_at pairs count default) ≡ test
@@ -67,7 +74,13 @@ IsMostSoFar-more pairs count place next chosen most = record {
         → delay_at pairs k default <ℤ delay_at pairs next default
     first k default early true more is =
         subst (λ n. delay_at pairs k default <ℤ delay_at pairs n default) (sym is)
-        (omega (arith, ints, most.greatest k default (omega (arith, is, early)), is_less (delay_at pairs count default) (delay_at pairs place default) more))
+        (omega (
+          arith,
+          ints,
+          most.greatest k default (omega (arith, is, early)),
+          is_less
+              (delay_at pairs count default) (delay_at pairs place default) more,
+        ))
     first k default early false more is =
         subst (λ n. delay_at pairs k default <ℤ delay_at pairs n default) (sym is)
         (most.first k default (omega (arith, is, early)))

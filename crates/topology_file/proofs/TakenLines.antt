@@ -93,7 +93,8 @@ module _ (sinks : ℕ) (joining : Joining) (earlier : List (List ℕ)) (line : L
           joining.within,
         ) in
         let same : merge ≡ kept = λ i. record { first = sym first i; second = sym second i } in
-        let there : IsMerge joining.sinks merges kept = subst (IsMerge joining.sinks merges) same joins in
+        let there : IsMerge joining.sinks merges kept = subst (IsMerge joining.sinks merges) same
+        joins in
         record {
           ordered = there.ordered;
           made = there.second.made;

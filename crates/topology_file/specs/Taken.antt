@@ -7,7 +7,8 @@ use Rattle.cts_model.specs.text.Entries.{entries_in}
 use Rattle.topology_file.specs.declared.joining.Joining.{Joining}
 use Rattle.topology_file.specs.Entries.{merges_of}
 
--- the merges are those of the lines, each of two open nodes, and the nodes that they join are marked
+-- the merges are those of the lines, each of two open nodes, and the nodes that they join are
+-- marked
 pub record HasTaken (sinks : ℕ) (joining : Joining) (lines : List (List ℕ)) : Type 0 where
   pub sinks_are : joining.sinks ≡ sinks
   pub merges_are : joining.merges ≡ merges_of (entries_in lines)

@@ -14,7 +14,8 @@ greatest_ratio_in-requires-clause-first c =
 pub returns-clause-period : goal.returns-clause-period
 returns-clause-period c =
     subst (IsPeriodOf c.args.constraints.now c.args.floor) (sym c.period_of.ensures)
-    (period_right (record { scale_is = refl; period_is = refl; every_is = refl }) c.args.constraints.now
+    (period_right (record { scale_is = refl; period_is = refl; every_is = refl })
+    c.args.constraints.now
     (floor_is c.args.floor c.of-first.result c.requires.floor c.of-first.ensures.value
     c.of-first.ensures.den) c.greatest_ratio_in.result c.greatest_ratio_in.ensures.ratio)
 
@@ -29,6 +30,8 @@ returns-clause-floor c = floor_exactly c.args.constraints.now c.args.floor c.per
 pub returns-clause-small : goal.returns-clause-small
 returns-clause-small c =
     subst HasSmallValue (sym c.period_of.ensures)
-    (small_right (record { scale_is = refl; period_is = refl; every_is = refl }) c.args.constraints.now
+    (small_right (record { scale_is = refl; period_is = refl; every_is = refl })
+    c.args.constraints.now
     (floor_is c.args.floor c.of-first.result c.requires.floor c.of-first.ensures.value
-    c.of-first.ensures.den) c.requires.floor c.greatest_ratio_in.result c.greatest_ratio_in.ensures.ratio)
+    c.of-first.ensures.den) c.requires.floor c.greatest_ratio_in.result
+    c.greatest_ratio_in.ensures.ratio)

@@ -28,4 +28,5 @@ loop-signal-preserved c =
 pub returns : goal.returns
 returns c = λ signal listed.
     absurd (some_fits c.args.walk.now c.args.lane c.args.signals.now c.args.greatest
-    c.in_ok-sums.sums c.in_ok-sums.ensures (λ place within. c.loop-signal.invariant place (omega arith)))
+    c.in_ok-sums.sums c.in_ok-sums.ensures (λ place within. c.loop-signal.invariant place
+    (omega arith)))

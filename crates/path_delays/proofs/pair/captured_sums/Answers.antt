@@ -15,7 +15,8 @@ either_none (Some sums) = refl
 
 -- the least and the greatest at one signal
 extremes_alone : (at : ℕ → Option Sums) (signals : List ℕ) → 1 ≤ length signals
-    → length signals < 2 → AreExtremesIfAny (StandsAt at (Contains signals)) (at (get_or signals 0 0))
+    → length signals < 2 → AreExtremesIfAny (StandsAt at (Contains signals))
+    (at (get_or signals 0 0))
 extremes_alone at [] some few = absurd (omega (arith, some))
 extremes_alone at (signal ∷ []) some few =
     subst (AreExtremesIfAny (StandsAt at (Contains (signal ∷ [])))) (either_none (at signal))
@@ -35,7 +36,12 @@ pub loop-signal-preserved : goal.loop-signal-preserved
 loop-signal-preserved c =
     let signals = c.args.signals.now in
     let i = c.loop-signal.signal-index in
-    rw (c.either-captured.ensures, c.sums-in-loop-signal.ensures, take_more signals i 0 c.loop-signal-test.true)
+    rw (
+      c.either-captured.ensures,
+      c.sums-in-loop-signal.ensures,
+      take_more signals i 0
+          c.loop-signal-test.true,
+    )
     (extremes_next (sums_to c.args.walk.now c.args.lane) (take i signals) (get_or signals i 0)
     c.loop-signal.captured c.loop-signal.invariant)
 

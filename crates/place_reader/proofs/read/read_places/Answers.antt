@@ -22,7 +22,8 @@ returns-in_err-registers c =
     let p = err_from_is_err_and c.from_residual-in_err-registers.result
     c.from_residual-in_err-registers.ensures.1 in
     let told = kept_told c.args.bytes.now c.args.circuit.now c.args.source.now
-    c.args.host.now c.in_ok-placing.placing.wanted c.in_ok-placing.ensures.0 c.read_lines.new.format.placed
+    c.args.host.now c.in_ok-placing.placing.wanted c.in_ok-placing.ensures.0
+    c.read_lines.new.format.placed
     c.in_ok-read_lines.ensures.flawless c.in_ok-read_lines.ensures.read.places in
     rw (p.1, p.2)
     (elim (told_err NoMemory _ _ c.in_err-registers.ensures) [
@@ -34,7 +35,8 @@ returns-in_err-registers c =
 pub returns-in_default : goal.returns-in_default
 returns-in_default c =
     let told = kept_told c.args.bytes.now c.args.circuit.now c.args.source.now
-    c.args.host.now c.in_ok-placing.placing.wanted c.in_ok-placing.ensures.0 c.read_lines.new.format.placed
+    c.args.host.now c.in_ok-placing.placing.wanted c.in_ok-placing.ensures.0
+    c.read_lines.new.format.placed
     c.in_ok-read_lines.ensures.flawless c.in_ok-read_lines.ensures.read.places in
     let points = told_ok NoMemory _ _ c.in_ok-registers.ensures in
     inl (sym (told ∙ (λ i. with_source (points i) (sym c.in_default.ensures i))))
@@ -42,7 +44,8 @@ returns-in_default c =
 pub returns : goal.returns
 returns c =
     let told = kept_told c.args.bytes.now c.args.circuit.now c.args.source.now
-    c.args.host.now c.in_ok-placing.placing.wanted c.in_ok-placing.ensures.0 c.read_lines.new.format.placed
+    c.args.host.now c.in_ok-placing.placing.wanted c.in_ok-placing.ensures.0
+    c.read_lines.new.format.placed
     c.in_ok-read_lines.ensures.flawless c.in_ok-read_lines.ensures.read.places in
     let points = told_ok NoMemory _ _ c.in_ok-registers.ensures in
     inl (sym (told ∙ (λ i. with_source (points i) (sym c.in-Some.ensures i))))

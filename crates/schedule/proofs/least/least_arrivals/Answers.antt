@@ -7,6 +7,7 @@ use Rattle.schedule.proofs.least.least_arrivals.Goals as goal
 pub settled-requires : goal.settled-requires
 settled-requires c =
     CanRaise-raised c.raise_in_rounds.ensures.raised
-    (subst (CanRaise c.as_slice-list.result.now c.args.gains) (sym c.in_ok-relaxation.ensures.values)
+    (subst (CanRaise c.as_slice-list.result.now c.args.gains)
+    (sym c.in_ok-relaxation.ensures.values)
     (rw c.as_slice-list.ensures (CanRaise-zero c.args.registers
     (record { small = c.requires.small; admitted = c.requires.admitted }))))

@@ -1,4 +1,5 @@
--- The gains at the period are admitted, and give the least schedule, whose arrivals are low and small.
+-- The gains at the period are admitted, and give the least schedule, whose arrivals are low and
+-- small.
 use Rattle.std.proofs.Common.{subst, sym}
 use Rattle.cts_model.specs.timing.Constraints.{AreSmallConstraints}
 use Rattle.schedule.proofs.PeriodLemmas.{admits_gains, bound_at_period, least_at_period, small_at_period}

@@ -1,4 +1,5 @@
--- The gains at the period are admitted, and give the least schedule, whose arrivals are low and small.
+-- The gains at the period are admitted, and give the least schedule, whose arrivals are low and
+-- small.
 use Rattle.std.proofs.Common.{◌∙◌, ap, length, pos, subst, sym}
 use Rattle.std.proofs.lemmas.List.{length-replicate}
 use Rattle.cts_model.specs.timing.Constraints.{AreSmallConstraints}

@@ -51,7 +51,8 @@ pub returns-in_err-add_output-in-Output-clause-refused :
 returns-in_err-add_output-in-Output-clause-refused c =
     let p = err_from_is_err_and c.from_residual-in_err-add_output-in-Output.result
     c.from_residual-in_err-add_output-in-Output.ensures.1 in
-    rw (p.1, p.2) (misses_use c.args.said.now.number c.args.names.now _ (said_by c.args.said.now.statement) _
+    rw (p.1, p.2) (misses_use c.args.said.now.number c.args.names.now _
+    (said_by c.args.said.now.statement) _
     (ap (λ s. uses_of (said_by s)) c.in-Output.is) c.in_err-add_output-in-Output.ensures.refused)
 
 pub returns-in_err-fan_in-in-Assign-clause-refused :
@@ -59,5 +60,6 @@ pub returns-in_err-fan_in-in-Assign-clause-refused :
 returns-in_err-fan_in-in-Assign-clause-refused c =
     let p = err_from_is_err_and c.from_residual-in_err-fan_in-in-Assign.result
     c.from_residual-in_err-fan_in-in-Assign.ensures.1 in
-    rw (p.1, p.2) (misses_use c.args.said.now.number c.args.names.now _ (said_by c.args.said.now.statement) _
+    rw (p.1, p.2) (misses_use c.args.said.now.number c.args.names.now _
+    (said_by c.args.said.now.statement) _
     (ap (λ s. uses_of (said_by s)) c.in-Assign.is) c.in_err-fan_in-in-Assign.ensures.refused)

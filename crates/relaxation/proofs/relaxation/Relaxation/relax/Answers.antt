@@ -47,7 +47,8 @@ returns c =
     c.requires.small c.index.ensures c.gain.ensures.gain c.gain.ensures.small
     c.index-2.ensures in
     relaxed_raised constraints c.args.gains c.args.place constraint c.args.self.now
-    c.keep_parent.new.self constraint.head (slice_get-get_or constraints c.args.place nowhere c.requires.place)
+    c.keep_parent.new.self constraint.head (slice_get-get_or constraints c.args.place nowhere
+    c.requires.place)
     (record {
       head = refl;
       more = more_read read c.if-offer-index.false;

@@ -22,7 +22,8 @@ sweep-requires-clause-small c =
 
 pub climb-requires-clause-entries : goal.climb-requires-clause-entries
 climb-requires-clause-entries c =
-    entries_kept {old = c.loop-changed.self} c.sweep.ensures.raised.raised.registers c.sweep.ensures.parents (record {
+    entries_kept {old = c.loop-changed.self} c.sweep.ensures.raised.raised.registers
+    c.sweep.ensures.parents (record {
       small = smalls_settling c.requires.room.entries.small c.loop-changed.invariant.0;
       parents = long_settling c.requires.room.entries.small c.loop-changed.invariant.0;
     })
@@ -50,7 +51,8 @@ returns-in-Some-climb-clause-admitted c = λ admitted.
 
 pub returns-in-Some-climb-clause-raised : goal.returns-in-Some-climb-clause-raised
 returns-in-Some-climb-clause-raised c =
-    (raised_later c.requires.room.entries.small c.loop-changed.invariant.0 c.sweep.ensures.raised).raised
+    (raised_later c.requires.room.entries.small c.loop-changed.invariant.0
+    c.sweep.ensures.raised).raised
 
 pub returns-in-Some-climb-clause-parents : goal.returns-in-Some-climb-clause-parents
 returns-in-Some-climb-clause-parents c = c.sweep.ensures.parents ∙ c.loop-changed.invariant.1
@@ -73,7 +75,8 @@ returns-clause-settled c =
 
 pub returns-clause-raised : goal.returns-clause-raised
 returns-clause-raised c =
-    (raised_later c.requires.room.entries.small c.loop-changed.invariant.0 c.sweep.ensures.raised).raised
+    (raised_later c.requires.room.entries.small c.loop-changed.invariant.0
+    c.sweep.ensures.raised).raised
 
 pub returns-clause-parents : goal.returns-clause-parents
 returns-clause-parents c = c.sweep.ensures.parents ∙ c.loop-changed.invariant.1

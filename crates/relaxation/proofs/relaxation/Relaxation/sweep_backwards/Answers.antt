@@ -28,7 +28,8 @@ loop-place-preserved c =
           (subst (λ changed. IsUnderWay constraints c.args.gains (λ other. place - 1 ≤ other)
           ((length constraints - place) + 1) changed c.args.self.now c.relax.new.self)
           (sym c.or-changed.ensures)
-          (IsUnderWay-more c.requires.constraints c.loop-place.invariant.1 (place - 1) c.relax.result
+          (IsUnderWay-more c.requires.constraints c.loop-place.invariant.1
+          (place - 1) c.relax.result
           c.relax.new.self (λ other. place - 1 ≤ other) (omega (arith, c.loop-place.invariant.0))
           c.relax.ensures (this_or_after place))),
     )

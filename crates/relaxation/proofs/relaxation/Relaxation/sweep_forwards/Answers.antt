@@ -21,7 +21,8 @@ loop-place-preserved c =
     let place = c.loop-place.place in
     subst (λ changed. IsUnderWay c.args.constraints.now c.args.gains (λ other. other < place + 1)
     (place + 1) changed c.args.self.now c.relax.new.self) (sym c.or-changed.ensures)
-    (IsUnderWay-more c.requires.constraints c.loop-place.invariant place c.relax.result c.relax.new.self
+    (IsUnderWay-more c.requires.constraints c.loop-place.invariant place c.relax.result
+    c.relax.new.self
     (λ other. other < place + 1) c.loop-place-test.true c.relax.ensures (next_or_before place))
 
 pub returns : goal.returns
