@@ -39,7 +39,7 @@ module _ (bench table places : List ℕ) (short_bench : IsShortFile bench)
               circuit = problem.circuit;
               tech = problem.tech;
               tell = tell;
-              placement = told.places.placement;
+              placement = (problem.places, told.places);
             };
           },
         );

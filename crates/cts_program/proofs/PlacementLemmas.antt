@@ -1,17 +1,17 @@
 -- What a placement that isn't read, or isn't accepted, leaves a command with, and what one that is
 -- accepted says beside a netlist and a delay table.
-use Rattle.std.proofs.Common.{◌≡◌, ◌<◌, ℕ, List, [], ◌∷◌, length, Option, Some, Result, IfOk, Bor, refl, sym, subst, arith}
-use Rattle.std.proofs.lemmas.List.{length-map}
-use Rattle.std.proofs.lemmas.Option.{slice_get_within}
+use Rattle.std.proofs.Common.{◌≡◌, ◌<◌, ℕ, List, [], ◌∷◌, inl, inr, length, Option, Some, Result, Err, IfOk, Bor, refl, sym, ap, ◌∙◌, subst, arith}
+use Rattle.cts_base.specs.LineFormats.{IsToldBy}
+use Rattle.cts_base.proofs.Told.{told_err}
 use Rattle.cts_model.specs.declared.circuit.Circuit.{Circuit}
 use Rattle.cts_model.specs.declared.tech.Tech.{Tech}
 use Rattle.cts_model.specs.declared.problem.Problem.{Problem}
 use Rattle.cts_model.specs.timing.PairLists.{JoinsMoreThan}
-use Rattle.cts_model.specs.placement.Placements.{register_nodes}
 use Rattle.cts_engine.specs.Accepted.{TellBoth}
 use Rattle.place_reader.specs.declared.fault.PlaceFault.{PlaceFault}
 use Rattle.place_reader.specs.declared.fault.PlaceFault.TheVariants as place
-use Rattle.place_reader.specs.Refusals.{HasNoPlace, RefusesPlacement}
+use Rattle.place_reader.specs.Placements.{RefusesPlacement, places_in}
+use Rattle.place_reader.proofs.TellsPlaces as unplaced
 use Rattle.command_line.specs.declared.command.Command.{Command}
 use Rattle.command_line.specs.declared.command.Command.TheVariants.{Synth}
 use Rattle.cts_program.specs.declared.ending.Answer.{Answer}
@@ -21,7 +21,9 @@ use Rattle.failure_lines.specs.declared.file_kind.FileKind.TheVariants as kinds
 use Rattle.cts_program.specs.Answers.{ending_status}
 use Rattle.failure_lines.specs.declared.file_kind.FileKind.{FileKind}
 use Rattle.cts_program.specs.Files.{IsShortFile, circuit_files, problem_files, files_of, AreContents}
-use Rattle.cts_program.specs.Judged.{IsNetlistFile, IsTableFile, AreAccepted, IsFileRefusal, Tell, TellProblem}
+use Rattle.failure_lines.specs.declared.placement_fault.PlacementFault.{PlacementFault}
+use Rattle.failure_lines.specs.declared.placement_fault.PlacementFault.TheVariants as faults
+use Rattle.cts_program.specs.Judged.{IsNamedFault, IsNetlistFile, IsTableFile, AreAccepted, IsFileRefusal, Tell, TellProblem}
 use Rattle.cts_program.specs.Run.{DenotesText, Stops}
 use Rattle.cts_program.specs.Steps.{IsReportedAs, ReadsPlaces, FailsPlaces, GivesFault, DenotesCircuit, ReadsProblem, DenotesProblem}
 use Rattle.cts_program.specs.SynthTexts.{IsSynthText}
@@ -35,27 +37,43 @@ pub unplaced_within : (circuit : Circuit) (source host text : List ℕ) (fault :
     → RefusesPlacement text circuit source host fault → (register : ℕ)
     → fault ≡ place.NoPlace register → register < length circuit.registers
 unplaced_within circuit source host text fault refused register is =
-    let none : HasNoPlace text circuit source host register =
-    subst (RefusesPlacement text circuit source host) is refused in
-    let within = slice_get_within (register_nodes circuit host) register none.first.name
-    none.first.here in
-    let as_many : length (register_nodes circuit host) ≡ length circuit.registers =
-    length-map circuit.registers _ in
-    omega (arith, as_many)
+    unplaced.unplaced_within text circuit source host register (refused ∙ ap Err is)
 
--- a refused placement is the failure that gives its fault
-pub refused_placement : (circuit : Circuit) (tech : Tech) (held : Option (List ℕ)) (before now : ℕ)
-    (bytes : List ℕ) → IsReportedAs held bytes → IsShortFile bytes → (fault : PlaceFault)
-    → RefusesPlacement bytes circuit tech.source tech.host fault
-    → (failure : Failure) → GivesFault circuit fault failure
-    → FailsPlaces circuit tech held before now failure
-refused_placement circuit tech held before now bytes denoted short fault cause
-    (failures.Placement named) denotes =
-    (bytes, denoted, short, record { found = fault; named = denotes; cause = cause })
-refused_placement circuit tech held before now bytes denoted short fault cause failures.NoMemory
-    denotes = tt
-refused_placement circuit tech held before now bytes denoted short fault cause failure denotes =
-    absurd denotes
+-- want of memory names no fault
+unnamed : (circuit : Circuit) (named : PlacementFault) → IsNamedFault circuit place.NoMemory named
+    → ⊥
+unnamed circuit (faults.BadLine line) is = cc is
+unnamed circuit (faults.BadNumber line number) is = cc is
+unnamed circuit (faults.PlaceTwice line) is = cc is
+unnamed circuit (faults.NoPlace name) (register, is, name_is) = cc is
+unnamed circuit faults.NoSource is = cc is
+
+module _ (circuit : Circuit) (tech : Tech) (bytes : List ℕ) (fault : PlaceFault)
+    (told : IsToldBy place.NoMemory (places_in bytes circuit tech.source tech.host)
+    (Err fault)) where
+  -- so is one that a refused placement leaves without
+  pub unplaced_told : (register : ℕ) → fault ≡ place.NoPlace register
+      → register < length circuit.registers
+  unplaced_told register is =
+      elim (told_err place.NoMemory (places_in bytes circuit tech.source tech.host) fault told) [
+        | inl refused ↦
+            unplaced_within circuit tech.source tech.host bytes fault refused register is
+        | inr memory ↦ let same = sym memory ∙ is in cc same
+      ]
+
+  -- a refused placement is the failure that gives its fault
+  pub refused_placement : (held : Option (List ℕ)) (before now : ℕ) → IsReportedAs held bytes
+      → IsShortFile bytes → (failure : Failure) → GivesFault circuit fault failure
+      → FailsPlaces circuit tech held before now failure
+  refused_placement held before now denoted short (failures.Placement named) gives =
+      elim (told_err place.NoMemory (places_in bytes circuit tech.source tech.host) fault told) [
+        | inl cause ↦
+            (bytes, denoted, short, record { found = fault; named = gives; cause = cause })
+        | inr memory ↦ absurd (unnamed circuit named
+            (subst (λ found. IsNamedFault circuit found named) memory gives))
+      ]
+  refused_placement held before now denoted short failures.NoMemory gives = tt
+  refused_placement held before now denoted short failure gives = absurd gives
 
 -- ---- after a netlist and a delay table
 
@@ -154,7 +172,7 @@ placed_denotes bench file pl problem denoted placed =
               circuit = problem.circuit;
               tech = problem.tech;
               tell = two.tell;
-              placement = placed.accepts.placement;
+              placement = (problem.places, placed.accepts);
             };
           },
         );

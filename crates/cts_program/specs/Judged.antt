@@ -10,7 +10,7 @@ use Rattle.cts_model.specs.netlist.Paths.{register_name}
 use Rattle.cts_model.specs.table.PlainTable.{IsPlainTable}
 use Rattle.place_reader.specs.declared.fault.PlaceFault.{PlaceFault}
 use Rattle.place_reader.specs.declared.fault.PlaceFault.TheVariants as place
-use Rattle.place_reader.specs.Refusals as placement
+use Rattle.place_reader.specs.Placements as placement
 use Rattle.cts_engine.specs.Accepted.{TellBoth, TellAll, IsTableOf, IsPlacementOf, HasTableFault}
 use Rattle.failure_lines.specs.declared.failure.Failure.{Failure}
 use Rattle.failure_lines.specs.declared.failure.Failure.TheVariants as failures

@@ -9,9 +9,9 @@ use Rattle.cts_model.specs.declared.report.Report.{Report}
 use Rattle.cts_model.specs.declared.tech.Tech.{Tech}
 use Rattle.cts_model.specs.declared.tree.Topology.{Topology}
 use Rattle.cts_model.specs.timing.PairLists.{JoinsMoreThan}
-use Rattle.cts_model.specs.placement.Placements.{AcceptsPlacement}
 use Rattle.cts_model.specs.report.ReportBounds.{Spells}
 use Rattle.place_reader.specs.declared.fault.PlaceFault.{PlaceFault}
+use Rattle.place_reader.specs.Placements.{AcceptsPlacement}
 use Rattle.move_session.specs.declared.moves.Move.{Move}
 use Rattle.move_session.specs.Moves.{AcceptsMoves}
 use Rattle.topology_file.specs.TopologyTexts.{AcceptsTopology}
