@@ -15,18 +15,18 @@ pub record IsPrepared (count : ℕ) (begun now : Relaxation) : Type 0 where
   pub values : length now.values.items ≡ length begun.values.items
   pub parents : now.parents.items ≡ begun.parents.items
   pub small : (register : ℕ) (default : ℤ) → register < count → register < length now.values.items
-      → IsBelow (2 ^ 94) (get_or now.values.items register default)
+      → IsBelow (2 ^ 88) (get_or now.values.items register default)
 
 -- one more value is small
 pub IsPrepared-more : (register : ℕ) (value : ℤ) (begun now later : Relaxation)
     → later.values.items ≡ set now.values.items register value
-    → later.parents.items ≡ now.parents.items → IsBelow (2 ^ 94) value
+    → later.parents.items ≡ now.parents.items → IsBelow (2 ^ 88) value
     → IsPrepared register begun now → IsPrepared (register + 1) begun later
 IsPrepared-more register value begun now later values parents small prepared = record {
   values = long ∙ prepared.values;
   parents = parents ∙ prepared.parents;
   small = λ other default before within. subst
-      (λ (xs : List ℤ). IsBelow (2 ^ 94) (get_or xs other default)) (sym values)
+      (λ (xs : List ℤ). IsBelow (2 ^ 88) (get_or xs other default)) (sym values)
       (each other default before (omega (arith, long, within)) (cases_eq other register));
 }
   where
@@ -37,14 +37,14 @@ IsPrepared-more register value begun now later values parents small prepared = r
     -- each value is small, whether it is that one or another
     each : (other : ℕ) (default : ℤ) → other < register + 1 → other < length now.values.items
         → (other ≡ register) ⊎ (other ≡ register → ⊥)
-        → IsBelow (2 ^ 94) (get_or (set now.values.items register value) other default)
+        → IsBelow (2 ^ 88) (get_or (set now.values.items register value) other default)
     each other default before within (inl same) =
-        subst (λ r. IsBelow (2 ^ 94) (get_or (set now.values.items register value) r default))
-        (sym same) (subst (IsBelow (2 ^ 94))
+        subst (λ r. IsBelow (2 ^ 88) (get_or (set now.values.items register value) r default))
+        (sym same) (subst (IsBelow (2 ^ 88))
         (sym (get_or-set_same now.values.items register value default
         (omega (arith, same, within)))) small)
     each other default before within (inr apart) =
-        subst (IsBelow (2 ^ 94))
+        subst (IsBelow (2 ^ 88))
         (sym (get_or-set_other now.values.items register other value default apart))
         (prepared.small other default (below other register before apart) within)
       where

@@ -81,7 +81,7 @@ impl Relaxation {
     pub fn rescale(&mut self, last: Gains, next: Gains)
         ensures values { length self.new.values.items ≡ length self.old.values.items }
         ensures parents { self.new.parents.items ≡ self.old.parents.items }
-        ensures small { All (IsBelow (2 ^ 94)) self.new.values.items }
+        ensures small { All (IsBelow (2 ^ 88)) self.new.values.items }
     {
         for register in 0..self.values.len() {
             let value = self.values[register];
@@ -231,7 +231,7 @@ impl Relaxation {
 
 // A value at another scale, rounded and cut to a size below 2^88.
 fn rescaled(value: i128, last: Gains, next: Gains) -> i128
-    ensures { IsBelow (2 ^ 94) result }
+    ensures { IsBelow (2 ^ 88) result }
 {
     let kept = cut(value);
     if next.scale == last.scale {
