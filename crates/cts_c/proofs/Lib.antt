@@ -1,0 +1,3 @@
+mod CycleRegisters
+mod RefusalLemmas
+mod RegisterLines
