@@ -1,3 +1,4 @@
 mod CycleRegisters
 mod RefusalLemmas
 mod RegisterLines
+mod ResultLemmas
