@@ -2,3 +2,4 @@ mod CycleRegisters
 mod RefusalLemmas
 mod RegisterLines
 mod ResultLemmas
+mod StatusLemmas

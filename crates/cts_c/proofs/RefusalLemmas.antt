@@ -32,12 +32,12 @@ module _ (bench tech : List ℕ) where
   pub both_refused : (refusal : Refusal) → IsCircuitRefusal bench tech refusal
       → FailsFor (AreBothRefused bench tech) (refusal_failure refusal)
   both_refused refusals.NoMemory cause = tt
-  both_refused refusal cause = inr (refusal, ((λ e. cc e), cause))
+  both_refused refusal cause = inr (refusal, (λ e. cc e), cause)
 
   pub all_refused : (pl : List ℕ) (refusal : Refusal) → IsRefusal bench tech pl refusal
       → FailsFor (AreRefused bench tech pl) (refusal_failure refusal)
   all_refused pl refusals.NoMemory cause = tt
-  all_refused pl refusal cause = inr (refusal, ((λ e. cc e), cause))
+  all_refused pl refusal cause = inr (refusal, (λ e. cc e), cause)
 
 module _ (circuit : Circuit) where
   -- a circuit that joins few pairs has an outcome, unless memory runs out

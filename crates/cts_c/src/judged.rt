@@ -1,6 +1,6 @@
 //! What the text of a report comes to.
 
-ghost use Rattle.std.specs.Prelude.{◌≡◌};
+ghost use Rattle.std.specs.Prelude.{◌≡◌, ◌⊎◌};
 ghost use Rattle.cts_c.specs.Findings.{judged_status, fault_number, fault_line, reason_number, reason_place, finding_of};
 
 use crate::finding::Finding;
@@ -23,7 +23,8 @@ pub enum Judged {
 impl Judged {
     /// The program's exit status.
     pub fn status(self) -> u32
-        ensures { result ≡ judged_status self }
+        ensures value { result ≡ judged_status self }
+        ensures kind { (result ≡ 0) ⊎ (result ≡ 7) }
     {
         match self {
             Judged::Shown => 0,
