@@ -1,5 +1,5 @@
 -- What a cycle of a circuit's constraints names are registers of the circuit.
-use Rattle.std.proofs.Common.{ℕ, List, length, All}
+use Rattle.std.proofs.Common.{List, length, All}
 use Rattle.std.proofs.lemmas.List.Elements.{All-weaker}
 use Rattle.cts_base.specs.declared.fraction.Fraction.{Fraction}
 use Rattle.cts_model.specs.declared.circuit.Circuit.{Circuit}

@@ -1,4 +1,4 @@
-use Rattle.std.proofs.Common.{◌≡◌, inl, inr, refl, ap, ◌∙◌, arith}
+use Rattle.std.proofs.Common.{inl, inr, refl, ap, ◌∙◌}
 use Rattle.cts_c.specs.Findings.{judged_status}
 use Rattle.cts_c.proofs.ResultLemmas.{error_alone, value_alone}
 use Rattle.cts_c.proofs.StatusLemmas.{is_judged, free_status, not_refused}
