@@ -59,13 +59,15 @@ ask() {
 # line in the report.
 numbers() {
     awk '
-        FNR == 1 { file++ }
-        file == 1 && $1 == "registers" { first = FNR + 1 }
-        file == 1 && first && !($1 in place) { place[$1] = FNR - first }
-        file == 2 && $3 == "report" && $4 == "long" { print "not shown 1 0 0"; next }
-        file == 2 && $3 == "report" { print "not shown 2", $4, $6; next }
-        file == 2 && $NF ~ /^[0-9]+$/ { print "not shown 3", $3, $NF; next }
-        file == 2 { print "not shown 3", $3, $3 ~ /^(5|9|12|14)$/ ? place[$NF] : 0 }
+        FILENAME != "/dev/stdin" {
+            if ($1 == "registers") first = FNR + 1
+            else if (first && !($1 in place)) place[$1] = FNR - first
+            next
+        }
+        $3 == "report" && $4 == "long" { print "not shown 1 0 0"; next }
+        $3 == "report" { print "not shown 2", $4, $6; next }
+        $NF ~ /^[0-9]+$/ { print "not shown 3", $3, $NF; next }
+        { print "not shown 3", $3, $3 ~ /^(5|9|12|14)$/ ? place[$NF] : 0 }
     ' "$1" /dev/stdin
 }
 
