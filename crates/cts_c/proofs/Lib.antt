@@ -1,0 +1,5 @@
+mod CycleRegisters
+mod RefusalLemmas
+mod RegisterLines
+mod ResultLemmas
+mod StatusLemmas

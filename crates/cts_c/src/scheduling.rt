@@ -1,0 +1,156 @@
+//! `cts_schedule`: the least schedule of a circuit at its least period.
+
+ghost use Rattle.std.specs.Prelude.{◌≡◌, ◌≢◌, ◌<◌, ◌++◌, ℕ, List, length, OnOk, IfOk, IfErr};
+ghost use Rattle.cts_model.specs.declared.circuit.Circuit.{Circuit};
+ghost use Rattle.cts_model.specs.declared.tech.Tech.{Tech};
+ghost use Rattle.cts_model.specs.netlist.Paths.{IsLoop};
+ghost use Rattle.cts_model.specs.text.PrintedLines.{line_of, text_of};
+ghost use Rattle.cts_model.specs.timing.PairLists.{JoinsMoreThan};
+ghost use Rattle.cts_engine.specs.Accepted.{TellBoth};
+ghost use Rattle.cts_engine.specs.ScheduleOutcomes.{HasSmallTimes, IsScheduleOutcome};
+ghost use Rattle.cts_c.specs.Buffers.{IsHanded, IsTooLarge, IsNone};
+ghost use Rattle.cts_c.specs.Refusals.{AreBothShort, RefusesSchedule, FailsFor};
+ghost use Rattle.cts_c.specs.ScheduleTexts.{zero_line, IsSmallSchedule, register_line_at, register_lines, schedule_lines, schedule_status, IsScheduleText};
+ghost use Rattle.cts_c.specs.Statuses.{ending_status, IsEnding, IsFailure, IsStatus};
+
+use crate::answer::Answer;
+use crate::failure::Failure;
+use crate::texts::circuit_of;
+use cts_base::NoMemory;
+use cts_engine::{ScheduleOutcome, schedule_of};
+use cts_model::{Circuit, Schedule, Slack, ZeroSkew};
+use report_text::{push_count, push_line, push_period, push_register, push_show, push_value};
+use std::alloc::Global;
+
+/// Writes what `cts schedule` prints for a netlist and a delay table to the beginning of `out`, and
+/// how many bytes it is to `size`. Gives the program's exit status.
+#[unsafe(no_mangle)]
+pub extern "C" fn cts_schedule(
+    alloc: Global,
+    bench: &[u8],
+    tech: &[u8],
+    out: &mut [u8],
+    size: &mut usize,
+) -> u32
+    // 0 and 1: the text of the least schedule, or of a cycle that forbids every period.
+    ensures done { IsEnding result → (text : List ℕ)
+        × IsScheduleText bench.now tech.now result text
+        × IsHanded text out.old out.new size.new }
+
+    // 5: the buffer is too small for the text, whose size is told.
+    ensures small { result ≡ 5 → (text : List ℕ) × ((status : ℕ)
+        × IsScheduleText bench.now tech.now status text
+        × IsTooLarge text out.old out.new size.new) }
+
+    // 3: exactly where a text is too long or has a fault, or paths join too many pairs of registers,
+    // unless memory is refused, which is 6.
+    ensures refused { result ≡ 3 → RefusesSchedule bench.now tech.now }
+    ensures accepted { (circuit : Circuit) (delays : Tech) → AreBothShort bench.now tech.now
+        → TellBoth bench.now tech.now circuit delays → (JoinsMoreThan circuit 1048576 → ⊥)
+        → result ≢ 3 }
+    ensures none { IsFailure result → IsNone out.old out.new size.new }
+    ensures statuses { IsStatus result }
+{
+    match schedule_answer(alloc, bench, tech) {
+        Ok(answer) => answer.hand_over(out, size),
+        Err(failure) => {
+            *size = 0;
+            failure.status()
+        }
+    }
+}
+
+// What is answered for two texts.
+fn schedule_answer(alloc: Global, bench: &[u8], tech: &[u8]) -> Result<Answer, Failure>
+    ensures text { IfOk result (λ answer. IsScheduleText bench.now tech.now
+        (ending_status answer.ending) answer.text.items) }
+    ensures cause { IfErr result (FailsFor (RefusesSchedule bench.now tech.now)) }
+    ensures accepted { (circuit : Circuit) (delays : Tech) → AreBothShort bench.now tech.now
+        → TellBoth bench.now tech.now circuit delays → (JoinsMoreThan circuit 1048576 → ⊥)
+        → IfErr result (λ failure. failure ≡ Failure.NoMemory) }
+{
+    let denoted = circuit_of(alloc, bench, tech)?;
+    let outcome = schedule_of(alloc, &denoted.circuit, &denoted.tech)?;
+    Ok(outcome_answer(alloc, &denoted.circuit, &outcome)?)
+}
+
+// The answer for the least schedule of a circuit, or for that no period will do.
+fn outcome_answer(
+    alloc: Global,
+    circuit: &Circuit,
+    outcome: &ScheduleOutcome,
+) -> Result<Answer, NoMemory>
+    requires outcome { (tech : Tech) × IsScheduleOutcome circuit.now tech outcome.now }
+    requires small { HasSmallTimes outcome.now }
+    ensures status { IfOk result (λ answer.
+        ending_status answer.ending ≡ schedule_status outcome.now) }
+    ensures text { IfOk result (λ answer.
+        answer.text.items ≡ text_of (schedule_lines circuit.now outcome.now)) }
+{
+    match outcome {
+        ScheduleOutcome::Found {
+            zero,
+            period,
+            shown,
+            schedule,
+            slacks,
+        } => {
+            let mut text = Vec::new(alloc);
+            push_period(&mut text, *period)?;
+            push_zero(&mut text, zero)?;
+            push_show(&mut text, circuit, shown)?;
+            push_registers(&mut text, circuit, schedule, slacks.as_slice())?;
+            Ok(Answer::done(text))
+        }
+        ScheduleOutcome::Never { cycle } => Answer::never(alloc, circuit, cycle.as_slice()),
+    }
+}
+
+// Appends the line for the least period at equal arrivals, in ticks.
+fn push_zero(out: &mut Vec<u8>, outcome: &ZeroSkew) -> Result<(), NoMemory>
+    ensures { OnOk result (out.new.items ≡ out.old.items ++ line_of (zero_line outcome.now)) }
+{
+    match outcome {
+        ZeroSkew::Fails { .. } => push_line(out, b"zero", &[b"none"]),
+        ZeroSkew::Floor { value } => push_value(out, b"zero", *value),
+        ZeroSkew::Setup { value, .. } => push_value(out, b"zero", *value),
+    }
+}
+
+// Appends the lines of the registers: how many there are, and each of them in order.
+fn push_registers(
+    out: &mut Vec<u8>,
+    circuit: &Circuit,
+    schedule: &Schedule,
+    slacks: &[Slack],
+) -> Result<(), NoMemory>
+    requires small { IsSmallSchedule schedule.now }
+    requires registers { length schedule.now.at ≡ length circuit.now.registers }
+    requires slacks { length slacks.now ≡ length circuit.now.registers }
+    ensures { OnOk result (out.new.items
+        ≡ out.old.items ++ text_of (register_lines circuit.now schedule.now slacks.now)) }
+{
+    push_count(out, b"registers", schedule.at.len())?;
+    for register in 0..schedule.at.len() {
+        push_register_at(out, circuit, schedule, slacks, register)?;
+    }
+    Ok(())
+}
+
+// Appends the line of the register with that number.
+fn push_register_at(
+    out: &mut Vec<u8>,
+    circuit: &Circuit,
+    schedule: &Schedule,
+    slacks: &[Slack],
+    register: usize,
+) -> Result<(), NoMemory>
+    requires small { IsSmallSchedule schedule.now }
+    requires within { register < length circuit.now.registers }
+    requires registers { length schedule.now.at ≡ length circuit.now.registers }
+    requires slacks { length slacks.now ≡ length circuit.now.registers }
+    ensures { OnOk result (out.new.items ≡ out.old.items
+        ++ line_of (register_line_at circuit.now schedule.now slacks.now register)) }
+{
+    push_register(out, circuit, schedule, slacks[register], register)
+}

@@ -1,0 +1,91 @@
+//! `cts_synth`: the clock tree of a problem.
+
+ghost use Rattle.std.specs.Prelude.{◌≡◌, ◌≢◌, ℕ, List, IfOk, IfErr};
+ghost use Rattle.cts_model.specs.declared.problem.Problem.{Problem};
+ghost use Rattle.cts_model.specs.text.PrintedLines.{text_of};
+ghost use Rattle.cts_model.specs.timing.PairLists.{JoinsMoreThan};
+ghost use Rattle.cts_engine.specs.Accepted.{TellAll};
+ghost use Rattle.cts_engine.specs.SynthesisOutcomes.{IsOutcome};
+ghost use Rattle.cts_c.specs.Buffers.{IsHanded, IsTooLarge, IsNone};
+ghost use Rattle.cts_c.specs.Refusals.{AreAllShort, RefusesTree, FailsFor};
+ghost use Rattle.cts_c.specs.Statuses.{ending_status, IsEnding, IsFailure, IsStatus};
+ghost use Rattle.cts_c.specs.SynthTexts.{outcome_lines, outcome_status, IsSynthText};
+
+use crate::answer::Answer;
+use crate::failure::Failure;
+use crate::texts::problem_of;
+use cts_base::NoMemory;
+use cts_engine::{Outcome, synthesize};
+use cts_model::Problem;
+use report_text::write_report;
+use std::alloc::Global;
+
+/// Writes what `cts synth` prints for a netlist, a delay table and a placement to the beginning of
+/// `out`, and how many bytes it is to `size`. Gives the program's exit status.
+#[unsafe(no_mangle)]
+pub extern "C" fn cts_synth(
+    alloc: Global,
+    bench: &[u8],
+    tech: &[u8],
+    pl: &[u8],
+    out: &mut [u8],
+    size: &mut usize,
+) -> u32
+    // 0 and 1: the text of a clock tree, or of a cycle that forbids every period.
+    ensures done { IsEnding result → (text : List ℕ)
+        × IsSynthText bench.now tech.now pl.now result text
+        × IsHanded text out.old out.new size.new }
+
+    // 5: the buffer is too small for the text, whose size is told.
+    ensures small { result ≡ 5 → (text : List ℕ) × ((status : ℕ)
+        × IsSynthText bench.now tech.now pl.now status text
+        × IsTooLarge text out.old out.new size.new) }
+
+    // 3: exactly where a text is too long or has a fault, or paths join too many pairs of registers,
+    // unless memory is refused, which is 6.
+    ensures refused { result ≡ 3 → RefusesTree bench.now tech.now pl.now }
+    ensures accepted { (problem : Problem) → AreAllShort bench.now tech.now pl.now
+        → TellAll bench.now tech.now pl.now problem → (JoinsMoreThan problem.circuit 1048576 → ⊥)
+        → result ≢ 3 }
+    ensures none { IsFailure result → IsNone out.old out.new size.new }
+    ensures statuses { IsStatus result }
+{
+    match synth_answer(alloc, bench, tech, pl) {
+        Ok(answer) => answer.hand_over(out, size),
+        Err(failure) => {
+            *size = 0;
+            failure.status()
+        }
+    }
+}
+
+// What is answered for three texts.
+fn synth_answer(alloc: Global, bench: &[u8], tech: &[u8], pl: &[u8]) -> Result<Answer, Failure>
+    ensures text { IfOk result (λ answer. IsSynthText bench.now tech.now pl.now
+        (ending_status answer.ending) answer.text.items) }
+    ensures cause { IfErr result (FailsFor (RefusesTree bench.now tech.now pl.now)) }
+    ensures accepted { (problem : Problem) → AreAllShort bench.now tech.now pl.now
+        → TellAll bench.now tech.now pl.now problem → (JoinsMoreThan problem.circuit 1048576 → ⊥)
+        → IfErr result (λ failure. failure ≡ Failure.NoMemory) }
+{
+    let problem = problem_of(alloc, bench, tech, pl)?;
+    let outcome = synthesize(alloc, &problem)?;
+    Ok(outcome_answer(alloc, &problem, &outcome)?)
+}
+
+// The answer for the clock tree of a problem, or for that no period will do.
+fn outcome_answer(alloc: Global, problem: &Problem, outcome: &Outcome) -> Result<Answer, NoMemory>
+    requires { IsOutcome problem.now outcome.now }
+    ensures status { IfOk result (λ answer.
+        ending_status answer.ending ≡ outcome_status outcome.now) }
+    ensures text { IfOk result (λ answer.
+        answer.text.items ≡ text_of (outcome_lines problem.now.circuit outcome.now)) }
+{
+    match outcome {
+        Outcome::Done(report) => {
+            let text = write_report(alloc, report, &problem.circuit)?;
+            Ok(Answer::done(text))
+        }
+        Outcome::Never(cycle) => Answer::never(alloc, &problem.circuit, cycle.as_slice()),
+    }
+}
