@@ -21,7 +21,7 @@ module _ (bench tech : List ℕ) where
       → (refusal : Refusal) → IsCircuitRefusal bench tech refusal
       → refusal_failure refusal ≡ NoMemory
   both_unrefused circuit delays tell (refusals.Bench fault) has =
-      absurd (has.named (no_fault bench fault tell.accepts.netlist has.cause))
+      absurd (no_fault bench fault tell.accepts.netlist has)
   both_unrefused circuit delays tell (refusals.Tech fault) (accepted, has) =
       absurd (table_fine bench tech fault
       (table_accepted bench tech tell.bare.signals delays tell.accepts.signals tell.delays) has)
