@@ -21,11 +21,9 @@ use Rattle.failure_lines.specs.declared.file_kind.FileKind.TheVariants as kinds
 use Rattle.cts_program.specs.Answers.{ending_status}
 use Rattle.failure_lines.specs.declared.file_kind.FileKind.{FileKind}
 use Rattle.cts_program.specs.Files.{IsShortFile, circuit_files, problem_files, files_of, AreContents}
-use Rattle.failure_lines.specs.declared.placement_fault.PlacementFault.{PlacementFault}
-use Rattle.failure_lines.specs.declared.placement_fault.PlacementFault.TheVariants as faults
-use Rattle.cts_program.specs.Judged.{IsNamedFault, IsNetlistFile, IsTableFile, AreAccepted, IsFileRefusal, Tell, TellProblem}
+use Rattle.cts_program.specs.Judged.{IsNetlistFile, IsTableFile, AreAccepted, IsFileRefusal, Tell, TellProblem}
 use Rattle.cts_program.specs.Run.{DenotesText, Stops}
-use Rattle.cts_program.specs.Steps.{IsReportedAs, ReadsPlaces, FailsPlaces, GivesFault, DenotesCircuit, ReadsProblem, DenotesProblem}
+use Rattle.cts_program.specs.Steps.{IsReportedAs, ReadsPlaces, FailsPlaces, DenotesCircuit, ReadsProblem, DenotesProblem}
 use Rattle.cts_program.specs.SynthTexts.{IsSynthText}
 use Rattle.cts_program.proofs.FileStops.{file_stops}
 use Rattle.command_line.specs.CommandTable.{form_of}
@@ -39,41 +37,15 @@ pub unplaced_within : (circuit : Circuit) (source host text : List ℕ) (fault :
 unplaced_within circuit source host text fault refused register is =
     unplaced.unplaced_within text circuit source host register (refused ∙ ap Err is)
 
--- want of memory names no fault
-unnamed : (circuit : Circuit) (named : PlacementFault) → IsNamedFault circuit place.NoMemory named
-    → ⊥
-unnamed circuit (faults.BadLine line) is = cc is
-unnamed circuit (faults.BadNumber line number) is = cc is
-unnamed circuit (faults.PlaceTwice line) is = cc is
-unnamed circuit (faults.NoPlace name) (register, is, name_is) = cc is
-unnamed circuit faults.NoSource is = cc is
-
-module _ (circuit : Circuit) (tech : Tech) (bytes : List ℕ) (fault : PlaceFault)
-    (told : IsToldBy place.NoMemory (places_in bytes circuit tech.source tech.host)
-    (Err fault)) where
-  -- so is one that a refused placement leaves without
-  pub unplaced_told : (register : ℕ) → fault ≡ place.NoPlace register
-      → register < length circuit.registers
-  unplaced_told register is =
-      elim (told_err place.NoMemory (places_in bytes circuit tech.source tech.host) fault told) [
-        | inl refused ↦
-            unplaced_within circuit tech.source tech.host bytes fault refused register is
-        | inr memory ↦ let same = sym memory ∙ is in cc same
-      ]
-
-  -- a refused placement is the failure that gives its fault
-  pub refused_placement : (held : Option (List ℕ)) (before now : ℕ) → IsReportedAs held bytes
-      → IsShortFile bytes → (failure : Failure) → GivesFault circuit fault failure
-      → FailsPlaces circuit tech held before now failure
-  refused_placement held before now denoted short (failures.Placement named) gives =
-      elim (told_err place.NoMemory (places_in bytes circuit tech.source tech.host) fault told) [
-        | inl cause ↦
-            (bytes, denoted, short, record { found = fault; named = gives; cause = cause })
-        | inr memory ↦ absurd (unnamed circuit named
-            (subst (λ found. IsNamedFault circuit found named) memory gives))
-      ]
-  refused_placement held before now denoted short failures.NoMemory gives = tt
-  refused_placement held before now denoted short failure gives = absurd gives
+-- so is one that a placement leaves without a place which isn't read
+pub unplaced_told : (circuit : Circuit) (source host text : List ℕ) (fault : PlaceFault)
+    → IsToldBy place.NoMemory (places_in text circuit source host) (Err fault) → (register : ℕ)
+    → fault ≡ place.NoPlace register → register < length circuit.registers
+unplaced_told circuit source host text fault told register is =
+    elim (told_err place.NoMemory (places_in text circuit source host) fault told) [
+      | inl refused ↦ unplaced_within circuit source host text fault refused register is
+      | inr memory ↦ let same = sym memory ∙ is in cc same
+    ]
 
 -- ---- after a netlist and a delay table
 

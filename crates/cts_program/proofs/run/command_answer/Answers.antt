@@ -8,7 +8,7 @@ use Rattle.cts_program.specs.MarginTexts.{IsMarginText}
 use Rattle.cts_program.specs.PeriodTexts.{IsPeriodText}
 use Rattle.cts_program.specs.ScheduleTexts.{IsScheduleText}
 use Rattle.cts_program.proofs.CheckLemmas.{report_stops, unshown_stops, check_answer}
-use Rattle.cts_program.proofs.EmbedLemmas.{topology_of, topology_stops, tree_stops, embed_answer}
+use Rattle.cts_program.proofs.EmbedLemmas.{topology_stops, tree_stops, embed_answer}
 use Rattle.cts_program.proofs.CornerReads.{corners_stop, corners_answer}
 use Rattle.cts_program.proofs.MoveLemmas.{moves_stop, wires_stop, moves_answer}
 use Rattle.cts_program.proofs.WireTexts.{near_moves}
@@ -167,9 +167,7 @@ returns-in-Demo-clause-cause g c =
     (demo_stops c.in-Demo.registers c.in-Demo.seed _ _ _))
 
 pub embed-requires : goal.embed-requires
-embed-requires g c =
-    topology_of c.in_ok-problem-in-Embed.problem _ c.in_ok-topology-in-Embed.topology
-    c.in_ok-topology-in-Embed.ensures.ok
+embed-requires g c = c.in_ok-topology-in-Embed.ensures.ok.joins
 
 pub returns-in_err-problem-in-Embed-clause-cause :
     goal.returns-in_err-problem-in-Embed-clause-cause
