@@ -1,5 +1,3 @@
-mod CycleRegisters
 mod RefusalLemmas
-mod RegisterLines
 mod ResultLemmas
 mod StatusLemmas

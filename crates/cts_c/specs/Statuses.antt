@@ -4,15 +4,8 @@ use Rattle.path_delays.specs.declared.fault.PairFault.{PairFault}
 use Rattle.path_delays.specs.declared.fault.PairFault.TheVariants as pairs
 use Rattle.cts_engine.specs.declared.refusals.Refusal.{Refusal}
 use Rattle.cts_engine.specs.declared.refusals.Refusal.TheVariants as refusals
-use Rattle.cts_c.specs.declared.answer.Ending.{Ending}
-use Rattle.cts_c.specs.declared.answer.Ending.TheVariants.{Done, Never}
 use Rattle.cts_c.specs.declared.failure.Failure.{Failure}
 use Rattle.cts_c.specs.declared.failure.Failure.TheVariants.{Refused, NoMemory}
-
--- a text says what was found, or what forbids every period
-abbrev pub ending_status : Ending → ℕ
-ending_status Done = 0
-ending_status Never = 1
 
 -- there is no answer
 abbrev pub failure_status : Failure → ℕ

@@ -1,21 +1,17 @@
 -- What `cts_synth` answers: the report of a clock tree, or what forbids every period. Fishburn,
 -- "Clock Skew Optimization", 1990.
-use Rattle.std.specs.Prelude.{◌≡◌, ◌↔◌, ℕ, List, [], ◌∷◌, codes}
+use Rattle.std.specs.Prelude.{◌≡◌, ◌↔◌, ℕ, List}
 use Rattle.cts_model.specs.declared.circuit.Circuit.{Circuit}
-use Rattle.cts_model.specs.declared.constraint.Constraint.{Constraint}
 use Rattle.cts_model.specs.declared.problem.Problem.{Problem}
 use Rattle.cts_model.specs.report.ReportLines.{report_lines}
-use Rattle.cts_model.specs.text.PrintedLines.{Words, text_of, cycle_lines}
+use Rattle.cts_model.specs.text.PrintedLines.{Words, text_of}
 use Rattle.cts_model.specs.timing.LeastPeriods.{HasNoPeriod}
 use Rattle.cts_model.specs.timing.PairLists.{JoinsMoreThan}
 use Rattle.cts_engine.specs.Accepted.{TellAll}
 use Rattle.cts_engine.specs.SynthesisOutcomes.{BeginsLowest, IsNeverOutcome, IsOutcome, IsShownOutcome}
 use Rattle.cts_engine.specs.declared.synthesis.Outcome.{Outcome}
 use Rattle.cts_engine.specs.declared.synthesis.Outcome.TheVariants.{Done, Never}
-
--- the lines for a cycle that forbids every period
-abbrev pub never_lines : Circuit → List Constraint → List Words
-never_lines circuit cycle = (codes "never" ∷ []) ∷ cycle_lines circuit cycle
+use Rattle.timing_text.specs.PeriodLines.{never_lines}
 
 -- the lines for an outcome
 abbrev pub outcome_lines : Circuit → Outcome → List Words

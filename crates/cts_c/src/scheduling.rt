@@ -1,26 +1,27 @@
 //! `cts_schedule`: the least schedule of a circuit at its least period.
 
-ghost use Rattle.std.specs.Prelude.{◌≡◌, ◌≢◌, ◌<◌, ◌++◌, ℕ, List, length, OnOk, IfOk, IfErr};
+ghost use Rattle.std.specs.Prelude.{◌≡◌, ◌≢◌, ℕ, List, IfOk, IfErr};
 ghost use Rattle.cts_model.specs.declared.circuit.Circuit.{Circuit};
 ghost use Rattle.cts_model.specs.declared.tech.Tech.{Tech};
 ghost use Rattle.cts_model.specs.netlist.Paths.{IsLoop};
-ghost use Rattle.cts_model.specs.text.PrintedLines.{line_of, text_of};
+ghost use Rattle.cts_model.specs.text.PrintedLines.{text_of};
 ghost use Rattle.cts_model.specs.timing.PairLists.{JoinsMoreThan};
 ghost use Rattle.cts_engine.specs.Accepted.{TellBoth};
 ghost use Rattle.cts_engine.specs.ScheduleOutcomes.{HasSmallTimes, IsScheduleOutcome};
 ghost use Rattle.cts_c.specs.Buffers.{IsHanded, IsTooLarge, IsNone};
 ghost use Rattle.cts_c.specs.Refusals.{AreBothShort, RefusesSchedule, FailsFor};
-ghost use Rattle.cts_c.specs.ScheduleTexts.{zero_line, IsSmallSchedule, register_line_at, register_lines, schedule_lines, schedule_status, IsScheduleText};
-ghost use Rattle.cts_c.specs.Statuses.{ending_status, IsEnding, IsFailure, IsStatus};
+ghost use Rattle.cts_c.specs.ScheduleTexts.{schedule_lines, schedule_status, IsScheduleText};
+ghost use Rattle.cts_c.specs.Statuses.{IsEnding, IsFailure, IsStatus};
+ghost use Rattle.timing_text.specs.Endings.{ending_status};
 
-use crate::answer::Answer;
+use crate::answer::hand_over;
 use crate::failure::Failure;
 use crate::texts::circuit_of;
 use cts_base::NoMemory;
 use cts_engine::{ScheduleOutcome, schedule_of};
-use cts_model::{Circuit, Schedule, Slack, ZeroSkew};
-use report_text::{push_count, push_line, push_period, push_register, push_show, push_value};
+use cts_model::Circuit;
 use std::alloc::Global;
+use timing_text::{Answer, push_found, push_registers};
 
 /// Writes what `cts schedule` prints for a netlist and a delay table to the beginning of `out`, and
 /// how many bytes it is to `size`. Gives the program's exit status.
@@ -52,7 +53,7 @@ pub extern "C" fn cts_schedule(
     ensures statuses { IsStatus result }
 {
     match schedule_answer(alloc, bench, tech) {
-        Ok(answer) => answer.hand_over(out, size),
+        Ok(answer) => hand_over(&answer, out, size),
         Err(failure) => {
             *size = 0;
             failure.status()
@@ -96,61 +97,10 @@ fn outcome_answer(
             slacks,
         } => {
             let mut text = Vec::new(alloc);
-            push_period(&mut text, *period)?;
-            push_zero(&mut text, zero)?;
-            push_show(&mut text, circuit, shown)?;
+            push_found(&mut text, circuit, zero, *period, shown)?;
             push_registers(&mut text, circuit, schedule, slacks.as_slice())?;
             Ok(Answer::done(text))
         }
         ScheduleOutcome::Never { cycle } => Answer::never(alloc, circuit, cycle.as_slice()),
     }
-}
-
-// Appends the line for the least period at equal arrivals, in ticks.
-fn push_zero(out: &mut Vec<u8>, outcome: &ZeroSkew) -> Result<(), NoMemory>
-    ensures { OnOk result (out.new.items ≡ out.old.items ++ line_of (zero_line outcome.now)) }
-{
-    match outcome {
-        ZeroSkew::Fails { .. } => push_line(out, b"zero", &[b"none"]),
-        ZeroSkew::Floor { value } => push_value(out, b"zero", *value),
-        ZeroSkew::Setup { value, .. } => push_value(out, b"zero", *value),
-    }
-}
-
-// Appends the lines of the registers: how many there are, and each of them in order.
-fn push_registers(
-    out: &mut Vec<u8>,
-    circuit: &Circuit,
-    schedule: &Schedule,
-    slacks: &[Slack],
-) -> Result<(), NoMemory>
-    requires small { IsSmallSchedule schedule.now }
-    requires registers { length schedule.now.at ≡ length circuit.now.registers }
-    requires slacks { length slacks.now ≡ length circuit.now.registers }
-    ensures { OnOk result (out.new.items
-        ≡ out.old.items ++ text_of (register_lines circuit.now schedule.now slacks.now)) }
-{
-    push_count(out, b"registers", schedule.at.len())?;
-    for register in 0..schedule.at.len() {
-        push_register_at(out, circuit, schedule, slacks, register)?;
-    }
-    Ok(())
-}
-
-// Appends the line of the register with that number.
-fn push_register_at(
-    out: &mut Vec<u8>,
-    circuit: &Circuit,
-    schedule: &Schedule,
-    slacks: &[Slack],
-    register: usize,
-) -> Result<(), NoMemory>
-    requires small { IsSmallSchedule schedule.now }
-    requires within { register < length circuit.now.registers }
-    requires registers { length schedule.now.at ≡ length circuit.now.registers }
-    requires slacks { length slacks.now ≡ length circuit.now.registers }
-    ensures { OnOk result (out.new.items ≡ out.old.items
-        ++ line_of (register_line_at circuit.now schedule.now slacks.now register)) }
-{
-    push_register(out, circuit, schedule, slacks[register], register)
 }

@@ -8,10 +8,11 @@ ghost use Rattle.cts_engine.specs.Accepted.{TellAll};
 ghost use Rattle.cts_engine.specs.SynthesisOutcomes.{IsOutcome};
 ghost use Rattle.cts_c.specs.Buffers.{IsHanded, IsTooLarge, IsNone};
 ghost use Rattle.cts_c.specs.Refusals.{AreAllShort, RefusesTree, FailsFor};
-ghost use Rattle.cts_c.specs.Statuses.{ending_status, IsEnding, IsFailure, IsStatus};
+ghost use Rattle.cts_c.specs.Statuses.{IsEnding, IsFailure, IsStatus};
+ghost use Rattle.timing_text.specs.Endings.{ending_status};
 ghost use Rattle.cts_c.specs.SynthTexts.{outcome_lines, outcome_status, IsSynthText};
 
-use crate::answer::Answer;
+use crate::answer::hand_over;
 use crate::failure::Failure;
 use crate::texts::problem_of;
 use cts_base::NoMemory;
@@ -19,6 +20,7 @@ use cts_engine::{Outcome, synthesize};
 use cts_model::Problem;
 use report_text::write_report;
 use std::alloc::Global;
+use timing_text::Answer;
 
 /// Writes what `cts synth` prints for a netlist, a delay table and a placement to the beginning of
 /// `out`, and how many bytes it is to `size`. Gives the program's exit status.
@@ -51,7 +53,7 @@ pub extern "C" fn cts_synth(
     ensures statuses { IsStatus result }
 {
     match synth_answer(alloc, bench, tech, pl) {
-        Ok(answer) => answer.hand_over(out, size),
+        Ok(answer) => hand_over(&answer, out, size),
         Err(failure) => {
             *size = 0;
             failure.status()

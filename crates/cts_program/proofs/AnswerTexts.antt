@@ -37,7 +37,8 @@ use Rattle.cts_program.specs.DemoTexts.{summary_lines, IsSummaryText, IsDemoText
 use Rattle.cts_program.specs.Headline.{IsTreeText, IsSynthesisText, IsEmbeddingText}
 use Rattle.cts_program.specs.MarginTexts.{margin_lines, IsMarginText}
 use Rattle.cts_program.specs.MoveTexts.{AreWires, IsMovesText, IsWireAt, moved_places}
-use Rattle.cts_program.specs.PeriodTexts.{never_lines, period_lines, outcome_status, IsPeriodText}
+use Rattle.cts_program.specs.PeriodTexts.{period_lines, outcome_status, IsPeriodText}
+use Rattle.timing_text.specs.PeriodLines.{never_lines}
 use Rattle.cts_program.specs.ScheduleTexts.{schedule_lines, IsScheduleText}
 use Rattle.cts_program.specs.SynthTexts.{IsNeverText, IsFoundOrNever, IsSynthText, IsEmbedText}
 use Rattle.cts_program.specs.Texts.{zero_lines, IsZeroText}

@@ -8,12 +8,12 @@ use Rattle.report_text.specs.declared.fault.ReportFault.{ReportFault}
 use Rattle.report_text.specs.declared.fault.ReportFault.TheVariants as fault
 use Rattle.report_text.specs.ReportFaults.{HasFault}
 use Rattle.command_line.specs.declared.command.Command.TheVariants.{Check}
-use Rattle.cts_program.specs.declared.ending.Answer.{Answer}
+use Rattle.timing_text.specs.declared.answer.Answer.{Answer}
 use Rattle.failure_lines.specs.declared.failure.Failure.{Failure}
 use Rattle.failure_lines.specs.declared.failure.Failure.TheVariants as failures
 use Rattle.failure_lines.specs.declared.file_kind.FileKind.TheVariants as kinds
 use Rattle.failure_lines.specs.declared.not_shown.NotShown.TheVariants as why
-use Rattle.cts_program.specs.Answers.{ending_status}
+use Rattle.timing_text.specs.Endings.{ending_status}
 use Rattle.cts_program.specs.Checks.{shown_line, IsShownReport, RefusesReport}
 use Rattle.failure_lines.specs.Failures.{report_failure_of}
 use Rattle.cts_program.specs.Files.{IsShortFile, problem_files}

@@ -16,12 +16,12 @@ use Rattle.delay_tables.specs.Refusals.{RefusesTable}
 use Rattle.cts_engine.specs.Accepted.{IsHostedBy, TellsDelays, HasFaultFor}
 use Rattle.cts_engine.proofs.HostedLoops.{both_acyclic}
 use Rattle.command_line.specs.declared.command.Command.TheVariants.{Corners}
-use Rattle.cts_program.specs.declared.ending.Answer.{Answer}
+use Rattle.timing_text.specs.declared.answer.Answer.{Answer}
 use Rattle.failure_lines.specs.declared.failure.Failure.{Failure}
 use Rattle.failure_lines.specs.declared.failure.Failure.TheVariants as failures
 use Rattle.failure_lines.specs.declared.file_kind.FileKind.{FileKind}
 use Rattle.failure_lines.specs.declared.file_kind.FileKind.TheVariants.{Bench, Corner}
-use Rattle.cts_program.specs.Answers.{ending_status}
+use Rattle.timing_text.specs.Endings.{ending_status}
 use Rattle.cts_program.specs.CornerFiles.{is_hostless, TellDelays, AreCornerFiles, TellCorners, IsTableRefusal, HostsDifferFrom}
 use Rattle.cts_program.specs.CornerTexts.{IsCornersText}
 use Rattle.failure_lines.specs.Failures.{corner_failure_of}

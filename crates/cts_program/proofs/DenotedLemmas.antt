@@ -10,11 +10,12 @@ use Rattle.cts_engine.proofs.HostedLoops.{acyclic, both_acyclic}
 use Rattle.cts_engine.proofs.OneProblem.{table_accepted}
 use Rattle.command_line.specs.declared.command.Command.{Command}
 use Rattle.command_line.specs.declared.command.Command.TheVariants.{Zero}
-use Rattle.cts_program.specs.declared.ending.Answer.{Answer}
+use Rattle.timing_text.specs.declared.answer.Answer.{Answer}
 use Rattle.failure_lines.specs.declared.failure.Failure.{Failure}
 use Rattle.failure_lines.specs.declared.failure.Failure.TheVariants as failures
 use Rattle.failure_lines.specs.declared.file_kind.FileKind.TheVariants as kinds
-use Rattle.cts_program.specs.Answers.{ending_status, JoinTooMany, TellWith, IsAnswer, IsRefusal}
+use Rattle.cts_program.specs.Answers.{JoinTooMany, TellWith, IsAnswer, IsRefusal}
+use Rattle.timing_text.specs.Endings.{ending_status}
 use Rattle.failure_lines.specs.declared.file_kind.FileKind.{FileKind}
 use Rattle.cts_program.specs.Files.{circuit_files, files_of, AreAll, AreContents}
 use Rattle.cts_program.specs.Judged.{IsNetlistFile, IsTableFile, IsFileRefusal, Tell}

@@ -10,11 +10,11 @@ use Rattle.topology_file.specs.declared.fault.TopologyFault.{TopologyFault}
 use Rattle.topology_file.specs.declared.fault.TopologyFault.TheVariants as fault
 use Rattle.topology_file.specs.TopologyTexts.{topology_in}
 use Rattle.command_line.specs.declared.command.Command.TheVariants.{Embed}
-use Rattle.cts_program.specs.declared.ending.Answer.{Answer}
+use Rattle.timing_text.specs.declared.answer.Answer.{Answer}
 use Rattle.failure_lines.specs.declared.failure.Failure.{Failure}
 use Rattle.failure_lines.specs.declared.failure.Failure.TheVariants as failures
 use Rattle.failure_lines.specs.declared.file_kind.FileKind.TheVariants as kinds
-use Rattle.cts_program.specs.Answers.{ending_status}
+use Rattle.timing_text.specs.Endings.{ending_status}
 use Rattle.failure_lines.specs.Failures.{topology_failure_of}
 use Rattle.cts_program.specs.Files.{IsShortFile, problem_files}
 use Rattle.cts_program.specs.Run.{DenotesText, Stops}

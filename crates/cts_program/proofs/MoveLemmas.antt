@@ -9,11 +9,11 @@ use Rattle.move_session.specs.declared.fault.MovesFault.TheVariants as fault
 use Rattle.move_session.specs.declared.moves.Move.{Move}
 use Rattle.move_session.specs.Moves.{moves_in}
 use Rattle.command_line.specs.declared.command.Command.TheVariants.{Moves}
-use Rattle.cts_program.specs.declared.ending.Answer.{Answer}
+use Rattle.timing_text.specs.declared.answer.Answer.{Answer}
 use Rattle.failure_lines.specs.declared.failure.Failure.{Failure}
 use Rattle.failure_lines.specs.declared.failure.Failure.TheVariants as failures
 use Rattle.failure_lines.specs.declared.file_kind.FileKind.TheVariants as kinds
-use Rattle.cts_program.specs.Answers.{ending_status}
+use Rattle.timing_text.specs.Endings.{ending_status}
 use Rattle.cts_program.specs.Checks.{EndWith}
 use Rattle.failure_lines.specs.Failures.{moves_failure_of}
 use Rattle.cts_program.specs.Files.{IsShortFile, problem_files}

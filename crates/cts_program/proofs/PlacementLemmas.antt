@@ -14,11 +14,11 @@ use Rattle.place_reader.specs.Placements.{RefusesPlacement, places_in}
 use Rattle.place_reader.proofs.TellsPlaces as unplaced
 use Rattle.command_line.specs.declared.command.Command.{Command}
 use Rattle.command_line.specs.declared.command.Command.TheVariants.{Synth}
-use Rattle.cts_program.specs.declared.ending.Answer.{Answer}
+use Rattle.timing_text.specs.declared.answer.Answer.{Answer}
 use Rattle.failure_lines.specs.declared.failure.Failure.{Failure}
 use Rattle.failure_lines.specs.declared.failure.Failure.TheVariants as failures
 use Rattle.failure_lines.specs.declared.file_kind.FileKind.TheVariants as kinds
-use Rattle.cts_program.specs.Answers.{ending_status}
+use Rattle.timing_text.specs.Endings.{ending_status}
 use Rattle.failure_lines.specs.declared.file_kind.FileKind.{FileKind}
 use Rattle.cts_program.specs.Files.{IsShortFile, circuit_files, problem_files, files_of, AreContents}
 use Rattle.cts_program.specs.Judged.{IsNetlistFile, IsTableFile, AreAccepted, IsFileRefusal, Tell, TellProblem}

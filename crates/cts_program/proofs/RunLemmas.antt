@@ -8,13 +8,14 @@ use Rattle.cts_io.specs.Device.{Rose, appended, WritesPrefix}
 use Rattle.command_line.specs.declared.command.Command.{Command}
 use Rattle.command_line.specs.declared.command.WordsFault.{WordsFault}
 use Rattle.command_line.specs.declared.command.WordsFault.TheVariants as word_faults
-use Rattle.cts_program.specs.declared.ending.Ending.{Ending}
-use Rattle.cts_program.specs.declared.ending.Ending.TheVariants.{Done, Never}
+use Rattle.timing_text.specs.declared.answer.Ending.{Ending}
+use Rattle.timing_text.specs.declared.answer.Ending.TheVariants.{Done, Never}
 use Rattle.failure_lines.specs.declared.failure.Failure.{Failure}
 use Rattle.failure_lines.specs.declared.failure.Failure.TheVariants.{Usage, TooLong, Unshown, ReadFault, WriteFault, NoMemory}
 use Rattle.failure_lines.specs.declared.file_kind.FileKind.{FileKind}
 use Rattle.failure_lines.specs.declared.file_kind.FileKind.TheVariants.{Report}
-use Rattle.cts_program.specs.Answers.{ending_status, RefusesBy, IsAnswer, IsRefusal, IsAccepted, IsStatusOf, FindsNoPeriod}
+use Rattle.cts_program.specs.Answers.{RefusesBy, IsAnswer, IsRefusal, IsAccepted, IsStatusOf, FindsNoPeriod}
+use Rattle.timing_text.specs.Endings.{ending_status}
 use Rattle.command_line.specs.Commands.{options_of, IsCommand, IsSame}
 use Rattle.failure_lines.specs.Failures.{words_failure_of, status_of}
 use Rattle.cts_program.specs.Files.{files_of, AreAll, AreContents, AreDenoted}

@@ -27,8 +27,8 @@ use Rattle.cts_model.specs.report.ReportBounds.{count_in, IsOfSize}
 use Rattle.cts_model.specs.report.ReportLines.{pathed_lines, period_show_lines, lines_below, register_line_at, lead_line, merge_line_at, source_line, node_line_at, length_text, tree_lines, report_lines}
 use Rattle.cts_model.proofs.PathRegisters.{tails_within}
 use Rattle.cts_program.specs.ArrivalTexts.{arrival_line, arrival_lines}
-use Rattle.cts_program.specs.PeriodTexts.{never_lines}
-use Rattle.cts_program.specs.ScheduleTexts.{register_line_at as register_line_of, register_lines}
+use Rattle.timing_text.specs.PeriodLines.{never_lines}
+use Rattle.timing_text.specs.ScheduleLines.{register_line_at as register_line_of, register_lines}
 use Rattle.cts_program.proofs.CountedLines.{number_in, AreCounted, counted_none, counted_section, counted_line, counted_alone}
 
 -- ---- small counts

@@ -30,8 +30,8 @@ use Rattle.cts_program.specs.ArrivalTexts.{all_at_zero, arrival_line, arrival_li
 use Rattle.cts_program.specs.CornerTexts.{numbered_line, numbered_line_at, numbered_lines, common_show_lines, corners_lines}
 use Rattle.cts_program.specs.DemoTexts.{summary_lines}
 use Rattle.cts_program.specs.MarginTexts.{margin_lines}
-use Rattle.cts_program.specs.PeriodTexts.{found_lines, never_lines}
-use Rattle.cts_program.specs.ScheduleTexts.{register_line_at, register_lines}
+use Rattle.timing_text.specs.PeriodLines.{found_lines, never_lines}
+use Rattle.timing_text.specs.ScheduleLines.{register_line_at, register_lines}
 use Rattle.cts_program.specs.Texts.{zero_lines}
 
 -- lines before others are lines

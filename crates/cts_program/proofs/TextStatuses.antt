@@ -6,9 +6,10 @@ use Rattle.cts_model.specs.declared.tech.Tech.{Tech}
 use Rattle.cts_model.specs.timing.LeastPeriods.{HasNoPeriod}
 use Rattle.command_line.specs.declared.command.Command.{Command}
 use Rattle.command_line.specs.declared.command.Command.TheVariants.{Zero, Check, Margin, Corners}
-use Rattle.cts_program.specs.declared.ending.Ending.{Ending}
-use Rattle.cts_program.specs.declared.ending.Ending.TheVariants as endings
-use Rattle.cts_program.specs.Answers.{ending_status, TellWith, texts_for, IsStatusOf, FindsNoPeriod}
+use Rattle.timing_text.specs.declared.answer.Ending.{Ending}
+use Rattle.timing_text.specs.declared.answer.Ending.TheVariants as endings
+use Rattle.cts_program.specs.Answers.{TellWith, texts_for, IsStatusOf, FindsNoPeriod}
+use Rattle.timing_text.specs.Endings.{ending_status}
 use Rattle.command_line.specs.declared.table.Form.TheVariants as forms
 use Rattle.command_line.specs.Commands.{Given, options_of}
 use Rattle.cts_program.specs.Files.{AreAll}

@@ -10,8 +10,6 @@ use Rattle.command_line.specs.declared.command.Command.{Command}
 use Rattle.command_line.specs.declared.command.Command.TheVariants.{Zero, Period, Schedule, Synth, Check, Demo, Margin, Embed, Moves, Corners}
 use Rattle.command_line.specs.declared.table.Form.{Form}
 use Rattle.command_line.specs.declared.table.Form.TheVariants as forms
-use Rattle.cts_program.specs.declared.ending.Ending.{Ending}
-use Rattle.cts_program.specs.declared.ending.Ending.TheVariants.{Done, Never}
 use Rattle.failure_lines.specs.declared.failure.Failure.{Failure}
 use Rattle.failure_lines.specs.declared.failure.Failure.TheVariants.{Pairs}
 use Rattle.cts_program.specs.Checks.{shown_line, EndWith, IsShownReport, RefusesReport}
@@ -83,11 +81,6 @@ IsSynthAnswer contents status text =
 abbrev pub IsDemoAnswer : (registers seed : ℕ) → ℕ → List ℕ → Type 0
 IsDemoAnswer registers seed status text = TellProblemWith (demo_texts registers seed)
     (λ problem. IsDemoText registers problem status text)
-
--- the exit status for how a command ends
-abbrev pub ending_status : Ending → ℕ
-ending_status Done = 0
-ending_status Never = 1
 
 -- the status of a text that is whole on the output
 abbrev pub is_ending : ℕ → Bool

@@ -1,26 +1,13 @@
 -- What the command `period` prints: the least period and what shows it, or what forbids all.
 -- Fishburn, "Clock Skew Optimization", 1990.
-use Rattle.std.specs.Prelude.{◌≡◌, ℕ, List, [], ◌∷◌, codes}
-use Rattle.cts_base.specs.declared.fraction.Fraction.{Fraction}
+use Rattle.std.specs.Prelude.{◌≡◌, ℕ, List}
 use Rattle.cts_model.specs.declared.circuit.Circuit.{Circuit}
 use Rattle.cts_model.specs.declared.tech.Tech.{Tech}
-use Rattle.cts_model.specs.declared.constraint.Constraint.{Constraint}
-use Rattle.cts_model.specs.declared.timing.ZeroSkew.{ZeroSkew}
-use Rattle.cts_model.specs.declared.period.PeriodShow.{PeriodShow}
-use Rattle.cts_model.specs.text.PrintedLines.{Words, text_of, period_line, cycle_lines, show_lines}
+use Rattle.cts_model.specs.text.PrintedLines.{Words, text_of}
 use Rattle.cts_engine.specs.declared.period.PeriodOutcome.{PeriodOutcome}
 use Rattle.cts_engine.specs.declared.period.PeriodOutcome.TheVariants.{Found, Never}
 use Rattle.cts_engine.specs.Outcomes.{IsPeriodOutcome, BeginsLowest}
-use Rattle.cts_program.specs.Texts.{zero_line}
-
--- the lines for the least period, with and without skew, and for what shows the one with it
-abbrev pub found_lines : Circuit → ZeroSkew → Fraction → PeriodShow → List Words
-found_lines circuit zero period shown =
-    period_line period ∷ zero_line zero ∷ show_lines circuit shown
-
--- the lines for a cycle that forbids every period
-abbrev pub never_lines : Circuit → List Constraint → List Words
-never_lines circuit cycle = (codes "never" ∷ []) ∷ cycle_lines circuit cycle
+use Rattle.timing_text.specs.PeriodLines.{found_lines, never_lines}
 
 -- the lines for an outcome
 abbrev pub period_lines : Circuit → PeriodOutcome → List Words

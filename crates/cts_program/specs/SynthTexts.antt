@@ -13,7 +13,7 @@ use Rattle.cts_engine.specs.declared.synthesis.Outcome.{Outcome}
 use Rattle.cts_engine.specs.declared.synthesis.Outcome.TheVariants.{Done, Never}
 use Rattle.cts_engine.specs.SynthesisOutcomes.{BeginsLowest}
 use Rattle.cts_program.specs.Headline.{IsSynthesisText, IsEmbeddingText}
-use Rattle.cts_program.specs.PeriodTexts.{never_lines}
+use Rattle.timing_text.specs.PeriodLines.{never_lines}
 
 -- the bytes are a text for a cycle that forbids every period; it begins at its lowest register
 pub record IsNeverText (circuit : Circuit) (tech : Tech) (text : List ℕ) : Type 0 where

@@ -1,18 +1,12 @@
--- What the command `zero` prints. Its first line serves `period` and `schedule` too.
+-- What the command `zero` prints.
 use Rattle.std.specs.Prelude.{◌≡◌, ℕ, ◌+ℤ◌, ◌-ℤ◌, List, [], ◌∷◌, codes}
-use Rattle.std.specs.Fmt.{signed_decimal}
 use Rattle.cts_model.specs.declared.circuit.Circuit.{Circuit}
 use Rattle.cts_model.specs.declared.tech.Tech.{Tech}
 use Rattle.cts_model.specs.declared.timing.ZeroSkew.{ZeroSkew}
 use Rattle.cts_model.specs.declared.timing.ZeroSkew.TheVariants.{Fails, Floor, Setup}
 use Rattle.cts_model.specs.timing.EqualArrivals.{IsZeroSkew}
 use Rattle.cts_model.specs.text.PrintedLines.{Words, text_of, floor_line, constraint_line}
-
--- the least period at equal arrivals, in ticks
-abbrev pub zero_line : ZeroSkew → Words
-zero_line (Fails pair) = codes "zero" ∷ codes "none" ∷ []
-zero_line (Floor value) = codes "zero" ∷ signed_decimal value ∷ []
-zero_line (Setup value pair) = codes "zero" ∷ signed_decimal value ∷ []
+use Rattle.timing_text.specs.PeriodLines.{zero_line}
 
 -- what shows that no period at equal arrivals is less
 abbrev pub reason_line : Circuit → Tech → ZeroSkew → Words

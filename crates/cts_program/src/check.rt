@@ -4,17 +4,17 @@ ghost use Rattle.std.specs.Prelude.{◌≡◌, ◌<◌, ℕ, List, [], ◌∷◌
 ghost use Rattle.cts_model.specs.text.PrintedLines.{text_of};
 ghost use Rattle.cts_model.specs.report.ReportBounds.{IsOfSize, IsWithinBounds};
 ghost use Rattle.cts_model.specs.report.Shown.{IsShown, ShowsLeast};
-ghost use Rattle.cts_program.specs.Answers.{ending_status};
+ghost use Rattle.timing_text.specs.Endings.{ending_status};
 ghost use Rattle.cts_program.specs.Checks.{shown_line, subject_of};
 ghost use Rattle.cts_program.specs.Steps.{IsRegisterReason, FailsToShow};
 
-use crate::ending::Answer;
 use crate::reading::copied;
 use cert_check::{Reason, Verdict};
 use cts_model::{Circuit, Problem, Report};
 use failure_lines::{Failure, NotShown};
 use report_text::push_line;
 use std::alloc::Global;
+use timing_text::Answer;
 
 /// That a report, whoever made it, is shown for a problem.
 ///

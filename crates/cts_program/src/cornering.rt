@@ -11,12 +11,11 @@ ghost use Rattle.cts_model.specs.report.ReportBounds.{IsBetweenRegisters};
 ghost use Rattle.corners.specs.CornerCycles.{IsCommonShow};
 ghost use Rattle.corners.specs.CornerLists.{constraint_at};
 ghost use Rattle.corners.specs.CornerOutcomes.{HasSmallCommonTimes, IsCornersOutcome};
-ghost use Rattle.cts_program.specs.Answers.{ending_status};
+ghost use Rattle.timing_text.specs.Endings.{ending_status};
 ghost use Rattle.cts_program.specs.CornerTexts.{numbered_line, numbered_line_at, numbered_lines, common_show_lines, corners_lines, corners_status, IsCornersText};
 ghost use Rattle.cts_program.specs.Steps.{FailsCircuit};
 
 use crate::arrivals::push_arrivals;
-use crate::ending::{Answer, Ending};
 use crate::reading::Corners;
 use corners::{CornersOutcome, corners_of};
 use cts_base::NoMemory;
@@ -25,6 +24,7 @@ use failure_lines::Failure;
 use itoa::Buffer;
 use report_text::{push_count, push_line, push_period};
 use std::alloc::Global;
+use timing_text::{Answer, Ending};
 
 /// The least period and the least schedule of a circuit that serve the delay tables of all corners.
 ///

@@ -9,14 +9,14 @@ ghost use Rattle.cts_model.specs.report.ReportBounds.{IsOfSize, IsWithinBounds};
 ghost use Rattle.cts_model.specs.report.Shown.{IsShown};
 ghost use Rattle.cert_check.specs.Verdicts.{IsVerdict};
 ghost use Rattle.cts_engine.specs.Accepted.{HasPlacesFault};
-ghost use Rattle.cts_program.specs.Answers.{ending_status, IsDemoAnswer};
+ghost use Rattle.cts_program.specs.Answers.{IsDemoAnswer};
+ghost use Rattle.timing_text.specs.Endings.{ending_status};
 ghost use Rattle.cts_program.specs.Checks.{AreOfProblem};
 ghost use Rattle.command_line.specs.Commands.{number_of, is_number_within};
 ghost use Rattle.cts_program.specs.DemoTexts.{demo_texts, summary_lines, IsDemoText};
 ghost use Rattle.cts_program.specs.Files.{IsShortFile};
 ghost use Rattle.cts_program.specs.Steps.{FailsCircuit, FailsDemo, GivesFault};
 
-use crate::ending::Answer;
 use crate::reading::placement_failure;
 use cert_check::Verdict;
 use cts_base::NoMemory;
@@ -27,6 +27,7 @@ use failure_lines::Failure;
 use place_reader::PlaceFault;
 use report_text::{push_count, push_line, push_period, push_total};
 use std::alloc::Global;
+use timing_text::Answer;
 
 /// The summary of the demonstration with this number of registers and this seed.
 ///

@@ -6,7 +6,6 @@ mod call;
 mod check;
 mod cornering;
 mod demo;
-mod ending;
 mod margin;
 mod moves;
 mod period;

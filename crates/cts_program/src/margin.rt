@@ -9,19 +9,19 @@ ghost use Rattle.cts_model.specs.netlist.Paths.{IsLoop};
 ghost use Rattle.cts_model.specs.text.PrintedLines.{line_of, text_of};
 ghost use Rattle.cts_model.specs.timing.Schedules.{IsMarginPeriod};
 ghost use Rattle.cts_engine.specs.CircuitMargins.{IsMarginOutcome, IsSmallOutcome};
-ghost use Rattle.cts_program.specs.Answers.{ending_status};
+ghost use Rattle.timing_text.specs.Endings.{ending_status};
 ghost use Rattle.command_line.specs.Commands.{is_period};
 ghost use Rattle.cts_program.specs.MarginTexts.{IsMarginText, margin_line, margin_lines, spared_lines};
 ghost use Rattle.cts_program.specs.Steps.{FailsCircuit};
 
 use crate::arrivals::{all_at_zero, push_arrivals};
-use crate::ending::Answer;
 use cts_base::{Fraction, NoMemory, push_fraction, read_fraction};
 use cts_engine::{Denoted, MarginOutcome, margin_of};
 use cts_model::Circuit;
 use failure_lines::Failure;
 use report_text::{push_cycle, push_line, push_period};
 use std::alloc::Global;
+use timing_text::Answer;
 
 /// The greatest margin of a circuit at the period that the word spells.
 pub fn margin(alloc: Global, denoted: &Denoted, period: &str) -> Result<Answer, Failure>

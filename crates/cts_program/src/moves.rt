@@ -8,11 +8,10 @@ ghost use Rattle.cts_model.specs.text.PrintedLines.{line_of};
 ghost use Rattle.cts_model.specs.table.Tables.{IsWithin};
 ghost use Rattle.cts_engine.specs.SessionOutcomes.{IsGrid, IsSessionOf};
 ghost use Rattle.report_text.specs.WireLines.{wire_line};
-ghost use Rattle.cts_program.specs.Answers.{ending_status};
+ghost use Rattle.timing_text.specs.Endings.{ending_status};
 ghost use Rattle.cts_program.specs.MoveTexts.{AppendsWire, IsMovesText, IsNearMove, IsWiresText};
 ghost use Rattle.cts_program.specs.Steps.{FailsCircuit};
 
-use crate::ending::Answer;
 use cts_base::{Listed, NoMemory};
 use cts_engine::{SessionOutcome, move_register, session_of};
 use cts_model::Problem;
@@ -20,6 +19,7 @@ use failure_lines::Failure;
 use move_session::{Move, Session};
 use report_text::push_wire_length;
 use std::alloc::Global;
+use timing_text::Answer;
 
 /// How long the clock tree of a problem is, and how long it is after each of these moves, in
 /// length units.

@@ -1,25 +1,21 @@
 //! The command `period`: the least period that any arrivals allow.
 
-ghost use Rattle.std.specs.Prelude.{◌≡◌, ◌++◌, ℕ, List, OnOk, IfOk, IfErr};
-ghost use Rattle.cts_base.specs.declared.fraction.Fraction.{Fraction};
+ghost use Rattle.std.specs.Prelude.{◌≡◌, ℕ, List, IfOk, IfErr};
 ghost use Rattle.cts_model.specs.declared.tech.Tech.{Tech};
-ghost use Rattle.cts_model.specs.timing.LeastPeriods.{IsPeriodShow};
 ghost use Rattle.cts_model.specs.timing.PairLists.{JoinsMoreThan};
 ghost use Rattle.cts_model.specs.netlist.Paths.{IsLoop};
 ghost use Rattle.cts_model.specs.text.PrintedLines.{text_of};
 ghost use Rattle.cts_engine.specs.Outcomes.{IsPeriodOutcome};
-ghost use Rattle.cts_program.specs.Answers.{ending_status};
-ghost use Rattle.cts_program.specs.PeriodTexts.{found_lines, period_lines, outcome_status, IsPeriodText};
+ghost use Rattle.timing_text.specs.Endings.{ending_status};
+ghost use Rattle.cts_program.specs.PeriodTexts.{period_lines, outcome_status, IsPeriodText};
 ghost use Rattle.cts_program.specs.Steps.{FailsCircuit};
 
-use crate::ending::Answer;
-use crate::zero::push_zero;
-use cts_base::{Fraction, NoMemory};
+use cts_base::NoMemory;
 use cts_engine::{Denoted, PeriodOutcome, period_of};
-use cts_model::{Circuit, PeriodShow, ZeroSkew};
+use cts_model::Circuit;
 use failure_lines::Failure;
-use report_text::{push_period, push_show};
 use std::alloc::Global;
+use timing_text::{Answer, push_found};
 
 /// The least period of a circuit, whenever the clock reaches each register.
 ///
@@ -61,25 +57,4 @@ fn period_answer(
         }
         PeriodOutcome::Never { cycle } => Answer::never(alloc, circuit, cycle.as_slice()),
     }
-}
-
-/// Appends the lines of a least period, with and without skew, and of what shows the one with it.
-///
-/// # Errors
-///
-/// Memory was refused.
-pub fn push_found(
-    out: &mut Vec<u8>,
-    circuit: &Circuit,
-    zero: &ZeroSkew,
-    period: Fraction,
-    shown: &PeriodShow,
-) -> Result<(), NoMemory>
-    requires { (tech : Tech) × IsPeriodShow circuit.now tech period shown.now }
-    ensures { OnOk result (out.new.items
-        ≡ out.old.items ++ text_of (found_lines circuit.now zero.now period shown.now)) }
-{
-    push_period(out, period)?;
-    push_zero(out, zero)?;
-    push_show(out, circuit, shown)
 }

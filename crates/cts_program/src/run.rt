@@ -3,7 +3,8 @@ ghost use Rattle.cts_io.specs.Device.{Rose, appended};
 ghost use Rattle.command_line.specs.declared.command.Command.{Command};
 ghost use Rattle.failure_lines.specs.declared.failure.Failure.{Failure};
 ghost use Rattle.failure_lines.specs.declared.file_kind.FileKind.{FileKind};
-ghost use Rattle.cts_program.specs.Answers.{is_ending, ending_status};
+ghost use Rattle.cts_program.specs.Answers.{is_ending};
+ghost use Rattle.timing_text.specs.Endings.{ending_status};
 ghost use Rattle.command_line.specs.Commands.{HasValidTables, HasValidValues, IsCommand};
 ghost use Rattle.failure_lines.specs.Failures.{status_of};
 ghost use Rattle.cts_program.specs.Files.{files_of, AreDenoted};
@@ -13,7 +14,6 @@ ghost use Rattle.cts_program.specs.Steps.{IsAnyReadFault};
 use crate::check::check;
 use crate::cornering::serve_corners;
 use crate::demo::demo;
-use crate::ending::{Answer, Ending};
 use crate::margin::margin;
 use crate::moves::moves;
 use crate::period::period;
@@ -28,6 +28,7 @@ use cts_io::{Inputs, Sink, write_whole};
 use failure_lines::Failure;
 use report_text::laws;
 use std::alloc::Global;
+use timing_text::{Answer, Ending};
 
 /// All that the program does: answers the words after its name, and gives its exit status. A
 /// refusal is reported by one line on `err`; a failing `err` changes no status.

@@ -1,24 +1,22 @@
 //! The command `schedule`: when the clock is to reach each register.
 
-ghost use Rattle.std.specs.Prelude.{◌≡◌, ◌<◌, ◌++◌, ℕ, List, length, OnOk, IfOk, IfErr};
+ghost use Rattle.std.specs.Prelude.{◌≡◌, ℕ, List, IfOk, IfErr};
 ghost use Rattle.cts_model.specs.declared.tech.Tech.{Tech};
 ghost use Rattle.cts_model.specs.timing.PairLists.{JoinsMoreThan};
 ghost use Rattle.cts_model.specs.netlist.Paths.{IsLoop};
-ghost use Rattle.cts_model.specs.text.PrintedLines.{line_of, text_of};
+ghost use Rattle.cts_model.specs.text.PrintedLines.{text_of};
 ghost use Rattle.cts_engine.specs.ScheduleOutcomes.{period_outcome, HasSmallTimes, IsScheduleOutcome};
-ghost use Rattle.cts_program.specs.Answers.{ending_status};
+ghost use Rattle.timing_text.specs.Endings.{ending_status};
 ghost use Rattle.cts_program.specs.PeriodTexts.{outcome_status};
-ghost use Rattle.cts_program.specs.ScheduleTexts.{IsSmallSchedule, register_line_at, register_lines, schedule_lines, IsScheduleText};
+ghost use Rattle.cts_program.specs.ScheduleTexts.{schedule_lines, IsScheduleText};
 ghost use Rattle.cts_program.specs.Steps.{FailsCircuit};
 
-use crate::ending::Answer;
-use crate::period::push_found;
 use cts_base::NoMemory;
 use cts_engine::{Denoted, ScheduleOutcome, schedule_of};
-use cts_model::{Circuit, Schedule, Slack};
+use cts_model::Circuit;
 use failure_lines::Failure;
-use report_text::{push_count, push_register};
 use std::alloc::Global;
+use timing_text::{Answer, push_found, push_registers};
 
 /// The least schedule of a circuit at its least period.
 ///
@@ -64,42 +62,4 @@ fn schedule_answer(
         }
         ScheduleOutcome::Never { cycle } => Answer::never(alloc, circuit, cycle.as_slice()),
     }
-}
-
-// Appends the lines of the registers: how many there are, and each of them in order.
-fn push_registers(
-    out: &mut Vec<u8>,
-    circuit: &Circuit,
-    schedule: &Schedule,
-    slacks: &[Slack],
-) -> Result<(), NoMemory>
-    requires small { IsSmallSchedule schedule.now }
-    requires registers { length schedule.now.at ≡ length circuit.now.registers }
-    requires slacks { length slacks.now ≡ length circuit.now.registers }
-    ensures { OnOk result (out.new.items
-        ≡ out.old.items ++ text_of (register_lines circuit.now schedule.now slacks.now)) }
-{
-    push_count(out, b"registers", schedule.at.len())?;
-    for register in 0..schedule.at.len() {
-        push_register_at(out, circuit, schedule, slacks, register)?;
-    }
-    Ok(())
-}
-
-// Appends the line of the register with that number.
-fn push_register_at(
-    out: &mut Vec<u8>,
-    circuit: &Circuit,
-    schedule: &Schedule,
-    slacks: &[Slack],
-    register: usize,
-) -> Result<(), NoMemory>
-    requires small { IsSmallSchedule schedule.now }
-    requires within { register < length circuit.now.registers }
-    requires registers { length schedule.now.at ≡ length circuit.now.registers }
-    requires slacks { length slacks.now ≡ length circuit.now.registers }
-    ensures { OnOk result (out.new.items ≡ out.old.items
-        ++ line_of (register_line_at circuit.now schedule.now slacks.now register)) }
-{
-    push_register(out, circuit, schedule, slacks[register], register)
 }

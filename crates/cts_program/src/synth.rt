@@ -6,17 +6,17 @@ ghost use Rattle.cts_model.specs.declared.tree.Topology.{Topology};
 ghost use Rattle.cts_model.specs.timing.PairLists.{JoinsMoreThan};
 ghost use Rattle.cts_model.specs.tree.Topologies.{IsTopology};
 ghost use Rattle.cts_engine.specs.SynthesisOutcomes.{IsOutcomeWith};
-ghost use Rattle.cts_program.specs.Answers.{ending_status};
+ghost use Rattle.timing_text.specs.Endings.{ending_status};
 ghost use Rattle.cts_program.specs.Steps.{FailsCircuit};
 ghost use Rattle.cts_program.specs.SynthTexts.{IsOutcomeText, IsSynthText, IsEmbedText};
 
-use crate::ending::Answer;
 use cts_base::NoMemory;
 use cts_engine::{Outcome, synthesize, synthesize_with};
 use cts_model::{Problem, Topology};
 use failure_lines::Failure;
 use report_text::write_report;
 use std::alloc::Global;
+use timing_text::Answer;
 
 /// The clock tree of a problem.
 ///

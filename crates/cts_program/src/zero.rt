@@ -5,17 +5,17 @@ ghost use Rattle.cts_model.specs.timing.EqualArrivals.{IsZeroSkew};
 ghost use Rattle.cts_model.specs.timing.PairLists.{HasSmallDelays, JoinsMoreThan};
 ghost use Rattle.cts_model.specs.netlist.Paths.{IsLoop};
 ghost use Rattle.cts_model.specs.text.PrintedLines.{line_of, text_of};
-ghost use Rattle.cts_program.specs.Answers.{ending_status};
+ghost use Rattle.timing_text.specs.Endings.{ending_status};
 ghost use Rattle.cts_program.specs.Steps.{FailsCircuit};
-ghost use Rattle.cts_program.specs.Texts.{zero_line, reason_line, zero_lines, IsZeroText};
+ghost use Rattle.cts_program.specs.Texts.{reason_line, zero_lines, IsZeroText};
 
-use crate::ending::Answer;
 use cts_base::NoMemory;
 use cts_engine::{Denoted, zero_of};
 use cts_model::{Circuit, Tech, ZeroSkew};
 use failure_lines::Failure;
-use report_text::{push_constraint, push_line, push_value};
+use report_text::{push_constraint, push_line};
 use std::alloc::Global;
+use timing_text::{Answer, push_zero};
 
 /// The least period of a circuit at equal arrivals.
 ///
@@ -50,21 +50,6 @@ fn zero_text(
     push_zero(&mut out, outcome)?;
     push_reason(&mut out, circuit, tech, outcome)?;
     Ok(out)
-}
-
-/// Appends the line for the least period at equal arrivals, in ticks.
-///
-/// # Errors
-///
-/// Memory was refused.
-pub fn push_zero(out: &mut Vec<u8>, outcome: &ZeroSkew) -> Result<(), NoMemory>
-    ensures { OnOk result (out.new.items ≡ out.old.items ++ line_of (zero_line outcome.now)) }
-{
-    match outcome {
-        ZeroSkew::Fails { .. } => push_line(out, b"zero", &[b"none"]),
-        ZeroSkew::Floor { value } => push_value(out, b"zero", *value),
-        ZeroSkew::Setup { value, .. } => push_value(out, b"zero", *value),
-    }
 }
 
 // Appends the line of what shows that no period is less.

@@ -1,5 +1,5 @@
 use Rattle.cts_program.specs.ArrivalTexts.{arrival_line}
-use Rattle.cts_program.proofs.LineLemmas.{next_line}
+use Rattle.timing_text.proofs.LineLemmas.{next_line}
 use Rattle.cts_program.proofs.arrivals.push_arrivals.Goals as goal
 
 pub loop-register-preserved : goal.loop-register-preserved

@@ -1,5 +1,5 @@
 use Rattle.cts_program.specs.CornerTexts.{numbered_line_at}
-use Rattle.cts_program.proofs.LineLemmas.{next_line}
+use Rattle.timing_text.proofs.LineLemmas.{next_line}
 use Rattle.cts_program.proofs.cornering.push_numbered.Goals as goal
 
 pub loop-place-preserved : goal.loop-place-preserved

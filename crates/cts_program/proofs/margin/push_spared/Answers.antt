@@ -3,7 +3,7 @@ use Rattle.cts_model.specs.text.PrintedLines.{line_of, text_of}
 use Rattle.cts_program.specs.ArrivalTexts.{all_at_zero, arrival_lines}
 use Rattle.cts_program.specs.MarginTexts.{unbounded_line}
 use Rattle.cts_program.proofs.ArrivalLemmas.{small_can_print}
-use Rattle.cts_program.proofs.CycleRegisters.{cycle_among}
+use Rattle.timing_text.proofs.CycleRegisters.{cycle_among}
 use Rattle.cts_program.proofs.margin.push_spared.Goals as goal
 
 pub push_cycle-requires : goal.push_cycle-requires

@@ -1,6 +1,6 @@
-use Rattle.cts_c.specs.ScheduleTexts.{register_line_at}
-use Rattle.cts_c.proofs.RegisterLines.{next_line}
-use Rattle.cts_c.proofs.scheduling.push_registers.Goals as goal
+use Rattle.timing_text.specs.ScheduleLines.{register_line_at}
+use Rattle.timing_text.proofs.LineLemmas.{next_line}
+use Rattle.timing_text.proofs.registers.push_registers.Goals as goal
 
 pub loop-register-preserved : goal.loop-register-preserved
 loop-register-preserved c =

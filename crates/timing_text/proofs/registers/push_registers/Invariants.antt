@@ -1,8 +1,8 @@
 use Rattle.std.proofs.Common.{◌≡◌, ◌++◌, codes, length}
 use Rattle.cts_model.specs.text.PrintedLines.{line_of, text_of, count_line}
 use Rattle.cts_model.specs.report.ReportLines.{lines_below}
-use Rattle.cts_program.specs.ScheduleTexts.{register_line_at}
-use Rattle.cts_program.proofs.scheduling.push_registers.Given as goal
+use Rattle.timing_text.specs.ScheduleLines.{register_line_at}
+use Rattle.timing_text.proofs.registers.push_registers.Given as goal
 
 -- the count, and the registers so far
 abbrev pub invariant-loop-register : goal.invariant-loop-register

@@ -1,28 +1,26 @@
-//! How a command that answers ends, and its whole text.
-
 ghost use Rattle.std.specs.Prelude.{◌≡◌, IfOk};
 ghost use Rattle.cts_model.specs.declared.tech.Tech.{Tech};
-ghost use Rattle.cts_model.specs.timing.LeastPeriods.{IsForbidding};
 ghost use Rattle.cts_model.specs.text.PrintedLines.{text_of};
-ghost use Rattle.cts_program.specs.Answers.{ending_status};
-ghost use Rattle.cts_program.specs.PeriodTexts.{never_lines};
+ghost use Rattle.cts_model.specs.timing.LeastPeriods.{IsForbidding};
+ghost use Rattle.timing_text.specs.Endings.{ending_status};
+ghost use Rattle.timing_text.specs.PeriodLines.{never_lines};
 
 use cts_base::NoMemory;
 use cts_model::{Circuit, Constraint};
 use report_text::{push_cycle, push_line};
 use std::alloc::Global;
 
-/// How a command that answers ends.
+/// How an answer ends.
 #[derive(Clone, Copy, Debug, Drop, PartialEq, Eq)]
 pub enum Ending {
-    /// It found what it was asked for.
+    /// It tells what was asked for.
     Done,
     /// It shows that no period is met.
     Never,
 }
 
 impl Ending {
-    /// The program's exit status.
+    /// The exit status of the program.
     pub fn status(self) -> u8
         ensures { result ≡ ending_status self }
     {
@@ -33,7 +31,7 @@ impl Ending {
     }
 }
 
-/// The whole text that a command answers, and how it ends.
+/// The whole text of an answer, and how it ends.
 #[derive(Drop)]
 pub struct Answer {
     pub ending: Ending,
@@ -41,7 +39,7 @@ pub struct Answer {
 }
 
 impl Answer {
-    /// The answer of a command that found what it was asked for.
+    /// The answer that tells what was asked for.
     pub fn done(text: Vec<u8>) -> Answer
         ensures ending { ending_status result.ending ≡ 0 }
         ensures text { result.text.items ≡ text.items }

@@ -1,9 +1,0 @@
-use Rattle.cts_program.specs.ScheduleTexts.{register_line_at}
-use Rattle.cts_program.proofs.LineLemmas.{next_line}
-use Rattle.cts_program.proofs.scheduling.push_registers.Goals as goal
-
-pub loop-register-preserved : goal.loop-register-preserved
-loop-register-preserved c =
-    next_line (register_line_at c.args.circuit.now c.args.schedule.now c.args.slacks.now)
-    c.loop-register.register _ c.loop-register.out.items c.push_register_at.new.out.items
-    c.loop-register.invariant c.in_ok-push_register_at.ensures

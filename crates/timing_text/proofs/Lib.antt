@@ -1,0 +1,2 @@
+pub mod CycleRegisters
+pub mod LineLemmas
