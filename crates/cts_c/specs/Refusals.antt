@@ -22,8 +22,8 @@ AreBothShort bench tech = IsShort bench × IsShort tech
 abbrev pub AreAllShort : (bench tech pl : List ℕ) → Type 0
 AreAllShort bench tech pl = AreBothShort bench tech × IsShort pl
 
--- one of the texts of a circuit, or of a problem, is too long, or the first that isn't accepted has a
--- fault
+-- one of the texts of a circuit, or of a problem, is too long, or the first that isn't accepted has
+-- a fault
 abbrev pub AreBothRefused : (bench tech : List ℕ) → Type 0
 AreBothRefused bench tech = (AreBothShort bench tech → ⊥)
     ⊎ ((refusal : Refusal) × (refusal ≢ refusals.NoMemory) × IsCircuitRefusal bench tech refusal)
@@ -32,7 +32,8 @@ abbrev pub AreRefused : (bench tech pl : List ℕ) → Type 0
 AreRefused bench tech pl = (AreAllShort bench tech pl → ⊥)
     ⊎ ((refusal : Refusal) × (refusal ≢ refusals.NoMemory) × IsRefusal bench tech pl refusal)
 
--- so it is, or they tell a circuit and paths join more pairs of its registers than a circuit may have
+-- so it is, or they tell a circuit and paths join more pairs of its registers than a circuit may
+-- have
 abbrev pub RefusesSchedule : (bench tech : List ℕ) → Type 0
 RefusesSchedule bench tech = AreBothRefused bench tech
     ⊎ ((circuit : Circuit) × ((delays : Tech) × TellBoth bench tech circuit delays

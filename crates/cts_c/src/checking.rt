@@ -28,8 +28,8 @@ pub extern "C" fn cts_check(
     report: &[u8],
     finding: &mut Finding,
 ) -> u32
-    // 0 and 7: the texts tell a problem. Then the report shows what it says, which is so; or what is
-    // found stands against it, and nothing that is judged before.
+    // 0 and 7: the texts tell a problem. Then the report shows what it says, which is so; or what
+    // is found stands against it, and nothing that is judged before.
     ensures judged { (result ≡ 0) ⊎ (result ≡ 7)
         → IsCheck bench.now tech.now pl.now report.now result finding.new }
 

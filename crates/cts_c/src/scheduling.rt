@@ -3,7 +3,6 @@
 ghost use Rattle.std.specs.Prelude.{◌≡◌, ◌≢◌, ℕ, List, IfOk, IfErr};
 ghost use Rattle.cts_model.specs.declared.circuit.Circuit.{Circuit};
 ghost use Rattle.cts_model.specs.declared.tech.Tech.{Tech};
-ghost use Rattle.cts_model.specs.netlist.Paths.{IsLoop};
 ghost use Rattle.cts_model.specs.text.PrintedLines.{text_of};
 ghost use Rattle.cts_model.specs.timing.PairLists.{JoinsMoreThan};
 ghost use Rattle.cts_engine.specs.Accepted.{TellBoth};
@@ -43,8 +42,8 @@ pub extern "C" fn cts_schedule(
         × IsScheduleText bench.now tech.now status text
         × IsTooLarge text out.old out.new size.new) }
 
-    // 3: exactly where a text is too long or has a fault, or paths join too many pairs of registers,
-    // unless memory is refused, which is 6.
+    // 3: exactly where a text is too long or has a fault, or paths join too many pairs of
+    // registers, unless memory is refused, which is 6.
     ensures refused { result ≡ 3 → RefusesSchedule bench.now tech.now }
     ensures accepted { (circuit : Circuit) (delays : Tech) → AreBothShort bench.now tech.now
         → TellBoth bench.now tech.now circuit delays → (JoinsMoreThan circuit 1048576 → ⊥)

@@ -43,8 +43,8 @@ pub extern "C" fn cts_synth(
         × IsSynthText bench.now tech.now pl.now status text
         × IsTooLarge text out.old out.new size.new) }
 
-    // 3: exactly where a text is too long or has a fault, or paths join too many pairs of registers,
-    // unless memory is refused, which is 6.
+    // 3: exactly where a text is too long or has a fault, or paths join too many pairs of
+    // registers, unless memory is refused, which is 6.
     ensures refused { result ≡ 3 → RefusesTree bench.now tech.now pl.now }
     ensures accepted { (problem : Problem) → AreAllShort bench.now tech.now pl.now
         → TellAll bench.now tech.now pl.now problem → (JoinsMoreThan problem.circuit 1048576 → ⊥)
