@@ -1,4 +1,3 @@
-mod NameNumbers
 mod AgreeingSinks
 mod StepsUp
 mod MovedSinks

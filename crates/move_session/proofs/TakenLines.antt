@@ -6,6 +6,7 @@ use Rattle.std.specs.Result.{result_err, result_ok}
 use Rattle.std.proofs.lemmas.Bool.Decides.{nat_tests}
 use Rattle.std.proofs.lemmas.List.{length_push}
 use Rattle.std.proofs.lemmas.List.Elements.{filter_map-append}
+use Rattle.cts_model.specs.netlist.Netlists.{number_of}
 use Rattle.cts_model.specs.text.Entries.{entries_in, has_words, words_in}
 use Rattle.cts_model.proofs.EntryLemmas.{entries_round, written}
 use Rattle.move_session.specs.declared.fault.MovesFault.{MovesFault}
@@ -13,7 +14,6 @@ use Rattle.move_session.specs.declared.fault.MovesFault.TheVariants.{TooMany}
 use Rattle.move_session.specs.declared.moves.Move.{Move}
 use Rattle.move_session.specs.declared.moving.Moving.{Moving}
 use Rattle.move_session.specs.Moves.{entry_fault, fault_of, move_of, moves_of, told_at}
-use Rattle.move_session.specs.Numbers.{number_in}
 use Rattle.move_session.specs.Taken.{HasTaken}
 
 -- a move is told whatever the line's number
@@ -25,41 +25,41 @@ told_move number move (Err fault) same = ap result_ok same
 module _ (start old : Moving) (earlier : List (List ℕ)) (line : List ℕ) (name : List ℕ)
     (words : List (List ℕ)) (number : ℕ) (move : Move) (has : HasTaken start old earlier)
     (number_is : number ≡ length earlier + 1) (read : words_in line ≡ name ∷ words)
-    (told : Ok move ≡ told_at number (move_of (number_in old.numbers) (name ∷ words))) where
-  -- the numbers of the start
-  abbrev number_of : List ℕ → Option ℕ
-  number_of = number_in start.numbers
+    (told : Ok move ≡ told_at number (move_of (number_of old.names) (name ∷ words))) where
+  -- the numbers of the names of the start
+  abbrev named : List ℕ → Option ℕ
+  named = number_of start.names
 
   -- the line tells the move
-  line_told : told_at number (move_of number_of (name ∷ words)) ≡ Ok move
+  line_told : told_at number (move_of named (name ∷ words)) ≡ Ok move
   line_told =
-      sym (told ∙ ap (λ n. told_at number (move_of (number_in n) (name ∷ words))) has.numbers)
+      sym (told ∙ ap (λ n. told_at number (move_of (number_of n) (name ∷ words))) has.names)
 
   -- it isn't faulty
-  pub move_flawless : length old.moves < 10000 → fault_of number_of earlier line ≡ None
+  pub move_flawless : length old.moves < 10000 → fault_of named earlier line ≡ None
   move_flawless room =
       let few : nat_lt (length (entries_in earlier)) 10000 ≡ true =
       grind (arith, nat_tests, has.count, room) in
-      ap (entry_fault number_of (length earlier + 1) (length (entries_in earlier))) read
-      ∙ (λ i. option_or (result_err (told_at (sym number_is i) (move_of number_of (name ∷ words))))
+      ap (entry_fault named (length earlier + 1) (length (entries_in earlier))) read
+      ∙ (λ i. option_or (result_err (told_at (sym number_is i) (move_of named (name ∷ words))))
       (cond (few i) None (Some (TooMany (length earlier + 1)))))
       ∙ ap (λ told. option_or (result_err told) None) line_told
 
   -- and is taken in
-  pub move_taken : (new : Moving) → new.numbers ≡ old.numbers
+  pub move_taken : (new : Moving) → new.names ≡ old.names
       → new.moves ≡ old.moves ++ move ∷ [] → HasTaken start new (earlier ++ line ∷ [])
-  move_taken new numbers moves =
+  move_taken new names moves =
       let some : has_words (words_in line) ≡ true = ap has_words read ∙ written name words in
       let next : entries_in (earlier ++ line ∷ []) ≡ entries_in earlier ++ (name ∷ words) ∷ [] =
       entries_round earlier line [] some ∙ ap (λ entry. entries_in earlier ++ entry ∷ []) read in
-      let all : moves_of number_of (entries_in (earlier ++ line ∷ [])) ≡ old.moves ++ move ∷ [] =
-      ap (moves_of number_of) next
-      ∙ filter_map-append (λ entry. result_ok (move_of number_of entry)) (entries_in earlier)
+      let all : moves_of named (entries_in (earlier ++ line ∷ [])) ≡ old.moves ++ move ∷ [] =
+      ap (moves_of named) next
+      ∙ filter_map-append (λ entry. result_ok (move_of named entry)) (entries_in earlier)
       ((name ∷ words) ∷ [])
       ∙ (λ i. sym has.moves i
-      ++ cons_option (told_move number move (move_of number_of (name ∷ words)) line_told i) []) in
+      ++ cons_option (told_move number move (move_of named (name ∷ words)) line_told i) []) in
       record {
-        numbers = numbers ∙ has.numbers;
+        names = names ∙ has.names;
         moves = moves ∙ sym all;
         count = ap length moves ∙ length_push old.moves move ∙ ap (λ n. n + 1) has.count
             ∙ sym (length_push (entries_in earlier) (name ∷ words)) ∙ ap length (sym next);

@@ -11,23 +11,10 @@ use Rattle.cts_model.specs.declared.circuit.Circuit.{Circuit}
 use Rattle.cts_model.specs.netlist.Paths.{register_name}
 use Rattle.cts_model.specs.placement.Coordinates.{point_from}
 use Rattle.cts_model.specs.text.Entries.{entries_of}
+use Rattle.name_set.proofs.NameNumbers.{found_below}
 use Rattle.move_session.specs.declared.fault.MovesFault.{MovesFault}
 use Rattle.move_session.specs.declared.moves.Move.{Move}
 use Rattle.move_session.specs.Moves.{AcceptsMoves, fault_of, move_of, move_to, moves_in, moves_of, register_of}
-
--- what is found in a range is in it
-found_below : (test : ℕ → Bool) (from left found : ℕ)
-    → find test (range_with_len from left) ≡ Some found → found < from + left
-found_below test from zero found is = cc
-found_below test from (suc left) found is =
-    at (test from) (found_below test (from + 1) left found) is
-  where
-    at : (passes : Bool)
-        → (find test (range_with_len (from + 1) left) ≡ Some found → found < from + 1 + left)
-        → cond passes (Some from) (find test (range_with_len (from + 1) left)) ≡ Some found
-        → found < from + suc left
-    at true later is = let same : from ≡ found = cc is in omega (arith, same)
-    at false later is = omega (arith, later is)
 
 -- the move is of a register, to a place whose coordinates words name
 pub record IsToldMove (circuit : Circuit) (move : Move) : Type 0 where
@@ -63,9 +50,7 @@ module _ (circuit : Circuit) where
   register_below : (name : List ℕ) (found : ℕ) → number_of name ≡ Some found
       → found < length circuit.registers
   register_below name found is =
-      let below = found_below (λ register. bytes_eq name (register_name circuit register)) 0
-      (length circuit.registers) found is in
-      omega (arith, below)
+      (found_below (register_name circuit) (length circuit.registers) name found is).0
 
   -- the words of a line tell it
   by_words : (words : List (List ℕ)) (move : Move) → move_of number_of words ≡ Ok move

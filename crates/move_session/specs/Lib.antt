@@ -1,5 +1,4 @@
 pub mod Moves
-pub mod Numbers
 pub mod Taken
 pub mod Sessions
 pub mod SessionViews

@@ -1,26 +1,24 @@
 -- Texts of moves, and what each tells. A line that isn't blank has three words, a register's name
 -- and the two coordinates of the place where it goes. The form is this project's choice; comments
 -- and words are those of the ISCAS'89 and Bookshelf formats.
-use Rattle.std.specs.Prelude.{◌≡◌, ◌+◌, ℕ, nat_lt, List, [], ◌∷◌, length, find, filter_map, Option, Some, None, Result, Ok, Err, if◌then◌else◌}
-use Rattle.std.specs.List.{range_with_len}
+use Rattle.std.specs.Prelude.{◌≡◌, ◌+◌, ℕ, nat_lt, List, [], ◌∷◌, length, filter_map, Option, Some, None, Result, Ok, Err, if◌then◌else◌}
 use Rattle.std.specs.Option.{option_or}
 use Rattle.std.specs.Result.{result_ok, result_err}
-use Rattle.std.specs.Str.{bytes_eq}
 use Rattle.cts_base.specs.LineFormats.{first_fault, unless_faulty}
 use Rattle.cts_base.specs.declared.number.NumberFault.{NumberFault}
 use Rattle.cts_model.specs.declared.circuit.Circuit.{Circuit}
 use Rattle.cts_model.specs.declared.place.Point.{Point}
-use Rattle.cts_model.specs.netlist.Paths.{register_name}
+use Rattle.cts_model.specs.netlist.Netlists.{number_of}
 use Rattle.cts_model.specs.placement.Coordinates.{point_of}
 use Rattle.cts_model.specs.text.Entries.{entries_in, entries_of, words_in}
+use Rattle.name_set.specs.RegisterNames.{register_names}
 use Rattle.move_session.specs.declared.fault.MovesFault.{MovesFault}
 use Rattle.move_session.specs.declared.fault.MovesFault.TheVariants.{BadLine, UnknownRegister, BadNumber, TooMany}
 use Rattle.move_session.specs.declared.moves.Move.{Move}
 
--- the first register of that name; the host's is `(host)`
+-- the register of that name; the host's is `(host)`
 abbrev pub register_of : Circuit → (name : List ℕ) → Option ℕ
-register_of circuit name = find (λ register. bytes_eq name (register_name circuit register))
-    (range_with_len 0 (length circuit.registers))
+register_of circuit = number_of (register_names circuit)
 
 -- a register's move to a place, or what is wrong with the line of a number; that no register has
 -- the name is judged before the place

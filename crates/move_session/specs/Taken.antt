@@ -1,12 +1,12 @@
 -- What the reader has taken in from the lines so far.
 use Rattle.std.specs.Prelude.{◌≡◌, ℕ, List, length}
+use Rattle.cts_model.specs.netlist.Netlists.{number_of}
 use Rattle.cts_model.specs.text.Entries.{entries_in}
 use Rattle.move_session.specs.declared.moving.Moving.{Moving}
 use Rattle.move_session.specs.Moves.{moves_of}
-use Rattle.move_session.specs.Numbers.{number_in}
 
--- the numbers are those of the start, and the moves those of the lines, one for each entry
+-- the names are those of the start, and the moves those of the lines, one for each entry
 pub record HasTaken (start moving : Moving) (lines : List (List ℕ)) : Type 0 where
-  pub numbers : moving.numbers ≡ start.numbers
-  pub moves : moving.moves ≡ moves_of (number_in start.numbers) (entries_in lines)
+  pub names : moving.names ≡ start.names
+  pub moves : moving.moves ≡ moves_of (number_of start.names) (entries_in lines)
   pub count : length moving.moves ≡ length (entries_in lines)

@@ -5,7 +5,6 @@ mod fault;
 mod moves;
 mod moving;
 mod read;
-mod register_numbers;
 mod session;
 mod way_up;
 

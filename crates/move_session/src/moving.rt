@@ -1,13 +1,14 @@
 ghost use Rattle.std.specs.Prelude.{◌≡◌, ◌∷◌, [], IfOk};
 ghost use Rattle.cts_model.specs.text.Entries.{words_in};
-ghost use Rattle.move_session.specs.Moves.{fault_of, move_of, register_of, told_at};
-ghost use Rattle.move_session.specs.Numbers.{number_in};
+ghost use Rattle.move_session.specs.Moves.{fault_of, move_of, told_at};
+ghost use Rattle.cts_model.specs.netlist.Netlists.{number_of};
+ghost use Rattle.name_set.specs.RegisterNames.{register_names};
 ghost use Rattle.move_session.specs.declared.fault.MovesFault.TheVariants as fault;
 
-use crate::register_numbers::RegisterNumbers;
 use crate::{Move, MovesFault};
 use cts_base::{Line, LineFormat, Listed, NoMemory, Words, before_comment, words};
 use cts_model::{Circuit, read_point};
+use name_set::{NameSet, register_names};
 use std::alloc::Global;
 
 // The most moves that a text has.
@@ -16,7 +17,7 @@ const MAX_MOVES: usize = 10000;
 /// The moves of the lines so far.
 #[derive(Drop)]
 pub(crate) struct Moving {
-    numbers: RegisterNumbers,
+    names: NameSet,
     pub(crate) moves: Listed<Move>,
 }
 
@@ -25,12 +26,11 @@ impl Moving {
 
     /// No moves.
     pub(crate) fn new(alloc: Global, circuit: &Circuit) -> Result<Moving, NoMemory>
-        ensures numbers { IfOk result
-            (λ moving. number_in moving.numbers ≡ register_of circuit.now) }
+        ensures names { IfOk result (λ moving. moving.names ≡ register_names circuit.now) }
         ensures fresh { IfOk result (λ moving. HasTaken moving moving []) }
     {
         Ok(Moving {
-            numbers: RegisterNumbers::of(alloc, circuit)?,
+            names: register_names(alloc, circuit)?,
             moves: Listed::new(alloc),
         })
     }
@@ -38,12 +38,12 @@ impl Moving {
     // The move that a name and the words after it tell, in the line of a number.
     fn move_of(&self, number: u32, name: &[u8], mut words: Words) -> Result<Move, MovesFault>
         ensures { result ≡ told_at number
-            (move_of (number_in self.now.numbers) (name.now ∷ words.entry)) }
+            (move_of (number_of self.now.names) (name.now ∷ words.entry)) }
     {
         let (Some(x), Some(y), None) = (words.next(), words.next(), words.next()) else {
             return Err(MovesFault::BadLine(number));
         };
-        let Some(register) = self.numbers.number_of(name) else {
+        let Some(register) = self.names.number_of(name) else {
             return Err(MovesFault::UnknownRegister(number));
         };
         match read_point(x, y) {
@@ -60,7 +60,7 @@ impl<'a> LineFormat<'a> for Moving {
 
     ghost no_memory = { fault.NoMemory };
 
-    ghost fault_of = { λ start. fault_of (number_in start.numbers) };
+    ghost fault_of = { λ start. fault_of (number_of start.names) };
 
     ghost has_read = { HasTaken };
 

@@ -31,7 +31,7 @@ use Rattle.report_text.specs.Values.{IsSmallScale}
 use Rattle.cts_model.specs.text.PrintedLines.{text_of}
 use Rattle.report_text.proofs.GridLemmas.{grid_bounds}
 use Rattle.report_text.proofs.LineReading.{line_passed}
-use Rattle.report_text.proofs.OneName.{few_registers}
+use Rattle.name_set.proofs.OneName.{few_registers}
 use Rattle.report_text.proofs.ReportWords.{AreLines}
 use Rattle.report_text.proofs.TimingLines.{constraint_plain, count_plain, cycle_plain, floor_plain, lead_plain, path_plain, period_plain, register_plain, version_plain}
 use Rattle.report_text.proofs.TreeLines.{merge_plain, node_plain, source_plain, total_plain}

@@ -19,11 +19,12 @@ use Rattle.report_text.specs.Fields.{LineHasFlaw, WordHasFlaw}
 use Rattle.report_text.specs.FlawOrder.{sooner_flaw}
 use Rattle.report_text.specs.JudgedFractions.{HasStepsFlaw, IsNegativeQuotient}
 use Rattle.report_text.specs.Keywords.{keyword_text}
-use Rattle.report_text.specs.NamesOf.{DenotesRegister, DenotesSignal, register_names, signal_names}
+use Rattle.name_set.specs.RegisterNames.{register_names}
+use Rattle.report_text.specs.NamesOf.{DenotesRegister, DenotesSignal, signal_names}
 use Rattle.report_text.proofs.FlawLemmas.{line_first}
 use Rattle.report_text.proofs.FractionFlaws.{dash_plain, from_zero, negative_refused, period_past, period_refused, period_within, slack_denoted, steps_denoted, steps_past, steps_refused, steps_unfit, steps_within}
 use Rattle.report_text.proofs.NameNumbers.{register_denoted, signal_denoted}
-use Rattle.report_text.proofs.OneName.{one_register}
+use Rattle.name_set.proofs.OneName.{one_register}
 use Rattle.report_text.proofs.SpelledNumbers.{OrNot, fraction_or_not, quotient_or_not, same_text, same_whole, size_or_not, whole_or_not}
 
 module _ (circuit : Circuit) where

@@ -8,7 +8,6 @@ mod NumberWords
 mod OneField
 pub mod OneLine
 mod OneList
-mod OneName
 mod OneRecord
 mod OneTiming
 mod OneTree

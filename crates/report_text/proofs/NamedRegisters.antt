@@ -13,7 +13,7 @@ use Rattle.cts_model.specs.netlist.Kinds.{is_host}
 use Rattle.cts_model.specs.text.Names.{is_name, is_short}
 use Rattle.cts_model.specs.netlist.Paths.{register_name}
 use Rattle.cts_model.proofs.CircuitLemmas.{registered, register_signal_is}
-use Rattle.report_text.proofs.OneName.{one_register}
+use Rattle.name_set.proofs.OneName.{one_register}
 
 -- a signal's name isn't empty
 named_some : (signal : Signal) → IsTrue (is_named signal) → signal.name ≡ [] → ⊥

@@ -21,7 +21,7 @@ use Rattle.cts_model.specs.text.PrintedLines.{Words, constraint_line, line_for, 
 use Rattle.cts_model.specs.timing.Slacks.{IsSmallSlack}
 use Rattle.cts_model.specs.report.ReportBounds.{IsBetweenRegisters, LeadsAmong, ShowsAmong, HasSmallWeight, IsSmallLead, IsSmallWire}
 use Rattle.cts_model.specs.report.ReportLines.{path_line, lead_line, show_words, signal_name}
-use Rattle.report_text.proofs.OneName.{one_register, one_signal}
+use Rattle.name_set.proofs.OneName.{one_register, one_signal}
 use Rattle.report_text.proofs.OneRecord.{same_fraction}
 
 -- the words at one place of two lines

@@ -26,7 +26,7 @@ use Rattle.report_text.specs.DenotedReports.{report_denoted}
 use Rattle.report_text.specs.Walks.{Left, DenotesVersion}
 use Rattle.report_text.proofs.GridLemmas.{scale_small}
 use Rattle.report_text.proofs.HeadingLemmas.{cycle_shown, heading_read, pathed_shown}
-use Rattle.report_text.proofs.OneName.{few_registers}
+use Rattle.name_set.proofs.OneName.{few_registers}
 use Rattle.report_text.proofs.PartLemmas.{denoted_cycle, denoted_scale, denoted_version}
 use Rattle.report_text.proofs.PartsDenoted.{parts_spelled}
 use Rattle.report_text.proofs.PassedLines.{IsSound, Passed, denoted_passed}

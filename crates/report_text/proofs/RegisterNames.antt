@@ -14,7 +14,7 @@ use Rattle.report_text.specs.declared.field.Flaw.TheVariants as flaws
 use Rattle.report_text.specs.Fields.{NamesRegister, WordHasFlaw}
 use Rattle.report_text.specs.Forms.{register_named}
 use Rattle.report_text.specs.Scans.{flaw_in}
-use Rattle.report_text.proofs.OneName.{one_register}
+use Rattle.name_set.proofs.OneName.{one_register}
 
 module _ (circuit : Circuit) (name : List ℕ) where
   -- it is the first number whose register has the name

@@ -23,7 +23,7 @@ use Rattle.report_text.specs.Fields.{EachWord, AreFewSteps, AreSteps, IsFraction
 use Rattle.report_text.specs.Keywords.{keyword_text}
 use Rattle.report_text.proofs.CoprimeFactors.{one_number_of_steps}
 use Rattle.report_text.proofs.NumberWords.{denoted_steps, few_steps, spelled_steps, spelled_whole, whole_steps, whole_word}
-use Rattle.report_text.proofs.OneName.{one_register}
+use Rattle.name_set.proofs.OneName.{one_register}
 
 -- the word is that of a value that the field admits
 abbrev pub IsSpelled : Circuit → Field → List ℕ → Type 0

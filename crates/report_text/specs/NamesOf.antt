@@ -4,13 +4,11 @@ use Rattle.std.specs.List.{range_with_len}
 use Rattle.cts_model.specs.declared.circuit.Circuit.{Circuit}
 use Rattle.cts_model.specs.netlist.Paths.{register_name}
 use Rattle.cts_model.specs.report.ReportLines.{signal_name}
+use Rattle.name_set.specs.RegisterNames.{register_names}
 use Rattle.report_text.specs.declared.names.Names.{Names}
 use Rattle.report_text.specs.Fields.{NamesRegister, NamesSignal}
 
--- the names of the circuit's registers and signals, in order
-abbrev pub register_names : Circuit → List (List ℕ)
-register_names circuit = map (register_name circuit) (range_with_len 0 (length circuit.registers))
-
+-- the names of the circuit's signals, in order
 abbrev pub signal_names : Circuit → List (List ℕ)
 signal_names circuit = map (signal_name circuit) (range_with_len 0 (length circuit.signals))
 

@@ -10,7 +10,6 @@ mod grid;
 mod judging;
 pub mod laws;
 mod line;
-mod name_set;
 mod names;
 mod period;
 mod printed;

@@ -1,9 +1,9 @@
 ghost use Rattle.std.specs.Prelude.{IfOk};
 
-use crate::name_set::NameSet;
 use crate::timing::signal_name;
 use cts_base::NoMemory;
 use cts_model::Circuit;
+use name_set::{NameSet, register_names};
 use std::alloc::Global;
 
 /// The names of a circuit's registers and of its signals.
@@ -45,18 +45,7 @@ impl Names {
 }
 
 ghost use Rattle.std.specs.Prelude.{◌≡◌};
-ghost use Rattle.report_text.specs.NamesOf.{register_names, signal_names};
-
-// The names of the registers, in order.
-fn register_names(alloc: Global, circuit: &Circuit) -> Result<NameSet, NoMemory>
-    ensures { IfOk result (λ names. names ≡ register_names circuit.now) }
-{
-    let mut names = NameSet::new(alloc);
-    for register in 0..circuit.registers.len() {
-        names.push(circuit.register_name(register))?;
-    }
-    Ok(names)
-}
+ghost use Rattle.report_text.specs.NamesOf.{signal_names};
 
 // The names of the signals, in order.
 fn signal_names(alloc: Global, circuit: &Circuit) -> Result<NameSet, NoMemory>

@@ -1,2 +1,1 @@
 pub mod CycleRegisters
-pub mod LineLemmas

@@ -1,0 +1,2 @@
+pub mod OneName
+pub mod NameNumbers

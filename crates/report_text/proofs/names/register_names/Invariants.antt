@@ -1,8 +1,0 @@
-use Rattle.std.proofs.Common.{◌≡◌, map}
-use Rattle.std.specs.List.{range_with_len}
-use Rattle.cts_model.specs.netlist.Paths.{register_name}
-use Rattle.report_text.proofs.names.register_names.Given as goal
-
-abbrev pub invariant-loop-register : goal.invariant-loop-register
-invariant-loop-register l =
-    l.names ≡ map (register_name l.circuit) (range_with_len 0 l.register)
