@@ -1,4 +1,4 @@
-ghost use Rattle.std.specs.Prelude.{◌≡◌, ◌<◌, ◌+◌, ◌^◌, ℕ, [], ◌∷◌};
+ghost use Rattle.std.specs.Prelude.{◌≡◌, ◌<◌, ◌+◌, ◌^◌, [], ◌∷◌};
 ghost use Rattle.cts_model.specs.text.Names.{is_short};
 ghost use Rattle.bench_reader.specs.Tallies.{tally_of, with_names};
 

@@ -1,4 +1,4 @@
-ghost use Rattle.std.specs.Prelude.{◌≡◌, ◌⊎◌, ◌<◌, ◌≤◌, ◌↔◌, ◌^◌, [], All, IsTrue, Some, drop, length, slice_get, ◌+ℤ◌, ◌-ℤ◌};
+ghost use Rattle.std.specs.Prelude.{◌≡◌, ◌⊎◌, ◌<◌, ◌≤◌, ◌↔◌, ◌^◌, [], All, IsTrue, drop, length, ◌+ℤ◌, ◌-ℤ◌};
 ghost use Rattle.cts_model.specs.timing.ConstraintPaths.{GivesWeight};
 ghost use Rattle.cts_model.specs.timing.Delays.{greatest_delay, least_delay};
 ghost use Rattle.cts_model.specs.netlist.Paths.{IsGate, IsPath};

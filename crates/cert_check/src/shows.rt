@@ -1,4 +1,4 @@
-ghost use Rattle.std.specs.Prelude.{◌≡◌, ◌<◌, ◌≤◌, ◌+◌, ◌*◌, ◌^◌, ◌↔◌, ◌+ℤ◌, IsTrue, IsSomeAnd, Some, length, slice_get};
+ghost use Rattle.std.specs.Prelude.{◌≡◌, ◌<◌, ◌≤◌, ◌+◌, ◌*◌, ◌^◌, ◌↔◌, ◌+ℤ◌, IsTrue, IsSomeAnd, length, slice_get};
 ghost use Rattle.cts_model.specs.placement.Points.{IsBelow, IsUvBelow, apart, rotated_distance};
 ghost use Rattle.cts_model.specs.tree.Regions.{span};
 ghost use Rattle.cts_model.specs.report.ReportBounds.{ShowsAmong};

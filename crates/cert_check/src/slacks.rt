@@ -1,4 +1,4 @@
-ghost use Rattle.std.specs.Prelude.{◌≡◌, ◌<◌, ◌↔◌, IsTrue, Some, length, slice_get};
+ghost use Rattle.std.specs.Prelude.{◌<◌, ◌↔◌, IsTrue, Some, length};
 ghost use Rattle.cert_check.specs.ComparedSlacks.{AreOneSlack, HasSlackRoom, IsFromZero};
 ghost use Rattle.cert_check.specs.JudgedReports.{HasSlacks, Meets, Spares};
 

@@ -1,12 +1,12 @@
 //! Whether words are plain: a command's name, after it options of that command with values, and
 //! then the delay tables that it takes.
 
-ghost use Rattle.std.specs.Prelude.{◌≡◌, ◌↔◌, ◌||◌, not, map, string_bytes, IsTrue, IfSome, IsNone};
+ghost use Rattle.std.specs.Prelude.{◌≡◌, ◌↔◌, ◌||◌, map, string_bytes, IsTrue, IfSome, IsNone};
 ghost use Rattle.std.specs.Char.{is_ascii_digit};
 ghost use Rattle.std.specs.List.{list_all};
 ghost use Rattle.cts_model.specs.timing.Schedules.{IsMarginPeriod};
 ghost use Rattle.command_line.specs.declared.command.Command.{Command};
-ghost use Rattle.command_line.specs.CommandTable.{is_required, word_of, takes_tables};
+ghost use Rattle.command_line.specs.CommandTable.{is_required, takes_tables};
 ghost use Rattle.command_line.specs.Commands.{is_file_name, is_number_within, is_period, is_value, is_taken, IsCommand, are_tables};
 ghost use Rattle.command_line.specs.PlainWords.{IsPlain, has_option, is_option, are_options, has_required, are_plain, before_tables, tables_among};
 

@@ -1,4 +1,4 @@
-ghost use Rattle.std.specs.Prelude.{◌≡◌, ◌<◌, ◌≤◌, ◌++◌, ℕ, ℤ, pos, ◌<ℤ◌, List, All, length, take, drop, slice_index, Some};
+ghost use Rattle.std.specs.Prelude.{◌≡◌, ◌<◌, ◌≤◌, ◌++◌, ℕ, ℤ, pos, ◌<ℤ◌, List, length, take, drop, slice_index, Some};
 ghost use Rattle.cts_model.specs.declared.constraint.Constraint.{Constraint};
 ghost use Rattle.cts_model.specs.timing.Constraints.{AreSmallConstraints};
 ghost use Rattle.cts_model.specs.timing.Cycles.{IsCycle};

@@ -1,7 +1,7 @@
 -- What the texts of a problem tell keeps to what a problem is: its delays serve its circuit, which
 -- has the host where the table gives it a place, and its registers have places that aren't far
 -- away.
-use Rattle.std.proofs.Common.{◌≡◌, ◌≢◌, ◌≤◌, ◌*◌, ◌^◌, ◌+◌, ◌==◌, ◌↔◌, inl, inr, lit<, ℕ, suc, ℤ, pos, negsuc, nat_abs, Bool, true, false, IsTrue, MatchBool, List, [], ◌∷◌, length, map, ◌++◌, cond, Option, Some, None, Result, Ok, Err, get_or, All, refl, sym, ap, ◌∙◌, subst, true≢false, arith}
+use Rattle.std.proofs.Common.{◌≡◌, ◌≢◌, ◌≤◌, ◌^◌, ◌+◌, ◌==◌, ◌↔◌, ℕ, ℤ, pos, negsuc, nat_abs, Bool, true, false, IsTrue, MatchBool, List, [], ◌∷◌, length, map, ◌++◌, cond, Option, Some, None, Result, Ok, Err, get_or, All, refl, sym, ap, ◌∙◌, subst, true≢false, arith}
 use Rattle.std.proofs.lemmas.Bool.Decides.{Decides-eqb}
 use Rattle.std.proofs.lemmas.Int.{ints}
 use Rattle.std.proofs.lemmas.List.{get_or_default, length-map}

@@ -1,5 +1,5 @@
 // Files in memory.
-ghost use Rattle.std.specs.Prelude.{◌≡◌, ◌≤◌, ◌<◌, ◌+◌, ◌^◌, ℕ, List, [], ◌++◌, length, take, drop, Option, Some, is_ok, is_err, not, IsOk, OnOk, OnErr, IfOk, IfErr, IsErrOf, IfSome, IfNone, None, position};
+ghost use Rattle.std.specs.Prelude.{◌≡◌, ◌≤◌, ◌<◌, ◌+◌, ◌^◌, ℕ, List, [], ◌++◌, length, take, drop, Option, Some, is_ok, is_err, OnOk, OnErr, IfOk, IfErr, IsErrOf, IfSome, IfNone, None, position};
 ghost use Rattle.std.specs.Str.{bytes_eq};
 ghost use Rattle.cts_io.specs.Device.{Rose, Takes};
 ghost use Rattle.cts_io.specs.Plan.{fresh_plan, fails_next};

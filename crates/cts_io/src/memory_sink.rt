@@ -1,5 +1,5 @@
 // A sink in memory.
-ghost use Rattle.std.specs.Prelude.{◌≡◌, ◌≤◌, ◌<◌, ◌+◌, ℕ, List, [], ◌++◌, length, take, drop, Option, Some, is_ok, is_err, not, IsOk, OnOk, OnErr, IfOk, IfErr, vec_len, vec_capacity};
+ghost use Rattle.std.specs.Prelude.{◌≡◌, ◌≤◌, ◌<◌, [], length, take, Some, is_err, IsOk, OnOk, OnErr, IfOk, vec_len, vec_capacity};
 ghost use Rattle.cts_io.specs.Device.{Rose, appended};
 ghost use Rattle.cts_io.specs.Plan.{fresh_plan};
 ghost use Rattle.cts_io.specs.MemorySink.{SinkState, is_refused, accepted, after_write};

@@ -1,5 +1,5 @@
 // Files in memory, and a sink, that never fail.
-ghost use Rattle.std.specs.Prelude.{◌≡◌, ◌≤◌, ◌<◌, ◌+◌, ℕ, List, [], ◌++◌, length, take, drop, Option, Some, Ok, IsOk, OnOk, OnErr, IfOk, IsErrOf};
+ghost use Rattle.std.specs.Prelude.{◌≡◌, ◌≤◌, ◌<◌, ◌+◌, ℕ, List, [], ◌++◌, length, take, drop, Some, Ok, IsOk, OnOk, OnErr, IfOk, IsErrOf};
 ghost use Rattle.cts_io.specs.Device.{Rose, Takes};
 ghost use Rattle.cts_io.specs.Host.{absent};
 ghost use Rattle.cts_io.specs.MemoryInputs.{bytes_at};

@@ -1,7 +1,7 @@
 //! Whole files and whole texts over devices that give and take pieces.
 
-ghost use Rattle.std.specs.Prelude.{◌≡◌, ◌≤◌, ◌<◌, ◌+◌, ◌-◌, ℕ, List, [], length, take, drop, Option, Some, IsOk, OnOk, OnErr, IfOk, IsErrOf};
-ghost use Rattle.cts_io.specs.Device.{Rose, appended, Takes, WritesPrefix};
+ghost use Rattle.std.specs.Prelude.{◌≡◌, ◌≤◌, ◌<◌, ◌+◌, ◌-◌, ℕ, List, [], length, take, drop, Some, OnOk, OnErr, IfOk, IsErrOf};
+ghost use Rattle.cts_io.specs.Device.{Rose, appended, WritesPrefix};
 ghost use Rattle.cts_io.specs.declared.whole.ReadWhole.TheVariants.{NoMemory};
 ghost use Rattle.cts_io.specs.Whole.{read_fault_of};
 

@@ -1,6 +1,6 @@
 -- What the command `embed` is left with: a topology that is refused, too many pairs, or a clock
 -- tree.
-use Rattle.std.proofs.Common.{ℕ, List, length, Option, Result, Ok, Err, IfOk, Bor, refl, sym, subst}
+use Rattle.std.proofs.Common.{ℕ, List, length, Option, Result, Ok, Err, IfOk, Bor, refl}
 use Rattle.cts_base.specs.LineFormats.{IsToldBy}
 use Rattle.cts_base.proofs.Told.{told_fault}
 use Rattle.cts_model.specs.declared.problem.Problem.{Problem}

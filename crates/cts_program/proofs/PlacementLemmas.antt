@@ -20,7 +20,7 @@ use Rattle.failure_lines.specs.declared.failure.Failure.TheVariants as failures
 use Rattle.failure_lines.specs.declared.file_kind.FileKind.TheVariants as kinds
 use Rattle.timing_text.specs.Endings.{ending_status}
 use Rattle.failure_lines.specs.declared.file_kind.FileKind.{FileKind}
-use Rattle.cts_program.specs.Files.{IsShortFile, circuit_files, problem_files, files_of, AreContents}
+use Rattle.cts_program.specs.Files.{circuit_files, problem_files, files_of, AreContents}
 use Rattle.cts_program.specs.Judged.{IsNetlistFile, IsTableFile, AreAccepted, IsFileRefusal, Tell, TellProblem}
 use Rattle.cts_program.specs.Run.{DenotesText, Stops}
 use Rattle.cts_program.specs.Steps.{IsReportedAs, ReadsPlaces, FailsPlaces, DenotesCircuit, ReadsProblem, DenotesProblem}

@@ -9,7 +9,6 @@ ghost use Rattle.cts_model.specs.netlist.Paths.{IsLoop};
 ghost use Rattle.cts_model.specs.text.PrintedLines.{constraint_line, line_of, text_of};
 ghost use Rattle.cts_model.specs.report.ReportBounds.{IsBetweenRegisters};
 ghost use Rattle.corners.specs.CornerCycles.{IsCommonShow};
-ghost use Rattle.corners.specs.CornerLists.{constraint_at};
 ghost use Rattle.corners.specs.CornerOutcomes.{HasSmallCommonTimes, IsCornersOutcome};
 ghost use Rattle.timing_text.specs.Endings.{ending_status};
 ghost use Rattle.cts_program.specs.CornerTexts.{numbered_line, numbered_line_at, numbered_lines, common_show_lines, corners_lines, corners_status, IsCornersText};

@@ -1,13 +1,10 @@
 //! The command `moves`: how long the clock tree is, and how long after each move of a register.
 
-ghost use Rattle.std.specs.Prelude.{◌≡◌, ◌<◌, ◌^◌, All, IfOk, IfErr, OnOk, length};
+ghost use Rattle.std.specs.Prelude.{◌<◌, ◌^◌, All, IfOk, IfErr, OnOk, length};
 ghost use Rattle.cts_model.specs.declared.problem.Problem.{Problem};
 ghost use Rattle.cts_model.specs.timing.PairLists.{JoinsMoreThan};
-ghost use Rattle.cts_model.specs.placement.Points.{IsPointBelow};
-ghost use Rattle.cts_model.specs.text.PrintedLines.{line_of};
 ghost use Rattle.cts_model.specs.table.Tables.{IsWithin};
 ghost use Rattle.cts_engine.specs.SessionOutcomes.{IsGrid, IsSessionOf};
-ghost use Rattle.report_text.specs.WireLines.{wire_line};
 ghost use Rattle.timing_text.specs.Endings.{ending_status};
 ghost use Rattle.cts_program.specs.MoveTexts.{AppendsWire, IsMovesText, IsNearMove, IsWiresText};
 ghost use Rattle.cts_program.specs.Steps.{FailsCircuit};

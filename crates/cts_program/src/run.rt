@@ -1,5 +1,5 @@
 ghost use Rattle.std.specs.Prelude.{◌≡◌, ◌≢◌, ◌⊎◌, ◌↔◌, ◌<◌, ℕ, List, map, true, Some, string_bytes, IfOk, IfErr, IsErrOf};
-ghost use Rattle.cts_io.specs.Device.{Rose, appended};
+ghost use Rattle.cts_io.specs.Device.{Rose};
 ghost use Rattle.command_line.specs.declared.command.Command.{Command};
 ghost use Rattle.failure_lines.specs.declared.failure.Failure.{Failure};
 ghost use Rattle.failure_lines.specs.declared.file_kind.FileKind.{FileKind};

@@ -1,6 +1,6 @@
 //! The lines of the netlist.
 
-ghost use Rattle.std.specs.Prelude.{◌≡◌, ◌≤◌, ◌<◌, ◌++◌, ◌∷◌, [], length, IfOk, OnOk, codes};
+ghost use Rattle.std.specs.Prelude.{◌≡◌, ◌≤◌, ◌<◌, ◌++◌, length, IfOk, OnOk};
 ghost use Rattle.demo_input.specs.Lines.{ended, lines_below, text_of};
 ghost use Rattle.demo_input.specs.NetlistLines.{buffer_line, first_gate_line, mixing_line, netlist_text, register_line, second_gate_line};
 

@@ -1,4 +1,4 @@
-ghost use Rattle.std.specs.Prelude.{◌≡◌, ◌≤◌, ◌<◌, ◌+◌, ◌*◌, ◌-◌, ◌^◌, ◌⊎◌, ℕ, List, length, IfOk, IsSomeAnd, slice_get, Some};
+ghost use Rattle.std.specs.Prelude.{◌≡◌, ◌≤◌, ◌<◌, ◌+◌, ◌*◌, ◌-◌, ◌^◌, ℕ, List, length, IfOk, IsSomeAnd, slice_get, Some};
 
 use crate::end::End;
 use crate::ends::Ends;
@@ -45,7 +45,7 @@ impl Work {
     ghost use Rattle.cts_model.specs.declared.place.Point.{Point};
     ghost use Rattle.cts_model.specs.declared.place.Sink.{Sink};
     ghost use Rattle.cts_model.specs.declared.tree.Merge.{Merge};
-    ghost use Rattle.cts_model.specs.placement.Points.{IsUvBelow, IsUvMultipleOf, rotated};
+    ghost use Rattle.cts_model.specs.placement.Points.{IsUvBelow, IsUvMultipleOf};
     ghost use Rattle.cts_model.specs.tree.Sinks.{AreTreeSinks, IsTreeSink};
     ghost use Rattle.cts_model.specs.tree.Topologies.{IsTopology, numbers_below};
     ghost use Rattle.tilted_rect.specs.Rects.{Holds};

@@ -2,7 +2,7 @@ ghost use Rattle.std.specs.Prelude.{◌≡◌, ◌<◌, length, Contains, IfOk};
 ghost use Rattle.cts_model.specs.declared.circuit.Circuit.{Circuit};
 ghost use Rattle.cts_model.specs.declared.tech.Tech.{Tech};
 ghost use Rattle.gate_order.specs.LevelParts.{IsLevelsOf};
-ghost use Rattle.path_delays.specs.WalkParts.{IsRoomFor, ReachesEach, sums_to};
+ghost use Rattle.path_delays.specs.WalkParts.{ReachesEach, sums_to};
 ghost use Rattle.path_delays.specs.Captured.{AreCapturedBy};
 ghost use Rattle.path_delays.specs.Carrying.{AreExtremesIfAny, StandsAt};
 ghost use Rattle.path_delays.specs.SumParts.{either_sums};

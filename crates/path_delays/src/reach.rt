@@ -1,4 +1,4 @@
-ghost use Rattle.std.specs.Prelude.{◌≡◌, ◌<◌, ◌≤◌, ◌*◌, ◌^◌, ℕ, Some, IfOk, IsSome, length, slice_index};
+ghost use Rattle.std.specs.Prelude.{◌≡◌, ◌<◌, ◌*◌, ◌^◌, Some, IfOk, IsSome, length};
 
 use crate::lanes::Lanes;
 use crate::network::Network;
@@ -22,7 +22,7 @@ impl Reach {
     ghost use Rattle.path_delays.specs.declared.lanes.Lanes.{Lanes};
     ghost use Rattle.path_delays.specs.SumParts.{AreWithin, delay_limit};
     ghost use Rattle.path_delays.specs.LaneParts.{AllBounded};
-    ghost use Rattle.path_delays.specs.Handing.{AreHanded, HasReachRoom, IsCleared, IsHanded, IsHandedOn, IsMarked, IsSameRoom, IsStarted, delay_at, lanes_at, sums_at};
+    ghost use Rattle.path_delays.specs.Handing.{HasReachRoom, IsCleared, IsHanded, IsHandedOn, IsMarked, IsSameRoom, IsStarted, lanes_at, sums_at};
 
     /// Nothing reached yet, with room for so many signals and gates.
     pub(crate) fn new(alloc: Global, signals: u32, gates: u32) -> Result<Reach, NoMemory>

@@ -1,4 +1,4 @@
-ghost use Rattle.std.specs.Prelude.{◌≡◌, ◌<◌, ◌≤◌, ◌+◌, ◌*◌, ◌^◌, ℕ, All, Contains, IfOk, IsTrue, Some, length, nat_abs, slice_get, slice_set};
+ghost use Rattle.std.specs.Prelude.{◌≡◌, ◌<◌, ◌+◌, ◌*◌, ◌^◌, ℕ, All, Contains, IfOk, IsTrue, Some, length, nat_abs, slice_set};
 ghost use Rattle.std.specs.Option.{option_map};
 ghost use Rattle.cts_model.specs.netlist.Kinds.{is_gate, is_valid};
 ghost use Rattle.cts_model.specs.table.Tables.{IsWithin};

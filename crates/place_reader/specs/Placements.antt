@@ -1,6 +1,6 @@
 -- Placements in the Bookshelf format (.pl), and what each tells of a circuit: where its registers,
 -- its source and its host stand, in millionths, or why the text is refused.
-use Rattle.std.specs.Prelude.{◌≡◌, ℕ, ◌+◌, Bool, List, [], ◌∷◌, ◌++◌, length, map, Option, Some, None, Result, Ok, Err, if◌then◌else◌, slice_get, ℤ}
+use Rattle.std.specs.Prelude.{◌≡◌, ℕ, ◌+◌, Bool, List, [], ◌∷◌, ◌++◌, length, map, Option, Some, None, Result, Ok, Err, if◌then◌else◌, slice_get}
 use Rattle.std.specs.Option.{option_map, option_map_or, option_to_list}
 use Rattle.std.specs.Result.{result_map_both, result_ok}
 use Rattle.std.specs.List.{list_any}
@@ -15,7 +15,7 @@ use Rattle.cts_model.specs.declared.place.Point.{Point}
 use Rattle.cts_model.specs.declared.place.Places.{Places}
 use Rattle.cts_model.specs.netlist.Kinds.{is_host}
 use Rattle.cts_model.specs.placement.Coordinates.{point_of}
-use Rattle.cts_model.specs.placement.PlaceLines.{Node, Entry, Blank, Header, Stands, entry_after}
+use Rattle.cts_model.specs.placement.PlaceLines.{Entry, Blank, Header, Stands, entry_after}
 use Rattle.place_reader.specs.declared.fault.PlaceFault.{PlaceFault}
 use Rattle.place_reader.specs.declared.fault.PlaceFault.TheVariants.{BadLine, BadNumber, PlaceTwice, NoPlace, NoSource}
 

@@ -1,4 +1,4 @@
-ghost use Rattle.std.specs.Prelude.{◌≡◌, ℕ, List, [], None, OnOk, IfOk, IfErr};
+ghost use Rattle.std.specs.Prelude.{◌≡◌, [], OnOk, IfOk, IfErr};
 ghost use Rattle.cts_base.specs.LineFormats.{IsFaultOf};
 ghost use Rattle.place_reader.specs.Names.{AreSameNames};
 ghost use Rattle.place_reader.specs.Placements.{entry_fault, fault_of, is_among, wanted_nodes};

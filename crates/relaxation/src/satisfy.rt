@@ -1,4 +1,4 @@
-ghost use Rattle.std.specs.Prelude.{◌^◌, ℕ, All, length};
+ghost use Rattle.std.specs.Prelude.{◌^◌, All, length};
 ghost use Rattle.cts_model.specs.placement.Points.{IsBelow};
 ghost use Rattle.cts_model.specs.timing.Constraints.{AreSmallConstraints};
 

@@ -44,7 +44,7 @@ impl<'a> Model for Scan<'a> {
 }
 
 impl<'a> Scan<'a> {
-    ghost use Rattle.std.specs.Prelude.{◌<◌, ◌≤◌, ◌^◌, [], ◌∷◌, IfErr, None, length, map, get_or, pos, ◌≤ℤ◌, codes, nat_abs, if◌then◌else◌};
+    ghost use Rattle.std.specs.Prelude.{◌<◌, ◌≤◌, ◌^◌, [], ◌∷◌, IfErr, None, length, map, get_or, pos, codes, if◌then◌else◌};
     ghost use Rattle.std.specs.Fmt.{signed_decimal};
     ghost use Rattle.cts_base.specs.Fractions.{fraction_text, quotient_text};
     ghost use Rattle.cts_model.specs.declared.circuit.Circuit as model;

@@ -2,7 +2,7 @@
 
 ghost use Rattle.std.specs.Prelude.{◌≡◌, ◌<◌, ◌≤ℤ◌, ◌^◌, ℤ, pos, ◌++◌, ◌∷◌, [], length, map, codes, All, OnOk};
 ghost use Rattle.cts_model.specs.declared.report.Version.TheVariants.{Second};
-ghost use Rattle.cts_base.specs.Fractions.{HasSizeBelow, quotient_text};
+ghost use Rattle.cts_base.specs.Fractions.{HasSizeBelow};
 ghost use Rattle.cts_model.specs.text.PrintedLines.{line_of, text_of, count_line, register_line, slack_text};
 ghost use Rattle.cts_model.specs.report.ReportBounds.{HasTimingBounds, IsBetweenRegisters, ShowsPeriodAmong, LeadsAmong, cycle_length};
 ghost use Rattle.cts_model.specs.report.ReportLines.{version_line, path_line, pathed_lines, period_show_lines, register_line_at, lead_line, lines_below, timing_lines, signal_name};

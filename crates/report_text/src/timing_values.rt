@@ -1,7 +1,6 @@
 //! What the lines of a report's timing say.
 
-ghost use Rattle.std.specs.Prelude.{◌≡◌, ◌<◌, ◌++◌, [], ◌∷◌, IfOk, All, length, map, replicate};
-ghost use Rattle.cts_model.specs.netlist.Paths.{register_name};
+ghost use Rattle.std.specs.Prelude.{◌≡◌, ◌<◌, IfOk, All, length, map, replicate};
 ghost use Rattle.cts_model.specs.report.ReportBounds.{IsBetweenRegisters, HasSmallWeight};
 ghost use Rattle.cts_model.specs.report.ReportLines.{signal_name};
 ghost use Rattle.cts_model.specs.text.PrintedLines.{line_for};

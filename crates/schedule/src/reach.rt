@@ -1,4 +1,4 @@
-ghost use Rattle.std.specs.Prelude.{◌≡◌, ◌<◌, ◌≤◌, ◌+◌, List, IfOk, OnOk, length, slice_index_or};
+ghost use Rattle.std.specs.Prelude.{◌<◌, ◌≤◌, ◌+◌, List, IfOk, OnOk, length, slice_index_or};
 ghost use Rattle.cts_base.specs.declared.fraction.Fraction.{Fraction};
 ghost use Rattle.cts_model.specs.declared.constraint.Constraint.{Constraint};
 ghost use Rattle.relaxation.specs.Tails.{AreByTail};

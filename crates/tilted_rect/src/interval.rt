@@ -1,5 +1,5 @@
-ghost use Rattle.std.specs.Prelude.{◌≡◌, ◌*◌, pos, ◌≤ℤ◌, ◌<ℤ◌};
-ghost use Rattle.tilted_rect.specs.Corners.{IsSide, bound};
+ghost use Rattle.std.specs.Prelude.{◌≡◌, ◌≤ℤ◌};
+ghost use Rattle.tilted_rect.specs.Corners.{IsSide};
 ghost use Rattle.tilted_rect.specs.Intervals.{between};
 
 /// How far two intervals are apart, 0 where they meet.

@@ -1,4 +1,4 @@
-ghost use Rattle.std.specs.Prelude.{◌≡◌, ◌≤◌, ◌<◌, ◌+◌, ◌*◌, ◌==◌, List, ℕ, [], ◌∷◌, ◌++◌, length, IsTrue, ◌↔◌, OnOk, IfOk, MatchOption, Some, None, vec_len, if◌then◌else◌};
+ghost use Rattle.std.specs.Prelude.{◌≡◌, ◌≤◌, ◌<◌, ◌+◌, ◌*◌, ◌==◌, [], length, IsTrue, ◌↔◌, OnOk, IfOk, MatchOption, Some, None, vec_len, if◌then◌else◌};
 
 use crate::TopologyFault;
 use crate::entry::{merge_of, words_in};

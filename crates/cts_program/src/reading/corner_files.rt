@@ -1,10 +1,8 @@
 //! What the files of several corners tell: a circuit, and the delays of each corner.
 
-ghost use Rattle.std.specs.Prelude.{◌≡◌, ◌≢◌, ◌≤◌, ◌<◌, ◌+◌, ℕ, IsTrue, List, length, map, string_bytes, slice_index_or, IfOk, IfErr};
-ghost use Rattle.cts_model.specs.netlist.Hosts.{HasNoHost};
+ghost use Rattle.std.specs.Prelude.{◌≡◌, ◌≤◌, ◌<◌, ◌+◌, ℕ, IsTrue, List, length, map, string_bytes, IfOk, IfErr};
 ghost use Rattle.cts_model.specs.netlist.Paths.{IsLoop};
 ghost use Rattle.command_line.specs.declared.command.Command.TheVariants as commands;
-ghost use Rattle.cts_program.specs.CornerFiles.{is_hostless};
 ghost use Rattle.cts_program.specs.Files.{files_of};
 ghost use Rattle.cts_program.specs.Run.{Stops};
 ghost use Rattle.cts_program.specs.Steps.{ReadsTable, ReadsCorners, DiffersFromFirst, FailsCorner, FailsCorners, DenotesCorners, IsAnyReadFault};
