@@ -1,5 +1,5 @@
 -- The parser for the options of a command, as `clap` describes one.
-use Rattle.std.specs.Prelude.{take, Some, fold, codes}
+use Rattle.std.specs.Prelude.{drop, take, Some, fold, if◌then◌else◌, codes}
 use Rattle.std.specs.Str.{bytes_eq}
 use Rattle.clap.specs.Words.{App, Rule, new_app, new_rule, with_rule}
 use Rattle.clap.specs.declared.builder.action.ArgAction.TheVariants.{Set}

@@ -25,3 +25,4 @@ mod BetweenLemmas
 mod CyclePathLemmas
 pub mod WindowLemmas
 mod SweepLemmas
+mod ColumnLemmas

@@ -8,6 +8,7 @@ pub mod Walking
 pub mod WalkParts
 pub mod Captured
 pub mod Capturings
+pub mod Columns
 pub mod Carrying
 pub mod JoinedPairs
 pub mod ExtremePaths

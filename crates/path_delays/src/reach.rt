@@ -1,4 +1,4 @@
-ghost use Rattle.std.specs.Prelude.{◌≡◌, ◌<◌, ◌*◌, ◌^◌, Some, IfOk, IsSome, length};
+ghost use Rattle.std.specs.Prelude.{ℕ, ◌≡◌, ◌<◌, ◌*◌, ◌^◌, Some, IfOk, IsSome, length};
 
 use crate::lanes::Lanes;
 use crate::network::Network;
@@ -20,8 +20,8 @@ pub(crate) struct Reach {
 
 impl Reach {
     ghost use Rattle.path_delays.specs.declared.lanes.Lanes.{Lanes};
-    ghost use Rattle.path_delays.specs.SumParts.{AreWithin, delay_limit};
-    ghost use Rattle.path_delays.specs.LaneParts.{AllBounded};
+    ghost use Rattle.path_delays.specs.SumParts.{AreWithin, delay_limit, some_sums};
+    ghost use Rattle.path_delays.specs.LaneParts.{AllBounded, lane_of};
     ghost use Rattle.path_delays.specs.Handing.{HasReachRoom, IsCleared, IsHanded, IsHandedOn, IsMarked, IsSameRoom, IsStarted, lanes_at, sums_at};
 
     /// Nothing reached yet, with room for so many signals and gates.
@@ -58,6 +58,20 @@ impl Reach {
             return None;
         }
         self.lanes.get(signal as usize)?.sums[lane].some()
+    }
+
+    /// The sums to a signal in each lane, or none where it isn't reached.
+    pub(crate) fn lanes_at(&self, signal: u32) -> Lanes
+        ensures { (lane : ℕ) → lane < 8
+            → some_sums (lane_of result lane) ≡ sums_at self.now lane signal }
+    {
+        if !self.reached.contains(signal) {
+            return Lanes::none();
+        }
+        match self.lanes.get(signal as usize) {
+            Some(lanes) => *lanes,
+            None => Lanes::none(),
+        }
     }
 
     /// Reaches a signal in a lane, and hands its sums to its readers.
@@ -98,15 +112,15 @@ impl Reach {
         requires given { AllBounded delay_limit given.now }
         ensures { IsHanded network.now given.now gate self.old self.new }
     {
-        let mut sums = *given;
-        sums.pass(network.delays[gate as usize]);
+        let delay = network.delays[gate as usize];
         if self.reached.contains(gate) {
-            self.lanes[gate as usize].merge(&sums);
-        } else {
-            self.reached.insert(gate);
-            self.lanes[gate as usize] = sums;
-            self.waiting.insert(network.ranks[gate as usize]);
+            self.lanes[gate as usize].merge_through(given, delay);
+            return;
         }
+        self.reached.insert(gate);
+        self.lanes[gate as usize] = *given;
+        self.lanes[gate as usize].pass(delay);
+        self.waiting.insert(network.ranks[gate as usize]);
     }
 
     // Reaches a signal in a lane.

@@ -1,6 +1,6 @@
-ghost use Rattle.std.specs.Prelude.{◌≡◌, ◌<◌, ◌≤◌, ◌+◌, All, IfOk, length};
+ghost use Rattle.std.specs.Prelude.{◌≡◌, ◌<◌, ◌≤◌, ◌+◌, ℕ, All, IfOk, length};
 
-use crate::lanes::LANES;
+use crate::lanes::{LANES, Lanes};
 use crate::launching::{launched, start_sums};
 use crate::network::Network;
 use crate::number_set::NumberSet;
@@ -20,7 +20,9 @@ pub(crate) struct Walk {
 
 impl Walk {
     ghost use Rattle.gate_order.specs.LevelParts.{IsLevelsOf};
+    ghost use Rattle.path_delays.specs.LaneParts.{lane_of};
     ghost use Rattle.path_delays.specs.NumberSets.{IsCommon};
+    ghost use Rattle.path_delays.specs.SumParts.{some_sums};
     ghost use Rattle.path_delays.specs.WalkParts.{HaveReach, HaveReachBetween, IsRoomFor, sums_to};
 
     /// Room for walks over a circuit.
@@ -81,6 +83,14 @@ impl Walk {
             reached.new.words.items }
     {
         reached.become_common(signals, &self.reach.reached);
+    }
+
+    /// The sums to a signal from the register in each lane.
+    pub(crate) fn lanes(&self, signal: u32) -> Lanes
+        ensures { (lane : ℕ) → lane < 8
+            → some_sums (lane_of result lane) ≡ sums_to self.now lane signal }
+    {
+        self.reach.lanes_at(signal)
     }
 
     /// The sums to a signal from the register in a lane, `None` where that doesn't reach it.

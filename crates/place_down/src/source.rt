@@ -9,7 +9,7 @@ use cts_model::{Point, Show, Sink, Uv, manhattan};
 use tilted_rect::to_point;
 
 /// How far the source reaches, and what shows it.
-#[derive(Clone, Copy, Debug, PartialEq, Eq)]
+#[derive(Clone, Copy, PartialEq, Eq)]
 pub(crate) struct Top {
     /// In grid steps.
     pub reach: i128,

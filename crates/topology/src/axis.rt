@@ -11,7 +11,7 @@ use tilted_rect::Cluster;
 const SEARCHES: usize = 8;
 
 /// What clusters may stand in order by: merging two costs no less than they are apart on any axis.
-#[derive(Clone, Copy, Debug, PartialEq, Eq)]
+#[derive(Clone, Copy, PartialEq, Eq)]
 pub(crate) enum Axis {
     /// The rotated coordinate `u` of the region.
     U,

@@ -4,7 +4,7 @@ ghost use Rattle.topology.specs.Pairs.{ComesFirst, IsBefore, IsCheaperOf, merge_
 use cts_model::Merge;
 
 /// Two clusters that may be merged next, in the order in which pairs are to be merged.
-#[derive(Clone, Copy, Debug, PartialEq, Eq, PartialOrd, Ord)]
+#[derive(Clone, Copy, PartialEq, Eq, PartialOrd, Ord)]
 pub(crate) struct Pair {
     /// What the wire of the tree grows by.
     pub(crate) cost: i128,

@@ -17,7 +17,7 @@ use failure_lines::{Failure, FileKind, corner_failure};
 use std::alloc::Global;
 
 /// A circuit, and the delays of each corner.
-#[derive(Debug, Drop)]
+#[derive(Drop)]
 pub struct Corners {
     pub circuit: Circuit,
     pub techs: Listed<Tech>,
