@@ -1,6 +1,7 @@
 #!/usr/bin/env python3
 """Follows each definition that the promises below and the clauses of `run` rest on, from file to file, and fails where no row of
-docs/DEFINITIONS.md names one with its file, or where a row names one that its files don't have."""
+docs/DEFINITIONS.md names one with its file, where a row names one that its files don't have, and where a part of them is larger than
+the page says at its head."""
 import argparse
 import glob
 import os
@@ -16,6 +17,16 @@ PROMISES = [
     ("cts_program", "CornerTexts", "IsCornersText"),
 ]
 RUN = "crates/cts_program/src/run.rt"
+# What the headline says of the chip: its period, its arrivals, its skews and its wire.
+CORE = [
+    ("cts_model", "timing.LeastPeriods", "IsLeastFraction"),
+    ("cts_model", "timing.Schedules", "IsLeastSchedule"),
+    ("cts_model", "tree.RealisedSchedules", "RealisesSchedule"),
+    ("cts_model", "tree.WireDelays", "MeetsByWire"),
+    ("cts_model", "tree.SkewLaws", "IsLeastForSchedule"),
+    ("cts_model", "tree.Embeddings", "total_wire"),
+    ("cts_engine", "Syntheses", "AreDrawn"),
+]
 HEAD = re.compile(r"(?:abbrev|unfoldable)? ?pub (?:record |data )?([^\s({:]+)")
 NAME = re.compile(r"[A-Za-z_][\w'-]*(?:\.[A-Za-z_][\w'-]*)?")
 USE = re.compile(r"(?:pub |ghost )?use Rattle\.(\w+)\.(?:specs|proofs)\.([\w.]+?)(?:\.\{(.*)\}| as (\w+));?$")
@@ -115,6 +126,27 @@ def rows_of(page):
             yield re.findall(r"`([^`]+)`", cells[0]), paths
 
 
+def sizes_told(page):
+    """How many definitions and lines each part has at most, as the table at the head of the page says."""
+    rows = re.findall(r"^\| (core|headline|run) \|.*?\| ([\d,]+) \| ([\d,]+) \|$", page, re.MULTILINE)
+    return {name: tuple(int(number.replace(",", "")) for number in numbers) for name, *numbers in rows}
+
+
+def size_of(texts, definitions):
+    """How many definitions these are, and how many lines they have without comments."""
+    lines = [line.strip() for definition in definitions for line in texts[definition].splitlines()]
+    return len(definitions), sum(1 for line in lines if line and not line.startswith("--"))
+
+
+def larger_parts(texts, imports, start, page):
+    """Each part that is larger than the page says, or that it doesn't name."""
+    told = sizes_told(page)
+    for name, begin in (("core", CORE), ("headline", PROMISES[:1]), ("run", start)):
+        found = size_of(texts, followed(texts, imports, begin))
+        if name not in told or any(here > most for here, most in zip(found, told[name])):
+            yield f"docs/DEFINITIONS.md says {told.get(name)} definitions and lines of {name}, which has {found}"
+
+
 def main():
     parser = argparse.ArgumentParser(description=__doc__)
     parser.add_argument("--of", nargs=3, metavar=("CRATE", "FILE", "NAME"), help="begin at this definition alone")
@@ -122,8 +154,11 @@ def main():
     texts, imports = read_specs()
     start = [tuple(other)] if other else PROMISES + sorted(clauses_of_run(texts, imports))
     passed = followed(texts, imports, start)
-    named, failed = set(), 0
-    for names, places in rows_of(text_of("docs/DEFINITIONS.md")):
+    page = text_of("docs/DEFINITIONS.md")
+    larger = [] if other else list(larger_parts(texts, imports, start, page))
+    print(*larger, sep="\n", end="\n" if larger else "")
+    named, failed = set(), len(larger)
+    for names, places in rows_of(page):
         for name in names:
             there = {(*place, name) for place in places} & texts.keys()
             named |= there
