@@ -1,5 +1,5 @@
 -- What walks found, by registers and lanes.
-use Rattle.std.proofs.Common.{◌≡◌, ◌≢◌, ◌<◌, ◌+◌, ◌++◌, ◌∷◌, [], ℕ, List, Option, length, Contains, get_or, inl, inr, sym, subst, arith}
+use Rattle.std.proofs.Common.{◌≡◌, ◌≢◌, ◌<◌, ◌≤◌, ◌+◌, ◌++◌, ◌∷◌, [], ℕ, List, Option, Some, None, refl, length, Contains, get_or, inl, inr, sym, subst, arith}
 use Rattle.std.proofs.lemmas.Bool.{cases_lt}
 use Rattle.std.proofs.lemmas.List.{get_or_append_left, get_or_push, length_push}
 use Rattle.cts_model.specs.declared.circuit.Circuit.{Circuit}
@@ -13,8 +13,25 @@ use Rattle.path_delays.specs.Carrying.{AreExtremesIfAny, StandsAt}
 use Rattle.path_delays.specs.Columns.{AreColumns, AreFoundFrom, IsColumn}
 use Rattle.path_delays.specs.JoinedPairs.{IsJoinedBy}
 use Rattle.path_delays.specs.LaneParts.{lane_of}
-use Rattle.path_delays.specs.SumParts.{some_sums}
+use Rattle.path_delays.specs.SumParts.{either_sums, some_sums}
+use Rattle.path_delays.proofs.CarryLemmas.{extremes_next}
 use Rattle.path_delays.specs.WalkParts.{ReachesEach, sums_to}
+
+-- what comes where nothing was known
+either_none : (found : Option Sums) → either_sums None found ≡ found
+either_none None = refl
+either_none (Some sums) = refl
+
+-- the least and the greatest at one signal
+pub extremes_alone : (at : ℕ → Option Sums) (signals : List ℕ) → 1 ≤ length signals
+    → length signals < 2 → AreExtremesIfAny (StandsAt at (Contains signals))
+    (at (get_or signals 0 0))
+extremes_alone at [] some few = absurd (omega (arith, some))
+extremes_alone at (signal ∷ []) some few =
+    subst (AreExtremesIfAny (StandsAt at (Contains (signal ∷ [])))) (either_none (at signal))
+    (extremes_next at [] signal None
+    (λ one (other, (place, within, here), stands). absurd (omega arith)))
+extremes_alone at (signal ∷ other ∷ more) some few = absurd (omega (arith, few))
 
 -- some lanes, for where there are none
 no_lanes : Lanes

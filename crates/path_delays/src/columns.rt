@@ -1,4 +1,4 @@
-ghost use Rattle.std.specs.Prelude.{◌≡◌, ◌<◌, ◌≤ℤ◌, pos, All, IfSome, OnOk, length, slice_index_or};
+ghost use Rattle.std.specs.Prelude.{◌≡◌, ◌<◌, ◌≤ℤ◌, ◌++◌, ◌∷◌, [], pos, All, IfSome, OnOk, length, slice_index_or};
 ghost use Rattle.path_delays.specs.declared.lanes.Lanes.{Lanes};
 ghost use Rattle.path_delays.specs.Columns.{AreColumns, AreFoundAt};
 ghost use Rattle.path_delays.specs.LaneParts.{lane_of};
@@ -28,8 +28,23 @@ pub(crate) fn list_columns(
             .register_signal(*register as usize)
             .fan_in
             .as_slice();
-        columns.push(captured_lanes(walk, captured))?;
+        push_column(columns, walk, captured)?;
     }
+    Ok(())
+}
+
+// Puts what a walk found at some signals last. One signal that is reached has it in its lanes.
+fn push_column(columns: &mut Vec<Lanes>, walk: &Walk, signals: &[u32]) -> Result<(), NoMemory>
+    ensures { OnOk result ((lanes : Lanes) × AreFoundAt walk.now signals.now lanes
+        × (columns.new.items ≡ columns.old.items ++ lanes ∷ [])) }
+{
+    if let [signal] = signals {
+        if let Some(lanes) = walk.lanes(*signal) {
+            columns.push(*lanes)?;
+            return Ok(());
+        }
+    }
+    columns.push(captured_lanes(walk, signals))?;
     Ok(())
 }
 
@@ -37,9 +52,6 @@ pub(crate) fn list_columns(
 fn captured_lanes(walk: &Walk, signals: &[u32]) -> Lanes
     ensures { AreFoundAt walk.now signals.now result }
 {
-    if let [signal] = signals {
-        return walk.lanes(*signal);
-    }
     let mut lanes = Lanes::none();
     for lane in 0..LANES {
         lanes.put(lane, sums_or_none(captured_sums(walk, lane, signals)));

@@ -1,4 +1,5 @@
-ghost use Rattle.std.specs.Prelude.{ℕ, ◌≡◌, ◌<◌, ◌*◌, ◌^◌, Some, IfOk, IsSome, length};
+ghost use Rattle.std.specs.Prelude.{◌≡◌, ◌<◌, ◌*◌, ◌^◌, Some, IfOk, IsSome, length};
+ghost use Rattle.std.specs.Option.{option_map};
 
 use crate::lanes::Lanes;
 use crate::network::Network;
@@ -20,8 +21,8 @@ pub(crate) struct Reach {
 
 impl Reach {
     ghost use Rattle.path_delays.specs.declared.lanes.Lanes.{Lanes};
-    ghost use Rattle.path_delays.specs.SumParts.{AreWithin, delay_limit, some_sums};
-    ghost use Rattle.path_delays.specs.LaneParts.{AllBounded, lane_of};
+    ghost use Rattle.path_delays.specs.SumParts.{AreWithin, delay_limit};
+    ghost use Rattle.path_delays.specs.LaneParts.{AllBounded};
     ghost use Rattle.path_delays.specs.Handing.{HasReachRoom, IsCleared, IsHanded, IsHandedOn, IsMarked, IsSameRoom, IsStarted, lanes_at, sums_at};
 
     /// Nothing reached yet, with room for so many signals and gates.
@@ -60,18 +61,14 @@ impl Reach {
         self.lanes.get(signal as usize)?.sums[lane].some()
     }
 
-    /// The sums to a signal in each lane, or none where it isn't reached.
-    pub(crate) fn lanes_at(&self, signal: u32) -> Lanes
-        ensures { (lane : ℕ) → lane < 8
-            → some_sums (lane_of result lane) ≡ sums_at self.now lane signal }
+    /// What stands in the lanes at a signal, if it is reached.
+    pub(crate) fn lanes_at(&self, signal: u32) -> Option<&Lanes>
+        ensures { option_map (λ lanes. lanes.now) result ≡ lanes_at self.now signal }
     {
         if !self.reached.contains(signal) {
-            return Lanes::none();
+            return None;
         }
-        match self.lanes.get(signal as usize) {
-            Some(lanes) => *lanes,
-            None => Lanes::none(),
-        }
+        self.lanes.get(signal as usize)
     }
 
     /// Reaches a signal in a lane, and hands its sums to its readers.

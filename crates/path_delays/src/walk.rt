@@ -1,4 +1,4 @@
-ghost use Rattle.std.specs.Prelude.{◌≡◌, ◌<◌, ◌≤◌, ◌+◌, ℕ, All, IfOk, length};
+ghost use Rattle.std.specs.Prelude.{◌≡◌, ◌<◌, ◌≤◌, ◌+◌, ℕ, All, IfOk, IfSome, length};
 
 use crate::lanes::{LANES, Lanes};
 use crate::launching::{launched, start_sums};
@@ -85,10 +85,10 @@ impl Walk {
         reached.become_common(signals, &self.reach.reached);
     }
 
-    /// The sums to a signal from the register in each lane.
-    pub(crate) fn lanes(&self, signal: u32) -> Lanes
-        ensures { (lane : ℕ) → lane < 8
-            → some_sums (lane_of result lane) ≡ sums_to self.now lane signal }
+    /// The sums to a signal from the register in each lane, if some lane reaches it.
+    pub(crate) fn lanes(&self, signal: u32) -> Option<&Lanes>
+        ensures { IfSome result (λ lanes. (lane : ℕ)
+            → some_sums (lane_of lanes.now lane) ≡ sums_to self.now lane signal) }
     {
         self.reach.lanes_at(signal)
     }

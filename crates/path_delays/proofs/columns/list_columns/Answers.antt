@@ -10,10 +10,11 @@ loop-register-preserved c =
     let registers = c.args.registers.now in
     let count = c.loop-register.register-index in
     let signal = c.register_signal.result.now in
-    rw c.in_ok-push.ensures.items (column_more circuit c.args.walk.now registers count
-    c.loop-register.columns.items c.captured_lanes.result c.loop-register.invariant (record {
+    let (lanes, found, pushed) = c.in_ok-push_column.ensures in
+    rw pushed (column_more circuit c.args.walk.now registers count c.loop-register.columns.items
+    lanes c.loop-register.invariant (record {
       captured = signal.fan_in;
       exact = captured_is_fan_in circuit (get_or registers count 0) signal
           c.register_signal.ensures;
-      found = rw c.as_slice-captured.ensures at c.captured_lanes.ensures;
+      found = rw c.as_slice-captured.ensures at found;
     }))

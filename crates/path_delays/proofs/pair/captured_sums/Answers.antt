@@ -1,5 +1,5 @@
 -- One signal more, and all of them.
-use Rattle.std.proofs.Common.{◌≡◌, ◌<◌, ◌≤◌, ◌≤ℤ◌, ◌∷◌, [], ℕ, pos, Bool, true, false, cond, List, length, Option, Some, None, IfSome, Contains, take, get_or, arith, refl, subst}
+use Rattle.std.proofs.Common.{◌≡◌, ◌≤ℤ◌, pos, Bool, true, false, cond, Option, Some, None, IfSome, Contains, take, get_or, arith, refl, subst}
 use Rattle.std.specs.Prelude.{int_lt}
 use Rattle.std.specs.Option.{option_and_then}
 use Rattle.std.proofs.lemmas.Int.{clamps, ints}
@@ -10,23 +10,8 @@ use Rattle.path_delays.specs.SumParts.{either_sums, some_sums}
 use Rattle.path_delays.specs.Carrying.{AreExtremesIfAny, StandsAt}
 use Rattle.path_delays.specs.WalkParts.{sums_to}
 use Rattle.path_delays.proofs.CarryLemmas.{extremes_next}
+use Rattle.path_delays.proofs.ColumnLemmas.{extremes_alone}
 use Rattle.path_delays.proofs.pair.captured_sums.Goals as goal
-
--- what comes where nothing was known
-either_none : (found : Option Sums) → either_sums None found ≡ found
-either_none None = refl
-either_none (Some sums) = refl
-
--- the least and the greatest at one signal
-extremes_alone : (at : ℕ → Option Sums) (signals : List ℕ) → 1 ≤ length signals
-    → length signals < 2 → AreExtremesIfAny (StandsAt at (Contains signals))
-    (at (get_or signals 0 0))
-extremes_alone at [] some few = absurd (omega (arith, some))
-extremes_alone at (signal ∷ []) some few =
-    subst (AreExtremesIfAny (StandsAt at (Contains (signal ∷ [])))) (either_none (at signal))
-    (extremes_next at [] signal None
-    (λ one (other, (place, within, here), stands). absurd (omega arith)))
-extremes_alone at (signal ∷ other ∷ more) some few = absurd (omega (arith, few))
 
 -- what is found isn't below 0
 some_found : (lanes : Option Sums) → IfSome (option_and_then some_sums lanes)
