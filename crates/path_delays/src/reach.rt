@@ -115,8 +115,9 @@ impl Reach {
             return;
         }
         self.reached.insert(gate);
-        self.lanes[gate as usize] = *given;
-        self.lanes[gate as usize].pass(delay);
+        let mut sums = *given;
+        sums.pass(delay);
+        self.lanes[gate as usize] = sums;
         self.waiting.insert(network.ranks[gate as usize]);
     }
 
