@@ -7,7 +7,6 @@ use Rattle.cts_model.specs.declared.tech.Tech.{Tech}
 use Rattle.gate_order.specs.declared.groups.Groups.{Groups}
 use Rattle.gate_order.specs.GroupParts.{bounds_of, group_of}
 use Rattle.path_delays.specs.declared.capturing.Capturing.{Capturing}
-use Rattle.path_delays.specs.declared.lanes.Lanes.{Lanes}
 use Rattle.path_delays.specs.declared.number_set.NumberSet.{NumberSet}
 use Rattle.path_delays.specs.declared.sums.Sums.{Sums}
 use Rattle.path_delays.specs.declared.walk.Walk.{Walk}
@@ -16,7 +15,6 @@ use Rattle.path_delays.specs.Reaches.{IsChain, IsReach}
 use Rattle.path_delays.specs.WalkParts.{HasReach, sums_to}
 use Rattle.path_delays.specs.Captured.{AreCapturersOf, AreCapturedBelow}
 use Rattle.path_delays.specs.Capturings.{IsCapturer, HasCaptureRoom, IsSameCapturing, AreAllReached, AreGathered, IsCapturingOf}
-use Rattle.path_delays.specs.Columns.{AreColumns, AreFoundFrom}
 use Rattle.path_delays.proofs.ReachedPairs.{chain_of_path}
 use Rattle.path_delays.proofs.CaptureLemmas.{few_signals, few_registers, capture_within}
 
@@ -226,16 +224,3 @@ module _ (circuit : Circuit) where
           → IsReach circuit tech from signal o → IsSome o
       some path signal is_chain None none = absurd (none path is_chain)
       some path signal is_chain (Some sums) extreme = refl
-
-  -- so they are found with what the walk found at what they capture
-  pub found_from : (tech : Tech) (from lane : ℕ) (walk : Walk) (old new : Capturing)
-      (columns : List Lanes) → HasReach circuit tech from lane walk → IsCapturingOf circuit old
-      → AreGathered walk old new
-      → AreColumns circuit walk new.registers.items (length new.registers.items) columns
-      → AreFoundFrom circuit tech from lane new.registers.items columns
-  found_from tech from lane walk old new columns reach is gathered found = record {
-    walk = walk;
-    reach = reach;
-    all = gathered_from tech from lane walk old new reach is gathered;
-    found = found;
-  }

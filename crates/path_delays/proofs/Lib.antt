@@ -25,4 +25,3 @@ mod BetweenLemmas
 mod CyclePathLemmas
 pub mod WindowLemmas
 mod SweepLemmas
-mod ColumnLemmas

@@ -8,7 +8,6 @@ pub mod Walking
 pub mod WalkParts
 pub mod Captured
 pub mod Capturings
-pub mod Columns
 pub mod Carrying
 pub mod JoinedPairs
 pub mod ExtremePaths

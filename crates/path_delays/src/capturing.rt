@@ -1,7 +1,6 @@
 ghost use Rattle.std.specs.Prelude.{◌≤◌, IfOk, OnOk, length};
 
 use crate::captures::{captured_signals, capturers};
-use crate::lanes::Lanes;
 use crate::number_set::NumberSet;
 use crate::walk::Walk;
 use cts_base::NoMemory;
@@ -22,8 +21,6 @@ pub(crate) struct Capturing {
     pub(crate) found: NumberSet,
     /// The registers that capture one that the walk reached, in ascending order.
     pub(crate) registers: Vec<u32>,
-    /// What the walk found at what each of them captures.
-    pub(crate) columns: Vec<Lanes>,
 }
 
 impl Capturing {
@@ -43,7 +40,6 @@ impl Capturing {
             reached,
             found,
             registers: Vec::new(alloc),
-            columns: Vec::new(alloc),
         })
     }
 

@@ -6,13 +6,13 @@ use crate::sums::Sums;
 pub(crate) const LANES: usize = 8;
 
 /// The sums to a signal from several registers, in a lane each.
-#[derive(Clone, Copy)]
+#[derive(Clone, Copy, Debug)]
 pub(crate) struct Lanes {
     pub(crate) sums: [Sums; 8],
 }
 
 impl Lanes {
-    ghost use Rattle.path_delays.specs.SumParts.{AreWithin, delay_limit, merged_sums, no_sums, some_sums, sums_through};
+    ghost use Rattle.path_delays.specs.SumParts.{AreWithin, delay_limit, merged_sums, no_sums, sums_through};
     ghost use Rattle.path_delays.specs.LaneParts.{AllBounded, lane_of};
 
     /// No sums in any lane.
@@ -34,24 +34,6 @@ impl Lanes {
         self.sums[lane] = self.sums[lane].merged(sums);
     }
 
-    /// The sums in a lane, if there are any.
-    pub(crate) fn some_at(&self, lane: usize) -> Option<Sums>
-        requires { lane < 8 }
-        ensures { result ≡ some_sums (lane_of self.now lane) }
-    {
-        self.sums[lane].some()
-    }
-
-    /// Puts sums into a lane.
-    pub(crate) fn put(&mut self, lane: usize, sums: Sums)
-        requires { lane < 8 }
-        ensures at { lane_of self.new lane ≡ sums }
-        ensures others { (other : ℕ) → other ≢ lane
-            → lane_of self.new other ≡ lane_of self.old other }
-    {
-        self.sums[lane] = sums;
-    }
-
     /// Becomes the sums after one more gate.
     pub(crate) fn pass(&mut self, delay: Sums)
         requires sums { AllBounded delay_limit self.old }
@@ -64,16 +46,13 @@ impl Lanes {
         }
     }
 
-    /// In each lane the least and the greatest of what is there and of other sums after one more
-    /// gate.
-    pub(crate) fn merge_through(&mut self, other: &Lanes, delay: Sums)
-        requires other { AllBounded delay_limit other.now }
-        requires delay { AreWithin delay_limit delay }
+    /// In each lane the least and the greatest of both.
+    pub(crate) fn merge(&mut self, other: &Lanes)
         ensures { (lane : ℕ) → lane < 8 → lane_of self.new lane
-            ≡ merged_sums (lane_of self.old lane) (sums_through (lane_of other.now lane) delay) }
+            ≡ merged_sums (lane_of self.old lane) (lane_of other.now lane) }
     {
         for lane in 0..LANES {
-            self.sums[lane] = self.sums[lane].merged_through(other.sums[lane], delay);
+            self.sums[lane] = self.sums[lane].merged(other.sums[lane]);
         }
     }
 }

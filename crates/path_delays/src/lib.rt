@@ -5,7 +5,6 @@
 mod between;
 mod captures;
 mod capturing;
-mod columns;
 mod cycle_paths;
 mod extreme_path;
 mod fault;

@@ -1,8 +1,7 @@
-ghost use Rattle.std.specs.Prelude.{◌≡◌, ◌<◌, ◌≤ℤ◌, ℕ, List, pos, length, Contains, IfOk, IfSome};
+ghost use Rattle.std.specs.Prelude.{◌≡◌, ◌<◌, length, Contains, IfOk};
 ghost use Rattle.cts_model.specs.declared.circuit.Circuit.{Circuit};
 ghost use Rattle.cts_model.specs.declared.tech.Tech.{Tech};
 ghost use Rattle.gate_order.specs.LevelParts.{IsLevelsOf};
-ghost use Rattle.path_delays.specs.declared.walk.Walk.{Walk};
 ghost use Rattle.path_delays.specs.WalkParts.{ReachesEach, sums_to};
 ghost use Rattle.path_delays.specs.Captured.{AreCapturedBy};
 ghost use Rattle.path_delays.specs.Carrying.{AreExtremesIfAny, StandsAt};
@@ -54,17 +53,7 @@ pub(crate) fn joined_pair(
         → ReachesEach circuit tech from lane captured.now walk.now
         → IsJoinedBy circuit tech from to result }
 {
-    pair_by(captured_sums(walk, lane, captured), from, to)
-}
-
-/// The delays from one register to another by what a walk found at what the other captures.
-pub(crate) fn pair_by(found: Option<Sums>, from: u32, to: u32) -> Option<PairDelay>
-    ensures { (circuit : Circuit) (tech : Tech) (walk : Walk) (lane : ℕ) (captured : List ℕ)
-        → AreCapturedBy circuit to captured → ReachesEach circuit tech from lane captured walk
-        → AreExtremesIfAny (StandsAt (sums_to walk lane) (Contains captured)) found
-        → IsJoinedBy circuit tech from to result }
-{
-    let sums = found?;
+    let sums = captured_sums(walk, lane, captured)?;
     Some(PairDelay {
         from,
         to,
@@ -76,9 +65,7 @@ pub(crate) fn pair_by(found: Option<Sums>, from: u32, to: u32) -> Option<PairDel
 // The least and the greatest of what a walk found at some signals in a lane.
 pub(crate) fn captured_sums(walk: &Walk, lane: usize, signals: &[u32]) -> Option<Sums>
     requires { lane < 8 }
-    ensures extremes { AreExtremesIfAny (StandsAt (sums_to walk.now lane) (Contains signals.now))
-        result }
-    ensures some { IfSome result (λ sums. pos 0 ≤ℤ sums.greatest) }
+    ensures { AreExtremesIfAny (StandsAt (sums_to walk.now lane) (Contains signals.now)) result }
 {
     if let [signal] = signals {
         return walk.sums(lane, *signal);

@@ -1,18 +1,15 @@
 ghost use Rattle.std.specs.Prelude.{◌≡◌, ◌<◌, ◌≤◌, ◌+◌, ◌-◌, ◌++◌, ℕ, length, vec_len, IfOk, IfErr, OnOk};
 ghost use Rattle.std.specs.Option.{option_to_list};
-ghost use Rattle.cts_model.specs.declared.circuit.Circuit.{Circuit};
 ghost use Rattle.cts_model.specs.declared.tech.Tech.{Tech};
 ghost use Rattle.cts_model.specs.timing.PairLists.{JoinsMoreThan};
 ghost use Rattle.path_delays.specs.WalkParts.{HasReach, IsRoomFor};
-ghost use Rattle.path_delays.specs.Capturings.{IsCapturingOf};
-ghost use Rattle.path_delays.specs.Columns.{AreFoundFrom};
+ghost use Rattle.path_delays.specs.Capturings.{AreAllReached, IsCapturingOf};
 ghost use Rattle.path_delays.specs.JoinedPairs.{ListsPairsBefore, ArePairs, ShowsTooMany, MeetsLimit, pair_limit};
 
 use crate::PairFault;
 use crate::capturing::Capturing;
-use crate::columns::{found_at, list_columns};
-use crate::lanes::{LANES, Lanes, block_end};
-use crate::pair::pair_by;
+use crate::lanes::{LANES, block_end};
+use crate::pair::joined_pair;
 use crate::walk::Walk;
 use cts_base::Listed;
 use cts_model::{Circuit, PairDelay, Tech};
@@ -71,10 +68,8 @@ fn push_block(
     walk_block(walk, circuit, tech, first, end);
     capturing.gather(walk)?;
     let registers = capturing.registers.as_slice();
-    list_columns(&mut capturing.columns, walk, circuit, registers)?;
-    let columns = capturing.columns.as_slice();
     for from in first..end {
-        push_pairs_from(pairs, registers, columns, from - first, from as u32)?;
+        push_pairs_from(pairs, walk, registers, circuit, from - first, from as u32)?;
     }
     Ok(())
 }
@@ -96,31 +91,31 @@ fn walk_block(walk: &mut Walk, circuit: &Circuit, tech: &Tech, first: usize, end
     walk.walk_from(circuit, tech, &registers[..end - first]);
 }
 
-// Appends the pairs of the register that launches, which is walked from in a lane. The columns are
-// what the walk found for the registers that it reaches.
+// Appends the pairs of the register that launches, which is walked from in a lane. The registers
+// are those that the walk reaches.
 fn push_pairs_from(
     pairs: &mut Vec<PairDelay>,
+    walk: &Walk,
     registers: &[u32],
-    columns: &[Lanes],
+    circuit: &Circuit,
     lane: usize,
     from: u32,
 ) -> Result<(), PairFault>
     requires lane { lane < 8 }
-    requires columns { length columns.now ≡ length registers.now }
+    requires registers { AreAllReached circuit.now from registers.now }
     requires few { vec_len pairs.old ≤ pair_limit }
     ensures few { OnOk result (vec_len pairs.new ≤ pair_limit) }
-    ensures listed { OnOk result ((circuit : Circuit) (tech : Tech)
-        → AreFoundFrom circuit tech from lane registers.now columns.now
-        → ListsPairsBefore circuit tech from 0 pairs.old.items
-        → ListsPairsBefore circuit tech (from + 1) 0 pairs.new.items) }
-    ensures many { IfErr result (λ fault. (circuit : Circuit) (tech : Tech)
-        → AreFoundFrom circuit tech from lane registers.now columns.now
-        → ListsPairsBefore circuit tech from 0 pairs.old.items
-        → ShowsTooMany circuit fault) }
+    ensures listed { OnOk result ((tech : Tech) → HasReach circuit.now tech from lane walk.now
+        → ListsPairsBefore circuit.now tech from 0 pairs.old.items
+        → ListsPairsBefore circuit.now tech (from + 1) 0 pairs.new.items) }
+    ensures many { IfErr result (λ fault. (tech : Tech)
+        → HasReach circuit.now tech from lane walk.now
+        → ListsPairsBefore circuit.now tech from 0 pairs.old.items
+        → ShowsTooMany circuit.now fault) }
 {
-    for place in 0..registers.len() {
-        let found = found_at(columns, place, lane);
-        push_joined(pairs, pair_by(found, from, registers[place]))?;
+    for to in registers {
+        let captured = circuit.register_signal(*to as usize).fan_in.as_slice();
+        push_joined(pairs, joined_pair(walk, lane, captured, from, *to))?;
     }
     Ok(())
 }

@@ -1,5 +1,4 @@
 ghost use Rattle.std.specs.Prelude.{◌≡◌, ◌<◌, ◌*◌, ◌^◌, Some, IfOk, IsSome, length};
-ghost use Rattle.std.specs.Option.{option_map};
 
 use crate::lanes::Lanes;
 use crate::network::Network;
@@ -61,16 +60,6 @@ impl Reach {
         self.lanes.get(signal as usize)?.sums[lane].some()
     }
 
-    /// What stands in the lanes at a signal, if it is reached.
-    pub(crate) fn lanes_at(&self, signal: u32) -> Option<&Lanes>
-        ensures { option_map (λ lanes. lanes.now) result ≡ lanes_at self.now signal }
-    {
-        if !self.reached.contains(signal) {
-            return None;
-        }
-        self.lanes.get(signal as usize)
-    }
-
     /// Reaches a signal in a lane, and hands its sums to its readers.
     pub(crate) fn start(&mut self, network: &Network, lane: usize, signal: u32, sums: Sums)
         requires room { HasReachRoom network.now self.old }
@@ -109,16 +98,15 @@ impl Reach {
         requires given { AllBounded delay_limit given.now }
         ensures { IsHanded network.now given.now gate self.old self.new }
     {
-        let delay = network.delays[gate as usize];
-        if self.reached.contains(gate) {
-            self.lanes[gate as usize].merge_through(given, delay);
-            return;
-        }
-        self.reached.insert(gate);
         let mut sums = *given;
-        sums.pass(delay);
-        self.lanes[gate as usize] = sums;
-        self.waiting.insert(network.ranks[gate as usize]);
+        sums.pass(network.delays[gate as usize]);
+        if self.reached.contains(gate) {
+            self.lanes[gate as usize].merge(&sums);
+        } else {
+            self.reached.insert(gate);
+            self.lanes[gate as usize] = sums;
+            self.waiting.insert(network.ranks[gate as usize]);
+        }
     }
 
     // Reaches a signal in a lane.

@@ -50,15 +50,6 @@ impl Sums {
         }
     }
 
-    /// The least and the greatest of these and of others after one more gate.
-    pub(crate) fn merged_through(self, other: Sums, delay: Sums) -> Sums
-        requires other { AreBounded delay_limit other }
-        requires delay { AreWithin delay_limit delay }
-        ensures { result ≡ merged_sums self (sums_through other delay) }
-    {
-        self.merged(other.through(delay))
-    }
-
     /// The greatest or the least.
     pub(crate) fn extreme(self, greatest: bool) -> i64
         ensures { result ≡ extreme_of greatest self }

@@ -1,6 +1,6 @@
-ghost use Rattle.std.specs.Prelude.{◌≡◌, ◌<◌, ◌≤◌, ◌+◌, ℕ, All, IfOk, IfSome, length};
+ghost use Rattle.std.specs.Prelude.{◌≡◌, ◌<◌, ◌≤◌, ◌+◌, All, IfOk, length};
 
-use crate::lanes::{LANES, Lanes};
+use crate::lanes::LANES;
 use crate::launching::{launched, start_sums};
 use crate::network::Network;
 use crate::number_set::NumberSet;
@@ -20,9 +20,7 @@ pub(crate) struct Walk {
 
 impl Walk {
     ghost use Rattle.gate_order.specs.LevelParts.{IsLevelsOf};
-    ghost use Rattle.path_delays.specs.LaneParts.{lane_of};
     ghost use Rattle.path_delays.specs.NumberSets.{IsCommon};
-    ghost use Rattle.path_delays.specs.SumParts.{some_sums};
     ghost use Rattle.path_delays.specs.WalkParts.{HaveReach, HaveReachBetween, IsRoomFor, sums_to};
 
     /// Room for walks over a circuit.
@@ -83,14 +81,6 @@ impl Walk {
             reached.new.words.items }
     {
         reached.become_common(signals, &self.reach.reached);
-    }
-
-    /// The sums to a signal from the register in each lane, if some lane reaches it.
-    pub(crate) fn lanes(&self, signal: u32) -> Option<&Lanes>
-        ensures { IfSome result (λ lanes. (lane : ℕ)
-            → some_sums (lane_of lanes.now lane) ≡ sums_to self.now lane signal) }
-    {
-        self.reach.lanes_at(signal)
     }
 
     /// The sums to a signal from the register in a lane, `None` where that doesn't reach it.

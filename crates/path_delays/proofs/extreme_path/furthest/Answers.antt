@@ -9,12 +9,12 @@ use Rattle.path_delays.proofs.extreme_path.furthest.Goals as goal
 pub returns-in_err-sums : goal.returns-in_err-sums
 returns-in_err-sums c = rw c.from_residual.ensures
     (nothing_at (sums_to c.args.walk.now c.args.lane) (Contains c.args.signals.now)
-    c.in_err-sums.ensures.extremes)
+    c.in_err-sums.ensures)
 
 pub returns-then-fits : goal.returns-then-fits
 returns-then-fits c =
     furthest_found c.args.walk.now c.args.lane c.args.signals.now c.args.greatest c.in_ok-sums.sums
-    c.in_ok-sums.ensures.extremes _
+    c.in_ok-sums.ensures _
     (Contains-get_or c.args.signals.now c.loop-signal.signal-index 0 c.loop-signal-test.true)
     (rw c.sums.ensures at (c.fits.ensures.0 c.if-fits.true))
 
@@ -28,5 +28,5 @@ loop-signal-preserved c =
 pub returns : goal.returns
 returns c = λ signal listed.
     absurd (some_fits c.args.walk.now c.args.lane c.args.signals.now c.args.greatest
-    c.in_ok-sums.sums c.in_ok-sums.ensures.extremes (λ place within. c.loop-signal.invariant place
+    c.in_ok-sums.sums c.in_ok-sums.ensures (λ place within. c.loop-signal.invariant place
     (omega arith)))

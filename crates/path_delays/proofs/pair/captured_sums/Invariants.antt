@@ -1,12 +1,9 @@
 -- The least and the greatest at the signals passed so far.
-use Rattle.std.proofs.Common.{Contains, IfSome, ◌≤ℤ◌, pos, take}
+use Rattle.std.proofs.Common.{Contains, take}
 use Rattle.path_delays.specs.Carrying.{AreExtremesIfAny, StandsAt}
 use Rattle.path_delays.specs.WalkParts.{sums_to}
 use Rattle.path_delays.proofs.pair.captured_sums.Given as goal
 
 abbrev pub invariant-loop-signal : goal.invariant-loop-signal
-invariant-loop-signal l = record {
-  extremes : AreExtremesIfAny
-      (StandsAt (sums_to l.walk l.lane) (Contains (take l.signal-index l.signals))) l.captured;
-  some : IfSome l.captured (λ sums. pos 0 ≤ℤ sums.greatest);
-}
+invariant-loop-signal l = AreExtremesIfAny
+    (StandsAt (sums_to l.walk l.lane) (Contains (take l.signal-index l.signals))) l.captured

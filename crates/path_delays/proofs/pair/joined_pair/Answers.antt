@@ -1,6 +1,20 @@
+-- What the walk found at the captured signals are the delays between the two registers.
+use Rattle.std.proofs.Common.{Contains, refl, arith}
+use Rattle.std.proofs.lemmas.Int.{ints}
+use Rattle.path_delays.specs.WalkParts.{sums_to}
+use Rattle.path_delays.proofs.CarryLemmas.{nothing_at}
+use Rattle.path_delays.proofs.ReachedPairs.{no_path, delays_between}
 use Rattle.path_delays.proofs.pair.joined_pair.Goals as goal
+
+pub returns-in_err-sums : goal.returns-in_err-sums
+returns-in_err-sums c = λ circuit tech exact reach.
+    rw c.from_residual.ensures
+    (no_path circuit tech c.args.from c.args.to c.args.lane c.args.walk.now c.args.captured.now
+    exact reach (nothing_at (sums_to c.args.walk.now c.args.lane) (Contains c.args.captured.now)
+    c.in_err-sums.ensures))
 
 pub returns : goal.returns
 returns c = λ circuit tech exact reach.
-    c.pair_by.ensures circuit tech c.args.walk.now c.args.lane c.args.captured.now exact reach
-    c.captured_sums.ensures.extremes
+    delays_between circuit tech c.args.from c.args.to c.args.lane c.args.walk.now
+    c.args.captured.now exact reach c.in_ok-sums.sums _ c.in_ok-sums.ensures refl refl
+    (omega (arith, ints, c.from.ensures)) (omega (arith, ints, c.from-2.ensures))

@@ -1,7 +1,7 @@
 -- The pair of one register of the list more.
-use Rattle.std.proofs.Common.{◌<◌, ◌+◌, length, get_or, arith}
+use Rattle.std.proofs.Common.{◌+◌, get_or, arith}
 use Rattle.std.proofs.lemmas.Result.{err_from_is_err_and}
-use Rattle.path_delays.proofs.ColumnLemmas.{joined_by_column}
+use Rattle.path_delays.proofs.ReachedPairs.{captured_is_fan_in}
 use Rattle.path_delays.proofs.PendingPairs.{passed_all, passed_here, passed_next}
 use Rattle.path_delays.proofs.PairCounts.{shows_too_many}
 use Rattle.path_delays.proofs.PairWalk.{pair_next}
@@ -10,38 +10,36 @@ use Rattle.path_delays.proofs.pairs.push_pairs_from.Goals as goal
 pub returns-in_err-push_joined-clause-many : goal.returns-in_err-push_joined-clause-many
 returns-in_err-push_joined-clause-many c =
     let fault = err_from_is_err_and c.from_residual.result c.from_residual.ensures.1 in
-    let registers = c.args.registers.now in
-    let place = c.loop-place.place in
-    let within : place < length registers = c.loop-place-test.true in
-    rw (fault.1, fault.2) (λ circuit tech found listed.
-    let (next, passed, before) = c.loop-place.invariant.listed circuit tech found listed in
-    shows_too_many circuit tech c.args.from (get_or registers place 0) _ _ _
-    (passed_here found.all passed tech c.loop-place.pairs.items before within)
-    (joined_by_column found place c.requires.lane within _ c.found_at-found.ensures
-    _ c.pair_by.ensures) c.in_err-push_joined.ensures.many)
+    let circuit = c.args.circuit.now in
+    let to = get_or c.args.registers.now c.loop-to.to-index 0 in
+    rw (fault.1, fault.2) (λ tech reach listed.
+    let joined = c.joined_pair.ensures circuit tech
+    (rw c.as_slice-captured.ensures (captured_is_fan_in circuit to c.register_signal.result.now
+    c.register_signal.ensures)) (λ signal listed. reach.each signal) in
+    shows_too_many circuit tech c.args.from to _ _ _
+    (passed_here c.requires.registers c.loop-to.invariant.1 tech c.loop-to.pairs.items
+    (c.loop-to.invariant.2 tech reach listed) c.loop-to-test.true) joined
+    c.in_err-push_joined.ensures.many)
 
-pub loop-place-preserved : goal.loop-place-preserved
-loop-place-preserved c =
-    let registers = c.args.registers.now in
-    let place = c.loop-place.place in
-    let within : place < length registers = c.loop-place-test.true in
-    record {
-      listed = λ circuit tech found listed.
-          let (next, passed, before) = c.loop-place.invariant.listed circuit tech found listed in (
-            get_or registers place 0 + 1,
-            passed_next found.all passed within,
-            pair_next circuit tech c.args.from (get_or registers place 0)
-                c.loop-place.pairs.items c.push_joined.new.pairs.items c.pair_by.result
-                (joined_by_column found place c.requires.lane within _ c.found_at-found.ensures
-                _ c.pair_by.ensures)
-                c.in_ok-push_joined.ensures.ok
-                (passed_here found.all passed tech c.loop-place.pairs.items before within),
-          );
-      few = c.in_ok-push_joined.ensures.few;
-    }
+pub loop-to-preserved : goal.loop-to-preserved
+loop-to-preserved c =
+    let circuit = c.args.circuit.now in
+    let to = get_or c.args.registers.now c.loop-to.to-index 0 in (
+      to + 1,
+      passed_next c.requires.registers c.loop-to.invariant.1 c.loop-to-test.true,
+      λ tech reach listed.
+          let joined = c.joined_pair.ensures circuit tech
+          (rw c.as_slice-captured.ensures (captured_is_fan_in circuit to
+          c.register_signal.result.now c.register_signal.ensures))
+          (λ signal listed. reach.each signal) in
+          pair_next circuit tech c.args.from to c.loop-to.pairs.items c.push_joined.new.pairs.items
+          c.joined_pair.result joined c.in_ok-push_joined.ensures.ok
+          (passed_here c.requires.registers c.loop-to.invariant.1 tech c.loop-to.pairs.items
+          (c.loop-to.invariant.2 tech reach listed) c.loop-to-test.true),
+      c.in_ok-push_joined.ensures.few,
+    )
 
 pub returns-clause-listed : goal.returns-clause-listed
-returns-clause-listed c circuit tech found listed =
-    let (next, passed, before) = c.loop-place.invariant.listed circuit tech found listed in
-    passed_all found.all passed tech c.loop-place.pairs.items before
-    (omega (arith, c.loop-place-test.false))
+returns-clause-listed c tech reach listed =
+    passed_all c.requires.registers c.loop-to.invariant.1 tech c.loop-to.pairs.items
+    (c.loop-to.invariant.2 tech reach listed) (omega (arith, c.loop-to-test.false))

@@ -12,7 +12,6 @@ insert_all-requires c =
       reached = c.reached_among.new.reached;
       found = c.clear.new.self;
       registers = c.args.self.now.registers;
-      columns = c.args.self.now.columns;
     } in
     let room = HasCaptureRoom-same c.args.self.now begun
     (record {
@@ -32,7 +31,6 @@ loop-signal-preserved c =
       reached = c.reached_among.new.reached;
       found = c.clear.new.self;
       registers = c.args.self.now.registers;
-      columns = c.args.self.now.columns;
     } in
     let later : Capturing = record {
       capturers = c.loop-signal.self.capturers;
@@ -40,7 +38,6 @@ loop-signal-preserved c =
       reached = c.take_lowest.new.self;
       found = c.insert_all.new.self;
       registers = c.loop-signal.self.registers;
-      columns = c.loop-signal.self.columns;
     } in
     gathering_next c.args.walk.now begun c.loop-signal.self later c.loop-signal.next
     c.in-Some.signal
@@ -59,7 +56,6 @@ returns c =
       reached = c.reached_among.new.reached;
       found = c.clear.new.self;
       registers = c.args.self.now.registers;
-      columns = c.args.self.now.columns;
     } in
     let last : Capturing = record {
       capturers = c.loop-signal.self.capturers;
@@ -67,7 +63,6 @@ returns c =
       reached = c.take_lowest.new.self;
       found = c.take_all.new.self;
       registers = c.take_all.new.numbers;
-      columns = c.loop-signal.self.columns;
     } in
     gathered_all c.args.walk.now begun c.args.self.now c.loop-signal.self last c.loop-signal.next
     (record {

@@ -1,12 +1,12 @@
 -- The lanes passed so far hold the least and the greatest of both.
 use Rattle.std.proofs.Common.{ℕ, ◌≡◌, ◌<◌, ◌≤◌}
-use Rattle.path_delays.specs.SumParts.{merged_sums, sums_through}
+use Rattle.path_delays.specs.SumParts.{merged_sums}
 use Rattle.path_delays.specs.LaneParts.{lane_of}
-use Rattle.path_delays.proofs.lanes.Lanes.merge_through.Given as goal
+use Rattle.path_delays.proofs.lanes.Lanes.merge.Given as goal
 
 abbrev pub invariant-loop-lane : goal.invariant-loop-lane
 invariant-loop-lane l = record {
-  passed : (lane : ℕ) → lane < l.lane → lane_of l.self lane
-      ≡ merged_sums (lane_of l.initial.self lane) (sums_through (lane_of l.other lane) l.delay);
+  passed : (lane : ℕ) → lane < l.lane
+      → lane_of l.self lane ≡ merged_sums (lane_of l.initial.self lane) (lane_of l.other lane);
   later : (lane : ℕ) → l.lane ≤ lane → lane_of l.self lane ≡ lane_of l.initial.self lane;
 }
