@@ -35,6 +35,10 @@ impl NameSet {
     }
 
     /// Puts a new name last.
+    ///
+    /// # Errors
+    ///
+    /// There is no memory for the name.
     pub fn push(&mut self, name: &[u8]) -> Result<(), NoMemory>
         requires new { list_any (bytes_eq name.now) self.old ≡ false }
         requires room { length self.old < 65537 }

@@ -8,6 +8,10 @@ use std::alloc::Global;
 
 /// The names of a circuit's registers, in order: each has the register's number. The host's is
 /// `(host)`.
+///
+/// # Errors
+///
+/// There is no memory for the names.
 pub fn register_names(alloc: Global, circuit: &Circuit) -> Result<NameSet, NoMemory>
     ensures { IfOk result (λ names. names ≡ register_names circuit.now) }
 {
