@@ -11,8 +11,8 @@ import sys
 ROOT = os.path.dirname(os.path.dirname(os.path.abspath(__file__)))
 PROMISES = [
     ("cts_program", "Headline", "IsSynthesisText"),
-    ("cts_program", "TopologyFiles", "IsEmbeddedBy"),
-    ("cts_program", "MoveFiles", "IsMovedBy"),
+    ("cts_program", "Headline", "IsEmbeddingText"),
+    ("cts_program", "MoveTexts", "IsMovesText"),
     ("cts_program", "MarginTexts", "IsMarginText"),
     ("cts_program", "CornerTexts", "IsCornersText"),
 ]

@@ -71,7 +71,7 @@ loop_bare signals outputs (first ∷ gates) (last, follows, closes) = (
 )
 
 -- with the host there is a ring of gates only where there was one
-acyclic_hosted : (tech : Tech) (bare circuit : Circuit)
+pub acyclic_hosted : (tech : Tech) (bare circuit : Circuit)
     → ((loop : List ℕ) → IsLoop bare.signals loop → ⊥) → IsHostedBy tech bare circuit
     → (loop : List ℕ) → IsLoop circuit.signals loop → ⊥
 acyclic_hosted tech bare circuit acyclic hosted loop ring = at (nat_eq (length tech.host) 0) hosted

@@ -37,7 +37,7 @@ one_netlist bytes circuit other accepts accepts' =
     (accepts.registers ∙ sym accepts'.registers) (accepts.outputs ∙ sym accepts'.outputs)
 
 -- with the host or without, it stays one
-one_hosted : (hostless : Bool) (bare circuit other : Circuit)
+pub one_hosted : (hostless : Bool) (bare circuit other : Circuit)
     → MatchBool hostless (circuit ≡ bare) (IsWithHost bare circuit)
     → MatchBool hostless (other ≡ bare) (IsWithHost bare other) → circuit ≡ other
 one_hosted true bare circuit other hosted hosted' = hosted ∙ sym hosted'
@@ -94,7 +94,7 @@ problem_same parts others same valid valid' =
     (λ v. ap (problem_of_parts parts) (one_validity parts valid v)) valid'
 
 -- and so are those with the same circuit, delays and places
-same_problem : (problem other : Problem) → problem.circuit ≡ other.circuit
+pub same_problem : (problem other : Problem) → problem.circuit ≡ other.circuit
     → problem.tech ≡ other.tech → problem.places ≡ other.places → problem ≡ other
 unfolding problem_of_parts
 same_problem problem other circuit tech places =

@@ -32,7 +32,7 @@ use Rattle.report_text.proofs.ReportWords.{AreLines, report_lines_are}
 use Rattle.command_line.specs.declared.table.Form.{Form}
 use Rattle.command_line.specs.declared.table.Form.TheVariants as forms
 use Rattle.cts_program.specs.ArrivalTexts.{all_at_zero}
-use Rattle.cts_program.specs.Checks.{shown_line}
+use Rattle.cts_program.specs.CheckTexts.{shown_line}
 use Rattle.cts_program.specs.DemoTexts.{summary_lines, IsSummaryText, IsDemoText}
 use Rattle.cts_program.specs.Headline.{IsTreeText, IsSynthesisText, IsEmbeddingText}
 use Rattle.cts_program.specs.MarginTexts.{margin_lines, IsMarginText}

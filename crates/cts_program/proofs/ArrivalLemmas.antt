@@ -1,14 +1,14 @@
 -- Arrivals that can be printed.
-use Rattle.std.proofs.Common.{◌≡◌, ◌^◌, ℕ, ℤ, pos, arith}
+use Rattle.std.proofs.Common.{◌≡◌, ◌^◌, ℤ, arith}
 use Rattle.std.proofs.lemmas.Int.{ints}
-use Rattle.std.proofs.lemmas.List.Elements.{All-replicate, All-weaker}
+use Rattle.std.proofs.lemmas.List.Elements.{All-weaker}
 use Rattle.cts_base.specs.declared.fraction.Fraction.{Fraction}
 use Rattle.cts_base.specs.Fractions.{HasSizeBelow}
 use Rattle.cts_model.specs.declared.schedule.Schedule.{Schedule}
 use Rattle.cts_model.specs.placement.Points.{IsBelow}
 use Rattle.corners.specs.CornerOutcomes.{AreSmallCommonTimes}
 use Rattle.safety_margin.specs.SparingSchedules.{IsSmallSparing}
-use Rattle.cts_program.specs.ArrivalTexts.{CanPrint, all_at_zero}
+use Rattle.cts_program.specs.ArrivalTexts.{CanPrint}
 
 -- what is below 2^93 is below 10^37
 printable : (number : ℤ) → IsBelow (2 ^ 93) number → HasSizeBelow (10 ^ 37) number
@@ -27,15 +27,6 @@ small_can_print schedule small = record {
   };
   arrivals = All-weaker (IsBelow (2 ^ 93)) (HasSizeBelow (10 ^ 37)) printable schedule.at
       small.arrivals;
-}
-
--- and those at 0
-pub zero_can_print : (registers : ℕ) → CanPrint (all_at_zero registers)
-zero_can_print registers = record {
-  some_den = omega (arith, ints);
-  small_den = record { above = omega (arith, ints); below = omega (arith, ints) };
-  arrivals = All-replicate (HasSizeBelow (10 ^ 37)) registers (pos 0)
-      (record { above = omega (arith, ints); below = omega (arith, ints) });
 }
 
 -- and those at a period that serves several corners

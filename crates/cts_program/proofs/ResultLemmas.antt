@@ -1,5 +1,5 @@
 -- Facts of a call's answer that follow from its other facts.
-use Rattle.std.proofs.Common.{◌≡◌, Result, Ok, Err, IfOk, IfErr, IsErrOf}
+use Rattle.std.proofs.Common.{Result, Ok, Err, IfOk, IfErr}
 
 module _ {T E : Type 0} (result : Result T E) where
   -- of its success, from two facts of it
@@ -18,12 +18,3 @@ module _ {T E : Type 0} (result : Result T E) where
       at : (r : Result T E) → IfErr r P → ((e : E) → P e → Q e) → IfErr r Q
       at (Ok x) p gives = tt
       at (Err e) p gives = gives e p
-
--- a success is no refusal
-pub no_error : {T E : Type 0} {value : T} {error : E} → IsErrOf (Ok value) error → ⊥
-no_error same = cc same
-
--- a refusal by one error is by no other
-pub same_error : {T E : Type 0} {error other : E}
-    → IsErrOf {T = T} (Err error) other → error ≡ other
-same_error same = cc same

@@ -1,5 +1,5 @@
 -- The lines of wire of a session, one for the places as they are and one after each move.
-use Rattle.std.proofs.Common.{◌≡◌, ℕ, ℤ, List, [], ◌∷◌, ◌++◌, length, map, Option, refl, ap, sym, subst, ◌∙◌}
+use Rattle.std.proofs.Common.{◌≡◌, ℕ, ℤ, List, [], ◌∷◌, ◌++◌, length, map, refl, ap, sym, subst, ◌∙◌}
 use Rattle.std.specs.List.{All}
 use Rattle.std.proofs.lemmas.List.{map_push}
 use Rattle.cts_base.specs.declared.fraction.Fraction.{Fraction}
@@ -19,7 +19,7 @@ use Rattle.cts_engine.proofs.ProblemLemmas.{near_coordinate}
 use Rattle.report_text.specs.WireLines.{wire_line}
 use Rattle.report_text.proofs.LineLemmas.{one_line, text_of-push}
 use Rattle.cts_program.specs.MoveTexts.{AppendsWire, AreWires, IsNearMove, IsTreeWire, IsWireAt, IsWiresText, moved_places}
-use Rattle.cts_program.specs.Steps.{ReadsMoves}
+use Rattle.move_session.specs.Moves.{AcceptsMoves}
 
 -- ---- moves that were read
 
@@ -35,11 +35,12 @@ near_move problem move told = record {
 }
 
 -- so are all
-pub near_moves : (problem : Problem) (held : Option (List ℕ)) (moves : List Move)
-    → ReadsMoves problem held moves → All (IsNearMove (length problem.circuit.registers)) moves
-near_moves problem held moves read =
+pub near_moves : (problem : Problem) (bytes : List ℕ) (moves : List Move)
+    → AcceptsMoves bytes problem.circuit moves
+    → All (IsNearMove (length problem.circuit.registers)) moves
+near_moves problem bytes moves accepts =
     each_told problem.circuit (IsNearMove (length problem.circuit.registers)) (near_move problem)
-    read.bytes moves read.accepts
+    bytes moves accepts
 
 -- ---- places and wires
 

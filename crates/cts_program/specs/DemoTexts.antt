@@ -10,7 +10,7 @@ use Rattle.cert_check.specs.Verdicts.{IsVerdict}
 use Rattle.demo_input.specs.NetlistLines.{netlist_text}
 use Rattle.demo_input.specs.PlacementLines.{placement_text}
 use Rattle.demo_input.specs.TableLines.{table_text}
-use Rattle.cts_program.specs.Checks.{shown_line}
+use Rattle.cts_program.specs.CheckTexts.{shown_line}
 use Rattle.cts_program.specs.Headline.{IsSynthesisText}
 use Rattle.cts_program.specs.SynthTexts.{IsFoundOrNever}
 

@@ -1,14 +1,12 @@
 pub mod Answers
 pub mod ArrivalTexts
-pub mod Checks
-pub mod CornerFiles
+pub mod CheckTexts
 pub mod CornerTexts
 pub mod DemoTexts
+pub mod Documents
 pub mod Files
 pub mod Headline
-pub mod Judged
 pub mod MarginTexts
-pub mod MoveFiles
 pub mod MoveTexts
 pub mod PeriodTexts
 pub mod Run
@@ -16,4 +14,4 @@ pub mod ScheduleTexts
 pub mod Steps
 pub mod SynthTexts
 pub mod Texts
-pub mod TopologyFiles
+pub mod Told

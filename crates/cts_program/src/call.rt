@@ -3,12 +3,10 @@
 ghost use Rattle.std.specs.Prelude.{◌≡◌, ◌≢◌, ℕ, List, map, drop, true, string_bytes, IfOk, IfErr};
 ghost use Rattle.std.specs.IoError.{error_kind};
 ghost use Rattle.std.specs.Process.{exit_status};
-ghost use Rattle.command_line.specs.declared.command.Command.{Command};
 ghost use Rattle.failure_lines.specs.declared.failure.Failure.{Failure};
 ghost use Rattle.cts_program.specs.Answers.{is_ending};
-ghost use Rattle.command_line.specs.Commands.{IsCommand};
 ghost use Rattle.failure_lines.specs.Failures.{status_of, failure_line, Reports};
-ghost use Rattle.cts_program.specs.Files.{files_of, AreDenoted};
+ghost use Rattle.cts_program.specs.Files.{Request, Ask, AreDenoted};
 ghost use Rattle.cts_program.specs.Run.{Ends, EndsFor, Keeps, Reported, ShowsFaults};
 
 use crate::run::run;
@@ -33,10 +31,10 @@ pub fn answer_call<I: Inputs, O: Sink, E: Sink>(
     ensures done { IfOk words (λ words. is_ending (exit_status result) ≡ true
         → Ends (map string_bytes (drop 1 words.items)) (I.holds inputs.old) (exit_status result)
         (O.written out.old) (O.written out.new)) }
-    ensures given { IfOk words (λ words. (command : Command) (contents : List (List ℕ))
-        → IsCommand (map string_bytes (drop 1 words.items)) command
-        → AreDenoted (I.holds inputs.old) (files_of command) contents
-        → EndsFor command contents (I.faults inputs.old) (I.faults inputs.new) (O.written out.old)
+    ensures given { IfOk words (λ words. (request : Request) (contents : List (List ℕ))
+        → Ask (map string_bytes (drop 1 words.items)) request
+        → AreDenoted (I.holds inputs.old) request.files contents
+        → EndsFor request contents (I.faults inputs.old) (I.faults inputs.new) (O.written out.old)
         (O.written out.new) (O.faults out.old) (O.faults out.new) (exit_status result)) }
     ensures reported { IfOk words (λ words. is_ending (exit_status result) ≢ true
         → Reported (map string_bytes (drop 1 words.items)) (I.holds inputs.old)

@@ -1,12 +1,13 @@
 //! The command `check`: whether a report, whoever made it, shows what it says.
 
-ghost use Rattle.std.specs.Prelude.{◌≡◌, ◌<◌, ℕ, [], ◌∷◌, length, IfOk, IfErr};
-ghost use Rattle.cts_model.specs.text.PrintedLines.{text_of};
+ghost use Rattle.std.specs.Prelude.{◌≡◌, ◌<◌, ℕ, length, IfOk, IfErr};
 ghost use Rattle.cts_model.specs.report.ReportBounds.{IsOfSize, IsWithinBounds};
-ghost use Rattle.cts_model.specs.report.Shown.{IsShown, ShowsLeast};
 ghost use Rattle.timing_text.specs.Endings.{ending_status};
-ghost use Rattle.cts_program.specs.Checks.{shown_line, subject_of};
-ghost use Rattle.cts_program.specs.Steps.{IsRegisterReason, FailsToShow};
+ghost use Rattle.command_line.specs.declared.table.Form.TheVariants as forms;
+ghost use Rattle.cts_program.specs.Answers.{IsUnshown};
+ghost use Rattle.cts_program.specs.CheckTexts.{subject_of, IsCheckText};
+ghost use Rattle.cts_program.specs.Steps.{IsRegisterReason, OrMemory};
+ghost use Rattle.cts_program.specs.Told.{reported};
 
 use crate::reading::copied;
 use cert_check::{Reason, Verdict};
@@ -24,11 +25,10 @@ use timing_text::Answer;
 pub fn check(alloc: Global, problem: &Problem, report: &Report) -> Result<Answer, Failure>
     requires size { IsOfSize problem.now.circuit report.now }
     requires bounds { IsWithinBounds problem.now.tech report.now }
-    ensures shown { IfOk result (λ _. IsShown problem.now report.now) }
-    ensures least { IfOk result (λ _. ShowsLeast problem.now report.now) }
     ensures text { IfOk result (λ answer. (ending_status answer.ending ≡ 0)
-        × (answer.text.items ≡ text_of (shown_line ∷ []))) }
-    ensures cause { IfErr result (FailsToShow problem.now report.now) }
+        × IsCheckText problem.now report.now answer.text.items) }
+    ensures cause { IfErr result
+        (OrMemory (IsUnshown forms.Check (reported problem.now report.now))) }
 {
     match cert_check::check(alloc, problem, report)? {
         Verdict::Shown => {

@@ -1,30 +1,30 @@
 //! The command `demo`: a problem made from two numbers, its clock tree, and that the report of the
 //! tree is shown.
 
-ghost use Rattle.std.specs.Prelude.{◌≡◌, ◌≤◌, ◌<◌, ◌↔◌, ℕ, true, IsTrue, List, IfOk, IfErr};
+ghost use Rattle.std.specs.Prelude.{◌≡◌, ◌≤◌, ◌<◌, ◌↔◌, ℕ, true, IsTrue, [], IfOk, IfErr};
 ghost use Rattle.cts_model.specs.timing.PairLists.{JoinsMoreThan};
 ghost use Rattle.cts_model.specs.text.PrintedLines.{text_of};
 ghost use Rattle.cts_model.specs.declared.tech.Tech.{Tech};
 ghost use Rattle.cts_model.specs.report.ReportBounds.{IsOfSize, IsWithinBounds};
 ghost use Rattle.cts_model.specs.report.Shown.{IsShown};
 ghost use Rattle.cert_check.specs.Verdicts.{IsVerdict};
-ghost use Rattle.cts_engine.specs.Accepted.{HasPlacesFault};
-ghost use Rattle.cts_program.specs.Answers.{IsDemoAnswer};
 ghost use Rattle.timing_text.specs.Endings.{ending_status};
-ghost use Rattle.cts_program.specs.Checks.{AreOfProblem};
 ghost use Rattle.command_line.specs.Commands.{number_of, is_number_within};
+ghost use Rattle.command_line.specs.declared.command.Command.TheVariants as commands;
+ghost use Rattle.cts_program.specs.Answers.{problem_kinds, IsAnswer, IsRefusal};
 ghost use Rattle.cts_program.specs.DemoTexts.{demo_texts, summary_lines, IsDemoText};
-ghost use Rattle.cts_program.specs.Files.{IsShortFile};
-ghost use Rattle.cts_program.specs.Steps.{FailsCircuit, FailsDemo, GivesFault};
+ghost use Rattle.cts_program.specs.Documents.{Tell, RefusesFirst};
+ghost use Rattle.cts_program.specs.Files.{request_of};
+ghost use Rattle.cts_program.specs.Steps.{FailsCircuit, OrMemory};
+ghost use Rattle.cts_program.specs.Told.{nothing, placed};
 
-use crate::reading::placement_failure;
+use crate::reading::{DelayTable, Document, Netlist, Placement};
 use cert_check::Verdict;
 use cts_base::NoMemory;
-use cts_engine::{Outcome, Refusal, accept, accept_circuit, synthesize};
+use cts_engine::{Outcome, synthesize};
 use cts_model::{Problem, Report};
 use demo_input::Demo;
 use failure_lines::Failure;
-use place_reader::PlaceFault;
 use report_text::{push_count, push_line, push_period, push_total};
 use std::alloc::Global;
 use timing_text::Answer;
@@ -37,9 +37,11 @@ use timing_text::Answer;
 pub fn demo(alloc: Global, registers: &str, seed: &str) -> Result<Answer, Failure>
     requires registers { is_number_within 2 1000 registers.now ≡ true }
     requires seed { is_number_within 0 999 seed.now ≡ true }
-    ensures ok { IfOk result (λ answer. IsDemoAnswer (number_of registers.now)
-        (number_of seed.now) (ending_status answer.ending) answer.text.items) }
-    ensures cause { IfErr result (FailsDemo (number_of registers.now) (number_of seed.now)) }
+    ensures ok { IfOk result (λ answer. IsAnswer (request_of (commands.Demo registers.entry
+        seed.entry)) []
+        (ending_status answer.ending) answer.text.items) }
+    ensures cause { IfErr result
+        (OrMemory (IsRefusal (request_of (commands.Demo registers.entry seed.entry)) [])) }
 {
     let registers = number(registers);
     let problem = demo_problem(alloc, registers, number(seed))?;
@@ -63,33 +65,15 @@ fn demo_problem(alloc: Global, registers: u32, seed: u32) -> Result<Problem, Fai
     requires some { 2 ≤ registers }
     requires few { registers ≤ 1000 }
     requires seed { seed < 1000 }
-    ensures ok { IfOk result (AreOfProblem (demo_texts registers seed)) }
-    ensures cause { IfErr result (FailsDemo registers seed) }
+    ensures ok { IfOk result (λ problem.
+        Tell problem_kinds nothing (demo_texts registers seed) (placed problem)) }
+    ensures cause { IfErr result
+        (OrMemory (RefusesFirst problem_kinds nothing (demo_texts registers seed))) }
 {
     let Demo { bench, tech, pl } = demo_input::demo(alloc, registers, seed)?;
-    let bench = bench.as_slice();
-    let tech = tech.as_slice();
-    match accept(alloc, bench, tech, pl.as_slice()) {
-        Ok(problem) => Ok(problem),
-        Err(Refusal::Bench(fault)) => Err(Failure::Bench(fault)),
-        Err(Refusal::Tech(fault)) => Err(Failure::Tech(fault)),
-        Err(Refusal::Places(fault)) => Err(places_failure(alloc, bench, tech, fault)),
-        Err(Refusal::NoMemory) => Err(Failure::NoMemory),
-    }
-}
-
-// The failure where the placement after a netlist and a delay table has this fault. The two tell
-// once more the circuit that names the register, as a refusal has only its number.
-fn places_failure(alloc: Global, bench: &[u8], tech: &[u8], fault: PlaceFault) -> Failure
-    requires bench { IsShortFile bench.now }
-    requires has { (places : List ℕ) × HasPlacesFault bench.now tech.now places fault }
-    ensures { (places : List ℕ) (has : HasPlacesFault bench.now tech.now places fault)
-        → GivesFault has.circuit fault result }
-{
-    match accept_circuit(alloc, bench, tech) {
-        Ok(denoted) => placement_failure(alloc, &denoted.circuit, fault),
-        Err(_) => Failure::NoMemory,
-    }
+    let circuit = Netlist.read(alloc, bench.as_slice())?;
+    let denoted = DelayTable { circuit }.read(alloc, tech.as_slice())?;
+    Placement { denoted }.read(alloc, pl.as_slice())
 }
 
 // The answer for a problem with this number of registers.

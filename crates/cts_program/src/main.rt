@@ -4,6 +4,7 @@
 mod arrivals;
 mod call;
 mod check;
+mod commands;
 mod cornering;
 mod demo;
 mod margin;

@@ -2,13 +2,15 @@
 //! denote.
 
 mod circuit;
-mod corner_files;
-mod files;
+mod corners;
+mod document;
+mod documents;
 mod placement;
 mod problem;
 
 pub use circuit::read_circuit;
-pub use corner_files::{Corners, read_corners};
-pub use files::{read_moves_file, read_report_file, read_topology_file};
-pub use placement::{copied, placement_failure};
+pub use corners::{Corners, read_corners};
+pub use document::{Document, read_document};
+pub use documents::{DelayTable, MovesOf, Netlist, Placement, ReportOf, TopologyOf};
+pub use placement::copied;
 pub use problem::read_problem;

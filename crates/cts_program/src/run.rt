@@ -1,28 +1,20 @@
 ghost use Rattle.std.specs.Prelude.{◌≡◌, ◌≢◌, ◌⊎◌, ◌↔◌, ◌<◌, ℕ, List, map, true, Some, string_bytes, IfOk, IfErr, IsErrOf};
 ghost use Rattle.cts_io.specs.Device.{Rose};
-ghost use Rattle.command_line.specs.declared.command.Command.{Command};
+ghost use Rattle.command_line.specs.Commands.{HasValidTables, HasValidValues};
 ghost use Rattle.failure_lines.specs.declared.failure.Failure.{Failure};
 ghost use Rattle.failure_lines.specs.declared.file_kind.FileKind.{FileKind};
-ghost use Rattle.cts_program.specs.Answers.{is_ending};
-ghost use Rattle.timing_text.specs.Endings.{ending_status};
-ghost use Rattle.command_line.specs.Commands.{HasValidTables, HasValidValues, IsCommand};
 ghost use Rattle.failure_lines.specs.Failures.{status_of};
-ghost use Rattle.cts_program.specs.Files.{files_of, AreDenoted};
-ghost use Rattle.cts_program.specs.Run.{IsNoCommand, DenotesText, RefusesCommand, CannotRead, Stops, Ends, EndsFor, EndsInPart, Fails, Keeps, Reported, ShowsFaults};
-ghost use Rattle.cts_program.specs.Steps.{IsAnyReadFault};
+ghost use Rattle.timing_text.specs.Endings.{ending_status};
+ghost use Rattle.cts_program.specs.Answers.{is_ending};
+ghost use Rattle.cts_program.specs.Files.{Request, Ask, request_of, AreDenoted};
+ghost use Rattle.cts_program.specs.Run.{IsNoCommand, RefusesRequest, CannotRead, Ends, EndsFor, EndsInPart, Fails, Keeps, Reported, ShowsFaults};
+ghost use Rattle.cts_program.specs.Steps.{IsServed};
 
-use crate::check::check;
-use crate::cornering::serve_corners;
-use crate::demo::demo;
-use crate::margin::margin;
-use crate::moves::moves;
-use crate::period::period;
-use crate::reading::{
-    read_circuit, read_corners, read_moves_file, read_problem, read_report_file, read_topology_file,
+use crate::commands::{
+    check_command, corners_command, embed_command, margin_command, moves_command, period_command,
+    schedule_command, synth_command, zero_command,
 };
-use crate::scheduling::schedule;
-use crate::synth::{embed, synth};
-use crate::zero::zero;
+use crate::demo::demo;
 use command_line::{Command, read_command};
 use cts_io::{Inputs, Sink, write_whole};
 use failure_lines::Failure;
@@ -49,16 +41,16 @@ pub fn run<I: Inputs, O: Sink, E: Sink>(
 
     // 3: only where what the files hold makes the command refuse them, and 7 only where the report
     // isn't shown.
-    ensures refused { (result ≡ 3) ⊎ (result ≡ 7) → (command : Command)
-        × IsCommand (map string_bytes words.now) command
+    ensures refused { (result ≡ 3) ⊎ (result ≡ 7) → (request : Request)
+        × Ask (map string_bytes words.now) request
         × ((failure : Failure) × (status_of failure ≡ result)
-        × RefusesCommand (I.holds inputs.old) command failure) }
+        × RefusesRequest (I.holds inputs.old) request failure) }
 
     // 4: only where the count of a file rose that the command reads, after files that are accepted.
-    ensures read_fault { result ≡ 4 → (command : Command)
-        × IsCommand (map string_bytes words.now) command
+    ensures read_fault { result ≡ 4 → (request : Request)
+        × Ask (map string_bytes words.now) request
         × ((kind : FileKind) × CannotRead (I.holds inputs.old) (I.faults inputs.old)
-        (I.faults inputs.new) command kind) }
+        (I.faults inputs.new) request.files kind) }
 
     // 5: only where the count of the output rose. A prefix of the text stands there.
     ensures write_fault { result ≡ 5 → Rose (O.faults out.old) (O.faults out.new)
@@ -66,10 +58,10 @@ pub fn run<I: Inputs, O: Sink, E: Sink>(
         (O.written out.new) }
 
     // What the files are known to hold decides the status, but for faults and want of memory.
-    ensures given { (command : Command) (contents : List (List ℕ))
-        → IsCommand (map string_bytes words.now) command
-        → AreDenoted (I.holds inputs.old) (files_of command) contents
-        → EndsFor command contents (I.faults inputs.old) (I.faults inputs.new) (O.written out.old)
+    ensures given { (request : Request) (contents : List (List ℕ))
+        → Ask (map string_bytes words.now) request
+        → AreDenoted (I.holds inputs.old) request.files contents
+        → EndsFor request contents (I.faults inputs.old) (I.faults inputs.new) (O.written out.old)
         (O.written out.new) (O.faults out.old) (O.faults out.new) result }
 
     // No fault is hidden, and nothing is changed but the output.
@@ -113,7 +105,7 @@ fn write_answer<I: Inputs, O: Sink>(
     ensures untouched { IsErrOf result Failure.Usage → inputs.new ≡ inputs.old }
     ensures kept { IfErr result (λ failure. failure ≢ Failure.WriteFault
         → O.written out.new ≡ O.written out.old) }
-    ensures reads { ¬ IsAnyReadFault result
+    ensures reads { ((kind : FileKind) → IsErrOf result (Failure.ReadFault kind) → ⊥)
         → (file : List ℕ) → I.faults inputs.new file ≡ I.faults inputs.old file }
     ensures writes { ¬ IsErrOf result Failure.WriteFault → O.faults out.new ≡ O.faults out.old }
 {
@@ -133,69 +125,38 @@ fn command_answer<I: Inputs>(
 ) -> Result<Answer, Failure>
     requires values { HasValidValues command }
     requires tables { HasValidTables command }
-    ensures ok { IfOk result (λ answer. DenotesText (I.holds inputs.old) command.entry
-        (ending_status answer.ending) answer.text.items) }
-    ensures cause { IfErr result (Stops (I.holds inputs.old) (I.faults inputs.old)
-        (I.faults inputs.new) command.entry) }
-    ensures files { (file : List ℕ) → I.holds inputs.new file ≡ I.holds inputs.old file }
-    ensures stays { ¬ IsAnyReadFault result
-        → (file : List ℕ) → I.faults inputs.new file ≡ I.faults inputs.old file }
+    ensures { IsServed (I.holds inputs.old) (I.holds inputs.new) (I.faults inputs.old)
+        (I.faults inputs.new) (request_of command.entry) result }
 {
     match command {
-        Command::Zero { bench, tech } => { zero(alloc, &read_circuit(alloc, inputs, bench, tech)?) }
-        Command::Period { bench, tech } => {
-            period(alloc, &read_circuit(alloc, inputs, bench, Some(tech))?)
-        }
-        Command::Schedule { bench, tech } => {
-            schedule(alloc, &read_circuit(alloc, inputs, bench, Some(tech))?)
-        }
-        Command::Synth { bench, tech, pl } => {
-            synth(alloc, &read_problem(alloc, inputs, bench, tech, pl)?)
-        }
+        Command::Zero { bench, tech } => zero_command(alloc, inputs, bench, tech),
+        Command::Period { bench, tech } => period_command(alloc, inputs, bench, tech),
+        Command::Schedule { bench, tech } => schedule_command(alloc, inputs, bench, tech),
+        Command::Synth { bench, tech, pl } => synth_command(alloc, inputs, bench, tech, pl),
         Command::Check {
             bench,
             tech,
             pl,
             report,
-        } => {
-            let problem = read_problem(alloc, inputs, bench, tech, pl)?;
-            let report = read_report_file(alloc, inputs, report, &problem)?;
-            check(alloc, &problem, &report)
-        }
+        } => check_command(alloc, inputs, bench, tech, pl, report),
         Command::Demo { registers, seed } => demo(alloc, registers, seed),
         Command::Margin {
             bench,
             tech,
             period,
-        } => {
-            margin(
-                alloc,
-                &read_circuit(alloc, inputs, bench, Some(tech))?,
-                period,
-            )
-        }
+        } => margin_command(alloc, inputs, bench, tech, period),
         Command::Embed {
             bench,
             tech,
             pl,
             topology,
-        } => {
-            let problem = read_problem(alloc, inputs, bench, tech, pl)?;
-            let topology = read_topology_file(alloc, inputs, topology, &problem)?;
-            embed(alloc, &problem, &topology)
-        }
+        } => embed_command(alloc, inputs, bench, tech, pl, topology),
         Command::Moves {
             bench,
             tech,
             pl,
-            moves: file,
-        } => {
-            let problem = read_problem(alloc, inputs, bench, tech, pl)?;
-            let list = read_moves_file(alloc, inputs, file, &problem)?;
-            moves(alloc, &problem, &list)
-        }
-        Command::Corners { bench, tables } => {
-            serve_corners(alloc, &read_corners(alloc, inputs, bench, tables)?)
-        }
+            moves,
+        } => moves_command(alloc, inputs, bench, tech, pl, moves),
+        Command::Corners { bench, tables } => corners_command(alloc, inputs, bench, tables),
     }
 }

@@ -1,22 +1,18 @@
 //! What the files of a command tell: a circuit and its delays.
 
-ghost use Rattle.std.specs.Prelude.{◌≡◌, ◌≢◌, ◌↔◌, ℕ, IsTrue, List, [], Some, IfOk, IfErr};
-ghost use Rattle.cts_model.specs.netlist.Circuits.{has_host};
-ghost use Rattle.cts_model.specs.netlist.Paths.{IsLoop};
-ghost use Rattle.cts_model.specs.tree.Problems.{GivesUsedKinds};
-ghost use Rattle.command_line.specs.declared.command.Command.{Command};
 ghost use Rattle.cts_program.specs.Files.{circuit_files};
-ghost use Rattle.cts_program.specs.Run.{Stops};
-ghost use Rattle.cts_program.specs.Steps.{ReadsCircuit, DenotesCircuit, IsAnyReadFault};
+ghost use Rattle.cts_program.specs.Steps.{AreRead, AreServed, AreUnread, IsStep};
+ghost use Rattle.cts_program.specs.Told.{timed};
+ghost use Rattle.std.specs.Prelude.{IfOk};
 
-use crate::reading::files::{read_netlist, read_table};
+use crate::reading::document::read_document;
+use crate::reading::documents::{DelayTable, Netlist};
 use cts_engine::Denoted;
 use cts_io::Inputs;
-use cts_model::Tech;
 use failure_lines::Failure;
 use std::alloc::Global;
 
-/// What the netlist in a file denotes, with the delays in another or the built-in ones.
+/// What the netlist in a file denotes, with the delays in another.
 ///
 /// # Errors
 ///
@@ -25,28 +21,16 @@ pub fn read_circuit<I: Inputs>(
     alloc: Global,
     inputs: &mut I,
     bench: &str,
-    tech: Option<&str>,
+    tech: &str,
 ) -> Result<Denoted, Failure>
-    ensures ok { IfOk result (λ denoted. DenotesCircuit (I.holds inputs.old)
-        (circuit_files bench.entry tech.entry) denoted.circuit denoted.tech) }
-    ensures kinds { IfOk result (λ denoted. GivesUsedKinds denoted.circuit denoted.tech) }
-    ensures host { IfOk result (λ denoted.
-        IsTrue (has_host denoted.circuit.signals) ↔ (denoted.tech.host ≢ [])) }
-    ensures acyclic { IfOk result (λ denoted.
-        (loop : List ℕ) → IsLoop denoted.circuit.signals loop → ⊥) }
-    ensures cause { IfErr result (λ failure. (command : Command)
-        → ReadsCircuit command bench.entry tech.entry
-        → Stops (I.holds inputs.old) (I.faults inputs.old) (I.faults inputs.new) command failure) }
-    ensures files { (file : List ℕ) → I.holds inputs.new file ≡ I.holds inputs.old file }
-    ensures stays { ¬ IsAnyReadFault result
-        → (file : List ℕ) → I.faults inputs.new file ≡ I.faults inputs.old file }
+    ensures step { IsStep (I.holds inputs.old) (I.holds inputs.new) (I.faults inputs.old)
+        (I.faults inputs.new)
+        (λ denoted. AreRead (I.holds inputs.old) (circuit_files bench.now tech.now)
+        (timed denoted.circuit denoted.tech))
+        (AreUnread (I.holds inputs.old) (I.faults inputs.old) (I.faults inputs.new)
+        (circuit_files bench.now tech.now)) result }
+    ensures served { IfOk result (λ denoted. AreServed denoted.circuit denoted.tech) }
 {
-    let bare = read_netlist(alloc, inputs, bench)?;
-    match tech {
-        None => Ok(Denoted {
-            circuit: bare,
-            tech: Tech::plain(alloc),
-        }),
-        Some(file) => read_table(alloc, inputs, file, bare),
-    }
+    let circuit = read_document(alloc, inputs, Netlist, bench)?;
+    read_document(alloc, inputs, DelayTable { circuit }, tech)
 }

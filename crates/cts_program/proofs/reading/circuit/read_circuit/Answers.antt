@@ -1,63 +1,22 @@
-use Rattle.std.proofs.Common.{◌∙◌}
 use Rattle.std.proofs.lemmas.Result.{err_from_is_err_and}
-use Rattle.failure_lines.specs.declared.file_kind.FileKind.TheVariants as kinds
-use Rattle.cts_program.proofs.PlainDelays.{gives_plain, has_host-plain}
-use Rattle.cts_program.proofs.DenotedLemmas.{netlist_stops, table_stops, netlist_denotes, both_tell, denoted_acyclic}
-use Rattle.cts_program.proofs.ResultLemmas.{if_ok_from, if_err_from}
+use Rattle.std.proofs.Common.{[], ◌∷◌}
+use Rattle.failure_lines.specs.declared.file_kind.FileKind.TheVariants.{Bench, Tech}
+use Rattle.cts_program.proofs.ReadLemmas.{none_read, read_more, unread_after}
+use Rattle.cts_program.proofs.StepLemmas.{step_from, step_fails, step_counts}
 use Rattle.cts_program.proofs.reading.circuit.read_circuit.Goals as goal
 
-pub returns-in_err-bare-clause-cause : goal.returns-in_err-bare-clause-cause
-returns-in_err-bare-clause-cause g c =
+pub returns-in_err-circuit-clause-step : goal.returns-in_err-circuit-clause-step
+returns-in_err-circuit-clause-step g c =
     let p = err_from_is_err_and c.from_residual.result c.from_residual.ensures.1 in
-    rw (p.1, p.2) (λ command named. netlist_stops
-    (g.I.Inputs.holds c.args.inputs.now) _ _ command c.args.bench c.args.tech named _
-    c.in_err-bare.ensures.cause)
+    rw (p.1, p.2) (step_fails _ c.in_err-circuit.ensures.step (unread_after
+    (g.I.Inputs.holds c.args.inputs.now) (none_read (g.I.Inputs.holds c.args.inputs.now))
+    (Bench, c.args.bench.now) _ _ ((Tech, c.args.tech.now) ∷ []) _))
 
-pub returns-in-None-clause-ok : goal.returns-in-None-clause-ok
-returns-in-None-clause-ok g c =
-    rw c.in-None.is (netlist_denotes (g.I.Inputs.holds c.args.inputs.now) c.args.bench
-    c.in_ok-bare.ensures.ok c.plain.result c.plain.ensures)
-
-pub returns-in-None-clause-kinds : goal.returns-in-None-clause-kinds
-returns-in-None-clause-kinds g c = gives_plain c.in_ok-bare.bare c.plain.result c.plain.ensures
-
-pub returns-in-None-clause-host : goal.returns-in-None-clause-host
-returns-in-None-clause-host g c =
-    has_host-plain c.plain.result c.in_ok-bare.bare c.in_ok-bare.ensures.hostless c.plain.ensures
-
-pub returns-in-None-clause-acyclic : goal.returns-in-None-clause-acyclic
-returns-in-None-clause-acyclic g c =
-    denoted_acyclic (netlist_denotes (g.I.Inputs.holds c.args.inputs.now) c.args.bench
-    c.in_ok-bare.ensures.ok c.plain.result c.plain.ensures)
-
-pub returns-in-Some-clause-ok : goal.returns-in-Some-clause-ok
-returns-in-Some-clause-ok g c =
-    rw c.in-Some.is (if_ok_from c.read_table.result _ _ _ c.read_table.ensures.ok
-    c.read_table.ensures.hosted (λ denoted read hosted. both_tell
-    (g.I.Inputs.holds c.args.inputs.now) c.args.bench c.in-Some.file c.in_ok-bare.ensures.ok
-    (rw (c.in_ok-bare.ensures.files c.in-Some.file.now) at read) denoted.circuit hosted))
-
-pub returns-in-Some-clause-acyclic : goal.returns-in-Some-clause-acyclic
-returns-in-Some-clause-acyclic g c =
-    if_ok_from c.read_table.result _ _ _ c.read_table.ensures.ok
-    c.read_table.ensures.hosted (λ denoted read hosted. denoted_acyclic (both_tell
-    (g.I.Inputs.holds c.args.inputs.now) c.args.bench c.in-Some.file c.in_ok-bare.ensures.ok
-    (rw (c.in_ok-bare.ensures.files c.in-Some.file.now) at read) denoted.circuit hosted))
-
-pub returns-in-Some-clause-cause : goal.returns-in-Some-clause-cause
-returns-in-Some-clause-cause g c =
-    let held = c.in_ok-bare.ensures.files c.in-Some.file.now in
-    let stood = c.in_ok-bare.ensures.stays (λ e. cc e) c.in-Some.file.now in
-    rw c.in-Some.is (if_err_from c.read_table.result _ _ c.read_table.ensures.cause
-    (λ failure fails command named. table_stops (g.I.Inputs.holds c.args.inputs.now) _ _ command
-    c.args.bench c.in-Some.file named c.in_ok-bare.ensures.ok failure
-    (rw (held, stood) at fails)))
-
-pub returns-in-Some-clause-files : goal.returns-in-Some-clause-files
-returns-in-Some-clause-files g c file =
-    c.read_table.ensures.files file ∙ c.in_ok-bare.ensures.files file
-
-pub returns-in-Some-clause-stays : goal.returns-in-Some-clause-stays
-returns-in-Some-clause-stays g c none file =
-    c.read_table.ensures.stays (λ e. none (kinds.Tech, e)) file
-    ∙ c.in_ok-bare.ensures.stays (λ e. cc e) file
+pub returns-clause-step : goal.returns-clause-step
+returns-clause-step g c =
+    let holds = g.I.Inputs.holds c.args.inputs.now in
+    let first = c.in_ok-circuit.ensures.step in
+    let read = read_more holds (none_read holds) (Bench, c.args.bench.now) first.gives in
+    let last = rw (first.files, step_counts _ first) at c.read_document-2.ensures.step in
+    step_from _ last (λ denoted. read_more holds read (Tech, c.args.tech.now))
+    (λ failure. unread_after holds read (Tech, c.args.tech.now) _ _ [] failure)

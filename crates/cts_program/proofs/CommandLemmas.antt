@@ -1,0 +1,62 @@
+-- What a command comes to whose files are read, and a demonstration, which reads none.
+use Rattle.std.proofs.Common.{ℕ, ◌≢◌, inl, inr, List, [], Option, Result, Ok, Err, IfOk, IfErr, refl, Bor}
+use Rattle.cts_model.specs.declared.problem.Problem.{Problem}
+use Rattle.cts_model.specs.declared.report.Report.{Report}
+use Rattle.command_line.specs.declared.command.Command.TheVariants.{Demo}
+use Rattle.command_line.specs.declared.table.Form.{Form}
+use Rattle.command_line.specs.declared.table.Form.TheVariants as forms
+use Rattle.command_line.specs.Commands.{Given}
+use Rattle.timing_text.specs.declared.answer.Answer.{Answer}
+use Rattle.timing_text.specs.Endings.{ending_status}
+use Rattle.failure_lines.specs.declared.failure.Failure.{Failure}
+use Rattle.cts_program.specs.Answers.{IsUnshown, RefusesTold, IsAnswer, IsRefusal}
+use Rattle.cts_program.specs.Files.{NamedFile, Request, request_of}
+use Rattle.cts_program.specs.Run.{DenotesText, Stops, refused, wants_memory}
+use Rattle.cts_program.specs.Steps.{OrMemory, IsStep}
+use Rattle.cts_program.specs.Told.{reported}
+use Rattle.cts_program.proofs.StepLemmas.{IsByFiles}
+
+-- a command that is no demonstration goes by its files
+pub by_files : (request : Request) → request.form ≢ forms.Demo → IsByFiles request
+by_files request = at request.form request.given request.files
+  where
+    at : (form : Form) (given : List Given) (files : List NamedFile) → form ≢ forms.Demo
+        → IsByFiles (record { form = form; given = given; files = files })
+    at forms.Demo given files other = absurd (other refl)
+    at form given files other = record { kinds = refl; texts = λ contents. refl }
+
+-- a report that isn't shown is refused though it is read
+pub check_fails : (problem : Problem) (report : Report) (failure : Failure)
+    → OrMemory (IsUnshown forms.Check (reported problem report)) failure
+    → OrMemory (RefusesTold forms.Check (reported problem report)) failure
+check_fails problem report failure (inl unshown) = inl (inr unshown)
+check_fails problem report failure (inr memory) = inr memory
+
+-- a demonstration is answered, or refused, with no file
+pub demo_step : {holds : List ℕ → Option (List ℕ)} {reads : List ℕ → ℕ}
+    (registers seed : Bor (List ℕ)) (result : Result Answer Failure)
+    → IfOk result (λ answer. IsAnswer (request_of (Demo registers seed)) []
+    (ending_status answer.ending) answer.text.items)
+    → IfErr result (OrMemory (IsRefusal (request_of (Demo registers seed)) []))
+    → IsStep holds holds reads reads (λ answer. DenotesText holds (request_of (Demo registers seed))
+    (ending_status answer.ending) answer.text.items)
+    (Stops holds reads reads (request_of (Demo registers seed))) result
+unfolding request_of
+demo_step registers seed (Ok answer) says fails = record {
+  files = refl;
+  counts = λ none. refl;
+  gives = record { contents = []; are = tt; answer = says };
+  fails = tt;
+}
+demo_step registers seed (Err failure) says (inl refusal) = record {
+  files = refl;
+  counts = λ none. refl;
+  gives = tt;
+  fails = refused (record { contents = []; are = tt; refusal = refusal });
+}
+demo_step registers seed (Err failure) says (inr memory) = record {
+  files = refl;
+  counts = λ none. refl;
+  gives = tt;
+  fails = wants_memory memory;
+}

@@ -1,0 +1,17 @@
+use Rattle.std.proofs.Common.{◌≡◌, ◌∷◌, length, map, take, string_bytes}
+use Rattle.failure_lines.specs.declared.file_kind.FileKind.TheVariants.{Bench}
+use Rattle.cts_program.specs.Files.{corner_files}
+use Rattle.cts_program.specs.Steps.{AreRead}
+use Rattle.cts_program.specs.Told.{bare}
+use Rattle.cts_program.proofs.reading.corners.read_corners.Given as goal
+
+-- the tables so far are read, and the device is as it was
+abbrev pub invariant-loop-place : goal.invariant-loop-place
+invariant-loop-place g l = record {
+  read : AreRead (g.I.Inputs.holds l.fn.inputs)
+      ((Bench, l.bench) ∷ corner_files 1 (map string_bytes (take l.place l.tables)))
+      (bare l.bare l.techs);
+  count : length l.techs ≡ l.place;
+  files : g.I.Inputs.holds l.inputs ≡ g.I.Inputs.holds l.fn.inputs;
+  stays : g.I.Inputs.faults l.inputs ≡ g.I.Inputs.faults l.fn.inputs;
+}

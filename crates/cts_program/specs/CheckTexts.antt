@@ -1,0 +1,29 @@
+-- What the command `check` says of a report, whoever made it: that it shows what it says of the
+-- problem, or why it doesn't. Fishburn 1990; Boese and Kahng 1992; Chao and others 1992.
+use Rattle.std.specs.Prelude.{◌≡◌, ℕ, List, [], ◌∷◌, codes}
+use Rattle.cts_model.specs.declared.circuit.Circuit.{Circuit}
+use Rattle.cts_model.specs.declared.problem.Problem.{Problem}
+use Rattle.cts_model.specs.declared.report.Report.{Report}
+use Rattle.cts_model.specs.netlist.Paths.{register_name}
+use Rattle.cts_model.specs.text.PrintedLines.{Words, text_of}
+use Rattle.cts_model.specs.report.Shown.{IsShown, ShowsLeast}
+use Rattle.cert_check.specs.declared.verdict.Reason.{Reason}
+use Rattle.cert_check.specs.declared.verdict.Reason.TheVariants.{ScheduleMisses, SkewDiffers, SlackDiffers, NotLeast}
+
+-- the line for a report that is shown
+abbrev pub shown_line : Words
+shown_line = codes "shown" ∷ []
+
+-- the bytes say that the report shows what it says of the problem, and so that is true
+pub record IsCheckText (problem : Problem) (report : Report) (text : List ℕ) : Type 0 where
+  pub shown : IsShown problem report
+  pub least : ShowsLeast problem report
+  pub spelled : text ≡ text_of (shown_line ∷ [])
+
+-- the name of the register that a reason is about, and no bytes where it is about none
+abbrev pub subject_of : Circuit → Reason → List ℕ
+subject_of circuit (ScheduleMisses register) = register_name circuit register
+subject_of circuit (SkewDiffers register) = register_name circuit register
+subject_of circuit (SlackDiffers register) = register_name circuit register
+subject_of circuit (NotLeast register) = register_name circuit register
+subject_of circuit reason = []

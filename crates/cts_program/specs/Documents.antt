@@ -1,0 +1,137 @@
+-- What a file tells after those before it, or why it is refused, and so for the files of a command:
+-- each is judged as soon as it is read.
+use Rattle.std.specs.Prelude.{◌≡◌, ◌≢◌, ◌==◌, ◌⊎◌, ℕ, Bool, List, [], ◌∷◌, ◌++◌, length, Some}
+use Rattle.cts_model.specs.declared.circuit.Circuit.{Circuit}
+use Rattle.cts_model.specs.declared.problem.Problem.{Problem}
+use Rattle.cts_model.specs.declared.report.Report as reports
+use Rattle.cts_model.specs.declared.tech.Tech.{Tech}
+use Rattle.cts_model.specs.declared.tree.Topology as trees
+use Rattle.cts_model.specs.netlist.Paths.{register_name}
+use Rattle.cts_model.specs.report.ReportBounds.{Spells}
+use Rattle.bench_reader.specs.declared.fault.BenchFault.{BenchFault}
+use Rattle.bench_reader.specs.Netlists.{AcceptsNetlist, RefusesNetlist}
+use Rattle.delay_tables.specs.declared.fault.TechFault.{TechFault}
+use Rattle.place_reader.specs.declared.fault.PlaceFault.{PlaceFault}
+use Rattle.place_reader.specs.declared.fault.PlaceFault.TheVariants as place
+use Rattle.place_reader.specs.Placements.{AcceptsPlacement, RefusesPlacement}
+use Rattle.report_text.specs.declared.fault.ReportFault.{ReportFault}
+use Rattle.report_text.specs.declared.fault.ReportFault.TheVariants as report
+use Rattle.report_text.specs.ReportFaults.{HasFault}
+use Rattle.topology_file.specs.declared.fault.TopologyFault.{TopologyFault}
+use Rattle.topology_file.specs.TopologyTexts.{AcceptsTopology, RefusesTopology}
+use Rattle.move_session.specs.declared.fault.MovesFault.{MovesFault}
+use Rattle.move_session.specs.declared.moves.Move.{Move}
+use Rattle.move_session.specs.Moves.{AcceptsMoves, RefusesMoves}
+use Rattle.cts_engine.specs.Accepted.{IsHostedBy, TellsDelays, HasFaultFor}
+use Rattle.failure_lines.specs.declared.failure.Failure.{Failure}
+use Rattle.failure_lines.specs.declared.failure.Failure.TheVariants as failures
+use Rattle.failure_lines.specs.declared.file_kind.FileKind.{FileKind}
+use Rattle.failure_lines.specs.declared.file_kind.FileKind.TheVariants as kinds
+use Rattle.failure_lines.specs.declared.not_shown.NotShown.TheVariants as why
+use Rattle.failure_lines.specs.declared.placement_fault.PlacementFault.{PlacementFault}
+use Rattle.failure_lines.specs.declared.placement_fault.PlacementFault.TheVariants.{BadLine, BadNumber, PlaceTwice, NoPlace, NoSource}
+use Rattle.cts_program.specs.Files.{IsShortFile}
+use Rattle.cts_program.specs.Told.{Told, nothing, bare, timed, placed, reported, joined, moving}
+
+-- a placement's fault, with the name of the register that has no place
+abbrev pub IsNamedFault : Circuit → PlaceFault → PlacementFault → Type 0
+IsNamedFault circuit fault (BadLine line) = fault ≡ place.BadLine line
+IsNamedFault circuit fault (BadNumber line number) = fault ≡ place.BadNumber line number
+IsNamedFault circuit fault (PlaceTwice line) = fault ≡ place.PlaceTwice line
+IsNamedFault circuit fault (NoPlace name) =
+    (register : ℕ) × (fault ≡ place.NoPlace register) × (name ≡ register_name circuit register)
+IsNamedFault circuit fault NoSource = fault ≡ place.NoSource
+
+-- a placement of a circuit with such delays has this fault
+pub record HasPlaceFault (circuit : Circuit) (tech : Tech) (bytes : List ℕ)
+    (fault : PlacementFault) : Type 0 where
+  pub found : PlaceFault
+  pub named : IsNamedFault circuit found fault
+  pub cause : RefusesPlacement bytes circuit tech.source tech.host found
+
+-- whether a table gives the host no place
+abbrev pub is_hostless : Tech → Bool
+is_hostless tech = length tech.host == 0
+
+-- one of the first table and this one gives the host a place, and the other doesn't
+abbrev pub DiffersFromFirst : List Tech → Tech → Type 0
+DiffersFromFirst [] tech = ⊥
+DiffersFromFirst (first ∷ more) tech = is_hostless first ≢ is_hostless tech
+
+-- ---- one file
+
+-- after what is told, a file of this kind with these bytes tells this
+abbrev pub Means : FileKind → Told → List ℕ → (next : Told) → Type 0
+Means kinds.Bench nothing bytes next =
+    (circuit : Circuit) × (next ≡ bare circuit []) × AcceptsNetlist bytes circuit
+Means kinds.Tech (bare only []) bytes next =
+    (circuit : Circuit) × (tech : Tech) × (next ≡ timed circuit tech)
+    × TellsDelays only.signals bytes tech × IsHostedBy tech only circuit
+Means kinds.Placement (timed circuit tech) bytes next =
+    (problem : Problem) × (next ≡ placed problem)
+    × (problem.circuit ≡ circuit) × (problem.tech ≡ tech)
+    × AcceptsPlacement bytes circuit tech.source tech.host problem.places
+Means kinds.Report (placed problem) bytes next =
+    (report : reports.Report) × (next ≡ reported problem report)
+    × Spells problem.circuit problem.tech bytes report
+Means kinds.Topology (placed problem) bytes next =
+    (topology : trees.Topology) × (next ≡ joined problem topology)
+    × AcceptsTopology bytes (length problem.circuit.registers) topology
+Means kinds.Moves (placed problem) bytes next =
+    (moves : List Move) × (next ≡ moving problem moves) × AcceptsMoves bytes problem.circuit moves
+Means (kinds.Corner number) (bare only techs) bytes next =
+    (tech : Tech) × (next ≡ bare only (techs ++ tech ∷ []))
+    × TellsDelays only.signals bytes tech × (DiffersFromFirst techs tech → ⊥)
+Means kind told bytes next = ⊥
+
+-- or it is refused with this failure; the table of a corner is named by its number
+abbrev pub Refuses : FileKind → Told → List ℕ → Failure → Type 0
+Refuses kinds.Bench nothing bytes failure =
+    (fault : BenchFault) × (failure ≡ failures.Bench fault) × RefusesNetlist bytes fault
+Refuses kinds.Tech (bare only []) bytes failure =
+    (fault : TechFault) × (failure ≡ failures.Tech fault) × HasFaultFor only.signals bytes fault
+Refuses kinds.Placement (timed circuit tech) bytes failure =
+    (fault : PlacementFault) × (failure ≡ failures.Placement fault)
+    × HasPlaceFault circuit tech bytes fault
+Refuses kinds.Report (placed problem) bytes failure =
+    (fault : ReportFault) × (failure ≡ failures.Unshown (why.Fault fault))
+    × (fault ≢ report.NoMemory) × HasFault problem.circuit problem.tech bytes (Some fault)
+Refuses kinds.Topology (placed problem) bytes failure =
+    (fault : TopologyFault) × (failure ≡ failures.Topology fault)
+    × RefusesTopology bytes (length problem.circuit.registers) fault
+Refuses kinds.Moves (placed problem) bytes failure =
+    (fault : MovesFault) × (failure ≡ failures.Moves fault)
+    × RefusesMoves bytes problem.circuit fault
+Refuses (kinds.Corner number) (bare only techs) bytes failure =
+    ((fault : TechFault) × (failure ≡ failures.CornerTech number fault)
+    × HasFaultFor only.signals bytes fault)
+    ⊎ ((failure ≡ failures.CornerHost number)
+    × ((tech : Tech) × TellsDelays only.signals bytes tech × DiffersFromFirst techs tech))
+Refuses kind told bytes failure = ⊥
+
+-- it is accepted: it isn't too long, and tells this
+abbrev pub IsAcceptedAs : FileKind → Told → List ℕ → (next : Told) → Type 0
+IsAcceptedAs kind told bytes next = IsShortFile bytes × Means kind told bytes next
+
+-- it is refused: it is too long, or for what it holds
+abbrev pub IsRefusedAs : FileKind → Told → List ℕ → Failure → Type 0
+IsRefusedAs kind told bytes failure =
+    ((failure ≡ failures.TooLong kind) × (IsShortFile bytes → ⊥))
+    ⊎ (IsShortFile bytes × Refuses kind told bytes failure)
+
+-- ---- the files of a command
+
+-- files of these kinds with these contents, one for each, are accepted, and after what is told they
+-- tell this
+abbrev pub Tell : List FileKind → Told → List (List ℕ) → (last : Told) → Type 0
+Tell [] told [] last = last ≡ told
+Tell (kind ∷ kinds) told (bytes ∷ contents) last =
+    (next : Told) × IsAcceptedAs kind told bytes next × Tell kinds next contents last
+Tell kinds told contents last = ⊥
+
+-- one of them is refused with this failure, and those before it are accepted
+abbrev pub RefusesFirst : List FileKind → Told → List (List ℕ) → Failure → Type 0
+RefusesFirst (kind ∷ kinds) told (bytes ∷ contents) failure = IsRefusedAs kind told bytes failure
+    ⊎ ((next : Told) × IsAcceptedAs kind told bytes next
+    × RefusesFirst kinds next contents failure)
+RefusesFirst kinds told contents failure = ⊥

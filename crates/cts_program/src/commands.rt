@@ -1,0 +1,216 @@
+//! What each command answers that reads files: they are read in their order, and what they tell is
+//! answered.
+
+ghost use Rattle.std.specs.Prelude.{◌≡◌, ◌≤◌, true, length};
+ghost use Rattle.command_line.specs.declared.command.Command.TheVariants as commands;
+ghost use Rattle.command_line.specs.Commands.{is_period};
+ghost use Rattle.cts_program.specs.Files.{request_of};
+ghost use Rattle.cts_program.specs.Steps.{IsServed};
+
+use crate::check::check;
+use crate::cornering::serve_corners;
+use crate::margin::margin;
+use crate::moves::moves;
+use crate::period::period;
+use crate::reading::{
+    MovesOf, Netlist, ReportOf, TopologyOf, read_circuit, read_corners, read_document, read_problem,
+};
+use crate::scheduling::schedule;
+use crate::synth::{embed, synth};
+use crate::zero::zero;
+use cts_engine::Denoted;
+use cts_io::Inputs;
+use cts_model::Tech;
+use failure_lines::Failure;
+use std::alloc::Global;
+use timing_text::Answer;
+
+/// What `zero` answers, with the delay table in a file or the built-in one.
+///
+/// # Errors
+///
+/// The first file that can't be read or is refused, why what they tell is refused, or want of
+/// memory.
+pub fn zero_command<I: Inputs>(
+    alloc: Global,
+    inputs: &mut I,
+    bench: &str,
+    tech: Option<&str>,
+) -> Result<Answer, Failure>
+    ensures { IsServed (I.holds inputs.old) (I.holds inputs.new) (I.faults inputs.old)
+        (I.faults inputs.new) (request_of (commands.Zero bench.entry tech.entry)) result }
+{
+    match tech {
+        None => {
+            let circuit = read_document(alloc, inputs, Netlist, bench)?;
+            let tech = Tech::plain(alloc);
+            zero(alloc, &Denoted { circuit, tech })
+        }
+        Some(tech) => zero(alloc, &read_circuit(alloc, inputs, bench, tech)?),
+    }
+}
+
+/// What `period` answers.
+///
+/// # Errors
+///
+/// The first file that can't be read or is refused, why what they tell is refused, or want of
+/// memory.
+pub fn period_command<I: Inputs>(
+    alloc: Global,
+    inputs: &mut I,
+    bench: &str,
+    tech: &str,
+) -> Result<Answer, Failure>
+    ensures { IsServed (I.holds inputs.old) (I.holds inputs.new) (I.faults inputs.old)
+        (I.faults inputs.new) (request_of (commands.Period bench.entry tech.entry)) result }
+{
+    period(alloc, &read_circuit(alloc, inputs, bench, tech)?)
+}
+
+/// What `schedule` answers.
+///
+/// # Errors
+///
+/// The first file that can't be read or is refused, why what they tell is refused, or want of
+/// memory.
+pub fn schedule_command<I: Inputs>(
+    alloc: Global,
+    inputs: &mut I,
+    bench: &str,
+    tech: &str,
+) -> Result<Answer, Failure>
+    ensures { IsServed (I.holds inputs.old) (I.holds inputs.new) (I.faults inputs.old)
+        (I.faults inputs.new) (request_of (commands.Schedule bench.entry tech.entry)) result }
+{
+    schedule(alloc, &read_circuit(alloc, inputs, bench, tech)?)
+}
+
+/// What `margin` answers at this period.
+///
+/// # Errors
+///
+/// The first file that can't be read or is refused, why what they tell is refused, or want of
+/// memory.
+pub fn margin_command<I: Inputs>(
+    alloc: Global,
+    inputs: &mut I,
+    bench: &str,
+    tech: &str,
+    period: &str,
+) -> Result<Answer, Failure>
+    requires { is_period period.now ≡ true }
+    ensures { IsServed (I.holds inputs.old) (I.holds inputs.new) (I.faults inputs.old)
+        (I.faults inputs.new) (request_of (commands.Margin bench.entry tech.entry period.entry))
+        result }
+{
+    margin(alloc, &read_circuit(alloc, inputs, bench, tech)?, period)
+}
+
+/// What `synth` answers.
+///
+/// # Errors
+///
+/// The first file that can't be read or is refused, why what they tell is refused, or want of
+/// memory.
+pub fn synth_command<I: Inputs>(
+    alloc: Global,
+    inputs: &mut I,
+    bench: &str,
+    tech: &str,
+    pl: &str,
+) -> Result<Answer, Failure>
+    ensures { IsServed (I.holds inputs.old) (I.holds inputs.new) (I.faults inputs.old)
+        (I.faults inputs.new) (request_of (commands.Synth bench.entry tech.entry pl.entry)) result }
+{
+    synth(alloc, &read_problem(alloc, inputs, bench, tech, pl)?)
+}
+
+/// What `check` answers to a report.
+///
+/// # Errors
+///
+/// The first file that can't be read or is refused, why what they tell is refused, or want of
+/// memory.
+pub fn check_command<I: Inputs>(
+    alloc: Global,
+    inputs: &mut I,
+    bench: &str,
+    tech: &str,
+    pl: &str,
+    report: &str,
+) -> Result<Answer, Failure>
+    ensures { IsServed (I.holds inputs.old) (I.holds inputs.new) (I.faults inputs.old)
+        (I.faults inputs.new) (request_of (commands.Check bench.entry tech.entry pl.entry
+        report.entry)) result }
+{
+    let problem = read_problem(alloc, inputs, bench, tech, pl)?;
+    let report = read_document(alloc, inputs, ReportOf { problem: &problem }, report)?;
+    check(alloc, &problem, &report)
+}
+
+/// What `embed` answers for a topology.
+///
+/// # Errors
+///
+/// The first file that can't be read or is refused, why what they tell is refused, or want of
+/// memory.
+pub fn embed_command<I: Inputs>(
+    alloc: Global,
+    inputs: &mut I,
+    bench: &str,
+    tech: &str,
+    pl: &str,
+    topology: &str,
+) -> Result<Answer, Failure>
+    ensures { IsServed (I.holds inputs.old) (I.holds inputs.new) (I.faults inputs.old)
+        (I.faults inputs.new) (request_of (commands.Embed bench.entry tech.entry pl.entry
+        topology.entry)) result }
+{
+    let problem = read_problem(alloc, inputs, bench, tech, pl)?;
+    let topology = read_document(alloc, inputs, TopologyOf { problem: &problem }, topology)?;
+    embed(alloc, &problem, &topology)
+}
+
+/// What `moves` answers for the moves in a file.
+///
+/// # Errors
+///
+/// The first file that can't be read or is refused, why what they tell is refused, or want of
+/// memory.
+pub fn moves_command<I: Inputs>(
+    alloc: Global,
+    inputs: &mut I,
+    bench: &str,
+    tech: &str,
+    pl: &str,
+    file: &str,
+) -> Result<Answer, Failure>
+    ensures { IsServed (I.holds inputs.old) (I.holds inputs.new) (I.faults inputs.old)
+        (I.faults inputs.new) (request_of (commands.Moves bench.entry tech.entry pl.entry
+        file.entry)) result }
+{
+    let problem = read_problem(alloc, inputs, bench, tech, pl)?;
+    let list = read_document(alloc, inputs, MovesOf { problem: &problem }, file)?;
+    moves(alloc, &problem, &list)
+}
+
+/// What `corners` answers for these delay tables.
+///
+/// # Errors
+///
+/// The first file that can't be read or is refused, why what they tell is refused, or want of
+/// memory.
+pub fn corners_command<I: Inputs>(
+    alloc: Global,
+    inputs: &mut I,
+    bench: &str,
+    tables: &[String],
+) -> Result<Answer, Failure>
+    requires some { 1 ≤ length tables.now }
+    requires few { length tables.now ≤ 16 }
+    ensures { IsServed (I.holds inputs.old) (I.holds inputs.new) (I.faults inputs.old)
+        (I.faults inputs.new) (request_of (commands.Corners bench.entry tables.entry)) result }
+{
+    serve_corners(alloc, &read_corners(alloc, inputs, bench, tables)?)
+}
