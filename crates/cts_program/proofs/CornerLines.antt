@@ -1,5 +1,5 @@
 -- The lines of a text for several corners, and what its status says of their periods.
-use Rattle.std.proofs.Common.{ℕ, ◌≡◌, ◌<◌, ◌≤◌, ◌⊎◌, inl, inr, List, [], ◌∷◌, ◌++◌, length, nat_abs, refl, sym, ◌∙◌, subst, append-nil, arith}
+use Rattle.std.proofs.Common.{ℕ, ◌≡◌, ◌<◌, ◌≤◌, ◌⊎◌, inl, inr, List, [], ◌∷◌, ◌++◌, length, nat_abs, refl, sym, subst, append-nil, arith}
 use Rattle.std.proofs.lemmas.Int.{ints}
 use Rattle.std.proofs.lemmas.List.Elements.{All-weaker}
 use Rattle.cts_base.specs.declared.fraction.Fraction.{Fraction}
@@ -93,11 +93,3 @@ module _ (circuit : Circuit) (techs : List Tech) where
   lines_of status text says =
       subst (λ s. AreCornersLines circuit techs s (corners_lines circuit says.outcome))
       (sym says.status_is) (corners_lines_of says.outcome says.serves)
-
--- one status says so
-pub one_says : (circuit : Circuit) (techs : List Tech) (status other : ℕ)
-    → SaysOfCorners circuit techs status → SaysOfCorners circuit techs other → status ≡ other
-one_says circuit techs status other (inl some) (inl some') = some.0 ∙ sym some'.0
-one_says circuit techs status other (inl some) (inr none) = absurd (some.1 none.1)
-one_says circuit techs status other (inr none) (inl some) = absurd (some.1 none.1)
-one_says circuit techs status other (inr none) (inr none') = none.0 ∙ sym none'.0

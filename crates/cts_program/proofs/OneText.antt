@@ -1,9 +1,11 @@
 -- The texts for what a command is told have one status, none is a prefix of another, and the status
 -- says whether a period is admitted.
-use Rattle.std.proofs.Common.{ℕ, ◌≡◌, ◌≢◌, ◌<◌, ◌⊎◌, inl, inr, Bool, true, false, List, length, take, refl, ap, sym, ◌∙◌, subst, arith}
+use Rattle.std.proofs.Common.{ℕ, zero, suc, ◌≡◌, ◌≢◌, ◌<◌, ◌⊎◌, inl, inr, Bool, true, false, List, length, take, refl, ap, sym, ◌∙◌, subst, arith}
 use Rattle.cts_model.specs.declared.circuit.Circuit.{Circuit}
 use Rattle.cts_model.specs.declared.tech.Tech.{Tech}
 use Rattle.cts_model.specs.timing.LeastPeriods.{HasNoPeriod}
+use Rattle.cts_model.specs.text.PrintedLines.{Words, text_of}
+use Rattle.report_text.proofs.ReportWords.{AreLines}
 use Rattle.command_line.specs.declared.table.Form.{Form}
 use Rattle.command_line.specs.declared.table.Form.TheVariants as forms
 use Rattle.command_line.specs.Commands.{Given}
@@ -15,8 +17,8 @@ use Rattle.cts_program.specs.CornerTexts.{corners_lines, IsCornersText}
 use Rattle.cts_program.specs.Told.{Told, bare, placed, reported, joined, moving, IsTimedSo, TellsCircuit}
 use Rattle.corners.specs.CommonPeriods.{HasNoCommonPeriod}
 use Rattle.cts_program.proofs.CountedLines.{AreCounted}
-use Rattle.cts_program.proofs.AnswerTexts.{plan_of, looks_for_period, SaysOfPeriods, IsCounted, one_plan, IsTextWith, zero_text, period_text, schedule_text, check_text, synth_text, embed_text, margin_text, moves_text, demo_text}
-use Rattle.cts_program.proofs.CornerLines.{SaysOfCorners, AreCornersLines, lines_of, one_says}
+use Rattle.cts_program.proofs.AnswerTexts.{plan_of, plan_with, looks_for_period, SaysOfPeriods, IsCounted, one_plan, IsTextWith, zero_text, period_text, schedule_text, check_text, synth_text, embed_text, margin_text, moves_text, demo_text}
+use Rattle.cts_program.proofs.CornerLines.{SaysOfCorners, lines_of}
 use Rattle.cts_program.proofs.LinePrefixes.{no_prefix, some_text_of}
 use Rattle.cts_program.proofs.OneDocument.{one_circuit, one_tech}
 
@@ -92,147 +94,34 @@ says forms.Moves apart given (moving problem moves) status text so = record {
 says forms.Corners apart given told status text so = absurd (apart refl)
 says form apart given told status text so = absurd so
 
--- ---- texts of one table
+-- ---- a text as lines
 
--- what is said of a circuit's periods is said with one status
-one_status_says : (looks : Bool) (circuit : Circuit) (tech : Tech) (status other : ℕ)
-    → SaysOfPeriods looks circuit tech status → SaysOfPeriods looks circuit tech other
-    → status ≡ other
-one_status_says false circuit tech status other says says' = says ∙ sym says'
-one_status_says true circuit tech status other (inl found) (inl found') = found.0 ∙ sym found'.0
-one_status_says true circuit tech status other (inl found) (inr never) = absurd (found.1 never.1)
-one_status_says true circuit tech status other (inr never) (inl found) = absurd (found.1 never.1)
-one_status_says true circuit tech status other (inr never) (inr never') = never.0 ∙ sym never'.0
+-- what the status of a text says of the periods
+abbrev SaysOf : (looks : Bool) → Form → Told → (status : ℕ) → Type 0
+SaysOf false form told status = status ≡ 0
+SaysOf true form told status = ((status ≡ 0) × (AdmitsNone form told → ⊥))
+    ⊎ ((status ≡ 1) × AdmitsNone form told)
+
+-- the text is lines of which some say how many stand after them
+record IsLined (form : Form) (told : Told) (status : ℕ) (text : List ℕ) : Type 0 where
+  lines : List Words
+  each : AreLines lines
+  some : 0 < length lines
+  circuit : Circuit
+  tells : TellsCircuit told circuit
+  counted : IsCounted (moves_of form told) form status circuit lines
+  says_so : SaysOf (looks_for_period form) form told status
+  spelled : text ≡ text_of lines
 
 -- what holds of what is told holds of the circuit and the delays that another is said of
 of_one : {told : Told} {Holds Others : Circuit → Tech → Type 0} (so : IsTimedSo told Holds)
     → IsTimedSo told Others → Others so.circuit so.tech
 of_one {told} {Others = Others} so other =
     subst (λ t. Others so.circuit t) (one_tech told other.tech so.tech other.delays so.delays)
-    (subst (λ c. Others c other.tech) (one_circuit told other.circuit so.circuit other.tells
-    so.tells)
-    other.holds)
+    (subst (λ c. Others c other.tech)
+    (one_circuit told other.circuit so.circuit other.tells so.tells) other.holds)
 
-module _ (form : Form) (told : Told) (status : ℕ) (text : List ℕ)
-    (so : Says form told status text) where
-  module _ (status' : ℕ) (text' : List ℕ) (other : Says form told status' text') where
-    here : IsTextWith (moves_of form told) form status' text' so.circuit so.tech
-    here = of_one so other
-
-    -- another text has the same status
-    same_status : status ≡ status'
-    same_status = one_status_says (looks_for_period form) so.circuit so.tech status status'
-        so.holds.are.says here.are.says
-
-    -- and this isn't a prefix of it
-    no_text_prefix : (count : ℕ) → text ≡ take count text' → count < length text' → ⊥
-    no_text_prefix count cut short =
-        let (plan, counted, counted') = one_plan (moves_of form told) form status so.circuit
-        so.holds.lines here.lines so.holds.are.counted
-        (subst (λ s. IsCounted (moves_of form told) form s so.circuit here.lines)
-        (sym same_status) here.are.counted) in
-        no_prefix so.holds.lines here.lines count so.holds.are.each here.are.each
-        counted counted'
-        (sym so.holds.spelled ∙ cut ∙ ap (take count) here.spelled)
-        (subst (λ bytes. count < length bytes) here.spelled short)
-
-  -- a text has a line
-  some_line : 0 < length text
-  some_line =
-      subst (λ bytes. 0 < length bytes) (sym so.holds.spelled)
-      (some_text_of so.holds.lines so.holds.are.some)
-
--- ---- texts for several corners
-
--- the circuit, and a text for it
-abbrev Serves : Told → (status : ℕ) → List ℕ → Type 0
-Serves (bare only techs) status text = (circuit : Circuit)
-    × TellsCircuit (bare only techs) circuit × IsCornersText circuit techs status text
-Serves told status text = ⊥
-
-module _ (only : Circuit) (techs : List Tech) (status : ℕ) (text : List ℕ)
-    (serves : Serves (bare only techs) status text) where
-  lines_here : AreCornersLines serves.0 techs status (corners_lines serves.0 serves.2.outcome)
-  lines_here = lines_of serves.0 techs status text serves.2
-
-  module _ (status' : ℕ) (text' : List ℕ) (other : Serves (bare only techs) status' text') where
-    -- another text is one for the same circuit
-    text_there : IsCornersText serves.0 techs status' text'
-    text_there = subst (λ c. IsCornersText c techs status' text')
-        (one_circuit (bare only techs) other.0 serves.0 other.1 serves.1) other.2
-
-    lines_there : AreCornersLines serves.0 techs status' (corners_lines serves.0 text_there.outcome)
-    lines_there = lines_of serves.0 techs status' text' text_there
-
-    one_corners_status : status ≡ status'
-    one_corners_status =
-        one_says serves.0 techs status status' lines_here.says lines_there.says
-
-    no_corners_prefix : (count : ℕ) → text ≡ take count text' → count < length text' → ⊥
-    no_corners_prefix count cut short =
-        no_prefix (corners_lines serves.0 serves.2.outcome)
-        (corners_lines serves.0 text_there.outcome) count lines_here.each lines_there.each
-        lines_here.counted
-        (subst (λ s. AreCounted (plan_of s forms.Corners) (corners_lines serves.0
-        text_there.outcome))
-        (sym one_corners_status) lines_there.counted)
-        (sym serves.2.spelled ∙ cut ∙ ap (take count) text_there.spelled)
-        (subst (λ bytes. count < length bytes) text_there.spelled short)
-
-  some_corners_line : 0 < length text
-  some_corners_line =
-      subst (λ bytes. 0 < length bytes) (sym serves.2.spelled)
-      (some_text_of (corners_lines serves.0 serves.2.outcome) lines_here.some)
-
--- ---- all commands
-
--- so it is with all commands
-pub one_status : (form : Form) (given : List Given) (told : Told) (status : ℕ) (text : List ℕ)
-    → IsText form given told status text → (status' : ℕ) (text' : List ℕ)
-    → IsText form given told status' text' → status ≡ status'
-one_status forms.Corners given (bare only techs) status text so status' text' so' =
-    one_corners_status only techs status text so status' text' so'
-one_status forms.Corners given told status text so status' text' so' = absurd so
-one_status form given told status text so status' text' so' =
-    same_status form told status text (says form (λ same. cc same) given told status text so)
-    status' text' (says form (λ same. cc same) given told status' text' so')
-
-pub no_answer_prefix : (form : Form) (given : List Given) (told : Told) (status : ℕ)
-    (text : List ℕ) → IsText form given told status text → (status' : ℕ) (text' : List ℕ)
-    → IsText form given told status' text' → (count : ℕ) → text ≡ take count text'
-    → count < length text' → ⊥
-no_answer_prefix forms.Corners given (bare only techs) status text so status' text' so' =
-    no_corners_prefix only techs status text so status' text' so'
-no_answer_prefix forms.Corners given told status text so status' text' so' = absurd so
-no_answer_prefix form given told status text so status' text' so' =
-    no_text_prefix form told status text (says form (λ same. cc same) given told status text so)
-    status' text' (says form (λ same. cc same) given told status' text' so')
-
-pub some_text : (form : Form) (given : List Given) (told : Told) (status : ℕ) (text : List ℕ)
-    → IsText form given told status text → 0 < length text
-some_text forms.Corners given (bare only techs) status text so =
-    some_corners_line only techs status text so
-some_text forms.Corners given told status text so = absurd so
-some_text form given told status text so =
-    some_line form told status text (says form (λ same. cc same) given told status text so)
-
--- ---- what a status says
-
--- a status of 1 says that no period is admitted, and only where a command looks for one
-says_none : (looks : Bool) (circuit : Circuit) (tech : Tech) → SaysOfPeriods looks circuit tech 1
-    → (looks ≡ true) × HasNoPeriod circuit tech
-says_none false circuit tech one = absurd (omega (arith, one))
-says_none true circuit tech (inl found) = absurd (omega (arith, found.0))
-says_none true circuit tech (inr never) = (refl, never.1)
-
--- and one of 0 that some is, if a command looks for one
-says_some : (looks : Bool) (circuit : Circuit) (tech : Tech) → looks ≡ true
-    → SaysOfPeriods looks circuit tech 0 → HasNoPeriod circuit tech → ⊥
-says_some false circuit tech is says none = cc is
-says_some true circuit tech is (inl found) none = found.1 none
-says_some true circuit tech is (inr never) none = absurd (omega (arith, never.0))
-
--- a command of one table admits none where it looks for a period
+-- a command of one table admits none where it looks for a period and there is none
 admits_by : (form : Form) → form ≢ forms.Corners → (told : Told) → looks_for_period form ≡ true
     → IsTimedSo told HasNoPeriod → AdmitsNone form told
 admits_by forms.Zero apart told looks none = cc looks
@@ -242,57 +131,158 @@ admits_by forms.Corners apart told looks none = absurd (apart refl)
 admits_by form apart told looks none = none
 
 admitted_by : (form : Form) → form ≢ forms.Corners → (told : Told) → AdmitsNone form told
-    → (looks_for_period form ≡ true) × IsTimedSo told HasNoPeriod
+    → IsTimedSo told HasNoPeriod
 admitted_by forms.Zero apart told none = absurd none
 admitted_by forms.Check apart told none = absurd none
 admitted_by forms.Margin apart told none = absurd none
 admitted_by forms.Corners apart told none = absurd (apart refl)
-admitted_by form apart told none = (refl, none)
+admitted_by form apart told none = none
 
--- with a text of status 1 none is admitted
-none_by_one : (form : Form) → form ≢ forms.Corners → (told : Told) (text : List ℕ)
-    → Says form told 1 text → AdmitsNone form told
-none_by_one form apart told text so =
-    let none = says_none (looks_for_period form) so.circuit so.tech so.holds.are.says in
-    admits_by form apart told none.0 (says_so so (λ circuit tech with_lines.
-    (says_none (looks_for_period form) circuit tech with_lines.are.says).1))
+-- so the text of one is lines
+lined_by_one : (form : Form) → form ≢ forms.Corners → (told : Told) (status : ℕ) (text : List ℕ)
+    → Says form told status text → IsLined form told status text
+lined_by_one form apart told status text so = record {
+  lines = so.holds.lines;
+  each = so.holds.are.each;
+  some = so.holds.are.some;
+  circuit = so.circuit;
+  tells = so.tells;
+  counted = so.holds.are.counted;
+  says_so = at (looks_for_period form) refl so.holds.are.says;
+  spelled = so.holds.spelled;
+}
+  where
+    at : (looks : Bool) → looks_for_period form ≡ looks
+        → SaysOfPeriods looks so.circuit so.tech status → SaysOf looks form told status
+    at false is done = done
+    at true is (inl (done, some)) =
+        inl (done, λ none. some (of_one so (admitted_by form apart told none)))
+    at true is (inr (never, none)) = inr (
+      never,
+      admits_by form apart told is (record {
+        circuit = so.circuit;
+        tech = so.tech;
+        tells = so.tells;
+        delays = so.delays;
+        holds = none;
+      }),
+    )
 
--- and with one of status 0 some is
-some_by_one : (form : Form) → form ≢ forms.Corners → (told : Told) (text : List ℕ)
-    → Says form told 0 text → AdmitsNone form told → ⊥
-some_by_one form apart told text so none =
-    let (looks, timed) = admitted_by form apart told none in
-    says_some (looks_for_period form) so.circuit so.tech looks so.holds.are.says (of_one so timed)
+-- and that for several corners
+lined_corners : (only : Circuit) (techs : List Tech) (status : ℕ) (text : List ℕ)
+    (circuit : Circuit) → TellsCircuit (bare only techs) circuit
+    → IsCornersText circuit techs status text
+    → IsLined forms.Corners (bare only techs) status text
+lined_corners only techs status text circuit tells serves =
+    let lines = lines_of circuit techs status text serves in
+    record {
+      lines = corners_lines circuit serves.outcome;
+      each = lines.each;
+      some = lines.some;
+      circuit = circuit;
+      tells = tells;
+      counted = counted_corners status (corners_lines circuit serves.outcome) lines.counted;
+      says_so = at lines.says;
+      spelled = serves.spelled;
+    }
+  where
+    counted_corners : (status : ℕ) (all : List Words)
+        → AreCounted (plan_of status forms.Corners) all
+        → AreCounted (plan_with 0 status forms.Corners) all
+    counted_corners zero all counted = counted
+    counted_corners (suc more) all counted = counted
 
-module _ (only : Circuit) (techs : List Tech) (text : List ℕ) where
-  corners_none : Serves (bare only techs) 1 text → AdmitsNone forms.Corners (bare only techs)
-  corners_none serves = at (lines_here only techs 1 text serves).says
-    where
-      at : SaysOfCorners serves.0 techs 1 → AdmitsNone forms.Corners (bare only techs)
-      at (inl some) = absurd (omega (arith, some.0))
-      at (inr none) = (serves.0, serves.1, none.1)
+    at : SaysOfCorners circuit techs status → SaysOf true forms.Corners (bare only techs) status
+    at (inl (done, some)) = inl (
+      done,
+      λ none. some (subst (λ c. HasNoCommonPeriod c techs)
+          (one_circuit (bare only techs) none.0 circuit none.1 tells) none.2),
+    )
+    at (inr (never, none)) = inr (never, (circuit, tells, none))
 
-  corners_some : Serves (bare only techs) 0 text → AdmitsNone forms.Corners (bare only techs) → ⊥
-  corners_some serves none = at (lines_here only techs 0 text serves).says
-    where
-      at : SaysOfCorners serves.0 techs 0 → ⊥
-      at (inl some) = some.1 (subst (λ c. HasNoCommonPeriod c techs)
-          (one_circuit (bare only techs) none.0 serves.0 none.1 serves.1) none.2)
-      at (inr never) = omega (arith, never.0)
+-- so it is with all commands
+lined : (form : Form) (given : List Given) (told : Told) (status : ℕ) (text : List ℕ)
+    → IsText form given told status text → IsLined form told status text
+lined forms.Corners given (bare only techs) status text (circuit, tells, serves) =
+    lined_corners only techs status text circuit tells serves
+lined forms.Corners given told status text so = absurd so
+lined form given told status text so =
+    lined_by_one form (λ same. cc same) told status text
+    (says form (λ same. cc same) given told status text so)
 
+-- ---- one status, and no text that is a prefix of another
+
+one_says : (looks : Bool) (form : Form) (told : Told) (status other : ℕ)
+    → SaysOf looks form told status → SaysOf looks form told other → status ≡ other
+one_says false form told status other done done' = done ∙ sym done'
+one_says true form told status other (inl some) (inl some') = some.0 ∙ sym some'.0
+one_says true form told status other (inl some) (inr none) = absurd (some.1 none.1)
+one_says true form told status other (inr none) (inl some) = absurd (some.1 none.1)
+one_says true form told status other (inr none) (inr none') = none.0 ∙ sym none'.0
+
+module _ (form : Form) (given : List Given) (told : Told) (status : ℕ) (text : List ℕ)
+    (so : IsText form given told status text) where
+  here : IsLined form told status text
+  here = lined form given told status text so
+
+  -- a text has a line
+  pub some_text : 0 < length text
+  some_text =
+      subst (λ bytes. 0 < length bytes) (sym here.spelled) (some_text_of here.lines here.some)
+
+  module _ (status' : ℕ) (text' : List ℕ) (so' : IsText form given told status' text') where
+    there : IsLined form told status' text'
+    there = lined form given told status' text' so'
+
+    -- another text has the same status
+    pub one_status : status ≡ status'
+    one_status =
+        one_says (looks_for_period form) form told status status' here.says_so there.says_so
+
+    -- and this isn't a prefix of it
+    pub no_answer_prefix : (count : ℕ) → text ≡ take count text' → count < length text' → ⊥
+    no_answer_prefix count cut short =
+        let same = subst (λ s. IsCounted (moves_of form told) form s there.circuit there.lines)
+        (sym one_status) there.counted in
+        let (plan, counted, counted') = one_plan (moves_of form told) form status here.circuit
+        here.lines there.lines here.counted
+        (subst (λ c. IsCounted (moves_of form told) form status c there.lines)
+        (one_circuit told there.circuit here.circuit there.tells here.tells) same) in
+        no_prefix here.lines there.lines count here.each there.each counted counted'
+        (sym here.spelled ∙ cut ∙ ap (take count) there.spelled)
+        (subst (λ bytes. count < length bytes) there.spelled short)
+
+-- ---- what a status says
+
+-- a status of 1 says that no period is admitted
 pub finds_none : (form : Form) (given : List Given) (told : Told) (text : List ℕ)
     → IsText form given told 1 text → AdmitsNone form told
-finds_none forms.Corners given (bare only techs) text so = corners_none only techs text so
-finds_none forms.Corners given told text so = absurd so
 finds_none form given told text so =
-    none_by_one form (λ same. cc same) told text (says form (λ same. cc same) given told 1 text so)
+    at (looks_for_period form) (lined form given told 1 text so).says_so
+  where
+    at : (looks : Bool) → SaysOf looks form told 1 → AdmitsNone form told
+    at false done = absurd (omega (arith, done))
+    at true (inl some) = absurd (omega (arith, some.0))
+    at true (inr none) = none.1
 
+-- a command that looks for no period finds none
+looks_or_not : (form : Form) (told : Told) → looks_for_period form ≡ false → AdmitsNone form told
+    → ⊥
+looks_or_not forms.Zero told looks none = none
+looks_or_not forms.Check told looks none = none
+looks_or_not forms.Margin told looks none = none
+looks_or_not form told looks none = cc looks
+
+-- and one of 0 that some is, or that the command looks for none
 pub finds_some : (form : Form) (given : List Given) (told : Told) (text : List ℕ)
     → IsText form given told 0 text → AdmitsNone form told → ⊥
-finds_some forms.Corners given (bare only techs) text so = corners_some only techs text so
-finds_some forms.Corners given told text so = absurd so
-finds_some form given told text so =
-    some_by_one form (λ same. cc same) told text (says form (λ same. cc same) given told 0 text so)
+finds_some form given told text so none =
+    at (looks_for_period form) refl (lined form given told 0 text so).says_so
+  where
+    at : (looks : Bool) → looks_for_period form ≡ looks → SaysOf looks form told 0 → ⊥
+    at false is done = looks_or_not form told is none
+    at true is (inl some) = some.1 none
+    at true is (inr never) = omega (arith, never.0)
 
 -- ---- the statuses of a command
 

@@ -2,14 +2,14 @@
 //! denote.
 
 mod circuit;
-mod corners;
+mod corner_tables;
 mod document;
 mod documents;
 mod placement;
 mod problem;
 
 pub use circuit::read_circuit;
-pub use corners::{Corners, read_corners};
+pub use corner_tables::{Corners, read_corners};
 pub use document::{Document, read_document};
 pub use documents::{DelayTable, MovesOf, Netlist, Placement, ReportOf, TopologyOf};
 pub use placement::copied;

@@ -3,7 +3,7 @@ use Rattle.failure_lines.specs.declared.file_kind.FileKind.TheVariants.{Bench}
 use Rattle.cts_program.specs.Files.{corner_files}
 use Rattle.cts_program.specs.Steps.{AreRead}
 use Rattle.cts_program.specs.Told.{bare}
-use Rattle.cts_program.proofs.reading.corners.read_corners.Given as goal
+use Rattle.cts_program.proofs.reading.corner_tables.read_corners.Given as goal
 
 -- the tables so far are read, and the device is as it was
 abbrev pub invariant-loop-place : goal.invariant-loop-place

@@ -8,7 +8,7 @@ use Rattle.cts_program.specs.Told.{bare}
 use Rattle.cts_program.proofs.CornerFiles.{corner_read, corner_unread, corners_circuit, corners_acyclic}
 use Rattle.cts_program.proofs.ReadLemmas.{none_read, read_more, unread_after}
 use Rattle.cts_program.proofs.StepLemmas.{step_fails, step_counts}
-use Rattle.cts_program.proofs.reading.corners.read_corners.Goals as goal
+use Rattle.cts_program.proofs.reading.corner_tables.read_corners.Goals as goal
 
 pub returns-in_err-bare-clause-step : goal.returns-in_err-bare-clause-step
 returns-in_err-bare-clause-step g c =
