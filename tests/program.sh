@@ -251,14 +251,10 @@ mkdir "$work/copy"
 tar -C "$top" --exclude=out --exclude=.git -cf - . | tar -C "$work/copy" -xf -
 unproved='cts: no proved program is newer than the sources, so this run is unproved; it takes a minute'
 unproved+=$'\ncts: ./cts build proves and builds the program once, in about half an hour on 4 processors'
-copied() { (cd "$work" && copy/cts zero --bench here.bench "$@"); }
-expect 'an unproved run' 0 $'zero 5\nsetup a a 5' "$unproved" copied
-unproved_check() {
-    (cd "$work" && copy/cts check --bench copy/examples/s27.bench --tech copy/examples/s27.toml \
-        --pl copy/examples/s27.pl --report copy/examples/s27.cts)
-}
-expect 'an unproved check' 0 'shown' "$unproved" unproved_check
-expect 'an unproved refusal' 4 '' "$unproved"$'\nread fault tech' copied --tech missing.toml
+copied() { (cd "$work" && copy/cts period --bench late.bench --tech late.toml); }
+printf 'A = DFF(A)\n' >"$work/late.bench"
+registers 0 2 1 1 >"$work/late.toml"
+expect 'an unproved run' 1 $'never\ncycle 1\nhold A A 1' "$unproved" copied
 
 echo "program: $passed passed, $failed failed"
 [ "$failed" -eq 0 ]
