@@ -24,7 +24,7 @@ impl Relaxation {
         ensures { HasRisen constraints.now gains self.old self.new }
     {
         for _round in 0..self.values.len() {
-            if turns.are_over() {
+            if turns.are_through(constraints, gains, self.values.as_slice()) {
                 return;
             }
             self.follow_parents(constraints, gains, links, turns);

@@ -7,6 +7,7 @@ mod gains;
 mod policy;
 mod relaxation;
 mod satisfy;
+mod strong;
 mod tails;
 mod turns;
 

@@ -1,15 +1,26 @@
 ghost use Rattle.cts_model.specs.timing.Constraints.{AreSmallConstraints};
 
+use crate::gains::Gains;
+use crate::strong::{Strong, greatest_gain};
 use crate::tails::ByTail;
 use cts_base::NoMemory;
 use cts_model::Constraint;
 use std::alloc::Global;
+
+/// How many constraints a register has in a list of which most may never raise one.
+const MANY: usize = 64;
+
+/// How many times the greatest gain values are thought to lie apart.
+const TIMES: i128 = 3;
 
 /// Whose turn it is to raise others: the registers that wait to hand their values on, first in,
 /// first out, each once, with the constraints that lead from each.
 #[derive(Drop)]
 pub struct Turns {
     tails: ByTail,
+    // How far apart values may lie, in ticks, for none of the constraints that aren't linked to
+    // raise one. There is no such number where all are linked.
+    spread: Option<i128>,
     // For each register 0 where it doesn't wait, else 1 more than the one that waits behind it, or
     // than itself where it is the last.
     behind: Vec<u32>,
@@ -35,6 +46,7 @@ impl Turns {
     {
         let mut turns = Turns {
             tails: ByTail::of(alloc, registers, constraints)?,
+            spread: None,
             behind: vec![in alloc; 0u32; registers]?,
             first: 0,
             last: 0,
@@ -43,6 +55,70 @@ impl Turns {
         };
         turns.let_all_wait();
         Ok(turns)
+    }
+
+    /// Where registers have many constraints, of which few can raise one while the values lie as
+    /// near one another as the greatest gain suggests, links these few alone: between values that
+    /// are so far apart a constraint raises none that gains as much below 0. It takes no memory.
+    pub fn narrow(&mut self, constraints: &[Constraint], gains: Gains) {
+        if constraints.len() / MANY < self.behind.len() {
+            return;
+        }
+        let apart = greatest_gain(constraints, gains, false).wrapping_mul(TIMES);
+        if Strong::within(gains, apart).are_few(constraints) {
+            let apart = greatest_gain(constraints, gains, true).wrapping_mul(TIMES);
+            self.link_within(constraints, gains, apart);
+        }
+    }
+
+    /// Whether no register waits, and no constraint that isn't linked raises one. Where values that
+    /// are from 0 on lie too far apart for that, more are linked, and each register waits.
+    pub(crate) fn are_through(
+        &mut self,
+        constraints: &[Constraint],
+        gains: Gains,
+        values: &[i128],
+    ) -> bool {
+        if self.waiting > 0 {
+            return false;
+        }
+        let Some(spread) = self.spread else {
+            return true;
+        };
+        let greatest = values.iter().copied().max().unwrap_or(0);
+        if greatest / gains.scale <= spread {
+            return true;
+        }
+        self.link_within(constraints, gains, greatest.wrapping_mul(2));
+        false
+    }
+
+    // Links the constraints that can raise a register while no values lie further apart, where these
+    // are few, and else all. Each register waits then.
+    fn link_within(&mut self, constraints: &[Constraint], gains: Gains, apart: i128) {
+        let strong = Strong::within(gains, apart);
+        let are_few = strong.are_few(constraints);
+        self.spread = are_few.then_some(apart / gains.scale);
+        self.tails.last.fill(0);
+        let mut mark = 0u32;
+        for constraint in constraints {
+            mark = mark.wrapping_add(1);
+            if !are_few || strong.has(constraint) {
+                self.link(constraint.tail, mark);
+            }
+        }
+        self.let_all_wait();
+    }
+
+    // Links a constraint that leads from a register. The mark is 1 more than its place.
+    fn link(&mut self, tail: u32, mark: u32) {
+        let Some(last) = self.tails.last.get_mut(tail as usize) else {
+            return;
+        };
+        if let Some(before) = self.tails.before.get_mut(mark.wrapping_sub(1) as usize) {
+            *before = *last;
+            *last = mark;
+        }
     }
 
     /// Lets each register wait. It takes no memory.
@@ -57,9 +133,9 @@ impl Turns {
         self.waiting == self.registers
     }
 
-    /// Whether half of the registers wait, or more.
+    /// Whether all constraints are linked, and half of the registers wait, or more.
     pub(crate) fn do_many_wait(&self) -> bool {
-        self.waiting >= self.registers / 2
+        self.spread.is_none() && self.waiting >= self.registers / 2
     }
 
     /// Lets no register wait any more.

@@ -1,0 +1,65 @@
+use crate::gains::Gains;
+use cts_model::Constraint;
+
+/// Of how many constraints one is looked at where a look at some is enough.
+const EACH: usize = 61;
+
+/// The least weights of constraints that can raise a register while values lie so near one another:
+/// between values that are `x` apart none raises one that gains `-x` or less.
+#[derive(Clone, Copy, Debug)]
+pub(crate) struct Strong {
+    setup: i128,
+    hold: i128,
+}
+
+impl Strong {
+    /// Those between values that are at most so far apart, over the scale of the gains.
+    pub(crate) fn within(gains: Gains, apart: i128) -> Strong {
+        Strong {
+            setup: gains.setup.wrapping_sub(apart) / gains.scale,
+            hold: gains.hold.wrapping_sub(apart) / gains.scale,
+        }
+    }
+
+    /// Whether a constraint is one.
+    pub(crate) fn has(&self, constraint: &Constraint) -> bool {
+        let least = if constraint.setup {
+            self.setup
+        } else {
+            self.hold
+        };
+        constraint.weight >= least
+    }
+
+    /// Whether at most an eighth of the constraints are, by a look at some.
+    pub(crate) fn are_few(&self, constraints: &[Constraint]) -> bool {
+        let mut strong = 0usize;
+        for turn in 0..constraints.len() / EACH {
+            let constraint = constraints.get(turn.wrapping_mul(EACH));
+            if constraint.is_some_and(|constraint| self.has(constraint)) {
+                strong = strong.wrapping_add(1);
+            }
+        }
+        strong <= constraints.len() / EACH / 8
+    }
+}
+
+/// The most that a constraint gains, by a look at some or at all.
+pub(crate) fn greatest_gain(constraints: &[Constraint], gains: Gains, all: bool) -> i128 {
+    let each = if all { 1 } else { EACH };
+    let mut setup = 0i128;
+    let mut hold = 0i128;
+    for turn in 0..constraints.len() / each {
+        let Some(constraint) = constraints.get(turn.wrapping_mul(each)) else {
+            break;
+        };
+        if constraint.setup {
+            setup = setup.max(constraint.weight);
+        } else {
+            hold = hold.max(constraint.weight);
+        }
+    }
+    let setup = gains.scale.wrapping_mul(setup).wrapping_sub(gains.setup);
+    let hold = gains.scale.wrapping_mul(hold).wrapping_sub(gains.hold);
+    setup.max(hold)
+}
