@@ -61,7 +61,7 @@ pub fn greatest_ratio(
     let mut marks = vec![in alloc; 0u32; registers]?;
     let mut search = Search::at_first(measure, first, relaxation, places);
     search.look_at_short_cycles(list);
-    let mut turns = Turns::new(alloc, registers, list)?;
+    let mut turns = Turns::new(alloc, registers, list, search.trial)?;
     search.iterate(list, &mut marks, &mut turns);
     Ok(settled(search, list))
 }

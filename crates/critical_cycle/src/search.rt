@@ -98,9 +98,9 @@ impl Search {
         if !self.reach_shown() {
             return;
         }
-        self.relaxation.choose_parents(constraints, self.trial);
+        self.relaxation.choose_parents(constraints, self.trial, turns);
         for _round in 0..ROUNDS {
-            if turns.are_over() || !self.reach_shown() {
+            if !self.reach_shown() || self.is_through(constraints, turns) {
                 return;
             }
             self.improve(constraints, marks, turns);
@@ -140,6 +140,11 @@ impl Search {
         let cycle = self.places.split_at(self.start).1;
         let raise = raise_by(self.measure, self.ratio, constraints, cycle);
         self.shown = self.shown.raised(raise);
+    }
+
+    // Whether the values satisfy the constraints, as far as turns tell.
+    fn is_through(&self, constraints: &[Constraint], turns: &mut Turns) -> bool {
+        turns.are_through(constraints, self.trial, self.relaxation.values.as_slice())
     }
 
     // Brings the relaxation to the greatest ratio shown, if some ratio may be enough.

@@ -66,7 +66,7 @@ impl Relaxation {
         ensures marks { length marks.new ≡ length marks.old }
     {
         if turns.do_all_wait() {
-            self.evaluate(constraints, gains, marks)
+            self.evaluate(constraints, gains, marks, turns.lowest())
         } else {
             self.follow_parents(constraints, gains, marks, turns)
         }

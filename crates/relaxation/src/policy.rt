@@ -8,6 +8,7 @@ ghost use Rattle.relaxation.specs.Relaxing.{HasEntries, HasRoom};
 
 use crate::gains::Gains;
 use crate::relaxation::Relaxation;
+use crate::turns::Turns;
 use cts_model::Constraint;
 
 /// The mark of a register whose value stands.
@@ -17,16 +18,18 @@ const STANDS: u32 = u32::MAX;
 const NO_GAIN: i128 = -(1 << 80);
 
 impl Relaxation {
-    /// Makes the constraint that gains most of those that lead to a register its parent. All values
-    /// become 0.
-    pub fn choose_parents(&mut self, constraints: &[Constraint], gains: Gains)
+    /// Makes the constraint that gains most of those that are linked and lead to a register its
+    /// parent. All values become 0.
+    pub fn choose_parents(&mut self, constraints: &[Constraint], gains: Gains, turns: &Turns)
         requires entries { HasEntries constraints.now self.old }
         ensures values { length self.new.values.items ≡ length self.old.values.items }
         ensures parents { length self.new.parents.items ≡ length self.old.parents.items }
     {
         self.values.fill(NO_GAIN);
         for place in 0..constraints.len() {
-            self.prefer(constraints, gains, place);
+            if turns.links(&constraints[place]) {
+                self.prefer(constraints, gains, place);
+            }
         }
         self.values.fill(0);
     }
@@ -57,8 +60,14 @@ impl Relaxation {
     }
 
     /// Gives each register the value that the parents above it give it from the next register whose
-    /// value stands: one that is marked or has no parent.
-    pub(crate) fn evaluate(&mut self, constraints: &[Constraint], gains: Gains, marks: &mut [u32])
+    /// value stands: one that is marked or has no parent. None is below the lowest.
+    pub(crate) fn evaluate(
+        &mut self,
+        constraints: &[Constraint],
+        gains: Gains,
+        marks: &mut [u32],
+        lowest: i128,
+    )
         requires entries { HasEntries constraints.now self.old }
         requires marks { length marks.old ≡ length self.old.parents.items }
         ensures room { HasRoom constraints.now self.new }
@@ -70,6 +79,7 @@ impl Relaxation {
             let (top, gain) = self.standing_above(constraints, gains, marks, from);
             self.hang(constraints, gains, marks, from, top, gain);
         }
+        self.raise_to(lowest);
         self.rescale(gains, gains);
     }
 
@@ -173,6 +183,16 @@ impl Relaxation {
             register = parent.tail;
         }
         (register, gain)
+    }
+
+    // Raises each value that is below the lowest to that.
+    fn raise_to(&mut self, lowest: i128)
+        ensures values { length self.new.values.items ≡ length self.old.values.items }
+        ensures parents { self.new.parents.items ≡ self.old.parents.items }
+    {
+        for register in 0..self.values.len() {
+            self.values[register] = self.values[register].max(lowest);
+        }
     }
 
     // Gives the registers from one up to another their values, which stand then. The upper one

@@ -11,16 +11,18 @@ use std::alloc::Global;
 const MANY: usize = 64;
 
 /// How many times the greatest gain values are thought to lie apart.
-const TIMES: i128 = 3;
+const TIMES: i128 = 2;
 
 /// Whose turn it is to raise others: the registers that wait to hand their values on, first in,
 /// first out, each once, with the constraints that lead from each.
 #[derive(Drop)]
 pub struct Turns {
+    // The constraints that are linked.
     tails: ByTail,
-    // How far apart values may lie, in ticks, for none of the constraints that aren't linked to
-    // raise one. There is no such number where all are linked.
-    spread: Option<i128>,
+    // Which these are, where not all are.
+    strong: Option<Strong>,
+    // How far apart values may lie, in ticks, for no other constraint to raise one.
+    spread: i128,
     // For each register 0 where it doesn't wait, else 1 more than the one that waits behind it, or
     // than itself where it is the last.
     behind: Vec<u32>,
@@ -32,7 +34,9 @@ pub struct Turns {
 }
 
 impl Turns {
-    /// Each register waits, in the order of the numbers.
+    /// Each register waits, in the order of the numbers. Where registers have many constraints, of
+    /// which few can raise one while values lie as near one another as the greatest gain suggests,
+    /// these few are linked, and else all.
     ///
     /// # Errors
     ///
@@ -41,39 +45,35 @@ impl Turns {
         alloc: Global,
         registers: usize,
         constraints: &[Constraint],
+        gains: Gains,
     ) -> Result<Turns, NoMemory>
         requires { AreSmallConstraints registers constraints.now }
     {
+        let tails = ByTail {
+            last: vec![in alloc; 0u32; registers]?,
+            before: vec![in alloc; 0u32; constraints.len()]?,
+        };
         let mut turns = Turns {
-            tails: ByTail::of(alloc, registers, constraints)?,
-            spread: None,
+            tails,
+            strong: None,
+            spread: 0,
             behind: vec![in alloc; 0u32; registers]?,
             first: 0,
             last: 0,
             registers: registers as u32,
             waiting: 0,
         };
-        turns.let_all_wait();
+        turns.link_within(
+            constraints,
+            gains,
+            apart_at_first(registers, constraints, gains),
+        );
         Ok(turns)
-    }
-
-    /// Where registers have many constraints, of which few can raise one while the values lie as
-    /// near one another as the greatest gain suggests, links these few alone: between values that
-    /// are so far apart a constraint raises none that gains as much below 0. It takes no memory.
-    pub fn narrow(&mut self, constraints: &[Constraint], gains: Gains) {
-        if constraints.len() / MANY < self.behind.len() {
-            return;
-        }
-        let apart = greatest_gain(constraints, gains, false).wrapping_mul(TIMES);
-        if Strong::within(gains, apart).are_few(constraints) {
-            let apart = greatest_gain(constraints, gains, true).wrapping_mul(TIMES);
-            self.link_within(constraints, gains, apart);
-        }
     }
 
     /// Whether no register waits, and no constraint that isn't linked raises one. Where values that
     /// are from 0 on lie too far apart for that, more are linked, and each register waits.
-    pub(crate) fn are_through(
+    pub fn are_through(
         &mut self,
         constraints: &[Constraint],
         gains: Gains,
@@ -82,28 +82,43 @@ impl Turns {
         if self.waiting > 0 {
             return false;
         }
-        let Some(spread) = self.spread else {
-            return true;
-        };
         let greatest = values.iter().copied().max().unwrap_or(0);
-        if greatest / gains.scale <= spread {
+        if self.strong.is_none() || greatest / gains.scale <= self.spread {
             return true;
         }
         self.link_within(constraints, gains, greatest.wrapping_mul(2));
         false
     }
 
+    /// Whether a constraint is linked.
+    pub(crate) fn links(&self, constraint: &Constraint) -> bool {
+        match &self.strong {
+            Some(strong) => strong.has(constraint),
+            None => true,
+        }
+    }
+
+    /// The least value that a parent may give: 0 where not all constraints are linked, so that
+    /// values lie near one another.
+    pub(crate) fn lowest(&self) -> i128 {
+        if self.strong.is_some() { 0 } else { i128::MIN }
+    }
+
     // Links the constraints that can raise a register while no values lie further apart, where these
     // are few, and else all. Each register waits then.
     fn link_within(&mut self, constraints: &[Constraint], gains: Gains, apart: i128) {
         let strong = Strong::within(gains, apart);
-        let are_few = strong.are_few(constraints);
-        self.spread = are_few.then_some(apart / gains.scale);
+        self.strong = if strong.are_few(constraints) {
+            Some(strong)
+        } else {
+            None
+        };
+        self.spread = apart / gains.scale;
         self.tails.last.fill(0);
         let mut mark = 0u32;
         for constraint in constraints {
             mark = mark.wrapping_add(1);
-            if !are_few || strong.has(constraint) {
+            if self.links(constraint) {
                 self.link(constraint.tail, mark);
             }
         }
@@ -135,7 +150,7 @@ impl Turns {
 
     /// Whether all constraints are linked, and half of the registers wait, or more.
     pub(crate) fn do_many_wait(&self) -> bool {
-        self.spread.is_none() && self.waiting >= self.registers / 2
+        self.strong.is_none() && self.waiting >= self.registers / 2
     }
 
     /// Lets no register wait any more.
@@ -193,4 +208,13 @@ impl Turns {
     pub(crate) fn before(&self, place: usize) -> u32 {
         self.tails.before.get(place).copied().unwrap_or(0)
     }
+}
+
+// How far apart values are thought to lie at first.
+fn apart_at_first(registers: usize, constraints: &[Constraint], gains: Gains) -> i128 {
+    let apart = greatest_gain(constraints, gains, false).wrapping_mul(TIMES);
+    if constraints.len() / MANY < registers || !Strong::within(gains, apart).are_few(constraints) {
+        return i128::MAX;
+    }
+    greatest_gain(constraints, gains, true).wrapping_mul(TIMES)
 }

@@ -87,8 +87,7 @@ pub fn least_arrivals(
     let list = constraints.as_slice();
     let mut relaxation = Relaxation::new(alloc, registers)?;
     let mut links = vec![in alloc; 0u32; registers]?;
-    let mut turns = Turns::new(alloc, registers, list)?;
-    turns.narrow(list, gains);
+    let mut turns = Turns::new(alloc, registers, list, gains)?;
     relaxation.raise_in_rounds(list, gains, &mut links, &mut turns);
     Ok(settled(relaxation, list, gains))
 }
