@@ -12,7 +12,7 @@ use Rattle.report_text.specs.declared.fault.ReportFault.{ReportFault}
 use Rattle.report_text.specs.declared.fault.ReportFault.TheVariants as report
 use Rattle.report_text.specs.ReportFaults.{HasFault}
 use Rattle.failure_lines.specs.declared.file_kind.FileKind.TheVariants as kinds
-use Rattle.failure_lines.specs.Failures.{report_failure_of}
+use Rattle.failure_lines.specs.Refusals.{report_failure_of}
 use Rattle.cts_program.specs.Documents.{Refuses}
 use Rattle.cts_program.specs.Steps.{OrMemory}
 use Rattle.cts_program.specs.Told.{placed}

@@ -2,6 +2,8 @@
 -- both.
 use Rattle.std.proofs.Common.{ℕ, ◌≡◌, ◌≢◌, ◌<◌, ◌≤◌, ◌⊎◌, inl, inr, List, [], ◌∷◌, length, take, refl, ap, sym, ◌∙◌, subst, append-nil, arith}
 use Rattle.std.proofs.lemmas.List.{length-map}
+use Rattle.cert_check.specs.declared.verdict.Reason.{Reason}
+use Rattle.cert_check.specs.declared.verdict.Reason.TheVariants as reasons
 use Rattle.cert_check.proofs.JudgedLemmas.{verdict_shown}
 use Rattle.command_line.specs.declared.command.Command.{Command}
 use Rattle.command_line.specs.declared.command.Command.TheVariants.{Check, Demo}
@@ -12,7 +14,9 @@ use Rattle.command_line.specs.Commands.{Given}
 use Rattle.failure_lines.specs.declared.failure.Failure.{Failure}
 use Rattle.failure_lines.specs.declared.file_kind.FileKind.TheVariants as kinds
 use Rattle.failure_lines.specs.Failures.{status_of}
+use Rattle.failure_lines.specs.Refusals.{reason_failure_of}
 use Rattle.cts_program.specs.Answers.{kinds_for, texts_for, judged_kinds, Tells, IsUnshown, RefusesTold, IsText, IsAnswer, IsRefusal, IsAccepted, IsStatusOf, FindsNoPeriod}
+use Rattle.cts_program.specs.CheckTexts.{subject_of}
 use Rattle.cts_program.specs.Documents.{RefusesFirst}
 use Rattle.cts_program.specs.Files.{NamedFile, Request, request_of}
 use Rattle.cts_program.specs.Told.{Told, nothing, reported}
@@ -33,12 +37,17 @@ told_status : Form → ℕ
 told_status forms.Check = 7
 told_status form = 3
 
+reason_status : (reason : Reason) (subject : List ℕ)
+    → status_of (reason_failure_of reason subject) ≡ 7
+reason_status reasons.BelowFloor subject = refl
+reason_status reason subject = refl
+
 refusal_told : (form : Form) (told : Told) (failure : Failure) → RefusesTold form told failure
     → status_of failure ≡ told_status form
 unfolding told_status
 refusal_told forms.Check told failure (inl (pairs, many)) = absurd many
 refusal_told forms.Check (reported problem report) failure (inr (reason, is, verdict)) =
-    ap status_of is
+    ap status_of is ∙ reason_status reason (subject_of problem.circuit reason)
 refusal_told forms.Check told failure (inr unshown) = absurd unshown
 refusal_told form told failure (inl (pairs, many)) = ap status_of pairs
 refusal_told form told failure (inr unshown) = absurd unshown
@@ -214,7 +223,8 @@ accepted_refusal (Check bench tech pl report) contents known failure agree withi
     (inr (told, tells, inr unshown)) = inr (at told unshown)
   where
     at : (told : Told) → IsUnshown forms.Check told failure → status_of failure ≡ 7
-    at (reported problem here) unshown = ap status_of unshown.1
+    at (reported problem here) (reason, is, verdict) =
+        ap status_of is ∙ reason_status reason (subject_of problem.circuit reason)
     at told unshown = absurd unshown
 accepted_refusal (Demo registers seed) contents known failure agree within accepted refusal =
     let (told, unshown) = judged_all (request_of (Demo registers seed)) contents known failure refl

@@ -1,15 +1,26 @@
 -- A file tells one thing, or is refused with one status, and not both.
-use Rattle.std.proofs.Common.{ℕ, ◌≡◌, ◌==◌, ◌⊎◌, inl, inr, List, [], ◌∷◌, ◌++◌, length, Some, None, refl, ap, ap₂, sym, ◌∙◌, subst}
+use Rattle.std.proofs.Common.{ℕ, ◌≡◌, ◌≢◌, ◌==◌, ◌⊎◌, inl, inr, List, [], ◌∷◌, ◌++◌, length, Some, None, refl, ap, ap₂, sym, ◌∙◌, subst}
 use Rattle.cts_base.proofs.Told as told
 use Rattle.cts_model.specs.declared.circuit.Circuit.{Circuit}
 use Rattle.cts_model.specs.declared.signal.Signal.{Signal}
 use Rattle.cts_model.specs.declared.tech.Tech.{Tech}
 use Rattle.cts_model.proofs.OneRecord.{one_use, same_tech}
 use Rattle.cts_model.specs.table.PlainTable.{IsPlainTable}
+use Rattle.bench_reader.specs.declared.fault.BenchFault.{BenchFault}
+use Rattle.bench_reader.specs.declared.fault.BenchFault.TheVariants as bench
 use Rattle.bench_reader.proofs.OneFault.{no_fault}
 use Rattle.delay_tables.specs.Refusals.{RefusesTable}
 use Rattle.delay_tables.specs.declared.fault.TechFault.{TechFault}
+use Rattle.delay_tables.specs.declared.fault.TechFault.TheVariants as tech
 use Rattle.delay_tables.proofs.OneFault.{not_refused}
+use Rattle.move_session.specs.declared.fault.MovesFault.{MovesFault}
+use Rattle.move_session.specs.declared.fault.MovesFault.TheVariants as moves
+use Rattle.place_reader.specs.declared.fault.PlaceFault.{PlaceFault}
+use Rattle.place_reader.specs.declared.fault.PlaceFault.TheVariants as place
+use Rattle.report_text.specs.declared.fault.ReportFault.{ReportFault}
+use Rattle.report_text.specs.declared.fault.ReportFault.TheVariants as report
+use Rattle.topology_file.specs.declared.fault.TopologyFault.{TopologyFault}
+use Rattle.topology_file.specs.declared.fault.TopologyFault.TheVariants as topology
 use Rattle.report_text.specs.Laws.{OneReport, OneFault, NoFaultOfReport}
 use Rattle.cts_engine.specs.Accepted.{IsHostedBy, TellsDelays, HasFaultFor}
 use Rattle.cts_engine.proofs.OneProblem.{one_netlist, one_hosted, one_delays, same_problem}
@@ -18,6 +29,7 @@ use Rattle.failure_lines.specs.declared.failure.Failure.TheVariants.{TooLong}
 use Rattle.failure_lines.specs.declared.file_kind.FileKind.{FileKind}
 use Rattle.failure_lines.specs.declared.file_kind.FileKind.TheVariants as kinds
 use Rattle.failure_lines.specs.Failures.{status_of}
+use Rattle.failure_lines.specs.Refusals.{bench_failure_of, tech_failure_of, place_failure_of, topology_failure_of, moves_failure_of, report_failure_of}
 use Rattle.cts_program.specs.Documents.{DiffersFromFirst, Means, Refuses, IsAcceptedAs, IsRefusedAs}
 use Rattle.cts_program.specs.Told.{Told, nothing, bare, timed, placed, reported, joined, moving, TellsCircuit, TellsTech}
 
@@ -113,13 +125,14 @@ module _ (laws : ReportLaws) where
   -- and has no fault then
   no_refusal : (kind : FileKind) (before : Told) (bytes : List ℕ) (next : Told) (failure : Failure)
       → Means kind before bytes next → Refuses kind before bytes failure → ⊥
-  no_refusal kinds.Bench nothing bytes next failure (circuit, is, accepts) (fault, is', has) =
+  no_refusal kinds.Bench nothing bytes next failure (circuit, is, accepts)
+      (fault, is', known, has) =
       no_fault bytes fault accepts.netlist has
   no_refusal kinds.Tech (bare only []) bytes next failure (circuit, tech, is, tells, hosted)
       (fault, is', has) = delays_fine only.signals bytes tech fault tells has
   no_refusal kinds.Placement (timed circuit tech) bytes next failure
-      (problem, is, circuit_is, tech_is, accepts) (fault, is', has) =
-      told.not_both _ problem.places has.found accepts has.cause
+      (problem, is, circuit_is, tech_is, accepts) (fault, is', known, refuses) =
+      told.not_both _ problem.places fault accepts refuses
   no_refusal kinds.Report (placed problem) bytes next failure (report, is, spells)
       (fault, is', named, has) =
       let none = laws.no_fault problem.circuit problem.tech bytes report spells in
@@ -127,9 +140,9 @@ module _ (laws : ReportLaws) where
       laws.one_fault problem.circuit problem.tech bytes None (Some fault) none has in
       cc same
   no_refusal kinds.Topology (placed problem) bytes next failure (topology, is, accepts)
-      (fault, is', refuses) = told.not_both _ topology fault accepts refuses
+      (fault, is', known, refuses) = told.not_both _ topology fault accepts refuses
   no_refusal kinds.Moves (placed problem) bytes next failure (moves, is, accepts)
-      (fault, is', refuses) = told.not_both _ moves fault accepts refuses
+      (fault, is', known, refuses) = told.not_both _ moves fault accepts refuses
   no_refusal (kinds.Corner number) (bare only techs) bytes next failure (tech, is, tells, alike)
       (inl (fault, is', has)) = delays_fine only.signals bytes tech fault tells has
   no_refusal (kinds.Corner number) (bare only techs) bytes next failure (tech, is, tells, alike)
@@ -151,17 +164,55 @@ module _ (laws : ReportLaws) where
   accepted_fine kind before bytes next failure accepted (inr (short, refuses)) =
       no_refusal kind before bytes next failure accepted.1 refuses
 
+-- a row of the table has the status of its kind
+bench_status : (fault : BenchFault) → fault ≢ bench.NoMemory
+    → status_of (bench_failure_of fault) ≡ 3
+bench_status bench.NoMemory known = absurd (known refl)
+bench_status fault known = refl
+
+tech_status : (kind : FileKind) (fault : TechFault) → fault ≢ tech.NoMemory
+    → status_of (tech_failure_of kind fault) ≡ status_of (TooLong kind)
+tech_status kind tech.NoMemory known = absurd (known refl)
+tech_status kinds.Report fault known = refl
+tech_status kind fault known = refl
+
+place_status : (circuit : Circuit) (fault : PlaceFault) → fault ≢ place.NoMemory
+    → status_of (place_failure_of circuit fault) ≡ 3
+place_status circuit place.NoMemory known = absurd (known refl)
+place_status circuit fault known = refl
+
+report_status : (fault : ReportFault) → fault ≢ report.NoMemory
+    → status_of (report_failure_of fault) ≡ 7
+report_status report.NoMemory known = absurd (known refl)
+report_status fault known = refl
+
+topology_status : (fault : TopologyFault) → fault ≢ topology.NoMemory
+    → status_of (topology_failure_of fault) ≡ 3
+topology_status topology.NoMemory known = absurd (known refl)
+topology_status fault known = refl
+
+moves_status : (fault : MovesFault) → fault ≢ moves.NoMemory
+    → status_of (moves_failure_of fault) ≡ 3
+moves_status moves.NoMemory known = absurd (known refl)
+moves_status fault known = refl
+
 -- a refusal has the status of its kind: 7 for a report, and 3 for any other file
 kind_status : (kind : FileKind) (before : Told) (bytes : List ℕ) (failure : Failure)
     → Refuses kind before bytes failure → status_of failure ≡ status_of (TooLong kind)
-kind_status kinds.Bench nothing bytes failure refuses = ap status_of refuses.1
-kind_status kinds.Tech (bare only []) bytes failure refuses = ap status_of refuses.1
-kind_status kinds.Placement (timed circuit tech) bytes failure refuses = ap status_of refuses.1
-kind_status kinds.Report (placed problem) bytes failure refuses = ap status_of refuses.1
-kind_status kinds.Topology (placed problem) bytes failure refuses = ap status_of refuses.1
-kind_status kinds.Moves (placed problem) bytes failure refuses = ap status_of refuses.1
-kind_status (kinds.Corner number) (bare only techs) bytes failure (inl refuses) =
-    ap status_of refuses.1
+kind_status kinds.Bench nothing bytes failure (fault, is, known, has) =
+    ap status_of is ∙ bench_status fault known
+kind_status kinds.Tech (bare only []) bytes failure (fault, is, has) =
+    ap status_of is ∙ tech_status kinds.Tech fault has.named
+kind_status kinds.Placement (timed circuit tech) bytes failure (fault, is, known, has) =
+    ap status_of is ∙ place_status circuit fault known
+kind_status kinds.Report (placed problem) bytes failure (fault, is, known, has) =
+    ap status_of is ∙ report_status fault known
+kind_status kinds.Topology (placed problem) bytes failure (fault, is, known, has) =
+    ap status_of is ∙ topology_status fault known
+kind_status kinds.Moves (placed problem) bytes failure (fault, is, known, has) =
+    ap status_of is ∙ moves_status fault known
+kind_status (kinds.Corner number) (bare only techs) bytes failure (inl (fault, is, has)) =
+    ap status_of is ∙ tech_status (kinds.Corner number) fault has.named
 kind_status (kinds.Corner number) (bare only techs) bytes failure (inr refuses) =
     ap status_of refuses.0
 kind_status kind before bytes failure refuses = absurd refuses

@@ -13,10 +13,11 @@ use Rattle.timing_text.specs.declared.answer.Ending.{Ending}
 use Rattle.timing_text.specs.declared.answer.Ending.TheVariants.{Done, Never}
 use Rattle.timing_text.specs.Endings.{ending_status}
 use Rattle.failure_lines.specs.declared.failure.Failure.{Failure}
-use Rattle.failure_lines.specs.declared.failure.Failure.TheVariants.{Usage, TooLong, WriteFault}
+use Rattle.failure_lines.specs.declared.failure.Failure.TheVariants.{Usage, TooLong, Refused, WriteFault}
 use Rattle.failure_lines.specs.declared.file_kind.FileKind.{FileKind}
 use Rattle.failure_lines.specs.declared.file_kind.FileKind.TheVariants.{Report}
-use Rattle.failure_lines.specs.Failures.{words_failure_of, status_of}
+use Rattle.failure_lines.specs.Failures.{status_of}
+use Rattle.failure_lines.specs.Refusals.{words_failure_of}
 use Rattle.cts_program.specs.Answers.{kinds_for, texts_for, IsAnswer, IsRefusal, IsAccepted, IsStatusOf, FindsNoPeriod}
 use Rattle.cts_program.specs.Files.{NamedFile, Request, Ask, request_of, AreDenoted}
 use Rattle.cts_program.specs.Run.{IsNoCommand, DenotesText, RefusesRequest, CannotRead, EndsInPart, Stops, refused, unread, wants_memory, Fails, usage, stops, unwritten, NoneRose}
@@ -319,6 +320,7 @@ not_two Never two = omega arith
 -- and one that fails with neither 0 nor 1
 pub no_ending : (failure : Failure) (status : ℕ) → status_of failure ≡ status → status < 2 → ⊥
 no_ending (TooLong Report) status is few = omega (arith, is, few)
+no_ending (Refused Report number words) status is few = omega (arith, is, few)
 no_ending failure status is few = omega (arith, is, few)
 
 -- where a count is greater that no failure but a fault moves, the status is that of the fault

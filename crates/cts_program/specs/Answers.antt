@@ -11,10 +11,10 @@ use Rattle.command_line.specs.declared.table.Form.{Form}
 use Rattle.command_line.specs.declared.table.Form.TheVariants.{Zero, Period, Schedule, Synth, Check, Demo, Margin, Embed, Moves, Corners}
 use Rattle.command_line.specs.Commands.{Given, number_of}
 use Rattle.failure_lines.specs.declared.failure.Failure.{Failure}
-use Rattle.failure_lines.specs.declared.failure.Failure.TheVariants.{Pairs, Unshown}
+use Rattle.failure_lines.specs.declared.failure.Failure.TheVariants.{Pairs}
 use Rattle.failure_lines.specs.declared.file_kind.FileKind.{FileKind}
 use Rattle.failure_lines.specs.declared.file_kind.FileKind.TheVariants.{Bench, Tech, Placement}
-use Rattle.failure_lines.specs.declared.not_shown.NotShown.TheVariants as why
+use Rattle.failure_lines.specs.Refusals.{reason_failure_of}
 use Rattle.cts_program.specs.CheckTexts.{subject_of, IsCheckText}
 use Rattle.cts_program.specs.CornerTexts.{IsCornersText}
 use Rattle.cts_program.specs.DemoTexts.{demo_texts, IsDemoText}
@@ -137,7 +137,7 @@ pub record FindsNoPeriod (request : Request) (contents : List (List ℕ)) : Type
 -- a report that is checked is read, but a reason stands against it
 abbrev pub IsUnshown : Form → Told → Failure → Type 0
 IsUnshown Check (reported problem report) failure = (reason : Reason)
-    × (failure ≡ Unshown (why.Reason reason (subject_of problem.circuit reason)))
+    × (failure ≡ reason_failure_of reason (subject_of problem.circuit reason))
     × IsVerdict problem report (Not reason)
 IsUnshown form told failure = ⊥
 

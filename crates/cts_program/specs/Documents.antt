@@ -6,9 +6,9 @@ use Rattle.cts_model.specs.declared.problem.Problem.{Problem}
 use Rattle.cts_model.specs.declared.report.Report as reports
 use Rattle.cts_model.specs.declared.tech.Tech.{Tech}
 use Rattle.cts_model.specs.declared.tree.Topology as trees
-use Rattle.cts_model.specs.netlist.Paths.{register_name}
 use Rattle.cts_model.specs.report.ReportBounds.{Spells}
 use Rattle.bench_reader.specs.declared.fault.BenchFault.{BenchFault}
+use Rattle.bench_reader.specs.declared.fault.BenchFault.TheVariants as bench
 use Rattle.bench_reader.specs.Netlists.{AcceptsNetlist, RefusesNetlist}
 use Rattle.delay_tables.specs.declared.fault.TechFault.{TechFault}
 use Rattle.place_reader.specs.declared.fault.PlaceFault.{PlaceFault}
@@ -18,8 +18,10 @@ use Rattle.report_text.specs.declared.fault.ReportFault.{ReportFault}
 use Rattle.report_text.specs.declared.fault.ReportFault.TheVariants as report
 use Rattle.report_text.specs.ReportFaults.{HasFault}
 use Rattle.topology_file.specs.declared.fault.TopologyFault.{TopologyFault}
+use Rattle.topology_file.specs.declared.fault.TopologyFault.TheVariants as topology
 use Rattle.topology_file.specs.TopologyTexts.{AcceptsTopology, RefusesTopology}
 use Rattle.move_session.specs.declared.fault.MovesFault.{MovesFault}
+use Rattle.move_session.specs.declared.fault.MovesFault.TheVariants as moves
 use Rattle.move_session.specs.declared.moves.Move.{Move}
 use Rattle.move_session.specs.Moves.{AcceptsMoves, RefusesMoves}
 use Rattle.cts_engine.specs.Accepted.{IsHostedBy, TellsDelays, HasFaultFor}
@@ -27,27 +29,9 @@ use Rattle.failure_lines.specs.declared.failure.Failure.{Failure}
 use Rattle.failure_lines.specs.declared.failure.Failure.TheVariants as failures
 use Rattle.failure_lines.specs.declared.file_kind.FileKind.{FileKind}
 use Rattle.failure_lines.specs.declared.file_kind.FileKind.TheVariants as kinds
-use Rattle.failure_lines.specs.declared.not_shown.NotShown.TheVariants as why
-use Rattle.failure_lines.specs.declared.placement_fault.PlacementFault.{PlacementFault}
-use Rattle.failure_lines.specs.declared.placement_fault.PlacementFault.TheVariants.{BadLine, BadNumber, PlaceTwice, NoPlace, NoSource}
+use Rattle.failure_lines.specs.Refusals.{bench_failure_of, tech_failure_of, place_failure_of, topology_failure_of, moves_failure_of, report_failure_of}
 use Rattle.cts_program.specs.Files.{IsShortFile}
 use Rattle.cts_program.specs.Told.{Told, nothing, bare, timed, placed, reported, joined, moving}
-
--- a placement's fault, with the name of the register that has no place
-abbrev pub IsNamedFault : Circuit → PlaceFault → PlacementFault → Type 0
-IsNamedFault circuit fault (BadLine line) = fault ≡ place.BadLine line
-IsNamedFault circuit fault (BadNumber line number) = fault ≡ place.BadNumber line number
-IsNamedFault circuit fault (PlaceTwice line) = fault ≡ place.PlaceTwice line
-IsNamedFault circuit fault (NoPlace name) =
-    (register : ℕ) × (fault ≡ place.NoPlace register) × (name ≡ register_name circuit register)
-IsNamedFault circuit fault NoSource = fault ≡ place.NoSource
-
--- a placement of a circuit with such delays has this fault
-pub record HasPlaceFault (circuit : Circuit) (tech : Tech) (bytes : List ℕ)
-    (fault : PlacementFault) : Type 0 where
-  pub found : PlaceFault
-  pub named : IsNamedFault circuit found fault
-  pub cause : RefusesPlacement bytes circuit tech.source tech.host found
 
 -- whether a table gives the host no place
 abbrev pub is_hostless : Tech → Bool
@@ -87,23 +71,25 @@ Means kind told bytes next = ⊥
 -- or it is refused with this failure; the table of a corner is named by its number
 abbrev pub Refuses : FileKind → Told → List ℕ → Failure → Type 0
 Refuses kinds.Bench nothing bytes failure =
-    (fault : BenchFault) × (failure ≡ failures.Bench fault) × RefusesNetlist bytes fault
+    (fault : BenchFault) × (failure ≡ bench_failure_of fault) × (fault ≢ bench.NoMemory)
+    × RefusesNetlist bytes fault
 Refuses kinds.Tech (bare only []) bytes failure =
-    (fault : TechFault) × (failure ≡ failures.Tech fault) × HasFaultFor only.signals bytes fault
+    (fault : TechFault) × (failure ≡ tech_failure_of kinds.Tech fault)
+    × HasFaultFor only.signals bytes fault
 Refuses kinds.Placement (timed circuit tech) bytes failure =
-    (fault : PlacementFault) × (failure ≡ failures.Placement fault)
-    × HasPlaceFault circuit tech bytes fault
+    (fault : PlaceFault) × (failure ≡ place_failure_of circuit fault) × (fault ≢ place.NoMemory)
+    × RefusesPlacement bytes circuit tech.source tech.host fault
 Refuses kinds.Report (placed problem) bytes failure =
-    (fault : ReportFault) × (failure ≡ failures.Unshown (why.Fault fault))
-    × (fault ≢ report.NoMemory) × HasFault problem.circuit problem.tech bytes (Some fault)
+    (fault : ReportFault) × (failure ≡ report_failure_of fault) × (fault ≢ report.NoMemory)
+    × HasFault problem.circuit problem.tech bytes (Some fault)
 Refuses kinds.Topology (placed problem) bytes failure =
-    (fault : TopologyFault) × (failure ≡ failures.Topology fault)
+    (fault : TopologyFault) × (failure ≡ topology_failure_of fault) × (fault ≢ topology.NoMemory)
     × RefusesTopology bytes (length problem.circuit.registers) fault
 Refuses kinds.Moves (placed problem) bytes failure =
-    (fault : MovesFault) × (failure ≡ failures.Moves fault)
+    (fault : MovesFault) × (failure ≡ moves_failure_of fault) × (fault ≢ moves.NoMemory)
     × RefusesMoves bytes problem.circuit fault
 Refuses (kinds.Corner number) (bare only techs) bytes failure =
-    ((fault : TechFault) × (failure ≡ failures.CornerTech number fault)
+    ((fault : TechFault) × (failure ≡ tech_failure_of (kinds.Corner number) fault)
     × HasFaultFor only.signals bytes fault)
     ⊎ ((failure ≡ failures.CornerHost number)
     × ((tech : Tech) × TellsDelays only.signals bytes tech × DiffersFromFirst techs tech))

@@ -10,14 +10,13 @@ use Rattle.cts_model.specs.timing.PairLists.{JoinsMoreThan}
 use Rattle.cts_model.specs.tree.Problems.{GivesUsedKinds}
 use Rattle.cert_check.specs.declared.verdict.Reason.{Reason}
 use Rattle.cert_check.specs.declared.verdict.Reason.TheVariants as reason
-use Rattle.place_reader.specs.declared.fault.PlaceFault.{PlaceFault}
 use Rattle.timing_text.specs.declared.answer.Answer.{Answer}
 use Rattle.timing_text.specs.Endings.{ending_status}
 use Rattle.failure_lines.specs.declared.failure.Failure.{Failure}
 use Rattle.failure_lines.specs.declared.failure.Failure.TheVariants as failures
 use Rattle.failure_lines.specs.declared.file_kind.FileKind.{FileKind}
 use Rattle.cts_program.specs.Answers.{kinds_in}
-use Rattle.cts_program.specs.Documents.{IsNamedFault, IsAcceptedAs, IsRefusedAs, Tell, RefusesFirst}
+use Rattle.cts_program.specs.Documents.{IsAcceptedAs, IsRefusedAs, Tell, RefusesFirst}
 use Rattle.cts_program.specs.Files.{NamedFile, Request, AreContents}
 use Rattle.cts_program.specs.Run.{DenotesText, CannotRead, Stops}
 use Rattle.cts_program.specs.Told.{Told, nothing, bare, TellsCircuit}
@@ -118,12 +117,6 @@ abbrev pub FailsCircuit : Circuit → Failure → Type 0
 FailsCircuit circuit failures.Pairs = JoinsMoreThan circuit 1048576
 FailsCircuit circuit failures.NoMemory = Unit {0}
 FailsCircuit circuit _ = ⊥
-
--- a failure that gives a placement's fault; memory may run out at any fault
-abbrev pub GivesFault : Circuit → PlaceFault → Failure → Type 0
-GivesFault circuit fault (failures.Placement named) = IsNamedFault circuit fault named
-GivesFault circuit fault failures.NoMemory = Unit {0}
-GivesFault circuit fault _ = ⊥
 
 -- the reason is about this register
 abbrev pub IsRegisterReason : Reason → (register : ℕ) → Type 0

@@ -12,7 +12,7 @@ ghost use Rattle.cts_program.specs.Told.{reported};
 use crate::reading::copied;
 use cert_check::{Reason, Verdict};
 use cts_model::{Circuit, Problem, Report};
-use failure_lines::{Failure, NotShown};
+use failure_lines::{Failure, reason_failure};
 use report_text::push_line;
 use std::alloc::Global;
 use timing_text::Answer;
@@ -38,7 +38,7 @@ pub fn check(alloc: Global, problem: &Problem, report: &Report) -> Result<Answer
         }
         Verdict::Not(reason) => {
             let subject = copied(alloc, subject_of(&problem.circuit, reason))?;
-            Err(Failure::Unshown(NotShown::Reason(reason, subject)))
+            Err(reason_failure(reason, subject))
         }
     }
 }

@@ -1,10 +1,10 @@
 -- Pieces that are written one after the other.
-use Rattle.std.proofs.Common.{ℕ, ◌≡◌, ◌<◌, ◌≤◌, ◌+◌, List, [], ◌∷◌, ◌++◌, length, take, drop, Option, Some, None, Result, Ok, Err, OnOk, OnErr, inl, inr, refl, ap, sym, ◌∙◌, arith, append_assoc, append-nil, length-append, get_or, drop-cons, suc, zero-add, subst}
+use Rattle.std.proofs.Common.{ℕ, ◌≡◌, ◌<◌, ◌≤◌, ◌+◌, List, [], ◌∷◌, ◌++◌, length, take, drop, Option, Some, None, Result, Ok, Err, inl, inr, refl, ap, sym, ◌∙◌, arith, append_assoc, append-nil, length-append, get_or, drop-cons, suc, zero-add, subst}
 use Rattle.std.proofs.lemmas.List.{take-append-le, take-append-drop}
 use Rattle.std.proofs.lemmas.List.Concat.{flat_map-append}
 use Rattle.std.specs.List.{flat_map}
 use Rattle.cts_io.specs.Device.{Rose, appended, WritesPrefix}
-use Rattle.failure_lines.specs.Failures.{ended, Reports, Writes}
+use Rattle.failure_lines.specs.Failures.{Reports, Writes}
 
 -- what stands after a prefix stands after what the prefix stands after
 appended-appended : (before : Option (List ℕ)) (first second : List ℕ)
@@ -84,14 +84,6 @@ writes_after (Err e) before mid now count counted counted_now prefix rest there 
       omega arith,
     )
 
--- what the clauses of a whole write say together
-pub whole_writes : {T E : Type 0} (result : Result T E) (bytes : List ℕ)
-    (before now : Option (List ℕ)) (count counted : ℕ) → OnOk result (now ≡ appended before bytes)
-    → OnErr result (WritesPrefix before bytes now) → OnErr result (Rose count counted)
-    → count ≤ counted → Writes bytes before count now counted result
-whole_writes (Ok x) bytes before now count counted whole part rose more = (whole, more)
-whole_writes (Err e) bytes before now count counted whole part rose more = (part, rose)
-
 -- where a prefix failed, a prefix of all was written
 pub prefix_failed : {T E : Type 0} (result : Result T E) (error : E) → result ≡ Err error
     → (prefix rest : List ℕ) (before now : Option (List ℕ)) (count counted : ℕ)
@@ -106,12 +98,3 @@ pub reported : {T E : Type 0} (result : Result T E) (bytes : List ℕ) (before n
     → Reports bytes before count now counted
 reported (Ok x) bytes before now count counted (whole, more) = inl whole
 reported (Err e) bytes before now count counted failed = inr failed
-
--- a line that ends with a word
-pub line_with_word : {T E : Type 0} (result : Result T E) (prefix word other : List ℕ)
-    (before now : Option (List ℕ)) (count counted : ℕ) → word ≡ other
-    → Writes (ended (prefix ++ (word ++ []))) before count now counted result
-    → Writes (ended (prefix ++ other)) before count now counted result
-line_with_word result prefix word other before now count counted same writes =
-    subst (λ l. Writes (ended (prefix ++ l)) before count now counted result)
-    (append-nil word ∙ same) writes

@@ -4,10 +4,11 @@
 
 mod failure;
 mod file_kind;
-mod not_shown;
-mod placement_fault;
+mod pieces;
+mod refusals;
+mod words;
 
-pub use failure::{Failure, corner_failure};
+pub use failure::Failure;
 pub use file_kind::FileKind;
-pub use not_shown::NotShown;
-pub use placement_fault::PlacementFault;
+pub use refusals::{Fault, reason_failure, tech_failure};
+pub use words::Words;

@@ -16,7 +16,7 @@ use cts_base::Listed;
 use cts_engine::{Denoted, accept_table};
 use cts_model::{Circuit, Problem, Report, Tech, Topology, used_kinds};
 use delay_tables::read_tech;
-use failure_lines::{Failure, FileKind, corner_failure};
+use failure_lines::{Failure, FileKind, tech_failure};
 use move_session::{Move, read_moves};
 use place_reader::read_places;
 use report_text::read_report;
@@ -105,7 +105,7 @@ impl<'a> Document for CornerTable<'a> {
     fn read(self, alloc: Global, bytes: &[u8]) -> Result<Tech, Failure> {
         let tech = match read_tech(alloc, bytes, &used_kinds(self.circuit)) {
             Ok(tech) => tech,
-            Err(fault) => return Err(corner_failure(self.number, fault)),
+            Err(fault) => return Err(tech_failure(FileKind::Corner(self.number), fault)),
         };
         if differs_from_first(self.techs, &tech) {
             return Err(Failure::CornerHost(self.number));

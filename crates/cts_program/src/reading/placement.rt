@@ -2,12 +2,16 @@
 
 ghost use Rattle.std.specs.Prelude.{◌≡◌, ◌<◌, ◌⊎◌, ℕ, length, IfOk};
 ghost use Rattle.failure_lines.specs.declared.failure.Failure.TheVariants as failures;
-ghost use Rattle.failure_lines.specs.declared.placement_fault.PlacementFault.TheVariants as faults;
-ghost use Rattle.cts_program.specs.Steps.{GivesFault};
+ghost use Rattle.failure_lines.specs.declared.file_kind.FileKind.TheVariants as kinds;
+ghost use Rattle.failure_lines.specs.declared.words.Words.TheVariants as words;
+ghost use Rattle.failure_lines.specs.Refusals.{place_failure_of};
+ghost use Rattle.cts_program.specs.Steps.{OrMemory};
 
 use cts_base::{Listed, Name, NoMemory};
 use cts_model::Circuit;
-use failure_lines::{Failure, PlacementFault};
+use failure_lines::Failure::{self, Refused};
+use failure_lines::FileKind::Placement;
+use failure_lines::Words::{Line, Nothing, Number, Register};
 use place_reader::PlaceFault;
 use std::alloc::Global;
 
@@ -15,29 +19,27 @@ use std::alloc::Global;
 pub fn placement_failure(alloc: Global, circuit: &Circuit, fault: PlaceFault) -> Failure
     requires { (register : ℕ) → fault ≡ PlaceFault.NoPlace register
         → register < length circuit.now.registers }
-    ensures { GivesFault circuit.now fault result }
+    ensures { OrMemory (λ failure. failure ≡ place_failure_of circuit.now fault) result }
 {
     match fault {
-        PlaceFault::BadLine(line) => Failure::Placement(PlacementFault::BadLine(line)),
-        PlaceFault::BadNumber(line, number) => {
-            Failure::Placement(PlacementFault::BadNumber(line, number))
-        }
-        PlaceFault::PlaceTwice(line) => Failure::Placement(PlacementFault::PlaceTwice(line)),
+        PlaceFault::BadLine(line) => Refused(Placement, 1, Line(line)),
+        PlaceFault::BadNumber(line, fault) => Refused(Placement, 2, Number(line, fault)),
+        PlaceFault::PlaceTwice(line) => Refused(Placement, 3, Line(line)),
         PlaceFault::NoPlace(register) => {
             no_place(alloc, circuit.register_name(register as usize))
         }
-        PlaceFault::NoSource => Failure::Placement(PlacementFault::NoSource),
+        PlaceFault::NoSource => Refused(Placement, 5, Nothing),
         PlaceFault::NoMemory => Failure::NoMemory,
     }
 }
 
 // The failure where the register of this name has no place.
 fn no_place(alloc: Global, name: &[u8]) -> Failure
-    ensures { (result ≡ failures.Placement (faults.NoPlace name.now))
-        ⊎ (result ≡ failures.NoMemory) }
+    ensures { OrMemory (λ failure. failure
+        ≡ failures.Refused kinds.Placement 4 (words.Register name.now)) result }
 {
     match copied(alloc, name) {
-        Ok(name) => Failure::Placement(PlacementFault::NoPlace(name)),
+        Ok(name) => Refused(Placement, 4, Register(name)),
         Err(_) => Failure::NoMemory,
     }
 }

@@ -1,6 +1,5 @@
 use Rattle.std.proofs.Common.{◌∙◌, inl, ap}
-use Rattle.failure_lines.specs.declared.failure.Failure.TheVariants.{Unshown}
-use Rattle.failure_lines.specs.declared.not_shown.NotShown.TheVariants.{Reason}
+use Rattle.failure_lines.specs.Refusals.{reason_failure_of}
 use Rattle.cts_program.proofs.ReasonLemmas.{reason_within}
 use Rattle.cts_program.proofs.check.check.Goals as goal
 
@@ -12,7 +11,7 @@ subject_of-requires c =
 pub returns-in_ok-subject-in-Not-clause-cause : goal.returns-in_ok-subject-in-Not-clause-cause
 returns-in_ok-subject-in-Not-clause-cause c = inl (
   c.in-Not.reason,
-  ap (λ subject. Unshown (Reason c.in-Not.reason subject))
+  c.reason_failure.ensures ∙ ap (reason_failure_of c.in-Not.reason)
       (c.in_ok-subject-in-Not.ensures ∙ c.subject_of.ensures),
   rw c.in-Not.is at c.in_ok-check.ensures.verdict,
 )
