@@ -1,6 +1,6 @@
 //! Why a placement is refused, as it is reported.
 
-ghost use Rattle.std.specs.Prelude.{◌≡◌, ◌<◌, ◌⊎◌, ℕ, length, IfOk};
+ghost use Rattle.std.specs.Prelude.{◌≡◌, ◌<◌, ℕ, length, IfOk};
 ghost use Rattle.failure_lines.specs.declared.failure.Failure.TheVariants as failures;
 ghost use Rattle.failure_lines.specs.declared.file_kind.FileKind.TheVariants as kinds;
 ghost use Rattle.failure_lines.specs.declared.words.Words.TheVariants as words;
