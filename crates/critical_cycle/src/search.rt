@@ -98,7 +98,8 @@ impl Search {
         if !self.reach_shown() {
             return;
         }
-        self.relaxation.choose_parents(constraints, self.trial, turns);
+        self.relaxation
+            .choose_parents(constraints, self.trial, turns);
         for _round in 0..ROUNDS {
             if !self.reach_shown() || self.is_through(constraints, turns) {
                 return;
