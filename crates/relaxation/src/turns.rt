@@ -104,8 +104,8 @@ impl Turns {
         if self.strong.is_some() { 0 } else { i128::MIN }
     }
 
-    // Links the constraints that can raise a register while no values lie further apart, where these
-    // are few, and else all. Each register waits then.
+    // Links the constraints that can raise a register while no values lie further apart, where
+    // these are few, and else all. Each register waits then.
     fn link_within(&mut self, constraints: &[Constraint], gains: Gains, apart: i128) {
         let strong = Strong::within(gains, apart);
         self.strong = if strong.are_few(constraints) {
@@ -157,11 +157,6 @@ impl Turns {
     pub(crate) fn clear(&mut self) {
         self.behind.fill(0);
         self.waiting = 0;
-    }
-
-    /// Whether none waits.
-    pub fn are_over(&self) -> bool {
-        self.waiting == 0
     }
 
     /// Lets a register wait behind all others, if it doesn't wait.
