@@ -1,5 +1,5 @@
 -- A report that is put together from its sections: how large its numbers are, and its lines.
-use Rattle.std.proofs.Common.{◌≡◌, ◌≤◌, ◌<◌, ◌+◌, ◌-◌, ◌*◌, ◌^◌, ℕ, ℤ, pos, neg_ℤ, to_z, of_z, List, [], ◌∷◌, ◌++◌, All, None, Some, length, map, get_or, codes, refl, sym, ap, ap₂, ◌∙◌, subst, arith}
+use Rattle.std.proofs.Common.{◌≡◌, ◌≤◌, ◌<◌, ◌+◌, ◌-◌, ◌*◌, ◌^◌, ℕ, ℤ, pos, neg_ℤ, to_z, of_z, List, [], ◌∷◌, ◌++◌, All, None, Some, length, map, get_or, codes, refl, sym, ap, ap₂, ◌∙◌, subst, arith, drop, append-nil}
 use Rattle.std.specs.Prelude.{slice_get, unsigned_abs}
 use Rattle.std.specs.Fmt.{signed_decimal}
 use mir.Syntax.{w128}
@@ -11,28 +11,37 @@ use Rattle.cts_base.specs.Fractions.{quotient_text}
 use Rattle.cts_model.specs.declared.circuit.Circuit.{Circuit}
 use Rattle.cts_model.specs.declared.report.Report.{Report}
 use Rattle.cts_model.specs.declared.tech.Tech.{Tech}
+use Rattle.cts_model.specs.declared.schedule.Lead.{Lead}
 use Rattle.cts_model.specs.declared.schedule.Slack.{Slack}
 use Rattle.cts_model.specs.declared.tree.Merge.{Merge}
 use Rattle.cts_model.specs.declared.tree.Show.TheVariants.{Root}
 use Rattle.cts_model.specs.declared.tree.Wire.{Wire}
 use Rattle.cts_model.specs.placement.Points.{IsBelow, IsPointBelow}
-use Rattle.cts_model.specs.text.PrintedLines.{count_line, period_line, register_line}
+use Rattle.cts_model.specs.text.PrintedLines.{Words, count_line, period_line, register_line, text_of}
 use Rattle.cts_model.specs.tree.Problems.{grid_of, scheduled_length}
-use Rattle.cts_model.specs.report.ReportBounds.{HasTimingBounds, HasTreeBounds, IsMergeShow, IsOfSize, IsSmallWire, IsSourceShow, IsWithinBounds, ShowsAmong}
+use Rattle.cts_model.specs.report.ReportBounds.{HasTimingBounds, HasTreeBounds, IsMergeShow, IsOfSize, IsSmallWire, IsSourceShow, IsWithinBounds, ShowsAmong, IsSmallLead, IsSmallMerge, LeadsAmong, Spells}
 use Rattle.cts_model.specs.report.ReportLines.{lead_line, lines_below, merge_line_at, no_wire, node_line_at, origin, period_show_lines, register_line_at, report_lines, show_words, source_line, timing_lines, tree_lines, version_line}
 use Rattle.cts_model.specs.timing.Schedules.{arrival_of}
 use Rattle.cts_model.specs.tree.Topologies.{root_of, source_of}
 use Rattle.cts_model.proofs.GridLemmas.{scheduled_size}
+use Rattle.cts_model.specs.timing.Slacks.{AreSmallSlacks}
 use Rattle.report_text.specs.declared.sections.Parts.{Parts}
-use Rattle.report_text.specs.Parts.{scale_in}
+use Rattle.report_text.specs.Parts.{scale_in, HasParts}
 use Rattle.report_text.specs.declared.timing_values.Timed.{Timed}
 use Rattle.report_text.specs.declared.tree_values.MergeLine.{MergeLine}
 use Rattle.report_text.specs.declared.tree_values.NodeLine.{NodeLine}
 use Rattle.report_text.specs.Rows.{lines_of}
-use Rattle.report_text.specs.Values.{merged_line, placed_line, sourced_line}
-use Rattle.report_text.specs.DenotedReports.{AreDenoted, arrivals_in, begin_of, denoted_lines, merges_in, places_in, reaches_in, report_denoted, shows_in, sink_reach, sink_reaches, timed_line, wires_in}
+use Rattle.report_text.specs.Values.{merged_line, placed_line, sourced_line, SaysMerge, SaysNode}
+use Rattle.report_text.specs.DenotedReports.{arrivals_in, begin_of, denoted_lines, lengths_in, merges_in, places_in, reaches_in, report_denoted, shows_in, sink_reach, sink_reaches, timed_line, wires_in, lines_after}
 use Rattle.report_text.proofs.FlawlessReport.{parts_apart}
-use Rattle.report_text.proofs.RowLemmas.{numbered_rows}
+use Rattle.report_text.proofs.RowLemmas.{numbered_rows, plain_lines, rows_all, rows_lines, values_all, values_many}
+use Rattle.report_text.specs.declared.form.Scale.{Scale}
+use Rattle.report_text.specs.Forms.{cycle_forms, forms_after}
+use Rattle.report_text.specs.Headings.{count_of, shown_line}
+use Rattle.report_text.specs.TimingValues.{DenotesLead}
+use Rattle.report_text.specs.Walks.{DenotesTimed}
+use Rattle.report_text.proofs.BodyLemmas.{body_lines, body_read}
+use Rattle.report_text.proofs.WalkLemmas.{read_more}
 
 -- a small number, as the code keeps it
 pub small_read : (number : ℤ) → IsBelow (10 ^ 32) number → to_z w128 (of_z w128 number) ≡ number
@@ -50,9 +59,16 @@ sink_below tech arrival small =
 
 -- ---- the report
 
-module _ (circuit : Circuit) (tech : Tech) (parts : Parts) (are : AreDenoted circuit parts) where
+module _ {circuit : Circuit} {tech : Tech} {text : List ℕ} {parts : Parts}
+    (has : HasParts circuit tech text parts) where
   abbrev report : Report
   report = report_denoted tech parts
+
+  abbrev scale : Scale
+  scale = scale_in tech parts.heading.period
+
+  abbrev count : ℕ
+  count = length circuit.registers
 
   abbrev sinks : List ℤ
   sinks = sink_reaches tech (arrivals_in parts)
@@ -60,19 +76,63 @@ module _ (circuit : Circuit) (tech : Tech) (parts : Parts) (are : AreDenoted cir
   some : 0 < length circuit.registers
   some = circuit.valid.some_register
 
+  -- there are so many values of each kind
+  arrivals_many : length (arrivals_in parts) ≡ count
+  arrivals_many =
+      values_many (DenotesTimed circuit scale) (λ row. row.arrival) has.body.timings.has
+
+  merges_many : length (merges_in parts) ≡ count - 1
+  merges_many = values_many (SaysMerge circuit scale.grid) (λ row. row.merge) has.body.merged.has
+
+  reaches_many : length (reaches_in parts) ≡ count - 1
+  reaches_many = values_many (SaysMerge circuit scale.grid) (λ row. row.reach) has.body.merged.has
+
+  shows_many : length (shows_in parts) ≡ count - 1
+  shows_many = values_many (SaysMerge circuit scale.grid) (λ row. row.show) has.body.merged.has
+
+  places_many : length (places_in parts) ≡ 2 * count - 1
+  places_many = values_many (SaysNode scale.grid) (λ row. row.place) has.body.placed.has
+
+  lengths_many : length (lengths_in parts) ≡ 2 * count - 1
+  lengths_many = values_many (SaysNode scale.grid) (λ row. row.length) has.body.placed.has
+
+  wires_many : length (wires_in parts) ≡ 2 * count - 1
+  wires_many = values_many (SaysNode scale.grid) (λ row. row.wire) has.body.placed.has
+
+  -- and they are small
+  pub arrivals_below : All (IsBelow (10 ^ 19)) (arrivals_in parts)
+  arrivals_below = values_all (DenotesTimed circuit scale) (λ row. row.arrival)
+      has.body.timings.has (IsBelow (10 ^ 19)) (λ number words row denoted. denoted.small)
+
+  wires_small : All IsSmallWire (wires_in parts)
+  wires_small = values_all (SaysNode scale.grid) (λ row. row.wire) has.body.placed.has IsSmallWire
+      (λ number words row says. says.wire)
+
+  leads_all : (P : Lead → Type 0)
+      → ((words : Words) (lead : Lead) → DenotesLead circuit words lead → P lead)
+      → All P parts.body.leads
+  leads_all P gives = rows_all (λ number. DenotesLead circuit) P (λ number. gives) 0
+      has.body.leads.lines parts.body.leads has.body.leads.each
+
+  merged_all : {Y : Type 0} (f : MergeLine → Y) (P : Y → Type 0)
+      → ((node : ℕ) (words : Words) (row : MergeLine)
+      → SaysMerge circuit scale.grid node words row → P (f row))
+      → All P (map f parts.body.merged)
+  merged_all f P gives = values_all (SaysMerge circuit scale.grid) f has.body.merged.has P gives
+
   as_many : length sinks ≡ length (arrivals_in parts)
   as_many = length-map (arrivals_in parts) (sink_reach tech)
 
   -- the lists are as long as the circuit has them
-  pub denoted_size : IsOfSize circuit report
+  denoted_size : IsOfSize circuit report
   denoted_size = record {
-    arrivals = are.timing.at;
-    slacks = are.timing.slacks;
-    merges = omega (arith, are.tree.merges, some);
+    arrivals = arrivals_many;
+    slacks = values_many (DenotesTimed circuit scale) (λ row. row.slack) has.body.timings.has;
+    merges = omega (arith, merges_many, some);
     shows = omega (
       arith,
       length_push (shows_in parts) parts.body.source.show,
-      are.tree.shows,
+      shows_many,
       some,
     );
     reaches = omega (
@@ -80,36 +140,38 @@ module _ (circuit : Circuit) (tech : Tech) (parts : Parts) (are : AreDenoted cir
       length_push (sinks ++ (reaches_in parts)) parts.body.source.reach,
       length-append sinks (reaches_in parts),
       as_many,
-      are.timing.at,
-      are.tree.reaches,
+      arrivals_many,
+      reaches_many,
       some,
     );
     places = omega (
       arith,
       length_push (places_in parts) (begin_of (wires_in parts)),
-      are.tree.places,
+      places_many,
       some,
     );
-    lengths = omega (arith, are.tree.lengths, some);
-    wires = omega (arith, are.tree.wires, some);
-    paths = are.timing.paths;
-    leads = are.timing.leads;
-    period_show = are.timing.period_show;
+    lengths = omega (arith, lengths_many, some);
+    wires = omega (arith, wires_many, some);
+    paths = has.shown.paths;
+    leads = has.body.leads.many;
+    period_show = has.shown.among;
     each_show = All-push (ShowsAmong (length circuit.registers)) (shows_in parts)
-        parts.body.source.show are.tree.among are.tree.source_among;
-    each_lead = are.timing.leads_among;
-    each_path = are.timing.signals;
+        parts.body.source.show (merged_all (λ row. row.show) (ShowsAmong count) (λ node words row says. says.among))
+        has.body.source.denoted.among;
+    each_lead = leads_all (LeadsAmong count) (λ words lead denoted. denoted.registers);
+    each_path = has.shown.signals;
   }
 
   denoted_timing_bounds : HasTimingBounds report
   denoted_timing_bounds = record {
-    period = are.timing.period;
+    period = has.heading.small;
     den = refl;
-    cycle = are.timing.weights;
-    arrivals = are.timing.arrivals;
-    slacks = are.timing.small_slacks;
-    paths = are.timing.few;
-    leads = are.timing.small_leads;
+    cycle = has.shown.weights;
+    arrivals = arrivals_below;
+    slacks = values_all (DenotesTimed circuit scale) (λ row. row.slack) has.body.timings.has
+        (AreSmallSlacks scale.den) (λ number words row denoted. denoted.slacks);
+    paths = has.shown.few;
+    leads = leads_all IsSmallLead (λ words lead denoted. denoted.small);
   }
 
   sinks_below : All (IsBelow (10 ^ 32)) sinks
@@ -118,15 +180,15 @@ module _ (circuit : Circuit) (tech : Tech) (parts : Parts) (are : AreDenoted cir
       subst (IsBelow (10 ^ 32))
       (sym (get_or-map (sink_reach tech) (arrivals_in parts) place (pos 0) default there))
       (sink_below tech (get_or (arrivals_in parts) place (pos 0))
-      (are.timing.arrivals place (pos 0) there))
+      (arrivals_below place (pos 0) there))
 
   -- the root's wire
   root_within : length (wires_in parts) - 1 < length (wires_in parts)
-  root_within = omega (arith, are.tree.wires, some)
+  root_within = omega (arith, wires_many, some)
 
   root_small : IsSmallWire
       (get_or (wires_in parts) (length (wires_in parts) - 1) no_wire)
-  root_small = are.tree.small_wires (length (wires_in parts) - 1) no_wire root_within
+  root_small = wires_small (length (wires_in parts) - 1) no_wire root_within
 
   begin_below : IsPointBelow (10 ^ 32) (begin_of (wires_in parts))
   begin_below =
@@ -161,13 +223,13 @@ module _ (circuit : Circuit) (tech : Tech) (parts : Parts) (are : AreDenoted cir
       let root = root_of (length (arrivals_in parts)) in
       let source = source_of (length (arrivals_in parts)) in
       let last : length (wires_in parts) - 1 ≡ root =
-      omega (arith, are.tree.wires, are.timing.at, some) in
+      omega (arith, wires_many, arrivals_many, some) in
       let is : get_or (wires_in parts) (length (wires_in parts) - 1) no_wire ≡ wire =
       ap (λ n. get_or (wires_in parts) n no_wire) last
       ∙ get_or_from_slice_get (wires_in parts) root wire no_wire here in
       let corners = (subst IsSmallWire is root_small).padded.all in
       let suffix : length (places_in parts) ≡ source =
-      omega (arith, are.tree.places, are.timing.at, some) in
+      omega (arith, places_many, arrivals_many, some) in
       let begin = begin_of (wires_in parts) in
       slice_get-get_or report.tree.place source origin
       (omega (arith, suffix, length_push (places_in parts) begin))
@@ -178,41 +240,40 @@ module _ (circuit : Circuit) (tech : Tech) (parts : Parts) (are : AreDenoted cir
   denoted_tree_bounds : HasTreeBounds tech report
   denoted_tree_bounds =
       let same : length (shows_in parts) ≡ length (merges_in parts) =
-      are.tree.shows ∙ sym are.tree.merges in
+      shows_many ∙ sym merges_many in
       let suffix = parts.body.source.show ∷ [] in
       record {
         grid = refl;
-        merges = are.tree.small_merges;
+        merges = merged_all (λ row. row.merge) IsSmallMerge (λ node words row says. says.merge);
         reaches = All-push (IsBelow (10 ^ 32)) (sinks ++ (reaches_in parts))
             parts.body.source.reach
             (All-append (IsBelow (10 ^ 32)) sinks (reaches_in parts) sinks_below
-            are.tree.small_reaches) are.tree.source;
+            (merged_all (λ row. row.reach) (IsBelow (10 ^ 32)) (λ node words row says. says.reach))) has.body.source.denoted.reach;
         places = All-push (IsPointBelow (10 ^ 32)) (places_in parts)
-            (begin_of (wires_in parts)) are.tree.small_places begin_below;
-        lengths = are.tree.small_lengths;
-        wires = are.tree.small_wires;
-        total = are.tree.total;
+            (begin_of (wires_in parts)) (values_all (SaysNode scale.grid) (λ row. row.place) has.body.placed.has
+            (IsPointBelow (10 ^ 32)) (λ node words row says. says.place)) begin_below;
+        lengths = values_all (SaysNode scale.grid) (λ row. row.length) has.body.placed.has
+            (IsBelow (10 ^ 32)) (λ node words row says. says.edge);
+        wires = wires_small;
+        total = has.body.total.denoted.small;
         merge_shows = subst (All IsMergeShow) (sym (take_at (shows_in parts) suffix
-            (length (merges_in parts)) same)) are.tree.merge_shows;
+            (length (merges_in parts)) same)) (merged_all (λ row. row.show) IsMergeShow (λ node words row says. says.show));
         source_show = subst (All IsSourceShow) (sym (drop_at (shows_in parts) suffix
             (length (merges_in parts)) same))
-            (All-cons IsSourceShow parts.body.source.show [] are.tree.source_show
+            (All-cons IsSourceShow parts.body.source.show [] has.body.source.denoted.show
             (All-nil IsSourceShow));
         sinks = sink_at;
         source = source_at;
       }
 
   -- the numbers are within their bounds
-  pub denoted_bounds : IsWithinBounds tech report
+  denoted_bounds : IsWithinBounds tech report
   denoted_bounds = record { timing = denoted_timing_bounds; tree = denoted_tree_bounds }
 
   -- ---- the lines
 
   abbrev grid : ℤ
   grid = grid_of parts.heading.period tech
-
-  abbrev count : ℕ
-  count = length circuit.registers
 
   -- the lines of the registers
   registers_same : lines_below (register_line_at circuit report) (length (arrivals_in parts))
@@ -253,7 +314,7 @@ module _ (circuit : Circuit) (tech : Tech) (parts : Parts) (are : AreDenoted cir
       ∙ get_or-map (λ (row : MergeLine). row.show) parts.body.merged place default Root within in
       let merge = get_or-map (λ (row : MergeLine). row.merge) parts.body.merged place default none
       within in
-      λ i. signed_decimal (pos (are.timing.at i + place)) ∷ signed_decimal (pos (merge i).first)
+      λ i. signed_decimal (pos (arrivals_many i + place)) ∷ signed_decimal (pos (merge i).first)
       ∷ signed_decimal (pos (merge i).second) ∷ quotient_text (reach i) grid
       ∷ show_words circuit (show i)
 
@@ -265,8 +326,8 @@ module _ (circuit : Circuit) (tech : Tech) (parts : Parts) (are : AreDenoted cir
         arith,
         length-append sinks (reaches_in parts),
         as_many,
-        are.timing.at,
-        are.tree.reaches,
+        arrivals_many,
+        reaches_many,
         some,
       ) in
       let reach = get_or_push (sinks ++ (reaches_in parts)) parts.body.source.reach (pos 0)
@@ -274,7 +335,7 @@ module _ (circuit : Circuit) (tech : Tech) (parts : Parts) (are : AreDenoted cir
       in
       let show = get_or_push (shows_in parts) parts.body.source.show Root
       (length (merges_in parts))
-      (are.tree.shows ∙ sym are.tree.merges) in
+      (shows_many ∙ sym merges_many) in
       λ i. codes "source" ∷ quotient_text (reach i) grid ∷ show_words circuit (show i)
 
   -- that of a node
@@ -302,7 +363,7 @@ module _ (circuit : Circuit) (tech : Tech) (parts : Parts) (are : AreDenoted cir
       ++ map (lead_line circuit) parts.body.leads
   timing_same = λ i. version_line parts.heading.version ∷ period_line parts.heading.period
       ∷ period_show_lines parts.heading.version circuit parts.shown.shown parts.shown.paths
-      ++ count_line (codes "registers") (are.timing.at i) ∷ registers_same i
+      ++ count_line (codes "registers") (arrivals_many i) ∷ registers_same i
       ++ map (lead_line circuit) parts.body.leads
 
   -- and those of the tree
@@ -328,12 +389,12 @@ module _ (circuit : Circuit) (tech : Tech) (parts : Parts) (are : AreDenoted cir
       (length-map parts.body.placed (λ row. row.length))
       ∙ numbered_rows (node_line_at circuit report) (placed_line grid) node 0 parts.body.placed
       (node_same node) in
-      λ i. count_line (codes "merges") (are.tree.merges i) ∷ merges i
-      ++ source_same i ∷ count_line (codes "nodes") (are.tree.lengths i) ∷ nodes i
+      λ i. count_line (codes "merges") (merges_many i) ∷ merges i
+      ++ source_same i ∷ count_line (codes "nodes") (lengths_many i) ∷ nodes i
       ++ (codes "wire" ∷ quotient_text parts.body.total.length grid ∷ []) ∷ []
 
   -- the lines of the report are those that tell it
-  pub lines_denoted : report_lines circuit report
+  lines_denoted : report_lines circuit report
       ≡ denoted_lines circuit (scale_in tech parts.heading.period) parts
   lines_denoted = ap₂ (λ timing tree. timing ++ tree) timing_same tree_same
       ∙ parts_apart (version_line parts.heading.version ∷ period_line parts.heading.period
@@ -346,3 +407,60 @@ module _ (circuit : Circuit) (tech : Tech) (parts : Parts) (are : AreDenoted cir
       (sourced_line circuit grid parts.body.source ∷ count_line (codes "nodes") (2 * count - 1)
       ∷ lines_of (placed_line grid) 0 parts.body.placed)
       ((codes "wire" ∷ quotient_text parts.body.total.length grid ∷ []) ∷ [])
+
+  -- ---- the text
+
+  -- the lines that are read after what shows the period are those of the sections
+  after_denoted : body_lines has.body ≡ lines_after circuit scale parts
+  after_denoted =
+      let timings = has.body.timings.has in
+      let merged = has.body.merged.has in
+      let placed = has.body.placed.has in
+      let timed = rows_lines (DenotesTimed circuit scale) (timed_line circuit scale.den)
+      (λ number words row denoted. denoted.line) 0 timings.lines parts.body.timings
+      timings.each in
+      let leads = rows_lines (λ number. DenotesLead circuit) (λ number. lead_line circuit)
+      (λ number words row denoted. denoted.line) 0 has.body.leads.lines parts.body.leads
+      has.body.leads.each ∙ plain_lines (lead_line circuit) 0 parts.body.leads in
+      let merges = rows_lines (SaysMerge circuit scale.grid) (merged_line circuit scale.grid)
+      (λ number words row says. says.words_are) count merged.lines parts.body.merged
+      merged.each in
+      let nodes = rows_lines (SaysNode scale.grid) (placed_line scale.grid)
+      (λ number words row says. says.words_are) 0 placed.lines parts.body.placed placed.each in
+      λ i. count_line (codes "registers") count ∷ timed i ++ leads i
+      ++ count_line (codes "merges") (count - 1) ∷ merges i
+      ++ has.body.source.denoted.words_are i ∷ count_line (codes "nodes") (2 * count - 1)
+      ∷ nodes i ++ has.body.total.denoted.words_are i ∷ []
+
+  -- the text is that of the lines of all parts
+  parts_text : text ≡ text_of (denoted_lines circuit scale parts)
+  parts_text =
+      let shown = period_show_lines parts.heading.version circuit parts.shown.shown
+      parts.shown.paths in
+      let heading = has.heading.lines scale in
+      let prefix = read_more heading
+      (cycle_forms parts.heading.version (count_of parts.heading.count)) (drop 1 shown)
+      has.after_shown has.shown.lines in
+      let all = read_more prefix (forms_after parts.heading.version count)
+      (body_lines has.body) has.end (body_read has.body) in
+      let first : version_line parts.heading.version ∷ period_line parts.heading.period
+      ∷ shown_line parts.heading.count ∷ drop 1 shown
+      ≡ version_line parts.heading.version ∷ period_line parts.heading.period ∷ shown =
+      ap (λ lines. version_line parts.heading.version ∷ period_line parts.heading.period ∷ lines)
+      (sym has.shown.first) in
+      all.text
+      ∙ ap (λ bytes. text_of ((version_line parts.heading.version
+      ∷ period_line parts.heading.period ∷ shown_line parts.heading.count ∷ drop 1 shown)
+      ++ body_lines has.body) ++ bytes) has.ended
+      ∙ append-nil (text_of ((version_line parts.heading.version
+      ∷ period_line parts.heading.period ∷ shown_line parts.heading.count ∷ drop 1 shown)
+      ++ body_lines has.body))
+      ∙ ap₂ (λ lines more. text_of (lines ++ more)) first after_denoted
+
+  -- so it spells the report that is put together from them
+  pub parts_spelled : Spells circuit tech text (report_denoted tech parts)
+  parts_spelled = record {
+    size = denoted_size;
+    bounds = denoted_bounds;
+    lines = parts_text ∙ ap text_of (sym lines_denoted);
+  }

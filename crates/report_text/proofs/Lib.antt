@@ -32,7 +32,6 @@ mod HeadingLemmas
 mod BodyLemmas
 mod PartLemmas
 mod AssemblyLemmas
-mod PartsDenoted
 mod PassedLines
 mod PassedSections
 mod PassedTexts

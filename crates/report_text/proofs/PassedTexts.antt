@@ -28,7 +28,7 @@ use Rattle.report_text.proofs.GridLemmas.{scale_small}
 use Rattle.report_text.proofs.HeadingLemmas.{cycle_shown, heading_read, pathed_shown}
 use Rattle.name_set.proofs.OneName.{few_registers}
 use Rattle.report_text.proofs.PartLemmas.{denoted_cycle, denoted_scale, denoted_version}
-use Rattle.report_text.proofs.PartsDenoted.{parts_spelled}
+use Rattle.report_text.proofs.AssemblyLemmas.{parts_spelled}
 use Rattle.report_text.proofs.PassedLines.{IsSound, Passed, denoted_passed}
 use Rattle.report_text.proofs.PassedSections.{body_passed, cycle_passed, pathed_passed}
 use Rattle.report_text.proofs.TimingLines.{period_found, show_found, version_found}

@@ -1,5 +1,5 @@
 -- The report that the sections of a text tell.
-use Rattle.std.specs.Prelude.{◌≡◌, ◌<◌, ◌≤◌, ◌-◌, ◌*◌, ◌^◌, ℕ, ℤ, neg_ℤ, List, [], ◌∷◌, ◌++◌, All, length, map, slice_index_or, codes}
+use Rattle.std.specs.Prelude.{◌-◌, ◌*◌, ℕ, ℤ, neg_ℤ, List, [], ◌∷◌, ◌++◌, length, map, slice_index_or, codes}
 use Rattle.cts_base.specs.Fractions.{quotient_text}
 use Rattle.cts_model.specs.declared.circuit.Circuit.{Circuit}
 use Rattle.cts_model.specs.declared.place.Point.{Point}
@@ -9,13 +9,9 @@ use Rattle.cts_model.specs.declared.tree.Show.{Show}
 use Rattle.cts_model.specs.declared.report.Report.{Report}
 use Rattle.cts_model.specs.declared.tech.Tech.{Tech}
 use Rattle.cts_model.specs.declared.tree.Wire.{Wire}
-use Rattle.cts_model.specs.placement.Points.{IsBelow, IsPointBelow}
 use Rattle.cts_model.specs.text.PrintedLines.{Words, count_line, period_line, register_line}
 use Rattle.cts_model.specs.tree.Problems.{grid_of, scheduled_length}
-use Rattle.cts_model.specs.report.ReportBounds.{HasSmallWeights, IsMergeShow, IsSmallLead, IsSmallMerge, IsSmallWire, IsSourceShow, LeadsAmong, ShowsAmong, ShowsPeriodAmong, count_in, cycle_length}
 use Rattle.cts_model.specs.report.ReportLines.{lead_line, no_wire, origin, period_show_lines, version_line}
-use Rattle.cts_model.specs.timing.Schedules.{IsSmallPeriod}
-use Rattle.cts_model.specs.timing.Slacks.{AreSmallSlacks}
 use Rattle.report_text.specs.declared.sections.Parts.{Parts}
 use Rattle.report_text.specs.declared.form.Scale.{Scale}
 use Rattle.report_text.specs.declared.timing_values.Timed.{Timed}
@@ -46,47 +42,6 @@ lengths_in parts = map (λ row. row.length) parts.body.placed
 
 abbrev pub wires_in : Parts → List Wire
 wires_in parts = map (λ row. row.wire) parts.body.placed
-
--- the sections that tell the timing have so many entries, within their bounds
-pub record HasDenotedTiming (circuit : Circuit) (parts : Parts) : Type 0 where
-  pub period : IsSmallPeriod parts.heading.period
-  pub period_show : ShowsPeriodAmong (length circuit.registers) parts.shown.shown
-  pub weights : HasSmallWeights parts.shown.shown
-  pub paths : length parts.shown.paths
-      ≡ count_in parts.heading.version (cycle_length parts.shown.shown)
-  pub signals : All (All (λ number. number < length circuit.signals)) parts.shown.paths
-  pub few : All (λ path. length path ≤ 65536) parts.shown.paths
-  pub at : length (arrivals_in parts) ≡ length circuit.registers
-  pub arrivals : All (IsBelow (10 ^ 19)) (arrivals_in parts)
-  pub slacks : length (slacks_in parts) ≡ length circuit.registers
-  pub small_slacks : All (AreSmallSlacks parts.heading.period.den) (slacks_in parts)
-  pub leads : length parts.body.leads ≡ count_in parts.heading.version (length circuit.registers)
-  pub leads_among : All (LeadsAmong (length circuit.registers)) parts.body.leads
-  pub small_leads : All IsSmallLead parts.body.leads
-
--- and so have those that tell the tree
-pub record HasDenotedTree (circuit : Circuit) (parts : Parts) : Type 0 where
-  pub merges : length (merges_in parts) ≡ length circuit.registers - 1
-  pub small_merges : All IsSmallMerge (merges_in parts)
-  pub reaches : length (reaches_in parts) ≡ length circuit.registers - 1
-  pub small_reaches : All (IsBelow (10 ^ 32)) (reaches_in parts)
-  pub shows : length (shows_in parts) ≡ length circuit.registers - 1
-  pub merge_shows : All IsMergeShow (shows_in parts)
-  pub among : All (ShowsAmong (length circuit.registers)) (shows_in parts)
-  pub source : IsBelow (10 ^ 32) parts.body.source.reach
-  pub source_show : IsSourceShow parts.body.source.show
-  pub source_among : ShowsAmong (length circuit.registers) parts.body.source.show
-  pub places : length (places_in parts) ≡ 2 * length circuit.registers - 1
-  pub small_places : All (IsPointBelow (10 ^ 32)) (places_in parts)
-  pub lengths : length (lengths_in parts) ≡ 2 * length circuit.registers - 1
-  pub small_lengths : All (IsBelow (10 ^ 32)) (lengths_in parts)
-  pub wires : length (wires_in parts) ≡ 2 * length circuit.registers - 1
-  pub small_wires : All IsSmallWire (wires_in parts)
-  pub total : IsBelow (10 ^ 36) parts.body.total.length
-
-pub record AreDenoted (circuit : Circuit) (parts : Parts) : Type 0 where
-  pub timing : HasDenotedTiming circuit parts
-  pub tree : HasDenotedTree circuit parts
 
 -- the line of a register
 abbrev pub timed_line : Circuit → (den : ℤ) → (register : ℕ) → Timed → Words
