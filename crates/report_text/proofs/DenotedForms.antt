@@ -7,6 +7,7 @@ use Rattle.std.specs.List.{after_first, list_any}
 use Rattle.std.specs.Ordering.{int_eq}
 use Rattle.std.specs.Str.{bytes_eq}
 use Rattle.std.specs.Str.Parse.{digits_value}
+use Rattle.cts_base.specs.declared.fraction.Fraction.{Fraction}
 use Rattle.cts_base.specs.Fractions.{HasSizeBelow, fraction_text}
 use Rattle.cts_base.specs.NumberTexts.{is_slash}
 use Rattle.cts_base.proofs.OneNumberText.{HasNoSlash}
@@ -21,11 +22,13 @@ use Rattle.cts_model.specs.declared.tech.Tech.{Tech}
 use Rattle.cts_model.specs.text.PrintedLines.{Words, count_line, period_line, text_of}
 use Rattle.cts_model.specs.report.ReportBounds.{HasSmallWeights, IsWithinBounds, cycle_length}
 use Rattle.cts_model.specs.report.ReportLines.{lead_line, lines_below, period_show_lines, register_line_at, report_lines, tree_lines, version_line}
+use Rattle.cts_model.specs.timing.Schedules.{IsSmallPeriod}
 use Rattle.report_text.specs.ReportFaults.{cycle_denoted, den_denoted, scale_denoted, version_denoted, word_at}
 use Rattle.report_text.proofs.FlawlessReport.{scale_of}
 use Rattle.report_text.proofs.LineReading.{Lacks, after_place, first_place, word_denoted}
 use Rattle.report_text.proofs.NumberWords.{spelled_whole}
 use Rattle.report_text.proofs.ReportWords.{report_lines_are}
+use Rattle.report_text.proofs.SpelledFields.{small_period}
 
 -- ---- the denominator of a fraction
 
@@ -63,7 +66,7 @@ pub value_of : (number : ℕ) → HasSizeBelow (10 ^ 37) (pos number)
 value_of number small = (spelled_whole (pos number) small).1
 
 -- of a fraction's text it is the denominator
-pub fraction_den : (num den : ℤ) → pos 1 ≤ℤ den → HasSizeBelow (10 ^ 37) num
+fraction_den : (num den : ℤ) → pos 1 ≤ℤ den → HasSizeBelow (10 ^ 37) num
     → HasSizeBelow (10 ^ 37) den → den_of (fraction_text num den) ≡ den
 fraction_den num (negsuc den) some small small' = absurd (omega (arith, ints, some))
 fraction_den num (pos den) some small small' = at (int_eq (pos den) (pos 1)) refl
@@ -87,6 +90,21 @@ fraction_den num (pos den) some small small' = at (int_eq (pos den) (pos 1)) ref
         (slash_found (signed_decimal num) back lacks)
         ∙ ap (λ bytes. pos (digits_value 10 bytes)) (after_slash (signed_decimal num) back lacks)
         ∙ ap pos (value_of den small')
+
+-- so it is of a period's
+pub period_den : (period : Fraction) → IsSmallPeriod period
+    → den_of (fraction_text period.num period.den) ≡ period.den
+period_den period small =
+    let sizes = small_period period small in
+    fraction_den period.num period.den period.lowest.some_den sizes.0 sizes.1
+
+-- ---- the version that the first line tells
+
+pub version_told : (version : Version)
+    → (if bytes_eq (get_or (version_line version) 1 []) (codes "1") then First else Second)
+    ≡ version
+version_told First = refl
+version_told Second = refl
 
 -- ---- the line that denotes what shows the period
 
@@ -148,24 +166,11 @@ module _ (circuit : Circuit) (tech : Tech) (report : Report)
   pub same_version : version_denoted text ≡ report.version
   same_version =
       ap (λ word. if bytes_eq word (codes "1") then First else Second) (denoted 0 1 (omega arith))
-      ∙ at report.version
-    where
-      at : (version : Version)
-          → (if bytes_eq (get_or (version_line version) 1 []) (codes "1") then First else Second)
-          ≡ version
-      at First = refl
-      at Second = refl
+      ∙ version_told report.version
 
   same_den : den_denoted text ≡ report.period.den
   same_den =
-      let some = report.period.lowest.some_den in
-      let from = bounds.timing.period.from_zero in
-      let below = bounds.timing.period.small in
-      let low = bounds.timing.period.low in
-      ap den_of (denoted 1 1 (omega arith))
-      ∙ fraction_den report.period.num report.period.den some
-      (record { above = omega (arith, ints, from); below = omega (arith, ints, below) })
-      (record { above = omega (arith, ints, some); below = omega (arith, ints, low) })
+      ap den_of (denoted 1 1 (omega arith)) ∙ period_den report.period bounds.timing.period
 
   pub same_scale : scale_denoted tech text ≡ scale_of report
   same_scale =

@@ -1,12 +1,13 @@
 -- What is wrong with a word that is to be a fraction, by what is read of it.
-use Rattle.std.proofs.Common.{◌≡◌, ◌↔◌, ◌^◌, ℕ, ℤ, pos, negsuc, ◌*ℤ◌, ◌+ℤ◌, ◌≤ℤ◌, ◌<ℤ◌, nat_abs, Bool, IsTrue, inl, inr, List, Option, Some, None, Result, Ok, Err, IsErrAnd, sym, subst, arith, codes}
+use Rattle.std.proofs.Common.{◌≡◌, ◌↔◌, ◌^◌, ℕ, ℤ, pos, negsuc, ◌*ℤ◌, ◌+ℤ◌, ◌≤ℤ◌, ◌<ℤ◌, nat_abs, Bool, IsTrue, inl, inr, List, Option, Some, None, Result, Ok, Err, IsErrAnd, refl, sym, subst, arith, codes}
 use Rattle.std.specs.Int.RustNames.{int_div, int_rem}
 use Rattle.std.proofs.lemmas.Int.{ints}
 use Rattle.cts_base.specs.Fractions.{IsLowest, fraction_text}
-use Rattle.cts_base.specs.NumberTexts.{SpellsQuotient, HaveSmallSizes, IsNoFraction, kept_size}
+use Rattle.cts_base.specs.NumberTexts.{SpellsWhole, SpellsQuotient, HaveSmallSizes, IsNoFraction, kept_size}
 use Rattle.cts_base.specs.declared.fraction.Fraction.{Fraction}
 use Rattle.cts_base.proofs.FractionReading.{few_digits}
-use Rattle.cts_base.proofs.OneSpelling.{fraction_spelled, one_quotient, quotient_some}
+use Rattle.cts_base.proofs.OneNumberText.{slash_differs}
+use Rattle.cts_base.proofs.OneSpelling.{fraction_spelled, one_quotient, plain_no_minus, quotient_some}
 use Rattle.cts_model.specs.declared.circuit.Circuit.{Circuit}
 use Rattle.cts_model.specs.placement.Points.{IsBelow}
 use Rattle.report_text.specs.LineFields.{Period, Slack, Steps}
@@ -16,7 +17,7 @@ use Rattle.report_text.specs.Fields.{AreFewSteps, AreSteps, IsFormed, IsFraction
 use Rattle.report_text.specs.JudgedFractions.{HasStepsFlaw, IsBetween, IsNegativeQuotient, IsRefusedFor}
 use Rattle.report_text.specs.Scans.{flaw_in}
 use Rattle.report_text.proofs.CoprimeFactors.{divides_steps, one_number_of_steps, steps_are}
-use Rattle.report_text.proofs.SpelledFields.{no_quotient_dash}
+use Rattle.report_text.proofs.NumberWords.{within_bound}
 
 -- ---- what is read
 
@@ -115,8 +116,6 @@ no_form text (inr (num', den', spells', small', not_lowest)) num den form =
 pub steps_refused : (over bound : ℤ) (text : List ℕ) (flaw : Flaw) → IsRefusedFor text flaw
     → (circuit : Circuit) → WordHasFlaw circuit (Steps over bound) text (Some flaw)
 steps_refused over bound text Form none circuit = λ form. no_form text none form.0 form.1 form.2
-steps_refused over bound text Unknown none circuit = absurd none
-steps_refused over bound text Unfit none circuit = absurd none
 steps_refused over bound text Large (num, den, spells, large) circuit = (
   (num, den, (spells, λ small. absurd (large small))),
   tt,
@@ -124,6 +123,7 @@ steps_refused over bound text Large (num, den, spells, large) circuit = (
       absurd (large (of_each text num' den' spells' HaveSmallSizes small' num den spells)),
   λ few. large (few num den spells).0,
 )
+steps_refused over bound text flaw none circuit = absurd none
 
 pub period_refused : (text : List ℕ) (flaw : Flaw) → IsRefusedFor text flaw
     → (IsNegativeQuotient text → ⊥) → (circuit : Circuit)
@@ -177,6 +177,16 @@ negative_kept text num den kept below spells is denoted = (
 
 -- ---- slacks
 
+-- a dash is no number and no quotient: it has neither digits nor a slash
+no_whole_dash : (value : ℤ) → SpellsWhole (codes "-") value → ⊥
+no_whole_dash (pos number) spells = plain_no_minus (codes "-") spells.0 refl
+no_whole_dash (negsuc less) spells = omega (arith, spells.1.0.0.0)
+
+no_quotient_dash : (num den : ℤ) → SpellsQuotient (codes "-") num den → ⊥
+no_quotient_dash num den (inl one) = no_whole_dash num one.1
+no_quotient_dash num den (inr (some, (prefix, back, split, above, below))) =
+    slash_differs (codes "-") prefix back ((λ is. omega (arith, is)), tt) split
+
 -- `-` has no flaw
 pub dash_plain : (over bound : ℤ) (text : List ℕ) → text ≡ codes "-" → (circuit : Circuit)
     → WordHasFlaw circuit (Slack over bound) text None
@@ -205,6 +215,19 @@ slack_denoted over bound text differs (Some Unfit) circuit has = (inr has.0, has
 slack_denoted over bound text differs (Some Large) circuit has = (inr has.0, has.1, has.2, has.3)
 
 -- ---- numbers of steps
+
+-- a fraction that is so many steps, below the bound in size
+pub steps_small : (over num den : ℤ) (bound : ℕ) (steps : ℤ) → IsLowest num den
+    → AreSteps over num den steps → IsBelow bound steps
+    → HasStepsFlaw over (pos bound) num den None
+steps_small over num den bound steps lowest are below = (
+  tt,
+  tt,
+  (steps, are),
+  λ other others.
+      within_bound bound other (subst (IsBelow bound)
+      (one_number_of_steps over num den steps other lowest.some_den are others) below),
+)
 
 module _ (over bound : ℤ) (num den : ℤ) (lowest : IsLowest num den) where
   -- a fraction whose denominator doesn't divide the steps of one

@@ -6,13 +6,12 @@ use Rattle.std.specs.Fmt.{signed_decimal}
 use Rattle.std.specs.Int.RustNames.{int_div}
 use Rattle.cts_base.specs.declared.fraction.Fraction.{Fraction}
 use Rattle.cts_base.specs.Fractions.{HasSizeBelow, divisor_up_to, quotient_text}
-use Rattle.cts_base.specs.NumberTexts.{SpellsWhole, SpellsQuotient, HaveSmallSizes, kept_size}
+use Rattle.cts_base.specs.NumberTexts.{SpellsWhole, HaveSmallSizes, kept_size}
 use Rattle.cts_base.proofs.FractionReading.{few_digits, kept_same, kept_small}
 use Rattle.cts_base.proofs.GreatestDivisors.{up_to_second, quotient_text_is}
-use Rattle.cts_base.proofs.OneSpelling.{one_quotient, whole_text, whole_spelled, quotient_text_spelled, fraction_spelled}
+use Rattle.cts_base.proofs.OneSpelling.{whole_text, whole_spelled, quotient_text_spelled, fraction_spelled}
 use Rattle.cts_base.proofs.Quotients.{int_div-le, lowest_quotients, same_value}
 use Rattle.cts_model.specs.placement.Points.{IsBelow}
-use Rattle.report_text.proofs.CoprimeFactors.{one_number_of_steps}
 use Rattle.report_text.specs.Fields.{IsFractionForm, AreSteps, IsWholeSteps, AreFewSteps}
 
 -- ---- whole numbers
@@ -44,7 +43,7 @@ fits (pos n) small = let below = small.below in record { sfits = omega (arith, i
 fits (negsuc n) small = let above = small.above in record { sfits = omega (arith, ints, above) }
 
 -- a number that is no larger in size
-smaller : (bound : ℕ) (a b : ℤ) → nat_abs a ≤ nat_abs b → HasSizeBelow bound b
+pub smaller : (bound : ℕ) (a b : ℤ) → nat_abs a ≤ nat_abs b → HasSizeBelow bound b
     → HasSizeBelow bound a
 smaller bound (pos a) (pos b) less small =
     let below = small.below in
@@ -59,6 +58,21 @@ smaller bound (negsuc a) (negsuc b) less small =
     let above = small.above in
     record { above = omega (arith, ints, less, above); below = omega (arith, ints, less, above) }
 
+-- so many steps are below a bound in size just where they are neither the bound nor more
+pub below_bound : (bound : ℕ) (steps : ℤ)
+    → (pos bound ≤ℤ steps → ⊥) → ((steps +ℤ pos bound) ≤ℤ pos 0 → ⊥) → IsBelow bound steps
+below_bound bound steps low high =
+    let above : neg_ℤ (pos bound) <ℤ steps = grind (arith, ints) in
+    let less : steps <ℤ pos bound = grind (arith, ints) in
+    record { above = above; below = less }
+
+pub within_bound : (bound : ℕ) (steps : ℤ) → IsBelow bound steps
+    → (pos bound ≤ℤ steps → ⊥) × ((steps +ℤ pos bound) ≤ℤ pos 0 → ⊥)
+within_bound bound steps small =
+    let above = small.above in
+    let less = small.below in
+    (λ high. omega (arith, ints, high, less), λ deep. omega (arith, ints, deep, above))
+
 -- the word of a fraction that is so many steps is what a report has for those steps
 pub steps_word : (word : List ℕ) (over num den steps : ℤ) → pos 1 ≤ℤ over
     → IsFractionForm word num den → HaveSmallSizes num den → AreSteps over num den steps
@@ -72,7 +86,6 @@ steps_word word over num den steps some form small are =
 pub record HasFraction (over steps num den : ℤ) : Type 0 where
   pub form : IsFractionForm (quotient_text steps over) num den
   pub small : HaveSmallSizes num den
-  pub some_den : pos 1 ≤ℤ den
   pub are : AreSteps over num den steps
 
 -- what a report has for so many steps is a fraction, of that many steps
@@ -99,51 +112,9 @@ spelled_steps (pos over) steps some small small' =
           λ _. lowest,
         );
         small = (small_num, small_den);
-        some_den = lowest.some_den;
         are = same_value steps (pos over) (pos divisor) some positive greatest;
       },
     )
-
-module _ (over steps num den : ℤ) (fraction : HasFraction over steps num den) where
-  -- the steps of any fraction that the word spells
-  pub same_steps : (num' den' steps' : ℤ) → SpellsQuotient (quotient_text steps over) num' den'
-      → AreSteps over num' den' steps' → steps ≡ steps'
-  same_steps num' den' steps' spells are =
-      let both = one_quotient (quotient_text steps over) num den num' den' fraction.form.0 spells in
-      one_number_of_steps over num den steps steps' fraction.some_den fraction.are
-      (subst (λ d. AreSteps over num d steps') (sym both.1)
-      (subst (λ n. AreSteps over n den' steps') (sym both.0) are))
-
-  -- the word is a whole number of steps
-  pub whole_steps : IsWholeSteps over (quotient_text steps over)
-  whole_steps num' den' spells small =
-      let both =
-      one_quotient (quotient_text steps over) num den num' den' fraction.form.0 spells in (
-        steps,
-        subst (λ d. AreSteps over num' d steps) both.1
-            (subst (λ n. AreSteps over n den steps) both.0 fraction.are),
-      )
-
-  -- and within each bound of theirs
-  pub few_steps : (bound : ℕ) → IsBelow bound steps
-      → AreFewSteps over (pos bound) (quotient_text steps over)
-  few_steps bound below num' den' spells =
-      let both =
-      one_quotient (quotient_text steps over) num den num' den' fraction.form.0 spells in (
-        subst (λ d. HaveSmallSizes num' d) both.1
-            (subst (λ n. HaveSmallSizes n den) both.0 fraction.small),
-        λ steps' are.
-            within steps' (subst (IsBelow bound) (same_steps num' den' steps' spells are) below),
-      )
-    where
-      within : (s : ℤ) → IsBelow bound s
-          → (pos bound ≤ℤ s → ⊥) × ((s +ℤ pos bound) ≤ℤ pos 0 → ⊥)
-      within s small =
-          let above = small.above in
-          let low = small.below in (
-            λ high. omega (arith, ints, high, low),
-            λ deep. omega (arith, ints, deep, above),
-          )
 
 -- a word of whole steps within the bound is what a report has for some
 pub denoted_steps : (word : List ℕ) (over num den : ℤ) (bound : ℕ) → pos 1 ≤ℤ over
@@ -154,12 +125,6 @@ denoted_steps word over num den bound some form whole few =
     let (steps, are) = whole num den form.0 small in
     let (low, high) = each steps are in (
       steps,
-      below steps low high,
+      below_bound bound steps low high,
       steps_word word over num den steps some form small are,
     )
-  where
-    below : (s : ℤ) → (pos bound ≤ℤ s → ⊥) → ((s +ℤ pos bound) ≤ℤ pos 0 → ⊥) → IsBelow bound s
-    below s low high =
-        let above : neg_ℤ (pos bound) <ℤ s = grind (arith, ints) in
-        let less : s <ℤ pos bound = grind (arith, ints) in
-        record { above = above; below = less }

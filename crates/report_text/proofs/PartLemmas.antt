@@ -2,7 +2,6 @@
 use Rattle.std.proofs.Common.{◌≡◌, ◌≢◌, ◌≤◌, ◌^◌, ℕ, zero, suc, pos, ◌*ℤ◌, Option, Some, None, List, [], ◌∷◌, ◌++◌, map, length, get_or, codes, if◌then◌else◌, refl, sym, ap, subst, ◌∙◌, append-nil, arith}
 use Rattle.std.specs.List.{slice_split}
 use Rattle.std.specs.Str.{bytes_eq}
-use Rattle.std.proofs.lemmas.Int.{ints}
 use Rattle.std.proofs.lemmas.List.{length-replicate}
 use Rattle.cts_model.specs.declared.circuit.Circuit.{Circuit}
 use Rattle.cts_model.specs.declared.report.Version.{Version}
@@ -22,7 +21,7 @@ use Rattle.report_text.specs.Parts.{scale_in, whole}
 use Rattle.report_text.specs.ReportFaults.{HasFault, HasFirstFault, cycle_denoted, den_denoted, is_line_feed, scale_denoted, version_denoted, word_at, words_of}
 use Rattle.report_text.specs.Walks.{Left, Stops}
 use Rattle.report_text.proofs.RowLemmas.{length_pathed}
-use Rattle.report_text.proofs.DenotedForms.{cycle_of, den_of, fraction_den, small_count, value_of}
+use Rattle.report_text.proofs.DenotedForms.{cycle_of, den_of, period_den, small_count, value_of, version_told}
 
 -- the image of an item
 map_at : (xs : List (List ℕ)) (place : ℕ)
@@ -66,24 +65,10 @@ module _ {circuit : Circuit} {text : List ℕ} {new : Left} {heading : Heading}
   pub denoted_version : version_denoted text ≡ heading.version
   denoted_version =
       ap (λ word. if bytes_eq word (codes "1") then First else Second) (denoted 0 1)
-      ∙ at heading.version
-    where
-      at : (version : Version)
-          → (if bytes_eq (get_or (version_line version) 1 []) (codes "1") then First else Second)
-          ≡ version
-      at First = refl
-      at Second = refl
+      ∙ version_told heading.version
 
   denoted_den : den_denoted text ≡ heading.period.den
-  denoted_den =
-      let some = heading.period.lowest.some_den in
-      let from = has.small.from_zero in
-      let below = has.small.small in
-      let low = has.small.low in
-      ap den_of (denoted 1 1)
-      ∙ fraction_den heading.period.num heading.period.den some
-      (record { above = omega (arith, ints, from); below = omega (arith, ints, below) })
-      (record { above = omega (arith, ints, some); below = omega (arith, ints, low) })
+  denoted_den = ap den_of (denoted 1 1) ∙ period_den heading.period has.small
 
   pub denoted_scale : (tech : Tech) → scale_denoted tech text ≡ scale_in tech heading.period
   denoted_scale tech = λ i. record {

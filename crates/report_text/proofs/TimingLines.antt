@@ -1,6 +1,6 @@
 -- A line of the timing without a flaw is that of a value, and the line of a value within the bounds
 -- has no flaw.
-use Rattle.std.proofs.Common.{◌≡◌, ◌<◌, ◌≤◌, ◌-◌, ◌^◌, ℕ, zero, suc, pos, Bool, true, false, cond, inl, inr, List, [], ◌∷◌, All, map, replicate, length, Option, Some, None, codes, refl, sym, ap, ◌∙◌, subst, arith}
+use Rattle.std.proofs.Common.{◌≡◌, ◌<◌, ◌≤◌, ◌-◌, ◌^◌, ℕ, zero, suc, pos, Bool, true, false, cond, List, [], ◌∷◌, All, map, replicate, length, Option, Some, None, codes, refl, sym, ap, ◌∙◌, subst, arith}
 use Rattle.std.proofs.lemmas.Bool.{false_from_ne_true}
 use Rattle.std.proofs.lemmas.Fmt.{decimal_digit}
 use Rattle.std.proofs.lemmas.Int.{ints}
@@ -32,16 +32,22 @@ use Rattle.report_text.specs.declared.field.Keyword.TheVariants as word
 use Rattle.report_text.specs.declared.form.Form.TheVariants as form
 use Rattle.report_text.specs.declared.form.Scale.{Scale}
 use Rattle.report_text.specs.declared.timing_values.Timed.{Timed}
-use Rattle.report_text.specs.Fields.{EachWord, LineHasFlaw}
+use Rattle.report_text.specs.Fields.{LineHasFlaw}
 use Rattle.report_text.specs.Forms.{constraint_fields, is_word, register_fields, slack_field}
 use Rattle.report_text.specs.Keywords.{keyword_text}
 use Rattle.report_text.specs.TimingValues.{IsFlawless, DenotesConstraint, DenotesLead, DenotesPath, DenotesPeriod, DenotesShow}
 use Rattle.report_text.specs.Values.{IsSmallScale}
 use Rattle.report_text.specs.Walks.{DenotesTimed, DenotesVersion}
-use Rattle.report_text.proofs.TimingReads.{constraint_read, path_read}
-use Rattle.report_text.proofs.SpelledFields.{AreSpelled, IsSmallField, IsSpelled, begins, ends, line_plain, line_spelled, put, small_number}
+use Rattle.report_text.proofs.TimingReads.{constraint_read, path_read, version_read}
+use Rattle.report_text.proofs.SpelledFields.{AdmitsEach, IsSmallField, Tells, Values, line_plain, line_spelled, small_number, spell_line, values_plain}
 
 -- ---- the first lines
+
+abbrev version_fields : List Field
+version_fields = field.Word word.Cts ∷ field.Version ∷ []
+
+abbrev period_fields : List Field
+period_fields = field.Word word.Period ∷ field.Period ∷ []
 
 -- the fields of a cycle's count, and of what shows the period, by whether the floor does
 abbrev cycle_fields : List Field
@@ -54,34 +60,26 @@ module _ (circuit : Circuit) (scale : Scale) where
   pub version_found : (words : Words) → IsFlawless circuit scale form.Version words
       → (version : Version) × DenotesVersion words version
   version_found words flawless =
-      let a = begins (line_spelled circuit (field.Word word.Cts ∷ field.Version ∷ []) words
-      (tt, (tt, tt)) flawless) in
-      let b = begins a.rest in
-      elim b.here [
-        | inl first ↦ (First, put a.is a.here (put b.is first (ends b.rest)))
-        | inr second ↦ (Second, put a.is a.here (put b.is second (ends b.rest)))
-      ]
+      let line = line_spelled circuit version_fields words (tt, (tt, tt)) flawless in
+      (line.values.1.0, version_read line.values.1.0 line.are)
 
   pub version_plain : (version : Version)
       → IsFlawless circuit scale form.Version (version_line version)
-  version_plain First = line_plain circuit (field.Word word.Cts ∷ field.Version ∷ [])
-      (version_line First) (tt, (tt, tt)) (refl, (inl refl, tt))
-  version_plain Second = line_plain circuit (field.Word word.Cts ∷ field.Version ∷ [])
-      (version_line Second) (tt, (tt, tt)) (refl, (inr refl, tt))
+  version_plain First =
+      values_plain circuit version_fields (tt, (First, tt)) (tt, (tt, tt)) (tt, (tt, tt))
+  version_plain Second =
+      values_plain circuit version_fields (tt, (Second, tt)) (tt, (tt, tt)) (tt, (tt, tt))
 
   pub period_found : (words : Words) → IsFlawless circuit scale form.Period words
       → (period : Fraction) × DenotesPeriod words period
   period_found words flawless =
-      let a = begins (line_spelled circuit (field.Word word.Period ∷ field.Period ∷ []) words
-      (tt, (tt, tt)) flawless) in
-      let b = begins a.rest in
-      let (period, small, is) = b.here in
-      (period, record { line = put a.is a.here (put b.is is (ends b.rest)); small = small })
+      let line = line_spelled circuit period_fields words (tt, (tt, tt)) flawless in
+      (line.values.1.0, record { line = line.are; small = line.admitted.1.0 })
 
   pub period_plain : (period : Fraction) → IsSmallPeriod period
       → IsFlawless circuit scale form.Period (period_line period)
-  period_plain period small = line_plain circuit (field.Word word.Period ∷ field.Period ∷ [])
-      (period_line period) (tt, (tt, tt)) (refl, ((period, small, refl), tt))
+  period_plain period small =
+      values_plain circuit period_fields (tt, (period, tt)) (tt, (tt, tt)) (tt, (small, tt))
 
   pub show_found : (words : Words) → IsFlawless circuit scale form.Show words
       → (count : Option ℕ) × DenotesShow words count
@@ -90,95 +88,82 @@ module _ (circuit : Circuit) (scale : Scale) where
       at : (floor : Bool) → LineHasFlaw circuit (shown_fields floor) words None
           → (count : Option ℕ) × DenotesShow words count
       at true flawless =
-          let a = begins (line_spelled circuit (shown_fields true) words (tt, tt) flawless) in
-          (None, put a.is a.here (ends a.rest))
+          (None, (line_spelled circuit (shown_fields true) words (tt, tt) flawless).are)
       at false flawless =
-          let a = begins (line_spelled circuit cycle_fields words (tt, (omega arith, tt))
-          flawless) in
-          let b = begins a.rest in
-          let (count, some, few, is) = b.here in
-          (Some count, (put a.is a.here (put b.is is (ends b.rest)), some, few))
+          let line = line_spelled circuit cycle_fields words (tt, (omega arith, tt)) flawless in
+          (Some line.values.1.0, (line.are, line.admitted.1.0.0, line.admitted.1.0.1))
 
   pub floor_plain : IsFlawless circuit scale form.Show floor_line
-  floor_plain = line_plain circuit (shown_fields true) floor_line (tt, tt) (refl, tt)
+  floor_plain = values_plain circuit (shown_fields true) (tt, tt) (tt, tt) (tt, tt)
 
   pub cycle_plain : (count : ℕ) → 1 ≤ count → count ≤ 9999
       → IsFlawless circuit scale form.Show (count_line (codes "cycle") count)
-  cycle_plain count some few = line_plain circuit cycle_fields (count_line (codes "cycle") count)
-      (tt, (omega arith, tt)) (refl, ((count, some, few, refl), tt))
+  cycle_plain count some few = values_plain circuit cycle_fields (tt, (count, tt))
+      (tt, (omega arith, tt)) (tt, ((some, few), tt))
 
   -- how many lines follow: the words are just these
   pub count_found : (keyword : Keyword) (count : ℕ) (words : Words) → count < 10 ^ 37
       → IsFlawless circuit scale (form.Count keyword count) words
       → words ≡ count_line (keyword_text keyword) count
   count_found keyword count words less flawless =
-      let a = begins (line_spelled circuit (field.Word keyword ∷ field.Exactly count ∷ []) words
-      (tt, (less, tt)) flawless) in
-      let b = begins a.rest in
-      put a.is a.here (put b.is b.here (ends b.rest))
+      (line_spelled circuit (field.Word keyword ∷ field.Exactly count ∷ []) words
+      (tt, (less, tt)) flawless).are
 
   pub count_plain : (keyword : Keyword) (count : ℕ) → count < 10 ^ 37
       → IsFlawless circuit scale (form.Count keyword count)
       (count_line (keyword_text keyword) count)
   count_plain keyword count less =
-      line_plain circuit (field.Word keyword ∷ field.Exactly count ∷ [])
-      (count_line (keyword_text keyword) count) (tt, (less, tt)) (refl, (refl, tt))
+      values_plain circuit (field.Word keyword ∷ field.Exactly count ∷ []) (tt, (tt, tt))
+      (tt, (less, tt)) (tt, (tt, tt))
 
 -- ---- a constraint
 
--- what the words of a constraint say
-constraint_of : (circuit : Circuit) (words : Words) → AreSpelled circuit constraint_fields words
-    → (constraint : Constraint) × DenotesConstraint circuit words constraint
-constraint_of circuit words line =
-    let a = begins line in
-    let b = begins a.rest in
-    let c = begins b.rest in
-    let d = begins c.rest in
-    let (launch, launches, name) = b.here in
-    let (capture, captures, name') = c.here in
-    let (weight, small, is) = d.here in
-    let rest = put b.is (sym name) (put c.is (sym name') (put d.is is (ends d.rest))) in
-    elim a.here [
-      | inl setup ↦ (_, constraint_read true (put a.is setup rest) launches captures small)
-      | inr hold ↦ (_, constraint_read false (put a.is hold rest) launches captures small)
-    ]
+small_constraint : AllByRecursion IsSmallField constraint_fields
+small_constraint = (tt, (tt, (tt, (tt, tt))))
+
+-- what the values of a constraint's words say
+constraint_of : (circuit : Circuit) (values : Values constraint_fields)
+    → AdmitsEach circuit constraint_fields values → (constraint : Constraint)
+    × DenotesConstraint circuit (spell_line circuit constraint_fields values) constraint
+constraint_of circuit (true, values) (kind, (launches, (captures, (small, end)))) =
+    (_, constraint_read true refl launches captures small)
+constraint_of circuit (false, values) (kind, (launches, (captures, (small, end)))) =
+    (_, constraint_read false refl launches captures small)
 
 pub constraint_found : (circuit : Circuit) (scale : Scale) (words : Words)
     → IsFlawless circuit scale form.Constraint words
     → (constraint : Constraint) × DenotesConstraint circuit words constraint
 constraint_found circuit scale words flawless =
-    constraint_of circuit words
-    (line_spelled circuit constraint_fields words (tt, (tt, (tt, (tt, tt)))) flawless)
+    let line = line_spelled circuit constraint_fields words small_constraint flawless in
+    let (constraint, says) = constraint_of circuit line.values line.admitted in
+    (constraint, subst (λ ws. DenotesConstraint circuit ws constraint) (sym line.are) says)
 
-constraint_spelled : (circuit : Circuit) (constraint : Constraint)
+-- and those of a constraint
+constraint_told : (circuit : Circuit) (constraint : Constraint)
     → IsBetweenRegisters (length circuit.registers) constraint → HasSmallWeight constraint
-    → EachWord (IsSpelled circuit) constraint_fields (line_for circuit constraint)
-constraint_spelled circuit constraint between small = at constraint.setup
+    → Tells circuit constraint_fields (line_for circuit constraint)
+constraint_told circuit constraint between small = at constraint.setup
   where
-    at : (setup : Bool) → EachWord (IsSpelled circuit) constraint_fields (cond setup
+    at : (setup : Bool) → Tells circuit constraint_fields (cond setup
         (constraint_line (codes "setup") circuit constraint.tail constraint.head constraint.weight)
         (constraint_line (codes "hold") circuit constraint.head constraint.tail constraint.weight))
-    at true = (
-      inl refl,
-      (
-        (constraint.tail, between.tail, refl),
-        ((constraint.head, between.head, refl), ((constraint.weight, small, refl), tt)),
-      ),
-    )
-    at false = (
-      inr refl,
-      (
-        (constraint.head, between.head, refl),
-        ((constraint.tail, between.tail, refl), ((constraint.weight, small, refl), tt)),
-      ),
-    )
+    at true = record {
+      values = (true, (constraint.tail, (constraint.head, (constraint.weight, tt))));
+      admitted = (tt, (between.tail, (between.head, (small, tt))));
+      are = refl;
+    }
+    at false = record {
+      values = (false, (constraint.head, (constraint.tail, (constraint.weight, tt))));
+      admitted = (tt, (between.head, (between.tail, (small, tt))));
+      are = refl;
+    }
 
 pub constraint_plain : (circuit : Circuit) (scale : Scale) (constraint : Constraint)
     → IsBetweenRegisters (length circuit.registers) constraint → HasSmallWeight constraint
     → IsFlawless circuit scale form.Constraint (line_for circuit constraint)
 constraint_plain circuit scale constraint between small =
-    line_plain circuit constraint_fields (line_for circuit constraint) (tt, (tt, (tt, (tt, tt))))
-    (constraint_spelled circuit constraint between small)
+    line_plain circuit constraint_fields (line_for circuit constraint) small_constraint
+    (constraint_told circuit constraint between small)
 
 -- ---- a lead
 
@@ -190,7 +175,7 @@ abbrev pub led_fields : (first : Bool) → List Field
 led_fields first = cond first (field.Word word.Lead ∷ field.Word word.Zero ∷ []) tight_fields
 
 small_tight : AllByRecursion IsSmallField tight_fields
-small_tight = (tt, (omega arith, (tt, (tt, (tt, (tt, tt))))))
+small_tight = (tt, (omega arith, small_constraint))
 
 pub lead_found : (circuit : Circuit) (scale : Scale) (words : Words)
     → IsFlawless circuit scale form.Lead words → (lead : Lead) × DenotesLead circuit words lead
@@ -199,23 +184,17 @@ lead_found circuit scale words flawless = at (is_word words 1 word.Zero) flawles
     at : (zero : Bool) → LineHasFlaw circuit (led_fields zero) words None
         → (lead : Lead) × DenotesLead circuit words lead
     at true flawless =
-        let a = begins (line_spelled circuit (led_fields true) words (tt, (tt, tt)) flawless) in
-        let b = begins a.rest in (
-          Zero,
-          record {
-            line = put a.is a.here (put b.is b.here (ends b.rest));
-            registers = tt;
-            small = tt;
-          },
-        )
+        let line = line_spelled circuit (led_fields true) words (tt, (tt, tt)) flawless in
+        (Zero, record { line = line.are; registers = tt; small = tt })
     at false flawless =
-        let a = begins (line_spelled circuit tight_fields words small_tight flawless) in
-        let b = begins a.rest in
-        let (depth, some, few, is) = b.here in
-        let (constraint, says) = constraint_of circuit b.more b.rest in (
+        let line = line_spelled circuit tight_fields words small_tight flawless in
+        let (some, few) = line.admitted.1.0 in
+        let depth = line.values.1.0 in
+        let (constraint, says) = constraint_of circuit line.values.1.1 line.admitted.1.1 in (
           Tight depth constraint,
           record {
-            line = put a.is a.here (put b.is is says.line);
+            line = line.are
+                ∙ ap (λ ws. codes "lead" ∷ signed_decimal (pos depth) ∷ ws) says.line;
             registers = says.registers;
             small = (some, few, says.weight);
           },
@@ -235,14 +214,17 @@ not_zero number some few =
 pub lead_plain : (circuit : Circuit) (scale : Scale) (lead : Lead)
     → LeadsAmong (length circuit.registers) lead → IsSmallLead lead
     → IsFlawless circuit scale form.Lead (lead_line circuit lead)
-lead_plain circuit scale Zero among small = line_plain circuit (led_fields true)
-    (lead_line circuit Zero) (tt, (tt, tt)) (refl, (refl, tt))
+lead_plain circuit scale Zero among small =
+    values_plain circuit (led_fields true) (tt, (tt, tt)) (tt, (tt, tt)) (tt, (tt, tt))
 lead_plain circuit scale (Tight depth constraint) among (some, few, weight) =
     let line : Words = lead_line circuit (Tight depth constraint) in
+    let told = constraint_told circuit constraint among weight in
     subst (λ zero. LineHasFlaw circuit (led_fields zero) line None)
-    (sym (not_zero depth some few))
-    (line_plain circuit tight_fields line small_tight
-    (refl, ((depth, some, few, refl), constraint_spelled circuit constraint among weight)))
+    (sym (not_zero depth some few)) (line_plain circuit tight_fields line small_tight (record {
+      values = (tt, (depth, told.values));
+      admitted = (tt, ((some, few), told.admitted));
+      are = ap (λ ws. codes "lead" ∷ signed_decimal (pos depth) ∷ ws) told.are;
+    }))
 
 -- ---- a register
 
@@ -256,18 +238,13 @@ pub timed_found : (circuit : Circuit) (scale : Scale) (register : ℕ) (words : 
     → IsSmallScale scale → IsFlawless circuit scale (form.Register register) words
     → (timed : Timed) × DenotesTimed circuit scale register words timed
 timed_found circuit scale register words small flawless =
-    let a = begins (line_spelled circuit (register_fields scale register) words
-    (small_register scale register small) flawless) in
-    let b = begins a.rest in
-    let c = begins b.rest in
-    let d = begins c.rest in
-    let (arrival, below, is) = b.here in
-    let (setup, setup_small, setup_is) = c.here in
-    let (hold, hold_small, hold_is) = d.here in (
+    let line = line_spelled circuit (register_fields scale register) words
+    (small_register scale register small) flawless in
+    let (arrival, (setup, (hold, _))) = line.values.1 in
+    let (below, (setup_small, (hold_small, _))) = line.admitted.1 in (
       record { arrival = arrival; slack = record { setup = setup; hold = hold } },
       record {
-        line = put a.is (sym a.here.1) (put b.is is (put c.is setup_is
-            (put d.is hold_is (ends d.rest))));
+        line = line.are;
         small = below;
         slacks = record { setup = setup_small; hold = hold_small };
       },
@@ -279,15 +256,10 @@ pub register_plain : (circuit : Circuit) (scale : Scale) (register : ℕ) (timed
     → IsFlawless circuit scale (form.Register register)
     (register_line circuit scale.den register timed.arrival timed.slack)
 register_plain circuit scale register timed small among below slacks =
-    line_plain circuit (register_fields scale register)
-    (register_line circuit scale.den register timed.arrival timed.slack)
-    (small_register scale register small) (
-      ((register, among, refl), refl),
-      (
-        (timed.arrival, below, refl),
-        ((timed.slack.setup, slacks.setup, refl), ((timed.slack.hold, slacks.hold, refl), tt)),
-      ),
-    )
+    values_plain circuit (register_fields scale register)
+    (tt, (timed.arrival, (timed.slack.setup, (timed.slack.hold, tt))))
+    (small_register scale register small)
+    ((register, among, refl), (below, (slacks.setup, (slacks.hold, tt))))
 
 -- ---- a path
 
@@ -307,24 +279,23 @@ record AreSignals (circuit : Circuit) (count : ℕ) (words : Words) : Type 0 whe
   within : All (λ number. number < length circuit.signals) signals
   are : words ≡ map (signal_name circuit) signals
 
-signals_found : (circuit : Circuit) (count : ℕ) (words : Words)
-    → AreSpelled circuit (replicate count field.Signal) words → AreSignals circuit count words
-signals_found circuit zero words line = record {
+signals_found : (circuit : Circuit) (count : ℕ) (values : Values (replicate count field.Signal))
+    → AdmitsEach circuit (replicate count field.Signal) values
+    → AreSignals circuit count (spell_line circuit (replicate count field.Signal) values)
+signals_found circuit zero values admitted = record {
   signals = [];
   many = refl;
   within = All-nil (λ number. number < length circuit.signals);
-  are = ends line;
+  are = refl;
 }
-signals_found circuit (suc count) words line =
-    let a = begins line in
-    let (signal, low, name) = a.here in
-    let more = signals_found circuit count a.more a.rest in
+signals_found circuit (suc count) values admitted =
+    let more = signals_found circuit count values.1 admitted.1 in
     record {
-      signals = signal ∷ more.signals;
+      signals = values.0 ∷ more.signals;
       many = ap suc more.many;
-      within = All-cons (λ number. number < length circuit.signals) signal more.signals low
-          more.within;
-      are = put a.is (sym name) more.are;
+      within = All-cons (λ number. number < length circuit.signals) values.0 more.signals
+          admitted.0 more.within;
+      are = ap (λ names. signal_name circuit values.0 ∷ names) more.are;
     }
 
 pub path_found : (circuit : Circuit) (scale : Scale) (words : Words)
@@ -334,26 +305,24 @@ path_found circuit scale words flawless = at (is_word words 1 word.Dash) flawles
   where
     at : (dash : Bool) → LineHasFlaw circuit (way_fields dash (length words - 2)) words None
         → (path : List ℕ) × DenotesPath circuit words path
-    at true flawless =
-        let a = begins (line_spelled circuit (way_fields true 0) words (tt, (tt, tt)) flawless) in
-        let b = begins a.rest in (
-          [],
-          record {
-            line = put a.is a.here (put b.is b.here (ends b.rest));
-            signals = All-nil (λ number. number < length circuit.signals);
-            few = omega arith;
-          },
-        )
+    at true flawless = (
+      [],
+      record {
+        line = (line_spelled circuit (way_fields true 0) words (tt, (tt, tt)) flawless).are;
+        signals = All-nil (λ number. number < length circuit.signals);
+        few = omega arith;
+      },
+    )
     at false flawless =
         let count = length words - 2 in
-        let a = begins (line_spelled circuit (way_fields false count) words
-        (tt, (omega arith, small_signals count)) flawless) in
-        let b = begins a.rest in
-        let (some, few, is) = b.here in
-        let named = signals_found circuit count b.more b.rest in (
+        let line = line_spelled circuit (way_fields false count) words
+        (tt, (omega arith, small_signals count)) flawless in
+        let (some, few) = line.admitted.1.0 in
+        let named = signals_found circuit count line.values.1.1 line.admitted.1.1 in (
           named.signals,
           path_read circuit named.signals named.many some few named.within
-              (put a.is a.here (put b.is is named.are)),
+              (line.are ∙ ap (λ names. codes "path" ∷ signed_decimal (pos count) ∷ names)
+              named.are),
         )
 
 -- the digits of a number aren't a dash
@@ -365,29 +334,35 @@ not_dash number less =
     (few_digits (pos number) (small_number number less))
     ((bytes_eq-Decides (signed_decimal (pos number)) (codes "-")).0 same))
 
-signals_spelled : (circuit : Circuit) (path : List ℕ)
+names_told : (circuit : Circuit) (path : List ℕ)
     → All (λ number. number < length circuit.signals) path
-    → EachWord (IsSpelled circuit) (replicate (length path) field.Signal)
-    (map (signal_name circuit) path)
-signals_spelled circuit [] within = tt
-signals_spelled circuit (number ∷ path) within = (
-  (number, within 0 0 (omega arith), refl),
-  signals_spelled circuit path (λ k d less. within (suc k) d (omega (arith, less))),
-)
+    → Tells circuit (replicate (length path) field.Signal) (map (signal_name circuit) path)
+names_told circuit [] within = record { values = tt; admitted = tt; are = refl }
+names_told circuit (number ∷ path) within =
+    let more = names_told circuit path (λ k d less. within (suc k) d (omega (arith, less))) in
+    record {
+      values = (number, more.values);
+      admitted = (within 0 0 (omega arith), more.admitted);
+      are = ap (λ names. signal_name circuit number ∷ names) more.are;
+    }
 
 pub path_plain : (circuit : Circuit) (scale : Scale) (path : List ℕ)
     → All (λ number. number < length circuit.signals) path → length path ≤ 65536
     → IsFlawless circuit scale form.Path (path_line circuit path)
-path_plain circuit scale [] within few = line_plain circuit (way_fields true 0)
-    (path_line circuit []) (tt, (tt, tt)) (refl, (refl, tt))
+path_plain circuit scale [] within few =
+    values_plain circuit (way_fields true 0) (tt, (tt, tt)) (tt, (tt, tt)) (tt, (tt, tt))
 path_plain circuit scale (first ∷ more) within few =
     let path : List ℕ = first ∷ more in
     let line : Words = path_line circuit path in
     let count : length path ≡ length line - 2 =
     omega (arith, length-map path (signal_name circuit)) in
-    let plain = line_plain circuit (way_fields false (length path)) line
-    (tt, (omega arith, small_signals (length path)))
-    (refl, ((omega arith, few, refl), signals_spelled circuit path within)) in
+    let names = names_told circuit path within in
     subst (λ (dash : Bool). LineHasFlaw circuit (way_fields dash (length line - 2)) line None)
     (sym (not_dash (length path) (omega (arith, few))))
-    (subst (λ n. LineHasFlaw circuit (way_fields false n) line None) count plain)
+    (subst (λ n. LineHasFlaw circuit (way_fields false n) line None) count
+    (line_plain circuit (way_fields false (length path)) line
+    (tt, (omega arith, small_signals (length path))) (record {
+      values = (tt, (tt, names.values));
+      admitted = (tt, ((omega arith, few), names.admitted));
+      are = ap (λ ws. codes "path" ∷ signed_decimal (pos (length path)) ∷ ws) names.are;
+    })))

@@ -1,10 +1,11 @@
 -- A line of the tree without a flaw is that of a value, and the line of a value within the bounds
 -- has no flaw.
-use Rattle.std.proofs.Common.{◌≡◌, ◌<◌, ◌≤◌, ◌+◌, ◌*◌, ◌-◌, ◌^◌, ◌==◌, ◌&&◌, ◌++◌, nat_le, suc, zero, replicate, take, ap₂, All, Bool, if◌then◌else◌, ℕ, ℤ, List, [], ◌∷◌, get_or, length, None, true, false, refl, sym, ap, ◌∙◌, subst, codes, arith}
+use Rattle.std.proofs.Common.{◌≡◌, ◌<◌, ◌≤◌, ◌+◌, ◌*◌, ◌-◌, ◌^◌, ◌==◌, ◌&&◌, ◌++◌, nat_le, suc, zero, replicate, take, ap₂, All, Bool, if◌then◌else◌, ℕ, ℤ, pos, List, [], ◌∷◌, get_or, length, None, true, false, refl, sym, ap, ◌∙◌, subst, codes, arith}
 use Rattle.std.proofs.lemmas.Bool.{le-leb, leb-true}
 use Rattle.std.proofs.lemmas.Bool.Decides.{Decides-eqb}
 use Rattle.std.proofs.lemmas.List.{drop_at, length-append, length-replicate, length-take, take_at}
 use Rattle.std.proofs.lemmas.List.Elements.{All-cons, All-nil, All-replicate}
+use Rattle.std.specs.Fmt.{signed_decimal}
 use Rattle.std.specs.List.{AllByRecursion, flat_map}
 use Rattle.cts_base.specs.Fractions.{quotient_text}
 use Rattle.cts_model.specs.declared.circuit.Circuit.{Circuit}
@@ -24,13 +25,13 @@ use Rattle.report_text.specs.declared.form.Scale.{Scale}
 use Rattle.report_text.specs.declared.tree_values.MergeLine.{MergeLine}
 use Rattle.report_text.specs.declared.tree_values.NodeLine.{NodeLine}
 use Rattle.report_text.specs.declared.tree_values.SourceLine.{SourceLine}
-use Rattle.report_text.specs.Fields.{EachWord, LineHasFlaw}
+use Rattle.report_text.specs.Fields.{LineHasFlaw}
 use Rattle.report_text.specs.Forms.{has_points, is_word, length_field, merge_fields, node_fields, pointed_fields, points_of, total_fields}
 use Rattle.report_text.specs.TimingValues.{IsFlawless}
-use Rattle.report_text.specs.Values.{IsSmallScale, SaysMerge, SaysNode, SaysSource, SaysTotal, coordinates, merged_line, placed_line, sourced_line}
+use Rattle.report_text.specs.Values.{IsSmallScale, SaysMerge, SaysNode, SaysSource, SaysTotal, coordinates, merged_line, sourced_line}
 use Rattle.report_text.proofs.WordBytes.{both}
 use Rattle.report_text.proofs.RegisterNames.{named_register}
-use Rattle.report_text.proofs.SpelledFields.{AreSpelled, IsSmallField, IsSpelled, begins, ends, line_plain, line_spelled, put, word_is}
+use Rattle.report_text.proofs.SpelledFields.{IsSmallField, Tells, line_plain, line_spelled, values_plain}
 
 -- a length is small
 small_length : (scale : Scale) → IsSmallScale scale → IsSmallField (length_field scale)
@@ -42,18 +43,16 @@ pub total_found : (circuit : Circuit) (scale : Scale) (words : Words) → IsSmal
     → IsFlawless circuit scale form.Total words
     → (total : ℤ) × SaysTotal scale.grid words total
 total_found circuit scale words small flawless =
-    let a = begins (line_spelled circuit (total_fields scale) words
-    (tt, ((small.some_grid, small.small_grid, omega arith), tt)) flawless) in
-    let b = begins a.rest in
-    let (total, below, is) = b.here in
-    (total, record { words_are = put a.is a.here (put b.is is (ends b.rest)); small = below })
+    let line = line_spelled circuit (total_fields scale) words
+    (tt, ((small.some_grid, small.small_grid, omega arith), tt)) flawless in
+    (line.values.1.0, record { words_are = line.are; small = line.admitted.1.0 })
 
 pub total_plain : (circuit : Circuit) (scale : Scale) (total : ℤ) → IsSmallScale scale
     → IsBelow (10 ^ 36) total
     → IsFlawless circuit scale form.Total (codes "wire" ∷ quotient_text total scale.grid ∷ [])
 total_plain circuit scale total small below =
-    line_plain circuit (total_fields scale) (codes "wire" ∷ quotient_text total scale.grid ∷ [])
-    (tt, ((small.some_grid, small.small_grid, omega arith), tt)) (refl, ((total, below, refl), tt))
+    values_plain circuit (total_fields scale) (tt, (total, tt))
+    (tt, ((small.some_grid, small.small_grid, omega arith), tt)) (tt, (below, tt))
 
 -- ---- a merge
 
@@ -68,31 +67,20 @@ pub merge_found : (circuit : Circuit) (scale : Scale) (node : ℕ) (words : Word
     → IsSmallScale scale → node < 2 ^ 32 → IsFlawless circuit scale (form.Merge node) words
     → (line : MergeLine) × SaysMerge circuit scale.grid node words line
 merge_found circuit scale node words small below flawless =
-    let a = begins (line_spelled circuit (merge_fields circuit scale node words) words
-    (small_merge circuit scale node words small below) flawless) in
-    let b = begins a.rest in
-    let c = begins b.rest in
-    let d = begins c.rest in
-    let e = begins d.rest in
-    let f = begins e.rest in
-    let g = begins f.rest in
-    let (first, low, high, first_is) = b.here in
-    let (second, low', high', second_is) = c.here in
-    let (reach, reach_below, reach_is) = d.here in
-    let (left, within, left_is) = f.here in
-    let (right, within', right_is, from) = g.here in
-    let words_are = put a.is a.here (put b.is first_is (put c.is second_is (put d.is reach_is
-    (put e.is e.here (put f.is (sym left_is) (put g.is (sym right_is) (ends g.rest))))))) in
+    let line = line_spelled circuit (merge_fields circuit scale node words) words
+    (small_merge circuit scale node words small below) flawless in
+    let (_, (first, (second, (reach, (_, (left, (right, _))))))) = line.values in
+    let (_, (few, (few', (reach_below, (_, (within, ((from, within'), _))))))) = line.admitted in
     let named = named_register circuit (get_or words 5 []) left within
-    (sym (word_is 5 refl words_are)) in (
+    (sym (ap (λ (ws : Words). get_or ws 5 []) line.are)) in (
       record {
         merge = record { first = first; second = second };
         reach = reach;
         show = Pair left right;
       },
       record {
-        words_are = words_are;
-        merge = record { first = high; second = high' };
+        words_are = line.are;
+        merge = record { first = few.1; second = few'.1 };
         reach = reach_below;
         show = omega (arith, named, from);
         among = (within, within');
@@ -114,20 +102,21 @@ merge_plain circuit scale node words line small below says =
         let words : Words = merged_line circuit scale.grid node
         (record { merge = line.merge; reach = line.reach; show = Pair left right }) in
         let named = named_register circuit (register_name circuit left) left within refl in
-        line_plain circuit (merge_fields circuit scale node words) words
+        values_plain circuit (merge_fields circuit scale node words)
+        (tt, (line.merge.first, (line.merge.second, (line.reach, (tt, (left, (right, tt)))))))
         (small_merge circuit scale node words small below) (
-          refl,
+          tt,
           (
-            (line.merge.first, omega arith, says.merge.first, refl),
+            (omega arith, says.merge.first),
             (
-              (line.merge.second, omega arith, says.merge.second, refl),
+              (omega arith, says.merge.second),
               (
-                (line.reach, says.reach, refl),
+                says.reach,
                 (
-                  refl,
+                  tt,
                   (
-                    (left, within, refl),
-                    ((right, within', refl, omega (arith, named, order)), tt),
+                    within,
+                    ((omega (arith, named, order), within'), tt),
                   ),
                 ),
               ),
@@ -152,35 +141,18 @@ source_found circuit scale words small flawless = at (is_word words 2 word.Root)
     at : (root : Bool) → LineHasFlaw circuit (shown_fields scale root) words None
         → (line : SourceLine) × SaysSource circuit scale.grid words line
     at true flawless =
-        let a = begins (line_spelled circuit (shown_fields scale true) words
-        (tt, (small_length scale small, (tt, tt))) flawless) in
-        let b = begins a.rest in
-        let c = begins b.rest in
-        let (reach, below, is) = b.here in (
-          record { reach = reach; show = Root },
-          record {
-            words_are = put a.is a.here (put b.is is (put c.is c.here (ends c.rest)));
-            reach = below;
-            show = tt;
-            among = tt;
-          },
+        let line = line_spelled circuit (shown_fields scale true) words
+        (tt, (small_length scale small, (tt, tt))) flawless in (
+          record { reach = line.values.1.0; show = Root },
+          record { words_are = line.are; reach = line.admitted.1.0; show = tt; among = tt },
         )
     at false flawless =
-        let a = begins (line_spelled circuit (shown_fields scale false) words
-        (tt, (small_length scale small, (tt, (tt, tt)))) flawless) in
-        let b = begins a.rest in
-        let c = begins b.rest in
-        let d = begins c.rest in
-        let (reach, below, is) = b.here in
-        let (register, within, name) = d.here in (
+        let line = line_spelled circuit (shown_fields scale false) words
+        (tt, (small_length scale small, (tt, (tt, tt)))) flawless in
+        let (_, (reach, (_, (register, _)))) = line.values in
+        let (_, (below, (_, (within, _)))) = line.admitted in (
           record { reach = reach; show = Sink register },
-          record {
-            words_are = put a.is a.here (put b.is is (put c.is c.here
-                (put d.is (sym name) (ends d.rest))));
-            reach = below;
-            show = tt;
-            among = within;
-          },
+          record { words_are = line.are; reach = below; show = tt; among = within },
         )
 
 pub source_plain : (circuit : Circuit) (scale : Scale) (words : Words) (line : SourceLine)
@@ -194,14 +166,11 @@ source_plain circuit scale words line small says =
         → IsFlawless circuit scale form.Source (sourced_line circuit scale.grid
         (record { reach = line.reach; show = show }))
     at (Pair left right) none among = absurd none
-    at (Sink register) is within = line_plain circuit (shown_fields scale false)
-        (sourced_line circuit scale.grid (record { reach = line.reach; show = Sink register }))
-        (tt, (small_length scale small, (tt, (tt, tt))))
-        (refl, ((line.reach, says.reach, refl), (refl, ((register, within, refl), tt))))
-    at Root is among = line_plain circuit (shown_fields scale true)
-        (sourced_line circuit scale.grid (record { reach = line.reach; show = Root }))
-        (tt, (small_length scale small, (tt, tt)))
-        (refl, ((line.reach, says.reach, refl), (refl, tt)))
+    at (Sink register) is within =
+        values_plain circuit (shown_fields scale false) (tt, (line.reach, (tt, (register, tt))))
+        (tt, (small_length scale small, (tt, (tt, tt)))) (tt, (says.reach, (tt, (within, tt))))
+    at Root is among = values_plain circuit (shown_fields scale true) (tt, (line.reach, (tt, tt)))
+        (tt, (small_length scale small, (tt, tt))) (tt, (says.reach, (tt, tt)))
 
 -- ---- a node
 
@@ -232,50 +201,46 @@ record ArePoints (grid : ℤ) (count : ℕ) (words : Words) : Type 0 where
   are : words ≡ flat_map (coordinates grid) points
 
 points_found : (circuit : Circuit) (scale : Scale) (count : ℕ) (words : Words)
-    → AreSpelled circuit (replicate (2 * count) (length_field scale)) words
+    → Tells circuit (replicate (2 * count) (length_field scale)) words
     → ArePoints scale.grid count words
 points_found circuit scale zero words line = record {
   points = [];
   many = refl;
   below = All-nil (IsPointBelow (10 ^ 32));
-  are = ends line;
+  are = line.are;
 }
 points_found circuit scale (suc count) words line =
     let length = length_field scale in
     let even : 2 * suc count ≡ suc (suc (2 * count)) = omega arith in
-    let next : AreSpelled circuit (length ∷ length ∷ replicate (2 * count) length) words =
-    subst (λ n. AreSpelled circuit (replicate n length) words) even line in
-    let a = begins next in
-    let b = begins a.rest in
-    let (x, x_below, x_is) = a.here in
-    let (y, y_below, y_is) = b.here in
-    let more = points_found circuit scale count b.more b.rest in
-    let point : Point = record { x = x; y = y } in
+    let next : Tells circuit (length ∷ length ∷ replicate (2 * count) length) words =
+    subst (λ n. Tells circuit (replicate n length) words) even line in
+    let more = points_found circuit scale count _
+    (record { values = next.values.1.1; admitted = next.admitted.1.1; are = refl }) in
+    let point : Point = record { x = next.values.0; y = next.values.1.0 } in
     record {
       points = point ∷ more.points;
       many = ap suc more.many;
       below = All-cons (IsPointBelow (10 ^ 32)) point more.points
-          (record { x = x_below; y = y_below }) more.below;
-      are = put a.is x_is (put b.is y_is more.are);
+          (record { x = next.admitted.0; y = next.admitted.1.0 }) more.below;
+      are = next.are ∙ ap (λ ws. coordinates scale.grid point ++ ws) more.are;
     }
 
-points_plain : (circuit : Circuit) (scale : Scale) (points : List Point)
+points_told : (circuit : Circuit) (scale : Scale) (points : List Point)
     → All (IsPointBelow (10 ^ 32)) points
-    → EachWord (IsSpelled circuit) (replicate (2 * length points) (length_field scale))
+    → Tells circuit (replicate (2 * length points) (length_field scale))
     (flat_map (coordinates scale.grid) points)
-points_plain circuit scale [] below = tt
-points_plain circuit scale (point ∷ points) below =
+points_told circuit scale [] below = record { values = tt; admitted = tt; are = refl }
+points_told circuit scale (point ∷ points) below =
     let even : suc (suc (2 * length points)) ≡ 2 * suc (length points) = omega arith in
     let here = below 0 point (omega arith) in
-    subst (λ n. EachWord (IsSpelled circuit) (replicate n (length_field scale))
-    (flat_map (coordinates scale.grid) (point ∷ points))) even (
-      (point.x, here.x, refl),
-      (
-        (point.y, here.y, refl),
-        points_plain circuit scale points
-            (λ k default within. below (suc k) default (omega (arith, within))),
-      ),
-    )
+    let more = points_told circuit scale points
+    (λ k default within. below (suc k) default (omega (arith, within))) in
+    subst (λ n. Tells circuit (replicate n (length_field scale))
+    (flat_map (coordinates scale.grid) (point ∷ points))) even (record {
+      values = (point.x, (point.y, more.values));
+      admitted = (here.x, (here.y, more.admitted));
+      are = ap (λ ws. coordinates scale.grid point ++ ws) more.are;
+    })
 
 -- a node has so many words as 1 to 5 points ask
 record PointsFit (words : Words) : Type 0 where
@@ -309,16 +274,15 @@ node_found circuit scale node words small below some flawless =
         → LineHasFlaw circuit (node_fields scale node points) words None
         → (line : NodeLine) × SaysNode scale.grid node words line
     of_points points some few flawless =
-        let a = begins (line_spelled circuit (node_fields scale node points) words
-        (small_node scale node points small below few) flawless) in
-        let b = begins a.rest in
-        let c = begins b.rest in
-        let d = begins c.rest in
-        let e = begins d.rest in
-        let (x, x_below, x_is) = b.here in
-        let (y, y_below, y_is) = c.here in
-        let (edge, edge_below, edge_is) = d.here in
-        let drawn = points_found circuit scale points e.more e.rest in
+        let line = line_spelled circuit (node_fields scale node points) words
+        (small_node scale node points small below few) flawless in
+        let (_, (x, (y, (edge, (_, _))))) = line.values in
+        let (_, (x_below, (y_below, (edge_below, (_, _))))) = line.admitted in
+        let drawn = points_found circuit scale points _ (record {
+          values = line.values.1.1.1.1.1;
+          admitted = line.admitted.1.1.1.1.1;
+          are = refl;
+        }) in
         let rest : List Point = replicate (5 - points) origin in
         let first = take_at drawn.points rest points drawn.many in (
           record {
@@ -327,9 +291,10 @@ node_found circuit scale node words small below some flawless =
             wire = record { corners = drawn.points ++ rest; used = points };
           },
           record {
-            words_are = put a.is a.here (put b.is x_is (put c.is y_is (put d.is edge_is
-                (put e.is e.here
-                (drawn.are ∙ ap (flat_map (coordinates scale.grid)) (sym first))))));
+            words_are = line.are ∙ ap (λ ws. signed_decimal (pos node) ∷ quotient_text x scale.grid
+                ∷ quotient_text y scale.grid ∷ quotient_text edge scale.grid
+                ∷ signed_decimal (pos points) ∷ ws)
+                (drawn.are ∙ ap (flat_map (coordinates scale.grid)) (sym first));
             place = record { x = x_below; y = y_below };
             edge = edge_below;
             wire = record {
@@ -399,25 +364,15 @@ node_plain circuit scale node words line small below says =
     let all : length words ≡ 5 + 2 * points =
     ap length says.words_are ∙ omega (arith, many, length-points scale.grid corners) in
     let fields_are = points_are scale node words points all wire.some wire.few in
+    let drawn = subst (λ n. Tells circuit (replicate (2 * n) (length_field scale))
+    (flat_map (coordinates scale.grid) corners)) many
+    (points_told circuit scale corners wire.each) in
     subst (λ (fields : List Field). LineHasFlaw circuit fields words None) (sym fields_are)
-    (subst (λ (w : Words). LineHasFlaw circuit (node_fields scale node points) w None)
-    (sym says.words_are)
-    (line_plain circuit (node_fields scale node points) (placed_line scale.grid node line)
-    (small_node scale node points small below wire.few) (
-      refl,
-      (
-        (line.place.x, says.place.x, refl),
-        (
-          (line.place.y, says.place.y, refl),
-          (
-            (line.length, says.edge, refl),
-            (
-              refl,
-              subst (λ n. EachWord (IsSpelled circuit) (replicate (2 * n) (length_field scale))
-                  (flat_map (coordinates scale.grid) corners)) many
-                  (points_plain circuit scale corners wire.each),
-            ),
-          ),
-        ),
-      ),
-    )))
+    (line_plain circuit (node_fields scale node points) words
+    (small_node scale node points small below wire.few) (record {
+      values = (tt, (line.place.x, (line.place.y, (line.length, (tt, drawn.values)))));
+      admitted = (tt, (says.place.x, (says.place.y, (says.edge, (tt, drawn.admitted)))));
+      are = says.words_are ∙ ap (λ ws. signed_decimal (pos node)
+          ∷ coordinates scale.grid line.place ++ quotient_text line.length scale.grid
+          ∷ signed_decimal (pos points) ∷ ws) drawn.are;
+    }))
