@@ -22,25 +22,16 @@ module _ {F F' F'' K K' K'' I I' I'' W W' W'' : Type 0} (f : F'' ↔ (F × F')) 
       (f.1 (h.0, g.0), k.1 (h.1, g.1), i.1 (h.2, g.2), λ all. g.3 (w.0 all).1)
   sooner_of (Some Form) None h g = λ all. h (f.0 all).0
   sooner_of (Some Form) (Some Form) h g = λ all. h (f.0 all).0
-  sooner_of (Some Form) (Some Unknown) h g = λ all. h (f.0 all).0
-  sooner_of (Some Form) (Some Unfit) h g = λ all. h (f.0 all).0
-  sooner_of (Some Form) (Some Large) h g = λ all. h (f.0 all).0
-  sooner_of (Some Unknown) None h g = (f.1 (h.0, g.0), λ all. h.1 (k.0 all).0)
+  sooner_of (Some Form) second h g = λ all. h (f.0 all).0
   sooner_of (Some Unknown) (Some Form) h g = λ all. g (f.0 all).1
-  sooner_of (Some Unknown) (Some Unknown) h g = (f.1 (h.0, g.0), λ all. h.1 (k.0 all).0)
-  sooner_of (Some Unknown) (Some Unfit) h g = (f.1 (h.0, g.0), λ all. h.1 (k.0 all).0)
-  sooner_of (Some Unknown) (Some Large) h g = (f.1 (h.0, g.0), λ all. h.1 (k.0 all).0)
-  sooner_of (Some Unfit) None h g = (f.1 (h.0, g.0), k.1 (h.1, g.1), λ all. h.2 (i.0 all).0)
+  sooner_of (Some Unknown) second h g = (f.1 (h.0, g.0), λ all. h.1 (k.0 all).0)
   sooner_of (Some Unfit) (Some Form) h g = λ all. g (f.0 all).1
   sooner_of (Some Unfit) (Some Unknown) h g = (f.1 (h.0, g.0), λ all. g.1 (k.0 all).1)
-  sooner_of (Some Unfit) (Some Unfit) h g = (f.1 (h.0, g.0), k.1 (h.1, g.1), λ all. h.2 (i.0 all).0)
-  sooner_of (Some Unfit) (Some Large) h g = (f.1 (h.0, g.0), k.1 (h.1, g.1), λ all. h.2 (i.0 all).0)
-  sooner_of (Some Large) None h g =
-      (f.1 (h.0, g.0), k.1 (h.1, g.1), i.1 (h.2, g.2), λ all. h.3 (w.0 all).0)
+  sooner_of (Some Unfit) second h g = (f.1 (h.0, g.0), k.1 (h.1, g.1), λ all. h.2 (i.0 all).0)
   sooner_of (Some Large) (Some Form) h g = λ all. g (f.0 all).1
   sooner_of (Some Large) (Some Unknown) h g = (f.1 (h.0, g.0), λ all. g.1 (k.0 all).1)
   sooner_of (Some Large) (Some Unfit) h g = (f.1 (h.0, g.0), k.1 (h.1, g.1), λ all. g.2 (i.0 all).1)
-  sooner_of (Some Large) (Some Large) h g =
+  sooner_of (Some Large) second h g =
       (f.1 (h.0, g.0), k.1 (h.1, g.1), i.1 (h.2, g.2), λ all. h.3 (w.0 all).0)
 
 -- ---- one flaw
@@ -54,26 +45,20 @@ module _ (F K I W : Type 0) where
   one_first_flaw None (Some Unknown) h g = absurd (g.1 h.1)
   one_first_flaw None (Some Unfit) h g = absurd (g.2 h.2)
   one_first_flaw None (Some Large) h g = absurd (g.3 h.3)
-  one_first_flaw (Some Form) None h g = absurd (h g.0)
   one_first_flaw (Some Form) (Some Form) h g = refl
-  one_first_flaw (Some Form) (Some Unknown) h g = absurd (h g.0)
-  one_first_flaw (Some Form) (Some Unfit) h g = absurd (h g.0)
-  one_first_flaw (Some Form) (Some Large) h g = absurd (h g.0)
-  one_first_flaw (Some Unknown) None h g = absurd (h.1 g.1)
+  one_first_flaw (Some Form) other h g = absurd (h g.0)
   one_first_flaw (Some Unknown) (Some Form) h g = absurd (g h.0)
   one_first_flaw (Some Unknown) (Some Unknown) h g = refl
-  one_first_flaw (Some Unknown) (Some Unfit) h g = absurd (h.1 g.1)
-  one_first_flaw (Some Unknown) (Some Large) h g = absurd (h.1 g.1)
-  one_first_flaw (Some Unfit) None h g = absurd (h.2 g.2)
+  one_first_flaw (Some Unknown) other h g = absurd (h.1 g.1)
   one_first_flaw (Some Unfit) (Some Form) h g = absurd (g h.0)
   one_first_flaw (Some Unfit) (Some Unknown) h g = absurd (g.1 h.1)
   one_first_flaw (Some Unfit) (Some Unfit) h g = refl
-  one_first_flaw (Some Unfit) (Some Large) h g = absurd (h.2 g.2)
-  one_first_flaw (Some Large) None h g = absurd (h.3 g.3)
+  one_first_flaw (Some Unfit) other h g = absurd (h.2 g.2)
   one_first_flaw (Some Large) (Some Form) h g = absurd (g h.0)
   one_first_flaw (Some Large) (Some Unknown) h g = absurd (g.1 h.1)
   one_first_flaw (Some Large) (Some Unfit) h g = absurd (g.2 h.2)
   one_first_flaw (Some Large) (Some Large) h g = refl
+  one_first_flaw (Some Large) None h g = absurd (h.3 g.3)
 
 -- two flaws of a line are the same
 pub one_flaw : (circuit : Circuit) (fields : List Field) (words : List (List ℕ))

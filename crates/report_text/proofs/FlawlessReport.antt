@@ -51,20 +51,18 @@ module _ (circuit : Circuit) (scale : Scale) where
   pub no_first_fault : (forms : List Form) (lines : List Words) (line : ℕ) → AreLines lines
       → AreFlawless forms lines → HasFirstFault circuit scale forms line (text_of lines) None
   no_first_fault [] [] line are flawless = refl
-  no_first_fault [] (words ∷ lines) line are flawless = absurd flawless
-  no_first_fault (due ∷ forms) [] line are flawless = absurd flawless
   no_first_fault (due ∷ forms) (words ∷ lines) line are flawless =
       line_passed circuit scale due forms line words (text_of lines) None are.0 flawless.0
       (no_first_fault forms lines (line + 1) are.1 flawless.1)
+  no_first_fault forms lines line are flawless = absurd flawless
 
   -- lines after others
   both_flawless : (forms more : List Form) (lines others : List Words) → AreFlawless forms lines
       → AreFlawless more others → AreFlawless (forms ++ more) (lines ++ others)
   both_flawless [] more [] others is is' = is'
-  both_flawless [] more (words ∷ lines) others is is' = absurd is
-  both_flawless (due ∷ forms) more [] others is is' = absurd is
   both_flawless (due ∷ forms) more (words ∷ lines) others is is' =
       (is.0, both_flawless forms more lines others is.1 is')
+  both_flawless forms more lines others is is' = absurd is
 
   -- a line for each number, and its form for another
   each_flawless : (due : ℕ → Form) (line_at : ℕ → Words) (start start' count count' : ℕ)
@@ -74,10 +72,6 @@ module _ (circuit : Circuit) (scale : Scale) where
       → AreFlawless (map due (range_with_len start count))
       (map line_at (range_with_len start' count'))
   each_flawless due line_at start start' zero zero as_many each = tt
-  each_flawless due line_at start start' zero (suc count') as_many each =
-      absurd (omega (arith, as_many))
-  each_flawless due line_at start start' (suc count) zero as_many each =
-      absurd (omega (arith, as_many))
   each_flawless due line_at start start' (suc count) (suc count') as_many each = (
     each 0 start start' (omega arith) (omega arith) (omega arith),
     each_flawless due line_at (start + 1) (start' + 1) count count' (omega (arith, as_many))
@@ -85,6 +79,8 @@ module _ (circuit : Circuit) (scale : Scale) where
         each (place + 1) node number (omega (arith, within)) (omega (arith, is))
         (omega (arith, is'))),
   )
+  each_flawless due line_at start start' count count' as_many each =
+      absurd (omega (arith, as_many))
 
   -- a line for each item, by one form
   same_flawless : {X : Type 0} (Fits : X → Type 0) (due : Form) (line_for : X → Words)
@@ -92,15 +88,13 @@ module _ (circuit : Circuit) (scale : Scale) where
       → ((item : X) → Fits item → IsFlawless circuit scale due (line_for item))
       → AreFlawless (replicate count due) (map line_for items)
   same_flawless Fits due line_for zero [] as_many fits each = tt
-  same_flawless Fits due line_for zero (item ∷ items) as_many fits each =
-      absurd (omega (arith, as_many))
-  same_flawless Fits due line_for (suc count) [] as_many fits each =
-      absurd (omega (arith, as_many))
   same_flawless Fits due line_for (suc count) (item ∷ items) as_many fits each = (
     each item (fits 0 item (omega arith)),
     same_flawless Fits due line_for count items (omega (arith, as_many))
         (λ place default within. fits (suc place) default (omega (arith, within))) each,
   )
+  same_flawless Fits due line_for count items as_many fits each =
+      absurd (omega (arith, as_many))
 
   -- the line of a count
   counted_flawless : (word : Keyword) (count count' : ℕ) → count' ≡ count → count < 10 ^ 37

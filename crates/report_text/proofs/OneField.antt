@@ -98,10 +98,6 @@ pub one_points : (grid grid' : ℤ) (points others : List Point) → pos 1 ≤�
     ≡ flat_map (λ (p : Point). quotient_text p.x grid' ∷ quotient_text p.y grid' ∷ []) others
     → points ≡ others
 one_points grid grid' [] [] some small same_grid below below' same = refl
-one_points grid grid' [] (other ∷ others) some small same_grid below below' same =
-    absurd (omega (arith, ap length same))
-one_points grid grid' (point ∷ points) [] some small same_grid below below' same =
-    absurd (omega (arith, ap length same))
 one_points grid grid' (point ∷ points) (other ∷ others) some small same_grid below below' same =
     let here = below 0 point (omega arith) in
     let here' = below' 0 point (omega arith) in
@@ -113,17 +109,18 @@ one_points grid grid' (point ∷ points) (other ∷ others) some small same_grid
     (λ i d within. below (suc i) d (omega arith)) (λ i d within. below' (suc i) d (omega arith))
     (ap (λ (w : Words). drop 2 w) same) in
     λ i. record { x = x i; y = y i } ∷ more i
+one_points grid grid' points others some small same_grid below below' same =
+    absurd (omega (arith, ap length same))
 
 -- lists of one item are one
 one_padding : {X : Type 0} (x : X) (xs ys : List X) → length xs ≡ length ys
     → All (λ y. y ≡ x) xs → All (λ y. y ≡ x) ys → xs ≡ ys
 one_padding x [] [] as_many each each' = refl
-one_padding x [] (b ∷ ys) as_many each each' = absurd (omega arith)
-one_padding x (a ∷ xs) [] as_many each each' = absurd (omega arith)
 one_padding x (a ∷ xs) (b ∷ ys) as_many each each' =
     ap₂ (λ c cs. c ∷ cs) (each 0 x (omega arith) ∙ sym (each' 0 x (omega arith)))
     (one_padding x xs ys (omega arith) (λ i d within. each (suc i) d (omega arith))
     (λ i d within. each' (suc i) d (omega arith)))
+one_padding x xs ys as_many each each' = absurd (omega arith)
 
 -- a wire is determined by its points
 pub one_wire : (wire other : Wire) → IsSmallWire wire → IsSmallWire other
@@ -217,23 +214,21 @@ module _ (circuit : Circuit) where
       → All (λ n. n < length circuit.signals) other
       → map (signal_name circuit) path ≡ map (signal_name circuit) other → path ≡ other
   one_signals [] [] within within' same = refl
-  one_signals [] (first ∷ more) within within' same = absurd (omega (arith, ap length same))
-  one_signals (first ∷ more) [] within within' same = absurd (omega (arith, ap length same))
   one_signals (first ∷ more) (first' ∷ more') within within' same =
       ap₂ (λ n ns. n ∷ ns) (one_signal circuit first first' (within 0 0 (omega arith))
       (within' 0 0 (omega arith)) (word 0 _ _ same))
       (one_signals more more' (λ i d inside. within (suc i) d (omega arith))
       (λ i d inside. within' (suc i) d (omega arith)) (words_from 1 _ _ same))
+  one_signals path other within within' same = absurd (omega (arith, ap length same))
 
   -- and a path by its line
   pub one_path : (path other : List ℕ) → All (λ n. n < length circuit.signals) path
       → All (λ n. n < length circuit.signals) other
       → path_line circuit path ≡ path_line circuit other → path ≡ other
   one_path [] [] within within' same = refl
-  one_path [] (first ∷ more) within within' same = absurd (omega (arith, ap length same))
-  one_path (first ∷ more) [] within within' same = absurd (omega (arith, ap length same))
   one_path (first ∷ more) (first' ∷ more') within within' same =
       one_signals (first ∷ more) (first' ∷ more') within within' (words_from 2 _ _ same)
+  one_path path other within within' same = absurd (omega (arith, ap length same))
 
   -- what shows a reach is determined by its words
   pub one_show : (show other : Show) → ShowsAmong (length circuit.registers) show
@@ -242,14 +237,7 @@ module _ (circuit : Circuit) where
   one_show (Pair first second) (Pair first' second') among among' same =
       ap₂ (λ a b. Pair a b) (one_register circuit first first' among.0 among'.0 (word 1 _ _ same))
       (one_register circuit second second' among.1 among'.1 (word 2 _ _ same))
-  one_show (Pair first second) (Sink register) among among' same =
-      absurd (omega (arith, byte _ _ same))
-  one_show (Pair first second) Root among among' same = absurd (omega (arith, byte _ _ same))
-  one_show (Sink register) (Pair first second) among among' same =
-      absurd (omega (arith, byte _ _ same))
   one_show (Sink register) (Sink register') among among' same =
       ap (λ r. Sink r) (one_register circuit register register' among among' (word 1 _ _ same))
-  one_show (Sink register) Root among among' same = absurd (omega (arith, byte _ _ same))
-  one_show Root (Pair first second) among among' same = absurd (omega (arith, byte _ _ same))
-  one_show Root (Sink register) among among' same = absurd (omega (arith, byte _ _ same))
   one_show Root Root among among' same = refl
+  one_show show other among among' same = absurd (omega (arith, byte _ _ same))

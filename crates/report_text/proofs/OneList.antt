@@ -7,11 +7,10 @@ use Rattle.std.proofs.lemmas.List.FromFn.{get_or-map-range_with_len}
 pub one_append : {X : Type 0} (xs ys xs' ys' : List X) → length xs ≡ length ys
     → xs ++ xs' ≡ ys ++ ys' → (xs ≡ ys) × (xs' ≡ ys')
 one_append [] [] xs' ys' as_many same = (refl, same)
-one_append [] (y ∷ ys) xs' ys' as_many same = absurd (omega arith)
-one_append (x ∷ xs) [] xs' ys' as_many same = absurd (omega arith)
 one_append (x ∷ xs) (y ∷ ys) xs' ys' as_many same =
     let rest = one_append xs ys xs' ys' (omega arith) (ap (drop 1) same) in
     (ap₂ (λ a more. a ∷ more) (ap (λ l. get_or l 0 x) same) rest.0, rest.1)
+one_append xs ys xs' ys' as_many same = absurd (omega arith)
 
 -- the images of one number
 pub one_image : {X : Type 0} (f g : ℕ → X) (count count' place : ℕ)
@@ -27,20 +26,18 @@ pub same_at : {X : Type 0} (xs ys : List X) (default : X) → length xs ≡ leng
     → ((place : ℕ) → place < length xs → get_or xs place default ≡ get_or ys place default)
     → xs ≡ ys
 same_at [] [] default as_many each = refl
-same_at [] (y ∷ ys) default as_many each = absurd (omega arith)
-same_at (x ∷ xs) [] default as_many each = absurd (omega arith)
 same_at (x ∷ xs) (y ∷ ys) default as_many each =
     ap₂ (λ a more. a ∷ more) (each 0 (omega arith))
     (same_at xs ys default (omega arith) (λ place within. each (suc place) (omega arith)))
+same_at xs ys default as_many each = absurd (omega arith)
 
 -- items that are determined by their images are given in lists
 pub one_map : {X Y : Type 0} (P : X → Type 0) (f : X → Y) (xs ys : List X) → All P xs → All P ys
     → ((x y : X) → P x → P y → f x ≡ f y → x ≡ y) → map f xs ≡ map f ys → xs ≡ ys
 one_map P f [] [] each each' denoted same = refl
-one_map P f [] (y ∷ ys) each each' denoted same = absurd (omega (arith, ap length same))
-one_map P f (x ∷ xs) [] each each' denoted same = absurd (omega (arith, ap length same))
 one_map P f (x ∷ xs) (y ∷ ys) each each' denoted same =
     ap₂ (λ a more. a ∷ more) (denoted x y (each 0 x (omega arith)) (each' 0 x (omega arith))
     (ap (λ l. get_or l 0 (f x)) same))
     (one_map P f xs ys (λ i d within. each (suc i) d (omega arith))
     (λ i d within. each' (suc i) d (omega arith)) denoted (ap (drop 1) same))
+one_map P f xs ys each each' denoted same = absurd (omega (arith, ap length same))

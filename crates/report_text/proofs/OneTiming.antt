@@ -1,9 +1,10 @@
 -- The timing of a report is determined by its lines.
-use Rattle.std.proofs.Common.{◌≡◌, ◌<◌, ◌^◌, ℕ, suc, pos, ◌≤ℤ◌, nat_abs, List, [], ◌∷◌, ◌++◌, None, All, map, drop, get_or, length, codes, refl, sym, ap, ap₂, ◌∙◌, subst, append_assoc, arith}
+use Rattle.std.proofs.Common.{◌≡◌, ◌<◌, ◌^◌, ℕ, suc, pos, ◌≤ℤ◌, List, [], ◌∷◌, ◌++◌, None, All, map, drop, get_or, length, codes, refl, sym, ap, ap₂, ◌∙◌, subst, append_assoc, arith}
 use Rattle.std.proofs.lemmas.Int.{ints}
 use Rattle.std.proofs.lemmas.List.{length-map}
 use Rattle.std.proofs.lemmas.List.FromFn.{length-map-range_with_len}
 use Rattle.cts_base.specs.declared.fraction.Fraction.{Fraction}
+use Rattle.cts_base.proofs.FractionReading as reading
 use Rattle.cts_base.proofs.OneNumberText.{one_fraction_text}
 use Rattle.cts_model.specs.declared.circuit.Circuit.{Circuit}
 use Rattle.cts_model.specs.declared.constraint.Constraint.{Constraint}
@@ -23,6 +24,7 @@ use Rattle.cts_model.specs.timing.Schedules.{IsSmallPeriod}
 use Rattle.report_text.proofs.OneField.{word, byte, few_digits, one_count, one_length, one_slack, one_constraint, one_lead, one_path}
 use Rattle.report_text.proofs.OneList.{one_append, one_image, same_at, one_map}
 use Rattle.report_text.proofs.OneRecord.{same_fraction}
+use Rattle.report_text.proofs.SpelledFields.{small_period}
 
 -- the line at a place of two texts
 pub line : (place : ℕ) (lines others : List Words) → lines ≡ others
@@ -48,29 +50,13 @@ one_version Second Second same = refl
 one_period : (period other : Fraction) → IsSmallPeriod period → IsSmallPeriod other
     → period_line period ≡ period_line other → period ≡ other
 one_period period other small small' same =
-    let some = period.lowest.some_den in
-    let some' = other.lowest.some_den in
-    let num : IsBelow (10 ^ 18) period.num = record {
-      above = omega (arith, ints, small.from_zero);
-      below = small.small;
-    } in
-    let num' : IsBelow (10 ^ 18) other.num = record {
-      above = omega (arith, ints, small'.from_zero);
-      below = small'.small;
-    } in
+    let sizes = small_period period small in
+    let sizes' = small_period other small' in
     let both = one_fraction_text period.num period.den other.num other.den
-    (few_digits (10 ^ 18) period.num (omega arith) num)
-    (small_den period some small) (few_digits (10 ^ 18) other.num (omega arith) num')
-    (small_den other some' small') (word 1 _ _ same) in
+    (reading.few_digits period.num sizes.0) (reading.few_digits period.den sizes.1)
+    (reading.few_digits other.num sizes'.0) (reading.few_digits other.den sizes'.1)
+    (word 1 _ _ same) in
     same_fraction period other both.0 both.1
-  where
-    small_den : (p : Fraction) → pos 1 ≤ℤ p.den → IsSmallPeriod p → nat_abs p.den < 10 ^ 64
-    small_den p some small =
-        let den : IsBelow 4098 p.den = record {
-          above = omega (arith, ints, some);
-          below = omega (arith, ints, small.low);
-        } in
-        few_digits 4098 p.den (omega arith) den
 
 -- ---- what shows the period
 
@@ -106,18 +92,6 @@ module _ (circuit : Circuit) where
       → (cycle ≡ other) × (paths ≡ paths') × (rest ≡ rest')
   one_pathed [] [] [] [] rest rest' as_many has has' each each' signals signals' same =
       (refl, refl, same)
-  one_pathed [] (o ∷ other) paths paths' rest rest' as_many has has' each each' signals signals'
-      same = absurd (omega arith)
-  one_pathed (c ∷ cycle) [] paths paths' rest rest' as_many has has' each each' signals signals'
-      same = absurd (omega arith)
-  one_pathed [] [] (p ∷ paths) paths' rest rest' as_many has has' each each' signals signals' same =
-      absurd (omega arith)
-  one_pathed [] [] [] (p ∷ paths') rest rest' as_many has has' each each' signals signals' same =
-      absurd (omega arith)
-  one_pathed (c ∷ cycle) (o ∷ other) [] paths' rest rest' as_many has has' each each' signals
-      signals' same = absurd (omega arith)
-  one_pathed (c ∷ cycle) (o ∷ other) (p ∷ paths) [] rest rest' as_many has has' each each' signals
-      signals' same = absurd (omega arith)
   one_pathed (c ∷ cycle) (o ∷ other) (p ∷ paths) (p' ∷ paths') rest rest' as_many has has' each
       each' signals signals' same =
       let here = each 0 c (omega arith) in
@@ -133,6 +107,8 @@ module _ (circuit : Circuit) where
             (signals' 0 p (omega arith)) (line 1 _ _ same)) more.1,
         more.2,
       )
+  one_pathed cycle other paths paths' rest rest' as_many has has' each each' signals signals' same =
+      absurd (omega arith)
 
   -- what shows a period
   record IsPrintableShow (version : Version) (shown : PeriodShow)
@@ -151,8 +127,7 @@ module _ (circuit : Circuit) where
   -- no paths are one list
   no_paths : (paths other : List (List ℕ)) → length paths ≡ 0 → length other ≡ 0 → paths ≡ other
   no_paths [] [] none none' = refl
-  no_paths [] (p ∷ other) none none' = absurd (omega arith)
-  no_paths (p ∷ paths) other none none' = absurd (omega arith)
+  no_paths paths other none none' = absurd (omega arith)
 
   -- is determined by its lines, and so is what stands after them
   one_shown : (version : Version) (shown other : PeriodShow) (paths paths' : List (List ℕ))
@@ -170,10 +145,6 @@ module _ (circuit : Circuit) where
       (ap (λ c. Cycle c) both.0, no_paths paths paths' is.as_many is'.as_many, both.1)
   one_shown First Floor Floor paths paths' rest rest' is is' same =
       (refl, no_paths paths paths' is.as_many is'.as_many, lines_from 1 _ _ same)
-  one_shown First (Cycle cycle) Floor paths paths' rest rest' is is' same =
-      absurd (omega (arith, byte _ _ (line 0 _ _ same)))
-  one_shown First Floor (Cycle other) paths paths' rest rest' is is' same =
-      absurd (omega (arith, byte _ _ (line 0 _ _ same)))
   one_shown Second (Cycle cycle) (Cycle other) paths paths' rest rest' is is' same =
       let count = one_count (length cycle) (length other) is.small.1 is'.small.1
       (word 1 _ _ (line 0 _ _ same)) in
@@ -183,9 +154,7 @@ module _ (circuit : Circuit) where
       (ap (λ c. Cycle c) all.0, all.1, all.2)
   one_shown Second Floor Floor paths paths' rest rest' is is' same =
       (refl, no_paths paths paths' is.as_many is'.as_many, lines_from 1 _ _ same)
-  one_shown Second (Cycle cycle) Floor paths paths' rest rest' is is' same =
-      absurd (omega (arith, byte _ _ (line 0 _ _ same)))
-  one_shown Second Floor (Cycle other) paths paths' rest rest' is is' same =
+  one_shown version shown other paths paths' rest rest' is is' same =
       absurd (omega (arith, byte _ _ (line 0 _ _ same)))
 
 -- ---- the whole timing

@@ -41,13 +41,12 @@ module _ {X : Type 0} (Says : ℕ → Words → X → Type 0) where
       → SayEach Says first lines rows → Says (first + length rows) words row
       → SayEach Says first (lines ++ words ∷ []) (rows ++ row ∷ [])
   say_more first [] [] words row each says = (subst (λ n. Says n words row) (omega arith) says, tt)
-  say_more first [] (other ∷ rows) words row each says = absurd each
-  say_more first (line ∷ lines) [] words row each says = absurd each
   say_more first (line ∷ lines) (other ∷ rows) words row each says = (
     each.0,
     say_more (first + 1) lines rows words row each.1
         (subst (λ n. Says n words row) (omega arith) says),
   )
+  say_more first lines rows words row each says = absurd each
 
   -- the lines are those of the rows
   pub rows_lines : (line : ℕ → X → Words)
@@ -55,11 +54,10 @@ module _ {X : Type 0} (Says : ℕ → Words → X → Type 0) where
       → (first : ℕ) (lines : List Words) (rows : List X) → SayEach Says first lines rows
       → lines ≡ lines_of line first rows
   rows_lines line is first [] [] each = refl
-  rows_lines line is first [] (row ∷ rows) each = absurd each
-  rows_lines line is first (words ∷ lines) [] each = absurd each
   rows_lines line is first (words ∷ lines) (row ∷ rows) each =
       ap₂ (λ w ws. w ∷ ws) (is first words row each.0)
       (rows_lines line is (first + 1) lines rows each.1)
+  rows_lines line is first lines rows each = absurd each
 
   -- and each row has what its line gives
   pub rows_all : (P : X → Type 0)
@@ -67,10 +65,9 @@ module _ {X : Type 0} (Says : ℕ → Words → X → Type 0) where
       → (first : ℕ) (lines : List Words) (rows : List X) → SayEach Says first lines rows
       → All P rows
   rows_all P has first [] [] each = All-nil P
-  rows_all P has first [] (row ∷ rows) each = absurd each
-  rows_all P has first (words ∷ lines) [] each = absurd each
   rows_all P has first (words ∷ lines) (row ∷ rows) each = All-cons P row rows
       (has first words row each.0) (rows_all P has (first + 1) lines rows each.1)
+  rows_all P has first lines rows each = absurd each
 
 -- lines that have no number
 pub plain_lines : {X : Type 0} (line : X → Words) (first : ℕ) (rows : List X)
@@ -204,11 +201,10 @@ pathed_more : (circuit : Circuit) (cycle : List Constraint) (paths : List (List 
     ≡ pathed_lines circuit cycle paths
     ++ line_for circuit constraint ∷ path_line circuit path ∷ []
 pathed_more circuit [] [] constraint path as_many = refl
-pathed_more circuit [] (first ∷ paths) constraint path as_many = absurd (omega arith)
-pathed_more circuit (first ∷ cycle) [] constraint path as_many = absurd (omega arith)
 pathed_more circuit (first ∷ cycle) (way ∷ paths) constraint path as_many =
     ap (λ lines. line_for circuit first ∷ path_line circuit way ∷ lines)
     (pathed_more circuit cycle paths constraint path (omega arith))
+pathed_more circuit cycle paths constraint path as_many = absurd (omega arith)
 
 -- one more constraint and its path
 pub pathed_next : {circuit : Circuit} {scale : Scale} {place : ℕ} {old between new : Left}

@@ -27,31 +27,23 @@ use Rattle.report_text.proofs.WalkLemmas.{line_read}
 sooner_none : (flaw : Option Flaw) → sooner_flaw flaw None ≡ flaw
 sooner_none None = refl
 sooner_none (Some flaws.Form) = refl
-sooner_none (Some flaws.Unknown) = refl
-sooner_none (Some flaws.Unfit) = refl
-sooner_none (Some flaws.Large) = refl
+sooner_none flaw = refl
 
 none_sooner : (flaw : Option Flaw) → sooner_flaw None flaw ≡ flaw
 none_sooner None = refl
 none_sooner (Some flaws.Form) = refl
-none_sooner (Some flaws.Unknown) = refl
-none_sooner (Some flaws.Unfit) = refl
-none_sooner (Some flaws.Large) = refl
+none_sooner flaw = refl
 
 -- a wrong form is the soonest
 sooner_form : (flaw : Option Flaw) → sooner_flaw flaw (Some flaws.Form) ≡ Some flaws.Form
 sooner_form None = refl
 sooner_form (Some flaws.Form) = refl
-sooner_form (Some flaws.Unknown) = refl
-sooner_form (Some flaws.Unfit) = refl
-sooner_form (Some flaws.Large) = refl
+sooner_form flaw = refl
 
 form_sooner : (flaw : Option Flaw) → sooner_flaw (Some flaws.Form) flaw ≡ Some flaws.Form
 form_sooner None = refl
 form_sooner (Some flaws.Form) = refl
-form_sooner (Some flaws.Unknown) = refl
-form_sooner (Some flaws.Unfit) = refl
-form_sooner (Some flaws.Large) = refl
+form_sooner flaw = refl
 
 -- of three it doesn't matter which two are compared first
 sooner_assoc : (first second third : Option Flaw)
@@ -66,9 +58,7 @@ sooner_sound first second is = at first second (nat_le (rank first) (rank second
     last : (flaw : Option Flaw) → rank None ≤ rank flaw → flaw ≡ None
     last None from = refl
     last (Some flaws.Form) from = absurd (omega (arith, from))
-    last (Some flaws.Unknown) from = absurd (omega (arith, from))
-    last (Some flaws.Unfit) from = absurd (omega (arith, from))
-    last (Some flaws.Large) from = absurd (omega (arith, from))
+    last flaw from = absurd (omega (arith, from))
 
     at : (first second : Option Flaw) (sooner : Bool) → nat_le (rank first) (rank second) ≡ sooner
         → (if sooner then first else second) ≡ None → (first ≡ None) × (second ≡ None)
@@ -85,9 +75,7 @@ sooner_sound first second is = at first second (nat_le (rank first) (rank second
         most : (flaw : Option Flaw) → rank flaw ≤ 4
         most None = omega arith
         most (Some flaws.Form) = omega arith
-        most (Some flaws.Unknown) = omega arith
-        most (Some flaws.Unfit) = omega arith
-        most (Some flaws.Large) = omega arith
+        most flaw = omega arith
 
 -- ---- one word
 

@@ -10,7 +10,7 @@ use Rattle.cts_model.specs.text.PrintedLines.{text_of}
 use Rattle.cts_model.specs.report.ReportBounds.{Spells, cycle_length}
 use Rattle.cts_model.specs.report.ReportLines.{report_lines}
 use Rattle.report_text.specs.declared.fault.ReportFault.{ReportFault}
-use Rattle.report_text.specs.declared.fault.ReportFault.TheVariants.{BadLine, UnknownRegister, Missing, Extra, TooLarge, NoMemory, UnknownSignal}
+use Rattle.report_text.specs.declared.fault.ReportFault.TheVariants.{NoMemory}
 use Rattle.report_text.specs.declared.form.Scale.{Scale}
 use Rattle.report_text.specs.Forms.{forms_of}
 use Rattle.report_text.specs.Laws.{OneReport}
@@ -82,12 +82,7 @@ no_fault circuit tech text report spells =
 -- a fault is want of memory or it isn't
 memory_or_not : (fault : ReportFault) → (fault ≡ NoMemory) ⊎ (fault ≢ NoMemory)
 memory_or_not NoMemory = inl refl
-memory_or_not (BadLine line) = inr (λ same. cc)
-memory_or_not (UnknownRegister line) = inr (λ same. cc)
-memory_or_not (Missing line) = inr (λ same. cc)
-memory_or_not (Extra line) = inr (λ same. cc)
-memory_or_not (TooLarge line) = inr (λ same. cc)
-memory_or_not (UnknownSignal line) = inr (λ same. cc)
+memory_or_not fault = inr (λ same. cc)
 
 -- a reader that answers a report only where the text spells it, and a fault only where the text has
 -- it, unless for want of memory

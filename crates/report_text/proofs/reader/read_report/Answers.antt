@@ -1,7 +1,4 @@
-use Rattle.std.proofs.Common.{rules, ◌≢◌, Some, Ok}
-use Rattle.report_text.specs.declared.fault.ReportFault.{ReportFault}
-use Rattle.report_text.specs.declared.fault.ReportFault.TheVariants.{NoMemory}
-use Rattle.report_text.specs.ReportFaults.{HasFault}
+use Rattle.std.proofs.Common.{rules, Ok}
 use Rattle.report_text.proofs.JudgedTexts.{fault_or_report}
 use Rattle.report_text.proofs.WalkLemmas.{passed_on}
 use Rattle.report_text.proofs.WholeTexts.{fault_read, spelled_read}
@@ -12,9 +9,7 @@ returns-in_err-parts-clause-ok c = search rules
 
 pub returns-in_err-parts-clause-fault : goal.returns-in_err-parts-clause-fault
 returns-in_err-parts-clause-fault c =
-    passed_on c.from_residual.result c.in_err-parts.field-0.0
-    (λ (found : ReportFault). found ≢ NoMemory → HasFault c.args.circuit.now c.args.tech.now
-    c.args.bytes.now (Some found)) c.from_residual.ensures.1 c.in_err-parts.ensures.fault
+    passed_on _ _ _ c.from_residual.ensures.1 c.in_err-parts.ensures.fault
 
 pub returns-in_err-parts-clause-read : goal.returns-in_err-parts-clause-read
 returns-in_err-parts-clause-read c =

@@ -1,7 +1,5 @@
 use Rattle.std.proofs.Common.{subst}
-use Rattle.cts_model.specs.declared.report.Version.TheVariants as version
 use Rattle.report_text.specs.declared.form.Form.TheVariants as form
-use Rattle.report_text.specs.Forms.{lead_forms}
 use Rattle.report_text.specs.Walks.{Stops}
 use Rattle.report_text.proofs.BodyLemmas.{leads_given}
 use Rattle.report_text.proofs.RowLemmas.{one_form}
@@ -13,9 +11,7 @@ returns-in_err-leads-in-Second-clause-fault c =
     let circuit = c.args.rules.now.circuit.now in
     let scale = c.args.rules.now.scale in
     let fault = c.in_err-leads-in-Second.field-0.0 in
-    rw c.in-Second.is (passed_on c.from_residual.result fault
-    (Stops circuit scale (lead_forms version.Second c.args.count) c.args.cursor.now)
-    c.from_residual.ensures.1
+    rw c.in-Second.is (passed_on _ _ _ c.from_residual.ensures.1
     (subst (λ forms. Stops circuit scale forms c.args.cursor.now fault)
     (one_form form.Lead 0 c.args.count) c.in_err-leads-in-Second.ensures.fault))
 

@@ -1,7 +1,6 @@
 use Rattle.std.proofs.Common.{[], ◌∷◌, arith}
 use Rattle.report_text.specs.declared.form.Form.TheVariants as form
-use Rattle.report_text.specs.Forms.{forms_after, lead_forms}
-use Rattle.report_text.specs.Walks.{Stops}
+use Rattle.report_text.specs.Forms.{lead_forms}
 use Rattle.report_text.proofs.BodyLemmas.{fifth_stops, first_stops, fourth_stops, lines_before_merges, merge_forms, node_forms, second_stops, third_stops}
 use Rattle.report_text.proofs.RowLemmas.{counted_number, counted_read}
 use Rattle.report_text.proofs.WalkLemmas.{passed_on, read_more, stop_before, stop_after, stop_line}
@@ -54,9 +53,7 @@ returns-in_err-timings-clause-fault c =
     let circuit = c.args.rules.now.circuit.now in
     let scale = c.args.rules.now.scale in
     let fault = c.in_err-timings.field-0.0 in
-    passed_on c.from_residual.result fault
-    (Stops circuit scale (forms_after c.args.version c.args.count) c.args.cursor.now)
-    c.from_residual.ensures.1
+    passed_on _ _ _ c.from_residual.ensures.1
     (first_stops circuit scale c.args.version c.args.count c.args.cursor.now fault
     c.in_err-timings.ensures.fault)
 
@@ -65,9 +62,7 @@ returns-in_err-leads-clause-fault c =
     let circuit = c.args.rules.now.circuit.now in
     let scale = c.args.rules.now.scale in
     let fault = c.in_err-leads.field-0.0 in
-    passed_on c.from_residual-in_err-leads.result fault
-    (Stops circuit scale (forms_after c.args.version c.args.count) c.args.cursor.now)
-    c.from_residual-in_err-leads.ensures.1
+    passed_on _ _ _ c.from_residual-in_err-leads.ensures.1
     (second_stops circuit scale c.args.version c.args.count c.args.cursor.now fault _
     c.read_counted.new.cursor (counted_read c.in_ok-timings.ensures.ok)
     c.in_err-leads.ensures.fault)
@@ -80,9 +75,7 @@ returns-in_err-merged-clause-fault c =
     let leads = read_more (counted_read c.in_ok-timings.ensures.ok)
     (lead_forms c.args.version c.args.count) _ c.read_leads.new.cursor
     c.in_ok-leads.ensures.ok.read in
-    passed_on c.from_residual-in_err-merged.result fault
-    (Stops circuit scale (forms_after c.args.version c.args.count) c.args.cursor.now)
-    c.from_residual-in_err-merged.ensures.1
+    passed_on _ _ _ c.from_residual-in_err-merged.ensures.1
     (third_stops circuit scale c.args.version c.args.count c.args.cursor.now fault _
     c.read_leads.new.cursor leads c.in_err-merged.ensures.fault)
 
@@ -96,9 +89,7 @@ returns-in_err-source-clause-fault c =
     c.in_ok-leads.ensures.ok.read in
     let merged = read_more leads (merge_forms c.args.count) _ c.read_counted-2.new.cursor
     (counted_read c.in_ok-merged.ensures.ok) in
-    passed_on c.from_residual-in_err-source.result fault
-    (Stops circuit scale (forms_after c.args.version c.args.count) c.args.cursor.now)
-    c.from_residual-in_err-source.ensures.1
+    passed_on _ _ _ c.from_residual-in_err-source.ensures.1
     (fourth_stops circuit scale c.args.version c.args.count c.args.cursor.now fault _
     c.read_counted-2.new.cursor merged
     (stop_before circuit scale (form.Source ∷ []) (node_forms c.args.count)
@@ -118,9 +109,7 @@ returns-in_err-placed-clause-fault c =
     (counted_read c.in_ok-merged.ensures.ok) in
     let source = c.in_ok-source.ensures.ok.line.read scale
     c.in_ok-source.ensures.ok.line.flawless in
-    passed_on c.from_residual-in_err-placed.result fault
-    (Stops circuit scale (forms_after c.args.version c.args.count) c.args.cursor.now)
-    c.from_residual-in_err-placed.ensures.1
+    passed_on _ _ _ c.from_residual-in_err-placed.ensures.1
     (fourth_stops circuit scale c.args.version c.args.count c.args.cursor.now fault _
     c.read_counted-2.new.cursor merged
     (stop_after source (node_forms c.args.count) fault c.in_err-placed.ensures.fault))
@@ -137,9 +126,7 @@ returns-in_err-total-clause-fault c =
     (counted_read c.in_ok-merged.ensures.ok) in
     let source = c.in_ok-source.ensures.ok.line.read scale
     c.in_ok-source.ensures.ok.line.flawless in
-    passed_on c.from_residual-in_err-total.result fault
-    (Stops circuit scale (forms_after c.args.version c.args.count) c.args.cursor.now)
-    c.from_residual-in_err-total.ensures.1
+    passed_on _ _ _ c.from_residual-in_err-total.ensures.1
     (fifth_stops circuit scale c.args.version c.args.count c.args.cursor.now fault _
     c.read_counted-3.new.cursor
     (read_more merged (form.Source ∷ node_forms c.args.count) _ c.read_counted-3.new.cursor

@@ -1,8 +1,5 @@
 use Rattle.std.proofs.Common.{[], ◌∷◌, arith}
 use Rattle.report_text.specs.declared.form.Form.TheVariants as form
-use Rattle.report_text.specs.declared.form.Scale.{Scale}
-use Rattle.report_text.specs.Headings.{heading_forms}
-use Rattle.report_text.specs.Walks.{Stops}
 use Rattle.report_text.proofs.HeadingLemmas.{heading_read, period_then, version_then}
 use Rattle.report_text.proofs.WalkLemmas.{passed_on, stop_before, stop_line}
 use Rattle.report_text.proofs.reader.heading.read_heading.Goals as goal
@@ -23,10 +20,7 @@ read-requires-3 c =
 
 pub returns-in_err-version-clause-fault : goal.returns-in_err-version-clause-fault
 returns-in_err-version-clause-fault c =
-    passed_on c.from_residual.result c.in_err-version.field-0.0
-    (λ fault. (scale : Scale) → Stops c.args.rules.now.circuit.now scale heading_forms
-    c.args.cursor.now
-    fault) c.from_residual.ensures.1
+    passed_on _ _ _ c.from_residual.ensures.1
     (λ scale. stop_before c.args.rules.now.circuit.now scale (form.Version ∷ [])
     (form.Period ∷ form.Show ∷ []) c.args.cursor.now c.in_err-version.field-0.0
     (stop_line c.args.rules.now.circuit.now scale form.Version c.args.cursor.now
@@ -35,10 +29,7 @@ returns-in_err-version-clause-fault c =
 
 pub returns-in_err-period-clause-fault : goal.returns-in_err-period-clause-fault
 returns-in_err-period-clause-fault c =
-    passed_on c.from_residual-in_err-period.result c.in_err-period.field-0.0
-    (λ fault. (scale : Scale) → Stops c.args.rules.now.circuit.now scale heading_forms
-    c.args.cursor.now
-    fault) c.from_residual-in_err-period.ensures.1
+    passed_on _ _ _ c.from_residual-in_err-period.ensures.1
     (λ scale. version_then c.in_ok-version.ensures.ok scale (form.Period ∷ form.Show ∷ [])
     c.in_err-period.field-0.0
     (stop_before c.args.rules.now.circuit.now scale (form.Period ∷ []) (form.Show ∷ [])
@@ -48,10 +39,7 @@ returns-in_err-period-clause-fault c =
 
 pub returns-in_err-show-clause-fault : goal.returns-in_err-show-clause-fault
 returns-in_err-show-clause-fault c =
-    passed_on c.from_residual-in_err-show.result c.in_err-show.field-0.0
-    (λ fault. (scale : Scale) → Stops c.args.rules.now.circuit.now scale heading_forms
-    c.args.cursor.now
-    fault) c.from_residual-in_err-show.ensures.1
+    passed_on _ _ _ c.from_residual-in_err-show.ensures.1
     (λ scale. version_then c.in_ok-version.ensures.ok scale (form.Period ∷ form.Show ∷ [])
     c.in_err-show.field-0.0
     (period_then c.in_ok-period.ensures.ok scale (form.Show ∷ []) c.in_err-show.field-0.0

@@ -1,13 +1,10 @@
-use Rattle.std.proofs.Common.{◌≡◌, ◌≢◌, ◌∙◌, Some, pos, subst, length, arith}
+use Rattle.std.proofs.Common.{◌≡◌, ◌∙◌, Some, pos, subst, length, arith}
 use Rattle.cts_model.specs.declared.circuit.Circuit.{Circuit}
-use Rattle.report_text.specs.declared.fault.ReportFault.{ReportFault}
-use Rattle.report_text.specs.declared.fault.ReportFault.TheVariants.{NoMemory}
 use Rattle.report_text.specs.declared.form.Scale.{Scale}
 use Rattle.report_text.specs.Bodies.{HasBody}
 use Rattle.report_text.specs.Forms.{cycle_forms, forms_after}
 use Rattle.report_text.specs.Headings.{HasHeading, HasShown, count_of, heading_forms}
 use Rattle.report_text.specs.Parts.{scale_in}
-use Rattle.report_text.specs.ReportFaults.{HasFault}
 use Rattle.report_text.specs.Walks.{Left, Stops}
 use Rattle.report_text.proofs.BodyLemmas.{body_ends}
 use Rattle.report_text.proofs.PartLemmas.{after_fault, body_fault, cycle_few, heading_fault, shown_fault}
@@ -16,10 +13,7 @@ use Rattle.report_text.proofs.reader.parts.read_parts.Goals as goal
 
 pub returns-in_err-heading-clause-fault : goal.returns-in_err-heading-clause-fault
 returns-in_err-heading-clause-fault c =
-    passed_on c.from_residual-in_err-heading.result c.in_err-heading.field-0.0
-    (λ (found : ReportFault). found ≢ NoMemory → HasFault c.args.circuit.now c.args.tech.now
-    c.args.bytes.now (Some found))
-    c.from_residual-in_err-heading.ensures.1
+    passed_on _ _ _ c.from_residual-in_err-heading.ensures.1
     (heading_fault c.args.circuit.now c.args.tech.now c.args.bytes.now c.in_err-heading.field-0.0
     (subst (λ (p : Circuit × Left). (scale : Scale) → Stops p.0 scale heading_forms p.1
     c.in_err-heading.field-0.0) (λ i. (c.in_ok-unscaled.ensures i, c.of-cursor.ensures i))
@@ -43,10 +37,7 @@ returns-in_err-shown-clause-fault c =
       (c.with_scale-rules.ensures.circuit ∙ c.in_ok-unscaled.ensures) i,
       (c.with_scale-rules.ensures.scale ∙ c.scale_of.ensures.value) i,
     ) in
-    passed_on c.from_residual-in_err-shown.result c.in_err-shown.field-0.0
-    (λ (found : ReportFault). found ≢ NoMemory → HasFault c.args.circuit.now c.args.tech.now
-    c.args.bytes.now (Some found))
-    c.from_residual-in_err-shown.ensures.1
+    passed_on _ _ _ c.from_residual-in_err-shown.ensures.1
     (shown_fault heading c.args.tech.now c.in_err-shown.field-0.0
     (subst (λ (p : Circuit × Scale). Stops p.0 p.1
     (cycle_forms c.in_ok-heading.heading.version (count_of c.in_ok-heading.heading.count))
@@ -81,10 +72,7 @@ returns-in_err-body-clause-fault c =
     let shown = subst (λ (p : Circuit × Scale). HasShown p.0 p.1 c.in_ok-heading.heading.version
     c.in_ok-heading.heading.count c.read_heading.new.cursor c.read_shown.new.cursor
     c.in_ok-shown.shown) given c.in_ok-shown.ensures.ok in
-    passed_on c.from_residual-in_err-body.result c.in_err-body.field-0.0
-    (λ (found : ReportFault). found ≢ NoMemory → HasFault c.args.circuit.now c.args.tech.now
-    c.args.bytes.now (Some found))
-    c.from_residual-in_err-body.ensures.1
+    passed_on _ _ _ c.from_residual-in_err-body.ensures.1
     (body_fault heading c.args.tech.now shown c.in_err-body.field-0.0
     (subst (λ (p : Circuit × Scale). Stops p.0 p.1
     (forms_after c.in_ok-heading.heading.version (length p.0.registers))
@@ -106,10 +94,7 @@ returns-in_err-at_end-clause-fault c =
     let body = subst (λ (p : Circuit × Scale). HasBody p.0 p.1 c.in_ok-heading.heading.version
     (length p.0.registers) c.read_shown.new.cursor c.read_body.new.cursor c.in_ok-body.body)
     given c.in_ok-body.ensures.ok in
-    passed_on c.from_residual-in_err-at_end.result c.in_err-at_end.field-0.0
-    (λ (found : ReportFault). found ≢ NoMemory → HasFault c.args.circuit.now c.args.tech.now
-    c.args.bytes.now (Some found))
-    c.from_residual-in_err-at_end.ensures.1
+    passed_on _ _ _ c.from_residual-in_err-at_end.ensures.1
     (λ named. after_fault heading c.args.tech.now shown (Some c.in_err-at_end.field-0.0)
     (body_ends body (Some c.in_err-at_end.field-0.0) c.in_err-at_end.ensures.fault))
 

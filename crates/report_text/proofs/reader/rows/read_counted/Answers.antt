@@ -1,7 +1,6 @@
 use Rattle.std.proofs.Common.{[], ◌∷◌, map, arith}
 use Rattle.std.specs.List.{range_with_len}
 use Rattle.report_text.specs.declared.form.Form.TheVariants as form
-use Rattle.report_text.specs.Walks.{Stops}
 use Rattle.report_text.proofs.WalkLemmas.{passed_on, stop_before, stop_after, stop_line}
 use Rattle.report_text.proofs.reader.rows.read_counted.Goals as goal
 
@@ -15,23 +14,15 @@ pub returns-in_err-read_count-clause-fault : goal.returns-in_err-read_count-clau
 returns-in_err-read_count-clause-fault g c =
     let circuit = c.args.rules.now.circuit.now in
     let scale = c.args.rules.now.scale in
-    let rows = map g.L.Line.due (range_with_len c.args.first c.args.count) in
-    passed_on c.from_residual.result c.in_err-read_count.field-0.0
-    (Stops circuit scale (form.Count c.args.word c.args.count ∷ rows) c.args.cursor.now)
-    c.from_residual.ensures.1
-    (stop_before circuit scale (form.Count c.args.word c.args.count ∷ []) rows c.args.cursor.now
+    passed_on _ _ _ c.from_residual.ensures.1
+    (stop_before circuit scale (form.Count c.args.word c.args.count ∷ [])
+    (map g.L.Line.due (range_with_len c.args.first c.args.count)) c.args.cursor.now
     c.in_err-read_count.field-0.0
     (stop_line circuit scale (form.Count c.args.word c.args.count)
     c.args.cursor.now c.in_err-read_count.field-0.0 c.in_err-read_count.ensures.fault))
 
 pub returns-in_err-rows-clause-fault : goal.returns-in_err-rows-clause-fault
 returns-in_err-rows-clause-fault g c =
-    let circuit = c.args.rules.now.circuit.now in
-    let scale = c.args.rules.now.scale in
     let line = c.in_ok-read_count.ensures.ok in
-    let rows = map g.L.Line.due (range_with_len c.args.first c.args.count) in
-    passed_on c.from_residual-in_err-rows.result c.in_err-rows.field-0.0
-    (Stops circuit scale (form.Count c.args.word c.args.count ∷ rows) c.args.cursor.now)
-    c.from_residual-in_err-rows.ensures.1
-    (stop_after (line.read scale line.flawless) rows c.in_err-rows.field-0.0
-    c.in_err-rows.ensures.fault)
+    passed_on _ _ _ c.from_residual-in_err-rows.ensures.1
+    (stop_after (line.read _ line.flawless) _ _ c.in_err-rows.ensures.fault)

@@ -2,7 +2,6 @@ use Rattle.std.proofs.Common.{[], ◌∷◌, arith}
 use Rattle.cts_model.specs.declared.report.Version.TheVariants as version
 use Rattle.report_text.specs.declared.form.Form.TheVariants as form
 use Rattle.report_text.specs.Forms.{cycle_forms}
-use Rattle.report_text.specs.Walks.{Stops}
 use Rattle.report_text.proofs.RowLemmas.{length_pathed, pathed_next, pathed_step}
 use Rattle.report_text.proofs.WalkLemmas.{next_stops, passed_on, stop_before, stop_after, stop_line}
 use Rattle.report_text.proofs.reader.rows.read_pathed.Goals as goal
@@ -37,10 +36,7 @@ read-requires-in-loop-place c =
 
 pub returns-in_err-constraint-clause-fault : goal.returns-in_err-constraint-clause-fault
 returns-in_err-constraint-clause-fault c =
-    passed_on c.from_residual.result c.in_err-constraint.field-0.0
-    (Stops c.args.rules.now.circuit.now c.args.rules.now.scale
-    (cycle_forms version.Second c.args.count)
-    c.args.cursor.now) c.from_residual.ensures.1
+    passed_on _ _ _ c.from_residual.ensures.1
     (next_stops (cycle_forms version.Second) (λ n. form.Constraint ∷ form.Path ∷ []) pathed_step
     c.loop-place._place c.args.count _ c.args.cursor.now c.loop-place.cursor
     c.in_err-constraint.field-0.0 c.loop-place-test.true c.loop-place.invariant.lines
@@ -54,10 +50,7 @@ returns-in_err-constraint-clause-fault c =
 pub returns-in_err-path-clause-fault : goal.returns-in_err-path-clause-fault
 returns-in_err-path-clause-fault c =
     let next = c.in_ok-constraint.ensures.ok in
-    passed_on c.from_residual-in_err-path.result c.in_err-path.field-0.0
-    (Stops c.args.rules.now.circuit.now c.args.rules.now.scale
-    (cycle_forms version.Second c.args.count)
-    c.args.cursor.now) c.from_residual-in_err-path.ensures.1
+    passed_on _ _ _ c.from_residual-in_err-path.ensures.1
     (next_stops (cycle_forms version.Second) (λ n. form.Constraint ∷ form.Path ∷ []) pathed_step
     c.loop-place._place c.args.count _ c.args.cursor.now c.loop-place.cursor
     c.in_err-path.field-0.0 c.loop-place-test.true c.loop-place.invariant.lines

@@ -1,7 +1,5 @@
-use Rattle.std.proofs.Common.{map, sym, subst, arith}
-use Rattle.std.specs.List.{range_with_len}
+use Rattle.std.proofs.Common.{sym, subst, arith}
 use Rattle.report_text.specs.Rows.{HasRows}
-use Rattle.report_text.specs.Walks.{Stops}
 use Rattle.report_text.proofs.RowLemmas.{no_rows, rows_next, rows_number, rows_stop}
 use Rattle.report_text.proofs.WalkLemmas.{passed_on}
 use Rattle.report_text.proofs.reader.rows.read_rows.Goals as goal
@@ -25,9 +23,7 @@ pub returns-in_err-row-clause-fault : goal.returns-in_err-row-clause-fault
 returns-in_err-row-clause-fault g c =
     let circuit = c.args.rules.now.circuit.now in
     let scale = c.args.rules.now.scale in
-    passed_on c.from_residual.result c.in_err-row.field-0.0
-    (Stops circuit scale (map g.L.Line.due (range_with_len c.args.first c.args.count))
-    c.args.cursor.now) c.from_residual.ensures.1
+    passed_on _ _ _ c.from_residual.ensures.1
     (rows_stop g.L.Line.due (g.L.Line.says circuit scale) c.args.first c.loop-place.invariant
     c.args.count c.in_err-row.field-0.0 c.loop-place-test.true c.in_err-row.ensures.fault)
 
