@@ -85,7 +85,10 @@ fn declaration<'a>(word: &'a [u8], name: &'a [u8]) -> Option<Statement<'a>>
 fn assignment<'a>(name: &'a [u8], mut tokens: Tokens<'a>) -> Option<Statement<'a>>
     ensures { option_map said_by result ≡ form_of (Word name.now ∷ Equals ∷ tokens.entry) }
 {
-    let (Token::Word(word), Token::Open) = (tokens.next()?, tokens.next()?) else {
+    let Token::Word(word) = tokens.next()? else {
+        return None;
+    };
+    let Token::Open = tokens.next()? else {
         return None;
     };
     let inputs = InputList::of(tokens)?;
@@ -97,12 +100,12 @@ fn closed_name<'a>(tokens: &mut Tokens<'a>) -> Option<&'a [u8]>
     ensures some { IfSome result (λ name. tokens.old ≡ Word name.now ∷ Close ∷ []) }
     ensures none { IsNone result → (name : List ℕ) → tokens.old ≢ Word name ∷ Close ∷ [] }
 {
-    let (Token::Word(name), Token::Close) = (tokens.next()?, tokens.next()?) else {
+    let Token::Word(name) = tokens.next()? else {
         return None;
     };
-    match tokens.next() {
-        None => Some(name),
-        Some(_) => None,
+    match tokens.next()? {
+        Token::Close if tokens.next().is_none() => Some(name),
+        _ => None,
     }
 }
 

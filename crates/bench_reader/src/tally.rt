@@ -6,7 +6,7 @@ ghost use Rattle.bench_reader.specs.Tallies.{tally_of, with_names};
 const MAX_NAME_BYTES: usize = 255;
 
 /// How many names there are, and whether none is too long.
-#[derive(Clone, Copy, Debug, PartialEq, Eq)]
+#[derive(Clone, Copy)]
 pub(crate) struct Tally {
     pub(crate) count: usize,
     pub(crate) are_short: bool,

@@ -33,7 +33,7 @@ const NAME_BYTES: [bool; 256] = [
 ];
 
 /// A token of a netlist's line.
-#[derive(Clone, Copy, Debug, PartialEq, Eq)]
+#[derive(Clone, Copy)]
 pub(crate) enum Token<'a> {
     /// A name or a word: a longest run of a name's bytes.
     Word(&'a [u8]),
