@@ -1,5 +1,5 @@
 -- What the reader of a command line tests of its words.
-use Rattle.std.specs.Prelude.{◌≡◌, ◌&&◌, ◌||◌, ◌*◌, Bool, true, false, not, if◌then◌else◌, List, [], ◌∷◌, ◌++◌, length, take, drop, Option, is_some, map}
+use Rattle.std.specs.Prelude.{◌≡◌, ◌&&◌, ◌||◌, ◌*◌, ℕ, Bool, true, false, not, if◌then◌else◌, List, [], ◌∷◌, ◌++◌, length, take, drop, Option, is_some, option_and_then, slice_get, map}
 use Rattle.std.specs.Str.{bytes_eq}
 use Rattle.std.specs.List.{list_all}
 use Rattle.command_line.specs.declared.table.Form.{Form}
@@ -59,6 +59,11 @@ tables_among form words =
 -- the values of a row's options
 abbrev pub row_values : (Word → Option Word) → List Choice → List (Option Word)
 row_values value_of choices = map (λ choice. value_of (word_of choice)) choices
+
+-- the value of the option at a place of a row, if it has one
+abbrev pub value_in_row : (Word → Option Word) → List Choice → (place : ℕ) → Option Word
+value_in_row value_of choices place =
+    option_and_then (λ choice. value_of (word_of choice)) (slice_get choices place)
 
 -- each option that is required has a value
 abbrev pub has_values : List Choice → List (Option Word) → Bool

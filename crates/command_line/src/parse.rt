@@ -1,10 +1,10 @@
 //! Plain words, read by a parser for the options of their command.
 
-ghost use Rattle.std.specs.Prelude.{◌≡◌, map, option_map, option_and_then, slice_get, string_bytes, true, false, IfOk, IfErr};
+ghost use Rattle.std.specs.Prelude.{◌≡◌, map, is_some, option_map, Some, string_bytes, true, false, IfOk, IfErr};
 ghost use Rattle.clap.specs.Words.{app_of, rule_of, kind_of, found_of, first_value};
-ghost use Rattle.command_line.specs.CommandTable.{choices_of, form_of, word_of};
+ghost use Rattle.command_line.specs.CommandTable.{choices_of, form_of};
 ghost use Rattle.command_line.specs.Commands.{values_of, tables_of, are_tables, IsCommand};
-ghost use Rattle.command_line.specs.PlainWords.{has_values, row_values, IsPlain};
+ghost use Rattle.command_line.specs.PlainWords.{has_values, row_values, value_in_row, IsPlain};
 ghost use Rattle.command_line.specs.Parsers.{long_name, rule_for, parser_for};
 
 use crate::command::Command;
@@ -42,59 +42,95 @@ fn command_of<'a>(form: Form, matches: &ArgMatches<'a>, tables: &'a [String]) ->
         ≡ row_values (first_value (found_of matches.now)) (choices_of form) }
 {
     let choices = form.row().1;
-    let values = [
-        value_at(choices, 0, matches),
-        value_at(choices, 1, matches),
-        value_at(choices, 2, matches),
-        value_at(choices, 3, matches),
-    ];
-    match (form, values) {
-        (Form::Zero, [Some(bench), tech, ..]) => Command::Zero { bench, tech },
-        (Form::Period, [Some(bench), Some(tech), ..]) => Command::Period { bench, tech },
-        (Form::Schedule, [Some(bench), Some(tech), ..]) => Command::Schedule { bench, tech },
-        (Form::Synth, [Some(bench), Some(tech), Some(pl), _]) => Command::Synth { bench, tech, pl },
-        (Form::Check, [Some(bench), Some(tech), Some(pl), Some(report)]) => {
+    let first = word_at(choices, 0, matches);
+    let second = word_at(choices, 1, matches);
+    let third = word_at(choices, 2, matches);
+    let fourth = word_at(choices, 3, matches);
+    match form {
+        Form::Zero => {
+            Command::Zero {
+                bench: first,
+                tech: value_at(choices, 1, matches),
+            }
+        }
+        Form::Period => {
+            Command::Period {
+                bench: first,
+                tech: second,
+            }
+        }
+        Form::Schedule => {
+            Command::Schedule {
+                bench: first,
+                tech: second,
+            }
+        }
+        Form::Synth => {
+            Command::Synth {
+                bench: first,
+                tech: second,
+                pl: third,
+            }
+        }
+        Form::Check => {
             Command::Check {
-                bench,
-                tech,
-                pl,
-                report,
+                bench: first,
+                tech: second,
+                pl: third,
+                report: fourth,
             }
         }
-        (Form::Demo, [Some(registers), Some(seed), ..]) => Command::Demo { registers, seed },
-        (Form::Margin, [Some(bench), Some(tech), Some(period), _]) => {
+        Form::Demo => {
+            Command::Demo {
+                registers: first,
+                seed: second,
+            }
+        }
+        Form::Margin => {
             Command::Margin {
-                bench,
-                tech,
-                period,
+                bench: first,
+                tech: second,
+                period: third,
             }
         }
-        (Form::Embed, [Some(bench), Some(tech), Some(pl), Some(topology)]) => {
+        Form::Embed => {
             Command::Embed {
-                bench,
-                tech,
-                pl,
-                topology,
+                bench: first,
+                tech: second,
+                pl: third,
+                topology: fourth,
             }
         }
-        (Form::Moves, [Some(bench), Some(tech), Some(pl), Some(moves)]) => {
+        Form::Moves => {
             Command::Moves {
-                bench,
-                tech,
-                pl,
-                moves,
+                bench: first,
+                tech: second,
+                pl: third,
+                moves: fourth,
             }
         }
-        (Form::Corners, [Some(bench), ..]) => Command::Corners { bench, tables },
-        _ => unreachable!(),
+        Form::Corners => {
+            Command::Corners {
+                bench: first,
+                tables,
+            }
+        }
     }
+}
+
+// The value of the option at this place of a row, if it has one, and else no bytes.
+fn word_at<'a>(choices: &[Choice], place: usize, matches: &ArgMatches<'a>) -> &'a str
+    ensures { is_some (value_in_row (first_value (found_of matches.now)) choices.now place) ≡ true
+        → Some result.now
+        ≡ value_in_row (first_value (found_of matches.now)) choices.now place }
+{
+    value_at(choices, place, matches).unwrap_or("")
 }
 
 // The value of the option at this place of a row.
 fn value_at<'a>(choices: &[Choice], place: usize, matches: &ArgMatches<'a>) -> Option<&'a str>
-    ensures { option_map (λ word. word.now) result ≡ option_and_then
-        (λ choice. first_value (found_of matches.now) (word_of choice))
-        (slice_get choices.now place) }
+    ensures { option_map (λ word. word.now) result
+        ≡ value_in_row (first_value (found_of matches.now)) choices.now place }
 {
     matches.get_str(choices.get(place)?.word())
 }
