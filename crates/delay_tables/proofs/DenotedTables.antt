@@ -1,5 +1,7 @@
 -- The delay table that a document denotes.
-use Rattle.std.proofs.Common.{◌≡◌, ℕ, ℤ, pos, ◌*ℤ◌, List, [], ◌∷◌, map, codes, None}
+use Rattle.std.proofs.Common.{◌≡◌, ℕ, ℤ, pos, ◌*ℤ◌, FitsSigned, of_z, to_z, List, [], ◌∷◌, map, codes, None, ◌∙◌}
+use mir.Syntax.{w128}
+use Rattle.std.proofs.lemmas.Int.{to_z-of_z}
 use Rattle.std.specs.Option.{option_or}
 use Rattle.toml.specs.Data.{Members}
 use Rattle.cts_base.specs.Fractions.{IsLowest}
@@ -46,6 +48,11 @@ is_table document num den wire_num wire_den setup hold least greatest floor gate
       floor_within = top.floor;
       gates_within = gates_within document none order.1;
     }))
+
+-- a number that a call gives is kept as an `i128` as it is
+pub held : (number other : ℤ) → FitsSigned w128 number → number ≡ other
+    → to_z w128 (of_z w128 number) ≡ other
+held number other fits is = to_z-of_z w128 number fits ∙ is
 
 -- numbers that are those of the fraction that a text writes have its value
 pub fraction_denoted : (text : List ℕ) (num den wire_num wire_den : ℤ)

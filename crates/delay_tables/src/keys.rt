@@ -4,7 +4,7 @@ ghost use Rattle.cts_model.specs.table.TableKeys.{word_of};
 use cts_model::Kind;
 
 /// What stands at a key.
-#[derive(Clone, Copy, Debug)]
+#[derive(Clone, Copy)]
 pub(crate) enum Form {
     /// A text `a/b`, or `a` for `a/1`, in digits: whole numbers of 1 to 1,000,000.
     Fraction,
@@ -15,7 +15,7 @@ pub(crate) enum Form {
 }
 
 /// Where a key has to be given.
-#[derive(Clone, Copy, Debug)]
+#[derive(Clone, Copy)]
 pub(crate) enum Need {
     Always,
     /// Where its table is there.
@@ -24,7 +24,7 @@ pub(crate) enum Need {
     Optional,
 }
 
-#[derive(Clone, Copy, Debug)]
+#[derive(Clone, Copy)]
 pub(crate) struct Key {
     pub(crate) name: &'static str,
     pub(crate) form: Form,
@@ -43,7 +43,7 @@ macro_rules! key {
 }
 
 /// A table at the top of the document, and its keys.
-#[derive(Clone, Copy, Debug)]
+#[derive(Clone, Copy)]
 pub(crate) struct Section {
     pub(crate) name: &'static str,
     pub(crate) keys: &'static [Key],

@@ -1,8 +1,7 @@
-use Rattle.std.proofs.Common.{◌≡◌, [], ◌∷◌, codes, true, arith}
-use Rattle.std.proofs.lemmas.Int.{ints}
+use Rattle.std.proofs.Common.{◌≡◌, [], ◌∷◌, codes, true}
 use Rattle.cts_model.specs.table.TableValues.{text_at, is_small_fraction}
 use Rattle.delay_tables.proofs.Fractions.{numerator_within, denominator_within}
-use Rattle.delay_tables.proofs.DenotedTables.{is_table, fraction_denoted}
+use Rattle.delay_tables.proofs.DenotedTables.{fraction_denoted, held, is_table}
 use Rattle.toml.specs.View.{table_view}
 use Rattle.delay_tables.proofs.FlawlessTables.{is_top_within}
 use Rattle.delay_tables.proofs.table.table_denoted.Goals as goal
@@ -31,13 +30,14 @@ invariant_of-result c =
     record {
       valid = is_table (table_view c.args.document.now) wire.result.num wire.result.den
           _ _ _ _ _ _ _ _ c.requires.keys c.requires.order num den lowest
-          (omega (arith, ints)) (omega (arith, ints))
+          (held c.num.result _ (record { sfits = c.num.type_inv }) c.num.ensures.value)
+          (held c.den.result _ (record { sfits = c.den.type_inv }) c.den.ensures.value)
           (record {
-            setup_is = omega (arith, ints);
-            hold_is = omega (arith, ints);
-            least_is = omega (arith, ints);
-            greatest_is = omega (arith, ints);
-            floor_is = omega (arith, ints);
+            setup_is = held c.number_at.result _ (record { sfits = c.number_at.type_inv }) c.number_at.ensures;
+            hold_is = held c.number_at-2.result _ (record { sfits = c.number_at-2.type_inv }) c.number_at-2.ensures;
+            least_is = held c.number_at-3.result _ (record { sfits = c.number_at-3.type_inv }) c.number_at-3.ensures;
+            greatest_is = held c.number_at-4.result _ (record { sfits = c.number_at-4.type_inv }) c.number_at-4.ensures;
+            floor_is = held c.number_at-5.result _ (record { sfits = c.number_at-5.type_inv }) c.number_at-5.ensures;
             gates_are = c.gate_delays.ensures;
           });
     }
@@ -48,14 +48,15 @@ returns c =
     let wire = c.lowest_terms-wire in
     let value = rw (c.as_bytes.ensures.value, c.text_at.ensures) at wire.ensures.value in
     record {
-      wire = fraction_denoted text wire.result.num wire.result.den _ _ (omega (arith, ints))
-          (omega (arith, ints)) value;
+      wire = fraction_denoted text wire.result.num wire.result.den _ _
+          (held c.num.result _ (record { sfits = c.num.type_inv }) c.num.ensures.value)
+          (held c.den.result _ (record { sfits = c.den.type_inv }) c.den.ensures.value) value;
       source = c.in_ok-name_at.ensures;
-      setup = omega (arith, ints);
-      hold = omega (arith, ints);
-      least = omega (arith, ints);
-      greatest = omega (arith, ints);
+      setup = held c.number_at.result _ (record { sfits = c.number_at.type_inv }) c.number_at.ensures;
+      hold = held c.number_at-2.result _ (record { sfits = c.number_at-2.type_inv }) c.number_at-2.ensures;
+      least = held c.number_at-3.result _ (record { sfits = c.number_at-3.type_inv }) c.number_at-3.ensures;
+      greatest = held c.number_at-4.result _ (record { sfits = c.number_at-4.type_inv }) c.number_at-4.ensures;
       host = c.in_ok-name_at-2.ensures;
-      floor = omega (arith, ints);
+      floor = held c.number_at-5.result _ (record { sfits = c.number_at-5.type_inv }) c.number_at-5.ensures;
       gates = c.gate_delays.ensures;
     }
