@@ -1,4 +1,4 @@
-ghost use Rattle.std.specs.Prelude.{◌≡◌, ◌<◌, ◌-◌, ◌^◌, ◌∷◌, Some, None, if◌then◌else◌};
+ghost use Rattle.std.specs.Prelude.{◌≡◌, ◌<◌, ◌-◌, ◌^◌, [], ◌∷◌, Some, None, if◌then◌else◌};
 ghost use Rattle.std.specs.Str.Parse.{digits_value};
 ghost use Rattle.cts_base.specs.NumberTexts.{is_plain_numeral};
 ghost use Rattle.cts_model.specs.text.Entries.{words_in};
@@ -22,12 +22,25 @@ pub(crate) fn merge_of(due: u32, made: &[u8], mut words: Words) -> Option<Merge>
     ensures { result ≡ (if is_entry due (made.now ∷ words.entry)
         then Some (kept_merge (merge_of (made.now ∷ words.entry))) else None) }
 {
-    let made = number_of(made)?;
-    let one = number_of(words.next()?)?;
-    let other = number_of(words.next()?)?;
-    if made != due || words.next().is_some() {
+    let one = words.next()?;
+    let other = words.next()?;
+    if words.next().is_some() {
         return None;
     }
+    merge_of_words(due, made, one, other)
+}
+
+// The same of three words.
+fn merge_of_words(due: u32, made: &[u8], one: &[u8], other: &[u8]) -> Option<Merge>
+    requires { due < 2 ^ 32 - 1 }
+    ensures { result ≡ (if is_entry due (made.now ∷ one.now ∷ other.now ∷ [])
+        then Some (kept_merge (merge_of (made.now ∷ one.now ∷ other.now ∷ []))) else None) }
+{
+    if number_of(made)? != due {
+        return None;
+    }
+    let one = number_of(one)?;
+    let other = number_of(other)?;
     Some(Merge {
         first: one.min(other),
         second: one.max(other),
