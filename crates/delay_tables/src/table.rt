@@ -7,7 +7,7 @@ ghost use Rattle.cts_model.specs.table.AcceptedTables.{DenotesTable};
 
 use crate::document::{number_at, table_at, text_at};
 use crate::fraction::lowest_terms;
-use crate::keys::{GATES, gate_name};
+use crate::keys::gate_name;
 use cts_base::{Listed, Name, NoMemory};
 use cts_model::{GateDelay, Kind, Tech};
 use std::alloc::Global;
@@ -47,7 +47,16 @@ fn name_at(alloc: Global, document: &Table, table: &str) -> Result<Name, NoMemor
 fn gate_delays(document: &Table) -> [GateDelay; 8]
     ensures { result ≡ map (denoted.gate_delay_at (table_view document.now)) tables.gate_kinds }
 {
-    GATES.map(|kind| gate_delay(document, kind))
+    [
+        gate_delay(document, Kind::And),
+        gate_delay(document, Kind::Nand),
+        gate_delay(document, Kind::Or),
+        gate_delay(document, Kind::Nor),
+        gate_delay(document, Kind::Not),
+        gate_delay(document, Kind::Xor),
+        gate_delay(document, Kind::Xnor),
+        gate_delay(document, Kind::Buff),
+    ]
 }
 
 fn gate_delay(document: &Table, kind: Kind) -> GateDelay
