@@ -10,23 +10,15 @@ import sys
 
 ROOT = os.path.dirname(os.path.dirname(os.path.abspath(__file__)))
 PROMISES = [
-    ("cts_program", "Headline", "IsSynthesisText"),
-    ("cts_program", "Headline", "IsEmbeddingText"),
-    ("cts_program", "MoveTexts", "IsMovesText"),
-    ("cts_program", "MarginTexts", "IsMarginText"),
-    ("cts_program", "CornerTexts", "IsCornersText"),
+    ("answer_texts", "Headline", "IsSynthesisText"),
+    ("answer_texts", "Headline", "IsEmbeddingText"),
+    ("answer_texts", "MoveTexts", "IsMovesText"),
+    ("answer_texts", "MarginTexts", "IsMarginText"),
+    ("answer_texts", "CornerTexts", "IsCornersText"),
 ]
 RUN = "crates/cts_program/src/run.rt"
 # What the headline says of the chip: its period, its arrivals, its skews and its wire.
-CORE = [
-    ("cts_model", "timing.LeastPeriods", "IsLeastFraction"),
-    ("cts_model", "timing.Schedules", "IsLeastSchedule"),
-    ("cts_model", "tree.RealisedSchedules", "RealisesSchedule"),
-    ("cts_model", "tree.WireDelays", "MeetsByWire"),
-    ("cts_model", "tree.SkewLaws", "IsLeastForSchedule"),
-    ("cts_model", "tree.Embeddings", "total_wire"),
-    ("cts_engine", "Syntheses", "AreDrawn"),
-]
+CORE = [("outcomes", "Syntheses", "IsSynthesis")]
 HEAD = re.compile(r"(?:abbrev|unfoldable)? ?pub (?:record |data )?([^\s({:]+)")
 NAME = re.compile(r"[A-Za-z_][\w'-]*(?:\.[A-Za-z_][\w'-]*)?")
 USE = re.compile(r"(?:pub |ghost )?use Rattle\.(\w+)\.(?:specs|proofs)\.([\w.]+?)(?:\.\{(.*)\}| as (\w+));?$")

@@ -47,74 +47,54 @@ fn command_of<'a>(form: Form, matches: &ArgMatches<'a>, tables: &'a [String]) ->
     let third = word_at(choices, 2, matches);
     let fourth = word_at(choices, 3, matches);
     match form {
-        Form::Zero => {
-            Command::Zero {
-                bench: first,
-                tech: value_at(choices, 1, matches),
-            }
-        }
-        Form::Period => {
-            Command::Period {
-                bench: first,
-                tech: second,
-            }
-        }
-        Form::Schedule => {
-            Command::Schedule {
-                bench: first,
-                tech: second,
-            }
-        }
-        Form::Synth => {
-            Command::Synth {
-                bench: first,
-                tech: second,
-                pl: third,
-            }
-        }
-        Form::Check => {
-            Command::Check {
-                bench: first,
-                tech: second,
-                pl: third,
-                report: fourth,
-            }
-        }
-        Form::Demo => {
-            Command::Demo {
-                registers: first,
-                seed: second,
-            }
-        }
-        Form::Margin => {
-            Command::Margin {
-                bench: first,
-                tech: second,
-                period: third,
-            }
-        }
-        Form::Embed => {
-            Command::Embed {
-                bench: first,
-                tech: second,
-                pl: third,
-                topology: fourth,
-            }
-        }
-        Form::Moves => {
-            Command::Moves {
-                bench: first,
-                tech: second,
-                pl: third,
-                moves: fourth,
-            }
-        }
-        Form::Corners => {
-            Command::Corners {
-                bench: first,
-                tables,
-            }
-        }
+        Form::Zero => Command::Zero {
+            bench: first,
+            tech: value_at(choices, 1, matches),
+        },
+        Form::Period => Command::Period {
+            bench: first,
+            tech: second,
+        },
+        Form::Schedule => Command::Schedule {
+            bench: first,
+            tech: second,
+        },
+        Form::Synth => Command::Synth {
+            bench: first,
+            tech: second,
+            pl: third,
+        },
+        Form::Check => Command::Check {
+            bench: first,
+            tech: second,
+            pl: third,
+            report: fourth,
+        },
+        Form::Demo => Command::Demo {
+            registers: first,
+            seed: second,
+        },
+        Form::Margin => Command::Margin {
+            bench: first,
+            tech: second,
+            period: third,
+        },
+        Form::Embed => Command::Embed {
+            bench: first,
+            tech: second,
+            pl: third,
+            topology: fourth,
+        },
+        Form::Moves => Command::Moves {
+            bench: first,
+            tech: second,
+            pl: third,
+            moves: fourth,
+        },
+        Form::Corners => Command::Corners {
+            bench: first,
+            tables,
+        },
     }
 }
 

@@ -1,30 +1,18 @@
 -- What `cts_schedule` answers: the least period, when the clock is to reach each register and what
 -- the register has to spare, or what forbids every period. Fishburn, "Clock Skew Optimization",
 -- 1990.
-use Rattle.std.specs.Prelude.{◌≡◌, ◌↔◌, ℕ, List, ◌++◌}
+use Rattle.std.specs.Prelude.{◌≡◌, ◌↔◌, ℕ, List}
 use Rattle.cts_model.specs.declared.circuit.Circuit.{Circuit}
 use Rattle.cts_model.specs.declared.tech.Tech.{Tech}
-use Rattle.cts_model.specs.text.PrintedLines.{Words, text_of}
+use Rattle.cts_model.specs.text.PrintedLines.{text_of}
 use Rattle.cts_model.specs.timing.LeastPeriods.{HasNoPeriod}
 use Rattle.cts_model.specs.timing.PairLists.{JoinsMoreThan}
 use Rattle.cts_engine.specs.Accepted.{TellBoth}
-use Rattle.cts_engine.specs.Outcomes.{BeginsLowest, IsNeverOutcome}
-use Rattle.cts_engine.specs.ScheduleOutcomes.{period_outcome, IsScheduleOutcome}
-use Rattle.cts_engine.specs.declared.scheduling.ScheduleOutcome.{ScheduleOutcome}
-use Rattle.cts_engine.specs.declared.scheduling.ScheduleOutcome.TheVariants.{Found, Never}
-use Rattle.timing_text.specs.PeriodLines.{found_lines, never_lines}
-use Rattle.timing_text.specs.ScheduleLines.{register_lines}
-
--- the lines for an outcome
-abbrev pub schedule_lines : Circuit → ScheduleOutcome → List Words
-schedule_lines circuit (Found zero period shown schedule slacks) =
-    found_lines circuit zero period shown ++ register_lines circuit schedule slacks
-schedule_lines circuit (Never cycle) = never_lines circuit cycle
-
--- the status for an outcome
-abbrev pub schedule_status : ScheduleOutcome → ℕ
-schedule_status (Found zero period shown schedule slacks) = 0
-schedule_status (Never cycle) = 1
+use Rattle.outcomes.specs.PeriodOutcomes.{BeginsLowest, IsNeverOutcome}
+use Rattle.outcomes.specs.ScheduleOutcomes.{period_outcome, IsScheduleOutcome}
+use Rattle.outcomes.specs.declared.scheduling.ScheduleOutcome.{ScheduleOutcome}
+use Rattle.answer_texts.specs.PeriodTexts.{outcome_status}
+use Rattle.answer_texts.specs.ScheduleTexts.{schedule_lines}
 
 -- two texts tell a circuit and its delays, and the bytes are the text for its least schedule, with
 -- the status
@@ -37,5 +25,5 @@ pub record IsScheduleText (bench tech : List ℕ) (status : ℕ) (text : List �
   pub made : IsScheduleOutcome circuit delays outcome
   pub lowest : BeginsLowest (period_outcome outcome)
   pub never : IsNeverOutcome (period_outcome outcome) ↔ HasNoPeriod circuit delays
-  pub status_is : status ≡ schedule_status outcome
+  pub status_is : status ≡ outcome_status (period_outcome outcome)
   pub spelled : text ≡ text_of (schedule_lines circuit outcome)

@@ -1,11 +1,11 @@
 //! How the text of an answer is handed to the caller.
 
 ghost use Rattle.std.specs.Prelude.{◌≡◌, ◌⊎◌};
-ghost use Rattle.timing_text.specs.Endings.{ending_status};
+ghost use Rattle.answer_texts.specs.Endings.{ending_status};
 ghost use Rattle.cts_c.specs.Buffers.{IsHanded, IsTooLarge};
 ghost use Rattle.cts_c.specs.Statuses.{IsEnding};
 
-use timing_text::Answer;
+use answer_texts::Answer;
 
 // The status where a buffer is too small for the text.
 const TOO_SMALL: u32 = 5;

@@ -3,24 +3,20 @@
 ghost use Rattle.std.specs.Prelude.{◌≡◌, ◌≢◌, ℕ, List, IfOk, IfErr};
 ghost use Rattle.cts_model.specs.declared.circuit.Circuit.{Circuit};
 ghost use Rattle.cts_model.specs.declared.tech.Tech.{Tech};
-ghost use Rattle.cts_model.specs.text.PrintedLines.{text_of};
 ghost use Rattle.cts_model.specs.timing.PairLists.{JoinsMoreThan};
 ghost use Rattle.cts_engine.specs.Accepted.{TellBoth};
-ghost use Rattle.cts_engine.specs.ScheduleOutcomes.{HasSmallTimes, IsScheduleOutcome};
 ghost use Rattle.cts_c.specs.Buffers.{IsHanded, IsTooLarge, IsNone};
 ghost use Rattle.cts_c.specs.Refusals.{AreBothShort, RefusesSchedule, FailsFor};
-ghost use Rattle.cts_c.specs.ScheduleTexts.{schedule_lines, schedule_status, IsScheduleText};
+ghost use Rattle.cts_c.specs.ScheduleTexts.{IsScheduleText};
 ghost use Rattle.cts_c.specs.Statuses.{IsEnding, IsFailure, IsStatus};
-ghost use Rattle.timing_text.specs.Endings.{ending_status};
+ghost use Rattle.answer_texts.specs.Endings.{ending_status};
 
 use crate::answer::hand_over;
 use crate::failure::Failure;
 use crate::texts::circuit_of;
-use cts_base::NoMemory;
-use cts_engine::{ScheduleOutcome, schedule_of};
-use cts_model::Circuit;
+use answer_texts::{Answer, schedule_answer};
+use cts_engine::schedule_of;
 use std::alloc::Global;
-use timing_text::{Answer, push_found, push_registers};
 
 /// Writes what `cts schedule` prints for a netlist and a delay table to the beginning of `out`, and
 /// how many bytes it is to `size`. Gives the program's exit status.
@@ -51,7 +47,7 @@ pub extern "C" fn cts_schedule(
     ensures none { IsFailure result → IsNone out.old out.new size.new }
     ensures statuses { IsStatus result }
 {
-    match schedule_answer(alloc, bench, tech) {
+    match answer_for(alloc, bench, tech) {
         Ok(answer) => hand_over(&answer, out, size),
         Err(failure) => {
             *size = 0;
@@ -61,7 +57,7 @@ pub extern "C" fn cts_schedule(
 }
 
 // What is answered for two texts.
-fn schedule_answer(alloc: Global, bench: &[u8], tech: &[u8]) -> Result<Answer, Failure>
+fn answer_for(alloc: Global, bench: &[u8], tech: &[u8]) -> Result<Answer, Failure>
     ensures text { IfOk result (λ answer. IsScheduleText bench.now tech.now
         (ending_status answer.ending) answer.text.items) }
     ensures cause { IfErr result (FailsFor (RefusesSchedule bench.now tech.now)) }
@@ -71,35 +67,5 @@ fn schedule_answer(alloc: Global, bench: &[u8], tech: &[u8]) -> Result<Answer, F
 {
     let denoted = circuit_of(alloc, bench, tech)?;
     let outcome = schedule_of(alloc, &denoted.circuit, &denoted.tech)?;
-    Ok(outcome_answer(alloc, &denoted.circuit, &outcome)?)
-}
-
-// The answer for the least schedule of a circuit, or for that no period will do.
-fn outcome_answer(
-    alloc: Global,
-    circuit: &Circuit,
-    outcome: &ScheduleOutcome,
-) -> Result<Answer, NoMemory>
-    requires outcome { (tech : Tech) × IsScheduleOutcome circuit.now tech outcome.now }
-    requires small { HasSmallTimes outcome.now }
-    ensures status { IfOk result (λ answer.
-        ending_status answer.ending ≡ schedule_status outcome.now) }
-    ensures text { IfOk result (λ answer.
-        answer.text.items ≡ text_of (schedule_lines circuit.now outcome.now)) }
-{
-    match outcome {
-        ScheduleOutcome::Found {
-            zero,
-            period,
-            shown,
-            schedule,
-            slacks,
-        } => {
-            let mut text = Vec::new(alloc);
-            push_found(&mut text, circuit, zero, *period, shown)?;
-            push_registers(&mut text, circuit, schedule, slacks.as_slice())?;
-            Ok(Answer::done(text))
-        }
-        ScheduleOutcome::Never { cycle } => Answer::never(alloc, circuit, cycle.as_slice()),
-    }
+    Ok(schedule_answer(alloc, &denoted.circuit, &outcome)?)
 }

@@ -2,25 +2,20 @@
 
 ghost use Rattle.std.specs.Prelude.{◌≡◌, ◌≢◌, ℕ, List, IfOk, IfErr};
 ghost use Rattle.cts_model.specs.declared.problem.Problem.{Problem};
-ghost use Rattle.cts_model.specs.text.PrintedLines.{text_of};
 ghost use Rattle.cts_model.specs.timing.PairLists.{JoinsMoreThan};
 ghost use Rattle.cts_engine.specs.Accepted.{TellAll};
-ghost use Rattle.cts_engine.specs.SynthesisOutcomes.{IsOutcome};
 ghost use Rattle.cts_c.specs.Buffers.{IsHanded, IsTooLarge, IsNone};
 ghost use Rattle.cts_c.specs.Refusals.{AreAllShort, RefusesTree, FailsFor};
 ghost use Rattle.cts_c.specs.Statuses.{IsEnding, IsFailure, IsStatus};
-ghost use Rattle.timing_text.specs.Endings.{ending_status};
-ghost use Rattle.cts_c.specs.SynthTexts.{outcome_lines, outcome_status, IsSynthText};
+ghost use Rattle.answer_texts.specs.Endings.{ending_status};
+ghost use Rattle.cts_c.specs.SynthTexts.{IsSynthText};
 
 use crate::answer::hand_over;
 use crate::failure::Failure;
 use crate::texts::problem_of;
-use cts_base::NoMemory;
-use cts_engine::{Outcome, synthesize};
-use cts_model::Problem;
-use report_text::write_report;
+use answer_texts::{Answer, tree_answer};
+use cts_engine::synthesize;
 use std::alloc::Global;
-use timing_text::Answer;
 
 /// Writes what `cts synth` prints for a netlist, a delay table and a placement to the beginning of
 /// `out`, and how many bytes it is to `size`. Gives the program's exit status.
@@ -52,7 +47,7 @@ pub extern "C" fn cts_synth(
     ensures none { IsFailure result → IsNone out.old out.new size.new }
     ensures statuses { IsStatus result }
 {
-    match synth_answer(alloc, bench, tech, pl) {
+    match answer_for(alloc, bench, tech, pl) {
         Ok(answer) => hand_over(&answer, out, size),
         Err(failure) => {
             *size = 0;
@@ -62,7 +57,7 @@ pub extern "C" fn cts_synth(
 }
 
 // What is answered for three texts.
-fn synth_answer(alloc: Global, bench: &[u8], tech: &[u8], pl: &[u8]) -> Result<Answer, Failure>
+fn answer_for(alloc: Global, bench: &[u8], tech: &[u8], pl: &[u8]) -> Result<Answer, Failure>
     ensures text { IfOk result (λ answer. IsSynthText bench.now tech.now pl.now
         (ending_status answer.ending) answer.text.items) }
     ensures cause { IfErr result (FailsFor (RefusesTree bench.now tech.now pl.now)) }
@@ -72,22 +67,5 @@ fn synth_answer(alloc: Global, bench: &[u8], tech: &[u8], pl: &[u8]) -> Result<A
 {
     let problem = problem_of(alloc, bench, tech, pl)?;
     let outcome = synthesize(alloc, &problem)?;
-    Ok(outcome_answer(alloc, &problem, &outcome)?)
-}
-
-// The answer for the clock tree of a problem, or for that no period will do.
-fn outcome_answer(alloc: Global, problem: &Problem, outcome: &Outcome) -> Result<Answer, NoMemory>
-    requires { IsOutcome problem.now outcome.now }
-    ensures status { IfOk result (λ answer.
-        ending_status answer.ending ≡ outcome_status outcome.now) }
-    ensures text { IfOk result (λ answer.
-        answer.text.items ≡ text_of (outcome_lines problem.now.circuit outcome.now)) }
-{
-    match outcome {
-        Outcome::Done(report) => {
-            let text = write_report(alloc, report, &problem.circuit)?;
-            Ok(Answer::done(text))
-        }
-        Outcome::Never(cycle) => Answer::never(alloc, &problem.circuit, cycle.as_slice()),
-    }
+    Ok(tree_answer(alloc, &problem, &outcome)?)
 }

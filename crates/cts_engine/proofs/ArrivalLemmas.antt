@@ -19,7 +19,7 @@ use Rattle.cts_model.specs.timing.LeastPeriods.{IsLeastFraction}
 use Rattle.cts_model.specs.timing.Schedules.{AreFromZero, IsSmallPeriod, arrival_of}
 use Rattle.cts_model.specs.table.Tables.{IsWithin}
 use Rattle.schedule.specs.Schedules.{AreWithinWeights, IsAdmittedBy}
-use Rattle.cts_engine.specs.Outcomes.{AreConstraintsOf, HasSmallPairs}
+use Rattle.cts_engine.specs.PairConstraints.{AreConstraintsOf, HasSmallPairs}
 use Rattle.cts_engine.specs.RegisterTimes.{AreTreeArrivals}
 use Rattle.cts_engine.proofs.DelayLemmas.{weight_small}
 

@@ -23,7 +23,7 @@ use Rattle.cts_model.specs.timing.Slacks.{AreSlacks, IsLeastSpare, IsSlackOf, ho
 use Rattle.cts_model.specs.table.Tables.{IsWithin}
 use Rattle.cts_model.proofs.ScaleLemmas.{scale_le, size_same}
 use Rattle.path_delays.specs.JoinedPairs.{ArePairs}
-use Rattle.cts_engine.specs.Outcomes.{HasSmallPairs}
+use Rattle.cts_engine.specs.PairConstraints.{HasSmallPairs}
 
 -- listed pairs have small delays
 pub small_pairs : (circuit : Circuit) (tech : Tech) (pairs : List PairDelay)

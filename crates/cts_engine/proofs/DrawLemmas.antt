@@ -13,8 +13,7 @@ use Rattle.cts_model.specs.report.ReportBounds.{IsSmallWire}
 use Rattle.cts_model.specs.tree.Topologies.{IsParent, IsTopology, Joins, root_of, source_of}
 use Rattle.cts_model.proofs.ParentLemmas.{joined_by, made_parent, one_parent}
 use Rattle.cts_model.proofs.TopologyLemmas.{first_made, merge_at, merge_here, second_made, some_and}
-use Rattle.cts_engine.specs.Syntheses.{AreDrawn}
-use Rattle.cts_engine.specs.TreeParts.{IsEdgeDrawn, IsWireOf}
+use Rattle.cts_engine.specs.TreeParts.{AreDrawn, IsEdgeDrawn, IsWireOf}
 
 -- the wire at the node's number is drawn from the parent
 abbrev pub HasWire : Tree → (node parent : ℕ) → List Wire → Type 0

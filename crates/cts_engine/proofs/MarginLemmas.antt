@@ -1,10 +1,9 @@
 -- From the greatest margin of a circuit's constraints to that of its paths.
-use Rattle.std.proofs.Common.{◌≡◌, ◌≢◌, ◌↔◌, ℕ, ℤ, ◌+ℤ◌, ◌≤ℤ◌, Bool, true, false, List, [], ◌∷◌, length, get_or, inl, inr, refl, sym, ap, ◌∙◌, subst, arith}
-use Rattle.std.specs.Prelude.{MatchBool}
+use Rattle.std.proofs.Common.{◌≡◌, ◌≢◌, ◌↔◌, ℕ, ℤ, ◌+ℤ◌, ◌≤ℤ◌, List, [], ◌∷◌, length, get_or, inl, inr, refl, sym, ap, ◌∙◌, subst, arith}
 use Rattle.std.specs.List.{All, Contains}
 use Rattle.std.proofs.lemmas.Bool.{cases_eq}
 use Rattle.std.proofs.lemmas.Int.{ints}
-use Rattle.std.proofs.lemmas.List.Elements.{All-cons, All-nil, All-head, All-weaker, All-contains_itself}
+use Rattle.std.proofs.lemmas.List.Elements.{All-cons, All-nil, All-weaker, All-contains_itself}
 use Rattle.std.proofs.lemmas.List.Kept.{AllPairs-cons}
 use Rattle.cts_base.specs.declared.fraction.Fraction.{Fraction}
 use Rattle.cts_model.specs.declared.circuit.Circuit.{Circuit}
@@ -12,8 +11,7 @@ use Rattle.cts_model.specs.declared.constraint.Constraint.{Constraint}
 use Rattle.cts_model.specs.declared.schedule.Schedule.{Schedule}
 use Rattle.cts_model.specs.declared.tech.Tech.{Tech}
 use Rattle.cts_model.specs.declared.timing.PairDelay.{PairDelay}
-use Rattle.cts_model.specs.timing.Constraints.{IsConstraintOf, IsHoldConstraint, IsSetupConstraint}
-use Rattle.cts_model.specs.timing.Cycles.{IsCycle}
+use Rattle.cts_model.specs.timing.Constraints.{IsConstraintOf}
 use Rattle.cts_model.specs.timing.Delays.{least_delay, greatest_delay}
 use Rattle.cts_model.specs.timing.EqualArrivals.{IsPairDelay}
 use Rattle.cts_model.specs.timing.PairLists.{ListsPairs}
@@ -27,9 +25,10 @@ use Rattle.safety_margin.specs.declared.margin.Margin.TheVariants as margins
 use Rattle.safety_margin.specs.Answers.{IsGreatestMargin, IsMarginOf}
 use Rattle.safety_margin.specs.Margins.{HasNoCycle, Spares, SparesOne}
 use Rattle.safety_margin.specs.SparingSchedules.{IsSparingSchedule}
-use Rattle.cts_engine.specs.declared.margin.MarginOutcome.{MarginOutcome}
-use Rattle.cts_engine.specs.declared.margin.MarginOutcome.TheVariants.{Found, Unbounded}
-use Rattle.cts_engine.specs.CircuitMargins.{SparesOverPaths, IsGreatestOverPaths, HasNoPath, IsMarginOutcome, IsUnboundedOutcome}
+use Rattle.outcomes.specs.declared.margin.MarginOutcome.{MarginOutcome}
+use Rattle.outcomes.specs.declared.margin.MarginOutcome.TheVariants.{Found, Unbounded}
+use Rattle.outcomes.specs.CircuitMargins.{SparesOverPaths, IsGreatestOverPaths, HasNoPath, IsMarginOutcome, IsUnboundedOutcome}
+use Rattle.outcomes.proofs.JoiningCycles.{cycle_joins}
 use Rattle.cts_engine.proofs.PlaceLemmas.{All-constraints_at}
 
 -- ---- what is spared in the constraints, and over the paths
@@ -222,22 +221,7 @@ module _ {circuit : Circuit} {tech : Tech} {pairs : List PairDelay}
         no_path (subst HasNoCycle same
         (subst (IsMarginOf registers constraints period) unbounded is))
 
--- ---- a cycle has a path
-
--- a constraint of a circuit has one
-constraint_joins : (circuit : Circuit) (tech : Tech) (setup : Bool) (tail head : ℕ) (weight : ℤ)
-    → MatchBool setup (IsSetupConstraint circuit tech tail head weight)
-    (IsHoldConstraint circuit tech head tail weight) → HasNoPath circuit → ⊥
-constraint_joins circuit tech true tail head weight is none = none tail head is.path is.joins
-constraint_joins circuit tech false tail head weight is none = none head tail is.path is.joins
-
--- so does a cycle of them
-pub cycle_joins : (circuit : Circuit) (tech : Tech) (cycle : List Constraint)
-    → All (IsConstraintOf circuit tech) cycle → IsCycle cycle → HasNoPath circuit → ⊥
-cycle_joins circuit tech [] each is none = is.closed
-cycle_joins circuit tech (constraint ∷ cycle) each is none =
-    constraint_joins circuit tech constraint.setup constraint.tail constraint.head
-    constraint.weight (All-head (IsConstraintOf circuit tech) constraint cycle each) none
+-- ---- the outcome
 
 -- the outcome is that every margin is spared exactly where there is no path
 pub unbounded_exactly : (circuit : Circuit) (tech : Tech) (period : Fraction)

@@ -14,9 +14,10 @@ use Rattle.cts_model.specs.timing.Schedules.{arrival_of, AreLeastArrivals}
 use Rattle.schedule.specs.Schedules.{IsLeastScheduleOf}
 use Rattle.cts_model.specs.timing.LeastPeriods.{IsForbidding, IsPeriodShow, HasNoPeriod}
 use Rattle.cts_model.proofs.CircuitConstraints.{forbidding_at_all}
-use Rattle.cts_engine.specs.declared.period.PeriodOutcome.{PeriodOutcome}
-use Rattle.cts_engine.specs.declared.period.PeriodOutcome.TheVariants.{Found, Never}
-use Rattle.cts_engine.specs.Outcomes.{IsPeriodOutcome, IsNeverOutcome, AreConstraintsOf}
+use Rattle.outcomes.specs.declared.period.PeriodOutcome.{PeriodOutcome}
+use Rattle.outcomes.specs.declared.period.PeriodOutcome.TheVariants.{Found, Never}
+use Rattle.outcomes.specs.PeriodOutcomes.{IsPeriodOutcome, IsNeverOutcome}
+use Rattle.cts_engine.specs.PairConstraints.{AreConstraintsOf}
 use Rattle.critical_cycle.specs.CyclePlaces.{constraints_at}
 use Rattle.critical_cycle.specs.Periods.{IsShownPeriod, IsForbidden}
 use Rattle.cts_engine.proofs.PlaceLemmas.{All-constraints_at}

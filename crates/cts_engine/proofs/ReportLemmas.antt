@@ -18,7 +18,7 @@ use Rattle.place_down.specs.Trees.{reach_in}
 use Rattle.cts_engine.specs.ClockTrees.{IsClockTree}
 use Rattle.cts_engine.specs.RegisterTimes.{AreTimes, HasLeastPeriod}
 use Rattle.cts_model.specs.report.Shown.{sinks_in, source_in}
-use Rattle.cts_engine.specs.Syntheses.{IsReportWith, IsTimed}
+use Rattle.outcomes.specs.Syntheses.{IsReportWith}
 use Rattle.cts_engine.specs.declared.clock_tree.ClockTree.{ClockTree}
 use Rattle.cts_engine.specs.declared.times.Times.{Times}
 use Rattle.cts_engine.proofs.CycleLengths.{few_registers}
@@ -60,16 +60,6 @@ module _ (problem : Problem) (report : Report) {constraints : List Constraint}
 
   merges_count : length report.topology.merges + 1 ≡ length problem.circuit.registers
   merges_count = omega (arith, made.tree.topology.all, count)
-
-  is_timed : IsTimed problem.circuit problem.tech report
-  is_timed = record {
-    period = least.least;
-    shown = least.is_shown;
-    paths = times.paths;
-    schedule = times.schedule;
-    slacks = times.slacks;
-    leads = times.leads;
-  }
 
   -- the second version
   of_size : report.version ≡ Second → IsOfSize problem.circuit report
@@ -152,13 +142,28 @@ module _ (problem : Problem) (report : Report) {constraints : List Constraint}
     version = version;
     size = of_size version;
     bounds = record { timing = timing_bounds; tree = tree_bounds grid };
-    timed = is_timed;
+    is = record {
+      least_period = least.least;
+      least_schedule = times.schedule;
+      realises = realises;
+      meets = realised_meets problem.circuit problem.tech report.period report.topology.merges
+          report.schedule (embedding_of report.tree) times.schedule.registers
+          times.schedule.least.meets realises;
+      least_wire = least_for_schedule report.period problem.tech problem.places.registers
+          report.schedule report.topology.merges (source_in problem report) report.total same
+          made.tree.least;
+      drawn = made.tree.drawn.drawn;
+      total = made.tree.total_is;
+    };
+    shows = record {
+      shown = least.is_shown;
+      paths = times.paths;
+      leads = times.leads;
+      slacks = times.slacks;
+      placed = made.tree.placed;
+      points = made.tree.drawn.points;
+    };
+    merges = made.tree.topology;
+    least = made.tree.least;
     given = refl;
-    tree = made.tree;
-    realises = realises;
-    meets = realised_meets problem.circuit problem.tech report.period report.topology.merges
-        report.schedule (embedding_of report.tree) times.schedule.registers
-        times.schedule.least.meets realises;
-    least = least_for_schedule report.period problem.tech problem.places.registers report.schedule
-        report.topology.merges (source_in problem report) report.total same made.tree.least;
   }

@@ -28,7 +28,7 @@ use Rattle.cts_model.specs.report.Judgements.{GivesPeriod, HasShape, HoldsTogeth
 use Rattle.cts_model.specs.timing.Leads.{IsLead, ShowsEarliest, lead_at}
 use Rattle.cts_model.specs.timing.LeastPeriods.{IsPeriodShow}
 use Rattle.cts_model.specs.placement.Points.{rotated}
-use Rattle.cts_model.specs.report.Shown.{AtEach, IsShown, IsShownLeast, IsShownTiming, IsShownTree, cycle_of}
+use Rattle.cts_model.specs.report.Shown.{AtEach, IsShown, IsShownLeast, IsShownTiming, IsShownTree, cycle_of, sinks_in, source_in}
 use Rattle.cts_model.specs.tree.ShownReaches.{ShowsMerge, ShowsSource}
 use Rattle.cts_model.specs.tree.Topologies.{IsTopology, numbers_below, root_of}
 use Rattle.cts_model.proofs.RoundLemmas.{cycle_holds_together}
@@ -36,7 +36,7 @@ use Rattle.cts_model.proofs.ScaleLemmas.{size_same}
 use Rattle.cts_model.proofs.ShownTrees.{scaled-once}
 use Rattle.cts_model.proofs.TreeLemmas.{wires_are_left}
 use Rattle.place_down.specs.Trees.{IsPlacedTree, reach_in}
-use Rattle.cts_engine.specs.Syntheses.{IsReportWith, IsTimed, IsTree}
+use Rattle.outcomes.specs.Syntheses.{IsReportWith, IsSynthesis, ShowsSynthesis}
 
 -- what holds of the value that is there, if any
 if_some : {X : Type 0} (found : Option X) {Holds : X → Type 0}
@@ -115,39 +115,6 @@ module _ (circuit : Circuit) (tech : Tech) where
   led period at leads register Zero is = is
   led period at leads register (Tight depth constraint) is = is.led
 
-  module _ (report : Report) (timed : IsTimed circuit tech report) where
-    is_shown_timing : IsShownTiming circuit tech report
-    is_shown_timing =
-        let met = timed.schedule.least.meets in
-        let den = size_same report.period.den
-        (omega (arith, ints, report.period.lowest.some_den)) in
-        let floor = ap (λ z. z *ℤ tech.floor) den ∙ *ℤ_comm report.period.den tech.floor in
-        record {
-          from_floor = subst (λ z. z ≤ℤ report.period.num) floor timed.period.admitted.0;
-          together = shown_together report.period report.shown timed.shown;
-          of_circuit = shown_of_circuit report.period report.shown timed.shown;
-          gives = shown_gives report.period report.shown timed.shown;
-          meets = λ register within. record {
-            setup = λ from path joins. met.setup from register path joins;
-            hold = λ from path joins. met.hold from register path joins;
-          };
-          slacks = λ register within. if_some (slice_get report.slacks register)
-              (timed.slacks.each register);
-        }
-
-    is_shown_least : IsShownLeast circuit tech report
-    is_shown_least =
-        let at = report.schedule.at in
-        record {
-          paths = given_paths report.shown report.paths timed.paths;
-          earliest = λ register within. record {
-            from_zero = timed.schedule.least.from_zero register
-                (omega (arith, timed.schedule.registers));
-            led = led report.period at report.leads register (lead_at report.leads register)
-                (timed.leads register (omega (arith, timed.schedule.registers)));
-          };
-        }
-
 -- ---- trees
 
 module _ {sinks : List Sink} {merges : List Merge} {source : Uv} {tree : Tree} {shows : List Show}
@@ -188,25 +155,60 @@ module _ {sinks : List Sink} {merges : List Merge} {source : Uv} {tree : Tree} {
         (sym is) placed.shown.of_source;
   }
 
-module _ {sinks : List Sink} {source : Uv} (report : Report) (made : IsTree sinks source
-    report.topology.merges report.tree report.shows report.wires report.total) where
-  is_shown_tree : IsShownTree sinks source report
-  is_shown_tree = record {
-    shape = λ node within. has_shape made.topology made.placed node;
-    long_enough = λ edge within parent is. made.placed.embedded.long_enough edge parent is;
-    drawn = λ edge within parent wire is here. made.drawn.drawn edge parent wire is here;
-    skewed = is_skewed made.topology made.placed;
-    reaches = λ node within. is_reach_shown made.topology made.placed node;
-    total = made.total_is;
-  }
-
 -- ---- reports
+
+module _ (problem : Problem) (report : Report) (is : IsSynthesis problem report)
+    (shows : ShowsSynthesis problem report) where
+  is_shown_timing : IsShownTiming problem.circuit problem.tech report
+  is_shown_timing =
+      let circuit = problem.circuit in
+      let tech = problem.tech in
+      let met = is.least_schedule.least.meets in
+      let den = size_same report.period.den
+      (omega (arith, ints, report.period.lowest.some_den)) in
+      let floor = ap (λ z. z *ℤ tech.floor) den ∙ *ℤ_comm report.period.den tech.floor in
+      record {
+        from_floor = subst (λ z. z ≤ℤ report.period.num) floor is.least_period.admitted.0;
+        together = shown_together circuit tech report.period report.shown shows.shown;
+        of_circuit = shown_of_circuit circuit tech report.period report.shown shows.shown;
+        gives = shown_gives circuit tech report.period report.shown shows.shown;
+        meets = λ register within. record {
+          setup = λ from path joins. met.setup from register path joins;
+          hold = λ from path joins. met.hold from register path joins;
+        };
+        slacks = λ register within. if_some (slice_get report.slacks register)
+            (shows.slacks.each register);
+      }
+
+  is_shown_least : IsShownLeast problem.circuit problem.tech report
+  is_shown_least =
+      let at = report.schedule.at in
+      let registers = is.least_schedule.registers in
+      record {
+        paths = given_paths problem.circuit problem.tech report.shown report.paths shows.paths;
+        earliest = λ register within. record {
+          from_zero = is.least_schedule.least.from_zero register (omega (arith, registers));
+          led = led problem.circuit problem.tech report.period at report.leads register
+              (lead_at report.leads register) (shows.leads register (omega (arith, registers)));
+        };
+      }
+
+  is_shown_tree : IsTopology (length (sinks_in problem report)) report.topology.merges
+      → IsShownTree (sinks_in problem report) (source_in problem report) report
+  is_shown_tree merges = record {
+    shape = λ node within. has_shape merges shows.placed node;
+    long_enough = λ edge within parent is. shows.placed.embedded.long_enough edge parent is;
+    drawn = λ edge within parent wire joins here. is.drawn edge parent wire joins here;
+    skewed = is_skewed merges shows.placed;
+    reaches = λ node within. is_reach_shown merges shows.placed node;
+    total = is.total;
+  }
 
 -- the report of a problem with a topology shows what it says
 pub report_is_shown : (problem : Problem) (topology : Topology) (report : Report)
     → IsReportWith problem topology report → IsShown problem report
-report_is_shown problem topology report is = record {
-  timing = is_shown_timing problem.circuit problem.tech report is.timed;
-  tree = is_shown_tree report is.tree;
-  least = λ second. is_shown_least problem.circuit problem.tech report is.timed;
+report_is_shown problem topology report made = record {
+  timing = is_shown_timing problem report made.is made.shows;
+  tree = is_shown_tree problem report made.is made.shows made.merges;
+  least = λ second. is_shown_least problem report made.is made.shows;
 }

@@ -20,7 +20,7 @@ use Rattle.cts_model.specs.placement.Points.{IsBelow}
 use Rattle.cts_model.specs.report.ReportBounds.{HasSmallWeight, HasSmallWeights, IsSmallLead, LeadsAmong, ShowsPeriodAmong, cycle_length}
 use Rattle.cts_model.proofs.PathRegisters.{head_within, tail_within}
 use Rattle.cts_engine.specs.CyclePaths.{IsShownBy}
-use Rattle.cts_engine.specs.Outcomes.{HasSmallPairs}
+use Rattle.cts_engine.specs.PairConstraints.{HasSmallPairs}
 use Rattle.cts_engine.specs.RegisterTimes.{AreTreeArrivals}
 use Rattle.cts_engine.proofs.CycleLengths.{cycle_some, cycle_within, few_registers, plain_paths}
 use Rattle.cts_engine.proofs.DelayLemmas.{weight_small}

@@ -31,8 +31,7 @@ use Rattle.cts_model.proofs.SkewLemmas.{sink_at}
 use Rattle.cts_model.proofs.TopologyLemmas.{first_made, second_made, some_and}
 use Rattle.cts_engine.specs.ClockTrees.{AreTreeLists}
 use Rattle.place_down.specs.Trees.{HasTreeNumbers}
-use Rattle.cts_engine.specs.Syntheses.{AreDrawn}
-use Rattle.cts_engine.specs.TreeParts.{CanDraw}
+use Rattle.cts_engine.specs.TreeParts.{AreDrawn, CanDraw}
 use Rattle.cts_engine.proofs.DrawLemmas.{root_parent}
 
 -- ---- plain points

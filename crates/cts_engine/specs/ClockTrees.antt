@@ -1,14 +1,17 @@
 -- The tree of a report, with what keeps its numbers within the bounds of a report.
-use Rattle.std.specs.Prelude.{◌≡◌, ◌+◌, ◌*◌, ◌^◌, ℕ, List, All, length}
+use Rattle.std.specs.Prelude.{◌≡◌, ◌+◌, ◌*◌, ◌^◌, ℕ, ℤ, List, All, length}
 use Rattle.cts_model.specs.declared.place.Sink.{Sink}
 use Rattle.cts_model.specs.declared.place.Uv.{Uv}
 use Rattle.cts_model.specs.declared.tree.Merge.{Merge}
 use Rattle.cts_model.specs.declared.tree.Show.{Show}
 use Rattle.cts_model.specs.declared.tree.Tree.{Tree}
+use Rattle.cts_model.specs.declared.tree.Wire.{Wire}
 use Rattle.cts_model.specs.placement.Points.{IsBelow}
 use Rattle.cts_model.specs.report.ReportBounds.{IsSmallWire}
+use Rattle.cts_model.specs.tree.Embeddings.{IsLeastWire, embedding_of, total_wire}
+use Rattle.cts_model.specs.tree.Topologies.{IsTopology}
 use Rattle.place_down.specs.Trees.{HasTreeNumbers, IsPlacedTree}
-use Rattle.cts_engine.specs.Syntheses.{IsTree}
+use Rattle.cts_engine.specs.TreeParts.{AreDrawn}
 use Rattle.cts_engine.specs.declared.clock_tree.ClockTree.{ClockTree}
 
 -- a reach and a place for each node and the source, and a length for each node
@@ -23,6 +26,15 @@ pub record IsMadeTree (sinks : List Sink) (merges : List Merge) (source : Uv) (t
   pub placed : IsPlacedTree sinks merges source tree shows
   pub numbers : HasTreeNumbers tree
   pub lists : AreTreeLists (length sinks) tree
+
+-- the topology, embedded with the least wire
+pub record IsTree (sinks : List Sink) (source : Uv) (merges : List Merge) (tree : Tree)
+    (shows : List Show) (wires : List Wire) (total : ℤ) : Type 0 where
+  pub topology : IsTopology (length sinks) merges
+  pub placed : IsPlacedTree sinks merges source tree shows
+  pub drawn : AreDrawn (length sinks) merges (embedding_of tree) wires
+  pub total_is : total ≡ total_wire (length sinks) (embedding_of tree)
+  pub least : IsLeastWire sinks merges source total
 
 -- a topology's tree over the sinks, as a report has it
 pub record IsClockTree (sinks : List Sink) (merges : List Merge) (source : Uv)

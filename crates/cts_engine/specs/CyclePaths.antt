@@ -3,14 +3,8 @@ use Rattle.std.specs.Prelude.{All}
 use Rattle.cts_model.specs.declared.constraint.Constraint.{Constraint}
 use Rattle.cts_model.specs.declared.period.PeriodShow.{PeriodShow}
 use Rattle.cts_model.specs.declared.period.PeriodShow.TheVariants.{Cycle, Floor}
-use Rattle.critical_cycle.specs.CyclePlaces.{IsFromLowest}
 
 -- the property holds of each constraint that shows the period
 abbrev pub IsShownBy : (Constraint → Type 0) → PeriodShow → Type 0
 IsShownBy Property (Cycle cycle) = All Property cycle
 IsShownBy Property Floor = Unit {0}
-
--- the cycle that shows a period, if one does, begins at its lowest register
-abbrev pub ShowsFromLowest : PeriodShow → Type 0
-ShowsFromLowest (Cycle cycle) = IsFromLowest cycle
-ShowsFromLowest Floor = Unit {0}

@@ -1,12 +1,8 @@
 pub mod Accepted
-pub mod Outcomes
-pub mod ScheduleOutcomes
-pub mod Syntheses
-pub mod SynthesisOutcomes
+pub mod PairConstraints
 pub mod CyclePaths
 pub mod TreeParts
 pub mod ClockTrees
 pub mod RegisterTimes
 pub mod SinkOutcomes
 pub mod SessionOutcomes
-pub mod CircuitMargins

@@ -14,8 +14,8 @@ use Rattle.cts_model.specs.timing.Schedules.{IsLeastSchedule, IsSmallPeriod, arr
 use Rattle.cts_model.specs.timing.Slacks.{AreSlacks}
 use Rattle.cts_model.specs.table.Tables.{IsWithin}
 use Rattle.critical_cycle.specs.CyclePlaces.{IsFromLowest}
-use Rattle.cts_engine.specs.CyclePaths.{ShowsFromLowest}
-use Rattle.cts_engine.specs.Outcomes.{AreConstraintsOf, HasSmallPairs}
+use Rattle.outcomes.specs.ShownCycles.{ShowsFromLowest}
+use Rattle.cts_engine.specs.PairConstraints.{AreConstraintsOf, HasSmallPairs}
 use Rattle.cts_engine.specs.declared.period.Timing.{Timing}
 use Rattle.cts_engine.specs.declared.period.Timing.TheVariants.{Found, Never}
 use Rattle.cts_engine.specs.declared.times.Times.{Times}

@@ -10,7 +10,7 @@ use Rattle.critical_cycle.specs.CyclePlaces.{IsFromLowest}
 use Rattle.cts_engine.specs.declared.sink_times.SinkOutcome.{SinkOutcome}
 use Rattle.cts_engine.specs.declared.sink_times.SinkOutcome.TheVariants.{Found, Never}
 use Rattle.cts_engine.specs.declared.sink_times.TimedSinks.{TimedSinks}
-use Rattle.cts_engine.specs.CyclePaths.{ShowsFromLowest}
+use Rattle.outcomes.specs.ShownCycles.{ShowsFromLowest}
 use Rattle.cts_engine.specs.RegisterTimes.{AreTimes, HasLeastPeriod}
 
 -- the registers as sinks with the offsets of the least schedule at the least period

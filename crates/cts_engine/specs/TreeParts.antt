@@ -10,6 +10,7 @@ use Rattle.cts_model.specs.placement.Points.{IsMultipleOf, IsPointBelow, distanc
 use Rattle.cts_model.specs.report.ReportBounds.{IsSmallWire}
 use Rattle.cts_model.specs.tree.Topologies.{IsParent}
 use Rattle.wire_detours.specs.WirePoints.{ArePoints}
+use Rattle.outcomes.specs.Syntheses.{EachEdge}
 
 -- an edge that has a drawn wire: its ends and its length are within bounds and whole numbers of 4
 -- grid steps, and it isn't shorter than the way
@@ -40,6 +41,12 @@ pub record IsWireOf (tree : Embedding) (node parent : ℕ) (wire : Wire) : Type 
       (take wire.used wire.corners)
   pub points : ArePoints (tree.place parent) (tree.place node) (tree.length node)
       (take wire.used wire.corners)
+
+-- so is each
+pub record AreDrawn (sinks : ℕ) (merges : List Merge) (tree : Embedding) (wires : List Wire)
+    : Type 0 where
+  pub drawn : EachEdge IsDrawn sinks merges tree wires
+  pub points : EachEdge ArePoints sinks merges tree wires
 
 -- the node's wire is drawn, and the other wires stay
 pub record IsEdgeDrawn (tree : Tree) (node parent : ℕ) (old new : List Wire) : Type 0 where

@@ -17,11 +17,12 @@ mod wires;
 mod zero;
 
 pub use acceptance::{Denoted, accept, accept_circuit, accept_table, hosted};
-pub use margin::{MarginOutcome, margin_of};
+pub use margin::margin_of;
+pub use outcomes::{MarginOutcome, Outcome, PeriodOutcome, ScheduleOutcome};
 pub use path_delays::PairFault as SynthFault;
-pub use period::{PeriodOutcome, period_of};
+pub use period::period_of;
 pub use refusals::Refusal;
-pub use scheduling::{ScheduleOutcome, schedule_of};
+pub use scheduling::schedule_of;
 pub use session::{SessionOutcome, move_register, session_of};
-pub use synthesis::{Outcome, synthesize, synthesize_with};
+pub use synthesis::{synthesize, synthesize_with};
 pub use zero::zero_of;

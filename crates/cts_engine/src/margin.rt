@@ -2,35 +2,19 @@ ghost use Rattle.std.specs.Prelude.{◌↔◌, ℕ, List, IfOk, IfErr};
 ghost use Rattle.cts_model.specs.timing.PairLists.{JoinsMoreThan};
 ghost use Rattle.cts_model.specs.netlist.Paths.{IsLoop};
 ghost use Rattle.cts_model.specs.timing.Schedules.{IsMarginPeriod};
-ghost use Rattle.cts_engine.specs.CircuitMargins.{HasNoPath, IsMarginOutcome, IsSmallOutcome, IsUnboundedOutcome};
+ghost use Rattle.outcomes.specs.CircuitMargins.{HasNoPath, IsMarginOutcome, IsSmallOutcome, IsUnboundedOutcome};
 ghost use Rattle.path_delays.specs.JoinedPairs.{ShowsTooMany};
 
 use crate::SynthFault;
 use crate::order::levels_of;
 use crate::period::constraints_at;
 use constraints::constraints_of;
-use cts_base::{Fraction, Listed};
-use cts_model::{Circuit, Constraint, Schedule, Tech};
+use cts_base::Fraction;
+use cts_model::{Circuit, Tech};
+use outcomes::MarginOutcome;
 use path_delays::pair_delays;
 use safety_margin::{Margin, greatest_margin};
 use std::alloc::Global;
-
-/// What every setup and hold inequality of a circuit has to spare at a period.
-#[derive(Debug, Drop)]
-pub enum MarginOutcome {
-    /// The greatest margin that some arrivals spare over every path.
-    Found {
-        /// In ticks. It may be negative.
-        value: Fraction,
-        /// Constraints that lead from a register back to it, and that spare no more.
-        cycle: Listed<Constraint>,
-        /// The least arrivals from 0 on that spare it, over the least common multiple of the
-        /// denominators of the period and the value.
-        schedule: Schedule,
-    },
-    /// Every margin is spared, as no path joins two registers.
-    Unbounded,
-}
 
 /// The greatest margin of a circuit at a period, whenever the clock reaches each register, in
 /// ticks.

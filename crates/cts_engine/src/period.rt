@@ -4,7 +4,7 @@ ghost use Rattle.cts_model.specs.timing.PairLists.{JoinsMoreThan};
 ghost use Rattle.cts_model.specs.netlist.Paths.{IsLoop};
 ghost use Rattle.critical_cycle.specs.CyclePlaces.{AreWithin, constraints_at};
 ghost use Rattle.path_delays.specs.JoinedPairs.{ArePairs, ShowsTooMany};
-ghost use Rattle.cts_engine.specs.Outcomes.{BeginsLowest, HasSmallZero, IsNeverOutcome, IsPeriodOutcome};
+ghost use Rattle.outcomes.specs.PeriodOutcomes.{BeginsLowest, HasSmallZero, IsNeverOutcome, IsPeriodOutcome};
 ghost use Rattle.cts_engine.specs.RegisterTimes.{IsTiming};
 
 use crate::SynthFault;
@@ -12,27 +12,11 @@ use crate::order::levels_of;
 use constraints::constraints_of;
 use critical_cycle::{Period, least_period};
 use cts_base::{Fraction, Listed, NoMemory};
-use cts_model::{Circuit, Constraint, PairDelay, PeriodShow, Tech, ZeroSkew};
+use cts_model::{Circuit, Constraint, PairDelay, PeriodShow, Tech};
+use outcomes::PeriodOutcome;
 use path_delays::pair_delays;
 use std::alloc::Global;
 use timing_report::zero_skew;
-
-/// The least clock period of a circuit, in ticks.
-#[derive(Debug, Drop)]
-pub enum PeriodOutcome {
-    /// Some arrivals meet this period, and none a smaller one.
-    Found {
-        /// The least period where the clock reaches all registers at once.
-        zero: ZeroSkew,
-        period: Fraction,
-        /// What shows that no period is less.
-        shown: PeriodShow,
-    },
-    /// No arrivals meet any period: constraints that lead from a register back to it show it.
-    Never {
-        cycle: Listed<Constraint>,
-    },
-}
 
 /// The least period of a circuit, whenever the clock reaches each register, in ticks.
 ///

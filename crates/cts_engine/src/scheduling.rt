@@ -3,39 +3,18 @@ ghost use Rattle.cts_model.specs.timing.LeastPeriods.{HasNoPeriod};
 ghost use Rattle.cts_model.specs.timing.PairLists.{JoinsMoreThan};
 ghost use Rattle.cts_model.specs.netlist.Paths.{IsLoop};
 ghost use Rattle.path_delays.specs.JoinedPairs.{ShowsTooMany};
-ghost use Rattle.cts_engine.specs.Outcomes.{BeginsLowest, IsNeverOutcome};
-ghost use Rattle.cts_engine.specs.ScheduleOutcomes.{HasSmallTimes, IsScheduleOutcome, period_outcome};
+ghost use Rattle.outcomes.specs.PeriodOutcomes.{BeginsLowest, IsNeverOutcome};
+ghost use Rattle.outcomes.specs.ScheduleOutcomes.{HasSmallTimes, IsScheduleOutcome, period_outcome};
 
 use crate::SynthFault;
 use crate::order::levels_of;
 use crate::period::{Timing, timing_of};
-use cts_base::{Fraction, Listed};
-use cts_model::{Circuit, Constraint, PeriodShow, Schedule, Slack, Tech, ZeroSkew};
+use cts_model::{Circuit, Tech};
+use outcomes::ScheduleOutcome;
 use path_delays::pair_delays;
 use schedule::least_schedule;
 use std::alloc::Global;
 use timing_report::{slacks, zero_skew};
-
-/// When the clock is to reach each register of a circuit, in ticks.
-#[derive(Debug, Drop)]
-pub enum ScheduleOutcome {
-    /// Some arrivals meet this period, and none a smaller one.
-    Found {
-        /// The least period where the clock reaches all registers at once.
-        zero: ZeroSkew,
-        period: Fraction,
-        /// What shows that no period is less.
-        shown: PeriodShow,
-        /// The least arrivals from 0 on that meet the period.
-        schedule: Schedule,
-        /// What each register has to spare at these arrivals.
-        slacks: Listed<Slack>,
-    },
-    /// No arrivals meet any period: constraints that lead from a register back to it show it.
-    Never {
-        cycle: Listed<Constraint>,
-    },
-}
 
 /// The least schedule of a circuit at its least period, in ticks.
 ///

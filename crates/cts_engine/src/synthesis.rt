@@ -5,26 +5,17 @@ ghost use Rattle.cts_model.specs.report.Shown.{sinks_in};
 ghost use Rattle.cts_model.specs.tree.Topologies.{IsTopology};
 ghost use Rattle.path_delays.specs.JoinedPairs.{ShowsTooMany};
 ghost use Rattle.cts_engine.specs.SinkOutcomes.{AreTimedSinks};
-ghost use Rattle.cts_engine.specs.Syntheses.{IsReportWith};
-ghost use Rattle.cts_engine.specs.SynthesisOutcomes.{BeginsLowest, IsNeverOutcome, IsOutcome, IsOutcomeWith, IsShownOutcome};
+ghost use Rattle.outcomes.specs.Syntheses.{IsReportWith};
+ghost use Rattle.outcomes.specs.SynthesisOutcomes.{BeginsLowest, IsNeverOutcome, IsOutcome, IsOutcomeWith, IsShownOutcome};
 
 use crate::SynthFault;
 use crate::clock_tree::tree_with;
 use crate::sink_times::{SinkOutcome, TimedSinks, timed_sinks};
 use cts_base::{Listed, NoMemory};
-use cts_model::{Constraint, Grid, Problem, Report, Topology, Version};
+use cts_model::{Grid, Problem, Report, Topology, Version};
+use outcomes::Outcome;
 use std::alloc::Global;
 use topology::greedy;
-
-/// The clock tree of a problem.
-#[derive(Debug, Drop)]
-pub enum Outcome {
-    /// The least period, the least schedule that meets it, and the tree with the least wire for its
-    /// topology that realises the schedule.
-    Done(Report),
-    /// No arrivals meet any period: constraints that lead from a register back to it show it.
-    Never(Listed<Constraint>),
-}
 
 /// The clock tree of a problem, with what shows that its period, its schedule and its wire are the
 /// least.

@@ -2,8 +2,7 @@ ghost use Rattle.std.specs.Prelude.{◌≡◌, ◌<◌, ◌≤◌, ◌+◌, ◌*
 ghost use Rattle.cts_model.specs.tree.Embeddings.{embedding_of};
 ghost use Rattle.cts_model.specs.report.ReportBounds.{IsSmallWire};
 ghost use Rattle.cts_model.specs.tree.Topologies.{IsTopology};
-ghost use Rattle.cts_engine.specs.Syntheses.{AreDrawn};
-ghost use Rattle.cts_engine.specs.TreeParts.{CanDraw, CanDrawEdge, IsEdgeDrawn};
+ghost use Rattle.cts_engine.specs.TreeParts.{AreDrawn, CanDraw, CanDrawEdge, IsEdgeDrawn};
 
 use cts_base::{Listed, NoMemory};
 use cts_model::{Point, Topology, Tree, Wire};

@@ -1,29 +1,17 @@
 -- What a command comes to whose files are read, and a demonstration, which reads none.
-use Rattle.std.proofs.Common.{ℕ, ◌≢◌, inl, inr, List, [], Option, Result, Ok, Err, IfOk, IfErr, refl, Bor}
+use Rattle.std.proofs.Common.{ℕ, inl, inr, List, [], Option, Result, Ok, Err, IfOk, IfErr, refl, Bor}
 use Rattle.cts_model.specs.declared.problem.Problem.{Problem}
 use Rattle.cts_model.specs.declared.report.Report.{Report}
 use Rattle.command_line.specs.declared.command.Command.TheVariants.{Demo}
-use Rattle.command_line.specs.declared.table.Form.{Form}
 use Rattle.command_line.specs.declared.table.Form.TheVariants as forms
-use Rattle.command_line.specs.Commands.{Given}
-use Rattle.timing_text.specs.declared.answer.Answer.{Answer}
-use Rattle.timing_text.specs.Endings.{ending_status}
+use Rattle.answer_texts.specs.declared.answer.Answer.{Answer}
+use Rattle.answer_texts.specs.Endings.{ending_status}
 use Rattle.failure_lines.specs.declared.failure.Failure.{Failure}
 use Rattle.cts_program.specs.Answers.{IsUnshown, RefusesTold, IsAnswer, IsRefusal}
-use Rattle.cts_program.specs.Files.{NamedFile, Request, request_of}
+use Rattle.cts_program.specs.Files.{request_of}
 use Rattle.cts_program.specs.Run.{DenotesText, Stops, refused, wants_memory}
 use Rattle.cts_program.specs.Steps.{OrMemory, IsStep}
 use Rattle.cts_program.specs.Told.{reported}
-use Rattle.cts_program.proofs.StepLemmas.{IsByFiles}
-
--- a command that is no demonstration goes by its files
-pub by_files : (request : Request) → request.form ≢ forms.Demo → IsByFiles request
-by_files request = at request.form request.given request.files
-  where
-    at : (form : Form) (given : List Given) (files : List NamedFile) → form ≢ forms.Demo
-        → IsByFiles (record { form = form; given = given; files = files })
-    at forms.Demo given files other = absurd (other refl)
-    at form given files other = record { kinds = refl; texts = λ contents. refl }
 
 -- a report that isn't shown is refused though it is read
 pub check_fails : (problem : Problem) (report : Report) (failure : Failure)

@@ -1,16 +1,6 @@
-mod LineLemmas
-mod CountedLines
-mod LinePrefixes
-mod TextLines
-mod TextCounts
-mod AnswerTexts
-mod CycleRegisters
-mod TreeTexts
-mod OutcomeTexts
 mod ResultLemmas
 mod WireTexts
 mod ReasonLemmas
-mod ArrivalLemmas
 mod OneAnswer
 mod RunLemmas
 mod DemoValues
@@ -19,7 +9,6 @@ mod DocumentLists
 mod ReadLemmas
 mod StepLemmas
 mod OneText
-mod CornerLines
 mod SameRequests
 mod CornerFiles
 mod FileFaults

@@ -16,7 +16,7 @@ use Rattle.failure_lines.specs.declared.file_kind.FileKind.TheVariants as kinds
 use Rattle.failure_lines.specs.Failures.{status_of}
 use Rattle.failure_lines.specs.Refusals.{reason_failure_of}
 use Rattle.cts_program.specs.Answers.{kinds_for, texts_for, judged_kinds, Tells, IsUnshown, RefusesTold, IsText, IsAnswer, IsRefusal, IsAccepted, IsStatusOf, FindsNoPeriod}
-use Rattle.cts_program.specs.CheckTexts.{subject_of}
+use Rattle.cts_program.specs.Subjects.{subject_of}
 use Rattle.cts_program.specs.Documents.{RefusesFirst}
 use Rattle.cts_program.specs.Files.{NamedFile, Request, request_of}
 use Rattle.cts_program.specs.Told.{Told, nothing, reported}
@@ -98,22 +98,23 @@ module _ (laws : ReportLaws) (request : Request) where
 
   -- with status 1 they say that no period is admitted, and with status 0 that some is
   pub answer_never : (contents known : List (List ℕ)) → Agree contents known
-      → length contents ≡ length request.files → (text : List ℕ)
-      → IsAnswer request known 1 text → FindsNoPeriod request contents
-  answer_never contents known agree all text answer =
+      → length contents ≡ length request.files → (status : ℕ) (text : List ℕ) → status ≡ 1
+      → IsAnswer request known status text → FindsNoPeriod request contents
+  answer_never contents known agree all status text one answer =
       let same = agree_same contents known agree (all ∙ sym answer.tells.all) in
       record {
         told = answer.told;
         tells = subst (λ c. Tells request c answer.told) (sym same) answer.tells;
         few = answer.few;
-        none = finds_none request.form request.given answer.told text answer.says;
+        none = finds_none request.form request.given answer.told status text answer.says one;
       }
 
   pub answer_found : (contents known : List (List ℕ)) → Agree contents known
-      → FindsNoPeriod request contents → (text : List ℕ) → IsAnswer request known 0 text → ⊥
-  answer_found contents known agree finds text answer =
-      finds_some request.form request.given finds.told text
-      (text_there contents known finds.told 0 text agree finds.tells answer) finds.none
+      → FindsNoPeriod request contents → (status : ℕ) (text : List ℕ) → status ≡ 0
+      → IsAnswer request known status text → ⊥
+  answer_found contents known agree finds status text done answer =
+      finds_some request.form request.given finds.told status text
+      (text_there contents known finds.told status text agree finds.tells answer) done finds.none
 
   -- ---- not both
 

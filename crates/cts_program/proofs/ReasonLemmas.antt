@@ -10,7 +10,7 @@ use Rattle.cert_check.specs.declared.verdict.Reason.TheVariants.{BelowFloor, Cyc
 use Rattle.cert_check.specs.declared.verdict.Verdict.TheVariants.{Not}
 use Rattle.cert_check.specs.Judged.{Judged, JudgedOnce}
 use Rattle.cert_check.specs.Verdicts.{IsVerdict}
-use Rattle.cts_program.specs.Steps.{IsRegisterReason}
+use Rattle.cts_program.specs.Subjects.{IsRegisterReason}
 
 -- the reason is about no register, or about one below this number
 abbrev IsAmong : ℕ → Reason → Type 0

@@ -9,9 +9,9 @@ use Rattle.command_line.specs.declared.command.WordsFault.{WordsFault}
 use Rattle.command_line.specs.declared.command.WordsFault.TheVariants as word_faults
 use Rattle.command_line.specs.declared.command.Command.{Command}
 use Rattle.command_line.specs.Commands.{IsCommand}
-use Rattle.timing_text.specs.declared.answer.Ending.{Ending}
-use Rattle.timing_text.specs.declared.answer.Ending.TheVariants.{Done, Never}
-use Rattle.timing_text.specs.Endings.{ending_status}
+use Rattle.answer_texts.specs.declared.answer.Ending.{Ending}
+use Rattle.answer_texts.specs.declared.answer.Ending.TheVariants.{Done, Never}
+use Rattle.answer_texts.specs.Endings.{ending_status}
 use Rattle.failure_lines.specs.declared.failure.Failure.{Failure}
 use Rattle.failure_lines.specs.declared.failure.Failure.TheVariants.{Usage, TooLong, Refused, WriteFault}
 use Rattle.failure_lines.specs.declared.file_kind.FileKind.{FileKind}
@@ -289,13 +289,12 @@ module _ (laws : ReportLaws) (holds : List ℕ → Option (List ℕ)) (request :
   pub denoted_never : length contents ≡ length request.files → status ≡ 1
       → FindsNoPeriod request contents
   denoted_never all one =
-      answer_never laws request contents denotes.contents agree all text
-      (subst (λ s. IsAnswer request denotes.contents s text) one denotes.answer)
+      answer_never laws request contents denotes.contents agree all status text one denotes.answer
 
   pub denoted_found : FindsNoPeriod request contents → status ≡ 0 → ⊥
   denoted_found finds done =
-      answer_found laws request contents denotes.contents agree finds text
-      (subst (λ s. IsAnswer request denotes.contents s text) done denotes.answer)
+      answer_found laws request contents denotes.contents agree finds status text done
+      denotes.answer
 
   -- and nothing is refused
   pub denoted_fine : (failure : Failure) → IsRefusal request contents failure → ⊥

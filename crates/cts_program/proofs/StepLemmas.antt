@@ -4,18 +4,21 @@ use Rattle.std.proofs.lemmas.List.{length-map}
 use Rattle.cts_model.specs.declared.circuit.Circuit.{Circuit}
 use Rattle.cts_model.specs.declared.tech.Tech.{Tech}
 use Rattle.cts_model.specs.timing.PairLists.{JoinsMoreThan}
+use Rattle.command_line.specs.declared.command.Command.{Command}
 use Rattle.command_line.specs.declared.table.Form.{Form}
 use Rattle.command_line.specs.declared.table.Form.TheVariants as forms
-use Rattle.timing_text.specs.declared.answer.Answer.{Answer}
-use Rattle.timing_text.specs.Endings.{ending_status}
+use Rattle.command_line.specs.CommandTable.{form_of}
+use Rattle.command_line.specs.Commands.{Given, options_of}
+use Rattle.answer_texts.specs.declared.answer.Answer.{Answer}
+use Rattle.answer_texts.specs.Endings.{ending_status}
 use Rattle.failure_lines.specs.declared.failure.Failure.{Failure}
 use Rattle.failure_lines.specs.declared.failure.Failure.TheVariants as failures
 use Rattle.failure_lines.specs.declared.file_kind.FileKind.{FileKind}
 use Rattle.cts_program.specs.Answers.{kinds_in, kinds_for, texts_for, Tells, JoinTooMany, RefusesTold, IsText}
 use Rattle.cts_program.specs.Documents.{Tell, RefusesFirst}
-use Rattle.cts_program.specs.Files.{NamedFile, Request}
-use Rattle.cts_program.specs.Run.{DenotesText, Stops, refused, unread, wants_memory}
-use Rattle.cts_program.specs.Steps.{OrMemory, IsStep, AreRead, AreUnread, FailsCircuit}
+use Rattle.cts_program.specs.Files.{NamedFile, Request, files_of, request_of}
+use Rattle.cts_program.specs.Run.{Stops, refused, unread, wants_memory}
+use Rattle.cts_program.specs.Steps.{OrMemory, IsStep, IsServed, AreRead, AreUnread, FailsCircuit}
 use Rattle.cts_program.specs.Told.{Told, nothing, TellsCircuit, TellsTech, IsTimedSo}
 use Rattle.cts_program.proofs.DocumentLists.{length-tell}
 use Rattle.cts_program.proofs.OneDocument.{one_circuit}
@@ -70,82 +73,6 @@ module _ {Value : Type 0} {holds holds_now : List ℕ → Option (List ℕ)} {re
       → IsStep holds holds_now reads reads_now Gives Fails (Ok value) → reads_now ≡ reads
   step_counts value step = step.counts (λ kind is. cc is)
 
--- ---- the answer
-
--- a command whose files are what it goes by: it is no demonstration
-pub record IsByFiles (request : Request) : Type 0 where
-  pub kinds : kinds_for request.form request.files ≡ kinds_in request.files
-  pub texts : (contents : List (List ℕ))
-      → texts_for request.form request.given contents ≡ contents
-
-module _ {holds : List ℕ → Option (List ℕ)} (request : Request) (by : IsByFiles request) where
-  -- files that tell something tell it to the command
-  tells_all : {told : Told} (read : AreRead holds request.files told)
-      → Tells request read.contents told
-  tells_all {told} read = record {
-    all = length-tell (kinds_in request.files) nothing read.contents told read.tell
-        ∙ length-map request.files _;
-    tell = subst (λ kinds. Tell kinds nothing (texts_for request.form request.given read.contents)
-        told) (sym by.kinds)
-        (subst (λ texts. Tell (kinds_in request.files) nothing texts told)
-        (sym (by.texts read.contents)) read.tell);
-  }
-
-  -- files that aren't read stop it
-  pub reading_stops : (reads reads_now : List ℕ → ℕ) (failure : Failure)
-      → AreUnread holds reads reads_now request.files failure
-      → Stops holds reads reads_now request failure
-  reading_stops reads reads_now failure (inl (inl last)) = refused (record {
-    contents = last.contents;
-    are = last.are;
-    refusal = inl (subst (λ kinds. RefusesFirst kinds nothing
-        (texts_for request.form request.given last.contents) failure) (sym by.kinds)
-        (subst (λ texts. RefusesFirst (kinds_in request.files) nothing texts failure)
-        (sym (by.texts last.contents)) last.refused));
-  })
-  reading_stops reads reads_now failure (inl (inr (kind, is, cannot))) = unread kind is cannot
-  reading_stops reads reads_now failure (inr memory) = wants_memory memory
-
-  module _ {told : Told} (read : AreRead holds request.files told) where
-    -- so does what refuses what they tell
-    told_stops : (reads reads_now : List ℕ → ℕ) (failure : Failure)
-        → OrMemory (RefusesTold request.form told) failure
-        → Stops holds reads reads_now request failure
-    told_stops reads reads_now failure (inl refuses) = refused (record {
-      contents = read.contents;
-      are = read.are;
-      refusal = inr (told, tells_all read, refuses);
-    })
-    told_stops reads reads_now failure (inr memory) = wants_memory memory
-
-    -- and a text for it is the answer
-    pub answered : {holds_now : List ℕ → Option (List ℕ)} {reads reads_now : List ℕ → ℕ}
-        (result : Result Answer Failure) → holds_now ≡ holds → reads_now ≡ reads
-        → IfOk result (λ answer. JoinTooMany request.form told → ⊥)
-        → IfOk result (λ answer. IsText request.form request.given told
-        (ending_status answer.ending) answer.text.items)
-        → IfErr result (OrMemory (RefusesTold request.form told))
-        → IsStep holds holds_now reads reads_now (λ answer. DenotesText holds request
-        (ending_status answer.ending) answer.text.items)
-        (Stops holds reads reads_now request) result
-    answered (Ok answer) files counts few says fails = record {
-      files = files;
-      counts = λ none. counts;
-      gives = record {
-        contents = read.contents;
-        are = read.are;
-        answer = record { told = told; tells = tells_all read; few = few; says = says };
-      };
-      fails = tt;
-    }
-    answered {reads = reads} {reads_now = reads_now} (Err failure) files counts few says fails =
-        record {
-          files = files;
-          counts = λ none. counts;
-          gives = tt;
-          fails = told_stops reads reads_now failure fails;
-        }
-
 -- ---- circuits
 
 -- pairs that are too many for a circuit are so for a command that is told it
@@ -173,39 +100,122 @@ module _ (form : Form) (told : Told) (circuit : Circuit) (tells : TellsCircuit t
   circuit_fails other failures.NoMemory fails = inr refl
   circuit_fails other failure fails = absurd fails
 
--- ---- commands
+-- ---- the answer
 
-module _ {holds holds_now : List ℕ → Option (List ℕ)} {reads reads_now : List ℕ → ℕ}
-    (request : Request) (by : IsByFiles request) where
-  -- files that aren't read end the command
-  pub reading_fails : {Value : Type 0} {Gives : Value → Type 0} (files more : List NamedFile)
-      → request.files ≡ files ++ more → (failure : Failure)
-      → IsStep holds holds_now reads reads_now Gives (AreUnread holds reads reads_now files)
-      (Err failure)
-      → IsStep {Value = Answer} holds holds_now reads reads_now (λ answer. DenotesText holds request
-      (ending_status answer.ending) answer.text.items) (Stops holds reads reads_now request)
-      (Err failure)
-  reading_fails files more are failure step =
-      step_fails failure step (λ unread. reading_stops request by reads reads_now failure
-      (subst (λ fs. AreUnread holds reads reads_now fs failure) (sym are)
-      (unread_before holds reads reads_now files more failure unread)))
+-- what a command goes by are its files
+record IsByFiles (request : Request) : Type 0 where
+  kinds : kinds_for request.form request.files ≡ kinds_in request.files
+  texts : (contents : List (List ℕ)) → texts_for request.form request.given contents ≡ contents
 
-  -- after those that are read the answer is one for the circuit that they tell
-  pub answered_circuit : {told : Told} (circuit : Circuit) (result : Result Answer Failure)
-      → AreRead holds request.files told → holds_now ≡ holds → reads_now ≡ reads
-      → TellsCircuit told circuit → request.form ≢ forms.Check
-      → IfOk result (λ answer. JoinsMoreThan circuit 1048576 → ⊥)
-      → IfOk result (λ answer. IsText request.form request.given told
-      (ending_status answer.ending) answer.text.items)
-      → IfErr result (FailsCircuit circuit)
-      → IsStep holds holds_now reads reads_now (λ answer. DenotesText holds request
-      (ending_status answer.ending) answer.text.items) (Stops holds reads reads_now request) result
-  answered_circuit {told} circuit result read files counts tells other few says fails =
-      answered request by read result files counts
-      (if_ok_from result _ _ _ few few (λ answer none none'. few_told request.form told circuit
-      tells
-      none)) says
-      (if_err_from result _ _ fails (circuit_fails request.form told circuit tells other))
+-- so it is where it is no demonstration
+by_files : (form : Form) (given : List Given) (files : List NamedFile) → form ≢ forms.Demo
+    → IsByFiles (record { form = form; given = given; files = files })
+by_files forms.Demo given files other = absurd (other refl)
+by_files form given files other = record { kinds = refl; texts = λ contents. refl }
+
+module _ (command : Command) (by_name : form_of command ≢ forms.Demo) where
+  abbrev asked : Request
+  asked = request_of command
+
+  by : IsByFiles asked
+  unfolding request_of
+  by = by_files (form_of command) (options_of command) (files_of command) by_name
+
+  module _ {holds : List ℕ → Option (List ℕ)} where
+    -- files that tell something tell it to the command
+    tells_all : {told : Told} (read : AreRead holds asked.files told)
+        → Tells asked read.contents told
+    tells_all {told} read = record {
+      all = length-tell (kinds_in asked.files) nothing read.contents told read.tell
+          ∙ length-map asked.files _;
+      tell = subst (λ kinds. Tell kinds nothing (texts_for asked.form asked.given read.contents)
+          told) (sym by.kinds)
+          (subst (λ texts. Tell (kinds_in asked.files) nothing texts told)
+          (sym (by.texts read.contents)) read.tell);
+    }
+
+    -- files that aren't read stop it
+    pub reading_stops : (reads reads_now : List ℕ → ℕ) (failure : Failure)
+        → AreUnread holds reads reads_now (files_of command) failure
+        → Stops holds reads reads_now asked failure
+    unfolding request_of
+    reading_stops reads reads_now failure (inl (inl last)) = refused (record {
+      contents = last.contents;
+      are = last.are;
+      refusal = inl (subst (λ kinds. RefusesFirst kinds nothing
+          (texts_for asked.form asked.given last.contents) failure) (sym by.kinds)
+          (subst (λ texts. RefusesFirst (kinds_in asked.files) nothing texts failure)
+          (sym (by.texts last.contents)) last.refused));
+    })
+    reading_stops reads reads_now failure (inl (inr (kind, is, cannot))) = unread kind is cannot
+    reading_stops reads reads_now failure (inr memory) = wants_memory memory
+
+    module _ {told : Told} (read : AreRead holds asked.files told) where
+      -- so does what refuses what they tell
+      told_stops : (reads reads_now : List ℕ → ℕ) (failure : Failure)
+          → OrMemory (RefusesTold asked.form told) failure
+          → Stops holds reads reads_now asked failure
+      told_stops reads reads_now failure (inl refuses) = refused (record {
+        contents = read.contents;
+        are = read.are;
+        refusal = inr (told, tells_all read, refuses);
+      })
+      told_stops reads reads_now failure (inr memory) = wants_memory memory
+
+      -- and a text for it is the answer
+      pub answered : {holds_now : List ℕ → Option (List ℕ)} {reads reads_now : List ℕ → ℕ}
+          (result : Result Answer Failure) → holds_now ≡ holds → reads_now ≡ reads
+          → IfOk result (λ answer. JoinTooMany asked.form told → ⊥)
+          → IfOk result (λ answer. IsText asked.form asked.given told
+          (ending_status answer.ending) answer.text.items)
+          → IfErr result (OrMemory (RefusesTold asked.form told))
+          → IsServed holds holds_now reads reads_now asked result
+      answered (Ok answer) files counts few says fails = record {
+        files = files;
+        counts = λ none. counts;
+        gives = record {
+          contents = read.contents;
+          are = read.are;
+          answer = record { told = told; tells = tells_all read; few = few; says = says };
+        };
+        fails = tt;
+      }
+      answered {reads = reads} {reads_now = reads_now} (Err failure) files counts few says fails =
+          record {
+            files = files;
+            counts = λ none. counts;
+            gives = tt;
+            fails = told_stops reads reads_now failure fails;
+          }
+
+  module _ {holds holds_now : List ℕ → Option (List ℕ)} {reads reads_now : List ℕ → ℕ} where
+    -- files that aren't read end the command
+    pub reading_fails : {Value : Type 0} {Gives : Value → Type 0} (files more : List NamedFile)
+        → files_of command ≡ files ++ more → (failure : Failure)
+        → IsStep holds holds_now reads reads_now Gives (AreUnread holds reads reads_now files)
+        (Err failure)
+        → IsServed holds holds_now reads reads_now asked (Err failure)
+    reading_fails files more are failure step =
+        step_fails failure step (λ unread. reading_stops reads reads_now failure
+        (subst (λ fs. AreUnread holds reads reads_now fs failure) (sym are)
+        (unread_before holds reads reads_now files more failure unread)))
+
+    -- after those that are read the answer is one for the circuit that they tell
+    pub answered_circuit : {told : Told} (circuit : Circuit) (result : Result Answer Failure)
+        → AreRead holds asked.files told → holds_now ≡ holds → reads_now ≡ reads
+        → TellsCircuit told circuit → asked.form ≢ forms.Check
+        → IfOk result (λ answer. JoinsMoreThan circuit 1048576 → ⊥)
+        → IfOk result (λ answer. IsText asked.form asked.given told
+        (ending_status answer.ending) answer.text.items)
+        → IfErr result (FailsCircuit circuit)
+        → IsServed holds holds_now reads reads_now asked result
+    answered_circuit {told} circuit result read files counts tells other few says fails =
+        answered read result files counts
+        (if_ok_from result _ _ _ few few (λ answer none none'. few_told asked.form told circuit
+        tells none)) says
+        (if_err_from result _ _ fails (circuit_fails asked.form told circuit tells other))
+
+-- ---- what is told
 
 -- what is said of a circuit and its delays is said of what tells them
 pub says_timed : (Says : Circuit → Tech → ℕ → List ℕ → Type 0) (told : Told) (circuit : Circuit)

@@ -18,7 +18,8 @@ use Rattle.cts_engine.specs.SessionOutcomes.{IsSessionOf, StandsAt}
 use Rattle.cts_engine.proofs.ProblemLemmas.{near_coordinate}
 use Rattle.report_text.specs.WireLines.{wire_line}
 use Rattle.report_text.proofs.LineLemmas.{one_line, text_of-push}
-use Rattle.cts_program.specs.MoveTexts.{AppendsWire, AreWires, IsNearMove, IsTreeWire, IsWireAt, IsWiresText, moved_places}
+use Rattle.answer_texts.specs.MoveTexts.{AreWires, IsTreeWire, IsWireAt, IsWiresText, moved_places}
+use Rattle.cts_program.specs.MoveSteps.{AppendsWire, IsNearMove}
 use Rattle.move_session.specs.Moves.{AcceptsMoves}
 
 -- ---- moves that were read

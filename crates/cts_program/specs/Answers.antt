@@ -15,17 +15,19 @@ use Rattle.failure_lines.specs.declared.failure.Failure.TheVariants.{Pairs}
 use Rattle.failure_lines.specs.declared.file_kind.FileKind.{FileKind}
 use Rattle.failure_lines.specs.declared.file_kind.FileKind.TheVariants.{Bench, Tech, Placement}
 use Rattle.failure_lines.specs.Refusals.{reason_failure_of}
-use Rattle.cts_program.specs.CheckTexts.{subject_of, IsCheckText}
-use Rattle.cts_program.specs.CornerTexts.{IsCornersText}
-use Rattle.cts_program.specs.DemoTexts.{demo_texts, IsDemoText}
+use Rattle.answer_texts.specs.CheckTexts.{IsCheckText}
+use Rattle.cts_program.specs.Subjects.{subject_of}
+use Rattle.answer_texts.specs.CornerTexts.{IsCornersText}
+use Rattle.answer_texts.specs.DemoTexts.{IsDemoText}
+use Rattle.cts_program.specs.DemoFiles.{demo_texts}
 use Rattle.cts_program.specs.Documents.{Tell, RefusesFirst}
 use Rattle.cts_program.specs.Files.{NamedFile, Request}
-use Rattle.cts_program.specs.MarginTexts.{IsMarginText}
-use Rattle.cts_program.specs.MoveTexts.{IsMovesText}
-use Rattle.cts_program.specs.PeriodTexts.{IsPeriodText}
-use Rattle.cts_program.specs.ScheduleTexts.{IsScheduleText}
-use Rattle.cts_program.specs.SynthTexts.{IsSynthText, IsEmbedText}
-use Rattle.cts_program.specs.Texts.{IsZeroText}
+use Rattle.answer_texts.specs.MarginTexts.{IsMarginText}
+use Rattle.answer_texts.specs.MoveTexts.{IsMovesText}
+use Rattle.answer_texts.specs.PeriodTexts.{IsPeriodText}
+use Rattle.answer_texts.specs.ScheduleTexts.{IsScheduleText}
+use Rattle.answer_texts.specs.SynthTexts.{IsSynthText, IsEmbedText}
+use Rattle.answer_texts.specs.ZeroTexts.{IsZeroText}
 use Rattle.cts_program.specs.Told.{Told, nothing, bare, placed, reported, joined, moving, TellsCircuit, IsTimedSo}
 
 -- ---- what a command goes by

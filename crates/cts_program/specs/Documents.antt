@@ -1,6 +1,6 @@
 -- What a file tells after those before it, or why it is refused, and so for the files of a command:
 -- each is judged as soon as it is read.
-use Rattle.std.specs.Prelude.{◌≡◌, ◌≢◌, ◌==◌, ◌⊎◌, ℕ, Bool, List, [], ◌∷◌, ◌++◌, length, Some}
+use Rattle.std.specs.Prelude.{◌≡◌, ◌≢◌, ◌==◌, ◌⊎◌, ℕ, List, [], ◌∷◌, ◌++◌, length, Some}
 use Rattle.cts_model.specs.declared.circuit.Circuit.{Circuit}
 use Rattle.cts_model.specs.declared.problem.Problem.{Problem}
 use Rattle.cts_model.specs.declared.report.Report as reports
@@ -33,14 +33,10 @@ use Rattle.failure_lines.specs.Refusals.{bench_failure_of, tech_failure_of, plac
 use Rattle.cts_program.specs.Files.{IsShortFile}
 use Rattle.cts_program.specs.Told.{Told, nothing, bare, timed, placed, reported, joined, moving}
 
--- whether a table gives the host no place
-abbrev pub is_hostless : Tech → Bool
-is_hostless tech = length tech.host == 0
-
 -- one of the first table and this one gives the host a place, and the other doesn't
 abbrev pub DiffersFromFirst : List Tech → Tech → Type 0
 DiffersFromFirst [] tech = ⊥
-DiffersFromFirst (first ∷ more) tech = is_hostless first ≢ is_hostless tech
+DiffersFromFirst (first ∷ more) tech = (length first.host == 0) ≢ (length tech.host == 0)
 
 -- ---- one file
 

@@ -8,10 +8,8 @@ use Rattle.cts_model.specs.netlist.Hosts.{HasNoHost}
 use Rattle.cts_model.specs.netlist.Paths.{IsLoop}
 use Rattle.cts_model.specs.timing.PairLists.{JoinsMoreThan}
 use Rattle.cts_model.specs.tree.Problems.{GivesUsedKinds}
-use Rattle.cert_check.specs.declared.verdict.Reason.{Reason}
-use Rattle.cert_check.specs.declared.verdict.Reason.TheVariants as reason
-use Rattle.timing_text.specs.declared.answer.Answer.{Answer}
-use Rattle.timing_text.specs.Endings.{ending_status}
+use Rattle.answer_texts.specs.declared.answer.Answer.{Answer}
+use Rattle.answer_texts.specs.Endings.{ending_status}
 use Rattle.failure_lines.specs.declared.failure.Failure.{Failure}
 use Rattle.failure_lines.specs.declared.failure.Failure.TheVariants as failures
 use Rattle.failure_lines.specs.declared.file_kind.FileKind.{FileKind}
@@ -117,11 +115,3 @@ abbrev pub FailsCircuit : Circuit → Failure → Type 0
 FailsCircuit circuit failures.Pairs = JoinsMoreThan circuit 1048576
 FailsCircuit circuit failures.NoMemory = Unit {0}
 FailsCircuit circuit _ = ⊥
-
--- the reason is about this register
-abbrev pub IsRegisterReason : Reason → (register : ℕ) → Type 0
-IsRegisterReason (reason.ScheduleMisses number) register = number ≡ register
-IsRegisterReason (reason.SkewDiffers number) register = number ≡ register
-IsRegisterReason (reason.SlackDiffers number) register = number ≡ register
-IsRegisterReason (reason.NotLeast number) register = number ≡ register
-IsRegisterReason reason register = ⊥

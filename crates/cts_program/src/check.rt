@@ -2,20 +2,22 @@
 
 ghost use Rattle.std.specs.Prelude.{◌≡◌, ◌<◌, ℕ, length, IfOk, IfErr};
 ghost use Rattle.cts_model.specs.report.ReportBounds.{IsOfSize, IsWithinBounds};
-ghost use Rattle.timing_text.specs.Endings.{ending_status};
+ghost use Rattle.answer_texts.specs.Endings.{ending_status};
 ghost use Rattle.command_line.specs.declared.table.Form.TheVariants as forms;
 ghost use Rattle.cts_program.specs.Answers.{IsUnshown};
-ghost use Rattle.cts_program.specs.CheckTexts.{subject_of, IsCheckText};
-ghost use Rattle.cts_program.specs.Steps.{IsRegisterReason, OrMemory};
+ghost use Rattle.answer_texts.specs.CheckTexts.{IsCheckText};
+ghost use Rattle.cts_program.specs.Subjects.{subject_of};
+ghost use Rattle.cts_program.specs.Steps.{OrMemory};
+ghost use Rattle.cts_program.specs.Subjects.{IsRegisterReason};
 ghost use Rattle.cts_program.specs.Told.{reported};
 
 use crate::reading::copied;
+use answer_texts::Answer;
 use cert_check::{Reason, Verdict};
 use cts_model::{Circuit, Problem, Report};
 use failure_lines::{Failure, reason_failure};
 use report_text::push_line;
 use std::alloc::Global;
-use timing_text::Answer;
 
 /// That a report, whoever made it, is shown for a problem.
 ///

@@ -7,23 +7,18 @@ ghost use Rattle.command_line.specs.Commands.{is_period};
 ghost use Rattle.cts_program.specs.Files.{request_of};
 ghost use Rattle.cts_program.specs.Steps.{IsServed};
 
+use crate::answers::{corners, embed, margin, period, schedule, synth, zero};
 use crate::check::check;
-use crate::cornering::serve_corners;
-use crate::margin::margin;
 use crate::moves::moves;
-use crate::period::period;
 use crate::reading::{
     MovesOf, Netlist, ReportOf, TopologyOf, read_circuit, read_corners, read_document, read_problem,
 };
-use crate::scheduling::schedule;
-use crate::synth::{embed, synth};
-use crate::zero::zero;
+use answer_texts::Answer;
 use cts_engine::Denoted;
 use cts_io::Inputs;
 use cts_model::Tech;
 use failure_lines::Failure;
 use std::alloc::Global;
-use timing_text::Answer;
 
 /// What `zero` answers, with the delay table in a file or the built-in one.
 ///
@@ -212,5 +207,5 @@ pub fn corners_command<I: Inputs>(
     ensures { IsServed (I.holds inputs.old) (I.holds inputs.new) (I.faults inputs.old)
         (I.faults inputs.new) (request_of (commands.Corners bench.entry tables.entry)) result }
 {
-    serve_corners(alloc, &read_corners(alloc, inputs, bench, tables)?)
+    corners(alloc, &read_corners(alloc, inputs, bench, tables)?)
 }

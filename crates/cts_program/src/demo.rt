@@ -3,31 +3,29 @@
 
 ghost use Rattle.std.specs.Prelude.{◌≡◌, ◌≤◌, ◌<◌, ◌↔◌, ℕ, true, IsTrue, [], IfOk, IfErr};
 ghost use Rattle.cts_model.specs.timing.PairLists.{JoinsMoreThan};
-ghost use Rattle.cts_model.specs.text.PrintedLines.{text_of};
-ghost use Rattle.cts_model.specs.declared.tech.Tech.{Tech};
 ghost use Rattle.cts_model.specs.report.ReportBounds.{IsOfSize, IsWithinBounds};
 ghost use Rattle.cts_model.specs.report.Shown.{IsShown};
 ghost use Rattle.cert_check.specs.Verdicts.{IsVerdict};
-ghost use Rattle.timing_text.specs.Endings.{ending_status};
+ghost use Rattle.answer_texts.specs.Endings.{ending_status};
 ghost use Rattle.command_line.specs.Commands.{number_of, is_number_within};
 ghost use Rattle.command_line.specs.declared.command.Command.TheVariants as commands;
 ghost use Rattle.cts_program.specs.Answers.{problem_kinds, IsAnswer, IsRefusal};
-ghost use Rattle.cts_program.specs.DemoTexts.{demo_texts, summary_lines, IsDemoText};
+ghost use Rattle.answer_texts.specs.DemoTexts.{IsDemoText};
+ghost use Rattle.cts_program.specs.DemoFiles.{demo_texts};
 ghost use Rattle.cts_program.specs.Documents.{Tell, RefusesFirst};
 ghost use Rattle.cts_program.specs.Files.{request_of};
 ghost use Rattle.cts_program.specs.Steps.{FailsCircuit, OrMemory};
 ghost use Rattle.cts_program.specs.Told.{nothing, placed};
 
 use crate::reading::{DelayTable, Document, Netlist, Placement};
+use answer_texts::{Answer, summary_text};
 use cert_check::Verdict;
 use cts_base::NoMemory;
 use cts_engine::{Outcome, synthesize};
 use cts_model::{Problem, Report};
 use demo_input::Demo;
 use failure_lines::Failure;
-use report_text::{push_count, push_line, push_period, push_total};
 use std::alloc::Global;
-use timing_text::Answer;
 
 /// The summary of the demonstration with this number of registers and this seed.
 ///
@@ -88,7 +86,7 @@ fn problem_answer(alloc: Global, registers: u32, problem: &Problem) -> Result<An
             if !is_shown(alloc, problem, &report)? {
                 unreachable!();
             }
-            let text = summary(alloc, registers, &report)?;
+            let text = summary_text(alloc, registers, &report)?;
             Ok(Answer::done(text))
         }
         Outcome::Never(cycle) => Ok(Answer::never(alloc, &problem.circuit, cycle.as_slice())?),
@@ -107,17 +105,4 @@ fn is_shown(alloc: Global, problem: &Problem, report: &Report) -> Result<bool, N
         Verdict::Shown => Ok(true),
         Verdict::Not(_) => Ok(false),
     }
-}
-
-// The summary of a report over this number of registers.
-fn summary(alloc: Global, registers: u32, report: &Report) -> Result<Vec<u8>, NoMemory>
-    requires { (tech : Tech) × IsWithinBounds tech report.now }
-    ensures { IfOk result (λ text. text.items ≡ text_of (summary_lines registers report.now)) }
-{
-    let mut out = Vec::new(alloc);
-    push_count(&mut out, b"registers", registers as usize)?;
-    push_period(&mut out, report.period)?;
-    push_total(&mut out, report)?;
-    push_line(&mut out, b"shown", &[])?;
-    Ok(out)
 }

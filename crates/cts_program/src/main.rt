@@ -1,20 +1,14 @@
 //! The clock tree synthesizer `cts`.
 #![tactic(auto)]
 
-mod arrivals;
+mod answers;
 mod call;
 mod check;
 mod commands;
-mod cornering;
 mod demo;
-mod margin;
 mod moves;
-mod period;
 mod reading;
 mod run;
-mod scheduling;
-mod synth;
-mod zero;
 
 use call::answer_call;
 use cts_io::{HostErr, HostInputs, HostOut};

@@ -5,10 +5,12 @@ ghost use Rattle.cts_model.specs.declared.problem.Problem.{Problem};
 ghost use Rattle.cts_model.specs.timing.PairLists.{JoinsMoreThan};
 ghost use Rattle.cts_model.specs.table.Tables.{IsWithin};
 ghost use Rattle.cts_engine.specs.SessionOutcomes.{IsGrid, IsSessionOf};
-ghost use Rattle.timing_text.specs.Endings.{ending_status};
-ghost use Rattle.cts_program.specs.MoveTexts.{AppendsWire, IsMovesText, IsNearMove, IsWiresText};
+ghost use Rattle.answer_texts.specs.Endings.{ending_status};
+ghost use Rattle.answer_texts.specs.MoveTexts.{IsMovesText, IsWiresText};
+ghost use Rattle.cts_program.specs.MoveSteps.{AppendsWire, IsNearMove};
 ghost use Rattle.cts_program.specs.Steps.{FailsCircuit};
 
+use answer_texts::Answer;
 use cts_base::{Listed, NoMemory};
 use cts_engine::{SessionOutcome, move_register, session_of};
 use cts_model::Problem;
@@ -16,7 +18,6 @@ use failure_lines::Failure;
 use move_session::{Move, Session};
 use report_text::push_wire_length;
 use std::alloc::Global;
-use timing_text::Answer;
 
 /// How long the clock tree of a problem is, and how long it is after each of these moves, in
 /// length units.

@@ -4,7 +4,7 @@ ghost use Rattle.command_line.specs.Commands.{HasValidTables, HasValidValues};
 ghost use Rattle.failure_lines.specs.declared.failure.Failure.{Failure};
 ghost use Rattle.failure_lines.specs.declared.file_kind.FileKind.{FileKind};
 ghost use Rattle.failure_lines.specs.Failures.{status_of};
-ghost use Rattle.timing_text.specs.Endings.{ending_status};
+ghost use Rattle.answer_texts.specs.Endings.{ending_status};
 ghost use Rattle.cts_program.specs.Answers.{is_ending};
 ghost use Rattle.cts_program.specs.Files.{Request, Ask, request_of, AreDenoted};
 ghost use Rattle.cts_program.specs.Run.{IsNoCommand, RefusesRequest, CannotRead, Ends, EndsFor, EndsInPart, Fails, Keeps, Reported, ShowsFaults};
@@ -15,12 +15,12 @@ use crate::commands::{
     schedule_command, synth_command, zero_command,
 };
 use crate::demo::demo;
+use answer_texts::{Answer, Ending};
 use command_line::{Command, read_command};
 use cts_io::{Inputs, Sink, write_whole};
 use failure_lines::Failure;
 use report_text::laws;
 use std::alloc::Global;
-use timing_text::{Answer, Ending};
 
 /// All that the program does: answers the words after its name, and gives its exit status. A
 /// refusal is reported by one line on `err`; a failing `err` changes no status.

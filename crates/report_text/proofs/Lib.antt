@@ -13,7 +13,7 @@ mod OneTiming
 mod OneTree
 pub mod ReportWords
 mod ReadCorners
-mod WordBytes
+pub mod WordBytes
 mod NameNumbers
 mod RegisterNames
 pub mod FlawLemmas

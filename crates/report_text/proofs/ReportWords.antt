@@ -29,19 +29,19 @@ abbrev pub AreLines : List Words → Type 0
 AreLines lines = AllByRecursion IsLine lines
 
 -- one list after another
-appended : {X : Type 0} (P : X → Type 0) (xs ys : List X) → AllByRecursion P xs
+pub appended : {X : Type 0} (P : X → Type 0) (xs ys : List X) → AllByRecursion P xs
     → AllByRecursion P ys → AllByRecursion P (xs ++ ys)
 appended P [] ys each each' = each'
 appended P (x ∷ xs) ys each each' = (each.0, appended P xs ys each.1 each')
 
 -- what is so of each image
-mapped : {X Y : Type 0} (P : Y → Type 0) (f : X → Y) (xs : List X) → ((x : X) → P (f x))
+pub mapped : {X Y : Type 0} (P : Y → Type 0) (f : X → Y) (xs : List X) → ((x : X) → P (f x))
     → AllByRecursion P (map f xs)
 mapped P f [] each = tt
 mapped P f (x ∷ xs) each = (each x, mapped P f xs each)
 
 -- the line of a constraint
-constraint_is : (circuit : Circuit) (constraint : Constraint)
+pub constraint_is : (circuit : Circuit) (constraint : Constraint)
     → IsLine (line_for circuit constraint)
 constraint_is circuit constraint = at constraint.setup
   where
@@ -90,7 +90,7 @@ pathed_are circuit (constraint ∷ cycle) (path ∷ paths) =
     (constraint_is circuit constraint, (path_is circuit path, pathed_are circuit cycle paths))
 
 -- those of what shows a period
-shown_are : (version : Version) (circuit : Circuit) (shown : PeriodShow) (paths : List (List ℕ))
+pub shown_are : (version : Version) (circuit : Circuit) (shown : PeriodShow) (paths : List (List ℕ))
     → AreLines (period_show_lines version circuit shown paths)
 shown_are First circuit (Cycle cycle) paths = (
   (search arith, (number_word (pos (length cycle)), tt)),
@@ -133,7 +133,7 @@ version_is First = search arith
 version_is Second = search arith
 
 -- the line of a count
-count_is : (word : List ℕ) (count : ℕ) → IsWord word → IsLine (count_line word count)
+pub count_is : (word : List ℕ) (count : ℕ) → IsWord word → IsLine (count_line word count)
 count_is word count is = (is, (number_word (pos count), tt))
 
 -- the lines of the timing

@@ -3,7 +3,7 @@
 ghost use Rattle.std.specs.Prelude.{◌≡◌, ◌++◌, ◌∷◌, [], ℕ, IsTrue, List, length, All};
 ghost use Rattle.cts_model.specs.tree.Topologies.{IsTopology};
 ghost use Rattle.failure_lines.specs.declared.file_kind.FileKind.TheVariants as kinds;
-ghost use Rattle.cts_program.specs.MoveTexts.{IsNearMove};
+ghost use Rattle.cts_program.specs.MoveSteps.{IsNearMove};
 ghost use Rattle.cts_model.specs.report.ReportBounds.{IsOfSize, IsWithinBounds};
 ghost use Rattle.cts_program.specs.Documents.{DiffersFromFirst};
 ghost use Rattle.cts_program.specs.Steps.{AreServed, IsBare};

@@ -1,5 +1,5 @@
 -- The constraints of the pairs say the same as the paths.
-use Rattle.cts_engine.specs.declared.margin.MarginOutcome.TheVariants.{Found, Unbounded}
+use Rattle.outcomes.specs.declared.margin.MarginOutcome.TheVariants.{Found, Unbounded}
 use Rattle.cts_engine.proofs.MarginLemmas.{found_over_paths, unbounded_exactly, unbounded_over_paths}
 use Rattle.cts_engine.proofs.margin.margin_of.Goals as goal
 

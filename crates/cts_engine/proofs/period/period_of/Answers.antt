@@ -1,4 +1,4 @@
-use Rattle.cts_engine.specs.declared.period.PeriodOutcome.TheVariants.{Found, Never}
+use Rattle.outcomes.specs.declared.period.PeriodOutcome.TheVariants.{Found, Never}
 use Rattle.cts_engine.proofs.OutcomeLemmas.{never_exactly}
 use Rattle.cts_engine.proofs.period.period_of.Goals as goal
 

@@ -4,7 +4,7 @@ use Rattle.std.proofs.lemmas.Int.{ints}
 use Rattle.cts_model.specs.table.Tables.{IsWithin}
 use Rattle.cts_model.proofs.GridLemmas.{grid_size, number_read}
 use Rattle.cts_engine.specs.SinkOutcomes.{AreTimedSinks}
-use Rattle.cts_engine.specs.declared.period.PeriodOutcome.TheVariants.{Never}
+use Rattle.outcomes.specs.declared.period.PeriodOutcome.TheVariants.{Never}
 use Rattle.cts_engine.proofs.OutcomeLemmas.{never_exactly}
 use Rattle.cts_engine.proofs.SessionLemmas.{grid_within, session_is}
 use Rattle.cts_engine.proofs.SinkLemmas.{tree_source}

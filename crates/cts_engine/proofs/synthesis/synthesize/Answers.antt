@@ -1,4 +1,4 @@
-use Rattle.cts_engine.specs.declared.period.PeriodOutcome.TheVariants.{Never}
+use Rattle.outcomes.specs.declared.period.PeriodOutcome.TheVariants.{Never}
 use Rattle.cts_engine.proofs.OutcomeLemmas.{never_exactly}
 use Rattle.cts_engine.proofs.ShownReports.{report_is_shown}
 use Rattle.cts_engine.proofs.TreeBounds.{greedy_topology}

@@ -2,25 +2,22 @@ use Rattle.std.proofs.Common.{[], refl}
 use Rattle.std.proofs.lemmas.Result.{err_from_is_err_and}
 use Rattle.command_line.specs.declared.command.Command.TheVariants.{Margin}
 use Rattle.cts_program.specs.Files.{circuit_files, request_of}
-use Rattle.cts_program.specs.MarginTexts.{IsMarginText}
-use Rattle.cts_program.proofs.CommandLemmas.{by_files}
+use Rattle.answer_texts.specs.MarginTexts.{IsMarginText}
 use Rattle.cts_program.proofs.StepLemmas.{step_counts, reading_fails, answered_circuit, says_done}
 use Rattle.cts_program.proofs.commands.margin_command.Goals as goal
 
 pub returns-in_err-read_circuit : goal.returns-in_err-read_circuit
-unfolding request_of
 returns-in_err-read_circuit g c =
     let p = err_from_is_err_and c.from_residual.result c.from_residual.ensures.1 in
-    rw (p.1, p.2) (reading_fails (request_of (Margin c.args.bench c.args.tech c.args.period))
-    (by_files _ (λ same. cc same))
+    rw (p.1, p.2) (reading_fails (Margin c.args.bench c.args.tech c.args.period)
+    (λ same. cc same)
     (circuit_files c.args.bench.now c.args.tech.now) [] refl _ c.in_err-read_circuit.ensures.step)
 
 pub returns : goal.returns
 unfolding request_of
 returns g c =
     let step = c.in_ok-read_circuit.ensures.step in
-    answered_circuit (request_of (Margin c.args.bench c.args.tech c.args.period)) (by_files _
-    (λ same. cc same)) _ c.margin.result
+    answered_circuit (Margin c.args.bench c.args.tech c.args.period) (λ same. cc same) _ c.margin.result
     step.gives step.files (step_counts _ step) refl (λ same. cc same) c.margin.ensures.few
     (says_done (λ circuit tech. IsMarginText circuit tech c.args.period.now) _ _ _ c.margin.result
     refl refl

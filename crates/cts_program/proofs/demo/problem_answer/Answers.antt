@@ -1,8 +1,8 @@
-use Rattle.cts_program.proofs.TreeTexts.{summary_says}
+use Rattle.answer_texts.proofs.TreeTexts.{summary_says}
 use Rattle.cts_program.proofs.demo.problem_answer.Goals as goal
 
-pub summary-requires : goal.summary-requires
-summary-requires c =
+pub summary_text-requires : goal.summary_text-requires
+summary_text-requires c =
     (c.args.problem.now.tech, (rw c.in-Done.is at c.in_ok-report.ensures.ok).made.bounds)
 
 pub never-requires : goal.never-requires

@@ -4,7 +4,8 @@ use Rattle.std.specs.List.{All}
 use Rattle.std.proofs.lemmas.Int.{ints}
 use Rattle.cts_model.specs.table.Tables.{IsWithin}
 use Rattle.cts_engine.specs.SessionOutcomes.{IsGrid, IsSessionOf}
-use Rattle.cts_program.specs.MoveTexts.{IsNearMove, IsWiresText}
+use Rattle.answer_texts.specs.MoveTexts.{IsWiresText}
+use Rattle.cts_program.specs.MoveSteps.{IsNearMove}
 use Rattle.cts_program.proofs.WireTexts.{as_many_sinks}
 use Rattle.cts_program.proofs.moves.moves.Goals as goal
 

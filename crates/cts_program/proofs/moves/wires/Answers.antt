@@ -4,7 +4,7 @@ use Rattle.std.proofs.lemmas.Int.{ints}
 use Rattle.std.proofs.lemmas.List.{take_all, take_more}
 use Rattle.move_session.specs.declared.moves.Move.{Move}
 use Rattle.cts_engine.specs.SessionOutcomes.{IsSessionOf}
-use Rattle.cts_program.specs.MoveTexts.{AppendsWire}
+use Rattle.cts_program.specs.MoveSteps.{AppendsWire}
 use Rattle.cts_program.proofs.WireTexts.{AreWritten, session_stands, wires_first, wires_next, wires_text}
 use Rattle.cts_program.proofs.moves.wires.Goals as goal
 

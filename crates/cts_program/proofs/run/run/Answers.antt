@@ -2,7 +2,7 @@ use Rattle.std.proofs.Common.{◌≡◌, map, string_bytes, inl, sym, ◌∙◌,
 use Rattle.failure_lines.specs.declared.failure.Failure.TheVariants.{ReadFault, WriteFault}
 use Rattle.failure_lines.specs.declared.file_kind.FileKind.{FileKind}
 use Rattle.failure_lines.specs.Failures.{status_of}
-use Rattle.timing_text.specs.Endings.{ending_status}
+use Rattle.answer_texts.specs.Endings.{ending_status}
 use Rattle.cts_program.specs.Answers.{IsStatusOf}
 use Rattle.cts_program.specs.Run.{DenotesText}
 use Rattle.cts_program.proofs.OneDocument.{ReportLaws}

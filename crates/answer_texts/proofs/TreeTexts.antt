@@ -1,0 +1,55 @@
+-- A text that spells the report of a clock tree, and the summary of one.
+use Rattle.std.proofs.Common.{◌≡◌, ℕ, List, refl}
+use Rattle.cts_model.specs.declared.problem.Problem.{Problem}
+use Rattle.cts_model.specs.declared.report.Report.{Report}
+use Rattle.cts_model.specs.declared.tree.Topology.{Topology}
+use Rattle.cts_model.specs.text.PrintedLines.{text_of}
+use Rattle.cts_model.specs.report.ReportLines.{report_lines}
+use Rattle.cert_check.specs.declared.verdict.Verdict.TheVariants.{Shown}
+use Rattle.cert_check.specs.Verdicts.{IsVerdict}
+use Rattle.outcomes.specs.Syntheses.{IsReportWith, IsReportOf}
+use Rattle.outcomes.specs.ShownCycles.{ShowsFromLowest}
+use Rattle.answer_texts.specs.DemoTexts.{summary_lines, IsSummaryText}
+use Rattle.answer_texts.specs.Headline.{IsTreeText, IsSynthesisText, IsEmbeddingText}
+
+module _ (problem : Problem) (report : Report) (lowest : ShowsFromLowest report.shown) where
+  -- the lines of a report of the problem spell a clock tree for it
+  tree_spelled : (topology : Topology) → IsReportWith problem topology report → (text : List ℕ)
+      → text ≡ text_of (report_lines problem.circuit report) → IsTreeText problem text
+  tree_spelled topology made text spelled = record {
+    report = report;
+    spelled = record { size = made.size; bounds = made.bounds; lines = spelled };
+    version = made.version;
+    is = made.is;
+    shows = made.shows;
+    lowest = lowest;
+  }
+
+  -- that by the topology that is given
+  pub embedding_spelled : (topology : Topology) → IsReportWith problem topology report
+      → (text : List ℕ) → text ≡ text_of (report_lines problem.circuit report)
+      → IsEmbeddingText problem topology text
+  unfolding tree_spelled
+  embedding_spelled topology made text spelled =
+      record { tree = tree_spelled topology made text spelled; given = made.given }
+
+  module _ (made : IsReportOf problem report) where
+    -- and that by the greedy one
+    pub synthesis_spelled : (text : List ℕ)
+        → text ≡ text_of (report_lines problem.circuit report) → IsSynthesisText problem text
+    unfolding tree_spelled
+    synthesis_spelled text spelled = record {
+      tree = tree_spelled report.topology made.made text spelled;
+      greedy = made.greedy;
+    }
+
+    -- so the summary of a report that the checker shows is one of that tree
+    pub summary_says : (registers : ℕ) → IsVerdict problem report Shown → (text : List ℕ)
+        → text ≡ text_of (summary_lines registers report) → IsSummaryText registers problem text
+    unfolding tree_spelled synthesis_spelled
+    summary_says registers checked text spelled = record {
+      printed = text_of (report_lines problem.circuit report);
+      tree = synthesis_spelled (text_of (report_lines problem.circuit report)) refl;
+      checked = checked;
+      spelled = spelled;
+    }

@@ -1,0 +1,59 @@
+-- What the command `corners` prints: the least period and the least arrivals that serve the delay
+-- tables of several corners, or what forbids every period. Fishburn, "Clock Skew Optimization",
+-- 1990, in each corner.
+use Rattle.std.specs.Prelude.{◌≡◌, ◌+◌, ℕ, pos, List, [], ◌∷◌, ◌++◌, length, slice_index_or, codes}
+use Rattle.std.specs.Fmt.{signed_decimal}
+use Rattle.cts_model.specs.declared.circuit.Circuit.{Circuit}
+use Rattle.cts_model.specs.declared.constraint.Constraint.{Constraint}
+use Rattle.cts_model.specs.declared.period.PeriodShow.{PeriodShow}
+use Rattle.cts_model.specs.declared.period.PeriodShow.TheVariants as shows
+use Rattle.cts_model.specs.declared.tech.Tech.{Tech}
+use Rattle.cts_model.specs.text.PrintedLines.{Words, text_of, count_line, floor_line, line_for, period_line}
+use Rattle.cts_model.specs.report.ReportLines.{lines_below}
+use Rattle.corners.specs.declared.outcome.CornersOutcome.{CornersOutcome}
+use Rattle.corners.specs.declared.outcome.CornersOutcome.TheVariants.{Found, Never}
+use Rattle.corners.specs.CornerLists.{constraint_at}
+use Rattle.corners.specs.CornerOutcomes.{IsCornersOutcome, HasLowestFirst}
+use Rattle.answer_texts.specs.ArrivalTexts.{arrival_lines}
+
+-- the line of a constraint, and after it the number of its corner
+abbrev pub numbered_line : Circuit → Constraint → (number : ℕ) → Words
+numbered_line circuit constraint number =
+    line_for circuit constraint ++ signed_decimal (pos number) ∷ []
+
+-- that of the constraint at a place; its corner is counted from 1
+abbrev pub numbered_line_at : Circuit → List Constraint → (corners : List ℕ) → ℕ → Words
+numbered_line_at circuit cycle corners place =
+    numbered_line circuit (constraint_at cycle place) (slice_index_or corners place 0 + 1)
+
+-- a cycle, and its constraints in order
+abbrev pub numbered_lines : Circuit → List Constraint → (corners : List ℕ) → List Words
+numbered_lines circuit cycle corners = count_line (codes "cycle") (length cycle)
+    ∷ lines_below (numbered_line_at circuit cycle corners) (length cycle)
+
+-- what shows that no period is less
+abbrev pub common_show_lines : Circuit → PeriodShow → (corners : List ℕ) → List Words
+common_show_lines circuit (shows.Cycle cycle) corners = numbered_lines circuit cycle corners
+common_show_lines circuit shows.Floor corners = floor_line ∷ []
+
+-- the lines for an outcome
+abbrev pub corners_lines : Circuit → CornersOutcome → List Words
+corners_lines circuit (Found period shown corners schedule) = period_line period
+    ∷ common_show_lines circuit shown corners ++ arrival_lines circuit schedule
+corners_lines circuit (Never cycle corners) =
+    (codes "never" ∷ []) ∷ numbered_lines circuit cycle corners
+
+-- the exit status for an outcome
+abbrev pub corners_status : CornersOutcome → ℕ
+corners_status (Found period shown corners schedule) = 0
+corners_status (Never cycle corners) = 1
+
+-- the bytes are a text for the least schedule that serves all corners of this circuit, with its
+-- status; the cycle begins at its lowest register
+pub record IsCornersText (circuit : Circuit) (techs : List Tech) (status : ℕ)
+    (text : List ℕ) : Type 0 where
+  pub outcome : CornersOutcome
+  pub serves : IsCornersOutcome circuit techs outcome
+  pub lowest : HasLowestFirst outcome
+  pub status_is : status ≡ corners_status outcome
+  pub spelled : text ≡ text_of (corners_lines circuit outcome)

@@ -1,0 +1,34 @@
+-- What a text of the commands `synth` and `embed` says with status 0: a clock tree whose period,
+-- schedule and wire are the least, and what shows them. Fishburn, "Clock Skew Optimization", 1990;
+-- Boese and Kahng 1992; Chao and others 1992.
+use Rattle.std.specs.Prelude.{◌≡◌, ℕ, List}
+use Rattle.cts_model.specs.declared.problem.Problem.{Problem}
+use Rattle.cts_model.specs.declared.report.Report.{Report}
+use Rattle.cts_model.specs.declared.report.Version.TheVariants.{Second}
+use Rattle.cts_model.specs.declared.tree.Topology.{Topology}
+use Rattle.cts_model.specs.tree.GreedyMerges.{IsGreedy}
+use Rattle.cts_model.specs.report.ReportBounds.{Spells}
+use Rattle.cts_model.specs.report.Shown.{sinks_in}
+use Rattle.outcomes.specs.ShownCycles.{ShowsFromLowest}
+use Rattle.outcomes.specs.Syntheses.{IsSynthesis, ShowsSynthesis}
+
+-- the bytes spell a clock tree for the problem, and what shows it; the cycle that shows the period
+-- begins at its lowest register
+pub record IsTreeText (problem : Problem) (text : List ℕ) : Type 0 where
+  pub report : Report
+  pub spelled : Spells problem.circuit problem.tech text report
+  pub version : report.version ≡ Second
+  pub is : IsSynthesis problem report
+  pub shows : ShowsSynthesis problem report
+  pub lowest : ShowsFromLowest report.shown
+
+-- so they do, and the topology is the greedy one
+pub record IsSynthesisText (problem : Problem) (text : List ℕ) : Type 0 where
+  pub tree : IsTreeText problem text
+  pub greedy : IsGreedy (sinks_in problem tree.report) tree.report.topology.merges
+
+-- or it is the given one
+pub record IsEmbeddingText (problem : Problem) (topology : Topology) (text : List ℕ)
+    : Type 0 where
+  pub tree : IsTreeText problem text
+  pub given : tree.report.topology ≡ topology

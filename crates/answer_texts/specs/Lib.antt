@@ -1,0 +1,12 @@
+pub mod Endings
+pub mod PeriodTexts
+pub mod ZeroTexts
+pub mod ScheduleTexts
+pub mod ArrivalTexts
+pub mod MarginTexts
+pub mod CornerTexts
+pub mod Headline
+pub mod SynthTexts
+pub mod CheckTexts
+pub mod DemoTexts
+pub mod MoveTexts

@@ -1,0 +1,50 @@
+-- What the command `period` prints: the least period and what shows it, or what forbids all.
+-- Fishburn, "Clock Skew Optimization", 1990.
+use Rattle.std.specs.Prelude.{◌≡◌, ℕ, List, [], ◌∷◌, codes}
+use Rattle.std.specs.Fmt.{signed_decimal}
+use Rattle.cts_base.specs.declared.fraction.Fraction.{Fraction}
+use Rattle.cts_model.specs.declared.circuit.Circuit.{Circuit}
+use Rattle.cts_model.specs.declared.constraint.Constraint.{Constraint}
+use Rattle.cts_model.specs.declared.period.PeriodShow.{PeriodShow}
+use Rattle.cts_model.specs.declared.tech.Tech.{Tech}
+use Rattle.cts_model.specs.declared.timing.ZeroSkew.{ZeroSkew}
+use Rattle.cts_model.specs.declared.timing.ZeroSkew.TheVariants as zeros
+use Rattle.cts_model.specs.text.PrintedLines.{Words, text_of, period_line, cycle_lines, show_lines}
+use Rattle.outcomes.specs.declared.period.PeriodOutcome.{PeriodOutcome}
+use Rattle.outcomes.specs.declared.period.PeriodOutcome.TheVariants.{Found, Never}
+use Rattle.outcomes.specs.PeriodOutcomes.{IsPeriodOutcome, BeginsLowest}
+
+-- the least period at equal arrivals, in ticks
+abbrev pub zero_line : ZeroSkew → Words
+zero_line (zeros.Fails pair) = codes "zero" ∷ codes "none" ∷ []
+zero_line (zeros.Floor value) = codes "zero" ∷ signed_decimal value ∷ []
+zero_line (zeros.Setup value pair) = codes "zero" ∷ signed_decimal value ∷ []
+
+-- the least period, with and without skew, and what shows the one with it
+abbrev pub found_lines : Circuit → ZeroSkew → Fraction → PeriodShow → List Words
+found_lines circuit zero period shown =
+    period_line period ∷ zero_line zero ∷ show_lines circuit shown
+
+-- a cycle that forbids every period
+abbrev pub never_lines : Circuit → List Constraint → List Words
+never_lines circuit cycle = (codes "never" ∷ []) ∷ cycle_lines circuit cycle
+
+-- the lines for an outcome
+abbrev pub period_lines : Circuit → PeriodOutcome → List Words
+period_lines circuit (Found zero period shown) = found_lines circuit zero period shown
+period_lines circuit (Never cycle) = never_lines circuit cycle
+
+-- the exit status for an outcome
+abbrev pub outcome_status : PeriodOutcome → ℕ
+outcome_status (Found zero period shown) = 0
+outcome_status (Never cycle) = 1
+
+-- the bytes are a text for the least period of this circuit, with its status; the cycle begins at
+-- its lowest register
+pub record IsPeriodText (circuit : Circuit) (tech : Tech) (status : ℕ)
+    (text : List ℕ) : Type 0 where
+  pub outcome : PeriodOutcome
+  pub least : IsPeriodOutcome circuit tech outcome
+  pub lowest : BeginsLowest outcome
+  pub status_is : status ≡ outcome_status outcome
+  pub spelled : text ≡ text_of (period_lines circuit outcome)

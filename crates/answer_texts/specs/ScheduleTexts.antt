@@ -1,0 +1,50 @@
+-- What the command `schedule` prints: what `period` prints, and after it when the clock is to
+-- reach each register and what the register has to spare. Fishburn, "Clock Skew Optimization",
+-- 1990.
+use Rattle.std.specs.Prelude.{◌≡◌, ◌^◌, ℕ, pos, ◌≤ℤ◌, List, ◌∷◌, ◌++◌, All, length, None, slice_index_or, codes}
+use Rattle.cts_model.specs.declared.circuit.Circuit.{Circuit}
+use Rattle.cts_model.specs.declared.schedule.Schedule.{Schedule}
+use Rattle.cts_model.specs.declared.schedule.Slack.{Slack}
+use Rattle.cts_model.specs.declared.tech.Tech.{Tech}
+use Rattle.cts_model.specs.placement.Points.{IsBelow}
+use Rattle.cts_model.specs.report.ReportLines.{lines_below}
+use Rattle.cts_model.specs.text.PrintedLines.{Words, text_of, count_line, register_line}
+use Rattle.cts_model.specs.timing.Schedules.{arrival_of}
+use Rattle.outcomes.specs.declared.scheduling.ScheduleOutcome.{ScheduleOutcome}
+use Rattle.outcomes.specs.declared.scheduling.ScheduleOutcome.TheVariants.{Found, Never}
+use Rattle.outcomes.specs.PeriodOutcomes.{BeginsLowest}
+use Rattle.outcomes.specs.ScheduleOutcomes.{period_outcome, IsScheduleOutcome}
+use Rattle.answer_texts.specs.PeriodTexts.{outcome_status, found_lines, never_lines}
+
+-- arrivals below 10^19 over a denominator from 1 to 4,097
+pub record IsSmallSchedule (schedule : Schedule) : Type 0 where
+  pub some_den : pos 1 ≤ℤ schedule.den
+  pub low_den : schedule.den ≤ℤ pos 4097
+  pub arrivals : All (IsBelow (10 ^ 19)) schedule.at
+
+-- the register's line, by its number
+abbrev pub register_line_at : Circuit → Schedule → List Slack → ℕ → Words
+register_line_at circuit schedule slacks register = register_line circuit schedule.den register
+    (arrival_of schedule.at register)
+    (slice_index_or slacks register (record { setup = None; hold = None }))
+
+-- how many registers there are, and each of them in order
+abbrev pub register_lines : Circuit → Schedule → List Slack → List Words
+register_lines circuit schedule slacks = count_line (codes "registers") (length schedule.at)
+    ∷ lines_below (register_line_at circuit schedule slacks) (length schedule.at)
+
+-- the lines for an outcome
+abbrev pub schedule_lines : Circuit → ScheduleOutcome → List Words
+schedule_lines circuit (Found zero period shown schedule slacks) =
+    found_lines circuit zero period shown ++ register_lines circuit schedule slacks
+schedule_lines circuit (Never cycle) = never_lines circuit cycle
+
+-- the bytes are the text for the least schedule of this circuit at its least period, with its
+-- status; the cycle begins at its lowest register
+pub record IsScheduleText (circuit : Circuit) (tech : Tech) (status : ℕ)
+    (text : List ℕ) : Type 0 where
+  pub outcome : ScheduleOutcome
+  pub least : IsScheduleOutcome circuit tech outcome
+  pub lowest : BeginsLowest (period_outcome outcome)
+  pub status_is : status ≡ outcome_status (period_outcome outcome)
+  pub spelled : text ≡ text_of (schedule_lines circuit outcome)

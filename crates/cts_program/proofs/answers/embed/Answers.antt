@@ -1,0 +1,11 @@
+use Rattle.answer_texts.proofs.OutcomeTexts.{embed_says}
+use Rattle.cts_program.proofs.answers.embed.Goals as goal
+
+pub tree_answer-requires : goal.tree_answer-requires
+tree_answer-requires c = (c.args.topology.now, c.in_ok-outcome.ensures.ok)
+
+pub returns-clause-text : goal.returns-clause-text
+returns-clause-text c =
+    embed_says c.args.problem.now c.args.topology.now c.in_ok-outcome.outcome
+    c.in_ok-outcome.ensures.ok c.in_ok-outcome.ensures.lowest _ _ c.in_ok-tree_answer.ensures.ending
+    c.in_ok-tree_answer.ensures.text

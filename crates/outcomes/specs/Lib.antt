@@ -1,0 +1,6 @@
+pub mod ShownCycles
+pub mod PeriodOutcomes
+pub mod ScheduleOutcomes
+pub mod CircuitMargins
+pub mod Syntheses
+pub mod SynthesisOutcomes
