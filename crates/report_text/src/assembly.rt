@@ -6,7 +6,7 @@ ghost use Rattle.cts_model.specs.placement.Points.{IsBelow};
 ghost use Rattle.cts_model.specs.report.ReportBounds.{Spells};
 ghost use Rattle.cts_model.specs.timing.Schedules.{IsSmallPeriod};
 ghost use Rattle.report_text.specs.Parts.{HasParts};
-ghost use Rattle.report_text.specs.DenotedReports.{arrivals_in, begin_of, report_denoted, sink_reaches};
+ghost use Rattle.report_text.specs.DenotedReports.{arrivals_in, begin_of, lengths_in, merges_in, places_in, reaches_in, report_denoted, sink_reaches, slacks_in, wires_in};
 
 use crate::sections::Parts;
 use crate::timing_values::Timed;
@@ -32,41 +32,108 @@ fn put_together(alloc: Global, tech: &Tech, parts: Parts) -> Result<Report, NoMe
     requires arrivals { All (IsBelow (10 ^ 19)) (arrivals_in parts) }
     ensures { IfOk result (λ report. report ≡ report_denoted tech.now parts) }
 {
-    let period = parts.heading.period;
+    let columns = columns_of(alloc, tech, &parts)?;
+    let Parts {
+        heading,
+        shown,
+        body,
+    } = parts;
+    let period = heading.period;
     let grid = Grid { period, tech };
-    let body = parts.body;
-    let source = body.source;
+    let den = period.den();
+    Ok(Report {
+        version: heading.version,
+        period,
+        shown: shown.shown,
+        paths: shown.paths,
+        schedule: Schedule {
+            den,
+            at: columns.at,
+        },
+        slacks: columns.slacks,
+        leads: body.leads,
+        grid: grid.steps_of_unit(),
+        topology: Topology {
+            merges: columns.merges,
+        },
+        tree: columns.tree,
+        shows: columns.shows,
+        wires: columns.wires,
+        total: body.total.length,
+    })
+}
+
+/// What the rows of a report tell, column by column.
+#[derive(Drop)]
+pub(crate) struct Columns {
+    at: Listed<i128>,
+    slacks: Listed<Slack>,
+    merges: Listed<Merge>,
+    shows: Listed<Show>,
+    tree: Tree,
+    wires: Listed<Wire>,
+}
+
+// The columns of these parts.
+fn columns_of(alloc: Global, tech: &Tech, parts: &Parts) -> Result<Columns, NoMemory>
+    requires { All (IsBelow (10 ^ 19)) (arrivals_in parts.now) }
+    ensures at { IfOk result (λ columns. columns.at ≡ arrivals_in parts.now) }
+    ensures slacks { IfOk result (λ columns. columns.slacks ≡ slacks_in parts.now) }
+    ensures merges { IfOk result (λ columns. columns.merges ≡ merges_in parts.now) }
+    ensures shows { IfOk result (λ columns.
+        columns.shows ≡ (report_denoted tech.now parts.now).shows) }
+    ensures tree { IfOk result (λ columns.
+        columns.tree ≡ (report_denoted tech.now parts.now).tree) }
+    ensures wires { IfOk result (λ columns. columns.wires ≡ wires_in parts.now) }
+{
+    let body = &parts.body;
     let at = Listed::from_vec(arrivals_of(alloc, body.timings.as_slice())?);
     let slacks = Listed::from_vec(slacks_of(alloc, body.timings.as_slice())?);
     let merges = Listed::from_vec(merges_of(alloc, body.merged.as_slice())?);
     let shows = Listed::from_vec(shows_of(alloc, body.merged.as_slice())?);
-    let merged = merge_reaches_of(alloc, body.merged.as_slice())?;
-    let reach = reaches_of(alloc, tech, at.as_slice(), merged.as_slice(), source.reach)?;
-    let places = Listed::from_vec(places_of(alloc, body.placed.as_slice())?);
-    let length = Listed::from_vec(lengths_of(alloc, body.placed.as_slice())?);
+    let shows = with_last(shows, body.source.show)?;
     let wires = Listed::from_vec(wires_of(alloc, body.placed.as_slice())?);
-    let begin = begin_of(wires.as_slice());
-    let place = with_last(places, begin)?;
-    let shows = with_last(shows, source.show)?;
-    let den = period.den();
-    Ok(Report {
-        version: parts.heading.version,
-        period,
-        shown: parts.shown.shown,
-        paths: parts.shown.paths,
-        schedule: Schedule { den, at },
+    let tree = tree_of(
+        alloc,
+        tech,
+        at.as_slice(),
+        parts,
+        begin_of(wires.as_slice()),
+    )?;
+    Ok(Columns {
+        at,
         slacks,
-        leads: body.leads,
-        grid: grid.steps_of_unit(),
-        topology: Topology { merges },
-        tree: Tree {
-            reach,
-            place,
-            length,
-        },
+        merges,
         shows,
+        tree,
         wires,
-        total: body.total.length,
+    })
+}
+
+// The tree of these parts, where its sinks have these arrivals and the source stands here.
+fn tree_of(
+    alloc: Global,
+    tech: &Tech,
+    arrivals: &[i128],
+    parts: &Parts,
+    source: Point,
+) -> Result<Tree, NoMemory>
+    requires { All (IsBelow (10 ^ 19)) arrivals.now }
+    ensures reach { IfOk result (λ tree. tree.reach ≡ sink_reaches tech.now arrivals.now
+        ++ reaches_in parts.now ++ parts.now.body.source.reach ∷ []) }
+    ensures place { IfOk result (λ tree. tree.place ≡ places_in parts.now ++ source ∷ []) }
+    ensures length { IfOk result (λ tree. tree.length ≡ lengths_in parts.now) }
+{
+    let body = &parts.body;
+    let merged = merge_reaches_of(alloc, body.merged.as_slice())?;
+    let reach = reaches_of(alloc, tech, arrivals, merged.as_slice(), body.source.reach)?;
+    let places = Listed::from_vec(places_of(alloc, body.placed.as_slice())?);
+    let place = with_last(places, source)?;
+    let length = Listed::from_vec(lengths_of(alloc, body.placed.as_slice())?);
+    Ok(Tree {
+        reach,
+        place,
+        length,
     })
 }
 
