@@ -13,7 +13,8 @@ use Rattle.cts_engine.specs.declared.refusals.Refusal.TheVariants as refusals
 use Rattle.cts_engine.proofs.OneProblem.{table_accepted, table_fine}
 use Rattle.cts_c.specs.Refusals.{AreBothRefused, AreRefused, FailsFor}
 use Rattle.cts_c.specs.Statuses.{refusal_failure, pair_failure}
-use Rattle.cts_c.specs.declared.failure.Failure.TheVariants.{NoMemory}
+use Rattle.cts_c.specs.declared.failure.Failure.{Failure}
+use Rattle.cts_c.specs.declared.failure.Failure.TheVariants.{Refused, NoMemory}
 
 module _ (bench tech : List ℕ) where
   -- two texts that tell a circuit have no refusal but want of memory
@@ -39,15 +40,26 @@ module _ (bench tech : List ℕ) where
   all_refused pl refusals.NoMemory cause = tt
   all_refused pl refusal cause = inr (refusal, (λ e. cc e), cause)
 
-module _ (circuit : Circuit) where
-  -- a circuit that joins few pairs has an outcome, unless memory runs out
-  pub few_pairs : (JoinsMoreThan circuit 1048576 → ⊥) → (fault : PairFault)
-      → ShowsTooMany circuit fault → pair_failure fault ≡ NoMemory
-  few_pairs few pairs.TooManyPairs many = absurd (few many)
-  few_pairs few pairs.NoMemory many = refl
+-- a circuit that has no outcome joins too many pairs, or memory ran out
+pub many_pairs : (circuit : Circuit) (fault : PairFault) → ShowsTooMany circuit fault
+    → FailsFor (JoinsMoreThan circuit 1048576) (pair_failure fault)
+many_pairs circuit pairs.TooManyPairs many = many
+many_pairs circuit pairs.NoMemory many = tt
 
-  -- one that has none joins too many, or memory ran out
-  pub many_pairs : (Refuses : Type 0) → (JoinsMoreThan circuit 1048576 → Refuses)
-      → (fault : PairFault) → ShowsTooMany circuit fault → FailsFor Refuses (pair_failure fault)
-  many_pairs Refuses refuses pairs.TooManyPairs many = refuses many
-  many_pairs Refuses refuses pairs.NoMemory many = tt
+module _ {Refuses : Type 0} (failure : Failure) where
+  -- what fails for one cause fails for one that follows from it
+  pub fails_for : (Others : Type 0) → (Refuses → Others) → FailsFor Refuses failure
+      → FailsFor Others failure
+  fails_for Others gives = at failure
+    where
+      at : (failure : Failure) → FailsFor Refuses failure → FailsFor Others failure
+      at Refused refuses = gives refuses
+      at NoMemory fails = tt
+
+  -- and where there is no cause, memory ran out
+  pub fails_alone : (Refuses → ⊥) → FailsFor Refuses failure → failure ≡ NoMemory
+  fails_alone none = at failure
+    where
+      at : (failure : Failure) → FailsFor Refuses failure → failure ≡ NoMemory
+      at Refused refuses = absurd (none refuses)
+      at NoMemory fails = refl

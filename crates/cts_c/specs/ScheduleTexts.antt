@@ -14,12 +14,10 @@ use Rattle.outcomes.specs.declared.scheduling.ScheduleOutcome.{ScheduleOutcome}
 use Rattle.answer_texts.specs.PeriodTexts.{outcome_status}
 use Rattle.answer_texts.specs.ScheduleTexts.{schedule_lines}
 
--- two texts tell a circuit and its delays, and the bytes are the text for its least schedule, with
--- the status
-pub record IsScheduleText (bench tech : List ℕ) (status : ℕ) (text : List ℕ) : Type 0 where
-  pub circuit : Circuit
-  pub delays : Tech
-  pub tell : TellBoth bench tech circuit delays
+-- the bytes are the text for the least schedule of a circuit, with the status: a cycle, if it is that,
+-- forbids every period and begins at its lowest register
+pub record IsScheduleAnswer (circuit : Circuit) (delays : Tech) (status : ℕ) (text : List ℕ)
+    : Type 0 where
   pub few : JoinsMoreThan circuit 1048576 → ⊥
   pub outcome : ScheduleOutcome
   pub made : IsScheduleOutcome circuit delays outcome
@@ -27,3 +25,10 @@ pub record IsScheduleText (bench tech : List ℕ) (status : ℕ) (text : List �
   pub never : IsNeverOutcome (period_outcome outcome) ↔ HasNoPeriod circuit delays
   pub status_is : status ≡ outcome_status (period_outcome outcome)
   pub spelled : text ≡ text_of (schedule_lines circuit outcome)
+
+-- two texts tell a circuit and its delays, and so it is with these
+pub record IsScheduleText (bench tech : List ℕ) (status : ℕ) (text : List ℕ) : Type 0 where
+  pub circuit : Circuit
+  pub delays : Tech
+  pub tell : TellBoth bench tech circuit delays
+  pub is : IsScheduleAnswer circuit delays status text

@@ -3,19 +3,25 @@
 ghost use Rattle.std.specs.Prelude.{◌≡◌, ◌≢◌, ℕ, List, IfOk, IfErr};
 ghost use Rattle.cts_model.specs.declared.circuit.Circuit.{Circuit};
 ghost use Rattle.cts_model.specs.declared.tech.Tech.{Tech};
+ghost use Rattle.cts_model.specs.netlist.Paths.{IsLoop};
+ghost use Rattle.cts_model.specs.text.PrintedLines.{text_of};
 ghost use Rattle.cts_model.specs.timing.PairLists.{JoinsMoreThan};
+ghost use Rattle.outcomes.specs.ScheduleOutcomes.{period_outcome, HasSmallTimes, IsScheduleOutcome};
 ghost use Rattle.cts_engine.specs.Accepted.{TellBoth};
 ghost use Rattle.cts_c.specs.Buffers.{IsHanded, IsTooLarge, IsNone};
 ghost use Rattle.cts_c.specs.Refusals.{AreBothShort, RefusesSchedule, FailsFor};
-ghost use Rattle.cts_c.specs.ScheduleTexts.{IsScheduleText};
+ghost use Rattle.cts_c.specs.ScheduleTexts.{IsScheduleAnswer, IsScheduleText};
 ghost use Rattle.cts_c.specs.Statuses.{IsEnding, IsFailure, IsStatus};
 ghost use Rattle.answer_texts.specs.Endings.{ending_status};
+ghost use Rattle.answer_texts.specs.PeriodTexts.{outcome_status};
+ghost use Rattle.answer_texts.specs.ScheduleTexts.{schedule_lines};
 
 use crate::answer::hand_over;
 use crate::failure::Failure;
 use crate::texts::circuit_of;
 use answer_texts::{Answer, schedule_answer};
-use cts_engine::schedule_of;
+use cts_engine::{ScheduleOutcome, schedule_of};
+use cts_model::{Circuit, Tech};
 use std::alloc::Global;
 
 /// Writes what `cts schedule` prints for a netlist and a delay table to the beginning of `out`, and
@@ -66,6 +72,28 @@ fn answer_for(alloc: Global, bench: &[u8], tech: &[u8]) -> Result<Answer, Failur
         → IfErr result (λ failure. failure ≡ Failure.NoMemory) }
 {
     let denoted = circuit_of(alloc, bench, tech)?;
-    let outcome = schedule_of(alloc, &denoted.circuit, &denoted.tech)?;
-    Ok(schedule_answer(alloc, &denoted.circuit, &outcome)?)
+    circuit_answer(alloc, &denoted.circuit, &denoted.tech)
+}
+
+// What is answered for a circuit and its delays.
+fn circuit_answer(alloc: Global, circuit: &Circuit, tech: &Tech) -> Result<Answer, Failure>
+    requires { (loop : List ℕ) → IsLoop circuit.now.signals loop → ⊥ }
+    ensures text { IfOk result (λ answer. IsScheduleAnswer circuit.now tech.now
+        (ending_status answer.ending) answer.text.items) }
+    ensures cause { IfErr result (FailsFor (JoinsMoreThan circuit.now 1048576)) }
+{
+    let outcome = schedule_of(alloc, circuit, tech)?;
+    written(alloc, circuit, &outcome)
+}
+
+// The answer for the least schedule of a circuit, or for that no period will do.
+fn written(alloc: Global, circuit: &Circuit, outcome: &ScheduleOutcome) -> Result<Answer, Failure>
+    requires outcome { (tech : Tech) × IsScheduleOutcome circuit.now tech outcome.now }
+    requires small { HasSmallTimes outcome.now }
+    ensures text { IfOk result (λ answer.
+        (ending_status answer.ending ≡ outcome_status (period_outcome outcome.now))
+        × (answer.text.items ≡ text_of (schedule_lines circuit.now outcome.now))) }
+    ensures memory { IfErr result (λ failure. failure ≡ Failure.NoMemory) }
+{
+    Ok(schedule_answer(alloc, circuit, outcome)?)
 }

@@ -2,19 +2,24 @@
 
 ghost use Rattle.std.specs.Prelude.{◌≡◌, ◌≢◌, ℕ, List, IfOk, IfErr};
 ghost use Rattle.cts_model.specs.declared.problem.Problem.{Problem};
+ghost use Rattle.cts_model.specs.declared.tree.Topology.{Topology};
+ghost use Rattle.cts_model.specs.text.PrintedLines.{text_of};
 ghost use Rattle.cts_model.specs.timing.PairLists.{JoinsMoreThan};
+ghost use Rattle.outcomes.specs.SynthesisOutcomes.{IsOutcomeWith};
 ghost use Rattle.cts_engine.specs.Accepted.{TellAll};
 ghost use Rattle.cts_c.specs.Buffers.{IsHanded, IsTooLarge, IsNone};
 ghost use Rattle.cts_c.specs.Refusals.{AreAllShort, RefusesTree, FailsFor};
 ghost use Rattle.cts_c.specs.Statuses.{IsEnding, IsFailure, IsStatus};
 ghost use Rattle.answer_texts.specs.Endings.{ending_status};
-ghost use Rattle.cts_c.specs.SynthTexts.{IsSynthText};
+ghost use Rattle.answer_texts.specs.SynthTexts.{synthesis_lines, synthesis_status};
+ghost use Rattle.cts_c.specs.SynthTexts.{IsSynthText, IsTreeAnswer};
 
 use crate::answer::hand_over;
 use crate::failure::Failure;
 use crate::texts::problem_of;
 use answer_texts::{Answer, tree_answer};
-use cts_engine::synthesize;
+use cts_engine::{Outcome, synthesize};
+use cts_model::Problem;
 use std::alloc::Global;
 
 /// Writes what `cts synth` prints for a netlist, a delay table and a placement to the beginning of
@@ -66,6 +71,26 @@ fn answer_for(alloc: Global, bench: &[u8], tech: &[u8], pl: &[u8]) -> Result<Ans
         → IfErr result (λ failure. failure ≡ Failure.NoMemory) }
 {
     let problem = problem_of(alloc, bench, tech, pl)?;
-    let outcome = synthesize(alloc, &problem)?;
-    Ok(tree_answer(alloc, &problem, &outcome)?)
+    problem_answer(alloc, &problem)
+}
+
+// What is answered for a problem.
+fn problem_answer(alloc: Global, problem: &Problem) -> Result<Answer, Failure>
+    ensures text { IfOk result (λ answer.
+        IsTreeAnswer problem.now (ending_status answer.ending) answer.text.items) }
+    ensures cause { IfErr result (FailsFor (JoinsMoreThan problem.now.circuit 1048576)) }
+{
+    let outcome = synthesize(alloc, problem)?;
+    written(alloc, problem, &outcome)
+}
+
+// The answer for the clock tree of a problem, or for that no period will do.
+fn written(alloc: Global, problem: &Problem, outcome: &Outcome) -> Result<Answer, Failure>
+    requires { (topology : Topology) × IsOutcomeWith problem.now topology outcome.now }
+    ensures text { IfOk result (λ answer.
+        (ending_status answer.ending ≡ synthesis_status outcome.now)
+        × (answer.text.items ≡ text_of (synthesis_lines problem.now.circuit outcome.now))) }
+    ensures memory { IfErr result (λ failure. failure ≡ Failure.NoMemory) }
+{
+    Ok(tree_answer(alloc, problem, outcome)?)
 }

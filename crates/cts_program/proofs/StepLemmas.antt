@@ -100,6 +100,11 @@ module _ (form : Form) (told : Told) (circuit : Circuit) (tells : TellsCircuit t
   circuit_fails other failures.NoMemory fails = inr refl
   circuit_fails other failure fails = absurd fails
 
+-- memory may run out for every circuit
+pub memory_fails : (circuit : Circuit) (failure : Failure) → failure ≡ failures.NoMemory
+    → FailsCircuit circuit failure
+memory_fails circuit failure is = subst (FailsCircuit circuit) (sym is) tt
+
 -- ---- the answer
 
 -- what a command goes by are its files

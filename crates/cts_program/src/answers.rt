@@ -2,17 +2,21 @@
 
 ghost use Rattle.std.specs.Prelude.{◌≡◌, ◌≤◌, ℕ, List, true, length, IfOk, IfErr};
 ghost use Rattle.cts_base.specs.Fractions.{fraction_text};
+ghost use Rattle.cts_model.specs.declared.tree.Topology.{Topology};
 ghost use Rattle.cts_model.specs.netlist.Paths.{IsLoop};
+ghost use Rattle.cts_model.specs.text.PrintedLines.{text_of};
 ghost use Rattle.cts_model.specs.timing.PairLists.{JoinsMoreThan};
 ghost use Rattle.cts_model.specs.timing.Schedules.{IsMarginPeriod};
 ghost use Rattle.cts_model.specs.tree.Topologies.{IsTopology};
 ghost use Rattle.command_line.specs.Commands.{is_period};
+ghost use Rattle.failure_lines.specs.declared.failure.Failure.{Failure};
+ghost use Rattle.outcomes.specs.SynthesisOutcomes.{IsOutcomeWith};
 ghost use Rattle.answer_texts.specs.CornerTexts.{IsCornersText};
 ghost use Rattle.answer_texts.specs.Endings.{ending_status};
 ghost use Rattle.answer_texts.specs.MarginTexts.{IsMarginText};
 ghost use Rattle.answer_texts.specs.PeriodTexts.{IsPeriodText};
 ghost use Rattle.answer_texts.specs.ScheduleTexts.{IsScheduleText};
-ghost use Rattle.answer_texts.specs.SynthTexts.{IsSynthText, IsEmbedText};
+ghost use Rattle.answer_texts.specs.SynthTexts.{IsSynthText, IsEmbedText, synthesis_lines, synthesis_status};
 ghost use Rattle.answer_texts.specs.ZeroTexts.{IsZeroText};
 ghost use Rattle.cts_program.specs.Steps.{FailsCircuit};
 
@@ -23,7 +27,7 @@ use answer_texts::{
 use corners::corners_of;
 use cts_base::{Fraction, read_fraction};
 use cts_engine::{
-    Denoted, margin_of, period_of, schedule_of, synthesize, synthesize_with, zero_of,
+    Denoted, Outcome, margin_of, period_of, schedule_of, synthesize, synthesize_with, zero_of,
 };
 use cts_model::{Problem, Topology};
 use failure_lines::Failure;
@@ -117,7 +121,7 @@ pub fn synth(alloc: Global, problem: &Problem) -> Result<Answer, Failure>
     ensures cause { IfErr result (FailsCircuit problem.now.circuit) }
 {
     let outcome = synthesize(alloc, problem)?;
-    Ok(tree_answer(alloc, problem, &outcome)?)
+    written(alloc, problem, &outcome)
 }
 
 /// The clock tree of a problem by this topology.
@@ -133,7 +137,18 @@ pub fn embed(alloc: Global, problem: &Problem, topology: &Topology) -> Result<An
     ensures cause { IfErr result (FailsCircuit problem.now.circuit) }
 {
     let outcome = synthesize_with(alloc, problem, topology)?;
-    Ok(tree_answer(alloc, problem, &outcome)?)
+    written(alloc, problem, &outcome)
+}
+
+// The answer for the clock tree of a problem, or for that no period will do.
+fn written(alloc: Global, problem: &Problem, outcome: &Outcome) -> Result<Answer, Failure>
+    requires { (topology : Topology) × IsOutcomeWith problem.now topology outcome.now }
+    ensures text { IfOk result (λ answer.
+        (ending_status answer.ending ≡ synthesis_status outcome.now)
+        × (answer.text.items ≡ text_of (synthesis_lines problem.now.circuit outcome.now))) }
+    ensures memory { IfErr result (λ failure. failure ≡ Failure.NoMemory) }
+{
+    Ok(tree_answer(alloc, problem, outcome)?)
 }
 
 /// The least period and the least schedule of a circuit that serve the delay tables of all corners.

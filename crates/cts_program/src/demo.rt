@@ -6,6 +6,8 @@ ghost use Rattle.cts_model.specs.timing.PairLists.{JoinsMoreThan};
 ghost use Rattle.cts_model.specs.report.ReportBounds.{IsOfSize, IsWithinBounds};
 ghost use Rattle.cts_model.specs.report.Shown.{IsShown};
 ghost use Rattle.cert_check.specs.Verdicts.{IsVerdict};
+ghost use Rattle.failure_lines.specs.declared.failure.Failure.{Failure};
+ghost use Rattle.outcomes.specs.SynthesisOutcomes.{BeginsLowest, IsOutcome, IsShownOutcome};
 ghost use Rattle.answer_texts.specs.Endings.{ending_status};
 ghost use Rattle.command_line.specs.Commands.{number_of, is_number_within};
 ghost use Rattle.command_line.specs.declared.command.Command.TheVariants as commands;
@@ -81,12 +83,30 @@ fn problem_answer(alloc: Global, registers: u32, problem: &Problem) -> Result<An
         (ending_status answer.ending) answer.text.items) }
     ensures cause { IfErr result (FailsCircuit problem.now.circuit) }
 {
-    match synthesize(alloc, problem)? {
+    let outcome = synthesize(alloc, problem)?;
+    summed_up(alloc, registers, problem, &outcome)
+}
+
+// The answer for what the problem comes to.
+fn summed_up(
+    alloc: Global,
+    registers: u32,
+    problem: &Problem,
+    outcome: &Outcome,
+) -> Result<Answer, Failure>
+    requires outcome { IsOutcome problem.now outcome.now }
+    requires shown { IsShownOutcome problem.now outcome.now }
+    requires lowest { BeginsLowest outcome.now }
+    ensures text { IfOk result (λ answer. IsDemoText registers problem.now
+        (ending_status answer.ending) answer.text.items) }
+    ensures memory { IfErr result (λ failure. failure ≡ Failure.NoMemory) }
+{
+    match outcome {
         Outcome::Done(report) => {
-            if !is_shown(alloc, problem, &report)? {
+            if !is_shown(alloc, problem, report)? {
                 unreachable!();
             }
-            let text = summary_text(alloc, registers, &report)?;
+            let text = summary_text(alloc, registers, report)?;
             Ok(Answer::done(text))
         }
         Outcome::Never(cycle) => Ok(Answer::never(alloc, &problem.circuit, cycle.as_slice())?),

@@ -1,20 +1,12 @@
-use Rattle.answer_texts.proofs.TreeTexts.{summary_says}
+use Rattle.std.proofs.lemmas.Result.{IfErr-weaker, IfOk-weaker}
+use Rattle.cts_program.proofs.StepLemmas.{memory_fails}
 use Rattle.cts_program.proofs.demo.problem_answer.Goals as goal
 
-pub summary_text-requires : goal.summary_text-requires
-summary_text-requires c =
-    (c.args.problem.now.tech, (rw c.in-Done.is at c.in_ok-report.ensures.ok).made.bounds)
+pub returns-clause-few : goal.returns-clause-few
+returns-clause-few c = IfOk-weaker c.summed_up.result _ _
+    (λ answer is. c.in_ok-outcome.ensures.few) c.summed_up.ensures.text
 
-pub never-requires : goal.never-requires
-never-requires c =
-    rw c.as_slice.ensures
-    (c.args.problem.now.tech, rw c.in-Never.is at c.in_ok-report.ensures.ok)
-
-pub returns-in_ok-text-in-Done-clause-text : goal.returns-in_ok-text-in-Done-clause-text
-returns-in_ok-text-in-Done-clause-text c =
-    let made = rw c.in-Done.is at c.in_ok-report.ensures.ok in
-    let lowest = rw c.in-Done.is at c.in_ok-report.ensures.lowest in
-    let checked = c.in_ok-is_shown-in-Done.ensures.checked c.if-not-branch.false in
-    rw (c.done.ensures.ending, c.done.ensures.text) (summary_says c.args.problem.now
-    c.in-Done.report lowest made c.args.registers checked c.in_ok-text-in-Done.text.items
-    c.in_ok-text-in-Done.ensures)
+pub returns-clause-cause : goal.returns-clause-cause
+returns-clause-cause c =
+    IfErr-weaker c.summed_up.result _ _ (memory_fails c.args.problem.now.circuit)
+    c.summed_up.ensures.memory

@@ -1,0 +1,33 @@
+use Rattle.std.proofs.Common.{subst, sym}
+use Rattle.std.proofs.lemmas.Result.{IfErr-weaker, IfOk-weaker, err_from_is_err_and}
+use Rattle.cts_model.specs.timing.PairLists.{JoinsMoreThan}
+use Rattle.answer_texts.proofs.OutcomeTexts.{made_with}
+use Rattle.cts_c.specs.Refusals.{FailsFor}
+use Rattle.cts_c.proofs.RefusalLemmas.{many_pairs}
+use Rattle.cts_c.proofs.synthesis.problem_answer.Goals as goal
+
+pub written-requires : goal.written-requires
+written-requires c =
+    made_with c.args.problem.now c.in_ok-outcome.outcome c.in_ok-outcome.ensures.ok
+
+pub returns-in_err-outcome-clause-cause : goal.returns-in_err-outcome-clause-cause
+returns-in_err-outcome-clause-cause c =
+    let p = err_from_is_err_and c.from_residual.result c.from_residual.ensures.1 in
+    rw (p.1, p.2) (many_pairs c.args.problem.now.circuit _ c.in_err-outcome.ensures.many)
+
+pub returns-clause-text : goal.returns-clause-text
+returns-clause-text c = IfOk-weaker c.written.result _ _ (λ answer is. record {
+  few = c.in_ok-outcome.ensures.few;
+  outcome = c.in_ok-outcome.outcome;
+  made = c.in_ok-outcome.ensures.ok;
+  shown = c.in_ok-outcome.ensures.shown;
+  lowest = c.in_ok-outcome.ensures.lowest;
+  never = c.in_ok-outcome.ensures.never;
+  status_is = is.0;
+  spelled = is.1;
+}) c.written.ensures.text
+
+pub returns-clause-cause : goal.returns-clause-cause
+returns-clause-cause c = IfErr-weaker c.written.result _ _ (λ failure is.
+    subst (FailsFor (JoinsMoreThan c.args.problem.now.circuit 1048576)) (sym is) tt)
+    c.written.ensures.memory
