@@ -1,5 +1,5 @@
--- The text of each command for a circuit and its delays is one of counted lines, and its status says
--- whether a period is admitted.
+-- The text of each command for a circuit and its delays is one of counted lines, and its status
+-- says whether a period is admitted.
 use Rattle.std.proofs.Common.{◌≡◌, ◌<◌, ◌≤◌, inl, inr, ℕ, zero, suc, ℤ, true, List, [], ◌∷◌, ◌++◌, length, map, nat_abs, refl, ap, sym, subst, append-nil, arith, pos}
 use Rattle.std.proofs.lemmas.Int.{ints}
 use Rattle.std.proofs.lemmas.List.{length-map, length-replicate}
@@ -63,7 +63,8 @@ use Rattle.answer_texts.proofs.TextLines.{zero_lines_are, found_lines_are, sched
 
 -- where a text has one status it has any other that is the same
 with_status : {form : Form} {None : Type 0} {circuit : Circuit} {status other : ℕ} {text : List ℕ}
-    → status ≡ other → IsTextOf form None circuit other text → IsTextOf form None circuit status text
+    → status ≡ other → IsTextOf form None circuit other text
+    → IsTextOf form None circuit status text
 with_status {form} {None} {circuit} {text = text} same is =
     subst (λ s. IsTextOf form None circuit s text) (sym same) is
 

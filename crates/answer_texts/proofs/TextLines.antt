@@ -158,7 +158,8 @@ module _ (circuit : Circuit) where
       → AreLines (numbered_lines circuit cycle corners)
   numbered_lines_are cycle corners = (
     (show_lines_are (shows.Cycle cycle)).0,
-    mapped IsLine (numbered_line_at circuit cycle corners) (range_with_len 0 (length cycle)) (λ place.
+    mapped IsLine (numbered_line_at circuit cycle corners) (range_with_len 0 (length cycle))
+        (λ place.
         let constraint = constraint_at cycle place in
         numbered_is constraint.setup constraint.tail constraint.head constraint.weight
         (slice_index_or corners place 0 + 1)),

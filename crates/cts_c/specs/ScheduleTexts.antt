@@ -14,8 +14,8 @@ use Rattle.outcomes.specs.declared.scheduling.ScheduleOutcome.{ScheduleOutcome}
 use Rattle.answer_texts.specs.PeriodTexts.{outcome_status}
 use Rattle.answer_texts.specs.ScheduleTexts.{schedule_lines}
 
--- the bytes are the text for the least schedule of a circuit, with the status: a cycle, if it is that,
--- forbids every period and begins at its lowest register
+-- the bytes are the text for the least schedule of a circuit, with the status: a cycle, if it is
+-- that, forbids every period and begins at its lowest register
 pub record IsScheduleAnswer (circuit : Circuit) (delays : Tech) (status : ℕ) (text : List ℕ)
     : Type 0 where
   pub few : JoinsMoreThan circuit 1048576 → ⊥

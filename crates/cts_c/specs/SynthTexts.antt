@@ -10,8 +10,8 @@ use Rattle.outcomes.specs.SynthesisOutcomes.{BeginsLowest, IsNeverOutcome, IsOut
 use Rattle.outcomes.specs.declared.synthesis.Outcome.{Outcome}
 use Rattle.answer_texts.specs.SynthTexts.{synthesis_lines, synthesis_status}
 
--- the bytes are the text for the clock tree of a problem, with the status: the report is shown, and a
--- cycle, if it is that, forbids every period and begins at its lowest register
+-- the bytes are the text for the clock tree of a problem, with the status: the report is shown, and
+-- a cycle, if it is that, forbids every period and begins at its lowest register
 pub record IsTreeAnswer (problem : Problem) (status : ℕ) (text : List ℕ) : Type 0 where
   pub few : JoinsMoreThan problem.circuit 1048576 → ⊥
   pub outcome : Outcome

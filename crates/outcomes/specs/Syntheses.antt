@@ -34,8 +34,8 @@ EachEdge Holds sinks merges tree wires = (node parent : ℕ) (wire : Wire)
     → IsParent sinks merges node parent → slice_get wires node ≡ Some wire
     → Holds (tree.place parent) (tree.place node) (tree.length node) (take wire.used wire.corners)
 
--- a clock tree for the problem: its period and its schedule are the least, its wire delays have just
--- the scheduled skews, and its wire is the least for its topology
+-- a clock tree for the problem: its period and its schedule are the least, its wire delays have
+-- just the scheduled skews, and its wire is the least for its topology
 pub record IsSynthesis (problem : Problem) (report : Report) : Type 0 where
   -- some arrivals meet the period and none a smaller one
   pub least_period : IsLeastFraction problem.circuit problem.tech report.period

@@ -156,7 +156,8 @@ module _ {circuit : Circuit} {tech : Tech} {text : List ℕ} {parts : Parts}
     leads = has.body.leads.many;
     period_show = has.shown.among;
     each_show = All-push (ShowsAmong (length circuit.registers)) (shows_in parts)
-        parts.body.source.show (merged_all (λ row. row.show) (ShowsAmong count) (λ node words row says. says.among))
+        parts.body.source.show
+        (merged_all (λ row. row.show) (ShowsAmong count) (λ node words row says. says.among))
         has.body.source.denoted.among;
     each_lead = leads_all (LeadsAmong count) (λ words lead denoted. denoted.registers);
     each_path = has.shown.signals;
@@ -248,16 +249,19 @@ module _ {circuit : Circuit} {tech : Tech} {text : List ℕ} {parts : Parts}
         reaches = All-push (IsBelow (10 ^ 32)) (sinks ++ (reaches_in parts))
             parts.body.source.reach
             (All-append (IsBelow (10 ^ 32)) sinks (reaches_in parts) sinks_below
-            (merged_all (λ row. row.reach) (IsBelow (10 ^ 32)) (λ node words row says. says.reach))) has.body.source.denoted.reach;
+            (merged_all (λ row. row.reach) (IsBelow (10 ^ 32)) (λ node words row says. says.reach)))
+            has.body.source.denoted.reach;
         places = All-push (IsPointBelow (10 ^ 32)) (places_in parts)
-            (begin_of (wires_in parts)) (values_all (SaysNode scale.grid) (λ row. row.place) has.body.placed.has
+            (begin_of (wires_in parts))
+            (values_all (SaysNode scale.grid) (λ row. row.place) has.body.placed.has
             (IsPointBelow (10 ^ 32)) (λ node words row says. says.place)) begin_below;
         lengths = values_all (SaysNode scale.grid) (λ row. row.length) has.body.placed.has
             (IsBelow (10 ^ 32)) (λ node words row says. says.edge);
         wires = wires_small;
         total = has.body.total.denoted.small;
         merge_shows = subst (All IsMergeShow) (sym (take_at (shows_in parts) suffix
-            (length (merges_in parts)) same)) (merged_all (λ row. row.show) IsMergeShow (λ node words row says. says.show));
+            (length (merges_in parts)) same))
+            (merged_all (λ row. row.show) IsMergeShow (λ node words row says. says.show));
         source_show = subst (All IsSourceShow) (sym (drop_at (shows_in parts) suffix
             (length (merges_in parts)) same))
             (All-cons IsSourceShow parts.body.source.show [] has.body.source.denoted.show

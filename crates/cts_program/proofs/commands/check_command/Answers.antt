@@ -23,8 +23,9 @@ returns-in_err-report g c =
     c.from_residual-in_err-report.ensures.1 in
     let first = c.in_ok-problem.ensures in
     let last = rw (first.files, step_counts _ first) at c.in_err-report.ensures.step in
-    rw (p.1, p.2) (step_fails _ last (λ unread. reading_stops (Check c.args.bench c.args.tech c.args.pl c.args.report)
-    (λ same. cc same) _ _ _ (unread_after (g.I.Inputs.holds c.args.inputs.now)
+    rw (p.1, p.2) (step_fails _ last (λ unread. reading_stops
+    (Check c.args.bench c.args.tech c.args.pl c.args.report) (λ same. cc same) _ _ _
+    (unread_after (g.I.Inputs.holds c.args.inputs.now)
     first.gives (kinds.Report, c.args.report.now) _ _ [] _ unread)))
 
 pub returns : goal.returns
@@ -34,8 +35,9 @@ returns g c =
     let last = rw (first.files, step_counts _ first) at c.in_ok-report.ensures.step in
     let read = read_more (g.I.Inputs.holds c.args.inputs.now) first.gives
     (kinds.Report, c.args.report.now) last.gives in
-    answered (Check c.args.bench c.args.tech c.args.pl c.args.report) (λ same. cc same) read c.check.result last.files
-    (step_counts _ last) (if_ok_from c.check.result _ _ _ c.check.ensures.text c.check.ensures.text
+    answered (Check c.args.bench c.args.tech c.args.pl c.args.report) (λ same. cc same) read
+    c.check.result last.files (step_counts _ last)
+    (if_ok_from c.check.result _ _ _ c.check.ensures.text c.check.ensures.text
     (λ answer says same many. many)) c.check.ensures.text
     (if_err_from c.check.result _ _ c.check.ensures.cause (check_fails c.in_ok-problem.problem
     c.in_ok-report.report))

@@ -21,8 +21,9 @@ returns-in_err-topology g c =
     c.from_residual-in_err-topology.ensures.1 in
     let first = c.in_ok-problem.ensures in
     let last = rw (first.files, step_counts _ first) at c.in_err-topology.ensures.step in
-    rw (p.1, p.2) (step_fails _ last (λ unread. reading_stops (Embed c.args.bench c.args.tech c.args.pl c.args.topology)
-    (λ same. cc same) _ _ _ (unread_after (g.I.Inputs.holds c.args.inputs.now)
+    rw (p.1, p.2) (step_fails _ last (λ unread. reading_stops
+    (Embed c.args.bench c.args.tech c.args.pl c.args.topology) (λ same. cc same) _ _ _
+    (unread_after (g.I.Inputs.holds c.args.inputs.now)
     first.gives (kinds.Topology, c.args.topology.now) _ _ [] _ unread)))
 
 pub returns : goal.returns

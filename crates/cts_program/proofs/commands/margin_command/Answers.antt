@@ -17,8 +17,9 @@ pub returns : goal.returns
 unfolding request_of
 returns g c =
     let step = c.in_ok-read_circuit.ensures.step in
-    answered_circuit (Margin c.args.bench c.args.tech c.args.period) (λ same. cc same) _ c.margin.result
-    step.gives step.files (step_counts _ step) refl (λ same. cc same) c.margin.ensures.few
+    answered_circuit (Margin c.args.bench c.args.tech c.args.period) (λ same. cc same) _
+    c.margin.result step.gives step.files (step_counts _ step) refl (λ same. cc same)
+    c.margin.ensures.few
     (says_done (λ circuit tech. IsMarginText circuit tech c.args.period.now) _ _ _ c.margin.result
     refl refl
     c.margin.ensures.text)

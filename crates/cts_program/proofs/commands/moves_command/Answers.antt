@@ -21,8 +21,9 @@ returns-in_err-list g c =
     c.from_residual-in_err-list.ensures.1 in
     let first = c.in_ok-problem.ensures in
     let last = rw (first.files, step_counts _ first) at c.in_err-list.ensures.step in
-    rw (p.1, p.2) (step_fails _ last (λ unread. reading_stops (Moves c.args.bench c.args.tech c.args.pl c.args.file)
-    (λ same. cc same) _ _ _ (unread_after (g.I.Inputs.holds c.args.inputs.now)
+    rw (p.1, p.2) (step_fails _ last (λ unread. reading_stops
+    (Moves c.args.bench c.args.tech c.args.pl c.args.file) (λ same. cc same) _ _ _
+    (unread_after (g.I.Inputs.holds c.args.inputs.now)
     first.gives (kinds.Moves, c.args.file.now) _ _ [] _ unread)))
 
 pub returns : goal.returns

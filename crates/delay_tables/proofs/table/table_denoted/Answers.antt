@@ -33,11 +33,16 @@ invariant_of-result c =
           (held c.num.result _ (record { sfits = c.num.type_inv }) c.num.ensures.value)
           (held c.den.result _ (record { sfits = c.den.type_inv }) c.den.ensures.value)
           (record {
-            setup_is = held c.number_at.result _ (record { sfits = c.number_at.type_inv }) c.number_at.ensures;
-            hold_is = held c.number_at-2.result _ (record { sfits = c.number_at-2.type_inv }) c.number_at-2.ensures;
-            least_is = held c.number_at-3.result _ (record { sfits = c.number_at-3.type_inv }) c.number_at-3.ensures;
-            greatest_is = held c.number_at-4.result _ (record { sfits = c.number_at-4.type_inv }) c.number_at-4.ensures;
-            floor_is = held c.number_at-5.result _ (record { sfits = c.number_at-5.type_inv }) c.number_at-5.ensures;
+            setup_is = held c.number_at.result _
+                (record { sfits = c.number_at.type_inv }) c.number_at.ensures;
+            hold_is = held c.number_at-2.result _
+                (record { sfits = c.number_at-2.type_inv }) c.number_at-2.ensures;
+            least_is = held c.number_at-3.result _
+                (record { sfits = c.number_at-3.type_inv }) c.number_at-3.ensures;
+            greatest_is = held c.number_at-4.result _
+                (record { sfits = c.number_at-4.type_inv }) c.number_at-4.ensures;
+            floor_is = held c.number_at-5.result _
+                (record { sfits = c.number_at-5.type_inv }) c.number_at-5.ensures;
             gates_are = c.gate_delays.ensures;
           });
     }
@@ -52,11 +57,16 @@ returns c =
           (held c.num.result _ (record { sfits = c.num.type_inv }) c.num.ensures.value)
           (held c.den.result _ (record { sfits = c.den.type_inv }) c.den.ensures.value) value;
       source = c.in_ok-name_at.ensures;
-      setup = held c.number_at.result _ (record { sfits = c.number_at.type_inv }) c.number_at.ensures;
-      hold = held c.number_at-2.result _ (record { sfits = c.number_at-2.type_inv }) c.number_at-2.ensures;
-      least = held c.number_at-3.result _ (record { sfits = c.number_at-3.type_inv }) c.number_at-3.ensures;
-      greatest = held c.number_at-4.result _ (record { sfits = c.number_at-4.type_inv }) c.number_at-4.ensures;
+      setup = held c.number_at.result _
+          (record { sfits = c.number_at.type_inv }) c.number_at.ensures;
+      hold = held c.number_at-2.result _
+          (record { sfits = c.number_at-2.type_inv }) c.number_at-2.ensures;
+      least = held c.number_at-3.result _
+          (record { sfits = c.number_at-3.type_inv }) c.number_at-3.ensures;
+      greatest = held c.number_at-4.result _
+          (record { sfits = c.number_at-4.type_inv }) c.number_at-4.ensures;
       host = c.in_ok-name_at-2.ensures;
-      floor = held c.number_at-5.result _ (record { sfits = c.number_at-5.type_inv }) c.number_at-5.ensures;
+      floor = held c.number_at-5.result _
+          (record { sfits = c.number_at-5.type_inv }) c.number_at-5.ensures;
       gates = c.gate_delays.ensures;
     }
