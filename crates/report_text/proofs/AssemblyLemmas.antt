@@ -1,5 +1,5 @@
 -- A report that is put together from its sections: how large its numbers are, and its lines.
-use Rattle.std.proofs.Common.{◌≡◌, ◌≤◌, ◌<◌, ◌+◌, ◌-◌, ◌*◌, ◌^◌, ℕ, ℤ, pos, neg_ℤ, to_z, of_z, List, [], ◌∷◌, ◌++◌, All, None, Some, length, map, get_or, codes, refl, sym, ap, ap₂, ◌∙◌, subst, arith, drop, append-nil}
+use Rattle.std.proofs.Common.{◌≡◌, ◌≤◌, ◌<◌, ◌+◌, ◌-◌, ◌*◌, ◌^◌, ℕ, ℤ, pos, neg_ℤ, to_z, of_z, List, [], ◌∷◌, ◌++◌, All, None, Some, length, map, get_or, codes, refl, sym, ap, ap₂, ◌∙◌, subst, arith, append_assoc, drop, append-nil}
 use Rattle.std.specs.Prelude.{slice_get, unsigned_abs}
 use Rattle.std.specs.Fmt.{signed_decimal}
 use mir.Syntax.{w128}
@@ -11,7 +11,6 @@ use Rattle.cts_base.specs.Fractions.{quotient_text}
 use Rattle.cts_model.specs.declared.circuit.Circuit.{Circuit}
 use Rattle.cts_model.specs.declared.report.Report.{Report}
 use Rattle.cts_model.specs.declared.tech.Tech.{Tech}
-use Rattle.cts_model.specs.declared.schedule.Lead.{Lead}
 use Rattle.cts_model.specs.declared.schedule.Slack.{Slack}
 use Rattle.cts_model.specs.declared.tree.Merge.{Merge}
 use Rattle.cts_model.specs.declared.tree.Show.TheVariants.{Root}
@@ -19,7 +18,7 @@ use Rattle.cts_model.specs.declared.tree.Wire.{Wire}
 use Rattle.cts_model.specs.placement.Points.{IsBelow, IsPointBelow}
 use Rattle.cts_model.specs.text.PrintedLines.{Words, count_line, period_line, register_line, text_of}
 use Rattle.cts_model.specs.tree.Problems.{grid_of, scheduled_length}
-use Rattle.cts_model.specs.report.ReportBounds.{HasTimingBounds, HasTreeBounds, IsMergeShow, IsOfSize, IsSmallWire, IsSourceShow, IsWithinBounds, ShowsAmong, IsSmallLead, IsSmallMerge, LeadsAmong, Spells}
+use Rattle.cts_model.specs.report.ReportBounds.{HasTimingBounds, HasTreeBounds, IsMergeShow, IsOfSize, IsSmallWire, IsSourceShow, IsWithinBounds, ShowsAmong, IsSmallMerge, Spells}
 use Rattle.cts_model.specs.report.ReportLines.{lead_line, lines_below, merge_line_at, no_wire, node_line_at, origin, period_show_lines, register_line_at, report_lines, show_words, source_line, timing_lines, tree_lines, version_line}
 use Rattle.cts_model.specs.timing.Schedules.{arrival_of}
 use Rattle.cts_model.specs.tree.Topologies.{root_of, source_of}
@@ -33,8 +32,8 @@ use Rattle.report_text.specs.declared.tree_values.NodeLine.{NodeLine}
 use Rattle.report_text.specs.Rows.{lines_of}
 use Rattle.report_text.specs.Values.{merged_line, placed_line, sourced_line, SaysMerge, SaysNode}
 use Rattle.report_text.specs.DenotedReports.{arrivals_in, begin_of, denoted_lines, lengths_in, merges_in, places_in, reaches_in, report_denoted, shows_in, sink_reach, sink_reaches, timed_line, wires_in, lines_after}
-use Rattle.report_text.proofs.FlawlessReport.{parts_apart}
-use Rattle.report_text.proofs.RowLemmas.{numbered_rows, plain_lines, rows_all, rows_lines, values_all, values_many}
+use Rattle.report_text.proofs.PrintedParts.{ArePrintable, parts_printable, told_all}
+use Rattle.report_text.proofs.RowLemmas.{numbered_rows, plain_lines, rows_lines}
 use Rattle.report_text.specs.declared.form.Scale.{Scale}
 use Rattle.report_text.specs.Forms.{cycle_forms, forms_after}
 use Rattle.report_text.specs.Headings.{count_of, shown_line}
@@ -57,10 +56,29 @@ sink_below tech arrival small =
     neg_below (scheduled_length tech arrival)
     (scheduled_size tech arrival (10 ^ 19) (omega (arith, ints, small)))
 
+-- the parts of a report's lines, the first two apart
+parts_apart : (a b c d e f : List Words)
+    → ((a ++ b) ++ c) ++ ((d ++ e) ++ f) ≡ a ++ ((((b ++ c) ++ d) ++ e) ++ f)
+parts_apart a b c d e f = simp append_assoc
+
+-- the lines of the sections, one section after the other
+pub after_apart : (circuit : Circuit) (scale : Scale) (parts : Parts)
+    → lines_after circuit scale parts ≡ (count_line (codes "registers") (length circuit.registers)
+    ∷ lines_of (timed_line circuit scale.den) 0 parts.body.timings)
+    ++ (lines_of (λ number. lead_line circuit) 0 parts.body.leads
+    ++ ((count_line (codes "merges") (length circuit.registers - 1)
+    ∷ lines_of (merged_line circuit scale.grid) (length circuit.registers) parts.body.merged)
+    ++ (sourced_line circuit scale.grid parts.body.source
+    ∷ count_line (codes "nodes") (2 * length circuit.registers - 1)
+    ∷ (lines_of (placed_line scale.grid) 0 parts.body.placed
+    ++ (codes "wire" ∷ quotient_text parts.body.total.length scale.grid ∷ []) ∷ []))))
+after_apart circuit scale parts =
+    simp (append_assoc, plain_lines (lead_line circuit) 0 parts.body.leads)
+
 -- ---- the report
 
-module _ {circuit : Circuit} {tech : Tech} {text : List ℕ} {parts : Parts}
-    (has : HasParts circuit tech text parts) where
+module _ {circuit : Circuit} {tech : Tech} {parts : Parts}
+    (is : ArePrintable circuit tech parts) where
   abbrev report : Report
   report = report_denoted tech parts
 
@@ -73,52 +91,54 @@ module _ {circuit : Circuit} {tech : Tech} {text : List ℕ} {parts : Parts}
   abbrev sinks : List ℤ
   sinks = sink_reaches tech (arrivals_in parts)
 
+  abbrev grid : ℤ
+  grid = grid_of parts.heading.period tech
+
   some : 0 < length circuit.registers
   some = circuit.valid.some_register
 
   -- there are so many values of each kind
   arrivals_many : length (arrivals_in parts) ≡ count
-  arrivals_many =
-      values_many (DenotesTimed circuit scale) (λ row. row.arrival) has.body.timings.has
+  arrivals_many = length-map parts.body.timings (λ row. row.arrival) ∙ is.timings_many
 
   merges_many : length (merges_in parts) ≡ count - 1
-  merges_many = values_many (SaysMerge circuit scale.grid) (λ row. row.merge) has.body.merged.has
+  merges_many = length-map parts.body.merged (λ row. row.merge) ∙ is.merged_many
 
   reaches_many : length (reaches_in parts) ≡ count - 1
-  reaches_many = values_many (SaysMerge circuit scale.grid) (λ row. row.reach) has.body.merged.has
+  reaches_many = length-map parts.body.merged (λ row. row.reach) ∙ is.merged_many
 
   shows_many : length (shows_in parts) ≡ count - 1
-  shows_many = values_many (SaysMerge circuit scale.grid) (λ row. row.show) has.body.merged.has
+  shows_many = length-map parts.body.merged (λ row. row.show) ∙ is.merged_many
 
   places_many : length (places_in parts) ≡ 2 * count - 1
-  places_many = values_many (SaysNode scale.grid) (λ row. row.place) has.body.placed.has
+  places_many = length-map parts.body.placed (λ row. row.place) ∙ is.placed_many
 
   lengths_many : length (lengths_in parts) ≡ 2 * count - 1
-  lengths_many = values_many (SaysNode scale.grid) (λ row. row.length) has.body.placed.has
+  lengths_many = length-map parts.body.placed (λ row. row.length) ∙ is.placed_many
 
   wires_many : length (wires_in parts) ≡ 2 * count - 1
-  wires_many = values_many (SaysNode scale.grid) (λ row. row.wire) has.body.placed.has
+  wires_many = length-map parts.body.placed (λ row. row.wire) ∙ is.placed_many
 
   -- and they are small
   pub arrivals_below : All (IsBelow (10 ^ 19)) (arrivals_in parts)
-  arrivals_below = values_all (DenotesTimed circuit scale) (λ row. row.arrival)
-      has.body.timings.has (IsBelow (10 ^ 19)) (λ number words row denoted. denoted.small)
+  arrivals_below = told_all (DenotesTimed circuit scale) (timed_line circuit scale.den)
+      (λ row. row.arrival) (IsBelow (10 ^ 19)) parts.body.timings is.timings
+      (λ row says. says.small)
+
+  placed_all : {Y : Type 0} (f : NodeLine → Y) (P : Y → Type 0)
+      → ((row : NodeLine) → SaysNode grid 0 (placed_line grid 0 row) row → P (f row))
+      → All P (map f parts.body.placed)
+  placed_all f P =
+      told_all (SaysNode grid) (placed_line grid) f P parts.body.placed is.placed
 
   wires_small : All IsSmallWire (wires_in parts)
-  wires_small = values_all (SaysNode scale.grid) (λ row. row.wire) has.body.placed.has IsSmallWire
-      (λ number words row says. says.wire)
-
-  leads_all : (P : Lead → Type 0)
-      → ((words : Words) (lead : Lead) → DenotesLead circuit words lead → P lead)
-      → All P parts.body.leads
-  leads_all P gives = rows_all (λ number. DenotesLead circuit) P (λ number. gives) 0
-      has.body.leads.lines parts.body.leads has.body.leads.each
+  wires_small = placed_all (λ row. row.wire) IsSmallWire (λ row says. says.wire)
 
   merged_all : {Y : Type 0} (f : MergeLine → Y) (P : Y → Type 0)
-      → ((node : ℕ) (words : Words) (row : MergeLine)
-      → SaysMerge circuit scale.grid node words row → P (f row))
-      → All P (map f parts.body.merged)
-  merged_all f P gives = values_all (SaysMerge circuit scale.grid) f has.body.merged.has P gives
+      → ((row : MergeLine) → SaysMerge circuit grid 0 (merged_line circuit grid 0 row) row
+      → P (f row)) → All P (map f parts.body.merged)
+  merged_all f P =
+      told_all (SaysMerge circuit grid) (merged_line circuit grid) f P parts.body.merged is.merged
 
   as_many : length sinks ≡ length (arrivals_in parts)
   as_many = length-map (arrivals_in parts) (sink_reach tech)
@@ -127,7 +147,7 @@ module _ {circuit : Circuit} {tech : Tech} {text : List ℕ} {parts : Parts}
   denoted_size : IsOfSize circuit report
   denoted_size = record {
     arrivals = arrivals_many;
-    slacks = values_many (DenotesTimed circuit scale) (λ row. row.slack) has.body.timings.has;
+    slacks = length-map parts.body.timings (λ row. row.slack) ∙ is.timings_many;
     merges = omega (arith, merges_many, some);
     shows = omega (
       arith,
@@ -152,27 +172,27 @@ module _ {circuit : Circuit} {tech : Tech} {text : List ℕ} {parts : Parts}
     );
     lengths = omega (arith, lengths_many, some);
     wires = omega (arith, wires_many, some);
-    paths = has.shown.paths;
-    leads = has.body.leads.many;
-    period_show = has.shown.among;
+    paths = is.shown.many;
+    leads = is.leads_many;
+    period_show = is.shown.among;
     each_show = All-push (ShowsAmong (length circuit.registers)) (shows_in parts)
         parts.body.source.show
-        (merged_all (λ row. row.show) (ShowsAmong count) (λ node words row says. says.among))
-        has.body.source.denoted.among;
-    each_lead = leads_all (LeadsAmong count) (λ words lead denoted. denoted.registers);
-    each_path = has.shown.signals;
+        (merged_all (λ row. row.show) (ShowsAmong count) (λ row says. says.among))
+        is.source.among;
+    each_lead = λ k default within. (is.leads k default within 0).registers;
+    each_path = is.shown.signals;
   }
 
   denoted_timing_bounds : HasTimingBounds report
   denoted_timing_bounds = record {
-    period = has.heading.small;
+    period = is.period;
     den = refl;
-    cycle = has.shown.weights;
+    cycle = is.shown.weights;
     arrivals = arrivals_below;
-    slacks = values_all (DenotesTimed circuit scale) (λ row. row.slack) has.body.timings.has
-        (AreSmallSlacks scale.den) (λ number words row denoted. denoted.slacks);
-    paths = has.shown.few;
-    leads = leads_all IsSmallLead (λ words lead denoted. denoted.small);
+    slacks = told_all (DenotesTimed circuit scale) (timed_line circuit scale.den) (λ row. row.slack)
+        (AreSmallSlacks scale.den) parts.body.timings is.timings (λ row says. says.slacks);
+    paths = is.shown.few;
+    leads = λ k default within. (is.leads k default within 0).small;
   }
 
   sinks_below : All (IsBelow (10 ^ 32)) sinks
@@ -245,26 +265,25 @@ module _ {circuit : Circuit} {tech : Tech} {text : List ℕ} {parts : Parts}
       let suffix = parts.body.source.show ∷ [] in
       record {
         grid = refl;
-        merges = merged_all (λ row. row.merge) IsSmallMerge (λ node words row says. says.merge);
+        merges = merged_all (λ row. row.merge) IsSmallMerge (λ row says. says.merge);
         reaches = All-push (IsBelow (10 ^ 32)) (sinks ++ (reaches_in parts))
             parts.body.source.reach
             (All-append (IsBelow (10 ^ 32)) sinks (reaches_in parts) sinks_below
-            (merged_all (λ row. row.reach) (IsBelow (10 ^ 32)) (λ node words row says. says.reach)))
-            has.body.source.denoted.reach;
+            (merged_all (λ row. row.reach) (IsBelow (10 ^ 32)) (λ row says. says.reach)))
+            is.source.reach;
         places = All-push (IsPointBelow (10 ^ 32)) (places_in parts)
             (begin_of (wires_in parts))
-            (values_all (SaysNode scale.grid) (λ row. row.place) has.body.placed.has
-            (IsPointBelow (10 ^ 32)) (λ node words row says. says.place)) begin_below;
-        lengths = values_all (SaysNode scale.grid) (λ row. row.length) has.body.placed.has
-            (IsBelow (10 ^ 32)) (λ node words row says. says.edge);
+            (placed_all (λ row. row.place) (IsPointBelow (10 ^ 32)) (λ row says. says.place))
+            begin_below;
+        lengths = placed_all (λ row. row.length) (IsBelow (10 ^ 32)) (λ row says. says.edge);
         wires = wires_small;
-        total = has.body.total.denoted.small;
+        total = is.total;
         merge_shows = subst (All IsMergeShow) (sym (take_at (shows_in parts) suffix
             (length (merges_in parts)) same))
-            (merged_all (λ row. row.show) IsMergeShow (λ node words row says. says.show));
+            (merged_all (λ row. row.show) IsMergeShow (λ row says. says.show));
         source_show = subst (All IsSourceShow) (sym (drop_at (shows_in parts) suffix
             (length (merges_in parts)) same))
-            (All-cons IsSourceShow parts.body.source.show [] has.body.source.denoted.show
+            (All-cons IsSourceShow parts.body.source.show [] is.source.show
             (All-nil IsSourceShow));
         sinks = sink_at;
         source = source_at;
@@ -275,9 +294,6 @@ module _ {circuit : Circuit} {tech : Tech} {text : List ℕ} {parts : Parts}
   denoted_bounds = record { timing = denoted_timing_bounds; tree = denoted_tree_bounds }
 
   -- ---- the lines
-
-  abbrev grid : ℤ
-  grid = grid_of parts.heading.period tech
 
   -- the lines of the registers
   registers_same : lines_below (register_line_at circuit report) (length (arrivals_in parts))
@@ -398,54 +414,53 @@ module _ {circuit : Circuit} {tech : Tech} {text : List ℕ} {parts : Parts}
       ++ (codes "wire" ∷ quotient_text parts.body.total.length grid ∷ []) ∷ []
 
   -- the lines of the report are those that tell it
-  lines_denoted : report_lines circuit report
+  pub lines_denoted : report_lines circuit report
       ≡ denoted_lines circuit (scale_in tech parts.heading.period) parts
   lines_denoted = ap₂ (λ timing tree. timing ++ tree) timing_same tree_same
       ∙ parts_apart (version_line parts.heading.version ∷ period_line parts.heading.period
       ∷ period_show_lines parts.heading.version circuit parts.shown.shown parts.shown.paths)
-      (count_line (codes "registers") count
-      ∷ lines_of (timed_line circuit parts.heading.period.den) 0 parts.body.timings)
-      (map (lead_line circuit) parts.body.leads)
-      (count_line (codes "merges") (count - 1)
-      ∷ lines_of (merged_line circuit grid) count parts.body.merged)
-      (sourced_line circuit grid parts.body.source ∷ count_line (codes "nodes") (2 * count - 1)
-      ∷ lines_of (placed_line grid) 0 parts.body.placed)
-      ((codes "wire" ∷ quotient_text parts.body.total.length grid ∷ []) ∷ [])
+      _ _ _ _ _
 
-  -- ---- the text
+-- ---- the text
+
+module _ {circuit : Circuit} {tech : Tech} {text : List ℕ} {parts : Parts}
+    (has : HasParts circuit tech text parts) where
+  abbrev of_text : Scale
+  of_text = scale_in tech parts.heading.period
 
   -- the lines that are read after what shows the period are those of the sections
-  after_denoted : body_lines has.body ≡ lines_after circuit scale parts
+  after_denoted : body_lines has.body ≡ lines_after circuit of_text parts
   after_denoted =
       let timings = has.body.timings.has in
       let merged = has.body.merged.has in
       let placed = has.body.placed.has in
-      let timed = rows_lines (DenotesTimed circuit scale) (timed_line circuit scale.den)
+      let timed = rows_lines (DenotesTimed circuit of_text) (timed_line circuit of_text.den)
       (λ number words row denoted. denoted.line) 0 timings.lines parts.body.timings
       timings.each in
       let leads = rows_lines (λ number. DenotesLead circuit) (λ number. lead_line circuit)
       (λ number words row denoted. denoted.line) 0 has.body.leads.lines parts.body.leads
       has.body.leads.each ∙ plain_lines (lead_line circuit) 0 parts.body.leads in
-      let merges = rows_lines (SaysMerge circuit scale.grid) (merged_line circuit scale.grid)
-      (λ number words row says. says.words_are) count merged.lines parts.body.merged
-      merged.each in
-      let nodes = rows_lines (SaysNode scale.grid) (placed_line scale.grid)
+      let merges = rows_lines (SaysMerge circuit of_text.grid) (merged_line circuit of_text.grid)
+      (λ number words row says. says.words_are) (length circuit.registers) merged.lines
+      parts.body.merged merged.each in
+      let nodes = rows_lines (SaysNode of_text.grid) (placed_line of_text.grid)
       (λ number words row says. says.words_are) 0 placed.lines parts.body.placed placed.each in
-      λ i. count_line (codes "registers") count ∷ timed i ++ leads i
-      ++ count_line (codes "merges") (count - 1) ∷ merges i
-      ++ has.body.source.denoted.words_are i ∷ count_line (codes "nodes") (2 * count - 1)
+      λ i. count_line (codes "registers") (length circuit.registers) ∷ timed i ++ leads i
+      ++ count_line (codes "merges") (length circuit.registers - 1) ∷ merges i
+      ++ has.body.source.denoted.words_are i
+      ∷ count_line (codes "nodes") (2 * length circuit.registers - 1)
       ∷ nodes i ++ has.body.total.denoted.words_are i ∷ []
 
   -- the text is that of the lines of all parts
-  parts_text : text ≡ text_of (denoted_lines circuit scale parts)
+  parts_text : text ≡ text_of (denoted_lines circuit of_text parts)
   parts_text =
       let shown = period_show_lines parts.heading.version circuit parts.shown.shown
       parts.shown.paths in
-      let heading = has.heading.lines scale in
+      let heading = has.heading.lines of_text in
       let prefix = read_more heading
       (cycle_forms parts.heading.version (count_of parts.heading.count)) (drop 1 shown)
       has.after_shown has.shown.lines in
-      let all = read_more prefix (forms_after parts.heading.version count)
+      let all = read_more prefix (forms_after parts.heading.version (length circuit.registers))
       (body_lines has.body) has.end (body_read has.body) in
       let first : version_line parts.heading.version ∷ period_line parts.heading.period
       ∷ shown_line parts.heading.count ∷ drop 1 shown
@@ -463,8 +478,10 @@ module _ {circuit : Circuit} {tech : Tech} {text : List ℕ} {parts : Parts}
 
   -- so it spells the report that is put together from them
   pub parts_spelled : Spells circuit tech text (report_denoted tech parts)
-  parts_spelled = record {
-    size = denoted_size;
-    bounds = denoted_bounds;
-    lines = parts_text ∙ ap text_of (sym lines_denoted);
-  }
+  parts_spelled =
+      let is = parts_printable has in
+      record {
+        size = denoted_size is;
+        bounds = denoted_bounds is;
+        lines = parts_text ∙ ap text_of (sym (lines_denoted is));
+      }

@@ -1,5 +1,5 @@
 -- The sections of a report after what shows its period.
-use Rattle.std.proofs.Common.{◌≤◌, ◌+◌, ◌-◌, ◌*◌, ℕ, List, [], ◌∷◌, ◌++◌, codes, map, subst, append-nil, Option, arith}
+use Rattle.std.proofs.Common.{◌≡◌, append_assoc, ◌≤◌, ◌+◌, ◌-◌, ◌*◌, ℕ, List, [], ◌∷◌, ◌++◌, codes, map, subst, append-nil, Option, arith}
 use Rattle.std.specs.List.{range_with_len}
 use Rattle.std.proofs.lemmas.List.{length-replicate}
 use Rattle.cts_model.specs.declared.circuit.Circuit.{Circuit}
@@ -35,6 +35,11 @@ merge_forms count = form.Count word.Merges (count - 1)
 abbrev pub node_forms : ℕ → List Form
 node_forms count = form.Count word.Nodes (2 * count - 1)
     ∷ map form.Node (range_with_len 0 (2 * count - 1))
+
+-- five lists one after the other
+pub sections_apart : {X : Type 0} (a b c d e : List X)
+    → a ++ b ++ c ++ d ++ e ≡ a ++ (b ++ (c ++ (d ++ e)))
+sections_apart a b c d e = simp append_assoc
 
 -- a fault in one of the five sections
 module _ (circuit : Circuit) (scale : Scale) (version : Version) (count : ℕ) (old : Left)

@@ -1,13 +1,11 @@
 -- How large the grid of a report is.
-use Rattle.std.proofs.Common.{◌≡◌, ◌*◌, ◌^◌, ℤ, pos, negsuc, ◌*ℤ◌, ◌≤ℤ◌, sym, subst, arith}
+use Rattle.std.proofs.Common.{◌≡◌, ◌*◌, ◌^◌, ℤ, pos, negsuc, ◌*ℤ◌, ◌≤ℤ◌, arith}
 use Rattle.std.proofs.Math.Nat.{one-le-mul}
 use Rattle.std.proofs.lemmas.Int.{ints}
 use Rattle.std.proofs.lemmas.Nat.{mul-le}
 use Rattle.cts_base.specs.declared.fraction.Fraction.{Fraction}
-use Rattle.cts_model.specs.declared.report.Report.{Report}
 use Rattle.cts_model.specs.declared.tech.Tech.{Tech}
 use Rattle.cts_model.specs.placement.Points.{IsBelow}
-use Rattle.cts_model.specs.report.ReportBounds.{HasTimingBounds, HasTreeBounds}
 use Rattle.cts_model.specs.timing.Schedules.{IsSmallPeriod}
 use Rattle.report_text.specs.Parts.{scale_in}
 use Rattle.report_text.specs.Values.{IsSmallScale}
@@ -29,14 +27,6 @@ grid_within (pos den) (pos wire) some few some' few' =
     )
 grid_within (negsuc den) wire some few some' few' = absurd (omega (arith, ints))
 grid_within den (negsuc wire) some few some' few' = absurd (omega (arith, ints))
-
--- a report's grid is at least 1, and small
-pub grid_bounds : (tech : Tech) (report : Report) → HasTimingBounds report
-    → HasTreeBounds tech report → (pos 1 ≤ℤ report.grid) × IsBelow (10 ^ 37) report.grid
-grid_bounds tech report timing tree =
-    subst (λ grid. (pos 1 ≤ℤ grid) × IsBelow (10 ^ 37) grid) (sym tree.grid)
-    (grid_within report.period.den tech.wire_num report.period.lowest.some_den timing.period.low
-    tech.valid.wire_num_within.above tech.valid.wire_num_within.below)
 
 -- the steps of a report of a small period are few
 pub scale_small : (tech : Tech) (period : Fraction) → IsSmallPeriod period

@@ -5,12 +5,8 @@ mod TimingReads
 mod GridLemmas
 pub mod LineLemmas
 mod NumberWords
-mod OneField
 pub mod OneLine
-mod OneList
 mod OneRecord
-mod OneTiming
-mod OneTree
 pub mod ReportWords
 mod ReadCorners
 pub mod WordBytes
@@ -24,8 +20,11 @@ mod CoprimeFactors
 mod LineCuts
 mod WalkLemmas
 mod LineReading
-mod FlawlessReport
 mod WholeTexts
+mod PrintedParts
+mod PartsOf
+mod OneParts
+mod FlawlessParts
 mod DenotedForms
 mod RowLemmas
 mod HeadingLemmas

@@ -1,5 +1,5 @@
 -- A text has one fault at the most, and a line without a flaw is passed over.
-use Rattle.std.proofs.Common.{◌≡◌, ◌<◌, ◌+◌, ◌==◌, not, nat_lt, ℕ, zero, suc, Bool, true, false, cond, List, [], ◌∷◌, ◌++◌, All, MatchBool, MatchOption, Option, Some, None, map, take, drop, get_or, length, refl, sym, ap, ◌∙◌, subst, append_assoc, length-append, lt-ltb, eq-eqb, ne_eqb, arith}
+use Rattle.std.proofs.Common.{◌≡◌, ◌<◌, ◌+◌, ◌==◌, not, nat_lt, ℕ, suc, Bool, true, false, cond, List, [], ◌∷◌, ◌++◌, All, MatchBool, MatchOption, Option, Some, None, map, take, drop, length, refl, sym, ap, ap₂, ◌∙◌, subst, append_assoc, length-append, lt-ltb, eq-eqb, ne_eqb, arith}
 use Rattle.std.proofs.lemmas.List.{take_at}
 use Rattle.std.proofs.lemmas.List.Elements.{All-from_recursion}
 use Rattle.std.proofs.lemmas.List.Splits.{slice_split_none, slice_split_at}
@@ -13,7 +13,7 @@ use Rattle.report_text.specs.declared.form.Form.{Form}
 use Rattle.report_text.specs.declared.form.Scale.{Scale}
 use Rattle.report_text.specs.Fields.{LineHasFlaw}
 use Rattle.report_text.specs.Forms.{fields_of}
-use Rattle.report_text.specs.ReportFaults.{HasFirstFault, fault_of, is_line_feed, is_space, word_at, words_of}
+use Rattle.report_text.specs.ReportFaults.{HasFirstFault, fault_of, is_line_feed, is_space, words_of}
 use Rattle.report_text.specs.TimingValues.{IsFlawless}
 use Rattle.report_text.proofs.FlawLemmas.{one_flaw}
 use Rattle.report_text.proofs.OneLine.{IsLine, IsWord}
@@ -189,28 +189,14 @@ line_passed circuit scale due more line words rest fault is flawless later =
 
 -- ---- the lines of a text
 
--- a text is cut at the line feeds
-text_cut : (lines : List Words) → AreLines lines
-    → slice_split is_line_feed (text_of lines) ≡ map (join_with_byte 32) lines ++ [] ∷ []
-text_cut [] are = refl
-text_cut (words ∷ lines) are =
+-- a text is cut at the line feeds, and its lines at the spaces
+pub lines_cut : (lines : List Words) → AreLines lines
+    → map words_of (slice_split is_line_feed (text_of lines)) ≡ lines ++ ([] ∷ []) ∷ []
+lines_cut [] are = refl
+lines_cut (words ∷ lines) are =
     let bytes : List ℕ = join_with_byte 32 words in
-    ap (slice_split is_line_feed) (append_assoc bytes (10 ∷ []) (text_of lines))
-    ∙ slice_split_at is_line_feed bytes 10 (text_of lines)
-    (lacks_each 10 bytes (words_lack words are.0)) refl
-    ∙ ap (λ rest. bytes ∷ rest) (text_cut lines are.1)
-
--- the words of a line
-line_cut : (lines : List Words) (place : ℕ) → AreLines lines → place < length lines
-    → words_of (get_or (map (join_with_byte 32) lines ++ [] ∷ []) place [])
-    ≡ get_or lines place []
-line_cut [] place are within = absurd (omega (arith, within))
-line_cut (words ∷ lines) zero are within = words_cut words are.0
-line_cut (words ∷ lines) (suc place) are within =
-    line_cut lines place are.1 (omega (arith, within))
-
-pub word_denoted : (lines : List Words) (line place : ℕ) → AreLines lines → line < length lines
-    → word_at (text_of lines) line place ≡ get_or (get_or lines line []) place []
-word_denoted lines line place are within =
-    ap (λ (parts : Words). get_or (words_of (get_or parts line [])) place []) (text_cut lines are)
-    ∙ ap (λ (words : Words). get_or words place []) (line_cut lines line are within)
+    ap (λ text. map words_of (slice_split is_line_feed text))
+    (append_assoc bytes (10 ∷ []) (text_of lines))
+    ∙ ap (map words_of) (slice_split_at is_line_feed bytes 10 (text_of lines)
+    (lacks_each 10 bytes (words_lack words are.0)) refl)
+    ∙ ap₂ (λ w ws. w ∷ ws) (words_cut words are.0) (lines_cut lines are.1)

@@ -9,6 +9,7 @@ use Rattle.cts_model.specs.declared.report.Version.TheVariants.{First, Second}
 use Rattle.cts_model.specs.declared.tech.Tech.{Tech}
 use Rattle.cts_model.specs.text.PrintedLines.{Words, period_line}
 use Rattle.cts_model.specs.report.ReportLines.{version_line}
+use Rattle.cts_model.specs.timing.Schedules.{IsSmallPeriod}
 use Rattle.report_text.specs.declared.fault.ReportFault.{ReportFault}
 use Rattle.report_text.specs.declared.fault.ReportFault.TheVariants.{NoMemory}
 use Rattle.report_text.specs.declared.form.Form.TheVariants as form
@@ -44,60 +45,64 @@ cycle_few Second None small = omega arith
 cycle_few First (Some count) small = omega (arith, length-replicate count form.Constraint, small.1)
 cycle_few Second (Some count) small = omega (arith, length_pathed count, small.1)
 
-module _ {circuit : Circuit} {text : List ℕ} {new : Left} {heading : Heading}
-    (has : HasHeading circuit (whole text) new heading) where
-  abbrev rest : List Words
-  rest = map words_of (slice_split is_line_feed new.text)
-
-  abbrev lines : List Words
-  lines = version_line heading.version ∷ period_line heading.period ∷ shown_line heading.count
-      ∷ rest
-
+-- what the first three lines denote of the others
+module _ (text : List ℕ) (heading : Heading) (rest : List Words)
+    (words : map words_of (slice_split is_line_feed text) ≡ version_line heading.version
+    ∷ period_line heading.period ∷ shown_line heading.count ∷ rest)
+    (small : IsSmallPeriod heading.period) (few : IsSmallCount heading.count) where
   -- the words of the lines
-  denoted : (line place : ℕ)
-      → word_at text line place ≡ get_or (get_or lines line (words_of [])) place []
-  denoted line place =
-      let read = has.lines (record { den = pos 1; grid = pos 1 }) in
-      ap (λ ws. get_or ws place [])
+  denoted : (line place : ℕ) → word_at text line place ≡ get_or (get_or (version_line
+      heading.version ∷ period_line heading.period ∷ shown_line heading.count ∷ rest) line
+      (words_of [])) place []
+  denoted line place = ap (λ ws. get_or ws place [])
       (sym (map_at (slice_split is_line_feed text) line)
-      ∙ ap (λ ls. get_or ls line (words_of [])) read.words)
+      ∙ ap (λ ls. get_or ls line (words_of [])) words)
 
-  pub denoted_version : version_denoted text ≡ heading.version
+  denoted_version : version_denoted text ≡ heading.version
   denoted_version =
       ap (λ word. if bytes_eq word (codes "1") then First else Second) (denoted 0 1)
       ∙ version_told heading.version
 
   denoted_den : den_denoted text ≡ heading.period.den
-  denoted_den = ap den_of (denoted 1 1) ∙ period_den heading.period has.small
+  denoted_den = ap den_of (denoted 1 1) ∙ period_den heading.period small
 
-  pub denoted_scale : (tech : Tech) → scale_denoted tech text ≡ scale_in tech heading.period
-  denoted_scale tech = λ i. record {
-    den = denoted_den i;
-    grid = pos (10 ^ 6) *ℤ (pos 8 *ℤ denoted_den i *ℤ tech.wire_num);
-  }
-
-  pub denoted_cycle : cycle_denoted text ≡ count_of heading.count
+  denoted_cycle : cycle_denoted text ≡ count_of heading.count
   denoted_cycle =
       ap (λ word. cycle_of word (word_at text 2 1)) (denoted 2 0)
       ∙ ap (λ count. cycle_of (get_or (shown_line heading.count) 0 []) count) (denoted 2 1)
-      ∙ shown_count heading.count has.count
+      ∙ shown_count heading.count few
 
-  -- the first fault by the forms that the heading gives
-  pub fault_given : (tech : Tech) (fault : Option ReportFault)
+  pub forms_denoted : (tech : Tech)
+      → ◌≡◌ {A = Scale × Version × ℕ}
+      (scale_denoted tech text, version_denoted text, cycle_denoted text)
+      (scale_in tech heading.period, heading.version, count_of heading.count)
+  forms_denoted tech = λ i. (
+    record {
+      den = denoted_den i;
+      grid = pos (10 ^ 6) *ℤ (pos 8 *ℤ denoted_den i *ℤ tech.wire_num);
+    },
+    denoted_version i,
+    denoted_cycle i,
+  )
+
+  -- the first fault by the forms that they give
+  pub fault_by : (circuit : Circuit) (tech : Tech) (fault : Option ReportFault)
       → HasFirstFault circuit (scale_in tech heading.period)
       (forms_of heading.version (count_of heading.count) (length circuit.registers)) 1 text fault
       → HasFault circuit tech text fault
-  fault_given tech fault found =
-      subst (λ (scale : Scale). HasFirstFault circuit scale
-      (forms_of (version_denoted text) (cycle_denoted text) (length circuit.registers)) 1
-      text fault)
-      (sym (denoted_scale tech))
-      (subst (λ (version : Version). HasFirstFault circuit (scale_in tech heading.period)
-      (forms_of version (cycle_denoted text) (length circuit.registers)) 1 text fault)
-      (sym denoted_version)
-      (subst (λ (count : ℕ). HasFirstFault circuit (scale_in tech heading.period)
-      (forms_of heading.version count (length circuit.registers)) 1 text fault)
-      (sym denoted_cycle) found))
+  fault_by circuit tech fault = subst (λ (given : Scale × Version × ℕ). HasFirstFault circuit
+      given.0 (forms_of given.1 given.2 (length circuit.registers)) 1 text fault)
+      (sym (forms_denoted tech))
+
+module _ {circuit : Circuit} {text : List ℕ} {new : Left} {heading : Heading}
+    (has : HasHeading circuit (whole text) new heading) where
+  -- the first fault by the forms that the heading gives
+  fault_given : (tech : Tech) (fault : Option ReportFault)
+      → HasFirstFault circuit (scale_in tech heading.period)
+      (forms_of heading.version (count_of heading.count) (length circuit.registers)) 1 text fault
+      → HasFault circuit tech text fault
+  fault_given = fault_by text heading (map words_of (slice_split is_line_feed new.text))
+      (has.lines (record { den = pos 1; grid = pos 1 })).words has.small has.count circuit
 
   -- a fault in what shows the period
   pub shown_fault : (tech : Tech) (fault : ReportFault)

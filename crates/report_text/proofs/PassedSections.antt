@@ -20,7 +20,7 @@ use Rattle.report_text.specs.Rows.{Counted, HasPathed, HasRows}
 use Rattle.report_text.specs.TimingValues.{IsFlawless, DenotesConstraint, DenotesLead, DenotesPath}
 use Rattle.report_text.specs.Values.{IsSmallScale, SaysMerge, SaysNode, SaysSource, SaysTotal}
 use Rattle.report_text.specs.Walks.{Left, ReadsLine, DenotesTimed}
-use Rattle.report_text.proofs.BodyLemmas.{leads_given, merge_forms, node_forms, register_forms}
+use Rattle.report_text.proofs.BodyLemmas.{leads_given, merge_forms, node_forms, register_forms, sections_apart}
 use Rattle.report_text.proofs.PassedLines.{IsSound, Passed, steps_passed, denoted_passed}
 use Rattle.report_text.proofs.RowLemmas.{no_rows, one_form, pathed_next, rows_next}
 use Rattle.report_text.proofs.TimingLines.{constraint_found, count_found, lead_found, path_found, timed_found}
@@ -164,15 +164,6 @@ module _ (circuit : Circuit) (scale : Scale) where
         rest = leads.rest;
       }
 
-  -- the forms of all sections, one after the other
-  forms_apart : (a b c d e more : List Form)
-      → (a ++ b ++ c ++ d ++ e) ++ more ≡ a ++ (b ++ (c ++ (d ++ (e ++ more))))
-  forms_apart a b c d e more =
-      append_assoc (a ++ b ++ c ++ d) e more
-      ∙ append_assoc (a ++ b ++ c) d (e ++ more)
-      ∙ append_assoc (a ++ b) c (d ++ (e ++ more))
-      ∙ append_assoc a b (c ++ (d ++ (e ++ more)))
-
   pub body_passed : (version : Version) (count : ℕ) (more : List Form) (old : Left)
       → IsSmallScale scale → count ≤ 4097
       → IsSound circuit scale (forms_after version count ++ more) old
@@ -180,8 +171,10 @@ module _ (circuit : Circuit) (scale : Scale) where
   body_passed version count more old small few sound =
       let last : List Form = form.Total ∷ more in
       let apart = subst (λ forms. IsSound circuit scale forms old)
-      (forms_apart (register_forms count) (lead_forms version count) (merge_forms count)
-      (form.Source ∷ node_forms count) (form.Total ∷ []) more) sound in
+      (append_assoc (register_forms count ++ lead_forms version count ++ merge_forms count
+      ++ form.Source ∷ node_forms count) (form.Total ∷ []) more
+      ∙ sections_apart (register_forms count) (lead_forms version count) (merge_forms count)
+      (form.Source ∷ node_forms count) last) sound in
       let timings = counted_passed word.Registers form.Register (DenotesTimed circuit scale) 0 count
       (lead_forms version count ++ (merge_forms count ++ (form.Source ∷ node_forms count ++ last)))
       (omega (arith, few)) (λ number words within some. timed_found circuit scale number words

@@ -1,5 +1,5 @@
 -- A text without a fault spells a report.
-use Rattle.std.proofs.Common.{◌≡◌, ◌==◌, ℕ, suc, false, Option, Some, None, List, [], ◌∷◌, ◌++◌, length, if◌then◌else◌, refl, sym, ap, ◌∙◌, subst, append-nil, arith}
+use Rattle.std.proofs.Common.{map, pos, ◌≡◌, ◌==◌, ℕ, suc, false, Option, Some, None, List, [], ◌∷◌, ◌++◌, length, if◌then◌else◌, refl, sym, ap, ◌∙◌, subst, append-nil, arith}
 use Rattle.std.proofs.lemmas.Bool.{ne_eqb}
 use Rattle.std.proofs.lemmas.Option.{none-some}
 use Rattle.cts_model.specs.declared.circuit.Circuit.{Circuit}
@@ -20,14 +20,15 @@ use Rattle.report_text.specs.declared.timing_values.ShowLine.{ShowLine}
 use Rattle.report_text.specs.Forms.{cycle_forms, forms_after}
 use Rattle.report_text.specs.Headings.{HasHeading, HasShown, IsSmallCount, count_of, heading_forms}
 use Rattle.report_text.specs.Parts.{HasParts, scale_in, whole}
-use Rattle.report_text.specs.ReportFaults.{HasFault, cycle_denoted, scale_denoted, version_denoted}
+use Rattle.std.specs.List.{slice_split}
+use Rattle.report_text.specs.ReportFaults.{is_line_feed, words_of, HasFault, cycle_denoted, scale_denoted, version_denoted}
 use Rattle.report_text.specs.TimingValues.{DenotesPeriod, DenotesShow}
 use Rattle.report_text.specs.DenotedReports.{report_denoted}
 use Rattle.report_text.specs.Walks.{Left, DenotesVersion}
 use Rattle.report_text.proofs.GridLemmas.{scale_small}
 use Rattle.report_text.proofs.HeadingLemmas.{cycle_shown, heading_read, pathed_shown}
 use Rattle.name_set.proofs.OneName.{few_registers}
-use Rattle.report_text.proofs.PartLemmas.{denoted_cycle, denoted_scale, denoted_version}
+use Rattle.report_text.proofs.PartLemmas.{forms_denoted}
 use Rattle.report_text.proofs.AssemblyLemmas.{parts_spelled}
 use Rattle.report_text.proofs.PassedLines.{IsSound, Passed, denoted_passed}
 use Rattle.report_text.proofs.PassedSections.{body_passed, cycle_passed, pathed_passed}
@@ -116,7 +117,7 @@ shown_passed circuit scale Second (Some count) more old small sound =
     }
 
 -- after the heading the forms are those that it denotes
-forms_denoted : {circuit : Circuit} {text : List ℕ} {new : Left} {heading : Heading}
+forms_given : {circuit : Circuit} {text : List ℕ} {new : Left} {heading : Heading}
     → HasHeading circuit (whole text) new heading → (tech : Tech)
     → IsSound circuit (scale_denoted tech text)
     (cycle_forms (version_denoted text) (cycle_denoted text)
@@ -124,17 +125,11 @@ forms_denoted : {circuit : Circuit} {text : List ℕ} {new : Left} {heading : He
     → IsSound circuit (scale_in tech heading.period)
     (cycle_forms heading.version (count_of heading.count)
     ++ forms_after heading.version (length circuit.registers)) new
-forms_denoted {circuit} {text} {new} {heading} has tech sound =
-    subst (λ (scale : Scale). IsSound circuit scale
-    (cycle_forms heading.version (count_of heading.count)
-    ++ forms_after heading.version (length circuit.registers)) new) (denoted_scale has tech)
-    (subst (λ (version : Version). IsSound circuit (scale_denoted tech text)
-    (cycle_forms version (count_of heading.count)
-    ++ forms_after version (length circuit.registers)) new) (denoted_version has)
-    (subst (λ (count : ℕ). IsSound circuit (scale_denoted tech text)
-    (cycle_forms (version_denoted text) count
-    ++ forms_after (version_denoted text) (length circuit.registers)) new)
-    (denoted_cycle has) sound))
+forms_given {circuit} {text} {new} {heading} has tech =
+    subst (λ (given : Scale × Version × ℕ). IsSound circuit given.0 (cycle_forms given.1 given.2
+    ++ forms_after given.1 (length circuit.registers)) new)
+    (forms_denoted text heading (map words_of (slice_split is_line_feed new.text))
+    (has.lines (record { den = pos 1; grid = pos 1 })).words has.small has.count tech)
 
 -- where nothing more is to follow, nothing is left
 nothing_left : (circuit : Circuit) (scale : Scale) (left : Left) → IsSound circuit scale [] left
@@ -162,7 +157,7 @@ parts_passed circuit tech text sound =
     let scale = scale_in tech heading.value.period in
     let suffix : List Form = forms_after heading.value.version registers in
     let shown = shown_passed circuit scale heading.value.version heading.value.count suffix
-    heading.new heading.has.count (forms_denoted heading.has tech heading.rest) in
+    heading.new heading.has.count (forms_given heading.has tech heading.rest) in
     let body = body_passed circuit scale heading.value.version registers [] shown.new
     (scale_small tech heading.value.period heading.has.small) few
     (subst (λ forms. IsSound circuit scale forms shown.new) (sym (append-nil suffix))

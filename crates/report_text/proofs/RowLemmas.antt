@@ -1,8 +1,8 @@
 -- Lines of one form, one after the other, and the rows that they tell.
 use Rattle.std.proofs.Common.{ℕ, zero, suc, ◌≡◌, ◌<◌, ◌≤◌, ◌+◌, ◌*◌, All, List, [], ◌∷◌, ◌++◌, map, length, get_or, replicate, refl, sym, ap, ap₂, subst, ◌∙◌, arith}
 use Rattle.std.specs.List.{range_with_len}
-use Rattle.std.proofs.lemmas.List.{length-append, length-map}
-use Rattle.std.proofs.lemmas.List.Elements.{All-cons, All-map, All-nil, All-push}
+use Rattle.std.proofs.lemmas.List.{length-append}
+use Rattle.std.proofs.lemmas.List.Elements.{All-cons, All-nil, All-push}
 use Rattle.std.proofs.lemmas.List.FromFn.{length-map-range_with_len, map-range_with_len_more}
 use Rattle.cts_model.specs.declared.circuit.Circuit.{Circuit}
 use Rattle.cts_model.specs.declared.constraint.Constraint.{Constraint}
@@ -165,19 +165,6 @@ module _ {X : Type 0} {circuit : Circuit} {scale : Scale} {keyword : Keyword} {d
   counted_number =
       let head = has.counted.read scale has.counted.flawless in
       omega (arith, head.number, rows_number due Says first has.has)
-
--- what the rows tell, value by value
-module _ {X Y : Type 0} {circuit : Circuit} {scale : Scale} {due : ℕ → Form}
-    (Says : ℕ → Words → X → Type 0) {first count : ℕ} {old new : Left} {rows : List X}
-    (f : X → Y) (has : HasRows circuit scale due Says first count old new rows) where
-  pub values_many : length (map f rows) ≡ count
-  values_many = length-map rows f ∙ has.many
-
-  pub values_all : (P : Y → Type 0)
-      → ((number : ℕ) (words : Words) (row : X) → Says number words row → P (f row))
-      → All P (map f rows)
-  values_all P gives = All-map P f rows
-      (rows_all Says (λ row. P (f row)) gives first has.lines rows has.each)
 
 -- ---- a cycle with paths
 

@@ -1,6 +1,6 @@
 -- What each word of a line without a flaw is: the word of a value that its field admits. A line has
 -- no flaw just where each of its words is one.
-use Rattle.std.proofs.Common.{◌≡◌, ◌<◌, ◌≤◌, ◌^◌, ◌⊎◌, ℕ, ℤ, pos, negsuc, ◌≤ℤ◌, nat_abs, Bool, true, false, inl, inr, List, [], ◌∷◌, length, if◌then◌else◌, Option, Some, None, codes, refl, sym, ◌∙◌, subst, arith}
+use Rattle.std.proofs.Common.{◌≡◌, ◌<◌, ◌≤◌, ◌^◌, ◌⊎◌, ℕ, ℤ, pos, negsuc, ◌≤ℤ◌, nat_abs, Bool, true, false, inl, inr, List, [], ◌∷◌, length, if◌then◌else◌, Option, Some, None, codes, drop, get_or, refl, sym, ap, ◌∙◌, subst, arith}
 use Rattle.std.proofs.lemmas.Int.{ints}
 use Rattle.std.specs.Fmt.{signed_decimal}
 use Rattle.std.specs.List.{AllByRecursion}
@@ -9,6 +9,7 @@ use Rattle.cts_base.specs.Fractions.{HasSizeBelow, fraction_text, quotient_text}
 use Rattle.cts_base.specs.NumberTexts.{SpellsWhole, HaveSmallSizes}
 use Rattle.cts_base.proofs.FractionReading.{few_digits}
 use Rattle.cts_base.proofs.GreatestDivisors.{lowest_sizes}
+use Rattle.cts_base.proofs.OneNumberText.{no_fraction_minus, one_decimal, one_fraction_text, one_number_text, one_quotient_text}
 use Rattle.cts_base.proofs.OneSpelling.{one_whole, quotient_some, quotient_text_spelled}
 use Rattle.cts_model.specs.declared.circuit.Circuit.{Circuit}
 use Rattle.cts_model.specs.declared.report.Version.{Version}
@@ -25,7 +26,8 @@ use Rattle.report_text.specs.Fields.{AreFewSteps, IsFractionForm, IsWholeSteps, 
 use Rattle.report_text.specs.Keywords.{keyword_text, version_text}
 use Rattle.report_text.proofs.FractionFlaws.{dash_plain, period_within, read_quotient_is, steps_denoted, steps_small}
 use Rattle.report_text.proofs.NumberWords.{below_bound, denoted_steps, smaller, spelled_steps, spelled_whole, whole_word}
-use Rattle.name_set.proofs.OneName.{one_register}
+use Rattle.name_set.proofs.OneName.{one_register, one_signal}
+use Rattle.report_text.proofs.OneRecord.{same_fraction}
 
 -- what the word of a field tells
 abbrev pub Value : Field → Type 0
@@ -330,6 +332,81 @@ module _ (circuit : Circuit) where
     tt,
   )
   plain field.Signal number small below = (tt, (number, below, refl), tt, tt)
+
+  -- ---- a value is determined by its word
+
+  one_fraction : (fraction other : Fraction) → HaveSmallSizes fraction.num fraction.den
+      → HaveSmallSizes other.num other.den
+      → fraction_text fraction.num fraction.den ≡ fraction_text other.num other.den
+      → fraction ≡ other
+  one_fraction fraction other small small' same =
+      let (num, den) = one_fraction_text fraction.num fraction.den other.num other.den
+      (few_digits fraction.num small.0) (few_digits fraction.den small.1)
+      (few_digits other.num small'.0) (few_digits other.den small'.1) same in
+      same_fraction fraction other num den
+
+  one_slack : (over : ℤ) (slack other : Option Fraction) → pos 1 ≤ℤ over
+      → HasSizeBelow (10 ^ 37) over → IsSmallSlack over slack → IsSmallSlack over other
+      → slack_text slack ≡ slack_text other → slack ≡ other
+  one_slack over None None some low small small' same = refl
+  one_slack over None (Some other) some low small small' same =
+      absurd (no_fraction_minus other.num other.den
+      (few_digits other.num (small_slack over other some low small').0) (sym same))
+  one_slack over (Some slack) None some low small small' same =
+      absurd (no_fraction_minus slack.num slack.den
+      (few_digits slack.num (small_slack over slack some low small).0) same)
+  one_slack over (Some slack) (Some other) some low small small' same =
+      ap Some (one_fraction slack other (small_slack over slack some low small)
+      (small_slack over other some low small') same)
+
+  pub one_value : (due : Field) (value other : Value due) → IsSmallField due
+      → Admits circuit due value → Admits circuit due other
+      → spell circuit due value ≡ spell circuit due other → value ≡ other
+  one_value field.Version First First small is is' same = refl
+  one_value field.Version Second Second small is is' same = refl
+  one_value field.Version value other small is is' same =
+      absurd (omega (arith, ap (λ (word : List ℕ). get_or word 0 0) same))
+  one_value field.Kind true true small is is' same = refl
+  one_value field.Kind false false small is is' same = refl
+  one_value field.Kind value other small is is' same =
+      absurd (omega (arith, ap (λ (word : List ℕ). get_or word 0 0) same))
+  one_value (field.Number least most) value other small is is' same =
+      one_decimal value other (omega (arith, small, is.1)) (omega (arith, small, is'.1)) same
+  one_value field.Weight value other small is is' same = one_number_text value other
+      (few_digits value (size_below (10 ^ 12) value (omega arith) is))
+      (few_digits other (size_below (10 ^ 12) other (omega arith) is')) same
+  one_value field.Period value other small is is' same =
+      one_fraction value other (small_period value is) (small_period other is') same
+  one_value (field.Steps over (pos bound)) value other small is is' same =
+      one_quotient_text value other over small.0
+      (few_digits value (size_below bound value small.2 is))
+      (few_digits other (size_below bound other small.2 is')) (few_digits over small.1) same
+  one_value (field.Steps over (negsuc bound)) value other small is is' same = absurd small
+  one_value (field.Slack over bound) value other small is is' same =
+      one_slack over value other small.0 small.1 is is' same
+  one_value field.Register value other small is is' same =
+      one_register circuit value other is is' same
+  one_value (field.From first) value other small is is' same =
+      one_register circuit value other is.1 is'.1 same
+  one_value field.Signal value other small is is' same =
+      one_signal circuit value other is is' same
+  one_value (field.Word keyword) value other small is is' same = refl
+  one_value (field.Exactly number) value other small is is' same = refl
+  one_value (field.Counted count most) value other small is is' same = refl
+  one_value (field.Named register) value other small is is' same = refl
+
+  -- so are those of a line
+  pub one_values : (fields : List Field) (values others : Values fields)
+      → AllByRecursion IsSmallField fields → AdmitsEach circuit fields values
+      → AdmitsEach circuit fields others
+      → spell_line circuit fields values ≡ spell_line circuit fields others → values ≡ others
+  one_values [] values others small is is' same = refl
+  one_values (due ∷ fields) values others small is is' same =
+      let first = one_value due values.0 others.0 small.0 is.0 is'.0
+      (ap (λ (words : Words). get_or words 0 []) same) in
+      let more = one_values fields values.1 others.1 small.1 is.1 is'.1
+      (ap (λ (words : Words). drop 1 words) same) in
+      λ i. (first i, more i)
 
   -- ---- the line
 

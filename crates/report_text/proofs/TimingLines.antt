@@ -1,6 +1,6 @@
 -- A line of the timing without a flaw is that of a value, and the line of a value within the bounds
 -- has no flaw.
-use Rattle.std.proofs.Common.{◌≡◌, ◌<◌, ◌≤◌, ◌-◌, ◌^◌, ℕ, zero, suc, pos, Bool, true, false, cond, List, [], ◌∷◌, All, map, replicate, length, Option, Some, None, codes, refl, sym, ap, ◌∙◌, subst, arith}
+use Rattle.std.proofs.Common.{if◌then◌else◌, ℤ, ◌≡◌, ◌<◌, ◌≤◌, ◌-◌, ◌^◌, ℕ, zero, suc, pos, Bool, true, false, cond, List, [], ◌∷◌, All, map, replicate, length, Option, Some, None, codes, refl, sym, ap, ◌∙◌, subst, arith}
 use Rattle.std.proofs.lemmas.Bool.{false_from_ne_true}
 use Rattle.std.proofs.lemmas.Fmt.{decimal_digit}
 use Rattle.std.proofs.lemmas.Int.{ints}
@@ -20,7 +20,7 @@ use Rattle.cts_model.specs.declared.report.Version.TheVariants.{First, Second}
 use Rattle.cts_model.specs.declared.schedule.Lead.{Lead}
 use Rattle.cts_model.specs.declared.schedule.Lead.TheVariants.{Zero, Tight}
 use Rattle.cts_model.specs.placement.Points.{IsBelow}
-use Rattle.cts_model.specs.text.PrintedLines.{Words, count_line, constraint_line, floor_line, line_for, period_line, register_line}
+use Rattle.cts_model.specs.text.PrintedLines.{Words, constraint_line, count_line, line_for, period_line, register_line}
 use Rattle.cts_model.specs.report.ReportBounds.{IsBetweenRegisters, HasSmallWeight, LeadsAmong, IsSmallLead}
 use Rattle.cts_model.specs.report.ReportLines.{lead_line, path_line, signal_name, version_line}
 use Rattle.cts_model.specs.timing.Schedules.{IsSmallPeriod}
@@ -34,6 +34,7 @@ use Rattle.report_text.specs.declared.form.Scale.{Scale}
 use Rattle.report_text.specs.declared.timing_values.Timed.{Timed}
 use Rattle.report_text.specs.Fields.{LineHasFlaw}
 use Rattle.report_text.specs.Forms.{constraint_fields, is_word, register_fields, slack_field}
+use Rattle.report_text.specs.Headings.{IsSmallCount, shown_line}
 use Rattle.report_text.specs.Keywords.{keyword_text}
 use Rattle.report_text.specs.TimingValues.{IsFlawless, DenotesConstraint, DenotesLead, DenotesPath, DenotesPeriod, DenotesShow}
 use Rattle.report_text.specs.Values.{IsSmallScale}
@@ -93,13 +94,11 @@ module _ (circuit : Circuit) (scale : Scale) where
           let line = line_spelled circuit cycle_fields words (tt, (omega arith, tt)) flawless in
           (Some line.values.1.0, (line.are, line.admitted.1.0.0, line.admitted.1.0.1))
 
-  pub floor_plain : IsFlawless circuit scale form.Show floor_line
-  floor_plain = values_plain circuit (shown_fields true) (tt, tt) (tt, tt) (tt, tt)
-
-  pub cycle_plain : (count : ℕ) → 1 ≤ count → count ≤ 9999
-      → IsFlawless circuit scale form.Show (count_line (codes "cycle") count)
-  cycle_plain count some few = values_plain circuit cycle_fields (tt, (count, tt))
-      (tt, (omega arith, tt)) (tt, ((some, few), tt))
+  pub show_plain : (count : Option ℕ) → IsSmallCount count
+      → IsFlawless circuit scale form.Show (shown_line count)
+  show_plain None small = values_plain circuit (shown_fields true) (tt, tt) (tt, tt) (tt, tt)
+  show_plain (Some count) small = values_plain circuit cycle_fields (tt, (count, tt))
+      (tt, (omega arith, tt)) (tt, (small, tt))
 
   -- how many lines follow: the words are just these
   pub count_found : (keyword : Keyword) (count : ℕ) (words : Words) → count < 10 ^ 37
@@ -138,32 +137,35 @@ constraint_found circuit scale words flawless =
     let (constraint, says) = constraint_of circuit line.values line.admitted in
     (constraint, subst (λ ws. DenotesConstraint circuit ws constraint) (sym line.are) says)
 
--- and those of a constraint
-constraint_told : (circuit : Circuit) (constraint : Constraint)
+-- the values of a constraint's words
+abbrev pub constraint_values : (setup : Bool) (tail head : ℕ) (weight : ℤ)
+    → Values constraint_fields
+constraint_values setup tail head weight =
+    (setup, (cond setup tail head, (cond setup head tail, (weight, tt))))
+
+pub constraint_told : (circuit : Circuit) (constraint : Constraint)
     → IsBetweenRegisters (length circuit.registers) constraint → HasSmallWeight constraint
-    → Tells circuit constraint_fields (line_for circuit constraint)
+    → let values = constraint_values constraint.setup constraint.tail constraint.head
+    constraint.weight in AdmitsEach circuit constraint_fields values
+    × (line_for circuit constraint ≡ spell_line circuit constraint_fields values)
 constraint_told circuit constraint between small = at constraint.setup
   where
-    at : (setup : Bool) → Tells circuit constraint_fields (cond setup
-        (constraint_line (codes "setup") circuit constraint.tail constraint.head constraint.weight)
-        (constraint_line (codes "hold") circuit constraint.head constraint.tail constraint.weight))
-    at true = record {
-      values = (true, (constraint.tail, (constraint.head, (constraint.weight, tt))));
-      admitted = (tt, (between.tail, (between.head, (small, tt))));
-      are = refl;
-    }
-    at false = record {
-      values = (false, (constraint.head, (constraint.tail, (constraint.weight, tt))));
-      admitted = (tt, (between.head, (between.tail, (small, tt))));
-      are = refl;
-    }
+    at : (setup : Bool) → let values = constraint_values setup constraint.tail constraint.head
+        constraint.weight in AdmitsEach circuit constraint_fields values × ((if setup
+        then constraint_line (codes "setup") circuit constraint.tail constraint.head
+        constraint.weight
+        else constraint_line (codes "hold") circuit constraint.head constraint.tail
+        constraint.weight) ≡ spell_line circuit constraint_fields values)
+    at true = ((tt, (between.tail, (between.head, (small, tt)))), refl)
+    at false = ((tt, (between.head, (between.tail, (small, tt)))), refl)
 
 pub constraint_plain : (circuit : Circuit) (scale : Scale) (constraint : Constraint)
     → IsBetweenRegisters (length circuit.registers) constraint → HasSmallWeight constraint
     → IsFlawless circuit scale form.Constraint (line_for circuit constraint)
 constraint_plain circuit scale constraint between small =
+    let (admitted, are) = constraint_told circuit constraint between small in
     line_plain circuit constraint_fields (line_for circuit constraint) small_constraint
-    (constraint_told circuit constraint between small)
+    (record { values = _; admitted = admitted; are = are })
 
 -- ---- a lead
 
@@ -218,12 +220,12 @@ lead_plain circuit scale Zero among small =
     values_plain circuit (led_fields true) (tt, (tt, tt)) (tt, (tt, tt)) (tt, (tt, tt))
 lead_plain circuit scale (Tight depth constraint) among (some, few, weight) =
     let line : Words = lead_line circuit (Tight depth constraint) in
-    let told = constraint_told circuit constraint among weight in
+    let (admitted, are) = constraint_told circuit constraint among weight in
     subst (λ zero. LineHasFlaw circuit (led_fields zero) line None)
     (sym (not_zero depth some few)) (line_plain circuit tight_fields line small_tight (record {
-      values = (tt, (depth, told.values));
-      admitted = (tt, ((some, few), told.admitted));
-      are = ap (λ ws. codes "lead" ∷ signed_decimal (pos depth) ∷ ws) told.are;
+      values = (tt, (depth, _));
+      admitted = (tt, ((some, few), admitted));
+      are = ap (λ ws. codes "lead" ∷ signed_decimal (pos depth) ∷ ws) are;
     }))
 
 -- ---- a register

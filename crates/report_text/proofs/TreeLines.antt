@@ -34,7 +34,7 @@ use Rattle.report_text.proofs.RegisterNames.{named_register}
 use Rattle.report_text.proofs.SpelledFields.{IsSmallField, Tells, line_plain, line_spelled, values_plain}
 
 -- a length is small
-small_length : (scale : Scale) → IsSmallScale scale → IsSmallField (length_field scale)
+pub small_length : (scale : Scale) → IsSmallScale scale → IsSmallField (length_field scale)
 small_length scale small = (small.some_grid, small.small_grid, omega arith)
 
 -- ---- the whole wire

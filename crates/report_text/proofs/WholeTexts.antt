@@ -4,24 +4,22 @@ use Rattle.std.proofs.Common.{◌≡◌, ◌≢◌, ◌⊎◌, inl, inr, ℕ, Li
 use Rattle.std.proofs.lemmas.Option.{same_Some}
 use Rattle.cts_model.specs.declared.circuit.Circuit.{Circuit}
 use Rattle.cts_model.specs.declared.report.Report.{Report}
-use Rattle.cts_model.specs.declared.report.Version.{Version}
 use Rattle.cts_model.specs.declared.tech.Tech.{Tech}
 use Rattle.cts_model.specs.text.PrintedLines.{text_of}
-use Rattle.cts_model.specs.report.ReportBounds.{Spells, cycle_length}
+use Rattle.cts_model.specs.report.ReportBounds.{Spells}
 use Rattle.cts_model.specs.report.ReportLines.{report_lines}
 use Rattle.report_text.specs.declared.fault.ReportFault.{ReportFault}
 use Rattle.report_text.specs.declared.fault.ReportFault.TheVariants.{NoMemory}
-use Rattle.report_text.specs.declared.form.Scale.{Scale}
 use Rattle.report_text.specs.Forms.{forms_of}
 use Rattle.report_text.specs.Laws.{OneReport}
-use Rattle.report_text.specs.ReportFaults.{HasFault, HasFirstFault, cycle_denoted, scale_denoted, version_denoted}
-use Rattle.report_text.proofs.FlawlessReport.{no_first_fault, report_flawless, scale_of}
+use Rattle.report_text.specs.ReportFaults.{HasFault, cycle_denoted, scale_denoted, version_denoted}
 use Rattle.report_text.proofs.LineReading.{one_first_fault}
 use Rattle.report_text.proofs.OneLine.{one_text}
-use Rattle.report_text.proofs.OneTiming.{one_timing}
-use Rattle.report_text.proofs.OneTree.{one_tree}
-use Rattle.report_text.proofs.ReportWords.{report_lines_are}
-use Rattle.report_text.proofs.DenotedForms.{same_cycle, same_scale, same_version}
+use Rattle.report_text.specs.DenotedReports.{report_denoted}
+use Rattle.report_text.proofs.OneParts.{one_parts}
+use Rattle.report_text.proofs.PartsOf.{report_printable, report_same, report_told}
+use Rattle.report_text.proofs.ReportWords.{AreLines, report_lines_are}
+use Rattle.report_text.proofs.FlawlessParts.{parts_sound}
 
 -- two reports of a text are the same
 pub one_report : OneReport
@@ -29,25 +27,13 @@ one_report circuit tech text report other spells spells' =
     let same = one_text (report_lines circuit report) (report_lines circuit other)
     (report_lines_are circuit report) (report_lines_are circuit other)
     (sym spells.lines ∙ spells'.lines) in
-    let timing = one_timing circuit report other spells.size spells'.size spells.bounds.timing
-    spells'.bounds.timing same in
-    let tree = one_tree circuit tech report other spells.size spells'.size spells.bounds
-    spells'.bounds timing in
-    λ i. record {
-      version = timing.version i;
-      period = timing.period i;
-      shown = timing.shown i;
-      paths = timing.paths i;
-      schedule = record { den = timing.den i; at = timing.arrivals i };
-      slacks = timing.slacks i;
-      leads = timing.leads i;
-      grid = tree.grid i;
-      topology = record { merges = tree.merges i };
-      tree = record { reach = tree.reach i; place = tree.place i; length = tree.length i };
-      shows = tree.shows i;
-      wires = tree.wires i;
-      total = tree.total i;
-    }
+    let is = report_printable circuit tech report spells.size spells.bounds in
+    let is' = report_printable circuit tech other spells'.size spells'.bounds in
+    sym (report_same circuit tech report spells.size spells.bounds)
+    ∙ ap (report_denoted tech) (one_parts is is'
+    (report_told circuit tech report spells.size spells.bounds ∙ same
+    ∙ sym (report_told circuit tech other spells'.size spells'.bounds)))
+    ∙ report_same circuit tech other spells'.size spells'.bounds
 
 -- two faults of a text as a report are the same
 pub one_fault : (circuit : Circuit) (tech : Tech) (text : List ℕ)
@@ -62,22 +48,11 @@ one_fault circuit tech text fault other is is' =
 pub no_fault : (circuit : Circuit) (tech : Tech) (text : List ℕ) (report : Report)
     → Spells circuit tech text report → HasFault circuit tech text None
 no_fault circuit tech text report spells =
-    let bytes : List ℕ = text_of (report_lines circuit report) in
-    let registers = length circuit.registers in
-    let cycle = cycle_length report.shown in
-    let first = no_first_fault circuit (scale_of report) (forms_of report.version cycle registers)
-    (report_lines circuit report) 1 (report_lines_are circuit report)
-    (report_flawless circuit tech report spells.size spells.bounds) in
-    subst (λ (t : List ℕ). HasFault circuit tech t None) (sym spells.lines)
-    (subst (λ (s : Scale). HasFirstFault circuit s
-    (forms_of (version_denoted bytes) (cycle_denoted bytes) registers) 1 bytes None)
-    (sym (same_scale circuit tech report spells.bounds))
-    (subst (λ (v : Version). HasFirstFault circuit (scale_of report)
-    (forms_of v (cycle_denoted bytes) registers) 1 bytes None)
-    (sym (same_version circuit tech report spells.bounds))
-    (subst (λ n. HasFirstFault circuit (scale_of report)
-    (forms_of report.version n registers) 1 bytes None)
-    (sym (same_cycle circuit tech report spells.bounds)) first)))
+    let told = sym (report_told circuit tech report spells.size spells.bounds) in
+    subst (λ (t : List ℕ). HasFault circuit tech t None)
+    (sym (spells.lines ∙ ap text_of told))
+    (parts_sound (report_printable circuit tech report spells.size spells.bounds)
+    (subst AreLines told (report_lines_are circuit report)))
 
 -- a fault is want of memory or it isn't
 memory_or_not : (fault : ReportFault) → (fault ≡ NoMemory) ⊎ (fault ≢ NoMemory)
