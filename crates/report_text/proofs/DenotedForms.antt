@@ -16,7 +16,8 @@ use Rattle.cts_model.specs.declared.report.Version.{Version}
 use Rattle.cts_model.specs.declared.report.Version.TheVariants.{First, Second}
 use Rattle.cts_model.specs.report.ReportLines.{version_line}
 use Rattle.cts_model.specs.timing.Schedules.{IsSmallPeriod}
-use Rattle.report_text.proofs.LineReading.{Lacks, after_place, first_place}
+use Rattle.report_text.proofs.LineReading.{after_place, first_place}
+use Rattle.report_text.proofs.OneLine.{Lacks}
 use Rattle.report_text.proofs.NumberWords.{spelled_whole}
 use Rattle.report_text.proofs.SpelledFields.{small_period}
 

@@ -12,7 +12,7 @@ use Rattle.cts_model.specs.declared.schedule.Lead.{Lead}
 use Rattle.cts_model.specs.declared.tech.Tech.{Tech}
 use Rattle.cts_model.specs.report.ReportBounds.{HasSmallWeight, HasSmallWeights, IsBetweenRegisters, count_in}
 use Rattle.cts_model.specs.report.ReportLines.{lead_line, pathed_lines, period_show_lines, version_line}
-use Rattle.cts_model.specs.text.PrintedLines.{Words, count_line, line_for, period_line, text_of}
+use Rattle.cts_model.specs.text.PrintedLines.{Words, count_line, line_for, line_of, period_line, text_of}
 use Rattle.name_set.proofs.OneName.{few_registers}
 use Rattle.report_text.specs.declared.field.Keyword.TheVariants as word
 use Rattle.report_text.specs.declared.form.Form.{Form}
@@ -27,11 +27,12 @@ use Rattle.report_text.specs.ReportFaults.{HasFault, HasFirstFault}
 use Rattle.report_text.specs.Rows.{lines_of}
 use Rattle.report_text.specs.TimingValues.{DenotesConstraint, DenotesLead, IsFlawless}
 use Rattle.report_text.specs.Values.{SaysMerge, SaysNode, merged_line, placed_line, sourced_line}
-use Rattle.report_text.specs.Walks.{DenotesTimed}
+use Rattle.report_text.specs.Walks.{DenotesTimed, Left}
 use Rattle.report_text.proofs.AssemblyLemmas.{after_apart}
 use Rattle.report_text.proofs.BodyLemmas.{merge_forms, node_forms, register_forms, sections_apart}
 use Rattle.report_text.proofs.GridLemmas.{scale_small}
-use Rattle.report_text.proofs.LineReading.{line_passed, lines_cut}
+use Rattle.report_text.proofs.LineReading.{line_reads}
+use Rattle.report_text.proofs.OneLine.{lines_cut}
 use Rattle.report_text.proofs.PartLemmas.{fault_by}
 use Rattle.report_text.proofs.PrintedParts.{ArePrintable, IsPrintableShow, IsTold, count_shown}
 use Rattle.report_text.proofs.ReportWords.{AreLines}
@@ -67,8 +68,9 @@ module _ (circuit : Circuit) (scale : Scale) where
       → AreFlawless forms lines → HasFirstFault circuit scale forms line (text_of lines) None
   no_first_fault [] [] line are flawless = refl
   no_first_fault (due ∷ forms) (words ∷ lines) line are flawless =
-      line_passed circuit scale due forms line words (text_of lines) None are.0 flawless.0
-      (no_first_fault forms lines (line + 1) are.1 flawless.1)
+      let old : Left = record { line = line; text = line_of words ++ text_of lines } in
+      ((line_reads circuit scale due words old (text_of lines) are.0 flawless.0 refl).read scale
+      flawless.0).faults forms None (no_first_fault forms lines (line + 1) are.1 flawless.1)
   no_first_fault forms lines line are flawless = absurd flawless
 
   module _ (more : List Form) (rest : List Words) (after : AreFlawless more rest) where

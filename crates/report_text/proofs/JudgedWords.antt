@@ -1,5 +1,5 @@
 -- Each word has a flaw by its field or has none, and so each line has.
-use Rattle.std.proofs.Common.{◌≡◌, ◌⊎◌, ◌^◌, ℕ, ℤ, pos, ◌≤ℤ◌, ◌<ℤ◌, ◌+ℤ◌, ◌*ℤ◌, inl, inr, List, [], ◌∷◌, Option, Some, None, codes, refl, sym, subst, ◌∙◌, arith}
+use Rattle.std.proofs.Common.{◌≡◌, ◌≤◌, ◌⊎◌, ◌^◌, ℕ, ℤ, pos, ◌≤ℤ◌, ◌<ℤ◌, ◌+ℤ◌, ◌*ℤ◌, inl, inr, List, [], ◌∷◌, Option, Some, None, codes, refl, sym, subst, ◌∙◌, arith}
 use Rattle.std.specs.Int.RustNames.{int_div, int_rem}
 use Rattle.std.specs.List.{position}
 use Rattle.std.specs.Str.{bytes_eq}
@@ -12,10 +12,9 @@ use Rattle.cts_model.specs.declared.circuit.Circuit.{Circuit}
 use Rattle.cts_model.specs.netlist.Paths.{register_name}
 use Rattle.report_text.specs.LineFields.{Field}
 use Rattle.report_text.specs.LineFields as field
-use Rattle.report_text.specs.declared.field.Keyword.{Keyword}
 use Rattle.report_text.specs.declared.field.Flaw.{Flaw}
 use Rattle.report_text.specs.declared.field.Flaw.TheVariants.{Form, Large, Unfit, Unknown}
-use Rattle.report_text.specs.Fields.{LineHasFlaw, WordHasFlaw}
+use Rattle.report_text.specs.Fields.{IsFirstFlaw, LineHasFlaw, NamesRegister, NamesSignal, WordHasFlaw}
 use Rattle.report_text.specs.FlawOrder.{sooner_flaw}
 use Rattle.report_text.specs.JudgedFractions.{HasStepsFlaw, IsNegativeQuotient}
 use Rattle.report_text.specs.Keywords.{keyword_text}
@@ -27,18 +26,32 @@ use Rattle.report_text.proofs.NameNumbers.{register_denoted, signal_denoted}
 use Rattle.name_set.proofs.OneName.{one_register}
 use Rattle.report_text.proofs.SpelledNumbers.{OrNot, fraction_or_not, quotient_or_not, same_text, same_whole, size_or_not, whole_or_not}
 
+-- which of four fails first, where each that is asked for holds or doesn't
+judged : {Formed Known Fit Within : Type 0} → OrNot Formed → OrNot Known → (Known → OrNot Fit)
+    → (Formed → OrNot Within)
+    → (flaw : Option Flaw) × IsFirstFlaw Formed Known Fit Within flaw
+judged formed known fit within = elim formed [
+  | inr none ↦ (Some Form, none)
+  | inl is ↦ elim known [
+    | inr none ↦ (Some Unknown, (is, none))
+    | inl named ↦ elim (fit named) [
+      | inr none ↦ (Some Unfit, (is, named, none))
+      | inl fits ↦ elim (within is) [
+        | inr none ↦ (Some Large, (is, named, fits, none))
+        | inl all ↦ (None, (is, named, fits, all))
+      ]
+    ]
+  ]
+]
+
 module _ (circuit : Circuit) where
   -- the flaw of a word, if it has one
   abbrev Judged : Field → List ℕ → Type 0
   Judged field text = (flaw : Option Flaw) × WordHasFlaw circuit field text flaw
 
-  -- ---- words of which only the form is judged
-
-  keyword_judged : (keyword : Keyword) (text : List ℕ) → Judged (field.Word keyword) text
-  keyword_judged keyword text = elim (same_text text (keyword_text keyword)) [
-    | inl same ↦ (None, (same, tt, tt, tt))
-    | inr other ↦ (Some Form, other)
-  ]
+  -- what is always so
+  sure : OrNot (Unit {0})
+  sure = inl tt
 
   -- one of two fixed words
   either_or_not : (text one other : List ℕ) → OrNot ((text ≡ one) ⊎ (text ≡ other))
@@ -54,18 +67,6 @@ module _ (circuit : Circuit) where
       neither differs differs' (inl is) = differs is
       neither differs differs' (inr is) = differs' is
 
-  version_judged : (text : List ℕ) → Judged field.Version text
-  version_judged text = elim (either_or_not text (codes "1") (codes "2")) [
-    | inl is ↦ (None, (is, tt, tt, tt))
-    | inr other ↦ (Some Form, other)
-  ]
-
-  kind_judged : (text : List ℕ) → Judged field.Kind text
-  kind_judged text = elim (either_or_not text (codes "setup") (codes "hold")) [
-    | inl is ↦ (None, (is, tt, tt, tt))
-    | inr other ↦ (Some Form, other)
-  ]
-
   -- ---- numbers
 
   -- the text is that number's or isn't
@@ -78,79 +79,53 @@ module _ (circuit : Circuit) where
     ]
   ]
 
-  exactly_judged : (number : ℕ) (text : List ℕ) → Judged (field.Exactly number) text
-  exactly_judged number text = elim (exactly_or_not text (pos number)) [
-    | inl spells ↦ (None, (spells, tt, tt, tt))
-    | inr other ↦ (Some Form, other)
-  ]
-
   number_judged : (least most : ℕ) (text : List ℕ) → Judged (field.Number least most) text
-  number_judged least most text = elim (whole_or_not text) [
-    | inr none ↦ (Some Form, λ formed. none formed.0 formed.1)
-    | inl found ↦ of_value found.0 found.1
-  ]
+  number_judged least most text = judged formed sure (λ known. sure)
+      (λ is. by_lt_z (pos most) is.0
+      (λ past. inr (λ within. let few = within is.0 is.1 in omega (arith, ints, few, past)))
+      (λ few. inl (λ other spells.
+      let same = one_whole text is.0 other is.1 spells in omega (arith, ints, same, few))))
     where
-      of_value : (value : ℤ) → SpellsWhole text value → Judged (field.Number least most) text
-      of_value value spells = by_lt_z value (pos least)
-          (λ low. (
-            Some Form,
-            λ formed.
-                let same = one_whole text value formed.0 spells formed.1 in
-                let from = formed.2 in
-                omega (arith, ints, same, from, low),
-          ))
-          (λ from. by_lt_z (pos most) value
-          (λ past. (
-            Some Large,
-            (
-              (value, spells, from),
-              tt,
-              tt,
-              λ within.
-                  let few = within value spells in omega (arith, ints, few, past),
-            ),
-          ))
-          (λ few. (
-            None,
-            (
-              (value, spells, from),
-              tt,
-              tt,
-              λ other spells'.
-                  let same = one_whole text value other spells spells' in
-                  omega (arith, ints, same, few),
-            ),
-          )))
+      formed : OrNot ((value : ℤ) × SpellsWhole text value × (pos least ≤ℤ value))
+      formed = elim (whole_or_not text) [
+        | inr none ↦ inr (λ formed. none formed.0 formed.1)
+        | inl found ↦ by_lt_z found.0 (pos least)
+            (λ low. inr (λ formed.
+            let same = one_whole text found.0 formed.0 found.1 formed.1 in
+            let from = formed.2 in
+            omega (arith, ints, same, from, low)))
+            (λ from. inl (found.0, found.1, from))
+      ]
 
   counted_judged : (count most : ℕ) (text : List ℕ) → Judged (field.Counted count most) text
-  counted_judged count most text = elim (cases_lt 0 count) [
-    | inr none ↦ (Some Form, λ formed. omega (arith, none, formed.0))
-    | inl some ↦ elim (exactly_or_not text (pos count)) [
-      | inr other ↦ (Some Form, λ formed. other formed.1)
-      | inl spells ↦ elim (cases_lt most count) [
-        | inl past ↦ (Some Large, ((some, spells), tt, tt, λ within. omega (arith, within, past)))
-        | inr few ↦ (None, ((some, spells), tt, tt, few))
+  counted_judged count most text = judged formed sure (λ known. sure)
+      (λ is. elim (cases_lt most count) [
+        | inl past ↦ inr (λ within. omega (arith, within, past))
+        | inr few ↦ inl few
+      ])
+    where
+      formed : OrNot ((1 ≤ count) × SpellsWhole text (pos count))
+      formed = elim (cases_lt 0 count) [
+        | inr none ↦ inr (λ formed. omega (arith, none, formed.0))
+        | inl some ↦ elim (exactly_or_not text (pos count)) [
+          | inr other ↦ inr (λ formed. other formed.1)
+          | inl spells ↦ inl (some, spells)
+        ]
       ]
-    ]
-  ]
 
   weight_judged : (text : List ℕ) → Judged field.Weight text
-  weight_judged text = elim (whole_or_not text) [
-    | inr none ↦ (Some Form, λ formed. none formed.0 formed.1)
-    | inl found ↦ elim (size_or_not (10 ^ 12) found.0) [
-      | inl small ↦ (
-        None,
-        (
-          found,
-          tt,
-          tt,
-          λ value spells.
-              subst (HasSizeBelow (10 ^ 12)) (one_whole text found.0 value found.1 spells) small,
-        ),
-      )
-      | inr large ↦ (Some Large, (found, tt, tt, λ within. large (within found.0 found.1)))
-    ]
-  ]
+  weight_judged text = judged formed sure (λ known. sure)
+      (λ is. elim (size_or_not (10 ^ 12) is.0) [
+        | inl small ↦ inl (λ value spells.
+            subst (HasSizeBelow (10 ^ 12)) (one_whole text is.0 value is.1 spells) small)
+        | inr large ↦ inr (λ within. large (within is.0 is.1))
+      ])
+    where
+      formed : OrNot ((value : ℤ) × SpellsWhole text value)
+      formed = elim (whole_or_not text) [
+        | inr none ↦ inr (λ formed. none formed.0 formed.1)
+        | inl found ↦ inl found
+      ]
 
   -- ---- fractions
 
@@ -245,79 +220,59 @@ module _ (circuit : Circuit) where
 
   -- ---- names
 
-  register_judged : (text : List ℕ) → Judged field.Register text
-  register_judged text = at (position (bytes_eq text) (register_names circuit))
-      (register_denoted circuit text (register_names circuit) refl)
-    where
-      at : (found : Option ℕ) → DenotesRegister circuit text found → Judged field.Register text
-      at None none = (Some Unknown, (tt, none))
-      at (Some register) is = (None, (tt, (register, is.0, is.1), tt, tt))
-
-  named_judged : (number : ℕ) (text : List ℕ) → Judged (field.Named number) text
-  named_judged number text = at (position (bytes_eq text) (register_names circuit))
+  -- a name is that of a register or isn't
+  register_or_not : (text : List ℕ) → OrNot (NamesRegister circuit text)
+  register_or_not text = at (position (bytes_eq text) (register_names circuit))
       (register_denoted circuit text (register_names circuit) refl)
     where
       at : (found : Option ℕ) → DenotesRegister circuit text found
-          → Judged (field.Named number) text
-      at None none = (Some Unknown, (tt, none))
-      at (Some register) is = elim (same_text (register_name circuit number) text) [
-        | inl same ↦ (None, (tt, (register, is.0, is.1), same, tt))
-        | inr other ↦ (Some Unfit, (tt, (register, is.0, is.1), other))
-      ]
+          → OrNot (NamesRegister circuit text)
+      at None none = inr none
+      at (Some register) is = inl (register, is.0, is.1)
 
-  from_judged : (first : ℕ) (text : List ℕ) → Judged (field.From first) text
-  from_judged first text = at (position (bytes_eq text) (register_names circuit))
-      (register_denoted circuit text (register_names circuit) refl)
-    where
-      at : (found : Option ℕ) → DenotesRegister circuit text found → Judged (field.From first) text
-      at None none = (Some Unknown, (tt, none))
-      at (Some register) is = elim (cases_lt register first) [
-        | inl before ↦ (
-          Some Unfit,
-          (
-            tt,
-            (register, is.0, is.1),
-            λ fit. let from = fit register is.0 is.1 in omega (arith, from, before),
-          ),
-        )
-        | inr from ↦ (
-          None,
-          (
-            tt,
-            (register, is.0, is.1),
-            λ other within same.
-                let one = one_register circuit register other is.0 within (is.1 ∙ sym same) in
-                omega (arith, one, from),
-            tt,
-          ),
-        )
-      ]
-
-  signal_judged : (text : List ℕ) → Judged field.Signal text
-  signal_judged text = at (position (bytes_eq text) (signal_names circuit))
+  signal_or_not : (text : List ℕ) → OrNot (NamesSignal circuit text)
+  signal_or_not text = at (position (bytes_eq text) (signal_names circuit))
       (signal_denoted circuit text (signal_names circuit) refl)
     where
-      at : (found : Option ℕ) → DenotesSignal circuit text found → Judged field.Signal text
-      at None none = (Some Unknown, (tt, none))
-      at (Some number) is = (None, (tt, (number, is.0, is.1), tt, tt))
+      at : (found : Option ℕ) → DenotesSignal circuit text found
+          → OrNot (NamesSignal circuit text)
+      at None none = inr none
+      at (Some number) is = inl (number, is.0, is.1)
+
+  from_judged : (first : ℕ) (text : List ℕ) → Judged (field.From first) text
+  from_judged first text = judged sure (register_or_not text)
+      (λ is. elim (cases_lt is.0 first) [
+        | inl before ↦ inr (λ fit.
+            let from = fit is.0 is.1 is.2 in omega (arith, from, before))
+        | inr from ↦ inl (λ other within same.
+            let one = one_register circuit is.0 other is.1 within (is.2 ∙ sym same) in
+            omega (arith, one, from))
+      ]) (λ formed. sure)
 
   -- ---- words and lines
 
   word_judged : (due : Field) (text : List ℕ) → Judged due text
-  word_judged (field.Word keyword) text = keyword_judged keyword text
-  word_judged field.Version text = version_judged text
-  word_judged field.Kind text = kind_judged text
-  word_judged (field.Exactly number) text = exactly_judged number text
+  word_judged (field.Word keyword) text =
+      judged (same_text text (keyword_text keyword)) sure (λ known. sure) (λ formed. sure)
+  word_judged field.Version text =
+      judged (either_or_not text (codes "1") (codes "2")) sure (λ known. sure) (λ formed. sure)
+  word_judged field.Kind text = judged (either_or_not text (codes "setup") (codes "hold")) sure
+      (λ known. sure) (λ formed. sure)
+  word_judged (field.Exactly number) text =
+      judged (exactly_or_not text (pos number)) sure (λ known. sure) (λ formed. sure)
   word_judged (field.Number least most) text = number_judged least most text
   word_judged (field.Counted count most) text = counted_judged count most text
   word_judged field.Weight text = weight_judged text
   word_judged field.Period text = period_judged text
   word_judged (field.Steps over bound) text = steps_judged over bound text
   word_judged (field.Slack over bound) text = slack_judged over bound text
-  word_judged field.Register text = register_judged text
-  word_judged (field.Named number) text = named_judged number text
+  word_judged field.Register text =
+      judged sure (register_or_not text) (λ known. sure) (λ formed. sure)
+  word_judged (field.Named number) text = judged sure (register_or_not text)
+      (λ known. same_text (register_name circuit number) text) (λ formed. sure)
   word_judged (field.From first) text = from_judged first text
-  word_judged field.Signal text = signal_judged text
+  word_judged field.Signal text =
+      judged sure (signal_or_not text) (λ known. sure) (λ formed. sure)
 
   pub line_judged : (fields : List Field) (words : List (List ℕ))
       → (flaw : Option Flaw) × LineHasFlaw circuit fields words flaw

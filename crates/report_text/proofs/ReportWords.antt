@@ -50,20 +50,8 @@ constraint_is circuit constraint = at constraint.setup
         (codes "setup") circuit constraint.tail constraint.head constraint.weight
         else constraint_line
         (codes "hold") circuit constraint.head constraint.tail constraint.weight)
-    at true = (
-      search arith,
-      (
-        register_word circuit constraint.tail,
-        (register_word circuit constraint.head, (number_word constraint.weight, tt)),
-      ),
-    )
-    at false = (
-      search arith,
-      (
-        register_word circuit constraint.head,
-        (register_word circuit constraint.tail, (number_word constraint.weight, tt)),
-      ),
-    )
+    at true = search (arith, number_word, register_word)
+    at false = search (arith, number_word, register_word)
 
 -- the words of a line
 line_words : (words : Words) → IsLine words → AreWords words
@@ -72,13 +60,11 @@ line_words (word ∷ words) is = is
 
 -- the lines of a cycle's constraints and their paths
 path_is : (circuit : Circuit) (path : List ℕ) → IsLine (path_line circuit path)
-path_is circuit [] = (search arith, ((omega arith, tt), tt))
-path_is circuit (first ∷ more) = (
-  search arith,
-  (
-    number_word (pos (length (first ∷ more))),
-    mapped IsWord (signal_name circuit) (first ∷ more) (signal_word circuit),
-  ),
+path_is circuit [] = search arith
+path_is circuit (first ∷ more) = search (
+  arith,
+  number_word,
+  mapped IsWord (signal_name circuit) (first ∷ more) (signal_word circuit),
 )
 
 pathed_are : (circuit : Circuit) (cycle : List Constraint) (paths : List (List ℕ))
@@ -92,40 +78,25 @@ pathed_are circuit (constraint ∷ cycle) (path ∷ paths) =
 -- those of what shows a period
 pub shown_are : (version : Version) (circuit : Circuit) (shown : PeriodShow) (paths : List (List ℕ))
     → AreLines (period_show_lines version circuit shown paths)
-shown_are First circuit (Cycle cycle) paths = (
-  (search arith, (number_word (pos (length cycle)), tt)),
-  mapped IsLine (line_for circuit) cycle (constraint_is circuit),
-)
-shown_are First circuit Floor paths = ((search arith, tt), tt)
-shown_are Second circuit (Cycle cycle) paths = (
-  (search arith, (number_word (pos (length cycle)), tt)),
-  pathed_are circuit cycle paths,
-)
-shown_are Second circuit Floor paths = ((search arith, tt), tt)
+shown_are First circuit (Cycle cycle) paths =
+    search (arith, number_word, mapped IsLine (line_for circuit) cycle (constraint_is circuit))
+shown_are Second circuit (Cycle cycle) paths = search (arith, number_word, pathed_are)
+shown_are First circuit Floor paths = search arith
+shown_are Second circuit Floor paths = search arith
 
 -- that of a lead
 lead_is : (circuit : Circuit) (lead : Lead) → IsLine (lead_line circuit lead)
-lead_is circuit Zero = (search arith, ((omega arith, tt), tt))
-lead_is circuit (Tight depth constraint) = (
-  search arith,
-  (
-    number_word (pos depth),
-    line_words (line_for circuit constraint)
-        (constraint_is circuit constraint),
-  ),
+lead_is circuit Zero = search arith
+lead_is circuit (Tight depth constraint) = search (
+  arith,
+  number_word,
+  line_words (line_for circuit constraint) (constraint_is circuit constraint),
 )
 
 -- that of a register
 register_is : (circuit : Circuit) (report : Report) (register : ℕ)
     → IsLine (register_line_at circuit report register)
-register_is circuit report register =
-    let slack = slice_index_or report.slacks register (record { setup = None; hold = None }) in (
-      register_word circuit register,
-      (
-        quotient_word (arrival_of report.schedule.at register) report.schedule.den,
-        (slack_word slack.setup, (slack_word slack.hold, tt)),
-      ),
-    )
+register_is circuit report register = search (register_word, quotient_word, slack_word)
 
 -- the first line
 version_is : (version : Version) → IsLine (version_line version)
@@ -144,16 +115,7 @@ timing_are circuit report =
     let registers = lines_below (register_line_at circuit report) (length report.schedule.at) in
     let count = count_line (codes "registers") (length report.schedule.at) in
     let leads = map (lead_line circuit) report.leads in
-    let prefix_are : AreLines prefix = (
-      version_is report.version,
-      (
-        (
-          search arith,
-          (fraction_word report.period.num report.period.den, tt),
-        ),
-        shown_are report.version circuit report.shown report.paths,
-      ),
-    ) in
+    let prefix_are : AreLines prefix = search (arith, version_is, fraction_word, shown_are) in
     let registers_are : AreLines (count ∷ registers) = (
       count_is (codes "registers") (length report.schedule.at) (search arith),
       mapped IsLine (register_line_at circuit report)
@@ -165,73 +127,30 @@ timing_are circuit report =
 
 -- the words for what shows a reach
 show_are : (circuit : Circuit) (show : Show) → AreWords (show_words circuit show)
-show_are circuit (Pair first second) = (
-  search arith,
-  (register_word circuit first, (register_word circuit second, tt)),
-)
-show_are circuit (Sink register) = (
-  search arith,
-  (register_word circuit register, tt),
-)
-show_are circuit Root = (search arith, tt)
+show_are circuit (Pair first second) = search (arith, register_word)
+show_are circuit (Sink register) = search (arith, register_word)
+show_are circuit Root = search arith
 
 -- the line of a merge
 merge_is : (circuit : Circuit) (report : Report) (place : ℕ)
     → IsLine (merge_line_at circuit report place)
-merge_is circuit report place =
-    let merge = slice_index_or report.topology.merges place (record { first = 0; second = 0 }) in (
-      number_word (pos (length report.schedule.at + place)),
-      (
-        number_word (pos merge.first),
-        (
-          number_word (pos merge.second),
-          (
-            quotient_word (number_at report.tree.reach (length report.schedule.at + place))
-                report.grid,
-            show_are circuit (slice_index_or report.shows place Root),
-          ),
-        ),
-      ),
-    )
+merge_is circuit report place = search (number_word, quotient_word, show_are)
 
 -- the line of the source
 source_is : (circuit : Circuit) (report : Report) → IsLine (source_line circuit report)
-source_is circuit report = (
-  search arith,
-  (
-    quotient_word (number_at report.tree.reach (source_of (length report.schedule.at)))
-        report.grid,
-    show_are circuit (slice_index_or report.shows (length report.topology.merges) Root),
-  ),
-)
+source_is circuit report = search (arith, quotient_word, show_are)
 
 -- points
 points_are : (report : Report) (points : List Point)
     → AreWords (flat_map (point_words report) points)
 points_are report [] = tt
-points_are report (point ∷ points) = (
-  quotient_word point.x report.grid,
-  (quotient_word point.y report.grid, points_are report points),
-)
+points_are report (point ∷ points) =
+    search (quotient_word, points_are report points)
 
 -- the line of a node
 node_is : (circuit : Circuit) (report : Report) (node : ℕ)
     → IsLine (node_line_at circuit report node)
-node_is circuit report node =
-    let place = slice_index_or report.tree.place node origin in
-    let wire = slice_index_or report.wires node no_wire in (
-      number_word (pos node),
-      (
-        quotient_word place.x report.grid,
-        (
-          quotient_word place.y report.grid,
-          (
-            quotient_word (number_at report.tree.length node) report.grid,
-            (number_word (pos wire.used), points_are report (take wire.used wire.corners)),
-          ),
-        ),
-      ),
-    )
+node_is circuit report node = search (number_word, quotient_word, points_are)
 
 -- the lines of the tree
 tree_are : (circuit : Circuit) (report : Report) → AreLines (tree_lines circuit report)

@@ -58,10 +58,7 @@ total_plain circuit scale total small below =
 
 small_merge : (circuit : Circuit) (scale : Scale) (node : ℕ) (words : Words) → IsSmallScale scale
     → node < 2 ^ 32 → AllByRecursion IsSmallField (merge_fields circuit scale node words)
-small_merge circuit scale node words small below = (
-  omega (arith, below),
-  (omega arith, (omega arith, (small_length scale small, (tt, (tt, (tt, tt)))))),
-)
+small_merge circuit scale node words small below = search (arith, small_length)
 
 pub merge_found : (circuit : Circuit) (scale : Scale) (node : ℕ) (words : Words)
     → IsSmallScale scale → node < 2 ^ 32 → IsFlawless circuit scale (form.Merge node) words
@@ -104,25 +101,8 @@ merge_plain circuit scale node words line small below says =
         let named = named_register circuit (register_name circuit left) left within refl in
         values_plain circuit (merge_fields circuit scale node words)
         (tt, (line.merge.first, (line.merge.second, (line.reach, (tt, (left, (right, tt)))))))
-        (small_merge circuit scale node words small below) (
-          tt,
-          (
-            (omega arith, says.merge.first),
-            (
-              (omega arith, says.merge.second),
-              (
-                says.reach,
-                (
-                  tt,
-                  (
-                    within,
-                    ((omega (arith, named, order), within'), tt),
-                  ),
-                ),
-              ),
-            ),
-          ),
-        )
+        (small_merge circuit scale node words small below)
+        (search (arith, says.merge.first, says.merge.second, says.reach, named, order))
     at (Sink register) none among = absurd none
     at Root none among = absurd none
 
@@ -187,11 +167,7 @@ small_lengths scale (suc count) small = (small_length scale small, small_lengths
 
 small_node : (scale : Scale) (node points : ℕ) → IsSmallScale scale → node < 2 ^ 32 → points ≤ 5
     → AllByRecursion IsSmallField (node_fields scale node points)
-small_node scale node points small below few =
-    let length = small_length scale small in (
-      omega (arith, below),
-      (length, (length, (length, (omega (arith, few), small_lengths scale (2 * points) small)))),
-    )
+small_node scale node points small below few = search (arith, small_length, small_lengths)
 
 -- words that are two lengths for each point are those of points
 record ArePoints (grid : ℤ) (count : ℕ) (words : Words) : Type 0 where
