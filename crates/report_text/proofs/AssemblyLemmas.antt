@@ -149,27 +149,9 @@ module _ {circuit : Circuit} {tech : Tech} {parts : Parts}
     arrivals = arrivals_many;
     slacks = length-map parts.body.timings (λ row. row.slack) ∙ is.timings_many;
     merges = omega (arith, merges_many, some);
-    shows = omega (
-      arith,
-      length_push (shows_in parts) parts.body.source.show,
-      shows_many,
-      some,
-    );
-    reaches = omega (
-      arith,
-      length_push (sinks ++ (reaches_in parts)) parts.body.source.reach,
-      length-append sinks (reaches_in parts),
-      as_many,
-      arrivals_many,
-      reaches_many,
-      some,
-    );
-    places = omega (
-      arith,
-      length_push (places_in parts) (begin_of (wires_in parts)),
-      places_many,
-      some,
-    );
+    shows = simp length-append (omega (arith, shows_many, some));
+    reaches = simp length-append (omega (arith, as_many, arrivals_many, reaches_many, some));
+    places = simp length-append (omega (arith, places_many, some));
     lengths = omega (arith, lengths_many, some);
     wires = omega (arith, wires_many, some);
     paths = is.shown.many;
@@ -216,12 +198,7 @@ module _ {circuit : Circuit} {tech : Tech} {parts : Parts}
       let wire = get_or (wires_in parts) (length (wires_in parts) - 1) no_wire in
       let there : 0 < wire.used = omega (arith, root_small.some) in
       subst (IsPointBelow (10 ^ 32)) (get_or-take wire.used wire.corners 0 origin there)
-      (root_small.each 0 origin (omega (
-        arith,
-        there,
-        length-take wire.used wire.corners,
-        root_small.padded.all,
-      )))
+      (root_small.each 0 origin (simp length-take (omega (arith, root_small.padded.all))))
 
   -- a sink's reach is the first of its entries
   sink_at : (register : ℕ) → register < length (arrivals_in parts)
@@ -342,14 +319,8 @@ module _ {circuit : Circuit} {tech : Tech} {parts : Parts}
   source_same : source_line circuit report ≡ sourced_line circuit grid parts.body.source
   source_same =
       let node = source_of (length (arrivals_in parts)) in
-      let suffix : length (sinks ++ (reaches_in parts)) ≡ node = omega (
-        arith,
-        length-append sinks (reaches_in parts),
-        as_many,
-        arrivals_many,
-        reaches_many,
-        some,
-      ) in
+      let suffix : length (sinks ++ (reaches_in parts)) ≡ node =
+      simp length-append (omega (arith, as_many, arrivals_many, reaches_many, some)) in
       let reach = get_or_push (sinks ++ (reaches_in parts)) parts.body.source.reach (pos 0)
       node suffix
       in

@@ -34,7 +34,7 @@ use Rattle.report_text.proofs.GridLemmas.{scale_small}
 use Rattle.report_text.proofs.LineReading.{line_reads}
 use Rattle.report_text.proofs.OneLine.{lines_cut}
 use Rattle.report_text.proofs.PartLemmas.{fault_by}
-use Rattle.report_text.proofs.PrintedParts.{ArePrintable, IsPrintableShow, IsTold, count_shown}
+use Rattle.report_text.proofs.PrintedParts.{ArePrintable, IsPrintableShow, IsTold, count_shown, cycle_told}
 use Rattle.report_text.proofs.ReportWords.{AreLines}
 use Rattle.report_text.proofs.RowLemmas.{one_form, plain_lines}
 use Rattle.report_text.proofs.TimingLines.{constraint_plain, count_plain, lead_plain, path_plain, period_plain, register_plain, show_plain, version_plain}
@@ -136,11 +136,7 @@ module _ (circuit : Circuit) (scale : Scale) where
       rw (← one_form form.Constraint 0 (length cycle), ← plain_lines (line_for circuit) 0 cycle)
           (rows_flawless (λ number. form.Constraint) (λ number. DenotesConstraint circuit)
           (λ number. line_for circuit) 0 (length cycle) cycle refl
-          (λ k d within number. record {
-            line = refl;
-            registers = is.among k d within;
-            weight = is.weights.2 k d within;
-          })
+          (cycle_told cycle is.among is.weights.2)
           (λ number constraint within says.
           constraint_plain circuit scale constraint says.registers says.weight)),
     )

@@ -36,7 +36,7 @@ use Rattle.report_text.specs.Values.{IsSmallScale, SaysMerge, SaysNode, SaysSour
 use Rattle.report_text.specs.Walks.{DenotesTimed}
 use Rattle.report_text.proofs.AssemblyLemmas.{after_apart}
 use Rattle.report_text.proofs.GridLemmas.{scale_small}
-use Rattle.report_text.proofs.PrintedParts.{ArePrintable, IsPrintableShow, IsTold, count_shown}
+use Rattle.report_text.proofs.PrintedParts.{ArePrintable, IsPrintableShow, IsTold, count_shown, cycle_told}
 use Rattle.report_text.proofs.RowLemmas.{plain_lines}
 use Rattle.report_text.proofs.SpelledFields.{IsSmallField, Values, one_value, one_values}
 use Rattle.report_text.proofs.TimingLines.{constraint_told, constraint_values}
@@ -231,14 +231,7 @@ module _ (circuit : Circuit) where
     one_wire wire other is is' used points =
         let origin : Point = record { x = pos 0; y = pos 0 } in
         let padding = same_padding origin (drop wire.used wire.corners)
-        (drop other.used other.corners) (omega (
-          arith,
-          length-drop wire.used wire.corners,
-          length-drop other.used other.corners,
-          used,
-          is.padded.all,
-          is'.padded.all,
-        )) is.padded.rest is'.padded.rest in
+        (drop other.used other.corners) (omega (arith, length-drop {A = Point})) is.padded.rest is'.padded.rest in
         let corners : wire.corners ≡ other.corners =
         sym (take-append-drop wire.used wire.corners) ∙ ap₂ (λ a b. a ++ b) points padding
         ∙ take-append-drop other.used other.corners in
@@ -345,16 +338,7 @@ module _ (circuit : Circuit) where
       (λ number. line_for circuit) (λ number c o says says'. one_constraint circuit c o
       (says.registers, says.weight) (says'.registers, says'.weight)) 0 cycle other rest rest'
       (counts cycle other is.weights.0 is.weights.1 is'.weights.0 is'.weights.1 (line_at 0 same))
-      (λ k d within number. record {
-        line = refl;
-        registers = is.among k d within;
-        weight = is.weights.2 k d within;
-      })
-      (λ k d within number. record {
-        line = refl;
-        registers = is'.among k d within;
-        weight = is'.weights.2 k d within;
-      }) (rw (plain_lines (line_for circuit) 0 cycle, plain_lines (line_for circuit) 0 other)
+      (cycle_told cycle is.among is.weights.2) (cycle_told other is'.among is'.weights.2) (rw (plain_lines (line_for circuit) 0 cycle, plain_lines (line_for circuit) 0 other)
       (from_line 1 same)) in
       (ap (λ c. Cycle c) cycles, refl, after)
   one_shown Second (Cycle cycle) (Cycle other) paths paths' rest rest' is is' same =
@@ -366,12 +350,8 @@ module _ (circuit : Circuit) where
       (ap (λ c. Cycle c) cycles, ways, after)
   one_shown First Floor Floor [] [] rest rest' is is' same = (refl, refl, from_line 1 same)
   one_shown Second Floor Floor [] [] rest rest' is is' same = (refl, refl, from_line 1 same)
-  one_shown version shown other paths paths' rest rest' is is' same = absurd (omega (
-    arith,
-    is.many,
-    is'.many,
-    ap (λ (w : Words). get_or (get_or w 0 []) 0 0) (line_at 0 same),
-  ))
+  one_shown version shown other paths paths' rest rest' is is' same =
+      absurd (omega (arith, ap (λ (w : Words). get_or (get_or w 0 []) 0 0) (line_at 0 same)))
 
 -- ---- the parts
 

@@ -132,12 +132,7 @@ module _ (circuit : Circuit) (tech : Tech) (report : Report) (size : IsOfSize ci
       ∙ told_first (sink_reach tech) at report.tree.reach count (pos 0)
       (omega (arith, size.reaches))
       (λ k within. bounds.tree.sinks k (omega (arith, within, size.arrivals))) in
-      let long : length rest ≡ count = omega (
-        arith,
-        size.reaches,
-        length-drop count
-            report.tree.reach,
-      ) in
+      let long : length rest ≡ count = omega (arith, length-drop count report.tree.reach) in
       let merges = told_first (λ (row : MergeLine). row.reach) (merged_at report count) rest
       (count - 1) (pos 0) (omega (arith, long))
       (λ k within. get_or-drop count report.tree.reach k (pos 0)) in
@@ -230,13 +225,7 @@ module _ (circuit : Circuit) (tech : Tech) (report : Report) (size : IsOfSize ci
         merge = bounds.tree.merges k _ within;
         reach = bounds.tree.reaches (count + k) (pos 0) (omega (arith, less, size.reaches));
         show = subst IsMergeShow (get_or-take merges report.shows k Root within)
-            (bounds.tree.merge_shows k Root (omega (
-              arith,
-              within,
-              size.merges,
-              size.shows,
-              length-take merges report.shows,
-            )));
+            (bounds.tree.merge_shows k Root (omega (arith, length-take merges report.shows)));
         among = size.each_show k Root (omega (arith, less, size.shows));
       })
 
@@ -250,12 +239,7 @@ module _ (circuit : Circuit) (tech : Tech) (report : Report) (size : IsOfSize ci
         reach = bounds.tree.reaches (2 * count - 1) (pos 0) (omega (arith, size.reaches, some));
         show = subst IsSourceShow (get_or-drop merges report.shows 0 Root
             ∙ ap (λ k. get_or report.shows k Root) last)
-            (bounds.tree.source_show 0 Root (omega (
-              arith,
-              size.merges,
-              size.shows,
-              length-drop merges report.shows,
-            )));
+            (bounds.tree.source_show 0 Root (omega (arith, length-drop merges report.shows)));
         among = size.each_show (count - 1) Root (omega (arith, size.shows, some));
       }
 
@@ -269,27 +253,24 @@ module _ (circuit : Circuit) (tech : Tech) (report : Report) (size : IsOfSize ci
       })
 
   pub report_printable : ArePrintable circuit tech parts
-  report_printable = record {
-    period = bounds.timing.period;
-    count = refl;
-    shown = record {
-      weights = bounds.timing.cycle;
-      among = size.period_show;
-      many = size.paths;
-      signals = size.each_path;
-      few = bounds.timing.paths;
-    };
-    timings = timings_told;
-    leads = leads_told;
-    merged = merges_told;
-    source = source_told;
-    placed = nodes_told;
-    total = bounds.tree.total;
-    timings_many = length-map-range_with_len (timed_at report) 0 count;
-    leads_many = size.leads;
-    merged_many = length-map-range_with_len (merged_at report count) 0 (count - 1);
-    placed_many = length-map-range_with_len (node_at report) 0 (2 * count - 1);
-  }
+  report_printable = search (
+    bounds.timing.period,
+    bounds.timing.cycle,
+    size.period_show,
+    size.paths,
+    size.each_path,
+    bounds.timing.paths,
+    timings_told,
+    leads_told,
+    merges_told,
+    source_told,
+    nodes_told,
+    bounds.tree.total,
+    size.leads,
+    length-map-range_with_len (timed_at report) 0 count,
+    length-map-range_with_len (merged_at report count) 0 (count - 1),
+    length-map-range_with_len (node_at report) 0 (2 * count - 1),
+  )
 
   -- so the lines that tell them are those of the report
   pub report_told : denoted_lines circuit scale parts ≡ report_lines circuit report

@@ -82,15 +82,8 @@ module _ (circuit : Circuit) (scale : Scale) where
       (λ place. HasPathed circuit scale place old) count
       (λ place. form.Constraint ∷ form.Path ∷ [])
       (λ place rest. cycle_forms version.Second rest) (λ place rest. refl) (λ place. refl) next
-      count 0 (omega arith) old (record { cycle = []; paths = [] }) (record {
-        lines = read_none circuit scale old;
-        as_many = refl;
-        paths = refl;
-        registers = λ place default within. absurd (omega (arith, within));
-        weights = λ place default within. absurd (omega (arith, within));
-        signals = λ place default within. absurd (omega (arith, within));
-        few = λ place default within. absurd (omega (arith, within));
-      }) sound
+      count 0 (omega arith) old (record { cycle = []; paths = [] })
+      (search (arith, read_none circuit scale old)) sound
     where
       next : (place : ℕ) (suffix : List Form) (between : Left) (value : Pathed)
           → place < count → HasPathed circuit scale place old between value

@@ -72,31 +72,13 @@ shown_passed : (circuit : Circuit) (scale : Scale) (version : Version) (count : 
 shown_passed circuit scale First None more old small sound = record {
   new = old;
   value = record { shown = Floor; paths = [] };
-  has = record {
-    lines = read_none circuit scale old;
-    first = refl;
-    counted = refl;
-    paths = refl;
-    among = tt;
-    weights = tt;
-    signals = λ place default within. absurd (omega (arith, within));
-    few = λ place default within. absurd (omega (arith, within));
-  };
+  has = search (arith, read_none circuit scale old);
   rest = sound;
 }
 shown_passed circuit scale Second None more old small sound = record {
   new = old;
   value = record { shown = Floor; paths = [] };
-  has = record {
-    lines = read_none circuit scale old;
-    first = refl;
-    counted = refl;
-    paths = refl;
-    among = tt;
-    weights = tt;
-    signals = λ place default within. absurd (omega (arith, within));
-    few = λ place default within. absurd (omega (arith, within));
-  };
+  has = search (arith, read_none circuit scale old);
   rest = sound;
 }
 shown_passed circuit scale First (Some count) more old small sound =

@@ -2,21 +2,22 @@
 use Rattle.std.proofs.Common.{◌≡◌, ◌<◌, ◌≤◌, ◌-◌, ◌*◌, ◌^◌, ℕ, List, All, Option, Some, None, length, map, refl, sym, ap, arith}
 use Rattle.std.proofs.lemmas.List.Elements.{All-map}
 use Rattle.cts_model.specs.declared.circuit.Circuit.{Circuit}
+use Rattle.cts_model.specs.declared.constraint.Constraint.{Constraint}
 use Rattle.cts_model.specs.declared.period.PeriodShow.{PeriodShow}
 use Rattle.cts_model.specs.declared.period.PeriodShow.TheVariants.{Cycle, Floor}
 use Rattle.cts_model.specs.declared.report.Version.{Version}
 use Rattle.cts_model.specs.declared.tech.Tech.{Tech}
 use Rattle.cts_model.specs.placement.Points.{IsBelow}
-use Rattle.cts_model.specs.report.ReportBounds.{HasSmallWeights, ShowsPeriodAmong, count_in, cycle_length}
+use Rattle.cts_model.specs.report.ReportBounds.{HasSmallWeight, HasSmallWeights, IsBetweenRegisters, ShowsPeriodAmong, count_in, cycle_length}
 use Rattle.cts_model.specs.report.ReportLines.{lead_line}
-use Rattle.cts_model.specs.text.PrintedLines.{Words}
+use Rattle.cts_model.specs.text.PrintedLines.{Words, line_for}
 use Rattle.cts_model.specs.timing.Schedules.{IsSmallPeriod}
 use Rattle.cts_model.specs.tree.Problems.{grid_of}
 use Rattle.report_text.specs.declared.sections.Parts.{Parts}
 use Rattle.report_text.specs.DenotedReports.{timed_line}
 use Rattle.report_text.specs.Headings.{IsSmallCount, count_of}
 use Rattle.report_text.specs.Parts.{HasParts, scale_in}
-use Rattle.report_text.specs.TimingValues.{DenotesLead}
+use Rattle.report_text.specs.TimingValues.{DenotesConstraint, DenotesLead}
 use Rattle.report_text.specs.Values.{SaysMerge, SaysNode, SaysSource, merged_line, placed_line, sourced_line}
 use Rattle.report_text.specs.Walks.{DenotesTimed}
 use Rattle.report_text.proofs.RowLemmas.{rows_all}
@@ -70,6 +71,13 @@ pub record ArePrintable (circuit : Circuit) (tech : Tech) (parts : Parts) : Type
   pub merged_many : length parts.body.merged ≡ length circuit.registers - 1
   pub placed_many : length parts.body.placed ≡ 2 * length circuit.registers - 1
 
+-- the constraints of a cycle are told by their lines
+pub cycle_told : {circuit : Circuit} (cycle : List Constraint)
+    → All (IsBetweenRegisters (length circuit.registers)) cycle → All HasSmallWeight cycle
+    → All (IsTold (λ number. DenotesConstraint circuit) (λ number. line_for circuit)) cycle
+cycle_told cycle among small k d within number =
+    search (among k d within, small k d within)
+
 -- a count that is that of a cycle
 counted_shown : (count : Option ℕ) (shown : PeriodShow) → IsSmallCount count
     → HasSmallWeights shown → cycle_length shown ≡ count_of count → count ≡ count_shown shown
@@ -88,51 +96,32 @@ parts_printable {circuit} {tech} {text} {parts} has =
       period = has.heading.small;
       count = counted_shown parts.heading.count parts.shown.shown has.heading.count
           has.shown.weights has.shown.counted;
-      shown = record {
-        weights = has.shown.weights;
-        among = has.shown.among;
-        many = has.shown.paths;
-        signals = has.shown.signals;
-        few = has.shown.few;
-      };
+      shown = search (
+        has.shown.weights,
+        has.shown.among,
+        has.shown.paths,
+        has.shown.signals,
+        has.shown.few,
+      );
       timings = rows_all (DenotesTimed circuit scale)
           (IsTold (DenotesTimed circuit scale) (timed_line circuit scale.den))
-          (λ number words row says other. record {
-            line = refl;
-            small = says.small;
-            slacks = says.slacks;
-          }) 0 body.timings.has.lines parts.body.timings body.timings.has.each;
+          (λ number words row says other. search (says.small, says.slacks)) 0 body.timings.has.lines parts.body.timings body.timings.has.each;
       leads = rows_all (λ number. DenotesLead circuit)
           (IsTold (λ number. DenotesLead circuit) (λ number. lead_line circuit))
-          (λ number words row says other. record {
-            line = refl;
-            registers = says.registers;
-            small = says.small;
-          }) 0 body.leads.lines parts.body.leads body.leads.each;
+          (λ number words row says other. search (says.registers, says.small)) 0 body.leads.lines parts.body.leads body.leads.each;
       merged = rows_all (SaysMerge circuit scale.grid)
           (IsTold (SaysMerge circuit scale.grid) (merged_line circuit scale.grid))
-          (λ number words row says other. record {
-            words_are = refl;
-            merge = says.merge;
-            reach = says.reach;
-            show = says.show;
-            among = says.among;
-          }) (length circuit.registers) body.merged.has.lines parts.body.merged
+          (λ number words row says other.
+          search (says.merge, says.reach, says.show, says.among)) (length circuit.registers) body.merged.has.lines parts.body.merged
           body.merged.has.each;
-      source = record {
-        words_are = refl;
-        reach = body.source.denoted.reach;
-        show = body.source.denoted.show;
-        among = body.source.denoted.among;
-      };
+      source = search (
+        body.source.denoted.reach,
+        body.source.denoted.show,
+        body.source.denoted.among,
+      );
       placed = rows_all (SaysNode scale.grid)
           (IsTold (SaysNode scale.grid) (placed_line scale.grid))
-          (λ number words row says other. record {
-            words_are = refl;
-            place = says.place;
-            edge = says.edge;
-            wire = says.wire;
-          }) 0 body.placed.has.lines parts.body.placed body.placed.has.each;
+          (λ number words row says other. search (says.place, says.edge, says.wire)) 0 body.placed.has.lines parts.body.placed body.placed.has.each;
       total = body.total.denoted.small;
       timings_many = body.timings.has.many;
       leads_many = body.leads.many;

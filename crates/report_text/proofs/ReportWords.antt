@@ -1,5 +1,5 @@
 -- The lines of a report are lines: words with no space and no line feed.
-use Rattle.std.proofs.Common.{ℕ, pos, Bool, true, false, List, [], ◌∷◌, ◌++◌, map, take, length, codes, if◌then◌else◌, None, ◌+◌, slice_index_or, arith}
+use Rattle.std.proofs.Common.{ℕ, pos, Bool, true, false, List, [], ◌∷◌, ◌++◌, map, length, codes, if◌then◌else◌, ◌+◌, arith}
 use Rattle.std.specs.List.{AllByRecursion, flat_map, range_with_len}
 use Rattle.cts_model.specs.declared.circuit.Circuit.{Circuit}
 use Rattle.cts_model.specs.declared.constraint.Constraint.{Constraint}
@@ -14,9 +14,7 @@ use Rattle.cts_model.specs.declared.schedule.Lead.TheVariants.{Zero, Tight}
 use Rattle.cts_model.specs.declared.tree.Show.{Show}
 use Rattle.cts_model.specs.declared.tree.Show.TheVariants.{Pair, Sink, Root}
 use Rattle.cts_model.specs.text.PrintedLines.{Words, count_line, period_line, constraint_line, line_for}
-use Rattle.cts_model.specs.report.ReportLines.{length_text, number_at, no_wire, origin, version_line, path_line, pathed_lines, period_show_lines, register_line_at, lead_line, show_words, merge_line_at, source_line, point_words, node_line_at, lines_below, timing_lines, tree_lines, report_lines, signal_name}
-use Rattle.cts_model.specs.timing.Schedules.{arrival_of}
-use Rattle.cts_model.specs.tree.Topologies.{source_of}
+use Rattle.cts_model.specs.report.ReportLines.{length_text, version_line, path_line, pathed_lines, period_show_lines, register_line_at, lead_line, show_words, merge_line_at, source_line, point_words, node_line_at, lines_below, timing_lines, tree_lines, report_lines, signal_name}
 use Rattle.report_text.proofs.OneLine.{IsWord, IsLine}
 use Rattle.report_text.proofs.WordBytes.{number_word, fraction_word, quotient_word, slack_word, signal_word, register_word}
 

@@ -37,16 +37,8 @@ pub constraint_read : {circuit : Circuit} {words : Words} {launch capture : ℕ}
       head = cond setup capture launch;
       weight = weight;
     })
-constraint_read true are launches captures small = record {
-  line = are;
-  registers = record { tail = launches; head = captures };
-  weight = small;
-}
-constraint_read false are launches captures small = record {
-  line = are;
-  registers = record { tail = captures; head = launches };
-  weight = small;
-}
+constraint_read true are launches captures small = search (are, launches, captures, small)
+constraint_read false are launches captures small = search (are, launches, captures, small)
 
 pub constraint_taken : {circuit : Circuit} {launch capture : ℕ} {weight : ℤ} {old new : LineLeft}
     (setup : Bool) → Takes circuit constraint_fields

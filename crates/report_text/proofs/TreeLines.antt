@@ -279,9 +279,7 @@ node_found circuit scale node words small below some flawless =
               padded = record {
                 all = omega (
                   arith,
-                  few,
                   length-append drawn.points rest,
-                  drawn.many,
                   length-replicate (5 - points) origin,
                 );
                 rest = subst (All (λ (point : Point). point ≡ origin))
