@@ -6,7 +6,6 @@ mod GridLemmas
 pub mod LineLemmas
 mod NumberWords
 pub mod OneLine
-mod OneRecord
 pub mod ReportWords
 mod ReadCorners
 pub mod WordBytes
@@ -17,7 +16,6 @@ mod ScanLemmas
 mod NamedRegisters
 mod FractionFlaws
 mod CoprimeFactors
-mod LineCuts
 mod WalkLemmas
 mod LineReading
 mod WholeTexts
@@ -25,14 +23,11 @@ mod PrintedParts
 mod PartsOf
 mod OneParts
 mod FlawlessParts
-mod DenotedForms
 mod RowLemmas
 mod HeadingLemmas
 mod BodyLemmas
 mod PartLemmas
 mod AssemblyLemmas
-mod PassedLines
-mod PassedSections
 mod PassedTexts
 mod SpelledNumbers
 mod JudgedWords

@@ -231,7 +231,8 @@ module _ (circuit : Circuit) where
     one_wire wire other is is' used points =
         let origin : Point = record { x = pos 0; y = pos 0 } in
         let padding = same_padding origin (drop wire.used wire.corners)
-        (drop other.used other.corners) (omega (arith, length-drop {A = Point})) is.padded.rest is'.padded.rest in
+        (drop other.used other.corners) (omega (arith, length-drop {A = Point})) is.padded.rest
+        is'.padded.rest in
         let corners : wire.corners ≡ other.corners =
         sym (take-append-drop wire.used wire.corners) ∙ ap₂ (λ a b. a ++ b) points padding
         ∙ take-append-drop other.used other.corners in
@@ -338,7 +339,8 @@ module _ (circuit : Circuit) where
       (λ number. line_for circuit) (λ number c o says says'. one_constraint circuit c o
       (says.registers, says.weight) (says'.registers, says'.weight)) 0 cycle other rest rest'
       (counts cycle other is.weights.0 is.weights.1 is'.weights.0 is'.weights.1 (line_at 0 same))
-      (cycle_told cycle is.among is.weights.2) (cycle_told other is'.among is'.weights.2) (rw (plain_lines (line_for circuit) 0 cycle, plain_lines (line_for circuit) 0 other)
+      (cycle_told cycle is.among is.weights.2) (cycle_told other is'.among is'.weights.2)
+      (rw (plain_lines (line_for circuit) 0 cycle, plain_lines (line_for circuit) 0 other)
       (from_line 1 same)) in
       (ap (λ c. Cycle c) cycles, refl, after)
   one_shown Second (Cycle cycle) (Cycle other) paths paths' rest rest' is is' same =

@@ -1,7 +1,9 @@
 -- A text without a fault spells a report.
-use Rattle.std.proofs.Common.{map, pos, ◌≡◌, ◌==◌, ℕ, suc, false, Option, Some, None, List, [], ◌∷◌, ◌++◌, length, if◌then◌else◌, refl, sym, ap, ◌∙◌, subst, append-nil, arith}
+use Rattle.std.proofs.Common.{map, pos, ◌≡◌, ◌==◌, ℕ, suc, false, Option, Some, None, List, [], ◌∷◌, ◌++◌, length, if◌then◌else◌, refl, sym, ap, ◌∙◌, subst, append-nil, arith, ◌<◌, ◌≤◌, ◌+◌, ◌-◌, ◌*◌, ◌^◌, append_assoc, zero, Bool, true, MatchBool, MatchOption, take, drop}
 use Rattle.std.proofs.lemmas.Bool.{ne_eqb}
 use Rattle.std.proofs.lemmas.Option.{none-some}
+use Rattle.std.specs.List.{slice_split, range_with_len, position}
+use Rattle.std.proofs.lemmas.List.{length-take}
 use Rattle.cts_model.specs.declared.circuit.Circuit.{Circuit}
 use Rattle.cts_model.specs.declared.period.PeriodShow.TheVariants.{Cycle, Floor}
 use Rattle.cts_model.specs.declared.report.Report.{Report}
@@ -9,31 +11,346 @@ use Rattle.cts_model.specs.declared.report.Version.{Version}
 use Rattle.cts_model.specs.declared.report.Version.TheVariants.{First, Second}
 use Rattle.cts_model.specs.declared.tech.Tech.{Tech}
 use Rattle.cts_model.specs.report.ReportBounds.{Spells}
-use Rattle.report_text.specs.declared.fault.ReportFault.TheVariants.{Extra}
+use Rattle.report_text.specs.declared.fault.ReportFault.TheVariants.{Extra, BadLine, Missing}
 use Rattle.report_text.specs.declared.form.Form.{Form}
-use Rattle.report_text.specs.declared.form.Form.TheVariants as form
 use Rattle.report_text.specs.declared.form.Scale.{Scale}
 use Rattle.report_text.specs.declared.sections.Heading.{Heading}
 use Rattle.report_text.specs.declared.sections.Parts.{Parts}
 use Rattle.report_text.specs.declared.timing_values.PeriodLine.{PeriodLine}
 use Rattle.report_text.specs.declared.timing_values.ShowLine.{ShowLine}
-use Rattle.report_text.specs.Forms.{cycle_forms, forms_after}
+use Rattle.report_text.specs.Forms.{cycle_forms, forms_after, lead_forms, fields_of}
 use Rattle.report_text.specs.Headings.{HasHeading, HasShown, IsSmallCount, count_of, heading_forms}
 use Rattle.report_text.specs.Parts.{HasParts, scale_in, whole}
-use Rattle.std.specs.List.{slice_split}
-use Rattle.report_text.specs.ReportFaults.{is_line_feed, words_of, HasFault, cycle_denoted, scale_denoted, version_denoted}
-use Rattle.report_text.specs.TimingValues.{DenotesPeriod, DenotesShow}
+use Rattle.report_text.specs.ReportFaults.{is_line_feed, words_of, HasFault, cycle_denoted, scale_denoted, version_denoted, HasFirstFault, fault_of}
+use Rattle.report_text.specs.TimingValues.{DenotesPeriod, DenotesShow, IsFlawless, DenotesConstraint, DenotesLead, DenotesPath}
 use Rattle.report_text.specs.DenotedReports.{report_denoted}
-use Rattle.report_text.specs.Walks.{Left, DenotesVersion}
+use Rattle.report_text.specs.Walks.{Left, DenotesVersion, ReadsLine, DenotesTimed, TakesLine, DenotesLine}
 use Rattle.report_text.proofs.GridLemmas.{scale_small}
 use Rattle.report_text.proofs.HeadingLemmas.{cycle_shown, heading_read, pathed_shown}
 use Rattle.name_set.proofs.OneName.{few_registers}
 use Rattle.report_text.proofs.PartLemmas.{forms_denoted}
 use Rattle.report_text.proofs.AssemblyLemmas.{parts_spelled}
-use Rattle.report_text.proofs.PassedLines.{IsSound, Passed, denoted_passed}
-use Rattle.report_text.proofs.PassedSections.{body_passed, cycle_passed, pathed_passed}
-use Rattle.report_text.proofs.TimingLines.{period_found, show_found, version_found}
-use Rattle.report_text.proofs.WalkLemmas.{read_none}
+use Rattle.report_text.proofs.TimingLines.{period_found, show_found, version_found, constraint_found, count_found, lead_found, path_found, timed_found}
+use Rattle.report_text.proofs.WalkLemmas.{read_none, cut_within, line_read}
+use Rattle.cts_model.specs.text.PrintedLines.{Words, count_line}
+use Rattle.report_text.specs.declared.field.Keyword.{Keyword}
+use Rattle.report_text.specs.declared.sections.Pathed.{Pathed}
+use Rattle.report_text.specs.declared.timing_values.PathLine.{PathLine}
+use Rattle.report_text.specs.declared.tree_values.TotalLine.{TotalLine}
+use Rattle.report_text.specs.Bodies.{HasBody, HasVersionLeads}
+use Rattle.report_text.specs.Keywords.{keyword_text}
+use Rattle.report_text.specs.Rows.{Counted, HasPathed, HasRows}
+use Rattle.report_text.specs.Values.{IsSmallScale, SaysMerge, SaysNode, SaysSource, SaysTotal}
+use Rattle.report_text.proofs.BodyLemmas.{leads_given, merge_forms, node_forms, register_forms, sections_apart}
+use Rattle.report_text.proofs.RowLemmas.{no_rows, one_form, pathed_next, rows_next}
+use Rattle.report_text.proofs.TreeLines.{merge_found, node_found, source_found, total_found}
+use Rattle.report_text.specs.declared.field.Flaw.{Flaw}
+use Rattle.report_text.specs.Fields.{LineHasFlaw}
+use Rattle.report_text.specs.declared.form.Form.TheVariants as form
+use Rattle.cts_model.specs.declared.report.Version.TheVariants as version
+use Rattle.report_text.specs.declared.field.Keyword.TheVariants as word
+
+-- by these forms there is no fault in what is left
+abbrev pub IsSound : Circuit → Scale → List Form → Left → Type 0
+IsSound circuit scale forms left =
+    HasFirstFault circuit scale forms left.line left.text None
+
+-- a value that is given up to a place, and after it no fault by the forms that are to follow
+pub record Passed {X : Type 0} (circuit : Circuit) (scale : Scale) (more : List Form)
+    (Has : Left → X → Type 0) : Type 0 where
+  pub new : Left
+  pub value : X
+  pub has : Has new value
+  pub rest : IsSound circuit scale more new
+
+-- the words of the next line
+record PassedLine (circuit : Circuit) (scale : Scale) (due : Form) (more : List Form)
+    (old : Left) : Type 0 where
+  words : Words
+  new : Left
+  line : ReadsLine circuit scale due words old new
+  rest : IsSound circuit scale more new
+
+-- a line that ends there is taken
+line_taken : (old : Left) (end : ℕ) → (length old.text == 0) ≡ false
+    → position is_line_feed old.text ≡ Some end
+    → TakesLine old (take end old.text)
+    (record { line = old.line + 1; text = drop (end + 1) old.text })
+line_taken old end some found =
+    let within = (cut_within is_line_feed old.text end found).1 in
+    let long : end ≡ length (take end old.text) =
+    omega (arith, within, length-take end old.text) in
+    record {
+      some = some;
+      end = found ∙ ap Some long;
+      line_is = ap (λ n. take n old.text) long;
+      text = ap (λ n. drop (n + 1) old.text) long;
+      number = refl;
+    }
+
+line_passed : (circuit : Circuit) (scale : Scale) (due : Form) (more : List Form) (old : Left)
+    → IsSound circuit scale (due ∷ more) old → PassedLine circuit scale due more old
+line_passed circuit scale due more old sound =
+    at (length old.text == 0) (position is_line_feed old.text) refl refl sound
+  where
+    judged : (end : ℕ) → Option Flaw → Type 0
+    judged end flaw =
+        LineHasFlaw circuit (fields_of circuit scale due (words_of (take end old.text)))
+        (words_of (take end old.text)) flaw
+
+    at : (none : Bool) (end : Option ℕ) → (length old.text == 0) ≡ none
+        → position is_line_feed old.text ≡ end
+        → MatchBool none (None ≡ Some (Missing old.line))
+        (MatchOption end (None ≡ Some (BadLine old.line))
+        (λ n. (flaw : Option Flaw) × judged n flaw × MatchOption flaw
+        (HasFirstFault circuit scale more (old.line + 1) (drop (n + 1) old.text) None)
+        (λ found. None ≡ Some (fault_of due old.line found))))
+        → PassedLine circuit scale due more old
+    at true end some found is = absurd (none-some (Missing old.line) is)
+    at false None some found is = absurd (none-some (BadLine old.line) is)
+    at false (Some end) some found (None, flawless, rest) = record {
+      words = words_of (take end old.text);
+      new = record { line = old.line + 1; text = drop (end + 1) old.text };
+      line = line_read (line_taken old end some found) circuit scale due
+          (words_of (take end old.text)) refl flawless;
+      rest = rest;
+    }
+    at false (Some end) some found (Some flaw, has, is) =
+        absurd (none-some (fault_of due old.line flaw) is)
+
+-- where words without a flaw tell a value, the next line does
+pub denoted_passed : {X : Type 0} (circuit : Circuit) (scale : Scale) (due : Form)
+    (more : List Form)
+    → (Denotes : Words → X → Type 0) (old : Left)
+    → ((words : Words) → 0 < length words → IsFlawless circuit scale due words
+    → (value : X) × Denotes words value) → IsSound circuit scale (due ∷ more) old
+    → Passed circuit scale more (DenotesLine circuit scale due Denotes old)
+denoted_passed circuit scale due more Denotes old denotes sound =
+    let passed = line_passed circuit scale due more old sound in
+    let (value, denoted) = denotes passed.words passed.line.some passed.line.flawless in
+    record {
+      new = passed.new;
+      value = value;
+      has = record { words = passed.words; line = passed.line; denoted = denoted };
+      rest = passed.rest;
+    }
+
+-- so many steps, each of lines by the forms that are due at its place
+pub steps_passed : {X : Type 0} (circuit : Circuit) (scale : Scale) (more : List Form)
+    → (Has : ℕ → Left → X → Type 0) (count : ℕ) (due : ℕ → List Form)
+    → (forms : (place rest : ℕ) → List Form)
+    → ((place rest : ℕ) → forms place (suc rest) ≡ due place ++ forms (place + 1) rest)
+    → ((place : ℕ) → forms place 0 ≡ [])
+    → ((place : ℕ) (suffix : List Form) (between : Left) (value : X) → place < count
+    → Has place between value → IsSound circuit scale (due place ++ suffix) between
+    → Passed circuit scale suffix (Has (place + 1)))
+    → (rest place : ℕ) → place + rest ≡ count → (between : Left) (value : X)
+    → Has place between value → IsSound circuit scale (forms place rest ++ more) between
+    → Passed circuit scale more (Has count)
+steps_passed circuit scale more Has count due forms begins ends next zero place last between value
+    has sound = record {
+      new = between;
+      value = value;
+      has = subst (λ n. Has n between value) (omega (arith, last)) has;
+      rest = subst (λ fs. IsSound circuit scale (fs ++ more) between) (ends place) sound;
+    }
+steps_passed circuit scale more Has count due forms begins ends next (suc rest) place last between
+    value has sound =
+    let step = next place (forms (place + 1) rest ++ more) between value (omega (arith, last)) has
+    (subst (λ fs. IsSound circuit scale fs between) (append_assoc (due place)
+    (forms (place + 1) rest) more)
+    (subst (λ fs. IsSound circuit scale (fs ++ more) between) (begins place rest) sound)) in
+    steps_passed circuit scale more Has count due forms begins ends next rest (place + 1)
+    (omega (arith, last)) step.new step.value step.has step.rest
+
+-- a line without a flaw is that of a row
+abbrev pub IsFound : {X : Type 0} (circuit : Circuit) (scale : Scale) (due : ℕ → Form)
+    (Says : ℕ → Words → X → Type 0) (first count : ℕ) → Type 0
+IsFound {X} circuit scale due Says first count = (number : ℕ) (words : Words)
+    → number < first + count → 0 < length words → IsFlawless circuit scale (due number) words
+    → (row : X) × Says number words row
+
+module _ (circuit : Circuit) (scale : Scale) where
+  -- ---- lines of one form
+
+  rows_passed : {X : Type 0} (due : ℕ → Form) (Says : ℕ → Words → X → Type 0) (first count : ℕ)
+      → (more : List Form) (old : Left) → IsFound circuit scale due Says first count
+      → IsSound circuit scale (map due (range_with_len first count) ++ more) old
+      → Passed circuit scale more (HasRows circuit scale due Says first count old)
+  rows_passed {X} due Says first count more old found sound = steps_passed circuit scale more
+      (λ place. HasRows circuit scale due Says first place old) count
+      (λ place. due (first + place) ∷ [])
+      (λ place rest. map due (range_with_len (first + place) rest))
+      (λ place rest. ap (λ start. due (first + place) ∷ map due (range_with_len start rest))
+      (omega arith)) (λ place. refl) next count 0 (omega arith) old [] (no_rows due Says first)
+      (subst (λ start. IsSound circuit scale (map due (range_with_len start count) ++ more) old)
+      (omega arith) sound)
+    where
+      next : (place : ℕ) (suffix : List Form) (between : Left) (value : List X) → place < count
+          → HasRows circuit scale due Says first place old between value
+          → IsSound circuit scale (due (first + place) ∷ suffix) between
+          → Passed circuit scale suffix (HasRows circuit scale due Says first (place + 1) old)
+      next place suffix between value within has sound =
+          let line = denoted_passed circuit scale (due (first + place)) suffix
+          (Says (first + place)) between
+          (λ words. found (first + place) words (omega (arith, within))) sound in
+          record {
+            new = line.new;
+            value = value ++ line.value ∷ [];
+            has = rows_next due Says first has _ line.value line.new line.has refl;
+            rest = line.rest;
+          }
+
+  pub cycle_passed : (count : ℕ) (more : List Form) (old : Left)
+      → IsSound circuit scale (cycle_forms version.First count ++ more) old
+      → Passed circuit scale more (HasRows circuit scale (λ number. form.Constraint)
+      (λ number. DenotesConstraint circuit) 0 count old)
+  cycle_passed count more old sound = rows_passed (λ number. form.Constraint)
+      (λ number. DenotesConstraint circuit) 0 count more old
+      (λ number words within some. constraint_found circuit scale words)
+      (subst (λ forms. IsSound circuit scale (forms ++ more) old)
+      (sym (one_form form.Constraint 0 count)) sound)
+
+  pub pathed_passed : (count : ℕ) (more : List Form) (old : Left)
+      → IsSound circuit scale (cycle_forms version.Second count ++ more) old
+      → Passed circuit scale more (HasPathed circuit scale count old)
+  pathed_passed count more old sound = steps_passed circuit scale more
+      (λ place. HasPathed circuit scale place old) count
+      (λ place. form.Constraint ∷ form.Path ∷ [])
+      (λ place rest. cycle_forms version.Second rest) (λ place rest. refl) (λ place. refl) next
+      count 0 (omega arith) old (record { cycle = []; paths = [] })
+      (search (arith, read_none circuit scale old)) sound
+    where
+      next : (place : ℕ) (suffix : List Form) (between : Left) (value : Pathed)
+          → place < count → HasPathed circuit scale place old between value
+          → IsSound circuit scale (form.Constraint ∷ form.Path ∷ suffix) between
+          → Passed circuit scale suffix (HasPathed circuit scale (place + 1) old)
+      next place suffix between value within has sound =
+          let line = denoted_passed circuit scale form.Constraint (form.Path ∷ suffix)
+          (DenotesConstraint circuit) between
+          (λ words some. constraint_found circuit scale words) sound in
+          let way = denoted_passed circuit scale form.Path suffix
+          (λ words (path : PathLine). DenotesPath circuit words path.signals) line.new
+          (λ words some flawless.
+          let (path, denoted) = path_found circuit scale words flawless in
+          (record { signals = path }, denoted)) line.rest in
+          record {
+            new = way.new;
+            value = record {
+              cycle = value.cycle ++ line.value ∷ [];
+              paths = value.paths ++ way.value.signals ∷ [];
+            };
+            has = pathed_next line.new value _ line.value way.value has line.has way.has refl refl;
+            rest = way.rest;
+          }
+
+  -- ---- the sections
+
+  -- so many lines after how many they are
+  counted_passed : {X : Type 0} (keyword : Keyword) (due : ℕ → Form)
+      (Says : ℕ → Words → X → Type 0) (first count : ℕ) (more : List Form) → count < 10 ^ 37
+      → IsFound circuit scale due Says first count → (old : Left)
+      → IsSound circuit scale
+      ((form.Count keyword count ∷ map due (range_with_len first count)) ++ more) old
+      → Passed circuit scale more (Counted circuit scale keyword due Says first count old)
+  counted_passed keyword due Says first count more few found old sound =
+      let line = denoted_passed circuit scale (form.Count keyword count)
+      (map due (range_with_len first count) ++ more)
+      (λ words (denoted : ℕ). words ≡ count_line (keyword_text keyword) count) old
+      (λ words some flawless. (0, count_found circuit scale keyword count words few flawless))
+      sound in
+      let rows = rows_passed due Says first count more line.new found line.rest in
+      record {
+        new = rows.new;
+        value = rows.value;
+        has = record {
+          between = line.new;
+          counted = subst (λ words. ReadsLine circuit scale (form.Count keyword count) words old
+              line.new) line.has.denoted line.has.line;
+          has = rows.has;
+        };
+        rest = rows.rest;
+      }
+
+  version_leads_passed : (version : Version) (count : ℕ) (more : List Form) (old : Left)
+      → IsSound circuit scale (lead_forms version count ++ more) old
+      → Passed circuit scale more (HasVersionLeads circuit scale version count old)
+  version_leads_passed version.First count more old sound = record {
+    new = old;
+    value = [];
+    has = record { lines = []; read = read_none circuit scale old; each = tt; many = refl };
+    rest = sound;
+  }
+  version_leads_passed version.Second count more old sound =
+      let leads = rows_passed (λ number. form.Lead) (λ number. DenotesLead circuit) 0 count more
+      old (λ number words within some. lead_found circuit scale words)
+      (subst (λ forms. IsSound circuit scale (forms ++ more) old) (sym (one_form form.Lead 0 count))
+      sound) in
+      record {
+        new = leads.new;
+        value = leads.value;
+        has = leads_given leads.value leads.has;
+        rest = leads.rest;
+      }
+
+  pub body_passed : (version : Version) (count : ℕ) (more : List Form) (old : Left)
+      → IsSmallScale scale → count ≤ 4097
+      → IsSound circuit scale (forms_after version count ++ more) old
+      → Passed circuit scale more (HasBody circuit scale version count old)
+  body_passed version count more old small few sound =
+      let last : List Form = form.Total ∷ more in
+      let apart = subst (λ forms. IsSound circuit scale forms old)
+      (append_assoc (register_forms count ++ lead_forms version count ++ merge_forms count
+      ++ form.Source ∷ node_forms count) (form.Total ∷ []) more
+      ∙ sections_apart (register_forms count) (lead_forms version count) (merge_forms count)
+      (form.Source ∷ node_forms count) last) sound in
+      let timings = counted_passed word.Registers form.Register (DenotesTimed circuit scale) 0 count
+      (lead_forms version count ++ (merge_forms count ++ (form.Source ∷ node_forms count ++ last)))
+      (omega (arith, few)) (λ number words within some. timed_found circuit scale number words
+      small)
+      old apart in
+      let leads = version_leads_passed version count
+      (merge_forms count ++ (form.Source ∷ node_forms count ++ last)) timings.new timings.rest in
+      let merged = counted_passed word.Merges form.Merge (SaysMerge circuit scale.grid) count
+      (count - 1) (form.Source ∷ node_forms count ++ last) (omega (arith, few))
+      (λ number words within some. merge_found circuit scale number words small
+      (omega (arith, few, within))) leads.new leads.rest in
+      let source = denoted_passed circuit scale form.Source (node_forms count ++ last)
+      (SaysSource circuit scale.grid) merged.new
+      (λ words there. source_found circuit scale words small) merged.rest in
+      let placed = counted_passed word.Nodes form.Node (SaysNode scale.grid) 0 (2 * count - 1) last
+      (omega (arith, few)) (λ number words within some. node_found circuit scale number words small
+      (omega (arith, few, within)) some) source.new source.rest in
+      let total = denoted_passed circuit scale form.Total more
+      (λ words (line : TotalLine). SaysTotal scale.grid words line.length) placed.new
+      (λ words there flawless.
+      let (length, says) = total_found circuit scale words small flawless in
+      (record { length = length }, says)) placed.rest in
+      record {
+        new = total.new;
+        value = record {
+          timings = timings.value;
+          leads = leads.value;
+          merged = merged.value;
+          source = source.value;
+          placed = placed.value;
+          total = total.value;
+        };
+        has = record {
+          after_registers = timings.new;
+          after_leads = leads.new;
+          after_merges = merged.new;
+          after_source = source.new;
+          after_nodes = placed.new;
+          timings = timings.has;
+          leads = leads.has;
+          merged = merged.has;
+          source = source.has;
+          placed = placed.has;
+          total = total.has;
+        };
+        rest = total.rest;
+      }
 
 -- the heading
 heading_passed : (circuit : Circuit) (scale : Scale) (more : List Form) (old : Left)

@@ -105,15 +105,17 @@ parts_printable {circuit} {tech} {text} {parts} has =
       );
       timings = rows_all (DenotesTimed circuit scale)
           (IsTold (DenotesTimed circuit scale) (timed_line circuit scale.den))
-          (λ number words row says other. search (says.small, says.slacks)) 0 body.timings.has.lines parts.body.timings body.timings.has.each;
+          (λ number words row says other. search (says.small, says.slacks)) 0
+          body.timings.has.lines parts.body.timings body.timings.has.each;
       leads = rows_all (λ number. DenotesLead circuit)
           (IsTold (λ number. DenotesLead circuit) (λ number. lead_line circuit))
-          (λ number words row says other. search (says.registers, says.small)) 0 body.leads.lines parts.body.leads body.leads.each;
+          (λ number words row says other. search (says.registers, says.small)) 0
+          body.leads.lines parts.body.leads body.leads.each;
       merged = rows_all (SaysMerge circuit scale.grid)
           (IsTold (SaysMerge circuit scale.grid) (merged_line circuit scale.grid))
           (λ number words row says other.
-          search (says.merge, says.reach, says.show, says.among)) (length circuit.registers) body.merged.has.lines parts.body.merged
-          body.merged.has.each;
+          search (says.merge, says.reach, says.show, says.among)) (length circuit.registers)
+          body.merged.has.lines parts.body.merged body.merged.has.each;
       source = search (
         body.source.denoted.reach,
         body.source.denoted.show,
@@ -121,7 +123,8 @@ parts_printable {circuit} {tech} {text} {parts} has =
       );
       placed = rows_all (SaysNode scale.grid)
           (IsTold (SaysNode scale.grid) (placed_line scale.grid))
-          (λ number words row says other. search (says.place, says.edge, says.wire)) 0 body.placed.has.lines parts.body.placed body.placed.has.each;
+          (λ number words row says other. search (says.place, says.edge, says.wire)) 0
+          body.placed.has.lines parts.body.placed body.placed.has.each;
       total = body.total.denoted.small;
       timings_many = body.timings.has.many;
       leads_many = body.leads.many;

@@ -4,8 +4,9 @@ use Rattle.std.proofs.Common.{◌≡◌, ◌<◌, ◌≤◌, ◌^◌, ◌⊎◌,
 use Rattle.std.proofs.lemmas.Int.{ints}
 use Rattle.std.specs.Fmt.{signed_decimal}
 use Rattle.std.specs.List.{AllByRecursion}
+use Rattle.std.proofs.Props.{props}
 use Rattle.cts_base.specs.declared.fraction.Fraction.{Fraction}
-use Rattle.cts_base.specs.Fractions.{HasSizeBelow, fraction_text, quotient_text}
+use Rattle.cts_base.specs.Fractions.{HasSizeBelow, fraction_text, quotient_text, IsLowest}
 use Rattle.cts_base.specs.NumberTexts.{SpellsWhole, HaveSmallSizes}
 use Rattle.cts_base.proofs.FractionReading.{few_digits}
 use Rattle.cts_base.proofs.GreatestDivisors.{lowest_sizes}
@@ -21,13 +22,34 @@ use Rattle.cts_model.specs.text.PrintedLines.{Words, slack_text}
 use Rattle.cts_model.specs.timing.Schedules.{IsSmallPeriod}
 use Rattle.cts_model.specs.timing.Slacks.{IsSmallSlack}
 use Rattle.report_text.specs.LineFields.{Field}
-use Rattle.report_text.specs.LineFields as field
 use Rattle.report_text.specs.Fields.{AreFewSteps, IsFractionForm, IsWholeSteps, LineHasFlaw, NamesRegister, WordHasFlaw}
 use Rattle.report_text.specs.Keywords.{keyword_text, version_text}
 use Rattle.report_text.proofs.FractionFlaws.{dash_plain, period_within, read_quotient_is, steps_denoted, steps_small}
 use Rattle.report_text.proofs.NumberWords.{below_bound, denoted_steps, smaller, spelled_steps, spelled_whole, whole_word}
 use Rattle.name_set.proofs.OneName.{one_register, one_signal}
-use Rattle.report_text.proofs.OneRecord.{same_fraction}
+use Rattle.report_text.specs.LineFields as field
+
+-- a fraction of its parts
+fraction_of : (parts : ℤ × ℤ) → IsLowest parts.0 parts.1 → Fraction
+fraction_of parts lowest = record { num = parts.0; den = parts.1; lowest = lowest }
+
+one_lowest : (parts : ℤ × ℤ) → IsProp (IsLowest parts.0 parts.1)
+one_lowest parts = hlevel props
+
+-- fractions with the same parts are one
+parts_same : (parts others : ℤ × ℤ) → parts ≡ others → (lowest : IsLowest parts.0 parts.1)
+    (lowest' : IsLowest others.0 others.1) → fraction_of parts lowest ≡ fraction_of others lowest'
+unfolding fraction_of
+parts_same parts others same lowest lowest' =
+    subst (λ (p : ℤ × ℤ). (l : IsLowest p.0 p.1) → fraction_of parts lowest ≡ fraction_of p l) same
+    (λ l. ap (fraction_of parts) (one_lowest parts lowest l)) lowest'
+
+pub same_fraction : (fraction other : Fraction) → fraction.num ≡ other.num
+    → fraction.den ≡ other.den → fraction ≡ other
+unfolding fraction_of
+same_fraction fraction other num den =
+    parts_same (fraction.num, fraction.den) (other.num, other.den) (λ i. (num i, den i))
+    fraction.lowest other.lowest
 
 -- what the word of a field tells
 abbrev pub Value : Field → Type 0

@@ -1,10 +1,10 @@
 -- Lines that are taken from a text one after the other.
-use Rattle.std.proofs.Common.{ℕ, zero, suc, ◌≡◌, ◌<◌, ◌+◌, ◌-◌, ◌==◌, Bool, true, false, Option, Some, None, Result, Ok, Err, IfErr, IsErrAnd, List, [], ◌∷◌, ◌++◌, map, length, take, drop, get_or, MatchBool, MatchOption, refl, sym, ap, ap₂, subst, ◌∙◌, append_assoc, append-nil, arith}
-use Rattle.std.specs.List.{slice_split, position}
+use Rattle.std.proofs.Common.{ℕ, zero, suc, ◌≡◌, ◌<◌, ◌+◌, ◌-◌, ◌==◌, Bool, true, false, Option, Some, None, Result, Ok, Err, IfErr, IsErrAnd, List, [], ◌∷◌, ◌++◌, map, length, take, drop, get_or, MatchBool, MatchOption, refl, sym, ap, ap₂, subst, ◌∙◌, append_assoc, append-nil, arith, drop-cons}
+use Rattle.std.specs.List.{slice_split, position, position_or_len}
 use Rattle.std.proofs.lemmas.Bool.Decides.{nat_tests}
 use Rattle.std.proofs.lemmas.Grind.{flat_map-append}
 use Rattle.std.proofs.lemmas.List.{take-append-drop, drop-drop, length-append}
-use Rattle.std.proofs.lemmas.List.Splits.{join_with_byte-slice_split, length-slice_split}
+use Rattle.std.proofs.lemmas.List.Splits.{join_with_byte-slice_split, length-slice_split, slice_split_first}
 use Rattle.std.proofs.lemmas.List.Sums.{passes_at_first}
 use Rattle.cts_model.specs.declared.circuit.Circuit.{Circuit}
 use Rattle.cts_model.specs.text.PrintedLines.{Words, line_of, text_of}
@@ -18,7 +18,26 @@ use Rattle.report_text.specs.Forms.{fields_of}
 use Rattle.report_text.specs.ReportFaults.{HasFirstFault, is_line_feed, is_space, words_of, fault_of}
 use Rattle.report_text.specs.TimingValues.{IsFlawless}
 use Rattle.report_text.specs.Walks.{Left, TakesLine, Reads, ReadsLine, Stops, StopsLine}
-use Rattle.report_text.proofs.LineCuts.{byte_then, cut_within, first_part}
+
+-- the first byte that passes stands before the end
+pub cut_within : (p : ℕ → Bool) (text : List ℕ) (end : ℕ) → position p text ≡ Some end
+    → (position_or_len p text ≡ end) × (end < length text)
+cut_within p text end found = (grind (arith, nat_tests), grind (arith, nat_tests))
+
+-- the first part ends there
+pub first_part : (p : ℕ → Bool) (text : List ℕ) (end : ℕ) → position p text ≡ Some end
+    → slice_split p text ≡ take end text ∷ slice_split p (drop 1 (drop end text))
+first_part p text end found =
+    let place = cut_within p text end found in
+    let at : position_or_len p text ≡ end = place.0 in
+    let within : position_or_len p text < length text = omega (arith, place.1) in
+    let after : drop (end + 1) text ≡ drop 1 (drop end text) = sym (drop-drop 1 end text) in
+    rw (slice_split_first p text 0 within, at, after) refl
+
+-- what is left is its first byte, and what stands after that
+pub byte_then : (text : List ℕ) (place : ℕ) → place < length text
+    → drop place text ≡ get_or text place 0 ∷ drop 1 (drop place text)
+byte_then text place within = rw (drop-cons text place 0 within) refl
 
 -- the first line feed, and what stands after it
 feed_then : (text : List ℕ) (end : ℕ) → position is_line_feed text ≡ Some end

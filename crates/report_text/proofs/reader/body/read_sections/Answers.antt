@@ -36,17 +36,7 @@ read-requires-2 c =
     let source = c.in_ok-source.ensures.ok in
     let read = source.line.read c.args.rules.now.scale source.line.flawless in
     let placed = counted_number c.in_ok-placed.ensures.ok in
-    record {
-      line = omega (
-        arith,
-        before,
-        merged,
-        read.number,
-        placed,
-        c.requires.line,
-        c.requires.few,
-      );
-    }
+    record { line = omega arith }
 
 pub returns-in_err-timings-clause-fault : goal.returns-in_err-timings-clause-fault
 returns-in_err-timings-clause-fault c =

@@ -50,14 +50,9 @@ read_body-requires c =
     c.in_ok-heading.ensures.ok in
     let read = heading.lines (record { den = pos 1; grid = pos 1 }) in
     let shown = c.in_ok-shown.ensures.ok in
-    record {
-      line = omega (
-        arith,
-        read.number,
-        shown.lines.number,
-        cycle_few c.in_ok-heading.heading.version c.in_ok-heading.heading.count heading.count,
-      );
-    }
+    let few = cycle_few c.in_ok-heading.heading.version c.in_ok-heading.heading.count
+    heading.count in
+    record { line = omega arith }
 
 pub returns-in_err-body-clause-fault : goal.returns-in_err-body-clause-fault
 returns-in_err-body-clause-fault c =

@@ -7,32 +7,13 @@ use Rattle.report_text.proofs.WalkLemmas.{next_stops, passed_on, stop_before, st
 use Rattle.report_text.proofs.reader.rows.read_pathed.Goals as goal
 
 pub read-requires : goal.read-requires
-read-requires c = record {
-  line = omega (
-    arith,
-    c.loop-place.invariant.lines.number,
-    length_pathed c.loop-place._place,
-    c.loop-place-test.true,
-    c.requires.line,
-    c.requires.count,
-  );
-}
+read-requires c = record { line = omega (arith, length_pathed c.loop-place._place) }
 
 pub read-requires-in-loop-place : goal.read-requires-in-loop-place
 read-requires-in-loop-place c =
     let next = c.in_ok-constraint.ensures.ok in
     let read = next.line.read c.args.rules.now.scale next.line.flawless in
-    record {
-      line = omega (
-        arith,
-        c.loop-place.invariant.lines.number,
-        read.number,
-        length_pathed c.loop-place._place,
-        c.loop-place-test.true,
-        c.requires.line,
-        c.requires.count,
-      );
-    }
+    record { line = omega (arith, length_pathed c.loop-place._place) }
 
 pub returns-in_err-constraint-clause-fault : goal.returns-in_err-constraint-clause-fault
 returns-in_err-constraint-clause-fault c =

@@ -8,16 +8,9 @@ pub read-requires : goal.read-requires
 read-requires g c =
     let circuit = c.args.rules.now.circuit.now in
     let scale = c.args.rules.now.scale in
-    record {
-      line = omega (
-        arith,
-        rows_number g.L.Line.due (g.L.Line.says circuit scale) c.args.first
-            c.loop-place.invariant,
-        c.loop-place-test.true,
-        c.requires.line,
-        c.requires.count,
-      );
-    }
+    let number = rows_number g.L.Line.due (g.L.Line.says circuit scale) c.args.first
+    c.loop-place.invariant in
+    record { line = omega arith }
 
 pub returns-in_err-row-clause-fault : goal.returns-in_err-row-clause-fault
 returns-in_err-row-clause-fault g c =
