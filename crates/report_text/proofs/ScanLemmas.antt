@@ -24,11 +24,6 @@ use Rattle.report_text.proofs.WalkLemmas.{line_read}
 
 -- ---- of flaws the sooner
 
-sooner_none : (flaw : Option Flaw) → sooner_flaw flaw None ≡ flaw
-sooner_none None = refl
-sooner_none (Some flaws.Form) = refl
-sooner_none flaw = refl
-
 none_sooner : (flaw : Option Flaw) → sooner_flaw None flaw ≡ flaw
 none_sooner None = refl
 none_sooner (Some flaws.Form) = refl
@@ -208,14 +203,6 @@ takes_so takes follow = record {
 }
 
 -- ---- the end
-
-pub ends_none : (circuit : Circuit) (left : LineLeft) → left.words ≡ []
-    → EndsIn circuit [] left left.flaw
-ends_none circuit left none = (
-  None,
-  subst (λ (ws : Words). LineHasFlaw circuit [] ws None) (sym none) (tt, tt, tt, tt),
-  sym (sooner_none left.flaw),
-)
 
 pub ends_some : (circuit : Circuit) (left : LineLeft) → 0 < length left.words
     → EndsIn circuit [] left (Some flaws.Form)
