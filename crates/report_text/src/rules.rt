@@ -1,38 +1,38 @@
 //! What the lines of a report are judged by.
 
-ghost use Rattle.std.specs.Prelude.{◌≡◌, IfOk};
+ghost use Rattle.std.specs.Prelude.{◌≡◌};
 ghost use Rattle.report_text.specs.NamesOf.{AreNamesOf, DenotesRegister, DenotesSignal};
 ghost use Rattle.report_text.specs.Values.{IsSmallScale};
 
 use crate::form::Scale;
 use crate::names::Names;
-use cts_base::NoMemory;
 use cts_model::Circuit;
 use std::alloc::Global;
 
 /// What the lines of a report are judged by: the names of a circuit, and how fine its numbers are.
-#[derive(Drop)]
+#[derive(Clone, Copy)]
 pub(crate) struct Rules<'a> {
     pub alloc: Global,
     pub circuit: &'a Circuit,
-    names: Names,
+    names: &'a Names,
     pub scale: Scale,
-    ghost named: { AreNamesOf circuit.now names },
+    ghost named: { AreNamesOf circuit.now names.now },
     ghost small: { IsSmallScale scale },
 }
 
 impl<'a> Rules<'a> {
-    /// The rules of a circuit. One step makes a unit, until the period tells how many do.
-    pub(crate) fn new(alloc: Global, circuit: &'a Circuit) -> Result<Rules<'a>, NoMemory>
-        ensures { IfOk result (λ rules. rules.circuit.now ≡ circuit.now) }
+    /// The rules of a circuit by its names. One step makes a unit, until the period tells how many
+    /// do.
+    pub(crate) fn new(alloc: Global, circuit: &'a Circuit, names: &'a Names) -> Rules<'a>
+        requires { AreNamesOf circuit.now names.now }
+        ensures { result.circuit.now ≡ circuit.now }
     {
-        let names = Names::new(alloc, circuit)?;
-        Ok(Rules {
+        Rules {
             alloc,
             circuit,
             names,
             scale: Scale { den: 1, grid: 1 },
-        })
+        }
     }
 
     /// The same rules with so many steps.

@@ -1,17 +1,20 @@
 //! The parts of a whole report.
 
-ghost use Rattle.std.specs.Prelude.{◌≡◌, ◌≢◌, ◌==◌, [], length, None, Some, IfOk, IfErr, if◌then◌else◌};
+ghost use Rattle.std.specs.Prelude.{◌≡◌, ◌≢◌, ◌<◌, ◌==◌, ℕ, List, [], length, None, Some, IfOk, IfErr, if◌then◌else◌};
+ghost use Rattle.cts_model.specs.declared.tech.Tech.{Tech};
 ghost use Rattle.report_text.specs.declared.fault.ReportFault.TheVariants as fault;
-ghost use Rattle.report_text.specs.Parts.{HasParts};
+ghost use Rattle.report_text.specs.Headings.{HasHeading, IsSmallCount};
+ghost use Rattle.report_text.specs.Parts.{HasParts, scale_in, whole};
 ghost use Rattle.report_text.specs.ReportFaults.{HasFault};
 
 use crate::cursor::Cursor;
 use crate::fault::ReportFault;
 use crate::grid::scale_of;
+use crate::names::Names;
 use crate::reader::body::read_body;
 use crate::reader::heading::{read_heading, read_shown};
 use crate::rules::Rules;
-use crate::sections::Parts;
+use crate::sections::{Heading, Parts};
 use cts_model::{Circuit, Tech};
 use std::alloc::Global;
 
@@ -26,12 +29,37 @@ pub(crate) fn read_parts(
     ensures fault { IfErr result (λ found. found ≢ fault.NoMemory
         → HasFault circuit.now tech.now bytes.now (Some found)) }
 {
-    let unscaled = Rules::new(alloc, circuit)?;
+    let names = Names::new(alloc, circuit)?;
+    read_named(Rules::new(alloc, circuit, &names), bytes, tech)
+}
+
+// Reads all lines by rules that know the names of the circuit.
+fn read_named(rules: Rules, bytes: &[u8], tech: &Tech) -> Result<Parts, ReportFault>
+    ensures ok { IfOk result (HasParts rules.entry.circuit.now tech.now bytes.now) }
+    ensures fault { IfErr result (λ found. found ≢ fault.NoMemory
+        → HasFault rules.entry.circuit.now tech.now bytes.now (Some found)) }
+{
     let mut cursor = Cursor::of(bytes);
-    let heading = read_heading(&unscaled, &mut cursor)?;
-    let rules = unscaled.with_scale(scale_of(heading.period, tech));
-    let shown = read_shown(&rules, heading.version, heading.count, &mut cursor)?;
-    let body = read_body(&rules, heading.version, &mut cursor)?;
+    let heading = read_heading(&rules, &mut cursor)?;
+    let rules = rules.with_scale(scale_of(heading.period, tech));
+    read_rest(&rules, heading, cursor)
+}
+
+// Reads all lines after the heading, by rules with the scale of its period.
+fn read_rest(rules: &Rules, heading: Heading, mut cursor: Cursor) -> Result<Parts, ReportFault>
+    requires line { cursor.line < 1000 }
+    requires count { IsSmallCount heading.count }
+    ensures ok { IfOk result (λ parts. (tech : Tech) (text : List ℕ)
+        → HasHeading rules.now.circuit.now (whole text) cursor.entry heading
+        → rules.now.scale ≡ scale_in tech heading.period
+        → HasParts rules.now.circuit.now tech text parts) }
+    ensures fault { IfErr result (λ found. found ≢ fault.NoMemory → (tech : Tech) (text : List ℕ)
+        → HasHeading rules.now.circuit.now (whole text) cursor.entry heading
+        → rules.now.scale ≡ scale_in tech heading.period
+        → HasFault rules.now.circuit.now tech text (Some found)) }
+{
+    let shown = read_shown(rules, heading.version, heading.count, &mut cursor)?;
+    let body = read_body(rules, heading.version, &mut cursor)?;
     at_end(&cursor)?;
     Ok(Parts {
         heading,

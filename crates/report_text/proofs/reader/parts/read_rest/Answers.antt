@@ -1,0 +1,48 @@
+use Rattle.std.proofs.Common.{Some, length, subst, arith}
+use Rattle.report_text.specs.Forms.{forms_after}
+use Rattle.report_text.specs.Walks.{Stops}
+use Rattle.report_text.proofs.BodyLemmas.{body_ends}
+use Rattle.report_text.proofs.PartLemmas.{after_fault, body_fault, cycle_few, shown_fault}
+use Rattle.report_text.proofs.WalkLemmas.{passed_on}
+use Rattle.report_text.proofs.reader.parts.read_rest.Goals as goal
+
+pub returns-in_err-shown-clause-fault : goal.returns-in_err-shown-clause-fault
+returns-in_err-shown-clause-fault c =
+    passed_on _ _ _ c.from_residual.ensures.1 (λ named tech text heading same.
+    shown_fault heading tech _ (rw same at c.in_err-shown.ensures.fault) named)
+
+pub read_body-requires : goal.read_body-requires
+read_body-requires c = record {
+  line = omega (
+    arith,
+    c.requires.line,
+    c.in_ok-shown.ensures.ok.lines.number,
+    cycle_few c.args.heading.version c.args.heading.count c.requires.count,
+  );
+}
+
+pub returns-in_err-body-clause-fault : goal.returns-in_err-body-clause-fault
+returns-in_err-body-clause-fault c =
+    passed_on _ _ _ c.from_residual-in_err-body.ensures.1 (λ named tech text heading same.
+    body_fault heading tech (rw same at c.in_ok-shown.ensures.ok) _
+    (subst (λ scale. Stops c.args.rules.now.circuit.now scale (forms_after c.args.heading.version
+    (length c.args.rules.now.circuit.now.registers)) c.read_shown.new.cursor
+    c.in_err-body.field-0.0) same c.in_err-body.ensures.fault) named)
+
+pub returns-in_err-at_end-clause-fault : goal.returns-in_err-at_end-clause-fault
+returns-in_err-at_end-clause-fault c =
+    passed_on _ _ _ c.from_residual-in_err-at_end.ensures.1 (λ named tech text heading same.
+    after_fault heading tech (rw same at c.in_ok-shown.ensures.ok) _
+    (body_ends (rw same at c.in_ok-body.ensures.ok) (Some c.in_err-at_end.field-0.0)
+    c.in_err-at_end.ensures.fault))
+
+pub returns-clause-ok : goal.returns-clause-ok
+returns-clause-ok c tech text heading same = record {
+  after_heading = c.args.cursor;
+  after_shown = c.read_shown.new.cursor;
+  end = c.read_body.new.cursor;
+  heading = heading;
+  shown = rw same at c.in_ok-shown.ensures.ok;
+  body = rw same at c.in_ok-body.ensures.ok;
+  ended = c.in_ok-at_end.ensures.ok;
+}
