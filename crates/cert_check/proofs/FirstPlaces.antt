@@ -13,6 +13,13 @@ use Rattle.cert_check.specs.Judged.{FailsFirst, Judges}
 pub denied : (Holds : Type 0) (test : Bool) → IsTrue test ↔ Holds → test ≡ false → Holds → ⊥
 denied Holds test tests none holds = false≢true (sym none ∙ tests.1 holds)
 
+-- the first place where a test denies it
+pub fails_here : (places : ℕ) (Holds : ℕ → Type 0) (place : ℕ) (test : Bool) → place < places
+    → AtEach place Holds → IsTrue test ↔ Holds place → test ≡ false
+    → FailsFirst places Holds place
+fails_here places Holds place test within before tests none =
+    record { within = within; fails = denied (Holds place) test tests none; before = before }
+
 -- one place more
 pub each_more : (Holds : ℕ → Type 0) (place : ℕ) → AtEach place Holds → Holds place
     → AtEach (place + 1) Holds

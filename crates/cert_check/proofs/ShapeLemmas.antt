@@ -1,8 +1,8 @@
 -- The shape of a tree, by its sinks, its merges and its source.
-use Rattle.std.proofs.Common.{◌≡◌, ◌<◌, ◌≤◌, ◌+◌, ◌-◌, ◌*◌, ℕ, List, length, take, inl, inr, refl, sym, subst, arith}
+use Rattle.std.proofs.Common.{◌≡◌, ◌<◌, ◌≤◌, ◌+◌, ◌-◌, ◌*◌, ◌↔◌, ℕ, Bool, IsTrue, List, length, take, get_or, inl, inr, refl, sym, subst, arith}
 use Rattle.std.specs.Prelude.{IfOk, IfSome, Result, Ok, Err, slice_get}
 use Rattle.std.proofs.lemmas.Bool.{cases_lt}
-use Rattle.std.proofs.lemmas.Option.{slice_get_past, slice_get_within}
+use Rattle.std.proofs.lemmas.Option.{slice_get-get_or, slice_get_past, slice_get_within}
 use Rattle.cts_model.specs.declared.place.Sink.{Sink}
 use Rattle.cts_model.specs.declared.place.Uv.{Uv}
 use Rattle.cts_model.specs.declared.tree.Merge.{Merge}
@@ -18,6 +18,15 @@ use Rattle.cert_check.specs.declared.verdict.Stop.TheVariants.{At, NoMemory}
 use Rattle.cert_check.specs.Judged.{FailsFirst, Judges, JudgesOnce}
 use Rattle.cert_check.proofs.FirstPlaces.{stops_by}
 use Rattle.cert_check.proofs.MarkLemmas.{if_some, some_if}
+
+-- a test of the node of a sink's number against the sink's place tells whether the sink stands
+pub stands_by : (sinks : List Sink) (tree : Embedding) (register : ℕ) (d : Sink) (test : Bool)
+    → register < length sinks
+    → IsTrue test ↔ (rotated (tree.place register) ≡ (get_or sinks register d).at)
+    → IsTrue test ↔ StandsAt sinks tree register
+stands_by sinks tree register d test within =
+    subst (λ found. IsTrue test ↔ IfSome found (λ sink. rotated (tree.place register) ≡ sink.at))
+    (sym (slice_get-get_or sinks register d within))
 
 module _ (sinks : List Sink) (merges : List Merge) (source : Uv) (tree : Embedding)
     (all : length merges + 1 ≡ length sinks) where

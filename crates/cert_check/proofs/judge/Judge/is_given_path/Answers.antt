@@ -1,8 +1,26 @@
 -- The constraint and the path stand at the place.
-use Rattle.std.proofs.Common.{◌≡◌, ◌⊎◌, ◌↔◌, [], IsTrue, Some, ap, subst, sym, ◌∙◌}
+use Rattle.std.proofs.Common.{◌≡◌, ◌<◌, ◌≤◌, ◌⊎◌, ◌↔◌, [], All, IsTrue, Some, ap, length, subst, sym, ◌∙◌}
 use Rattle.std.specs.Prelude.{IfSome, slice_get}
+use Rattle.cts_model.specs.report.ReportBounds.{IsBetweenRegisters}
 use Rattle.cts_model.specs.timing.ConstraintPaths.{GivesWeight}
+use Rattle.cert_check.proofs.FirstPlaces.{at_place}
 use Rattle.cert_check.proofs.judge.Judge.is_given_path.Goals as goal
+
+pub invariant_of-shown : goal.invariant_of-shown
+invariant_of-shown c =
+    let self = c.args.self.now in
+    let circuit = self.problem.now.circuit in
+    let path = c.as_slice-2.result.now in
+    let there = (rw c.as_slice.ensures at c.item_at-2.ensures)
+    ∙ ap Some (sym c.as_slice-2.ensures) in
+    record {
+      among = at_place (IsBetweenRegisters (length circuit.registers)) self.cycle.now c.args.place
+          c.item_at.result.now self.among c.item_at.ensures;
+      numbers = at_place (All (λ number. number < length circuit.signals)) self.report.now.paths
+          c.args.place path self.size.each_path there;
+      short = at_place (λ shown. length shown ≤ 65536) self.report.now.paths c.args.place path
+          self.paths there;
+    }
 
 pub returns : goal.returns
 returns c =

@@ -1,6 +1,7 @@
 -- One constraint more.
-use Rattle.std.proofs.Common.{◌<◌, rules, IsTrue, ap, length, arith}
-use Rattle.cert_check.proofs.FirstPlaces.{at_place}
+use Rattle.std.proofs.Common.{◌<◌, rules, IsTrue, ap, length, refl, arith}
+use Rattle.cert_check.specs.JudgedReports.{Together}
+use Rattle.cert_check.proofs.FirstPlaces.{at_place, fails_here}
 use Rattle.cert_check.proofs.TailLemmas.{walked_next}
 use Rattle.cert_check.proofs.judge.Judge.judge_joins.Goals as goal
 
@@ -21,3 +22,12 @@ loop-place-preserved c =
     c.item_at.result.now
     (λ place default within. (self.among place default within).tail)
     c.item_at.ensures) c.loop-place.invariant (c.holds_together.ensures.0 holds)
+
+pub returns-then-not-holds_together : goal.returns-then-not-holds_together
+returns-then-not-holds_together c = (
+  c.loop-place.place,
+  fails_here _ (Together c.args.self.now) c.loop-place.place c.holds_together.result
+      c.loop-place-test.true c.loop-place.invariant.before c.holds_together.ensures
+      c.if-not-holds_together.true,
+  refl,
+)

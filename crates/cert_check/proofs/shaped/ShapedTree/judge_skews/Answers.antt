@@ -1,16 +1,25 @@
 -- One more.
-use Rattle.std.proofs.Common.{◌≡◌, ◌*◌, ◌^◌, All, length, subst, sym}
+use Rattle.std.proofs.Common.{◌≡◌, ◌*◌, ◌^◌, All, length, refl, subst, sym}
 use Rattle.cts_model.specs.placement.Points.{IsBelow}
 use Rattle.cts_model.specs.report.ReportLines.{number_at}
 use Rattle.cts_model.specs.tree.Embeddings.{AreWiresDown}
 use Rattle.cert_check.specs.JudgedReports.{Skewed}
-use Rattle.cert_check.proofs.FirstPlaces.{each_more}
+use Rattle.cert_check.proofs.FirstPlaces.{each_more, fails_here}
 use Rattle.cert_check.proofs.shaped.ShapedTree.judge_skews.Goals as goal
 
 pub loop-register-preserved : goal.loop-register-preserved
 loop-register-preserved c = each_more (Skewed c.args.self.now.judge)
     c.loop-register.register c.loop-register.invariant
     (c.is_skewed.ensures.0 c.if-not-is_skewed.false)
+
+pub returns-then-not-is_skewed : goal.returns-then-not-is_skewed
+returns-then-not-is_skewed c = (
+  c.loop-register.register,
+  fails_here _ (Skewed c.args.self.now.judge) c.loop-register.register c.is_skewed.result
+      c.loop-register-test.true c.loop-register.invariant c.is_skewed.ensures
+      c.if-not-is_skewed.true,
+  refl,
+)
 
 pub invariant_of-tree : goal.invariant_of-tree
 invariant_of-tree c =
