@@ -1,5 +1,6 @@
 -- One constraint more is added to both sums, and in the end they are compared as they are.
 use Rattle.std.proofs.Common.{◌+ℤ◌, ◌-ℤ◌, ◌*ℤ◌, ◌≤ℤ◌, pos, false, get_or, to_z, of_z, ◌∙◌, rules, arith}
+use Rattle.std.proofs.lemmas.Grind.{common_steps}
 use mir.Syntax.{w128}
 use Rattle.std.proofs.lemmas.Int.{ints, to_z-of_z}
 use Rattle.cts_model.specs.declared.constraint.Constraint.{Constraint}
@@ -40,3 +41,6 @@ returns-then-count-ge1 c =
       ),
       λ worth. c.are_same.ensures.1 (omega (arith, ints, asked, worth.1)),
     )
+
+pub returns-else-count-ge1 : goal.returns-else-count-ge1
+returns-else-count-ge1 c = grind (arith, common_steps)

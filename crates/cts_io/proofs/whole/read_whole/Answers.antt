@@ -29,3 +29,6 @@ returns-then-limit-len-clause-stops g c long held is =
     let all : length c.loop-taken.bytes.items + c.in-Ok.taken ≡ c.args.limit + 1 =
     grind (arith, common_steps) in
     Takes-leaves _ _ _ _ _ _ _ t.2 (c.in-Ok.ensures.ok _ t.1) all
+
+pub returns-then-limit-len-clause-too_long : goal.returns-then-limit-len-clause-too_long
+returns-then-limit-len-clause-too_long g c = grind (arith, common_steps)

@@ -1,5 +1,6 @@
 -- One node more.
 use Rattle.std.proofs.Common.{◌+◌, ◌-◌, ◌^◌, All, length, sym, subst, arith}
+use Rattle.std.proofs.lemmas.Grind.{common_steps}
 use Rattle.cts_model.specs.placement.Points.{IsBelow}
 use Rattle.cts_model.specs.tree.Embeddings.{AreWiresDown}
 use Rattle.cts_model.specs.report.ReportLines.{number_at}
@@ -48,3 +49,6 @@ returns-clause-small c =
     (handed_small tree.are.topology c.args.lengths.now c.requires.small c.requires.all
     c.loop-done.wires c.loop-done.done c.loop-done.invariant
     (omega (arith, c.loop-done.auto.done-end, c.requires.all, tree.judge.few)))
+
+pub loop-done-init : goal.loop-done-init
+loop-done-init c = grind (arith, common_steps)

@@ -1,0 +1,7 @@
+-- Goals that `grind` closes at once, and that `search` tries for long.
+use Rattle.std.proofs.Common.{arith}
+use Rattle.std.proofs.lemmas.Grind.{common_steps}
+use Rattle.cert_check.proofs.path.is_path.Goals as goal
+
+pub returns-then-launches : goal.returns-then-launches
+returns-then-launches c = grind (arith, common_steps)

@@ -1,0 +1,13 @@
+-- Goals that `grind` closes at once, and that `search` tries for long.
+use Rattle.std.proofs.Common.{arith}
+use Rattle.std.proofs.lemmas.Grind.{common_steps}
+use Rattle.cert_check.proofs.path.leads_to.Goals as goal
+
+pub returns-then-not-reads : goal.returns-then-not-reads
+returns-then-not-reads c = grind (arith, common_steps)
+
+pub loop-gate-preserved : goal.loop-gate-preserved
+loop-gate-preserved c = grind (arith, common_steps)
+
+pub returns : goal.returns
+returns c = grind (arith, common_steps)
