@@ -5,7 +5,8 @@ usage: bench/slowest.py [--count N] NAME..     N rows for all crates together, 2
 
 A check keeps a file for each module, and the file's time says when the module ended: a module took the time since the one before
 it. `body` is a function's code with all that it drops, `goals` what the search closes, `answers` what is answered in proofs/. What is
-kept of the crates' earlier checks is removed first. Seconds are those of the clock: nothing else should run.
+kept of the crates' earlier checks is removed first, and crates below of which nothing is kept are proved before. Seconds are those of
+the clock: nothing else should run.
 """
 
 import argparse
