@@ -1,7 +1,8 @@
 -- The registers of one signal more; where no signal waits, they become the list.
-use Rattle.std.proofs.Common.{refl}
+use Rattle.std.proofs.Common.{refl, arith}
 use Rattle.path_delays.specs.declared.capturing.Capturing.{Capturing}
 use Rattle.path_delays.proofs.CapturingLemmas.{HasCaptureRoom-same, gathered_all, gathering_next, gathering_room}
+use Rattle.std.proofs.lemmas.Grind.{common_steps}
 use Rattle.path_delays.proofs.capturing.Capturing.gather.Goals as goal
 
 pub insert_all-requires : goal.insert_all-requires
@@ -77,3 +78,12 @@ returns c =
       reached = c.in_default.ensures.covers;
       found = c.in_ok-take_all.ensures.covers;
     }) c.in_default.ensures.none c.in_ok-take_all.ensures.listed c.loop-signal.invariant
+
+pub loop-signal-init : goal.loop-signal-init
+loop-signal-init c = grind (arith, common_steps)
+
+pub overflow_add-next : goal.overflow_add-next
+overflow_add-next c = grind (arith, common_steps)
+
+pub loop-signal-smaller : goal.loop-signal-smaller
+loop-signal-smaller c = grind (arith, common_steps)

@@ -1,6 +1,7 @@
 -- The readers, the ranks and the delays are those of the circuit.
 use Rattle.std.proofs.Common.{◌≡◌, arith, ◌∙◌}
 use Rattle.path_delays.proofs.NetworkLemmas.{AreReaders-grouped, AreRanks-placed, weights_once, few_gates}
+use Rattle.std.proofs.lemmas.Grind.{common_steps}
 use Rattle.path_delays.proofs.network.Network.new.Goals as goal
 
 pub places-requires-clause-few : goal.places-requires-clause-few
@@ -24,3 +25,6 @@ returns-clause-network c =
       delays = c.in_ok-delays.ensures;
       inputs = c.in_ok-inputs.ensures;
     }
+
+pub of-requires-clause-few : goal.of-requires-clause-few
+of-requires-clause-few c = grind (arith, common_steps)
