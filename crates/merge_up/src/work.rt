@@ -64,11 +64,6 @@ impl Work {
         requires few { sinks ≤ 4097 }
         ensures { IfOk result (IsFresh sinks) }
     {
-        let tree = Tree {
-            reach: Listed::from_vec(vec![in alloc; 0i128; 2 * sinks]?),
-            place: Listed::from_vec(vec![in alloc; Point { x: 0, y: 0 }; 2 * sinks]?),
-            length: Listed::from_vec(vec![in alloc; 0i128; 2 * sinks - 1]?),
-        };
         let origin = Uv { u: 0, v: 0 };
         let sink = Sink {
             at: origin,
@@ -76,11 +71,11 @@ impl Work {
         };
         Ok(Work {
             sinks: 0,
-            tree,
             regions: Listed::from_vec(vec![in alloc; Rect::point(origin); 2 * sinks - 1]?),
             ends: Listed::from_vec(vec![in alloc; Ends::of(0, sink); sinks - 1]?),
             shows: Listed::from_vec(vec![in alloc; Show::Root; sinks]?),
             settled: vec![in alloc; false; 2 * sinks]?,
+            tree: tree_with_room(alloc, sinks)?,
             renewals: 0,
         })
     }
@@ -327,4 +322,19 @@ impl Work {
     {
         self.sinks = sinks;
     }
+}
+
+// The lists of a tree over so many sinks.
+fn tree_with_room(alloc: Global, sinks: usize) -> Result<Tree, NoMemory>
+    requires few { sinks ≤ 4097 }
+    requires some { 1 ≤ sinks }
+    ensures reaches { IfOk result (λ tree. length tree.reach ≡ 2 * sinks) }
+    ensures places { IfOk result (λ tree. length tree.place ≡ 2 * sinks) }
+    ensures lengths { IfOk result (λ tree. length tree.length + 1 ≡ 2 * sinks) }
+{
+    Ok(Tree {
+        reach: Listed::from_vec(vec![in alloc; 0i128; 2 * sinks]?),
+        place: Listed::from_vec(vec![in alloc; Point { x: 0, y: 0 }; 2 * sinks]?),
+        length: Listed::from_vec(vec![in alloc; 0i128; 2 * sinks - 1]?),
+    })
 }

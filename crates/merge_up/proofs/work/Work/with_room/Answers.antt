@@ -7,15 +7,11 @@ pub returns : goal.returns
 returns c = record {
   fit = fit_state (record {
     sinks = 0;
-    tree = record {
-      reach = c.from_vec.result;
-      place = c.from_vec-2.result;
-      length = c.from_vec-3.result;
-    };
-    regions = c.from_vec-4.result;
-    ends = c.from_vec-5.result;
-    shows = c.from_vec-6.result;
-    settled = c.in_ok-vec-7.field-0;
+    tree = c.in_ok-tree_with_room.field-0;
+    regions = c.from_vec.result;
+    ends = c.from_vec-2.result;
+    shows = c.from_vec-3.result;
+    settled = c.in_ok-vec-4.field-0;
     renewals = 0;
   }) (search rules);
   room = search rules;
