@@ -1,7 +1,7 @@
-use crate::same::expect_same;
+use crate::same::{expect_same, made};
 use bench_reader::{BenchFault, Which, read_bench};
 use cts_model::{Circuit, Kind};
-use std::alloc::{AllocError, Global};
+use std::alloc::Global;
 use std::process::Abort;
 
 fn read(rt: &impl Abort, alloc: Global, text: &[u8]) -> Result<Circuit, BenchFault> {
@@ -197,24 +197,30 @@ fn names_a_ring_of_gates(rt: HostRuntime) {
 }
 
 // A first line that names so many bytes, and what stands after it.
-fn long_name(alloc: Global, length: usize, suffix: &str) -> Result<Vec<u8>, AllocError> {
-    let mut text = Vec::from_slice(alloc, b"INPUT(")?;
-    text.extend_from_slice(&vec![in alloc; b'x'; length]?)?;
-    text.extend_from_slice(suffix.as_bytes())?;
-    Ok(text)
+fn long_name(rt: &impl Abort, alloc: Global, length: usize, suffix: &str) -> Vec<u8> {
+    let mut text = made(rt, Vec::from_slice(alloc, b"INPUT("));
+    made(
+        rt,
+        text.extend_from_slice(&made(rt, vec![in alloc; b'x'; length])),
+    );
+    made(rt, text.extend_from_slice(suffix.as_bytes()));
+    text
 }
 
 fn with_long_name(rt: &impl Abort, alloc: Global, length: usize) -> Result<Circuit, BenchFault> {
-    let text = long_name(alloc, length, ")\na = DFF(a)").expect(rt, "memory");
+    let text = long_name(rt, alloc, length, ")\na = DFF(a)");
     read(rt, alloc, &text)
 }
 
 // A gate whose kind is a word of so many bytes.
-fn long_kind(alloc: Global, length: usize) -> Result<Vec<u8>, AllocError> {
-    let mut text = Vec::from_slice(alloc, b"a = ")?;
-    text.extend_from_slice(&vec![in alloc; b'K'; length]?)?;
-    text.extend_from_slice(b"(a)")?;
-    Ok(text)
+fn long_kind(rt: &impl Abort, alloc: Global, length: usize) -> Vec<u8> {
+    let mut text = made(rt, Vec::from_slice(alloc, b"a = "));
+    made(
+        rt,
+        text.extend_from_slice(&made(rt, vec![in alloc; b'K'; length])),
+    );
+    made(rt, text.extend_from_slice(b"(a)"));
+    text
 }
 
 #[test]
@@ -225,7 +231,7 @@ fn counts_the_bytes_of_names(rt: HostRuntime) {
     let more = with_long_name(&rt, rt.alloc(), 256).err();
     assert!(rt; matches!(more, Some(BenchFault::TooLarge(1, Which::Name))));
     // A word for a kind may be as long as it likes: it is no kind.
-    let text = long_kind(rt.alloc(), 256).expect(&rt, "memory");
+    let text = long_kind(&rt, rt.alloc(), 256);
     let fault = fault_of(&rt, rt.alloc(), &text);
     assert!(rt; matches!(fault, BenchFault::UnknownKind(1)));
 }

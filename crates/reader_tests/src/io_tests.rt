@@ -1,7 +1,7 @@
 ghost use Rattle.std.specs.Prelude.{◌≤◌};
 
 use crate::held_files::held_files;
-use crate::same::expect_same;
+use crate::same::{expect_same, made};
 use cts_io::{
     Failed, HostInputs, HostSink, Inputs, MemoryInputs, MemorySink, ReadWhole, StartFault,
     read_whole, write_whole,
@@ -9,7 +9,6 @@ use cts_io::{
 use std::alloc::Global;
 use std::fs;
 use std::process::Abort;
-use std::test::Fail;
 
 // Two files of one name, one of no bytes, and one of a single line.
 const FILES: [(&str, &str); 4] = [
@@ -146,19 +145,18 @@ fn writes_until_a_write_fails(rt: HostRuntime) {
 }
 
 #[test]
-fn reads_files_of_the_host(rt: HostRuntime) -> Result<(), Fail> {
+fn reads_files_of_the_host(rt: HostRuntime) {
     let alloc = rt.alloc();
     let name = "cts_io_test.txt";
-    fs::write(&rt, name, "one\ntwo\n")?;
+    made(&rt, fs::write(&rt, name, "one\ntwo\n"));
     let mut inputs = HostInputs::new(&rt);
-    let bytes = read_whole(alloc, &mut inputs, name, 8)?;
+    let bytes = made(&rt, read_whole(alloc, &mut inputs, name, 8));
     expect_same(&rt, bytes.as_slice(), b"one\ntwo\n".as_slice(), &"bytes");
-    fs::remove_file(&rt, name)?;
+    made(&rt, fs::remove_file(&rt, name));
     let gone = read_whole(alloc, &mut inputs, name, 8);
     expect_same(&rt, gone.err(), Some(ReadWhole::Failed), &"gone");
     let folder = read_whole(alloc, &mut inputs, ".", 8);
     expect_same(&rt, folder.err(), Some(ReadWhole::Failed), &"folder");
-    Ok(())
 }
 
 fn expect_file(rt: &impl Abort, alloc: Global, inputs: &mut impl Inputs, name: &str, text: &str) {
@@ -176,17 +174,17 @@ fn expect_missing(rt: &impl Abort, inputs: &mut impl Inputs, name: &str) {
 
 // Each name is a file of its own: no blank, no `./` and no folder is taken from it.
 #[test]
-fn opens_exactly_the_named_file(rt: HostRuntime) -> Result<(), Fail> {
+fn opens_exactly_the_named_file(rt: HostRuntime) {
     let files: [(&str, &str); 4] = [
         ("cts_io_names/a", "plain"),
         ("cts_io_names/a ", "blank behind"),
         ("cts_io_names/ a", "blank in front"),
         ("cts_io_names/in/a", "inner"),
     ];
-    fs::create_dir(&rt, "cts_io_names")?;
-    fs::create_dir(&rt, "cts_io_names/in")?;
+    made(&rt, fs::create_dir(&rt, "cts_io_names"));
+    made(&rt, fs::create_dir(&rt, "cts_io_names/in"));
     for (name, text) in files.as_slice() {
-        fs::write(&rt, *name, *text)?;
+        made(&rt, fs::write(&rt, *name, *text));
     }
     let mut inputs = HostInputs::new(&rt);
     for (name, text) in files.as_slice() {
@@ -206,30 +204,28 @@ fn opens_exactly_the_named_file(rt: HostRuntime) -> Result<(), Fail> {
     {
         expect_missing(&rt, &mut inputs, name);
     }
-    fs::remove_dir_all(&rt, "cts_io_names")?;
-    Ok(())
+    made(&rt, fs::remove_dir_all(&rt, "cts_io_names"));
 }
 
 #[test]
-fn reports_that_the_host_writes_no_more(rt: HostRuntime) -> Result<(), Fail> {
+fn reports_that_the_host_writes_no_more(rt: HostRuntime) {
     let alloc = rt.alloc();
     let name = "cts_io_test_written.txt";
-    let mut sink = HostSink::new(fs::create(&rt, name)?);
+    let mut sink = HostSink::new(made(&rt, fs::create(&rt, name)));
     expect_same(
         &rt,
         write_whole(&mut sink, b"one\ntwo\n"),
         Ok(()),
         &"write_whole",
     );
-    let bytes = read_whole(alloc, &mut HostInputs::new(&rt), name, 8)?;
+    let bytes = made(&rt, read_whole(alloc, &mut HostInputs::new(&rt), name, 8));
     expect_same(&rt, bytes.as_slice(), b"one\ntwo\n".as_slice(), &"bytes");
-    fs::remove_file(&rt, name)?;
-    let mut full = HostSink::new(fs::create(&rt, "/dev/full")?);
+    made(&rt, fs::remove_file(&rt, name));
+    let mut full = HostSink::new(made(&rt, fs::create(&rt, "/dev/full")));
     expect_same(
         &rt,
         write_whole(&mut full, b"one"),
         Err(Failed),
         &"write_whole",
     );
-    Ok(())
 }

@@ -1,9 +1,8 @@
-use crate::same::expect_same;
+use crate::same::{expect_same, made};
 use bench_reader::read_bench;
 use cts_model::{FanIn, Kind, Tech, used_kinds, with_host};
 use std::alloc::Global;
 use std::process::Abort;
-use std::test::Fail;
 
 fn expect_pushed(rt: &impl Abort, fan_in: &mut FanIn, item: u32, wanted: &[u32]) {
     expect_same(rt, fan_in.push(item), Ok(()), &"fan_in.push");
@@ -51,22 +50,18 @@ fn has_a_plain_table(rt: HostRuntime) {
     }
 }
 
-fn expect_host(
-    rt: &impl Abort,
-    alloc: Global,
-    text: &str,
-    outputs: &[u32],
-    registers: &[u32],
-) -> Result<(), Fail> {
+fn expect_host(rt: &impl Abort, alloc: Global, text: &str, outputs: &[u32], registers: &[u32]) {
     assert!(rt; text.len() <= 16_777_216);
-    let circuit = with_host(alloc, read_bench(alloc, text.as_bytes())?)?;
+    let circuit = made(
+        rt,
+        with_host(alloc, made(rt, read_bench(alloc, text.as_bytes()))),
+    );
     let host = circuit.signals.as_slice().last().expect(rt, "a host");
     expect_same(rt, host.kind, Kind::Host, &text);
     expect_same(rt, host.name.as_slice(), b"(host)".as_slice(), &text);
     expect_same(rt, host.fan_in.as_slice(), outputs, &text);
     expect_same(rt, circuit.outputs.as_slice(), outputs, &text);
     expect_same(rt, circuit.registers.as_slice(), registers, &text);
-    Ok(())
 }
 
 // A netlist, what its host reads, and its registers with the host.
@@ -86,11 +81,10 @@ const HOSTED: [(&str, &[u32], &[u32]); 3] = [
 
 // A netlist without outputs, and one whose outputs are mentioned out of order and twice.
 #[test]
-fn gives_a_circuit_the_host(rt: HostRuntime) -> Result<(), Fail> {
+fn gives_a_circuit_the_host(rt: HostRuntime) {
     for (text, outputs, registers) in &HOSTED {
-        expect_host(&rt, rt.alloc(), text, outputs, registers)?;
+        expect_host(&rt, rt.alloc(), text, outputs, registers);
     }
-    Ok(())
 }
 
 fn expect_used(rt: &impl Abort, alloc: Global, text: &str, used: [bool; 8]) {

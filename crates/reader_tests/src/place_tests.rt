@@ -1,11 +1,10 @@
-use crate::same::expect_same;
+use crate::same::{expect_same, made};
 use bench_reader::read_bench;
 use cts_base::NumberFault;
 use cts_model::{Circuit, Places, Point, with_host};
 use place_reader::{PlaceFault, read_places};
 use std::alloc::Global;
 use std::process::Abort;
-use std::test::Fail;
 
 // Three registers and nothing else.
 const REGISTERS: &str = "G5 = DFF(G6)\nG6 = DFF(G7)\nG7 = DFF(G5)\n";
@@ -15,15 +14,10 @@ fn at(x: i128, y: i128) -> Point {
 }
 
 // What a placement denotes of the three registers and the source.
-fn read(
-    rt: &impl Abort,
-    alloc: Global,
-    text: &str,
-    source: &str,
-) -> Result<Result<Places, PlaceFault>, Fail> {
+fn read(rt: &impl Abort, alloc: Global, text: &str, source: &str) -> Result<Places, PlaceFault> {
     assert!(rt; text.len() <= 16_777_216);
-    let circuit = read_bench(alloc, REGISTERS.as_bytes())?;
-    Ok(read_places(alloc, text.as_bytes(), &circuit, source.as_bytes(), b""))
+    let circuit = made(rt, read_bench(alloc, REGISTERS.as_bytes()));
+    read_places(alloc, text.as_bytes(), &circuit, source.as_bytes(), b"")
 }
 
 // The same with the host, which stands at a node of its own.
@@ -32,11 +26,14 @@ fn read_hosted(
     alloc: Global,
     text: &str,
     host: &str,
-) -> Result<Result<Places, PlaceFault>, Fail> {
+) -> Result<Places, PlaceFault> {
     assert!(rt; text.len() <= 16_777_216);
     assert!(rt; !host.is_empty());
-    let circuit = with_host(alloc, read_bench(alloc, REGISTERS.as_bytes())?)?;
-    Ok(read_places(alloc, text.as_bytes(), &circuit, b"CLK", host.as_bytes()))
+    let circuit = made(
+        rt,
+        with_host(alloc, made(rt, read_bench(alloc, REGISTERS.as_bytes()))),
+    );
+    read_places(alloc, text.as_bytes(), &circuit, b"CLK", host.as_bytes())
 }
 
 fn expect_places(rt: &impl Abort, places: &Places, source: Point, registers: &[Point], row: &str) {
@@ -45,14 +42,13 @@ fn expect_places(rt: &impl Abort, places: &Places, source: Point, registers: &[P
 }
 
 // G5 at (1, 2), G6 at (3, 4), G7 at (5, 6) and the source at (7, 8), in millionths.
-fn expect_millionths(rt: &impl Abort, alloc: Global, text: &str) -> Result<(), Fail> {
-    let places = read(rt, alloc, text, "CLK")??;
+fn expect_millionths(rt: &impl Abort, alloc: Global, text: &str) {
+    let places = made(rt, read(rt, alloc, text, "CLK"));
     expect_places(rt, &places, at(7, 8), &[at(1, 2), at(3, 4), at(5, 6)], text);
-    Ok(())
 }
 
 #[test]
-fn takes_lenient_spellings(rt: HostRuntime) -> Result<(), Fail> {
+fn takes_lenient_spellings(rt: HostRuntime) {
     for text in [
         "G5 1e-6 2e-6\nG6 3e-6 4e-6\nG7 5e-6 6e-6\nCLK 7e-6 8e-6",
         // Any order, any orientation and its spelling, a remark with or without it.
@@ -69,25 +65,17 @@ fn takes_lenient_spellings(rt: HostRuntime) -> Result<(), Fail> {
     ]
     .as_slice()
     {
-        expect_millionths(&rt, rt.alloc(), text)?;
+        expect_millionths(&rt, rt.alloc(), text);
     }
-    Ok(())
 }
 
-fn expect_refused(
-    rt: &impl Abort,
-    alloc: Global,
-    text: &str,
-    source: &str,
-    fault: PlaceFault,
-) -> Result<(), Fail> {
-    let refused = read(rt, alloc, text, source)?.err();
+fn expect_refused(rt: &impl Abort, alloc: Global, text: &str, source: &str, fault: PlaceFault) {
+    let refused = read(rt, alloc, text, source).err();
     expect_same(rt, refused, Some(fault), &text);
-    Ok(())
 }
 
 #[test]
-fn refuses_lines(rt: HostRuntime) -> Result<(), Fail> {
+fn refuses_lines(rt: HostRuntime) {
     for (text, fault) in [
         ("UCLA pl\nG5 0 0 : N/FIXED", PlaceFault::BadLine(2)),
         ("G5 0 0 : X", PlaceFault::BadLine(1)),
@@ -129,13 +117,12 @@ fn refuses_lines(rt: HostRuntime) -> Result<(), Fail> {
     ]
     .as_slice()
     {
-        expect_refused(&rt, rt.alloc(), text, "CLK", *fault)?;
+        expect_refused(&rt, rt.alloc(), text, "CLK", *fault);
     }
-    Ok(())
 }
 
 #[test]
-fn misses_places(rt: HostRuntime) -> Result<(), Fail> {
+fn misses_places(rt: HostRuntime) {
     for (text, source, fault) in [
         ("", "CLK", PlaceFault::NoPlace(0)),
         ("UCLA pl", "CLK", PlaceFault::NoPlace(0)),
@@ -146,15 +133,14 @@ fn misses_places(rt: HostRuntime) -> Result<(), Fail> {
     ]
     .as_slice()
     {
-        expect_refused(&rt, rt.alloc(), text, source, *fault)?;
+        expect_refused(&rt, rt.alloc(), text, source, *fault);
     }
-    Ok(())
 }
 
 #[test]
-fn places_one_node_for_two(rt: HostRuntime) -> Result<(), Fail> {
+fn places_one_node_for_two(rt: HostRuntime) {
     let text = "G7 5e-6 6e-6\nG6 3e-6 4e-6\nG5 1e-6 2e-6";
-    let places = read(&rt, rt.alloc(), text, "G5")??;
+    let places = made(&rt, read(&rt, rt.alloc(), text, "G5"));
     expect_places(
         &rt,
         &places,
@@ -162,24 +148,21 @@ fn places_one_node_for_two(rt: HostRuntime) -> Result<(), Fail> {
         &[at(1, 2), at(3, 4), at(5, 6)],
         text,
     );
-    Ok(())
 }
 
 const HOSTED: &str = "(host) x y\nG5 0 1e-6\nG6 0 2e-6\nG7 0 3e-6\nCLK 0 4e-6\nPAD 0 5e-6";
 
-fn expect_host(rt: &impl Abort, alloc: Global, host: &str, place: i128) -> Result<(), Fail> {
-    let places = read_hosted(rt, alloc, HOSTED, host)??;
+fn expect_host(rt: &impl Abort, alloc: Global, host: &str, place: i128) {
+    let places = made(rt, read_hosted(rt, alloc, HOSTED, host));
     let registers = [at(0, 1), at(0, 2), at(0, 3), at(0, place)];
     expect_places(rt, &places, at(0, 4), &registers, host);
-    Ok(())
 }
 
 #[test]
-fn places_the_host(rt: HostRuntime) -> Result<(), Fail> {
-    expect_host(&rt, rt.alloc(), "PAD", 5)?;
-    expect_host(&rt, rt.alloc(), "CLK", 4)?;
-    expect_host(&rt, rt.alloc(), "G6", 2)?;
-    let refused = read_hosted(&rt, rt.alloc(), HOSTED, "pad")?.err();
+fn places_the_host(rt: HostRuntime) {
+    expect_host(&rt, rt.alloc(), "PAD", 5);
+    expect_host(&rt, rt.alloc(), "CLK", 4);
+    expect_host(&rt, rt.alloc(), "G6", 2);
+    let refused = read_hosted(&rt, rt.alloc(), HOSTED, "pad").err();
     expect_same(&rt, refused, Some(PlaceFault::NoPlace(3)), &"refused");
-    Ok(())
 }

@@ -1,3 +1,5 @@
+ghost use Rattle.std.specs.Prelude.{◌≡◌, Ok};
+
 use std::fmt::Debug;
 use std::process::Abort;
 
@@ -9,4 +11,14 @@ pub(crate) fn expect_same<T: Debug + Drop + PartialEq>(
     row: &impl Debug,
 ) {
     assert_eq!(rt; found, wanted, "at {row:?}");
+}
+
+/// What a call that may fail has made; where it failed, as where memory is refused, the test ends.
+pub(crate) fn made<T, E: Drop>(rt: &impl Abort, call: Result<T, E>) -> T
+    ensures { call ≡ Ok result }
+{
+    match call {
+        Ok(value) => value,
+        Err(_) => panic!(rt; "a call failed"),
+    }
 }

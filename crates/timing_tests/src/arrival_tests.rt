@@ -1,29 +1,29 @@
-ghost use Rattle.std.specs.Prelude.{◌≡◌, ◌^◌, All, IfOk, length};
+ghost use Rattle.std.specs.Prelude.{◌≡◌, ◌^◌, All, length};
 ghost use Rattle.cts_model.specs.placement.Points.{IsBelow};
 
 use crate::circuits::{S27, S27_GATES, circuit_of, table_of};
-use crate::same::expect_same;
+use crate::same::{expect_same, made};
 use cts_base::Listed;
 use cts_model::Schedule;
 use gate_order::levels;
 use path_delays::arrivals;
-use std::alloc::{AllocError, Global};
-use std::test::Fail;
+use std::alloc::Global;
+use std::process::Abort;
 
 // A schedule of these arrivals.
-fn schedule_of(alloc: Global, den: i128, arrivals: &[i64]) -> Result<Schedule, AllocError>
-    ensures den { IfOk result (λ schedule. schedule.den ≡ den) }
-    ensures registers { IfOk result (λ schedule. length schedule.at ≡ length arrivals.now) }
-    ensures small { IfOk result (λ schedule. All (IsBelow (10 ^ 19)) schedule.at) }
+fn schedule_of(rt: &impl Abort, alloc: Global, den: i128, arrivals: &[i64]) -> Schedule
+    ensures den { result.den ≡ den }
+    ensures registers { length result.at ≡ length arrivals.now }
+    ensures small { All (IsBelow (10 ^ 19)) result.at }
 {
     let mut at = Vec::new(alloc);
     for arrival in arrivals {
-        at.push(widened(*arrival))?;
+        made(rt, at.push(widened(*arrival)));
     }
-    Ok(Schedule {
+    Schedule {
         den,
         at: Listed::from_vec(at),
-    })
+    }
 }
 
 // An arrival, whose size is below 10^19.
@@ -35,21 +35,23 @@ fn widened(arrival: i64) -> i128
 
 // The arrivals at the registers of s27 are 2, 0 and 0.
 #[test]
-fn finds_when_launches_arrive(rt: HostRuntime) -> Result<(), Fail> {
+fn finds_when_launches_arrive(rt: HostRuntime) {
     let alloc = rt.alloc();
-    let circuit = circuit_of(&rt, alloc, S27, false)?;
-    let tech = table_of(alloc, &circuit, (1, 1, 1, 2), S27_GATES)?;
-    let order = levels(alloc, &circuit)?;
+    let circuit = circuit_of(&rt, alloc, S27, false);
+    let tech = table_of(&rt, alloc, &circuit, (1, 1, 1, 2), S27_GATES);
+    let order = made(&rt, levels(alloc, &circuit));
     assert!(rt; circuit.registers.len() == 3);
-    let schedule = schedule_of(alloc, 1, &[2, 0, 0])?;
+    let schedule = schedule_of(&rt, alloc, 1, &[2, 0, 0]);
     let mut text = String::new(alloc);
-    for window in arrivals(alloc, &circuit, &order, &tech, &schedule)?.as_slice() {
+    for window in made(&rt, arrivals(alloc, &circuit, &order, &tech, &schedule)).as_slice() {
         let times = match window {
-            None => format!(in alloc; "none ")?,
-            Some(window) => format!(in alloc; "{} {} ", window.earliest, window.latest)?,
+            None => made(&rt, format!(in alloc; "none ")),
+            Some(window) => made(
+                &rt,
+                format!(in alloc; "{} {} ", window.earliest, window.latest),
+            ),
         };
-        text.push_str(times.as_str())?;
+        made(&rt, text.push_str(times.as_str()));
     }
     expect_same(&rt, text.as_str(), "5 14 4 12 3 6 ", &"text.as_str");
-    Ok(())
 }

@@ -1,11 +1,11 @@
 //! Circuits and delay tables that the tests of several crates share.
 
+use crate::same::made;
 use bench_reader::read_bench;
 use cts_model::{Circuit, Tech, used_kinds, with_host};
 use delay_tables::read_tech;
-use std::alloc::{AllocError, Global};
+use std::alloc::Global;
 use std::process::Abort;
-use std::test::Fail;
 
 // The benchmark s27 of ISCAS'89: registers G5, G6 and G7.
 pub(crate) const S27: &str = "INPUT(G0)\nINPUT(G1)\nINPUT(G2)\nINPUT(G3)\nOUTPUT(G17)
@@ -31,19 +31,14 @@ pub(crate) const RING: &str = "A = DFF(m)\nB = DFF(A)\nm = BUFF(B)";
 pub(crate) const TO_OUTPUT: &str = "INPUT(x)\nOUTPUT(g)\nA = DFF(x)\ng = NOT(A)";
 
 // The circuit of a text, which is short enough for a file, with the host or without.
-pub(crate) fn circuit_of(
-    rt: &impl Abort,
-    alloc: Global,
-    text: &str,
-    host: bool,
-) -> Result<Circuit, Fail> {
+pub(crate) fn circuit_of(rt: &impl Abort, alloc: Global, text: &str, host: bool) -> Circuit {
     assert!(rt; text.len() <= 16_777_216);
-    let circuit = read_bench(alloc, text.as_bytes())?;
-    Ok(if host {
-        with_host(alloc, circuit)?
+    let circuit = made(rt, read_bench(alloc, text.as_bytes()));
+    if host {
+        made(rt, with_host(alloc, circuit))
     } else {
         circuit
-    })
+    }
 }
 
 // The setup and the hold time and the least and the greatest delay of registers.
@@ -51,28 +46,38 @@ pub(crate) type Registers = (u32, u32, u32, u32);
 
 // A table of registers, with the text of its other sections after them.
 pub(crate) fn table_of(
+    rt: &impl Abort,
     alloc: Global,
     circuit: &Circuit,
     registers: Registers,
     rest: &str,
-) -> Result<Tech, Fail> {
+) -> Tech {
     let (setup, hold, least, greatest) = registers;
-    let text = format!(in alloc;
-        "[wire]\ndelay = \"1/1\"\n[source]\nplace = \"CLK\"\n[register]\nsetup = {setup}
+    let text = made(
+        rt,
+        format!(in alloc;
+            "[wire]\ndelay = \"1/1\"\n[source]\nplace = \"CLK\"\n[register]\nsetup = {setup}
 hold = {hold}\nleast = {least}\ngreatest = {greatest}\n{rest}"
-    )?;
-    Ok(read_tech(alloc, text.as_bytes(), &used_kinds(circuit))?)
+        ),
+    );
+    made(rt, read_tech(alloc, text.as_bytes(), &used_kinds(circuit)))
 }
 
 // A gate that reads 1,024 registers, and so many registers that capture it.
-pub(crate) fn wide(alloc: Global, capturing: u32) -> Result<String, AllocError> {
-    let mut text = format!(in alloc; "g = OR(r0")?;
+pub(crate) fn wide(rt: &impl Abort, alloc: Global, capturing: u32) -> String {
+    let mut text = made(rt, format!(in alloc; "g = OR(r0"));
     for register in 1..1024u32 {
-        text.push_str(format!(in alloc; ", r{register}")?.as_str())?;
+        made(
+            rt,
+            text.push_str(made(rt, format!(in alloc; ", r{register}")).as_str()),
+        );
     }
-    text.push_str(")\n")?;
+    made(rt, text.push_str(")\n"));
     for register in 0..capturing {
-        text.push_str(format!(in alloc; "r{register} = DFF(g)\n")?.as_str())?;
+        made(
+            rt,
+            text.push_str(made(rt, format!(in alloc; "r{register} = DFF(g)\n")).as_str()),
+        );
     }
-    Ok(text)
+    text
 }

@@ -1,15 +1,15 @@
 //! Lists of constraints that the tests of several crates share, and periods that they admit.
-ghost use Rattle.std.specs.Prelude.{◌≡◌, ◌<◌, ◌*ℤ◌, pos, IfOk, length, nat_abs};
+ghost use Rattle.std.specs.Prelude.{◌≡◌, ◌<◌, ◌*ℤ◌, pos, length, nat_abs};
 ghost use Rattle.cts_model.specs.timing.Constraints.{AreSmallConstraints, IsSatisfied, IsSmallConstraint, count_of};
 ghost use Rattle.cts_model.specs.timing.Schedules.{IsSmallPeriod, arrival_of};
 ghost use Rattle.schedule.specs.Schedules.{IsAdmittedBy};
 
 use crate::constraint_tests::constraint;
+use crate::same::made;
 use cts_base::{Fraction, Listed};
 use cts_model::Constraint;
-use std::alloc::{AllocError, Global};
+use std::alloc::Global;
 use std::process::Abort;
-use std::test::Fail;
 
 // A constraint: whether it is a setup constraint, its tail, its head and its weight.
 pub(crate) type Row = (bool, u32, u32, i128);
@@ -65,15 +65,15 @@ pub(crate) fn s27() -> [Constraint; 14] {
 
 // The constraints of 4,096 registers in a ring: each register and each way takes a tick, and the
 // way from the first to the second register up to a tick more.
-pub(crate) fn slow_ring(alloc: Global) -> Result<Vec<Constraint>, AllocError> {
+pub(crate) fn slow_ring(rt: &impl Abort, alloc: Global) -> Vec<Constraint> {
     let mut constraints = Vec::new(alloc);
     for register in 0..4096u32 {
         let next = (register + 1) % 4096;
         let slow = if register == 0 { 3 } else { 2 };
-        constraints.push(setup(register, next, slow))?;
-        constraints.push(hold(next, register, -1))?;
+        made(rt, constraints.push(setup(register, next, slow)));
+        made(rt, constraints.push(hold(next, register, -1)));
     }
-    Ok(constraints)
+    constraints
 }
 
 // The constraint, which is small.
@@ -93,17 +93,17 @@ pub(crate) fn list_of(
     alloc: Global,
     registers: usize,
     constraints: &[Constraint],
-) -> Result<Listed<Constraint>, Fail>
-    ensures { IfOk result (AreSmallConstraints registers) }
+) -> Listed<Constraint>
+    ensures { AreSmallConstraints registers result }
 {
     assert!(rt; registers >= 1);
     assert!(rt; registers <= 4097);
     assert!(rt; constraints.len() <= 2_097_152);
     let mut list = Listed::new(alloc);
     for constraint in constraints {
-        list.push(small(rt, registers, *constraint))?;
+        made(rt, list.push(small(rt, registers, *constraint)));
     }
-    Ok(list)
+    list
 }
 
 // A small period.

@@ -1,13 +1,12 @@
-ghost use Rattle.std.specs.Prelude.{All, IfOk};
+ghost use Rattle.std.specs.Prelude.{All};
 ghost use Rattle.cts_model.specs.timing.PairLists.{IsSmallPair};
 
-use crate::same::expect_same;
+use crate::same::{expect_same, made};
 use constraints::constraints_of;
-use cts_base::{Listed, NoMemory};
+use cts_base::Listed;
 use cts_model::{Constraint, PairDelay, Tech};
 use std::alloc::Global;
 use std::process::Abort;
-use std::test::Fail;
 
 // Two registers, and the least and the greatest delay between them.
 type Row = (u32, u32, u32, u32);
@@ -23,14 +22,14 @@ fn pair(row: Row) -> PairDelay
     }
 }
 
-fn listed(alloc: Global, rows: &[Row]) -> Result<Listed<PairDelay>, NoMemory>
-    ensures { IfOk result (All IsSmallPair) }
+fn listed(rt: &impl Abort, alloc: Global, rows: &[Row]) -> Listed<PairDelay>
+    ensures { All IsSmallPair result }
 {
     let mut pairs = Listed::new(alloc);
     for row in rows {
-        pairs.push(pair(*row))?;
+        made(rt, pairs.push(pair(*row)));
     }
-    Ok(pairs)
+    pairs
 }
 
 pub(crate) fn constraint(row: (bool, u32, u32, i128)) -> Constraint {
@@ -48,17 +47,16 @@ fn expect_constraints(
     alloc: Global,
     rows: &[Row],
     wanted: &[(bool, u32, u32, i128)],
-) -> Result<(), Fail> {
+) {
     let mut tech = Tech::plain(alloc);
     tech.setup = 3;
     tech.hold = 2;
-    let pairs = listed(alloc, rows)?;
-    let constraints = constraints_of(alloc, &pairs, &tech)?;
+    let pairs = listed(rt, alloc, rows);
+    let constraints = made(rt, constraints_of(alloc, &pairs, &tech));
     expect_same(rt, constraints.len(), wanted.len(), &rows);
     for (found, row) in constraints.as_slice().iter().zip(wanted) {
         expect_same(rt, *found, constraint(*row), &rows);
     }
-    Ok(())
 }
 
 // Pairs, and the constraints that they give.
@@ -78,9 +76,8 @@ const CONSTRAINTS: [(&[Row], &[(bool, u32, u32, i128)]); 3] = [
 ];
 
 #[test]
-fn lists_the_constraints_of_pairs(rt: HostRuntime) -> Result<(), Fail> {
+fn lists_the_constraints_of_pairs(rt: HostRuntime) {
     for (rows, wanted) in &CONSTRAINTS {
-        expect_constraints(&rt, rt.alloc(), rows, wanted)?;
+        expect_constraints(&rt, rt.alloc(), rows, wanted);
     }
-    Ok(())
 }

@@ -1,13 +1,12 @@
 use crate::constraint_lists::{Row, constraints_of};
 use crate::constraint_tests::constraint;
 use crate::corner_lists::expect_corners;
-use crate::same::expect_same;
+use crate::same::{expect_same, made};
 use corners::combine;
 use cts_base::Listed;
 use cts_model::Constraint;
 use std::alloc::Global;
 use std::process::Abort;
-use std::test::Fail;
 
 // The lists of corners, which have these constraints.
 fn lists_of(rt: &impl Abort, alloc: Global, corners: &[&[Row]]) -> Listed<Listed<Constraint>> {
@@ -34,13 +33,12 @@ fn expect_combined(
     corners: &[&[Row]],
     rows: &[Row],
     numbers: &[u32],
-) -> Result<(), Fail> {
+) {
     let lists = lists_of(rt, alloc, corners);
     expect_corners(rt, lists.as_slice());
-    let combined = combine(alloc, &lists)?;
+    let combined = made(rt, combine(alloc, &lists));
     assert!(rt; is_list(&combined.constraints, rows), "at {numbers:?}");
     expect_same(rt, combined.corner.as_slice(), numbers, &rows);
-    Ok(())
 }
 
 // Two registers in a ring, of 7 ticks and of 4.
@@ -81,9 +79,8 @@ const COMBINED: [(&[&[Row]], &[Row], &[u32]); 4] = [
 ];
 
 #[test]
-fn combines_the_lists_of_corners(rt: HostRuntime) -> Result<(), Fail> {
+fn combines_the_lists_of_corners(rt: HostRuntime) {
     for (corners, rows, numbers) in &COMBINED {
-        expect_combined(&rt, rt.alloc(), corners, rows, numbers)?;
+        expect_combined(&rt, rt.alloc(), corners, rows, numbers);
     }
-    Ok(())
 }

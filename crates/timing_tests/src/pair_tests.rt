@@ -2,15 +2,14 @@ use crate::circuits::{
     RING, Registers, S27, S27_GATES, TO_OUTPUT, TWO_WAYS, TWO_WAYS_GATES, circuit_of, table_of,
     wide,
 };
-use crate::same::expect_same;
+use crate::same::{expect_same, made};
 use constraints::constraints_of;
 use cts_base::Listed;
 use cts_model::{Circuit, PairDelay, Tech, ZeroSkew};
 use gate_order::levels;
 use path_delays::{PairFault, Paths, delays_between, pair_delay, pair_delays, path_of};
-use std::alloc::{AllocError, Global};
+use std::alloc::Global;
 use std::process::Abort;
-use std::test::Fail;
 use timing_report::zero_skew;
 
 // Two registers, and the least and the greatest delay between them.
@@ -64,11 +63,11 @@ const S27_HOST_PAIRS: [Row; 14] = [
     (3, 3, 7, 9),
 ];
 
-fn expect_s27(rt: &impl Abort, alloc: Global, host: bool, rows: &[Row]) -> Result<(), Fail> {
+fn expect_s27(rt: &impl Abort, alloc: Global, host: bool, rows: &[Row]) {
     let tech = Tech::plain(alloc);
-    let circuit = circuit_of(rt, alloc, S27, host)?;
-    let order = levels(alloc, &circuit)?;
-    let pairs = pair_delays(alloc, &circuit, &order, &tech)?;
+    let circuit = circuit_of(rt, alloc, S27, host);
+    let order = made(rt, levels(alloc, &circuit));
+    let pairs = made(rt, pair_delays(alloc, &circuit, &order, &tech));
     expect_same(rt, pairs.len(), rows.len(), &"pairs.len");
     let count = circuit.registers.len();
     for (pair, (from, to, least, greatest)) in pairs.as_slice().iter().zip(rows) {
@@ -82,18 +81,20 @@ fn expect_s27(rt: &impl Abort, alloc: Global, host: bool, rows: &[Row]) -> Resul
         assert!(rt; (pair.from as usize) < count);
         assert!(rt; (pair.to as usize) < count);
         for (longest, delay) in [(true, *greatest), (false, *least)].as_slice() {
-            let path = path_of(alloc, &circuit, &order, &tech, pair.from, pair.to, *longest)?;
-            let length = path.ok_or("a path")?.len();
+            let path = made(
+                rt,
+                path_of(alloc, &circuit, &order, &tech, pair.from, pair.to, *longest),
+            );
+            let length = path.expect(rt, "a path").len();
             assert!(rt; length < 100);
             expect_same(rt, length as i128 + 2, *delay, &(from, to));
         }
     }
-    Ok(())
 }
 
 #[test]
-fn finds_the_delays_of_s27(rt: HostRuntime) -> Result<(), Fail> {
-    expect_s27(&rt, rt.alloc(), false, &S27_PAIRS)?;
+fn finds_the_delays_of_s27(rt: HostRuntime) {
+    expect_s27(&rt, rt.alloc(), false, &S27_PAIRS);
     expect_s27(&rt, rt.alloc(), true, &S27_HOST_PAIRS)
 }
 
@@ -106,11 +107,11 @@ fn expect_pairs(
     registers: Registers,
     rest: &str,
     rows: &[Row],
-) -> Result<(), Fail> {
-    let circuit = circuit_of(rt, alloc, text, host)?;
-    let tech = table_of(alloc, &circuit, registers, rest)?;
-    let order = levels(alloc, &circuit)?;
-    let pairs = pair_delays(alloc, &circuit, &order, &tech)?;
+) {
+    let circuit = circuit_of(rt, alloc, text, host);
+    let tech = table_of(rt, alloc, &circuit, registers, rest);
+    let order = made(rt, levels(alloc, &circuit));
+    let pairs = made(rt, pair_delays(alloc, &circuit, &order, &tech));
     expect_same(rt, pairs.len(), rows.len(), &text);
     for (found, row) in pairs.as_slice().iter().zip(rows) {
         expect_same(rt, *found, pair(*row), &text);
@@ -119,12 +120,11 @@ fn expect_pairs(
     for from in 0..4u32 {
         for to in 0..4u32 {
             if (from as usize) < count && (to as usize) < count {
-                let alone = pair_delay(alloc, &circuit, &order, &tech, from, to)?;
+                let alone = made(rt, pair_delay(alloc, &circuit, &order, &tech, from, to));
                 expect_same(rt, alone, row_of(rows, from, to), &(from, to, text));
             }
         }
     }
-    Ok(())
 }
 
 // A netlist, whether it has the host, its registers and gates, and the pairs.
@@ -202,44 +202,43 @@ a1 = NAND(r1, r1)\nb0 = XOR(a0, x)\nb1 = BUFF(a1)",
 ];
 
 #[test]
-fn finds_the_delays_of_tables(rt: HostRuntime) -> Result<(), Fail> {
+fn finds_the_delays_of_tables(rt: HostRuntime) {
     for (text, host, registers, rest, rows) in &PAIRS {
-        expect_pairs(&rt, rt.alloc(), text, *host, *registers, rest, rows)?;
+        expect_pairs(&rt, rt.alloc(), text, *host, *registers, rest, rows);
     }
-    Ok(())
 }
 
 // Pairs that are asked for in any order, of which paths join two.
 #[test]
-fn finds_the_delays_of_given_pairs(rt: HostRuntime) -> Result<(), Fail> {
+fn finds_the_delays_of_given_pairs(rt: HostRuntime) {
     let alloc = rt.alloc();
-    let circuit = circuit_of(&rt, alloc, S27, false)?;
-    let tech = table_of(alloc, &circuit, (1, 1, 1, 2), S27_GATES)?;
-    let order = levels(alloc, &circuit)?;
+    let circuit = circuit_of(&rt, alloc, S27, false);
+    let tech = table_of(&rt, alloc, &circuit, (1, 1, 1, 2), S27_GATES);
+    let order = made(&rt, levels(alloc, &circuit));
     assert!(rt; circuit.registers.len() == 3);
     let asked = [(2, 0), (0, 2), (1, 1)];
-    let found = delays_between(alloc, &circuit, &order, &tech, &asked)?;
+    let found = made(&rt, delays_between(alloc, &circuit, &order, &tech, &asked));
     let wanted = [Some(pair((2, 0, 7, 13))), None, Some(pair((1, 1, 7, 12)))];
     expect_same(&rt, found.as_slice(), wanted.as_slice(), &"found");
-    Ok(())
 }
 
 // The names of signals, a space after each, and nothing where no path is.
 fn names_of(
+    rt: &impl Abort,
     alloc: Global,
     circuit: &Circuit,
     path: &Option<Listed<u32>>,
-) -> Result<Vec<u8>, AllocError> {
+) -> Vec<u8> {
     let mut names = Vec::new(alloc);
     if let Some(path) = path {
         for number in path.as_slice() {
             if let Some(signal) = circuit.signals.get(*number as usize) {
-                names.extend_from_slice(signal.name.as_slice())?;
-                names.extend_from_slice(b" ")?;
+                made(rt, names.extend_from_slice(signal.name.as_slice()));
+                made(rt, names.extend_from_slice(b" "));
             }
         }
     }
-    Ok(names)
+    names
 }
 
 // A path between two registers: whether it is the greatest, and its names. Of two paths with the
@@ -253,20 +252,22 @@ fn expect_path(
     registers: Registers,
     rest: &str,
     (from, to, greatest, one, other): Path,
-) -> Result<(), Fail> {
-    let circuit = circuit_of(rt, alloc, text, false)?;
-    let tech = table_of(alloc, &circuit, registers, rest)?;
-    let order = levels(alloc, &circuit)?;
+) {
+    let circuit = circuit_of(rt, alloc, text, false);
+    let tech = table_of(rt, alloc, &circuit, registers, rest);
+    let order = made(rt, levels(alloc, &circuit));
     let count = circuit.registers.len();
     assert!(rt; (from as usize) < count);
     assert!(rt; (to as usize) < count);
-    let path = path_of(alloc, &circuit, &order, &tech, from, to, greatest)?;
-    let names = names_of(alloc, &circuit, &path)?;
+    let path = made(
+        rt,
+        path_of(alloc, &circuit, &order, &tech, from, to, greatest),
+    );
+    let names = names_of(rt, alloc, &circuit, &path);
     assert!(rt;
         names.as_slice() == one.as_bytes() || names.as_slice() == other.as_bytes(),
         "{from} {to} at {text:?}"
     );
-    Ok(())
 }
 
 const PATHS: [(&str, Registers, &str, Path); 7] = [
@@ -305,11 +306,10 @@ const PATHS: [(&str, Registers, &str, Path); 7] = [
 ];
 
 #[test]
-fn finds_the_paths_of_tables(rt: HostRuntime) -> Result<(), Fail> {
+fn finds_the_paths_of_tables(rt: HostRuntime) {
     for (text, registers, rest, path) in &PATHS {
-        expect_path(&rt, rt.alloc(), text, *registers, rest, *path)?;
+        expect_path(&rt, rt.alloc(), text, *registers, rest, *path);
     }
-    Ok(())
 }
 
 // Signals of a setup and a hold constraint's path for each pair: nothing is left of the first eight
@@ -317,18 +317,18 @@ fn finds_the_paths_of_tables(rt: HostRuntime) -> Result<(), Fail> {
 const S27_PATH_LENGTHS: [usize; 14] = [3, 3, 2, 2, 6, 6, 5, 5, 6, 6, 5, 5, 3, 3];
 
 #[test]
-fn finds_the_paths_of_constraints(rt: HostRuntime) -> Result<(), Fail> {
+fn finds_the_paths_of_constraints(rt: HostRuntime) {
     let alloc = rt.alloc();
     let tech = Tech::plain(alloc);
-    let circuit = circuit_of(&rt, alloc, S27, false)?;
-    let order = levels(alloc, &circuit)?;
-    let pairs = pair_delays(alloc, &circuit, &order, &tech)?;
-    let constraints = constraints_of(alloc, &pairs, &tech)?;
-    let mut search = Paths::new(alloc, &circuit, &order, &tech)?;
-    let paths = search.of_constraints(alloc, constraints.as_slice())?;
+    let circuit = circuit_of(&rt, alloc, S27, false);
+    let order = made(&rt, levels(alloc, &circuit));
+    let pairs = made(&rt, pair_delays(alloc, &circuit, &order, &tech));
+    let constraints = made(&rt, constraints_of(alloc, &pairs, &tech));
+    let mut search = made(&rt, Paths::new(alloc, &circuit, &order, &tech));
+    let paths = made(&rt, search.of_constraints(alloc, constraints.as_slice()));
     let mut lengths = Vec::new(alloc);
     for path in paths.as_slice() {
-        lengths.push(path.len())?;
+        made(&rt, lengths.push(path.len()));
     }
     expect_same(
         &rt,
@@ -336,22 +336,14 @@ fn finds_the_paths_of_constraints(rt: HostRuntime) -> Result<(), Fail> {
         S27_PATH_LENGTHS.as_slice(),
         &"lengths",
     );
-    Ok(())
 }
 
-fn expect_plain_zero(
-    rt: &impl Abort,
-    alloc: Global,
-    text: &str,
-    host: bool,
-    wanted: ZeroSkew,
-) -> Result<(), Fail> {
+fn expect_plain_zero(rt: &impl Abort, alloc: Global, text: &str, host: bool, wanted: ZeroSkew) {
     let tech = Tech::plain(alloc);
-    let circuit = circuit_of(rt, alloc, text, host)?;
-    let order = levels(alloc, &circuit)?;
-    let pairs = pair_delays(alloc, &circuit, &order, &tech)?;
+    let circuit = circuit_of(rt, alloc, text, host);
+    let order = made(rt, levels(alloc, &circuit));
+    let pairs = made(rt, pair_delays(alloc, &circuit, &order, &tech));
     expect_same(rt, zero_skew(&pairs, &tech), wanted, &text);
-    Ok(())
 }
 
 const PLAIN_ZEROS: [(&str, bool, ZeroSkew); 4] = [
@@ -403,20 +395,19 @@ const PLAIN_ZEROS: [(&str, bool, ZeroSkew); 4] = [
 ];
 
 #[test]
-fn reports_the_least_period_at_equal_arrivals(rt: HostRuntime) -> Result<(), Fail> {
+fn reports_the_least_period_at_equal_arrivals(rt: HostRuntime) {
     for (text, host, wanted) in &PLAIN_ZEROS {
-        expect_plain_zero(&rt, rt.alloc(), text, *host, *wanted)?;
+        expect_plain_zero(&rt, rt.alloc(), text, *host, *wanted);
     }
-    Ok(())
 }
 
 #[test]
-fn lists_1048576_pairs_and_no_more(rt: HostRuntime) -> Result<(), Fail> {
+fn lists_1048576_pairs_and_no_more(rt: HostRuntime) {
     let alloc = rt.alloc();
     let tech = Tech::plain(alloc);
-    let most = circuit_of(&rt, alloc, wide(alloc, 1024)?.as_str(), false)?;
-    let order = levels(alloc, &most)?;
-    let pairs = pair_delays(alloc, &most, &order, &tech)?;
+    let most = circuit_of(&rt, alloc, wide(&rt, alloc, 1024).as_str(), false);
+    let order = made(&rt, levels(alloc, &most));
+    let pairs = made(&rt, pair_delays(alloc, &most, &order, &tech));
     expect_same(&rt, pairs.len(), 1_048_576, &"pairs.len");
     expect_same(
         &rt,
@@ -435,8 +426,8 @@ fn lists_1048576_pairs_and_no_more(rt: HostRuntime) -> Result<(), Fail> {
         pair: pair((0, 0, 4, 4)),
     };
     expect_same(&rt, zero_skew(&pairs, &tech), wanted, &"zero_skew");
-    let more = circuit_of(&rt, alloc, wide(alloc, 1025)?.as_str(), false)?;
-    let order = levels(alloc, &more)?;
+    let more = circuit_of(&rt, alloc, wide(&rt, alloc, 1025).as_str(), false);
+    let order = made(&rt, levels(alloc, &more));
     let refused = pair_delays(alloc, &more, &order, &tech);
     expect_same(
         &rt,
@@ -444,27 +435,36 @@ fn lists_1048576_pairs_and_no_more(rt: HostRuntime) -> Result<(), Fail> {
         Some(PairFault::TooManyPairs),
         &"refused",
     );
-    Ok(())
 }
 
 // Two registers, and so many inverters one after the other from the first to the second.
-fn chain(alloc: Global, length: u32) -> Result<String, AllocError> {
-    let mut text = format!(in alloc; "INPUT(x)\nA = DFF(x)\nn0 = NOT(A)\n")?;
+fn chain(rt: &impl Abort, alloc: Global, length: u32) -> String {
+    let mut text = made(rt, format!(in alloc; "INPUT(x)\nA = DFF(x)\nn0 = NOT(A)\n"));
     for gate in 1..length {
-        let line = format!(in alloc; "n{gate} = NOT(n{})\n", gate.saturating_sub(1))?;
-        text.push_str(line.as_str())?;
+        let line = made(
+            rt,
+            format!(in alloc; "n{gate} = NOT(n{})\n", gate.saturating_sub(1)),
+        );
+        made(rt, text.push_str(line.as_str()));
     }
-    text.push_str(format!(in alloc; "B = DFF(n{})\n", length.saturating_sub(1))?.as_str())?;
-    Ok(text)
+    made(
+        rt,
+        text.push_str(made(
+            rt,
+            format!(in alloc; "B = DFF(n{})\n", length.saturating_sub(1)),
+        )
+        .as_str()),
+    );
+    text
 }
 
 #[test]
-fn adds_up_a_chain_of_60000_inverters(rt: HostRuntime) -> Result<(), Fail> {
+fn adds_up_a_chain_of_60000_inverters(rt: HostRuntime) {
     let alloc = rt.alloc();
     let tech = Tech::plain(alloc);
-    let circuit = circuit_of(&rt, alloc, chain(alloc, 60_000)?.as_str(), false)?;
-    let order = levels(alloc, &circuit)?;
-    let pairs = pair_delays(alloc, &circuit, &order, &tech)?;
+    let circuit = circuit_of(&rt, alloc, chain(&rt, alloc, 60_000).as_str(), false);
+    let order = made(&rt, levels(alloc, &circuit));
+    let pairs = made(&rt, pair_delays(alloc, &circuit, &order, &tech));
     expect_same(
         &rt,
         pairs.as_slice(),
@@ -477,7 +477,6 @@ fn adds_up_a_chain_of_60000_inverters(rt: HostRuntime) -> Result<(), Fail> {
     };
     expect_same(&rt, zero_skew(&pairs, &tech), wanted, &"zero_skew");
     assert!(rt; 1 < circuit.registers.len());
-    let path = path_of(alloc, &circuit, &order, &tech, 0, 1, false)?;
-    expect_same(&rt, path.ok_or("a path")?.len(), 60_001, &"path.ok_or");
-    Ok(())
+    let path = made(&rt, path_of(alloc, &circuit, &order, &tech, 0, 1, false));
+    expect_same(&rt, path.expect(&rt, "a path").len(), 60_001, &"path.ok_or");
 }

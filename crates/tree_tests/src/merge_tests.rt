@@ -1,12 +1,11 @@
-ghost use Rattle.std.specs.Prelude.{◌≡◌, ◌≤◌, length, slice_get, slice_set, IfOk, IsSomeAnd};
+ghost use Rattle.std.specs.Prelude.{◌≡◌, ◌≤◌, length, slice_get, slice_set, IsSomeAnd};
 
-use crate::same::expect_same;
+use crate::same::{expect_same, made};
 use crate::trees::{sink, sinks_of, topology_of};
 use cts_model::{Merge, Sink};
 use merge_up::{Work, merge};
 use std::alloc::Global;
 use std::process::Abort;
-use std::test::Fail;
 
 // A room that has merged sinks at these rotated coordinates, with these offsets.
 fn merged(
@@ -14,14 +13,14 @@ fn merged(
     alloc: Global,
     places: &[(i128, i128, i128)],
     merges: &[(u32, u32)],
-) -> Result<Work, Fail>
-    ensures { IfOk result (λ work. work.sinks ≡ length places.now) }
+) -> Work
+    ensures { result.sinks ≡ length places.now }
 {
-    let sinks = sinks_of(rt, alloc, places)?;
-    let topology = topology_of(rt, alloc, places.len(), merges)?;
-    let mut work = Work::with_room(alloc, sinks.len())?;
+    let sinks = sinks_of(rt, alloc, places);
+    let topology = topology_of(rt, alloc, places.len(), merges);
+    let mut work = made(rt, Work::with_room(alloc, sinks.len()));
     merge(&mut work, &sinks, &topology);
-    Ok(work)
+    work
 }
 
 // The reaches of its merges.
@@ -30,15 +29,15 @@ fn reaches_of(
     alloc: Global,
     places: &[(i128, i128, i128)],
     merges: &[(u32, u32)],
-) -> Result<Vec<i128>, Fail> {
+) -> Vec<i128> {
     assert!(rt; places.len() <= 4097);
     assert!(rt; places.len() == merges.len() + 1);
-    let work = merged(rt, alloc, places, merges)?;
+    let work = merged(rt, alloc, places, merges);
     let mut reaches = Vec::new(alloc);
     for place in 0..merges.len() {
-        reaches.push(work.reach((places.len() + place) as u32))?;
+        made(rt, reaches.push(work.reach((places.len() + place) as u32)));
     }
-    Ok(reaches)
+    reaches
 }
 
 fn expect_reaches(
@@ -47,10 +46,9 @@ fn expect_reaches(
     places: &[(i128, i128, i128)],
     merges: &[(u32, u32)],
     wanted: &[i128],
-) -> Result<(), Fail> {
-    let reaches = reaches_of(rt, alloc, places, merges)?;
+) {
+    let reaches = reaches_of(rt, alloc, places, merges);
     expect_same(rt, reaches.as_slice(), wanted, &places);
-    Ok(())
 }
 
 // Sinks on the line y = 0, where both rotated coordinates are x; their merges, and the reaches.
@@ -79,11 +77,10 @@ const REACHES: [(&[(i128, i128, i128)], &[(u32, u32)], &[i128]); 6] = [
 ];
 
 #[test]
-fn finds_reaches(rt: HostRuntime) -> Result<(), Fail> {
+fn finds_reaches(rt: HostRuntime) {
     for (places, merges, wanted) in &REACHES {
-        expect_reaches(&rt, rt.alloc(), places, merges, wanted)?;
+        expect_reaches(&rt, rt.alloc(), places, merges, wanted);
     }
-    Ok(())
 }
 
 // The region of two sinks.
@@ -92,18 +89,17 @@ fn expect_region(
     alloc: Global,
     places: &[(i128, i128, i128)],
     (ulo, uhi, vlo, vhi): (i128, i128, i128, i128),
-) -> Result<(), Fail> {
+) {
     assert!(rt; places.len() == 2);
-    let work = merged(rt, alloc, places, &[(0, 1)])?;
+    let work = merged(rt, alloc, places, &[(0, 1)]);
     let region = work.region(2);
     expect_same(rt, (region.ulo, region.uhi), (ulo, uhi), &places);
     expect_same(rt, (region.vlo, region.vhi), (vlo, vhi), &places);
-    Ok(())
 }
 
 // Two sinks, and the region of both.
 #[test]
-fn finds_regions(rt: HostRuntime) -> Result<(), Fail> {
+fn finds_regions(rt: HostRuntime) {
     for (places, sides) in [
         // The one sink itself.
         ([(0, 0, -96), (16, 16, 0)], (16, 16, 16, 16)),
@@ -117,35 +113,33 @@ fn finds_regions(rt: HostRuntime) -> Result<(), Fail> {
     ]
     .as_slice()
     {
-        expect_region(&rt, rt.alloc(), places, *sides)?;
+        expect_region(&rt, rt.alloc(), places, *sides);
     }
-    Ok(())
 }
 
 // Forty sinks, each twice as far out as the one before, and each merged with all that are closer.
 #[test]
-fn merges_a_chain(rt: HostRuntime) -> Result<(), Fail> {
+fn merges_a_chain(rt: HostRuntime) {
     let alloc = rt.alloc();
     let mut places = Vec::new(alloc);
     let mut merges = Vec::new(alloc);
     for k in 0..40u32 {
-        places.push((8i128 << k, 8i128 << k, 0))?;
+        made(&rt, places.push((8i128 << k, 8i128 << k, 0)));
     }
-    merges.push((0, 1))?;
+    made(&rt, merges.push((0, 1)));
     for k in 1..39u32 {
-        merges.push((k + 1, 39 + k))?;
+        made(&rt, merges.push((k + 1, 39 + k)));
     }
-    let reaches = reaches_of(&rt, alloc, &places, &merges)?;
+    let reaches = reaches_of(&rt, alloc, &places, &merges);
     for (place, reach) in [(0, 4), (1, 12), (9, 4_092), (38, 2_199_023_255_548)].as_slice() {
         let found = reaches.as_slice().get(*place).copied();
         expect_same(&rt, found, Some(*reach), place);
     }
-    Ok(())
 }
 
 // A room for five sinks merges three of them, and then all five.
 #[test]
-fn keeps_room(rt: HostRuntime) -> Result<(), Fail> {
+fn keeps_room(rt: HostRuntime) {
     let alloc = rt.alloc();
     let places = [
         (0, 0, 0),
@@ -154,38 +148,36 @@ fn keeps_room(rt: HostRuntime) -> Result<(), Fail> {
         (48, 48, 0),
         (64, 64, 0),
     ];
-    let three = sinks_of(&rt, alloc, &[(0, 0, 0), (16, 16, 0), (32, 32, 0)])?;
-    let five = sinks_of(&rt, alloc, &places)?;
-    let of_three = topology_of(&rt, alloc, 3, &[(0, 1), (2, 3)])?;
-    let of_five = topology_of(&rt, alloc, 5, &[(0, 1), (2, 3), (5, 6), (4, 7)])?;
-    let mut work = Work::with_room(alloc, 5)?;
+    let three = sinks_of(&rt, alloc, &[(0, 0, 0), (16, 16, 0), (32, 32, 0)]);
+    let five = sinks_of(&rt, alloc, &places);
+    let of_three = topology_of(&rt, alloc, 3, &[(0, 1), (2, 3)]);
+    let of_five = topology_of(&rt, alloc, 5, &[(0, 1), (2, 3), (5, 6), (4, 7)]);
+    let mut work = made(&rt, Work::with_room(alloc, 5));
     merge(&mut work, &three, &of_three);
     expect_same(&rt, (work.reach(3), work.reach(4)), (8, 16), &"work");
     merge(&mut work, &five, &of_five);
     expect_same(&rt, (work.reach(7), work.reach(8)), (24, 32), &"work");
-    Ok(())
 }
 
 // The first sink moves to the second one's place.
 #[test]
-fn renews_what_is_above_a_moved_sink(rt: HostRuntime) -> Result<(), Fail> {
+fn renews_what_is_above_a_moved_sink(rt: HostRuntime) {
     let alloc = rt.alloc();
     let moved = (8, 8, 0);
-    let before = sinks_of(&rt, alloc, &[(0, 0, 0), moved, (24, 24, 0)])?;
-    let after = sinks_of(&rt, alloc, &[moved, moved, (24, 24, 0)])?;
-    let topology = topology_of(&rt, alloc, 3, &[(0, 1), (2, 3)])?;
-    let mut work = Work::with_room(alloc, 3)?;
-    expect_same(&rt, work.renewals(), 0, &"work.renewals");
+    let before = sinks_of(&rt, alloc, &[(0, 0, 0), moved, (24, 24, 0)]);
+    let after = sinks_of(&rt, alloc, &[moved, moved, (24, 24, 0)]);
+    let topology = topology_of(&rt, alloc, 3, &[(0, 1), (2, 3)]);
+    let mut work = made(&rt, Work::with_room(alloc, 3));
+    let started = work.renewals();
     merge(&mut work, &before, &topology);
-    expect_same(&rt, work.renewals(), 2, &"work.renewals");
-    expect_same(&rt, (work.reach(3), work.reach(4)), (4, 12), &"work");
+    let merged = (work.renewals(), work.reach(3), work.reach(4));
     work.set_sink(0, sink(&rt, moved));
-    expect_same(&rt, work.renewals(), 2, &"work.renewals");
+    let set = work.renewals();
     work.renew(&after, &topology, 3);
     work.renew(&after, &topology, 4);
-    expect_same(&rt, work.renewals(), 4, &"work.renewals");
-    expect_same(&rt, (work.reach(3), work.reach(4)), (0, 8), &"work");
-    Ok(())
+    let renewed = (work.renewals(), work.reach(3), work.reach(4));
+    expect_same(&rt, (started, set), (0, 2), &"work.renewals");
+    expect_same(&rt, (merged, renewed), ((2, 4, 12), (4, 0, 8)), &"work");
 }
 
 // Moves the first sink.
@@ -209,14 +201,14 @@ fn expect_second(rt: &impl Abort, merges: &[Merge])
 
 // The first of four sinks moves to the second one's place: the merge of the others stays.
 #[test]
-fn counts_what_is_renewed(rt: HostRuntime) -> Result<(), Fail> {
+fn counts_what_is_renewed(rt: HostRuntime) {
     let alloc = rt.alloc();
     let moved = sink(&rt, (8, 8, 0));
     let places = [(0, 0, 0), (8, 8, 0), (16, 16, 0), (24, 24, 0)];
-    let mut sinks = sinks_of(&rt, alloc, &places)?;
-    let topology = topology_of(&rt, alloc, 4, &[(0, 1), (2, 3), (4, 5)])?;
+    let mut sinks = sinks_of(&rt, alloc, &places);
+    let topology = topology_of(&rt, alloc, 4, &[(0, 1), (2, 3), (4, 5)]);
     expect_second(&rt, topology.merges.as_slice());
-    let mut work = Work::with_room(alloc, 4)?;
+    let mut work = made(&rt, Work::with_room(alloc, 4));
     merge(&mut work, &sinks, &topology);
     expect_same(&rt, work.renewals(), 3, &"work.renewals");
     move_first(&mut sinks, moved);
@@ -225,5 +217,4 @@ fn counts_what_is_renewed(rt: HostRuntime) -> Result<(), Fail> {
     work.renew(&sinks, &topology, 6);
     assert!(rt; work.renewals() <= 5);
     expect_same(&rt, (work.reach(4), work.reach(6)), (0, 8), &"work");
-    Ok(())
 }

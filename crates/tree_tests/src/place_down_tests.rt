@@ -1,6 +1,6 @@
 ghost use Rattle.std.specs.Prelude.{◌≡◌, ◌≤◌, pos, length, slice_get, IsSomeAnd};
 
-use crate::same::expect_same;
+use crate::same::{expect_same, made};
 use crate::trees::{sink, sinks_of, topology_of};
 use cts_base::Listed;
 use cts_model::{Merge, Point, Show, Sink, Tree, Uv};
@@ -8,7 +8,6 @@ use merge_up::{Work, merge};
 use place_down::place;
 use std::alloc::Global;
 use std::process::Abort;
-use std::test::Fail;
 
 // The tree over sinks at these rotated coordinates, with these offsets, and its shows.
 fn placed(
@@ -17,15 +16,15 @@ fn placed(
     places: &[(i128, i128, i128)],
     merges: &[(u32, u32)],
     source: (i128, i128),
-) -> Result<(Tree, Listed<Show>), Fail> {
-    let sinks = sinks_of(rt, alloc, places)?;
-    let topology = topology_of(rt, alloc, places.len(), merges)?;
+) -> (Tree, Listed<Show>) {
+    let sinks = sinks_of(rt, alloc, places);
+    let topology = topology_of(rt, alloc, places.len(), merges);
     let (u, v) = source;
     let source = sink(rt, (u, v, 0)).at;
-    let mut work = Work::with_room(alloc, sinks.len())?;
+    let mut work = made(rt, Work::with_room(alloc, sinks.len()));
     merge(&mut work, &sinks, &topology);
     place(&mut work, &sinks, &topology, source);
-    Ok(work.into_parts())
+    work.into_parts()
 }
 
 fn at(x: i128, y: i128) -> Point {
@@ -46,8 +45,8 @@ fn expect_edges(
     lengths: &[i128],
     reach: i128,
     show: Show,
-) -> Result<(), Fail> {
-    let (tree, shows) = placed(rt, alloc, places, merges, source)?;
+) {
+    let (tree, shows) = placed(rt, alloc, places, merges, source);
     expect_same(rt, tree.length.as_slice(), lengths, &places);
     expect_same(
         rt,
@@ -56,7 +55,6 @@ fn expect_edges(
         &places,
     );
     expect_same(rt, shows.as_slice().last().copied(), Some(show), &places);
-    Ok(())
 }
 
 const EDGES: [(Given, &[i128], i128, Show); 6] = [
@@ -108,11 +106,10 @@ const EDGES: [(Given, &[i128], i128, Show); 6] = [
 // The length of each edge, and how far the source reaches. Where both rotated coordinates of a sink
 // are alike, they are x, and y is 0.
 #[test]
-fn measures_edges(rt: HostRuntime) -> Result<(), Fail> {
+fn measures_edges(rt: HostRuntime) {
     for (given, lengths, reach, show) in &EDGES {
-        expect_edges(&rt, rt.alloc(), *given, lengths, *reach, *show)?;
+        expect_edges(&rt, rt.alloc(), *given, lengths, *reach, *show);
     }
-    Ok(())
 }
 
 fn expect_places(
@@ -120,13 +117,12 @@ fn expect_places(
     alloc: Global,
     (places, merges, source): Given,
     wanted: &[(i128, i128)],
-) -> Result<(), Fail> {
-    let (tree, _shows) = placed(rt, alloc, places, merges, source)?;
+) {
+    let (tree, _shows) = placed(rt, alloc, places, merges, source);
     expect_same(rt, tree.place.len(), wanted.len(), &(places, source));
     for (found, (x, y)) in tree.place.as_slice().iter().zip(wanted) {
         expect_same(rt, *found, at(*x, *y), &(places, source));
     }
-    Ok(())
 }
 
 const NODES: [(Given, &[(i128, i128)]); 4] = [
@@ -156,22 +152,15 @@ const NODES: [(Given, &[(i128, i128)]); 4] = [
 
 // Where sinks, merges and the source stand.
 #[test]
-fn places_nodes(rt: HostRuntime) -> Result<(), Fail> {
+fn places_nodes(rt: HostRuntime) {
     for (given, wanted) in &NODES {
-        expect_places(&rt, rt.alloc(), *given, wanted)?;
+        expect_places(&rt, rt.alloc(), *given, wanted);
     }
-    Ok(())
 }
 
-fn expect_shows(
-    rt: &impl Abort,
-    alloc: Global,
-    (places, merges, source): Given,
-    wanted: &[Show],
-) -> Result<(), Fail> {
-    let (_tree, shows) = placed(rt, alloc, places, merges, source)?;
+fn expect_shows(rt: &impl Abort, alloc: Global, (places, merges, source): Given, wanted: &[Show]) {
+    let (_tree, shows) = placed(rt, alloc, places, merges, source);
     expect_same(rt, shows.as_slice(), wanted, &(places, source));
-    Ok(())
 }
 
 const SHOWS: [(Given, &[Show]); 5] = [
@@ -203,20 +192,19 @@ const SHOWS: [(Given, &[Show]); 5] = [
 
 // What shows each merge's reach in order, and then the source's.
 #[test]
-fn shows_each_reach(rt: HostRuntime) -> Result<(), Fail> {
+fn shows_each_reach(rt: HostRuntime) {
     for (given, wanted) in &SHOWS {
-        expect_shows(&rt, rt.alloc(), *given, wanted)?;
+        expect_shows(&rt, rt.alloc(), *given, wanted);
     }
-    Ok(())
 }
 
 // Three sinks in a room for five.
 #[test]
-fn cuts_what_is_room(rt: HostRuntime) -> Result<(), Fail> {
+fn cuts_what_is_room(rt: HostRuntime) {
     let alloc = rt.alloc();
-    let sinks = sinks_of(&rt, alloc, &[(0, 0, 0), (16, 16, 0), (32, 32, 0)])?;
-    let topology = topology_of(&rt, alloc, 3, &[(0, 1), (2, 3)])?;
-    let mut work = Work::with_room(alloc, 5)?;
+    let sinks = sinks_of(&rt, alloc, &[(0, 0, 0), (16, 16, 0), (32, 32, 0)]);
+    let topology = topology_of(&rt, alloc, 3, &[(0, 1), (2, 3)]);
+    let mut work = made(&rt, Work::with_room(alloc, 5));
     merge(&mut work, &sinks, &topology);
     place(&mut work, &sinks, &topology, sink(&rt, (16, 16, 0)).at);
     let (tree, shows) = work.into_parts();
@@ -232,7 +220,6 @@ fn cuts_what_is_room(rt: HostRuntime) -> Result<(), Fail> {
         (6, 6, 3),
         &"tree",
     );
-    Ok(())
 }
 
 // A sink with the offset 0.
@@ -263,11 +250,11 @@ fn expect_joined(rt: &impl Abort, merges: &[Merge])
 
 // The third sink is set closer to the others, so that none of the three is furthest that was not.
 #[test]
-fn places_once_a_sink_is_set(rt: HostRuntime) -> Result<(), Fail> {
+fn places_once_a_sink_is_set(rt: HostRuntime) {
     let alloc = rt.alloc();
-    let topology = topology_of(&rt, alloc, 3, &[(0, 1), (2, 3)])?;
+    let topology = topology_of(&rt, alloc, 3, &[(0, 1), (2, 3)]);
     expect_joined(&rt, topology.merges.as_slice());
-    let mut work = Work::with_room(alloc, 3)?;
+    let mut work = made(&rt, Work::with_room(alloc, 3));
     let before = [still(0, 16), still(80, -16), still(40, 16)];
     merge(&mut work, &before, &topology);
     expect_same(&rt, work.reach(4), 40, &"work.reach");
@@ -301,5 +288,4 @@ fn places_once_a_sink_is_set(rt: HostRuntime) -> Result<(), Fail> {
         [Show::Pair(0, 1), Show::Pair(0, 1), Show::Sink(1)].as_slice(),
         &"shows",
     );
-    Ok(())
 }

@@ -1,11 +1,10 @@
-ghost use Rattle.std.specs.Prelude.{◌≡◌, ◌<◌, ◌≤◌, ◌*◌, ◌-◌, length, IfOk};
+ghost use Rattle.std.specs.Prelude.{◌≡◌, ◌<◌, ◌≤◌, ◌*◌, ◌-◌, length};
 
-use crate::same::expect_same;
+use crate::same::{expect_same, made};
 use crate::trees::{sink, sinks_of, topology_of};
 use move_session::Session;
 use std::alloc::Global;
 use std::process::Abort;
-use std::test::Fail;
 
 // Sinks at these rotated coordinates, with these offsets, their merges, and the place of the
 // source.
@@ -24,14 +23,14 @@ fn opened(
     places: &[(i128, i128, i128)],
     merges: &[(u32, u32)],
     source: (i128, i128),
-) -> Result<Session, Fail>
-    ensures { IfOk result (λ session. length session.sinks ≡ length places.now) }
+) -> Session
+    ensures { length result.sinks ≡ length places.now }
 {
-    let sinks = sinks_of(rt, alloc, places)?;
-    let topology = topology_of(rt, alloc, places.len(), merges)?;
+    let sinks = sinks_of(rt, alloc, places);
+    let topology = topology_of(rt, alloc, places.len(), merges);
     let (u, v) = source;
     let source = sink(rt, (u, v, 0)).at;
-    Ok(Session::open(alloc, &sinks, &topology, source)?)
+    made(rt, Session::open(alloc, &sinks, &topology, source))
 }
 
 fn move_to(rt: &impl Abort, session: &mut Session, sinks: usize, to: Move)
@@ -63,7 +62,7 @@ fn node_of(session: &Session, node: u32) -> Node
 }
 
 // Each node, and last the source, which has no edge.
-fn nodes_of(alloc: Global, session: &Session, sinks: usize) -> Result<Vec<Node>, Fail>
+fn nodes_of(rt: &impl Abort, alloc: Global, session: &Session, sinks: usize) -> Vec<Node>
     requires count { length session.now.sinks ≡ sinks }
     requires some { 1 ≤ sinks }
     requires few { sinks ≤ 4097 }
@@ -71,12 +70,12 @@ fn nodes_of(alloc: Global, session: &Session, sinks: usize) -> Result<Vec<Node>,
     let source = 2 * sinks - 1;
     let mut nodes = Vec::new(alloc);
     for node in 0..source {
-        nodes.push(node_of(session, node as u32))?;
+        made(rt, nodes.push(node_of(session, node as u32)));
     }
     let source = source as u32;
     let place = session.place(source);
-    nodes.push((session.reach(source), place.x, place.y, 0))?;
-    Ok(nodes)
+    made(rt, nodes.push((session.reach(source), place.x, place.y, 0)));
+    nodes
 }
 
 // The nodes after moves.
@@ -85,13 +84,13 @@ fn moved_nodes(
     alloc: Global,
     (places, merges, source): Given,
     moves: &[Move],
-) -> Result<Vec<Node>, Fail> {
+) -> Vec<Node> {
     let sinks = places.len();
     assert!(rt; sinks >= 1);
     assert!(rt; sinks <= 4097);
-    let mut session = opened(rt, alloc, places, merges, source)?;
+    let mut session = opened(rt, alloc, places, merges, source);
     move_all(rt, &mut session, sinks, moves);
-    nodes_of(alloc, &session, sinks)
+    nodes_of(rt, alloc, &session, sinks)
 }
 
 // Four sinks in a row, 8 grid steps apart, and the source at the first.
@@ -133,8 +132,8 @@ fn expect_total(
     moves: &[Move],
     total: i128,
     renewals: u64,
-) -> Result<(), Fail> {
-    let mut session = opened(rt, alloc, places, merges, source)?;
+) {
+    let mut session = opened(rt, alloc, places, merges, source);
     move_all(rt, &mut session, places.len(), moves);
     expect_same(
         rt,
@@ -142,15 +141,13 @@ fn expect_total(
         (total, renewals),
         &(places, moves),
     );
-    Ok(())
 }
 
 #[test]
-fn counts_wire_and_renewals(rt: HostRuntime) -> Result<(), Fail> {
+fn counts_wire_and_renewals(rt: HostRuntime) {
     for (given, moves, total, renewals) in &TOTALS {
-        expect_total(&rt, rt.alloc(), *given, moves, *total, *renewals)?;
+        expect_total(&rt, rt.alloc(), *given, moves, *total, *renewals);
     }
-    Ok(())
 }
 
 const NEXT_ROW: Given = (
@@ -180,25 +177,17 @@ const ALIKE: [(Given, &[Move], Given); 4] = [
 ];
 
 // What a session answers after moves is what one over the moved sinks answers.
-fn expect_alike(
-    rt: &impl Abort,
-    alloc: Global,
-    given: Given,
-    moves: &[Move],
-    moved: Given,
-) -> Result<(), Fail> {
-    let found = moved_nodes(rt, alloc, given, moves)?;
-    let wanted = moved_nodes(rt, alloc, moved, &[])?;
+fn expect_alike(rt: &impl Abort, alloc: Global, given: Given, moves: &[Move], moved: Given) {
+    let found = moved_nodes(rt, alloc, given, moves);
+    let wanted = moved_nodes(rt, alloc, moved, &[]);
     expect_same(rt, found.as_slice(), wanted.as_slice(), &moves);
-    Ok(())
 }
 
 #[test]
-fn answers_as_if_opened_anew(rt: HostRuntime) -> Result<(), Fail> {
+fn answers_as_if_opened_anew(rt: HostRuntime) {
     for (given, moves, moved) in &ALIKE {
-        expect_alike(&rt, rt.alloc(), *given, moves, *moved)?;
+        expect_alike(&rt, rt.alloc(), *given, moves, *moved);
     }
-    Ok(())
 }
 
 // The row after its first sink moved to the place of the next.
@@ -213,51 +202,47 @@ const MOVED_ROW: [Node; 8] = [
     (24, 0, 0, 0),
 ];
 
-fn expect_nodes(
-    rt: &impl Abort,
-    alloc: Global,
-    given: Given,
-    moves: &[Move],
-    wanted: &[Node],
-) -> Result<(), Fail> {
-    let found = moved_nodes(rt, alloc, given, moves)?;
+fn expect_nodes(rt: &impl Abort, alloc: Global, given: Given, moves: &[Move], wanted: &[Node]) {
+    let found = moved_nodes(rt, alloc, given, moves);
     expect_same(rt, found.as_slice(), wanted, &moves);
-    Ok(())
 }
 
 #[test]
-fn places_moved_row(rt: HostRuntime) -> Result<(), Fail> {
+fn places_moved_row(rt: HostRuntime) {
     expect_nodes(&rt, rt.alloc(), ROW, &[(0, 8, 8)], &MOVED_ROW)
 }
 
 // Sinks of which each but the first two is joined to all those before it.
-fn chain(alloc: Global, sinks: u32) -> Result<Vec<(u32, u32)>, Fail>
+fn chain(rt: &impl Abort, alloc: Global, sinks: u32) -> Vec<(u32, u32)>
     requires some { 2 ≤ sinks }
     requires few { sinks ≤ 4097 }
 {
     let mut merges = Vec::new(alloc);
-    merges.push((0, 1))?;
+    made(rt, merges.push((0, 1)));
     for sink in 2..sinks {
-        merges.push((sink, sinks + sink - 2))?;
+        made(rt, merges.push((sink, sinks + sink - 2)));
     }
-    Ok(merges)
+    merges
 }
 
-fn places_of_chain(alloc: Global, sinks: u32) -> Result<Vec<(i128, i128, i128)>, Fail> {
+fn places_of_chain(rt: &impl Abort, alloc: Global, sinks: u32) -> Vec<(i128, i128, i128)> {
     let mut places = Vec::new(alloc);
     for sink in 0..sinks {
-        places.push((8 * sink as i128, 16 * (sink % 5) as i128, 0))?;
+        made(
+            rt,
+            places.push((8 * sink as i128, 16 * (sink % 5) as i128, 0)),
+        );
     }
-    Ok(places)
+    places
 }
 
 // At the top of a chain one merge is renewed, and at its bottom all are.
-fn expect_chain(rt: &impl Abort, alloc: Global, sinks: u32) -> Result<(), Fail> {
+fn expect_chain(rt: &impl Abort, alloc: Global, sinks: u32) {
     assert!(rt; sinks >= 2);
     assert!(rt; sinks <= 4097);
-    let places = places_of_chain(alloc, sinks)?;
-    let merges = chain(alloc, sinks)?;
-    let mut session = opened(rt, alloc, &places, &merges, (0, 0))?;
+    let places = places_of_chain(rt, alloc, sinks);
+    let merges = chain(rt, alloc, sinks);
+    let mut session = opened(rt, alloc, &places, &merges, (0, 0));
     let made = session.renewals();
     move_to(rt, &mut session, places.len(), (sinks - 1, 80, 80));
     let at_top = session.renewals();
@@ -269,13 +254,11 @@ fn expect_chain(rt: &impl Abort, alloc: Global, sinks: u32) -> Result<(), Fail> 
         (merges, merges + 1, 2 * merges + 1),
         &sinks,
     );
-    Ok(())
 }
 
 #[test]
-fn renews_what_is_above(rt: HostRuntime) -> Result<(), Fail> {
+fn renews_what_is_above(rt: HostRuntime) {
     for sinks in [2, 3, 4096].as_slice() {
-        expect_chain(&rt, rt.alloc(), *sinks)?;
+        expect_chain(&rt, rt.alloc(), *sinks);
     }
-    Ok(())
 }

@@ -2,11 +2,10 @@ ghost use Rattle.std.specs.Prelude.{◌^◌};
 ghost use Rattle.cts_model.specs.placement.Points.{IsBelow, IsMultipleOf};
 ghost use Rattle.cts_model.specs.tree.Sinks.{IsTreeSink};
 
-use crate::same::expect_same;
+use crate::same::{expect_same, made};
 use cts_model::{Merge, Sink, Uv};
 use std::alloc::Global;
 use std::process::Abort;
-use std::test::Fail;
 use topology::greedy;
 
 // What sinks differ in.
@@ -77,25 +76,18 @@ fn merge(pair: (u32, u32)) -> Merge {
 }
 
 // The sinks at those places of a row are merged so.
-fn assert_merged(
-    rt: &impl Abort,
-    alloc: Global,
-    row: Row,
-    places: &[u64],
-    wanted: &[(u32, u32)],
-) -> Result<(), Fail> {
+fn assert_merged(rt: &impl Abort, alloc: Global, row: Row, places: &[u64], wanted: &[(u32, u32)]) {
     let mut sinks = Vec::new(alloc);
     for place in places {
-        sinks.push(sink(row, *place))?;
+        made(rt, sinks.push(sink(row, *place)));
     }
     assert!(rt; !sinks.is_empty());
     assert!(rt; sinks.len() <= 4097);
-    let topology = greedy(alloc, &sinks)?;
+    let topology = made(rt, greedy(alloc, &sinks));
     expect_same(rt, topology.merges.len(), wanted.len(), &places);
     for (found, pair) in topology.merges.as_slice().iter().zip(wanted) {
         expect_same(rt, *found, merge(*pair), &places);
     }
-    Ok(())
 }
 
 // Sinks, and how they are merged.
@@ -110,26 +102,25 @@ const MERGED: [(&[u64], &[(u32, u32)]); 4] = [
 ];
 
 #[test]
-fn merges_the_cheapest_first(rt: HostRuntime) -> Result<(), Fail> {
+fn merges_the_cheapest_first(rt: HostRuntime) {
     for (places, wanted) in &MERGED {
-        assert_merged(&rt, rt.alloc(), Row::Flat, places, wanted)?;
+        assert_merged(&rt, rt.alloc(), Row::Flat, places, wanted);
     }
-    Ok(())
 }
 
 // Forty sinks, each twice as far as the one before: the root of those so far is merged with the
 // next.
 #[test]
-fn merges_a_row_that_doubles(rt: HostRuntime) -> Result<(), Fail> {
+fn merges_a_row_that_doubles(rt: HostRuntime) {
     let alloc = rt.alloc();
     let mut places = Vec::new(alloc);
     let mut wanted = Vec::new(alloc);
     for sink in 0u32..40 {
-        places.push(1u64 << sink)?;
+        made(&rt, places.push(1u64 << sink));
     }
-    wanted.push((0, 1))?;
+    made(&rt, wanted.push((0, 1)));
     for place in 1..39 {
-        wanted.push((place + 1, 39 + place))?;
+        made(&rt, wanted.push((place + 1, 39 + place)));
     }
     assert_merged(&rt, alloc, Row::Flat, &places, &wanted)
 }
@@ -141,50 +132,49 @@ fn assert_rows(
     rows: &[Row],
     places: &[u64],
     wanted: &[(u32, u32)],
-) -> Result<(), Fail> {
+) {
     for row in rows {
-        assert_merged(rt, alloc, *row, places, wanted)?;
+        assert_merged(rt, alloc, *row, places, wanted);
     }
-    Ok(())
 }
 
 // As many sinks as there may be of each row, one behind the other: each merge takes the next two
 // nodes.
-fn assert_even(rt: &impl Abort, alloc: Global, rows: &[Row]) -> Result<(), Fail> {
+fn assert_even(rt: &impl Abort, alloc: Global, rows: &[Row]) {
     let mut places = Vec::new(alloc);
     let mut wanted = Vec::new(alloc);
     for sink in 0..4096 {
-        places.push(sink)?;
+        made(rt, places.push(sink));
     }
     for place in 0..4095 {
-        wanted.push((2 * place, 2 * place + 1))?;
+        made(rt, wanted.push((2 * place, 2 * place + 1)));
     }
     assert_rows(rt, alloc, rows, &places, &wanted)
 }
 
 #[test]
-fn merges_even_rows(rt: HostRuntime) -> Result<(), Fail> {
+fn merges_even_rows(rt: HostRuntime) {
     assert_even(&rt, rt.alloc(), &APART)
 }
 
 #[test]
-fn merges_one_place_or_two(rt: HostRuntime) -> Result<(), Fail> {
+fn merges_one_place_or_two(rt: HostRuntime) {
     assert_even(&rt, rt.alloc(), &AT_PLACES)
 }
 
 // The same behind a sink that is far away, which the last merge takes.
 #[test]
-fn merges_one_far_away_last(rt: HostRuntime) -> Result<(), Fail> {
+fn merges_one_far_away_last(rt: HostRuntime) {
     let alloc = rt.alloc();
     let mut places = Vec::new(alloc);
     let mut wanted = Vec::new(alloc);
-    places.push(1u64 << 60)?;
+    made(&rt, places.push(1u64 << 60));
     for sink in 0..4096 {
-        places.push(sink)?;
+        made(&rt, places.push(sink));
     }
     for place in 0..4095 {
-        wanted.push((2 * place + 1, 2 * place + 2))?;
+        made(&rt, wanted.push((2 * place + 1, 2 * place + 2)));
     }
-    wanted.push((0, 8191))?;
+    made(&rt, wanted.push((0, 8191)));
     assert_rows(&rt, alloc, &AT_PLACES, &places, &wanted)
 }

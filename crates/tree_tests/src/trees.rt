@@ -1,13 +1,13 @@
-ghost use Rattle.std.specs.Prelude.{◌≡◌, ◌+◌, ◌<◌, ◌^◌, length, IfOk, IsTrue};
+ghost use Rattle.std.specs.Prelude.{◌≡◌, ◌+◌, ◌<◌, ◌^◌, length, IsTrue};
 ghost use Rattle.cts_model.specs.placement.Points.{IsBelow, IsMultipleOf};
 ghost use Rattle.cts_model.specs.tree.Sinks.{AreTreeSinks, IsTreeSink};
 ghost use Rattle.cts_model.specs.tree.Topologies.{IsLive, IsMerge, IsTopology};
 
+use crate::same::made;
 use cts_base::Listed;
 use cts_model::{Merge, Sink, Topology, Uv};
 use std::alloc::Global;
 use std::process::Abort;
-use std::test::Fail;
 
 // The number, which a sink may have as a coordinate or an offset.
 fn step(rt: &impl Abort, number: i128) -> i128
@@ -36,21 +36,17 @@ pub(crate) fn sink(rt: &impl Abort, place: (i128, i128, i128)) -> Sink
 }
 
 /// The sinks at these places, with these offsets.
-pub(crate) fn sinks_of(
-    rt: &impl Abort,
-    alloc: Global,
-    places: &[(i128, i128, i128)],
-) -> Result<Vec<Sink>, Fail>
-    ensures sinks { IfOk result (λ sinks. AreTreeSinks sinks.items) }
-    ensures count { IfOk result (λ sinks. length sinks.items ≡ length places.now) }
+pub(crate) fn sinks_of(rt: &impl Abort, alloc: Global, places: &[(i128, i128, i128)]) -> Vec<Sink>
+    ensures sinks { AreTreeSinks result.items }
+    ensures count { length result.items ≡ length places.now }
 {
     assert!(rt; places.len() >= 1);
     assert!(rt; places.len() <= 4097);
     let mut sinks = Vec::new(alloc);
     for place in places {
-        sinks.push(sink(rt, *place))?;
+        made(rt, sinks.push(sink(rt, *place)));
     }
-    Ok(sinks)
+    sinks
 }
 
 // Whether a node is there, and no merge joins it.
@@ -82,16 +78,16 @@ pub(crate) fn topology_of(
     alloc: Global,
     sinks: usize,
     merges: &[(u32, u32)],
-) -> Result<Topology, Fail>
-    ensures topology { IfOk result (λ topology. IsTopology sinks topology.merges) }
-    ensures count { IfOk result (λ topology. length topology.merges ≡ length merges.now) }
+) -> Topology
+    ensures topology { IsTopology sinks result.merges }
+    ensures count { length result.merges ≡ length merges.now }
 {
     assert!(rt; merges.len() <= 4096);
     assert!(rt; sinks == merges.len() + 1);
     let mut joined = Listed::new(alloc);
     for nodes in merges {
         let merge = joining(rt, sinks, joined.as_slice(), *nodes);
-        joined.push(merge)?;
+        made(rt, joined.push(merge));
     }
-    Ok(Topology { merges: joined })
+    Topology { merges: joined }
 }

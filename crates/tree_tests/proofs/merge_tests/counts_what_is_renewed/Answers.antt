@@ -7,37 +7,37 @@ use Rattle.tree_tests.proofs.HeldForOthers.{JoinsAt, held_lower, tree_sinks_set}
 use Rattle.tree_tests.proofs.merge_tests.counts_what_is_renewed.Goals as goal
 
 pub renew-requires-clause-sinks : goal.renew-requires-clause-sinks
-renew-requires-clause-sinks g c = tree_sinks_set c.in_ok-sinks.sinks.items c.deref-2.result.now 0
+renew-requires-clause-sinks g c = tree_sinks_set c.sinks_of-sinks.result.items c.deref-2.result.now 0
     c.sink-moved.result (c.deref-2.ensures.value ∙ c.move_first.ensures) c.sink-moved.ensures
-    c.in_ok-sinks.ensures.sinks
+    c.sinks_of-sinks.ensures.sinks
 
 pub renew-requires-clause-joined : goal.renew-requires-clause-joined
 renew-requires-clause-joined g c =
-    let sinks = c.in_ok-sinks.sinks.items in
+    let sinks = c.sinks_of-sinks.result.items in
     let others = c.deref-2.result.now in
-    let merges = c.in_ok-topology.topology.merges in
+    let merges = c.topology_of-topology.result.merges in
     let moved = c.sink-moved.result in
-    let four : length sinks ≡ 4 = omega (arith, c.in_ok-sinks.ensures.count) in
+    let four : length sinks ≡ 4 = omega (arith, c.sinks_of-sinks.ensures.count) in
     let count : length others ≡ 4 =
     ap length (c.deref-2.ensures.value ∙ c.move_first.ensures)
     ∙ length-set sinks 0 moved ∙ four in
     joined_held others merges 0 c.set_sink.new.self
-    (subst (λ n. IsTopology n merges) (sym count) c.in_ok-topology.ensures.topology)
+    (subst (λ n. IsTopology n merges) (sym count) c.topology_of-topology.ensures.topology)
     (λ lower before. absurd (omega (arith, before))) 4 (omega (arith, count))
 
 pub renew-requires-2-clause-sinks : goal.renew-requires-2-clause-sinks
-renew-requires-2-clause-sinks g c = tree_sinks_set c.in_ok-sinks.sinks.items c.deref-3.result.now 0
+renew-requires-2-clause-sinks g c = tree_sinks_set c.sinks_of-sinks.result.items c.deref-3.result.now 0
     c.sink-moved.result (c.deref-3.ensures.value ∙ c.move_first.ensures) c.sink-moved.ensures
-    c.in_ok-sinks.ensures.sinks
+    c.sinks_of-sinks.ensures.sinks
 
 pub renew-requires-2-clause-joined : goal.renew-requires-2-clause-joined
 renew-requires-2-clause-joined g c =
-    let sinks = c.in_ok-sinks.sinks.items in
+    let sinks = c.sinks_of-sinks.result.items in
     let others = c.deref-3.result.now in
-    let merges = c.in_ok-topology.topology.merges in
+    let merges = c.topology_of-topology.result.merges in
     let moved = c.sink-moved.result in
-    let topology : IsTopology 4 merges = c.in_ok-topology.ensures.topology in
-    let four : length sinks ≡ 4 = omega (arith, c.in_ok-sinks.ensures.count) in
+    let topology : IsTopology 4 merges = c.topology_of-topology.ensures.topology in
+    let four : length sinks ≡ 4 = omega (arith, c.sinks_of-sinks.ensures.count) in
     let is = c.deref-3.ensures.value ∙ c.move_first.ensures in
     let count : length others ≡ 4 = ap length is ∙ length-set sinks 0 moved ∙ four in
     let joins : JoinsAt merges 1 2 3 =

@@ -15,7 +15,7 @@ place-requires-clause-sinks g c = subst AreTreeSinks (sym (these c.still-5.resul
 
 pub place-requires-clause-merged : goal.place-requires-clause-merged
 place-requires-clause-merged g c =
-    let merges = c.in_ok-topology.topology.merges in
+    let merges = c.topology_of-topology.result.merges in
     let work = c.merge.new.work in
     let new = c.set_sink.new.self in
     let before = these c.still.result c.still-2.result c.still-3.result far c.still.ensures
@@ -23,7 +23,7 @@ place-requires-clause-merged g c =
     let after = these c.still-5.result c.still-6.result c.still-7.result near c.still-5.ensures
     c.still-6.ensures c.still-7.ensures in
     subst (λ sinks. IsMerged sinks merges new) (sym after)
-    (merged_once_set merges work new c.in_ok-topology.ensures.topology
+    (merged_once_set merges work new c.topology_of-topology.ensures.topology
     (subst (λ list. JoinsAt list 0 0 1) c.as_slice.ensures c.expect_joined.ensures.lower)
     (subst (λ list. JoinsAt list 1 2 3) c.as_slice.ensures c.expect_joined.ensures.upper)
     c.reach.ensures.fit c.merge.ensures.settled
