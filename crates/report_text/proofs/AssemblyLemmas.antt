@@ -1,46 +1,156 @@
 -- A report that is put together from its sections: how large its numbers are, and its lines.
-use Rattle.std.proofs.Common.{◌≡◌, ◌≤◌, ◌<◌, ◌+◌, ◌-◌, ◌*◌, ◌^◌, ℕ, ℤ, pos, neg_ℤ, to_z, of_z, List, [], ◌∷◌, ◌++◌, All, None, Some, length, map, get_or, codes, refl, sym, ap, ap₂, ◌∙◌, subst, arith, append_assoc, drop, append-nil}
+use Rattle.std.proofs.Common.{◌≡◌, ◌<◌, ◌≤◌, ◌-◌, ◌*◌, ◌^◌, ℕ, List, All, Option, Some, None, length, map, refl, sym, ap, arith, ◌+◌, ℤ, pos, neg_ℤ, to_z, of_z, [], ◌∷◌, ◌++◌, get_or, codes, ap₂, ◌∙◌, subst, append_assoc, drop, append-nil}
 use Rattle.std.specs.Prelude.{slice_get, unsigned_abs}
-use Rattle.std.specs.Fmt.{signed_decimal}
-use mir.Syntax.{w128}
+use Rattle.std.proofs.lemmas.List.Elements.{All-map, All-append, All-cons, All-nil, All-push}
 use Rattle.std.proofs.lemmas.Int.{ints}
 use Rattle.std.proofs.lemmas.List.{drop_at, get_or-append-add, get_or-map, get_or-take, get_or_append_left, get_or_push, length-append, length-map, length-take, length_push, take_at}
-use Rattle.std.proofs.lemmas.List.Elements.{All-append, All-cons, All-nil, All-push}
 use Rattle.std.proofs.lemmas.Option.{get_or_from_slice_get, slice_get-get_or}
 use Rattle.cts_base.specs.Fractions.{quotient_text}
 use Rattle.cts_model.specs.declared.circuit.Circuit.{Circuit}
-use Rattle.cts_model.specs.declared.report.Report.{Report}
+use Rattle.cts_model.specs.declared.constraint.Constraint.{Constraint}
+use Rattle.cts_model.specs.declared.period.PeriodShow.{PeriodShow}
+use Rattle.cts_model.specs.declared.period.PeriodShow.TheVariants.{Cycle, Floor}
+use Rattle.cts_model.specs.declared.report.Version.{Version}
 use Rattle.cts_model.specs.declared.tech.Tech.{Tech}
+use Rattle.cts_model.specs.placement.Points.{IsBelow, IsPointBelow}
+use Rattle.cts_model.specs.report.ReportBounds.{HasSmallWeight, HasSmallWeights, IsBetweenRegisters, ShowsPeriodAmong, count_in, cycle_length, HasTimingBounds, HasTreeBounds, IsMergeShow, IsOfSize, IsSmallWire, IsSourceShow, IsWithinBounds, ShowsAmong, IsSmallMerge, Spells}
+use Rattle.cts_model.specs.report.ReportLines.{lead_line, lines_below, merge_line_at, no_wire, node_line_at, origin, period_show_lines, register_line_at, report_lines, source_line, timing_lines, tree_lines, version_line}
+use Rattle.cts_model.specs.text.PrintedLines.{Words, line_for, count_line, period_line, register_line, text_of}
+use Rattle.cts_model.specs.timing.Schedules.{IsSmallPeriod, arrival_of}
+use Rattle.cts_model.specs.tree.Problems.{grid_of, scheduled_length}
+use Rattle.cts_model.specs.declared.report.Report.{Report}
 use Rattle.cts_model.specs.declared.schedule.Slack.{Slack}
-use Rattle.cts_model.specs.declared.tree.Merge.{Merge}
 use Rattle.cts_model.specs.declared.tree.Show.TheVariants.{Root}
 use Rattle.cts_model.specs.declared.tree.Wire.{Wire}
-use Rattle.cts_model.specs.placement.Points.{IsBelow, IsPointBelow}
-use Rattle.cts_model.specs.text.PrintedLines.{Words, count_line, period_line, register_line, text_of}
-use Rattle.cts_model.specs.tree.Problems.{grid_of, scheduled_length}
-use Rattle.cts_model.specs.report.ReportBounds.{HasTimingBounds, HasTreeBounds, IsMergeShow, IsOfSize, IsSmallWire, IsSourceShow, IsWithinBounds, ShowsAmong, IsSmallMerge, Spells}
-use Rattle.cts_model.specs.report.ReportLines.{lead_line, lines_below, merge_line_at, no_wire, node_line_at, origin, period_show_lines, register_line_at, report_lines, show_words, source_line, timing_lines, tree_lines, version_line}
-use Rattle.cts_model.specs.timing.Schedules.{arrival_of}
 use Rattle.cts_model.specs.tree.Topologies.{root_of, source_of}
-use Rattle.cts_model.proofs.GridLemmas.{scheduled_size}
 use Rattle.cts_model.specs.timing.Slacks.{AreSmallSlacks}
+use Rattle.cts_model.proofs.GridLemmas.{scheduled_size}
 use Rattle.report_text.specs.declared.sections.Parts.{Parts}
-use Rattle.report_text.specs.Parts.{scale_in, HasParts}
+use Rattle.report_text.specs.DenotedReports.{timed_line, arrivals_in, begin_of, denoted_lines, lengths_in, merges_in, places_in, reaches_in, report_denoted, shows_in, sink_reach, sink_reaches, wires_in, lines_after}
+use Rattle.report_text.specs.Headings.{IsSmallCount, count_of, shown_line}
+use Rattle.report_text.specs.Parts.{HasParts, scale_in}
+use Rattle.report_text.specs.TimingValues.{DenotesConstraint, DenotesLead}
+use Rattle.report_text.specs.Values.{SaysMerge, SaysNode, SaysSource, merged_line, placed_line, sourced_line}
+use Rattle.report_text.specs.Walks.{DenotesTimed}
 use Rattle.report_text.specs.declared.timing_values.Timed.{Timed}
 use Rattle.report_text.specs.declared.tree_values.MergeLine.{MergeLine}
 use Rattle.report_text.specs.declared.tree_values.NodeLine.{NodeLine}
 use Rattle.report_text.specs.Rows.{lines_of}
-use Rattle.report_text.specs.Values.{merged_line, placed_line, sourced_line, SaysMerge, SaysNode}
-use Rattle.report_text.specs.DenotedReports.{arrivals_in, begin_of, denoted_lines, lengths_in, merges_in, places_in, reaches_in, report_denoted, shows_in, sink_reach, sink_reaches, timed_line, wires_in, lines_after}
-use Rattle.report_text.proofs.PrintedParts.{ArePrintable, parts_printable, told_all}
-use Rattle.report_text.proofs.RowLemmas.{numbered_rows, plain_lines, rows_lines}
 use Rattle.report_text.specs.declared.form.Scale.{Scale}
 use Rattle.report_text.specs.Forms.{cycle_forms, forms_after}
-use Rattle.report_text.specs.Headings.{count_of, shown_line}
-use Rattle.report_text.specs.TimingValues.{DenotesLead}
-use Rattle.report_text.specs.Walks.{DenotesTimed}
+use Rattle.report_text.proofs.RowLemmas.{rows_all, numbered_rows, plain_lines, rows_lines}
 use Rattle.report_text.proofs.BodyLemmas.{body_lines, body_read}
 use Rattle.report_text.proofs.WalkLemmas.{read_more}
+use mir.Syntax.{w128}
+
+-- a row is what its line tells, whatever its number
+abbrev pub IsTold : {X : Type 0} (Says : ℕ → Words → X → Type 0) (line : ℕ → X → Words) → X
+    → Type 0
+IsTold Says line row = (number : ℕ) → Says number (line number row) row
+
+-- so each value of the rows has what their lines give
+pub told_all : {X Y : Type 0} (Says : ℕ → Words → X → Type 0) (line : ℕ → X → Words) (f : X → Y)
+    (P : Y → Type 0) (rows : List X) → All (IsTold Says line) rows
+    → ((row : X) → Says 0 (line 0 row) row → P (f row)) → All P (map f rows)
+told_all Says line f P rows told gives = search (arith, All-map)
+
+-- how many constraints show the period
+abbrev pub count_shown : PeriodShow → Option ℕ
+count_shown (Cycle cycle) = Some (length cycle)
+count_shown Floor = None
+
+-- what shows a period of a circuit, with as many paths as the version asks
+pub record IsPrintableShow (circuit : Circuit) (version : Version) (shown : PeriodShow)
+    (paths : List (List ℕ)) : Type 0 where
+  pub weights : HasSmallWeights shown
+  pub among : ShowsPeriodAmong (length circuit.registers) shown
+  pub many : length paths ≡ count_in version (cycle_length shown)
+  pub signals : All (All (λ number. number < length circuit.signals)) paths
+  pub few : All (λ path. length path ≤ 65536) paths
+
+-- the numbers are small, the rows are as many as the circuit has them, and each is told by its line
+pub record ArePrintable (circuit : Circuit) (tech : Tech) (parts : Parts) : Type 0 where
+  pub period : IsSmallPeriod parts.heading.period
+  pub count : parts.heading.count ≡ count_shown parts.shown.shown
+  pub shown : IsPrintableShow circuit parts.heading.version parts.shown.shown parts.shown.paths
+  pub timings : All (IsTold (DenotesTimed circuit (scale_in tech parts.heading.period))
+      (timed_line circuit parts.heading.period.den)) parts.body.timings
+  pub leads : All (IsTold (λ number. DenotesLead circuit) (λ number. lead_line circuit))
+      parts.body.leads
+  pub merged : All (IsTold (SaysMerge circuit (grid_of parts.heading.period tech))
+      (merged_line circuit (grid_of parts.heading.period tech))) parts.body.merged
+  pub source : SaysSource circuit (grid_of parts.heading.period tech)
+      (sourced_line circuit (grid_of parts.heading.period tech) parts.body.source)
+      parts.body.source
+  pub placed : All (IsTold (SaysNode (grid_of parts.heading.period tech))
+      (placed_line (grid_of parts.heading.period tech))) parts.body.placed
+  pub total : IsBelow (10 ^ 36) parts.body.total.length
+  pub timings_many : length parts.body.timings ≡ length circuit.registers
+  pub leads_many : length parts.body.leads
+      ≡ count_in parts.heading.version (length circuit.registers)
+  pub merged_many : length parts.body.merged ≡ length circuit.registers - 1
+  pub placed_many : length parts.body.placed ≡ 2 * length circuit.registers - 1
+
+-- the constraints of a cycle are told by their lines
+pub cycle_told : {circuit : Circuit} (cycle : List Constraint)
+    → All (IsBetweenRegisters (length circuit.registers)) cycle → All HasSmallWeight cycle
+    → All (IsTold (λ number. DenotesConstraint circuit) (λ number. line_for circuit)) cycle
+cycle_told cycle among small k d within number =
+    search (among k d within, small k d within)
+
+-- a count that is that of a cycle
+counted_shown : (count : Option ℕ) (shown : PeriodShow) → IsSmallCount count
+    → HasSmallWeights shown → cycle_length shown ≡ count_of count → count ≡ count_shown shown
+counted_shown None Floor small weights same = refl
+counted_shown (Some count) (Cycle cycle) small weights same = ap Some (sym same)
+counted_shown None (Cycle cycle) small weights same = absurd (omega (arith, weights.0, same))
+counted_shown (Some count) Floor small weights same = absurd (omega (arith, small.0, same))
+
+-- the parts that a text has are so
+pub parts_printable : {circuit : Circuit} {tech : Tech} {text : List ℕ} {parts : Parts}
+    → HasParts circuit tech text parts → ArePrintable circuit tech parts
+parts_printable {circuit} {tech} {text} {parts} has =
+    let scale = scale_in tech parts.heading.period in
+    let body = has.body in
+    record {
+      period = has.heading.small;
+      count = counted_shown parts.heading.count parts.shown.shown has.heading.count
+          has.shown.weights has.shown.counted;
+      shown = search (
+        has.shown.weights,
+        has.shown.among,
+        has.shown.paths,
+        has.shown.signals,
+        has.shown.few,
+      );
+      timings = rows_all (DenotesTimed circuit scale)
+          (IsTold (DenotesTimed circuit scale) (timed_line circuit scale.den))
+          (λ number words row says other. search (says.small, says.slacks)) 0
+          body.timings.has.lines parts.body.timings body.timings.has.each;
+      leads = rows_all (λ number. DenotesLead circuit)
+          (IsTold (λ number. DenotesLead circuit) (λ number. lead_line circuit))
+          (λ number words row says other. search (says.registers, says.small)) 0
+          body.leads.lines parts.body.leads body.leads.each;
+      merged = rows_all (SaysMerge circuit scale.grid)
+          (IsTold (SaysMerge circuit scale.grid) (merged_line circuit scale.grid))
+          (λ number words row says other.
+          search (says.merge, says.reach, says.show, says.among)) (length circuit.registers)
+          body.merged.has.lines parts.body.merged body.merged.has.each;
+      source = search (
+        body.source.denoted.reach,
+        body.source.denoted.show,
+        body.source.denoted.among,
+      );
+      placed = rows_all (SaysNode scale.grid)
+          (IsTold (SaysNode scale.grid) (placed_line scale.grid))
+          (λ number words row says other. search (says.place, says.edge, says.wire)) 0
+          body.placed.has.lines parts.body.placed body.placed.has.each;
+      total = body.total.denoted.small;
+      timings_many = body.timings.has.many;
+      leads_many = body.leads.many;
+      merged_many = body.merged.has.many;
+      placed_many = body.placed.has.many;
+    }
 
 -- a small number, as the code keeps it
 pub small_read : (number : ℤ) → IsBelow (10 ^ 32) number → to_z w128 (of_z w128 number) ≡ number
@@ -128,8 +238,7 @@ module _ {circuit : Circuit} {tech : Tech} {parts : Parts}
   placed_all : {Y : Type 0} (f : NodeLine → Y) (P : Y → Type 0)
       → ((row : NodeLine) → SaysNode grid 0 (placed_line grid 0 row) row → P (f row))
       → All P (map f parts.body.placed)
-  placed_all f P =
-      told_all (SaysNode grid) (placed_line grid) f P parts.body.placed is.placed
+  placed_all f P = search (arith, told_all)
 
   wires_small : All IsSmallWire (wires_in parts)
   wires_small = placed_all (λ row. row.wire) IsSmallWire (λ row says. says.wire)
@@ -137,8 +246,7 @@ module _ {circuit : Circuit} {tech : Tech} {parts : Parts}
   merged_all : {Y : Type 0} (f : MergeLine → Y) (P : Y → Type 0)
       → ((row : MergeLine) → SaysMerge circuit grid 0 (merged_line circuit grid 0 row) row
       → P (f row)) → All P (map f parts.body.merged)
-  merged_all f P =
-      told_all (SaysMerge circuit grid) (merged_line circuit grid) f P parts.body.merged is.merged
+  merged_all f P = search (arith, told_all)
 
   as_many : length sinks ≡ length (arrivals_in parts)
   as_many = length-map (arrivals_in parts) (sink_reach tech)
@@ -204,13 +312,7 @@ module _ {circuit : Circuit} {tech : Tech} {parts : Parts}
   sink_at : (register : ℕ) → register < length (arrivals_in parts)
       → get_or report.tree.reach register (pos 0)
       ≡ neg_ℤ (scheduled_length tech (arrival_of (arrivals_in parts) register))
-  sink_at register within =
-      let here : register < length sinks = omega (arith, within, as_many) in
-      get_or_append_left (sinks ++ (reaches_in parts)) (parts.body.source.reach ∷ [])
-      (pos 0) register
-      (omega (arith, here, length-append sinks (reaches_in parts)))
-      ∙ get_or_append_left sinks (reaches_in parts) (pos 0) register here
-      ∙ get_or-map (sink_reach tech) (arrivals_in parts) register (pos 0) (pos 0) within
+  sink_at register within = search (arith, as_many, get_or_append_left, length-append, get_or-map)
 
   -- the source stands where the root's wire begins
   source_at : (wire : Wire)
@@ -294,40 +396,31 @@ module _ {circuit : Circuit} {tech : Tech} {parts : Parts}
       → merge_line_at circuit report place
       ≡ merged_line circuit grid (count + place) (get_or parts.body.merged place default)
   merge_same default place within =
-      let none : Merge = record { first = 0; second = 0 } in
-      let node = length (arrivals_in parts) + place in
-      let here : place < length (reaches_in parts) =
-      omega (arith, within, length-map parts.body.merged (λ row. row.reach)) in
-      let there : place < length (shows_in parts) =
-      omega (arith, within, length-map parts.body.merged (λ row. row.show)) in
-      let reach = get_or_append_left (sinks ++ (reaches_in parts)) (parts.body.source.reach ∷ [])
-      (pos 0) node
-      (omega (arith, here, as_many, length-append sinks (reaches_in parts)))
-      ∙ ap (λ n. get_or (sinks ++ (reaches_in parts)) (n + place) (pos 0)) (sym as_many)
-      ∙ get_or-append-add sinks (reaches_in parts) place (pos 0)
-      ∙ get_or-map (λ (row : MergeLine). row.reach) parts.body.merged place default (pos 0) within
-      in
-      let show = get_or_append_left (shows_in parts) (parts.body.source.show ∷ []) Root place there
-      ∙ get_or-map (λ (row : MergeLine). row.show) parts.body.merged place default Root within in
-      let merge = get_or-map (λ (row : MergeLine). row.merge) parts.body.merged place default none
-      within in
-      λ i. signed_decimal (pos (arrivals_many i + place)) ∷ signed_decimal (pos (merge i).first)
-      ∷ signed_decimal (pos (merge i).second) ∷ quotient_text (reach i) grid
-      ∷ show_words circuit (show i)
+      search (
+        arith,
+        length-map,
+        get_or_append_left,
+        as_many,
+        length-append,
+        get_or-append-add,
+        get_or-map,
+        arrivals_many,
+      )
 
   -- that of the source
   source_same : source_line circuit report ≡ sourced_line circuit grid parts.body.source
   source_same =
-      let node = source_of (length (arrivals_in parts)) in
-      let suffix : length (sinks ++ (reaches_in parts)) ≡ node =
-      simp length-append (omega (arith, as_many, arrivals_many, reaches_many, some)) in
-      let reach = get_or_push (sinks ++ (reaches_in parts)) parts.body.source.reach (pos 0)
-      node suffix
-      in
-      let show = get_or_push (shows_in parts) parts.body.source.show Root
-      (length (merges_in parts))
-      (shows_many ∙ sym merges_many) in
-      λ i. codes "source" ∷ quotient_text (reach i) grid ∷ show_words circuit (show i)
+      search (
+        arith,
+        length-append,
+        as_many,
+        arrivals_many,
+        reaches_many,
+        some,
+        get_or_push,
+        shows_many,
+        merges_many,
+      )
 
   -- that of a node
   node_same : (default : NodeLine) (place : ℕ) → place < length parts.body.placed
@@ -352,10 +445,7 @@ module _ {circuit : Circuit} {tech : Tech} {parts : Parts}
       ++ count_line (codes "registers") count
       ∷ lines_of (timed_line circuit parts.heading.period.den) 0 parts.body.timings
       ++ map (lead_line circuit) parts.body.leads
-  timing_same = λ i. version_line parts.heading.version ∷ period_line parts.heading.period
-      ∷ period_show_lines parts.heading.version circuit parts.shown.shown parts.shown.paths
-      ++ count_line (codes "registers") (arrivals_many i) ∷ registers_same i
-      ++ map (lead_line circuit) parts.body.leads
+  timing_same = search (arith, arrivals_many, registers_same)
 
   -- and those of the tree
   tree_same : tree_lines circuit report

@@ -1,23 +1,166 @@
--- What is wrong with a word that is to be a fraction, by what is read of it.
-use Rattle.std.proofs.Common.{◌≡◌, ◌↔◌, ◌^◌, ℕ, ℤ, pos, negsuc, ◌*ℤ◌, ◌+ℤ◌, ◌≤ℤ◌, ◌<ℤ◌, nat_abs, Bool, IsTrue, inl, inr, List, Option, Some, None, Result, Ok, Err, IsErrAnd, refl, sym, subst, arith, codes}
+-- What is wrong with a word that is to be a fraction, by what is read of it; and how many steps the
+-- value of a fraction in lowest terms is.
+use Rattle.std.proofs.Common.{◌≡◌, ◌<◌, ◌≤◌, ◌+◌, ◌-◌, ◌*◌, ◌%◌, ℕ, zero, suc, ℤ, pos, negsuc, neg_ℤ, ◌*ℤ◌, ◌+ℤ◌, ◌≤ℤ◌, nat_abs, inl, inr, refl, sym, ap, ◌∙◌, subst, arith, ◌↔◌, ◌^◌, ◌<ℤ◌, Bool, IsTrue, List, Option, Some, None, Result, Ok, Err, IsErrAnd, codes}
+use Rattle.std.specs.Int.{◌∣◌, IsGcd}
 use Rattle.std.specs.Int.RustNames.{int_div, int_rem}
-use Rattle.std.proofs.lemmas.Int.{ints}
+use Rattle.std.proofs.Math.IntN.{*ℤ_comm}
+use Rattle.std.proofs.Math.Nat.{one-dvd, dvd-mul_right, dvd-sub_iff_left}
+use Rattle.std.proofs.lemmas.Bool.{cases_lt}
+use Rattle.std.proofs.lemmas.Int.{ints, quot-rem, unsigned_abs-mul}
+use Rattle.std.proofs.lemmas.Nat.Gcd.{IsGcd-swap, IsGcd-from_zero, mod-eq-zero_of_dvd, same_from_IsGcd}
 use Rattle.cts_base.specs.Fractions.{IsLowest, fraction_text}
 use Rattle.cts_base.specs.NumberTexts.{SpellsWhole, SpellsQuotient, HaveSmallSizes, IsNoFraction, kept_size}
 use Rattle.cts_base.specs.declared.fraction.Fraction.{Fraction}
+use Rattle.cts_base.proofs.GreatestDivisors.{same_factor}
+use Rattle.cts_base.proofs.Quotients.{negative}
 use Rattle.cts_base.proofs.FractionReading.{few_digits}
 use Rattle.cts_base.proofs.OneNumberText.{slash_differs}
 use Rattle.cts_base.proofs.OneSpelling.{fraction_spelled, one_quotient, plain_no_minus, quotient_some}
 use Rattle.cts_model.specs.declared.circuit.Circuit.{Circuit}
 use Rattle.cts_model.specs.placement.Points.{IsBelow}
+use Rattle.report_text.specs.Fields.{AreSteps, AreFewSteps, IsFormed, IsFractionForm, IsWholeSteps, WordHasFlaw}
 use Rattle.report_text.specs.LineFields.{Period, Slack, Steps}
 use Rattle.report_text.specs.declared.field.Flaw.{Flaw}
 use Rattle.report_text.specs.declared.field.Flaw.TheVariants.{Form, Unknown, Unfit, Large}
-use Rattle.report_text.specs.Fields.{AreFewSteps, AreSteps, IsFormed, IsFractionForm, IsWholeSteps, WordHasFlaw}
 use Rattle.report_text.specs.JudgedFractions.{HasStepsFlaw, IsBetween, IsNegativeQuotient, IsRefusedFor}
 use Rattle.report_text.specs.Scans.{flaw_in}
-use Rattle.report_text.proofs.CoprimeFactors.{divides_steps, one_number_of_steps, steps_are}
 use Rattle.report_text.proofs.NumberWords.{within_bound}
+
+-- ---- Euclid's steps
+
+-- a step of Euclid's algorithm leaves coprime numbers coprime
+coprime_less : (a b : ℕ) → b ≤ a → IsGcd a b 1 → IsGcd (a - b) b 1
+coprime_less a b less greatest = search (arith, one-dvd, dvd-sub_iff_left)
+
+-- coprime to 0 is 1 alone
+coprime_zero : (b : ℕ) → IsGcd 0 b 1 → b ≡ 1
+coprime_zero b lowest = search (arith, same_from_IsGcd, IsGcd-swap, IsGcd-from_zero)
+
+-- what one factor has more, the other has less
+more_less : (p d y more : ℕ) → 0 < p → (p + d) * (y + 1 + more) ≡ p * y → ⊥
+more_less p d y more some same = grind arith
+
+low_factor : (p d x y : ℕ) → 0 < p → (p + d) * x ≡ p * y → x ≤ y
+low_factor p d x y some same = search (arith, cases_lt, more_less)
+
+-- without the part that both have
+rest_factor : (p d x rest : ℕ) → (p + d) * x ≡ p * (x + rest) → d * x ≡ p * rest
+rest_factor p d x rest same = grind arith
+
+-- a factor of both sides
+cancel : (p b c k m : ℕ) → 0 < p → p * c ≡ b * k → k ≡ p * m → c ≡ b * m
+cancel p b c k m some same is =
+    let product : p * c ≡ b * (p * m) = same ∙ ap (λ n. b * n) is in
+    let rotated : c * p ≡ (b * m) * p = grind arith in
+    ap nat_abs (same_factor (pos c) (pos (b * m)) p some (ap pos rotated))
+
+-- no factor but 0
+none_factor : (a c k : ℕ) → suc a * c ≡ 0 * k → c ≡ 0 * 0
+none_factor a zero k same = refl
+none_factor a (suc c) k same = absurd (grind arith)
+
+-- where b divides a product and is coprime to one factor, it divides the other, by so many steps
+divides_by : (fuel a b c k : ℕ) → a + b ≤ fuel → IsGcd a b 1 → a * c ≡ b * k
+    → (m : ℕ) × (c ≡ b * m)
+divides_by zero zero b c k within lowest same = absurd (omega (arith, coprime_zero b lowest))
+divides_by zero (suc a) b c k within lowest same = absurd (omega arith)
+divides_by (suc fuel) zero b c k within lowest same =
+    let one = coprime_zero b lowest in
+    let once : c ≡ 1 * c = omega arith in
+    (c, once ∙ ap (λ n. n * c) (sym one))
+divides_by (suc fuel) (suc a) zero c k within lowest same = (0, none_factor a c k same)
+divides_by (suc fuel) (suc a) (suc b) c k within lowest same = elim (cases_lt (suc a) (suc b)) [
+  | inl less ↦
+      let d : ℕ = suc b - suc a in
+      let back : suc a + d ≡ suc b = omega arith in
+      let product : (suc a + d) * k ≡ suc a * c = rw back (sym same) in
+      let low : k ≤ c = low_factor (suc a) d k c (omega arith) product in
+      let whole : k + (c - k) ≡ c = omega arith in
+      let (m, is) = divides_by fuel d (suc a) k (c - k) (omega arith)
+      (coprime_less (suc b) (suc a) (omega arith) (IsGcd-swap (suc a) (suc b) 1 lowest))
+      (rest_factor (suc a) d k (c - k) (rw whole product)) in
+      (m, cancel (suc a) (suc b) c k m (omega arith) same is)
+  | inr not_less ↦
+      let d : ℕ = suc a - suc b in
+      let back : suc b + d ≡ suc a = omega arith in
+      let product : (suc b + d) * c ≡ suc b * k = rw back same in
+      let low : c ≤ k = low_factor (suc b) d c k (omega arith) product in
+      let whole : c + (k - c) ≡ k = omega arith in
+      divides_by fuel d (suc b) c (k - c) (omega arith)
+      (coprime_less (suc a) (suc b) (omega arith) lowest)
+      (rest_factor (suc b) d c (k - c) (rw whole product))
+]
+
+-- ---- numbers of steps
+
+-- a remainder whose size is 0
+no_rest : (over : ℤ) (b : ℕ) → nat_abs over % b ≡ 0 → int_rem over (pos b) ≡ pos 0
+no_rest (pos o) b none = ap pos none
+no_rest (negsuc o) b none = ap (λ n. neg_ℤ (pos n)) none
+
+-- a fraction in lowest terms is a whole number of steps only where its denominator divides how many
+-- steps make one
+pub divides_steps : (over num den steps : ℤ) → IsLowest num den → AreSteps over num den steps
+    → int_rem over den ≡ pos 0
+divides_steps over num (pos b) steps lowest are =
+    let some = lowest.some_den in
+    let sizes : nat_abs num * nat_abs over ≡ b * nat_abs steps =
+    sym (unsigned_abs-mul num over) ∙ ap nat_abs are ∙ unsigned_abs-mul steps (pos b)
+    ∙ rotated (nat_abs steps) b in
+    let (m, is) = divides_by (nat_abs num + b) (nat_abs num) b (nat_abs over) (nat_abs steps)
+    (omega arith) lowest.coprime sizes in
+    no_rest over b (mod-eq-zero_of_dvd b (subst (λ n. b ∣ n) (sym is) (dvd-mul_right b m)))
+  where
+    rotated : (p q : ℕ) → p * q ≡ q * p
+    rotated p q = omega arith
+divides_steps over num (negsuc b) steps lowest are = search (arith, ints)
+
+-- two minus signs are none
+minus_twice : (n : ℕ) → neg_ℤ (neg_ℤ (pos n)) ≡ pos n
+minus_twice zero = refl
+minus_twice (suc n) = refl
+
+-- a minus sign before a product
+minus_times : (n : ℕ) (x : ℤ) → negsuc n *ℤ x ≡ neg_ℤ (pos (suc n) *ℤ x)
+minus_times n (pos m) = refl
+minus_times n (negsuc m) = sym (minus_twice (suc n * suc m))
+
+times_minus : (x : ℤ) (d : ℕ) → neg_ℤ x *ℤ pos d ≡ neg_ℤ (x *ℤ pos d)
+times_minus (pos zero) d = omega (arith, ints)
+times_minus (pos (suc n)) d = refl
+times_minus (negsuc n) d = sym (minus_twice (suc n * d))
+
+-- factors in another order
+last_first : (a : ℤ) (b c : ℕ) → (a *ℤ pos b) *ℤ pos c ≡ (a *ℤ pos c) *ℤ pos b
+last_first (pos a) b c = ap pos (omega arith)
+last_first (negsuc a) b c = search (arith, negative)
+
+above_each : (n : ℕ) (q : ℤ) (d : ℕ) → pos n *ℤ (q *ℤ pos d) ≡ (pos n *ℤ q) *ℤ pos d
+above_each n q d =
+    *ℤ_comm (pos n) (q *ℤ pos d) ∙ last_first q d n
+    ∙ ap (λ x. x *ℤ pos d) (*ℤ_comm q (pos n))
+
+of_each : (a q : ℤ) (d : ℕ) → a *ℤ (q *ℤ pos d) ≡ (a *ℤ q) *ℤ pos d
+of_each (pos n) q d = above_each n q d
+of_each (negsuc n) q d = search (arith, minus_times, above_each, times_minus)
+
+-- and then it is so many
+pub steps_are : (over num den : ℤ) → pos 1 ≤ℤ den → int_rem over den ≡ pos 0
+    → AreSteps over num den (num *ℤ int_div over den)
+steps_are over num (pos d) some none =
+    ap (λ n. num *ℤ n) (sym (quot-rem over (pos d))
+    ∙ whole (int_div over (pos d) *ℤ pos d) (int_rem over (pos d)) none)
+    ∙ of_each num (int_div over (pos d)) d
+  where
+    whole : (product rest : ℤ) → rest ≡ pos 0 → product +ℤ rest ≡ product
+    whole product rest is = omega (arith, ints, is)
+steps_are over num (negsuc d) some none = absurd (omega (arith, ints, some))
+
+-- and no other number
+pub one_number_of_steps : (over num den steps other : ℤ) → pos 1 ≤ℤ den
+    → AreSteps over num den steps → AreSteps over num den other → steps ≡ other
+one_number_of_steps over num (pos d) steps other some are are' = search (arith, ints, same_factor)
+one_number_of_steps over num (negsuc d) steps other some are are' = search (arith, ints)
 
 -- ---- what is read
 
@@ -26,10 +169,7 @@ pub read_quotient_is : (text : List ℕ) (fraction : Fraction)
     → HaveSmallSizes fraction.num fraction.den
     → text ≡ fraction_text fraction.num fraction.den
     → SpellsQuotient text fraction.num fraction.den
-read_quotient_is text fraction small same =
-    let lowest = fraction.lowest in
-    fraction_spelled text fraction.num fraction.den (few_digits fraction.num small.0)
-    (few_digits fraction.den small.1) lowest.some_den same
+read_quotient_is text fraction small same = search (arith, fraction_spelled, few_digits)
 
 -- `?` passes a flaw on as it is
 pub passed_flaw : {X : Type 0} (result : Result X Flaw) (flaw : Flaw) (Holds : Option Flaw → Type 0)
@@ -41,9 +181,9 @@ passed_flaw (Err passed) flaw Holds is has = subst (λ f. Holds (Some f)) (sym i
 
 module _ (text : List ℕ) (num den : ℤ) (spells : SpellsQuotient text num den) where
   -- what holds of it holds of each quotient that the text spells
-  of_each : (Holds : ℤ → ℤ → Type 0) → Holds num den → (num' den' : ℤ)
+  of_spelled : (Holds : ℤ → ℤ → Type 0) → Holds num den → (num' den' : ℤ)
       → SpellsQuotient text num' den' → Holds num' den'
-  of_each Holds holds num' den' spells' =
+  of_spelled Holds holds num' den' spells' =
       let both = one_quotient text num den num' den' spells spells' in
       subst (λ d. Holds num' d) both.1 (subst (λ n. Holds n den) both.0 holds)
 
@@ -58,12 +198,12 @@ module _ (text : List ℕ) (num den : ℤ) (spells : SpellsQuotient text num den
 
       whole : (steps : ℤ) × AreSteps over num den steps → IsWholeSteps over text
       whole steps num' den' spells' small' =
-          of_each (λ n d. (s : ℤ) × AreSteps over n d s) steps num' den' spells'
+          of_spelled (λ n d. (s : ℤ) × AreSteps over n d s) steps num' den' spells'
 
       few : ((steps : ℤ) → AreSteps over num den steps
           → (bound ≤ℤ steps → ⊥) × ((steps +ℤ bound) ≤ℤ pos 0 → ⊥)) → AreFewSteps over bound text
       few within num' den' spells' =
-          of_each (λ n d. HaveSmallSizes n d × ((steps : ℤ) → AreSteps over n d steps
+          of_spelled (λ n d. HaveSmallSizes n d × ((steps : ℤ) → AreSteps over n d steps
           → (bound ≤ℤ steps → ⊥) × ((steps +ℤ bound) ≤ℤ pos 0 → ⊥))) (small, within) num' den'
           spells'
 
@@ -90,18 +230,13 @@ module _ (text : List ℕ) (num den : ℤ) (spells : SpellsQuotient text num den
       (num, den, (spells, λ _. lowest), some),
       tt,
       tt,
-      of_each (λ n d. (n <ℤ pos (10 ^ 18)) × (d ≤ℤ pos 4097)) within,
+      of_spelled (λ n d. (n <ℤ pos (10 ^ 18)) × (d ≤ℤ pos 4097)) within,
     )
 
     -- or not
     pub period_past : ((num <ℤ pos (10 ^ 18)) × (den ≤ℤ pos 4097) → ⊥)
         → WordHasFlaw circuit Period text (Some Large)
-    period_past past = (
-      (num, den, (spells, λ _. lowest), some),
-      tt,
-      tt,
-      λ all. past (all num den spells),
-    )
+    period_past past = search (arith)
 
 -- ---- of a text that is refused
 
@@ -120,7 +255,7 @@ steps_refused over bound text Large (num, den, spells, large) circuit = (
   (num, den, (spells, λ small. absurd (large small))),
   tt,
   λ num' den' spells' small'.
-      absurd (large (of_each text num' den' spells' HaveSmallSizes small' num den spells)),
+      absurd (large (of_spelled text num' den' spells' HaveSmallSizes small' num den spells)),
   λ few. large (few num den spells).0,
 )
 steps_refused over bound text flaw none circuit = absurd none
@@ -146,15 +281,12 @@ period_refused text Large (num, den, spells, large) not_negative circuit = (
 
     small : (n d : ℤ) → pos 0 ≤ℤ n → pos 1 ≤ℤ d → n <ℤ pos (10 ^ 18) → d ≤ℤ pos 4097
         → HaveSmallSizes n d
-    small n d some some' few few' = (
-      record { above = omega (arith, ints, some); below = omega (arith, ints, few) },
-      record { above = omega (arith, ints, some'); below = omega (arith, ints, few') },
-    )
+    small n d some some' few few' = search (arith, ints)
 
 -- a quotient below 0 is no period
 pub negative_refused : (text : List ℕ) → IsNegativeQuotient text → IsFormed Period text → ⊥
 negative_refused text (num, den, spells, below) (num', den', form, above) =
-    let below' = of_each text num den spells (λ n d. n <ℤ pos 0) below num' den' form.0 in
+    let below' = of_spelled text num den spells (λ n d. n <ℤ pos 0) below num' den' form.0 in
     omega (arith, ints, above, below')
 
 -- whether a quotient is below 0 is determined by the number that is kept of it
@@ -164,7 +296,7 @@ pub negative_kept : (text : List ℕ) (num den kept : ℤ) (below : Bool)
 negative_kept text num den kept below spells is denoted = (
   λ yes. (num, den, spells, kept_below num (subst (λ n. n <ℤ pos 0) is (denoted.0 yes))),
   λ other. denoted.1 (subst (λ n. n <ℤ pos 0) (sym is) (below_kept num
-      (of_each text other.0 other.1 other.2 (λ n d. n <ℤ pos 0) other.3 num den spells))),
+      (of_spelled text other.0 other.1 other.2 (λ n d. n <ℤ pos 0) other.3 num den spells))),
 )
   where
     kept_below : (n : ℤ) → kept_size n <ℤ pos 0 → n <ℤ pos 0
@@ -250,10 +382,7 @@ module _ (over bound : ℤ) (num den : ℤ) (lowest : IsLowest num den) where
     where
       few : (n m : ℤ) → n ≡ m → n <ℤ bound → pos 0 <ℤ (n +ℤ bound)
           → (bound ≤ℤ m → ⊥) × ((m +ℤ bound) ≤ℤ pos 0 → ⊥)
-      few n m same below above = (
-        λ past. omega (arith, ints, same, below, past),
-        λ past. omega (arith, ints, same, above, past),
-      )
+      few n m same below above = search (arith, ints)
 
   -- and one of which they aren't
   pub steps_past : int_rem over den ≡ pos 0 → (IsBetween bound (num *ℤ int_div over den) → ⊥)

@@ -1,30 +1,220 @@
--- Each word has a flaw by its field or has none, and so each line has.
-use Rattle.std.proofs.Common.{◌≡◌, ◌≤◌, ◌⊎◌, ◌^◌, ℕ, ℤ, pos, ◌≤ℤ◌, ◌<ℤ◌, ◌+ℤ◌, ◌*ℤ◌, inl, inr, List, [], ◌∷◌, Option, Some, None, codes, refl, sym, subst, ◌∙◌, arith}
+-- Whether a text spells a number, and which; so each word has a flaw by its field or has none, and
+-- so each line has.
+use Rattle.std.proofs.Common.{◌≡◌, ◌⊎◌, ◌<◌, ◌^◌, ◌==◌, ℕ, zero, suc, ℤ, pos, negsuc, ◌≤ℤ◌, nat_abs, Bool, true, false, true≢false, inl, inr, List, [], ◌∷◌, ◌++◌, drop, refl, sym, ap, subst, ◌∙◌, arith, ◌≤◌, ◌<ℤ◌, ◌+ℤ◌, ◌*ℤ◌, Option, Some, None, codes}
+use Rattle.std.specs.Int.{IsGcd}
+use Rattle.std.specs.Ordering.{int_eq}
+use Rattle.std.specs.Str.{bytes_eq}
+use Rattle.std.specs.Str.Parse.{AllDigits, IsNumeral, digits_value, starts_with_minus}
 use Rattle.std.specs.Int.RustNames.{int_div, int_rem}
 use Rattle.std.specs.List.{position}
-use Rattle.std.specs.Str.{bytes_eq}
 use Rattle.std.proofs.lemmas.Bool.{cases_lt}
+use Rattle.std.proofs.lemmas.Bool.Decides.{Decides-eqb, Decides-int_eq}
 use Rattle.std.proofs.lemmas.Int.{ints, by_lt_z}
-use Rattle.cts_base.specs.Fractions.{HasSizeBelow, IsLowest}
-use Rattle.cts_base.specs.NumberTexts.{HaveSmallSizes, SpellsQuotient, SpellsWhole}
-use Rattle.cts_base.proofs.OneSpelling.{one_quotient, one_whole}
+use Rattle.std.proofs.lemmas.Nat.Gcd.{le_of_dvd}
+use Rattle.std.proofs.lemmas.Slice.Eq.{bytes_eq-Decides}
+use Rattle.cts_base.specs.Fractions.{HasSizeBelow, IsLowest, divisor_up_to}
+use Rattle.cts_base.specs.NumberTexts.{HaveSmallSizes, IsPlainNumeral, SpellsQuotient, SpellsWhole}
+use Rattle.cts_base.proofs.GreatestDivisors.{up_to_second}
+use Rattle.cts_base.proofs.OneNumberText.{HasNoSlash, one_split, slash_differs}
+use Rattle.cts_base.proofs.OneSpelling.{one_whole, plain_no_minus, quotient_some, whole_no_slash, one_quotient}
 use Rattle.cts_model.specs.declared.circuit.Circuit.{Circuit}
-use Rattle.cts_model.specs.netlist.Paths.{register_name}
-use Rattle.report_text.specs.LineFields.{Field}
-use Rattle.report_text.specs.LineFields as field
+use Rattle.name_set.specs.RegisterNames.{register_names}
+use Rattle.name_set.proofs.OneName.{one_register}
 use Rattle.report_text.specs.declared.field.Flaw.{Flaw}
 use Rattle.report_text.specs.declared.field.Flaw.TheVariants.{Form, Large, Unfit, Unknown}
+use Rattle.report_text.specs.JudgedFractions.{IsRefusedFor, HasStepsFlaw, IsNegativeQuotient}
+use Rattle.report_text.specs.LineFields.{Field}
+use Rattle.report_text.specs.LineFields as field
 use Rattle.report_text.specs.Fields.{IsFirstFlaw, LineHasFlaw, NamesRegister, NamesSignal, WordHasFlaw}
 use Rattle.report_text.specs.FlawOrder.{sooner_flaw}
-use Rattle.report_text.specs.JudgedFractions.{HasStepsFlaw, IsNegativeQuotient}
-use Rattle.report_text.specs.Keywords.{keyword_text}
-use Rattle.name_set.specs.RegisterNames.{register_names}
 use Rattle.report_text.specs.NamesOf.{DenotesRegister, DenotesSignal, signal_names}
-use Rattle.report_text.proofs.FlawLemmas.{line_first}
+use Rattle.report_text.proofs.WalkLemmas.{line_first}
 use Rattle.report_text.proofs.FractionFlaws.{dash_plain, from_zero, negative_refused, period_past, period_refused, period_within, slack_denoted, steps_denoted, steps_past, steps_refused, steps_unfit, steps_within}
 use Rattle.report_text.proofs.NameNumbers.{register_denoted, signal_denoted}
-use Rattle.name_set.proofs.OneName.{one_register}
-use Rattle.report_text.proofs.SpelledNumbers.{OrNot, fraction_or_not, quotient_or_not, same_text, same_whole, size_or_not, whole_or_not}
+
+-- ---- what a test decides
+
+-- it holds or it doesn't
+abbrev pub OrNot : Type 0 → Type 0
+OrNot Holds = Holds ⊎ (Holds → ⊥)
+
+decided : {Holds : Type 0} (test : Bool) → (test ≡ true → Holds) × (Holds → test ≡ true)
+    → OrNot Holds
+decided true is = inl (is.0 refl)
+decided false is = inr (λ holds. true≢false (sym (is.1 holds)))
+
+pub same_number : (a b : ℕ) → OrNot (a ≡ b)
+same_number a b = decided (a == b) (Decides-eqb a b)
+
+pub same_whole : (a b : ℤ) → OrNot (a ≡ b)
+same_whole a b = decided (int_eq a b) (Decides-int_eq a b)
+
+pub same_text : (a b : List ℕ) → OrNot (a ≡ b)
+same_text a b = decided (bytes_eq a b) (bytes_eq-Decides a b)
+
+-- a number is below a bound in size
+pub size_or_not : (bound : ℕ) (number : ℤ) → OrNot (HasSizeBelow bound number)
+size_or_not bound number = search (arith, ints, by_lt_z)
+
+-- ---- whole numbers
+
+digits_or_not : (text : List ℕ) → OrNot (AllDigits 10 text)
+digits_or_not [] = inl tt
+digits_or_not (byte ∷ bytes) = search (arith, cases_lt, digits_or_not bytes)
+
+numeral_or_not : (text : List ℕ) → OrNot (IsNumeral 10 text)
+numeral_or_not text = search (arith, cases_lt, digits_or_not)
+
+plain_or_not : (text : List ℕ) → OrNot (IsPlainNumeral text)
+plain_or_not text = search (arith, numeral_or_not, same_number)
+
+-- the number that a text spells, or that it spells none
+abbrev pub WholeOrNot : List ℕ → Type 0
+WholeOrNot text = ((value : ℤ) × SpellsWhole text value)
+    ⊎ ((value : ℤ) → SpellsWhole text value → ⊥)
+
+pub whole_or_not : (text : List ℕ) → WholeOrNot text
+whole_or_not text = at (starts_with_minus text) refl
+  where
+    -- after a minus the number isn't 0
+    below : starts_with_minus text ≡ true → IsPlainNumeral (drop 1 text) → (size : ℕ)
+        → digits_value 10 (drop 1 text) ≡ size → WholeOrNot text
+    below minus plain zero is = inr none
+      where
+        none : (value : ℤ) → SpellsWhole text value → ⊥
+        none (pos number) spells = plain_no_minus text spells.0 minus
+        none (negsuc less) spells = omega (arith, is, spells.1.1)
+    below minus plain (suc less) is = inl (negsuc less, (minus, (plain, is)))
+
+    at : (minus : Bool) → starts_with_minus text ≡ minus → WholeOrNot text
+    at true minus = elim (plain_or_not (drop 1 text)) [
+      | inl plain ↦ below minus plain (digits_value 10 (drop 1 text)) refl
+      | inr other ↦ inr (none other)
+    ]
+      where
+        none : (IsPlainNumeral (drop 1 text) → ⊥) → (value : ℤ) → SpellsWhole text value → ⊥
+        none other (pos number) spells = plain_no_minus text spells.0 minus
+        none other (negsuc less) spells = other spells.1.0
+    at false plus = elim (plain_or_not text) [
+      | inl plain ↦ inl (pos (digits_value 10 text), (plain, refl))
+      | inr other ↦ inr (none other)
+    ]
+      where
+        none : (IsPlainNumeral text → ⊥) → (value : ℤ) → SpellsWhole text value → ⊥
+        none other (pos number) spells = other spells.0
+        none other (negsuc less) spells = true≢false (sym spells.0 ∙ plus)
+
+-- ---- quotients
+
+-- a text has no slash, or there is a first one
+slash_or_not : (text : List ℕ) → HasNoSlash text ⊎ ((prefix : List ℕ) × (back : List ℕ)
+    × (text ≡ prefix ++ 47 ∷ back) × HasNoSlash prefix)
+slash_or_not [] = inl tt
+slash_or_not (byte ∷ bytes) = elim (same_number byte 47) [
+  | inl slash ↦ inr ([], bytes, ap (λ b. b ∷ bytes) slash, tt)
+  | inr other ↦ elim (slash_or_not bytes) [
+    | inl none ↦ inl (other, none)
+    | inr found ↦
+        inr (byte ∷ found.0, found.1, ap (λ bs. byte ∷ bs) found.2, (other, found.3))
+  ]
+]
+
+-- the quotient that a text spells, or that it spells none
+abbrev pub QuotientOrNot : List ℕ → Type 0
+QuotientOrNot text = ((num : ℤ) × (den : ℤ) × SpellsQuotient text num den)
+    ⊎ ((num den : ℤ) → SpellsQuotient text num den → ⊥)
+
+module _ (text prefix back : List ℕ) (split : text ≡ prefix ++ 47 ∷ back)
+    (first : HasNoSlash prefix)
+  where
+    -- what stands before and after the first slash isn't two numbers
+    no_quotient : ((num den : ℤ) → SpellsWhole prefix num → SpellsWhole back den → pos 2 ≤ℤ den → ⊥)
+        → (num den : ℤ) → SpellsQuotient text num den → ⊥
+    no_quotient none num den (inl one) = search (arith, slash_differs, whole_no_slash)
+    no_quotient none num den (inr (some, (prefix', back', split', above, below))) =
+        let both = one_split prefix prefix' back back' first (whole_no_slash prefix' num above)
+        (sym split ∙ split') in
+        none num den (subst (λ t. SpellsWhole t num) (sym both.0) above)
+        (subst (λ t. SpellsWhole t den) (sym both.1) below) some
+
+    split_or_not : QuotientOrNot text
+    split_or_not = elim (whole_or_not prefix) [
+      | inl above ↦ elim (whole_or_not back) [
+        | inl below ↦ by_lt_z (pos 1) below.0
+            (λ some. inl (
+              above.0,
+              below.0,
+              inr (
+                omega (arith, ints, some),
+                (prefix, back, split, above.1, below.1),
+              ),
+            ))
+            (λ low. inr (no_quotient (λ num den spells spells' some.
+            let same = one_whole back den below.0 spells' below.1 in
+            omega (arith, ints, same, low))))
+        | inr none ↦ inr (no_quotient (λ num den spells spells' some. none den spells'))
+      ]
+      | inr none ↦ inr (no_quotient (λ num den spells spells' some. none num spells))
+    ]
+
+pub quotient_or_not : (text : List ℕ) → QuotientOrNot text
+quotient_or_not text = elim (slash_or_not text) [
+  | inl none ↦ elim (whole_or_not text) [
+    | inl one ↦ inl (one.0, pos 1, inl (refl, one.1))
+    | inr other ↦ inr (alone none other)
+  ]
+  | inr found ↦ split_or_not text found.0 found.1 found.2 found.3
+]
+  where
+    alone : HasNoSlash text → ((value : ℤ) → SpellsWhole text value → ⊥) → (num den : ℤ)
+        → SpellsQuotient text num den → ⊥
+    alone none other num den (inl one) = other num one.1
+    alone none other num den (inr (some, (prefix, back, split, above, below))) =
+        slash_differs text prefix back none split
+
+-- ---- fractions
+
+-- a fraction is in lowest terms or isn't
+pub lowest_or_not : (num den : ℤ) → pos 1 ≤ℤ den → OrNot (IsLowest num den)
+lowest_or_not num den some =
+    let a = nat_abs num in
+    let b = nat_abs den in
+    let (some_divisor, greatest) = up_to_second a b (some_size den some) in
+    elim (same_number (divisor_up_to b a b) 1) [
+      | inl one ↦ inl (record { some_den = some; coprime = subst (IsGcd a b) one greatest })
+      | inr other ↦ inr (λ lowest.
+          let low = le_of_dvd (omega arith)
+          (lowest.coprime.2 (divisor_up_to b a b) greatest.0 greatest.1) in
+          other (omega (arith, low, some_divisor)))
+    ]
+  where
+    some_size : (n : ℤ) → pos 1 ≤ℤ n → 0 < nat_abs n
+    some_size (pos n) from = omega (arith, ints, from)
+    some_size (negsuc n) from = absurd (omega (arith, ints, from))
+
+-- what a text is as a fraction: refused, or a small quotient in lowest terms
+abbrev pub FractionOrNot : List ℕ → Type 0
+FractionOrNot text = ((flaw : Flaw) × IsRefusedFor text flaw)
+    ⊎ ((num : ℤ) × (den : ℤ) × SpellsQuotient text num den × HaveSmallSizes num den
+    × IsLowest num den)
+
+pub fraction_or_not : (text : List ℕ) → FractionOrNot text
+fraction_or_not text = elim (quotient_or_not text) [
+  | inr none ↦ inl (Form, inl none)
+  | inl found ↦ quotient found.0 found.1 found.2
+]
+  where
+    quotient : (num den : ℤ) → SpellsQuotient text num den → FractionOrNot text
+    quotient num den spells = elim (size_or_not (10 ^ 37) num) [
+      | inr large ↦ inl (Large, (num, den, spells, λ small. large small.0))
+      | inl small ↦ elim (size_or_not (10 ^ 37) den) [
+        | inr large ↦ inl (Large, (num, den, spells, λ small. large small.1))
+        | inl small' ↦ elim (lowest_or_not num den (quotient_some text num den spells)) [
+          | inl lowest ↦ inr (num, den, spells, (small, small'), lowest)
+          | inr other ↦ inl (Form, inr (num, den, spells, (small, small'), other))
+        ]
+      ]
+    ]
 
 -- which of four fails first, where each that is asked for holds or doesn't
 judged : {Formed Known Fit Within : Type 0} → OrNot Formed → OrNot Known → (Known → OrNot Fit)
@@ -252,27 +442,20 @@ module _ (circuit : Circuit) where
   -- ---- words and lines
 
   word_judged : (due : Field) (text : List ℕ) → Judged due text
-  word_judged (field.Word keyword) text =
-      judged (same_text text (keyword_text keyword)) sure (λ known. sure) (λ formed. sure)
-  word_judged field.Version text =
-      judged (either_or_not text (codes "1") (codes "2")) sure (λ known. sure) (λ formed. sure)
-  word_judged field.Kind text = judged (either_or_not text (codes "setup") (codes "hold")) sure
-      (λ known. sure) (λ formed. sure)
-  word_judged (field.Exactly number) text =
-      judged (exactly_or_not text (pos number)) sure (λ known. sure) (λ formed. sure)
+  word_judged (field.Word keyword) text = search (arith, judged, same_text, sure)
+  word_judged field.Version text = search (arith, judged, either_or_not, sure)
+  word_judged field.Kind text = search (arith, judged, either_or_not, sure)
+  word_judged (field.Exactly number) text = search (arith, judged, exactly_or_not, sure)
   word_judged (field.Number least most) text = number_judged least most text
   word_judged (field.Counted count most) text = counted_judged count most text
   word_judged field.Weight text = weight_judged text
   word_judged field.Period text = period_judged text
   word_judged (field.Steps over bound) text = steps_judged over bound text
   word_judged (field.Slack over bound) text = slack_judged over bound text
-  word_judged field.Register text =
-      judged sure (register_or_not text) (λ known. sure) (λ formed. sure)
-  word_judged (field.Named number) text = judged sure (register_or_not text)
-      (λ known. same_text (register_name circuit number) text) (λ formed. sure)
+  word_judged field.Register text = search (arith, judged, sure, register_or_not)
+  word_judged (field.Named number) text = search (arith, judged, sure, register_or_not, same_text)
   word_judged (field.From first) text = from_judged first text
-  word_judged field.Signal text =
-      judged sure (signal_or_not text) (λ known. sure) (λ formed. sure)
+  word_judged field.Signal text = search (arith, judged, sure, signal_or_not)
 
   pub line_judged : (fields : List Field) (words : List (List ℕ))
       → (flaw : Option Flaw) × LineHasFlaw circuit fields words flaw

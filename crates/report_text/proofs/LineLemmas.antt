@@ -21,17 +21,12 @@ join_with_byte-map read byte word (other ∷ others) =
 pub line_of-suffix : (word : List ℕ) (others : Words)
     → line_of (word ∷ others) ≡ word ++ (suffix others ++ 10 ∷ [])
 line_of-suffix word [] = ap (λ bytes. bytes ++ 10 ∷ []) refl
-line_of-suffix word (other ∷ others) =
-    append_assoc word (32 ∷ join_with_byte 32 (other ∷ others)) (10 ∷ [])
-    ∙ ap (λ rest. word ++ 32 ∷ rest) (line_of-suffix other others
-    ∙ sym (append_assoc other (suffix others) (10 ∷ [])))
+line_of-suffix word (other ∷ others) = search (arith, append_assoc, line_of-suffix other others)
 
 -- a text with one more line
 pub text_of-push : (lines : List Words) (line : Words)
     → text_of (lines ++ line ∷ []) ≡ text_of lines ++ line_of line
-text_of-push lines line =
-    flat_map-append line_of lines (line ∷ []) ∙ ap (λ more. text_of lines ++ more)
-    (append-nil (line_of line))
+text_of-push lines line = search (arith, flat_map-append, append-nil)
 
 -- the text of the lines below a number, and the line of that number
 pub text_of-more : (line_at : ℕ → Words) (count : ℕ)
@@ -46,44 +41,33 @@ pub more_lines : (line_at : ℕ → Words) (count : ℕ) (before written now : L
     → written ≡ before ++ text_of (lines_below line_at count)
     → now ≡ written ++ line_of (line_at count)
     → now ≡ before ++ text_of (lines_below line_at (count + 1))
-more_lines line_at count before written now so_far next =
-    next ∙ ap (λ bytes. bytes ++ line_of (line_at count)) so_far
-    ∙ append_assoc before (text_of (lines_below line_at count)) (line_of (line_at count))
-    ∙ ap (λ bytes. before ++ bytes) (sym (text_of-more line_at count))
+more_lines line_at count before written now so_far next = search (arith, append_assoc, text_of-more)
 
 -- words after others, and more after those
 pub after_more : (before written now : List ℕ) (words others : Words)
     → written ≡ before ++ suffix words → now ≡ written ++ suffix others
     → now ≡ before ++ suffix (words ++ others)
 after_more before written now words others so_far next =
-    next ∙ ap (λ bytes. bytes ++ suffix others) so_far
-    ∙ append_assoc before (suffix words) (suffix others)
-    ∙ ap (λ bytes. before ++ bytes) (sym (flat_map-append (λ word. 32 ∷ word) words others))
+    search (arith, append_assoc, flat_map-append)
 
 -- a line of a first word and those after it was appended
 pub whole_line : (before begun written now word : List ℕ) (others : Words)
     → begun ≡ before ++ word → written ≡ begun ++ suffix others → now ≡ written ++ 10 ∷ []
     → now ≡ before ++ line_of (word ∷ others)
 whole_line before begun written now word others first more last =
-    last ∙ ap (λ bytes. bytes ++ 10 ∷ []) (more ∙ ap (λ bytes. bytes ++ suffix others) first)
-    ∙ append_assoc (before ++ word) (suffix others) (10 ∷ [])
-    ∙ append_assoc before word (suffix others ++ 10 ∷ [])
-    ∙ ap (λ bytes. before ++ bytes) (sym (line_of-suffix word others))
+    search (arith, append_assoc, line_of-suffix)
 
 -- lines after others
 pub lines_more : (before written now : List ℕ) (lines others : List Words)
     → written ≡ before ++ text_of lines → now ≡ written ++ text_of others
     → now ≡ before ++ text_of (lines ++ others)
 lines_more before written now lines others so_far next =
-    next ∙ ap (λ bytes. bytes ++ text_of others) so_far
-    ∙ append_assoc before (text_of lines) (text_of others)
-    ∙ ap (λ bytes. before ++ bytes) (sym (flat_map-append line_of lines others))
+    search (arith, append_assoc, flat_map-append)
 
 -- the text of one line
 pub one_line : (before now : List ℕ) (line : Words) → now ≡ before ++ line_of line
     → now ≡ before ++ text_of (line ∷ [])
-one_line before now line written =
-    written ∙ ap (λ bytes. before ++ bytes) (sym (append-nil (line_of line)))
+one_line before now line written = search (arith, append-nil)
 
 -- a path that has signals is printed
 pub path_line-some : (circuit : Circuit) (path : List ℕ) → (length path == 0) ≡ false

@@ -1,16 +1,116 @@
--- The registers and the signals that names denote.
-use Rattle.std.proofs.Common.{◌≡◌, ◌<◌, ◌≤◌, ◌+◌, ℕ, Bool, true, false, cond, List, map, length, position, Option, Some, None, refl, sym, ap, ◌∙◌, subst, arith}
-use Rattle.std.specs.List.{list_any, range_with_len}
+-- The registers and the signals that names denote, and that no other number has the name of one.
+use Rattle.std.proofs.Common.{◌≡◌, ◌<◌, ◌≤◌, ℕ, Bool, List, Result, Ok, Err, IfOk, IfErr, length, get_or, sym, ap, ◌∙◌, arith, true, false, ◌&&◌, cond, IsTrue, [], None, inl, inr, refl, ◌+◌, map, position, Option, Some, subst}
+use Rattle.std.specs.List.{range_with_len, list_any}
 use Rattle.std.specs.Str.{bytes_eq}
-use Rattle.std.proofs.lemmas.List.FromFn.{length-map-range_with_len}
+use Rattle.std.proofs.lemmas.Bool.{false_from_ne_true, cases_lt}
+use Rattle.std.proofs.lemmas.List.FromFn.{get_or-range_with_len, length-range_with_len, length-map-range_with_len}
+use Rattle.std.proofs.lemmas.List.Sums.{position_or_len_is}
+use Rattle.std.proofs.lemmas.Slice.Eq.{bytes_eq-Decides}
+use Rattle.std.proofs.lemmas.Bool.Decides.{nat_tests}
+use Rattle.std.proofs.lemmas.Option.{slice_get_past, slice_get_within, get_or_from_slice_get}
 use Rattle.cts_model.specs.declared.circuit.Circuit.{Circuit}
-use Rattle.cts_model.specs.netlist.Circuits.{has_host}
 use Rattle.cts_model.specs.netlist.Paths.{register_name}
+use Rattle.cts_model.specs.declared.signal.Signal.{Signal}
+use Rattle.cts_model.specs.netlist.Circuits.{host_name, is_named, has_host}
+use Rattle.cts_model.specs.netlist.Kinds.{is_host}
+use Rattle.cts_model.specs.text.Names.{is_name, is_short}
 use Rattle.cts_model.specs.report.ReportLines.{signal_name}
-use Rattle.report_text.specs.NamesOf.{signal_names, DenotesRegister, DenotesSignal}
+use Rattle.cts_model.proofs.CircuitLemmas.{registered, register_signal_is}
 use Rattle.name_set.specs.RegisterNames.{register_names}
-use Rattle.name_set.proofs.OneName.{one_signal}
+use Rattle.name_set.proofs.OneName.{one_register, one_signal}
 use Rattle.name_set.proofs.NameNumbers.{absent_below, found_below, missed_below}
+use Rattle.report_text.specs.LineFields.{Register}
+use Rattle.report_text.specs.declared.field.Flaw.{Flaw}
+use Rattle.report_text.specs.declared.field.Flaw.TheVariants as flaws
+use Rattle.report_text.specs.Fields.{NamesRegister, WordHasFlaw}
+use Rattle.report_text.specs.Forms.{register_named}
+use Rattle.report_text.specs.Scans.{flaw_in}
+use Rattle.report_text.specs.NamesOf.{signal_names, DenotesRegister, DenotesSignal}
+
+module _ (circuit : Circuit) (name : List ℕ) where
+  -- it is the first number whose register has the name
+  first_named : (number : ℕ) → number ≤ length circuit.registers
+      → ((earlier : ℕ) → earlier < number → register_name circuit earlier ≡ name → ⊥)
+      → (number < length circuit.registers → register_name circuit number ≡ name)
+      → register_named circuit name ≡ number
+  first_named number within none here =
+      let count : ℕ = length circuit.registers in
+      let test : ℕ → Bool = λ register. bytes_eq (register_name circuit register) name in
+      let long = length-range_with_len 0 count in
+      let numbers : List ℕ = range_with_len 0 count in
+      let at : (k : ℕ) → k < count → get_or numbers k 0 ≡ k =
+      λ k below. get_or-range_with_len 0 count k 0 below ∙ omega arith in
+      position_or_len_is test numbers number 0 (omega (arith, long, within))
+      (λ k before. ap test (at k (omega arith))
+      ∙ false_from_ne_true (test k)
+      (λ same. none k before ((bytes_eq-Decides (register_name circuit k) name).0 same)))
+      (λ below. ap test (at number (omega (arith, long, below)))
+      ∙ (bytes_eq-Decides (register_name circuit number) name).1
+      (here (omega (arith, long, below))))
+
+  -- a register of that name has it
+  pub named_register : (register : ℕ) → register < length circuit.registers
+      → register_name circuit register ≡ name → register_named circuit name ≡ register
+  named_register register within is = search (arith, first_named, one_register)
+
+  -- where none has the name, it is the number of all
+  pub unnamed_register : (NamesRegister circuit name → ⊥)
+      → register_named circuit name ≡ length circuit.registers
+  unnamed_register none =
+      first_named (length circuit.registers) (omega arith)
+      (λ register before same. none (register, before, same))
+      (λ past. absurd (omega (arith, past)))
+
+  -- so is what is given for the name: the number that is read, or that of all
+  pub name_read : (read : Result ℕ Flaw) (given other : ℕ)
+      → WordHasFlaw circuit Register name (flaw_in read)
+      → IfOk read (λ register. (name ≡ register_name circuit register)
+      × (register < length circuit.registers)) → IfOk read (λ register. given ≡ register)
+      → IfErr read (λ _. given ≡ other) → other ≡ length circuit.registers
+      → given ≡ register_named circuit name
+  name_read (Ok register) given other flaw is same none all = search (arith, named_register)
+  name_read (Err flaws.Form) given other flaw is same none all = absurd (flaw tt)
+  name_read (Err flaws.Unknown) given other flaw is same none all = search (arith, unnamed_register)
+  name_read (Err flaws.Unfit) given other flaw is same none all = absurd (flaw.2 tt)
+  name_read (Err flaws.Large) given other flaw is same none all = absurd (flaw.3 tt)
+
+-- a signal's name isn't empty
+named_some : (signal : Signal) → IsTrue (is_named signal) → signal.name ≡ [] → ⊥
+named_some signal named none = at (is_host signal.kind) named
+  where
+    at : (host : Bool) → IsTrue (cond host (bytes_eq signal.name host_name)
+        (is_name signal.name && is_short signal.name)) → ⊥
+    at true same = search (arith, bytes_eq-Decides)
+    at false both = search (arith, nat_tests)
+
+-- nor is a register's
+register_some : (circuit : Circuit) (register : ℕ) → register < length circuit.registers
+    → register_name circuit register ≡ [] → ⊥
+register_some circuit register within none =
+    let at = registered circuit register within in
+    let number = get_or circuit.registers register 0 in
+    let here = get_or_from_slice_get circuit.signals number at.signal at.signal at.here in
+    let named = circuit.valid.names number at.signal
+    (slice_get_within circuit.signals number at.signal at.here) in
+    let signal = register_signal_is circuit register within at.signal (sym here) in
+    named_some at.signal (rw here at named) (rw signal at none)
+
+-- the name of a register is that of no other number
+pub other_register : (circuit : Circuit) (register other : ℕ) (name : List ℕ)
+    → register < length circuit.registers → register_name circuit register ≡ name
+    → (register ≡ other → ⊥) → register_name circuit other ≡ name → ⊥
+other_register circuit register other name within is differs same =
+    elim (cases_lt other (length circuit.registers)) [
+      | inl within' ↦
+          differs (one_register circuit register other within within' (is ∙ sym same))
+      | inr past ↦
+          register_some circuit register within
+          (is ∙ sym same ∙ nameless other (omega (arith, past)))
+    ]
+  where
+    nameless : (number : ℕ) → length circuit.registers ≤ number
+        → register_name circuit number ≡ []
+    nameless number past = search (arith, slice_get_past)
 
 module _ (circuit : Circuit) (name : List ℕ) where
   -- what is said of a register by its name
@@ -22,8 +122,7 @@ module _ (circuit : Circuit) (name : List ℕ) where
     where
       at : (found : Option ℕ) → position (bytes_eq name) (register_names circuit) ≡ found
           → DenotesRegister circuit name found
-      at (Some number) is = found_below (register_name circuit) (length circuit.registers) name
-          number is
+      at (Some number) is = search (arith, found_below)
       at None is = λ other. missed_below (register_name circuit) (length circuit.registers) name
           is other.0 other.1 other.2
 
@@ -36,8 +135,7 @@ module _ (circuit : Circuit) (name : List ℕ) where
     where
       at : (found : Option ℕ) → position (bytes_eq name) (signal_names circuit) ≡ found
           → DenotesSignal circuit name found
-      at (Some number) is = found_below (signal_name circuit) (length circuit.signals) name
-          number is
+      at (Some number) is = search (arith, found_below)
       at None is = λ other. missed_below (signal_name circuit) (length circuit.signals) name
           is other.0 other.1 other.2
 

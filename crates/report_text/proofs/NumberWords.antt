@@ -1,5 +1,5 @@
 -- The word of a number and the number: whole numbers, and fractions that are whole steps.
-use Rattle.std.proofs.Common.{◌≡◌, ◌≤◌, ◌^◌, ℕ, ℤ, pos, negsuc, neg_ℤ, ◌+ℤ◌, ◌≤ℤ◌, ◌<ℤ◌, nat_abs, List, FitsSigned, refl, sym, ap, ◌∙◌, subst, arith}
+use Rattle.std.proofs.Common.{◌≡◌, ◌≤◌, ◌^◌, ℕ, ℤ, pos, negsuc, ◌+ℤ◌, ◌≤ℤ◌, nat_abs, List, FitsSigned, refl, ◌∙◌, arith}
 use mir.Syntax.{w128}
 use Rattle.std.proofs.lemmas.Int.{ints}
 use Rattle.std.specs.Fmt.{signed_decimal}
@@ -26,9 +26,7 @@ pub whole_read : (word : List ℕ) (value read number : ℤ) → SpellsWhole wor
     → read ≡ kept_size value → number ≡ read → HasSizeBelow (10 ^ 37) number
     → word ≡ signed_decimal number
 whole_read word value read number spells kept same small =
-    let few = kept_small value (subst (HasSizeBelow (10 ^ 37)) (same ∙ kept) small) in
-    whole_word word value few spells
-    ∙ ap signed_decimal (sym (kept_same value few) ∙ sym kept ∙ sym same)
+    search (arith, kept_small, whole_word, kept_same)
 
 -- and what a report has for such a number spells it
 pub spelled_whole : (value : ℤ) → HasSizeBelow (10 ^ 37) value
@@ -45,33 +43,19 @@ fits (negsuc n) small = let above = small.above in record { sfits = omega (arith
 -- a number that is no larger in size
 pub smaller : (bound : ℕ) (a b : ℤ) → nat_abs a ≤ nat_abs b → HasSizeBelow bound b
     → HasSizeBelow bound a
-smaller bound (pos a) (pos b) less small =
-    let below = small.below in
-    record { above = omega (arith, ints, less, below); below = omega (arith, ints, less, below) }
-smaller bound (pos a) (negsuc b) less small =
-    let above = small.above in
-    record { above = omega (arith, ints, less, above); below = omega (arith, ints, less, above) }
-smaller bound (negsuc a) (pos b) less small =
-    let below = small.below in
-    record { above = omega (arith, ints, less, below); below = omega (arith, ints, less, below) }
-smaller bound (negsuc a) (negsuc b) less small =
-    let above = small.above in
-    record { above = omega (arith, ints, less, above); below = omega (arith, ints, less, above) }
+smaller bound (pos a) (pos b) less small = search (arith, ints)
+smaller bound (pos a) (negsuc b) less small = search (arith, ints)
+smaller bound (negsuc a) (pos b) less small = search (arith, ints)
+smaller bound (negsuc a) (negsuc b) less small = search (arith, ints)
 
 -- so many steps are below a bound in size just where they are neither the bound nor more
 pub below_bound : (bound : ℕ) (steps : ℤ)
     → (pos bound ≤ℤ steps → ⊥) → ((steps +ℤ pos bound) ≤ℤ pos 0 → ⊥) → IsBelow bound steps
-below_bound bound steps low high =
-    let above : neg_ℤ (pos bound) <ℤ steps = grind (arith, ints) in
-    let less : steps <ℤ pos bound = grind (arith, ints) in
-    record { above = above; below = less }
+below_bound bound steps low high = search (arith, ints)
 
 pub within_bound : (bound : ℕ) (steps : ℤ) → IsBelow bound steps
     → (pos bound ≤ℤ steps → ⊥) × ((steps +ℤ pos bound) ≤ℤ pos 0 → ⊥)
-within_bound bound steps small =
-    let above = small.above in
-    let less = small.below in
-    (λ high. omega (arith, ints, high, less), λ deep. omega (arith, ints, deep, above))
+within_bound bound steps small = search (arith, ints)
 
 -- the word of a fraction that is so many steps is what a report has for those steps
 pub steps_word : (word : List ℕ) (over num den steps : ℤ) → pos 1 ≤ℤ over

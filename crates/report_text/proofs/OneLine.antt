@@ -1,11 +1,11 @@
 -- Lines are determined by their bytes: no word has a space or a line feed, or any byte below them.
-use Rattle.std.proofs.Common.{◌≡◌, ◌<◌, ◌==◌, false, ℕ, List, [], ◌∷◌, ◌++◌, All, map, refl, sym, ap, ap₂, ◌∙◌, append_assoc, ne_eqb, arith}
+use Rattle.std.proofs.Common.{◌≡◌, ◌<◌, ◌==◌, false, ℕ, List, [], ◌∷◌, ◌++◌, All, map, refl, append_assoc, ne_eqb, arith}
 use Rattle.std.proofs.lemmas.List.{same_from_push}
 use Rattle.std.proofs.lemmas.List.Elements.{All-from_recursion}
 use Rattle.std.proofs.lemmas.List.Splits.{slice_split_none, slice_split_at}
 use Rattle.std.specs.List.{AllByRecursion, join_with_byte, slice_split}
 use Rattle.cts_model.specs.text.PrintedLines.{Words, text_of}
-use Rattle.report_text.specs.ReportFaults.{is_line_feed, is_space, words_of}
+use Rattle.report_text.specs.ReportFaults.{is_line_feed, words_of}
 
 -- each byte is above the space
 abbrev pub IsWord : List ℕ → Type 0
@@ -25,10 +25,7 @@ Lacks byte bytes = AllByRecursion (λ other. (other == byte) ≡ false) bytes
 -- a word has no byte up to the space
 word_lacks : (byte : ℕ) (word : List ℕ) → byte < 33 → IsWord word → Lacks byte word
 word_lacks byte [] below is = tt
-word_lacks byte (first ∷ word) below is = (
-  ne_eqb first byte (λ same. omega (arith, same, is.0, below)),
-  word_lacks byte word below is.1,
-)
+word_lacks byte (first ∷ word) below is = search (arith, ne_eqb, word_lacks byte word below is.1)
 
 -- at each place
 lacks_each : (byte : ℕ) (bytes : List ℕ) → Lacks byte bytes
@@ -47,18 +44,14 @@ pub words_lack : (words : Words) → IsLine words → Lacks 10 (join_with_byte 3
 words_lack [] is = tt
 words_lack (word ∷ []) is = word_lacks 10 word (omega arith) is.0
 words_lack (word ∷ next ∷ words) is =
-    lacks_both 10 word (32 ∷ join_with_byte 32 (next ∷ words))
-    (word_lacks 10 word (omega arith) is.0) (refl, words_lack (next ∷ words) is.1)
+    search (arith, lacks_both, word_lacks, words_lack (next ∷ words) is.1)
 
 -- and are cut at the spaces
 pub words_cut : (words : Words) → IsLine words → words_of (join_with_byte 32 words) ≡ words
 words_cut [] is = absurd is
-words_cut (word ∷ []) is =
-    slice_split_none is_space word (lacks_each 32 word (word_lacks 32 word (omega arith) is.0))
+words_cut (word ∷ []) is = search (arith, slice_split_none, lacks_each, word_lacks)
 words_cut (word ∷ next ∷ words) is =
-    slice_split_at is_space word 32 (join_with_byte 32 (next ∷ words))
-    (lacks_each 32 word (word_lacks 32 word (omega arith) is.0)) refl
-    ∙ ap (λ ws. word ∷ ws) (words_cut (next ∷ words) is.1)
+    search (arith, slice_split_at, lacks_each, word_lacks, words_cut (next ∷ words) is.1)
 
 -- ---- the lines of a text
 
@@ -67,15 +60,18 @@ pub lines_cut : (lines : List Words) → AllByRecursion IsLine lines
     → map words_of (slice_split is_line_feed (text_of lines)) ≡ lines ++ ([] ∷ []) ∷ []
 lines_cut [] are = refl
 lines_cut (words ∷ lines) are =
-    let bytes : List ℕ = join_with_byte 32 words in
-    ap (λ text. map words_of (slice_split is_line_feed text))
-    (append_assoc bytes (10 ∷ []) (text_of lines))
-    ∙ ap (map words_of) (slice_split_at is_line_feed bytes 10 (text_of lines)
-    (lacks_each 10 bytes (words_lack words are.0)) refl)
-    ∙ ap₂ (λ w ws. w ∷ ws) (words_cut words are.0) (lines_cut lines are.1)
+    search (
+      arith,
+      append_assoc,
+      slice_split_at,
+      lacks_each,
+      words_lack,
+      words_cut,
+      lines_cut lines
+          are.1,
+    )
 
 -- so lines are determined by their text
 pub one_text : (lines others : List Words) → AllByRecursion IsLine lines
     → AllByRecursion IsLine others → text_of lines ≡ text_of others → lines ≡ others
-one_text lines others each each' same = (same_from_push lines others _ _ (sym (lines_cut lines each)
-    ∙ ap (λ text. map words_of (slice_split is_line_feed text)) same ∙ lines_cut others each')).0
+one_text lines others each each' same = search (arith, same_from_push, lines_cut)

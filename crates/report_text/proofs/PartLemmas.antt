@@ -1,5 +1,5 @@
 -- What the first lines of a text tell of the lines after them, and where its first fault is.
-use Rattle.std.proofs.Common.{◌≡◌, ◌≢◌, ◌≤◌, ◌^◌, ℕ, zero, suc, pos, ◌*ℤ◌, Option, Some, None, List, [], ◌∷◌, ◌++◌, map, length, get_or, codes, if◌then◌else◌, refl, sym, ap, subst, ◌∙◌, append-nil, arith, ◌+◌, ◌||◌, ℤ, negsuc, ◌≤ℤ◌, Bool, true, false, cond, drop, ne_eqb}
+use Rattle.std.proofs.Common.{◌≡◌, ◌≢◌, ◌≤◌, ◌^◌, ℕ, zero, suc, pos, Option, Some, None, List, [], ◌∷◌, ◌++◌, map, length, get_or, codes, if◌then◌else◌, refl, sym, ap, subst, ◌∙◌, append-nil, arith, ◌+◌, ℤ, negsuc, ◌≤ℤ◌, Bool, true, false, cond, ne_eqb}
 use Rattle.std.specs.List.{slice_split, after_first, list_any}
 use Rattle.std.specs.Str.{bytes_eq}
 use Rattle.std.proofs.lemmas.List.{length-replicate}
@@ -31,7 +31,7 @@ use Rattle.cts_base.specs.Fractions.{HasSizeBelow, fraction_text}
 use Rattle.cts_base.specs.NumberTexts.{is_slash}
 use Rattle.cts_base.proofs.OneNumberText.{HasNoSlash}
 use Rattle.cts_base.proofs.OneSpelling.{whole_no_slash}
-use Rattle.report_text.proofs.LineReading.{after_place, first_place}
+use Rattle.report_text.proofs.WalkLemmas.{after_place, first_place}
 use Rattle.report_text.proofs.OneLine.{Lacks}
 use Rattle.report_text.proofs.NumberWords.{spelled_whole}
 use Rattle.report_text.proofs.SpelledFields.{small_period}
@@ -46,21 +46,16 @@ lacks_slash (byte ∷ bytes) none = (ne_eqb byte 47 none.0, lacks_slash bytes no
 
 no_slash_found : (bytes : List ℕ) → Lacks 47 bytes → list_any is_slash bytes ≡ false
 no_slash_found [] lacks = refl
-no_slash_found (byte ∷ bytes) lacks =
-    ap (λ b. b || list_any is_slash bytes) lacks.0 ∙ no_slash_found bytes lacks.1
+no_slash_found (byte ∷ bytes) lacks = search (arith, no_slash_found bytes lacks.1)
 
 slash_found : (prefix back : List ℕ) → Lacks 47 prefix
     → list_any is_slash (prefix ++ 47 ∷ back) ≡ true
 slash_found [] back lacks = refl
-slash_found (byte ∷ prefix) back lacks =
-    ap (λ b. b || list_any is_slash (prefix ++ 47 ∷ back)) lacks.0
-    ∙ slash_found prefix back lacks.1
+slash_found (byte ∷ prefix) back lacks = search (arith, slash_found prefix back lacks.1)
 
 after_slash : (prefix back : List ℕ) → Lacks 47 prefix
     → after_first is_slash (prefix ++ 47 ∷ back) ≡ back
-after_slash prefix back lacks =
-    ap (λ n. drop (n + 1) (prefix ++ 47 ∷ back)) (first_place 47 prefix back lacks)
-    ∙ after_place 47 prefix back
+after_slash prefix back lacks = search (arith, first_place, after_place)
 
 -- what is said of a word as a denominator
 abbrev pub den_of : List ℕ → ℤ
@@ -79,31 +74,18 @@ fraction_den num (negsuc den) some small small' = absurd (omega (arith, ints, so
 fraction_den num (pos den) some small small' = at (int_eq (pos den) (pos 1)) refl
   where
     lacks : Lacks 47 (signed_decimal num)
-    lacks = lacks_slash (signed_decimal num)
-        (whole_no_slash (signed_decimal num) num (spelled_whole num small))
+    lacks = search (arith, lacks_slash, whole_no_slash, spelled_whole)
 
     at : (whole : Bool) → int_eq (pos den) (pos 1) ≡ whole
         → den_of (cond whole (signed_decimal num)
         (signed_decimal num ++ 47 ∷ signed_decimal (pos den))) ≡ pos den
-    at true is =
-        let text : List ℕ = signed_decimal num in
-        ap (λ b. cond b (pos (digits_value 10 (after_first is_slash text))) (pos 1))
-        (no_slash_found text lacks)
-        ∙ sym ((Decides-int_eq (pos den) (pos 1)).0 is)
-    at false is =
-        let back : List ℕ = signed_decimal (pos den) in
-        let text : List ℕ = signed_decimal num ++ 47 ∷ back in
-        ap (λ b. cond b (pos (digits_value 10 (after_first is_slash text))) (pos 1))
-        (slash_found (signed_decimal num) back lacks)
-        ∙ ap (λ bytes. pos (digits_value 10 bytes)) (after_slash (signed_decimal num) back lacks)
-        ∙ ap pos (value_of den small')
+    at true is = search (arith, no_slash_found, lacks, Decides-int_eq)
+    at false is = search (arith, slash_found, lacks, after_slash, value_of)
 
 -- so it is of a period's
 pub period_den : (period : Fraction) → IsSmallPeriod period
     → den_of (fraction_text period.num period.den) ≡ period.den
-period_den period small =
-    let sizes = small_period period small in
-    fraction_den period.num period.den period.lowest.some_den sizes.0 sizes.1
+period_den period small = search (arith, small_period, fraction_den)
 
 -- ---- the version that the first line tells
 
@@ -157,31 +139,19 @@ module _ (text : List ℕ) (heading : Heading) (rest : List Words)
       ∙ ap (λ ls. get_or ls line (words_of [])) words)
 
   denoted_version : version_denoted text ≡ heading.version
-  denoted_version =
-      ap (λ word. if bytes_eq word (codes "1") then First else Second) (denoted 0 1)
-      ∙ version_told heading.version
+  denoted_version = search (arith, denoted, version_told)
 
   denoted_den : den_denoted text ≡ heading.period.den
   denoted_den = ap den_of (denoted 1 1) ∙ period_den heading.period small
 
   denoted_cycle : cycle_denoted text ≡ count_of heading.count
-  denoted_cycle =
-      ap (λ word. cycle_of word (word_at text 2 1)) (denoted 2 0)
-      ∙ ap (λ count. cycle_of (get_or (shown_line heading.count) 0 []) count) (denoted 2 1)
-      ∙ shown_count heading.count few
+  denoted_cycle = search (arith, denoted, shown_count)
 
   pub forms_denoted : (tech : Tech)
       → ◌≡◌ {A = Scale × Version × ℕ}
       (scale_denoted tech text, version_denoted text, cycle_denoted text)
       (scale_in tech heading.period, heading.version, count_of heading.count)
-  forms_denoted tech = λ i. (
-    record {
-      den = denoted_den i;
-      grid = pos (10 ^ 6) *ℤ (pos 8 *ℤ denoted_den i *ℤ tech.wire_num);
-    },
-    denoted_version i,
-    denoted_cycle i,
-  )
+  forms_denoted tech = search (arith, denoted_den, denoted_version, denoted_cycle)
 
   -- the first fault by the forms that they give
   pub fault_by : (circuit : Circuit) (tech : Tech) (fault : Option ReportFault)
@@ -244,7 +214,4 @@ module _ {circuit : Circuit} {text : List ℕ} {new : Left} {heading : Heading}
 pub heading_fault : (circuit : Circuit) (tech : Tech) (text : List ℕ) (fault : ReportFault)
     → ((scale : Scale) → Stops circuit scale heading_forms (whole text) fault)
     → fault ≢ NoMemory → HasFault circuit tech text (Some fault)
-heading_fault circuit tech text fault stops named =
-    stops (scale_denoted tech text) named
-    (cycle_forms (version_denoted text) (cycle_denoted text)
-    ++ forms_after (version_denoted text) (length circuit.registers))
+heading_fault circuit tech text fault stops named = search (arith)

@@ -2,7 +2,6 @@
 -- line tells.
 use Rattle.std.proofs.Common.{◌≡◌, ◌<◌, ◌≤◌, ◌+◌, ◌-◌, ◌*◌, ℕ, pos, List, [], ◌∷◌, ◌++◌, All, None, map, take, drop, length, get_or, refl, sym, ap, ap₂, ◌∙◌, subst, append_assoc, arith}
 use Rattle.std.specs.List.{range_with_len}
-use Rattle.std.specs.Option.{unwrap_or}
 use Rattle.std.proofs.lemmas.Simd.{map-map}
 use Rattle.std.proofs.lemmas.List.{get_or-drop, get_or-take, length-drop, length-take, length-take-le, take-append-drop, take_all, take_more}
 use Rattle.std.proofs.lemmas.List.FromFn.{fill_by_all, get_or-map-range_with_len, length-map-range_with_len}
@@ -14,7 +13,6 @@ use Rattle.cts_model.specs.declared.tree.Show.TheVariants.{Root}
 use Rattle.cts_model.specs.report.ReportBounds.{IsMergeShow, IsOfSize, IsSourceShow, IsWithinBounds}
 use Rattle.cts_model.specs.report.ReportLines.{lead_line, no_wire, number_at, origin, report_lines}
 use Rattle.cts_model.specs.timing.Schedules.{arrival_of}
-use Rattle.cts_model.specs.tree.Topologies.{root_of, source_of}
 use Rattle.report_text.specs.declared.form.Scale.{Scale}
 use Rattle.report_text.specs.declared.sections.Parts.{Parts}
 use Rattle.report_text.specs.declared.timing_values.Timed.{Timed}
@@ -25,8 +23,7 @@ use Rattle.report_text.specs.Parts.{scale_in}
 use Rattle.report_text.specs.TimingValues.{DenotesLead}
 use Rattle.report_text.specs.Values.{SaysMerge, SaysNode, SaysSource, merged_line, placed_line, sourced_line}
 use Rattle.report_text.specs.Walks.{DenotesTimed}
-use Rattle.report_text.proofs.AssemblyLemmas.{lines_denoted}
-use Rattle.report_text.proofs.PrintedParts.{ArePrintable, IsTold, count_shown}
+use Rattle.report_text.proofs.AssemblyLemmas.{lines_denoted, ArePrintable, IsTold, count_shown}
 
 -- ---- values at places
 
@@ -48,15 +45,13 @@ told_first f row_at ys count d less each =
 -- all but the last, and the last
 with_last : {Y : Type 0} (ys : List Y) (count : ℕ) (d : Y) → length ys ≡ count + 1
     → take count ys ++ get_or ys count d ∷ [] ≡ ys
-with_last ys count d long = sym (take_more ys count d (omega (arith, long)))
-    ∙ take_all (count + 1) ys (omega (arith, long))
+with_last ys count d long = search (arith, take_more, take_all)
 
 -- what is so at each place
 all_below : {X : Type 0} (P : X → Type 0) (row_at : ℕ → X) (count : ℕ)
     → ((k : ℕ) → k < count → P (row_at k)) → All P (map row_at (range_with_len 0 count))
 all_below P row_at count each k d within =
-    let less : k < count = omega (arith, within, length-map-range_with_len row_at 0 count) in
-    subst P (sym (get_or-map-range_with_len row_at 0 count k k d less (omega arith))) (each k less)
+    search (arith, length-map-range_with_len, get_or-map-range_with_len)
 
 -- ---- the parts
 
@@ -147,19 +142,7 @@ module _ (circuit : Circuit) (tech : Tech) (report : Report) (size : IsOfSize ci
 
   -- the source stands where the root's wire begins
   begin_same : begin_of (wires_in parts) ≡ get_or report.tree.place (2 * count - 1) origin
-  begin_same =
-      let root = root_of (length report.schedule.at) in
-      let source = source_of (length report.schedule.at) in
-      let wire = get_or report.wires root no_wire in
-      let last : length report.wires - 1 ≡ root = omega (arith, size.wires, size.arrivals) in
-      let stands : source ≡ 2 * count - 1 = omega (arith, size.arrivals) in
-      ap begin_of wires_same
-      ∙ ap (λ k. get_or (get_or report.wires k no_wire).corners 0 origin) last
-      ∙ sym (unwrap_or-slice_get wire.corners 0 origin)
-      ∙ ap (λ o. unwrap_or o origin) (sym (bounds.tree.source wire (slice_get-get_or report.wires
-      root no_wire (omega (arith, size.wires, size.arrivals, some)))))
-      ∙ unwrap_or-slice_get report.tree.place source origin
-      ∙ ap (λ k. get_or report.tree.place k origin) stands
+  begin_same = search (arith, wires_same, unwrap_or-slice_get, slice_get-get_or, some)
 
   pub report_same : report_denoted tech parts ≡ report
   report_same =
@@ -208,11 +191,7 @@ module _ (circuit : Circuit) (tech : Tech) (report : Report) (size : IsOfSize ci
 
   leads_told : All (IsTold (λ number. DenotesLead circuit) (λ number. lead_line circuit))
       report.leads
-  leads_told k d within number = record {
-    line = refl;
-    registers = size.each_lead k d within;
-    small = bounds.timing.leads k d within;
-  }
+  leads_told k d within number = search (arith)
 
   merges_told : All (IsTold (SaysMerge circuit scale.grid) (merged_line circuit scale.grid))
       parts.body.merged

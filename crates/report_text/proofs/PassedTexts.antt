@@ -1,8 +1,8 @@
--- A text without a fault spells a report.
-use Rattle.std.proofs.Common.{map, pos, ◌≡◌, ◌==◌, ℕ, suc, false, Option, Some, None, List, [], ◌∷◌, ◌++◌, length, if◌then◌else◌, refl, sym, ap, ◌∙◌, subst, append-nil, arith, ◌<◌, ◌≤◌, ◌+◌, ◌-◌, ◌*◌, ◌^◌, append_assoc, zero, Bool, true, MatchBool, MatchOption, take, drop}
+-- A text without a fault spells a report; so each text has a fault as a report or spells one.
+use Rattle.std.proofs.Common.{map, pos, ◌≡◌, ◌==◌, ℕ, suc, false, Option, Some, None, List, [], ◌∷◌, ◌++◌, length, if◌then◌else◌, refl, sym, ap, ◌∙◌, subst, append-nil, arith, ◌<◌, ◌≤◌, ◌+◌, ◌-◌, ◌*◌, ◌^◌, append_assoc, zero, Bool, true, MatchBool, MatchOption, take, drop, inl, inr}
+use Rattle.std.specs.List.{slice_split, range_with_len, position}
 use Rattle.std.proofs.lemmas.Bool.{ne_eqb}
 use Rattle.std.proofs.lemmas.Option.{none-some}
-use Rattle.std.specs.List.{slice_split, range_with_len, position}
 use Rattle.std.proofs.lemmas.List.{length-take}
 use Rattle.cts_model.specs.declared.circuit.Circuit.{Circuit}
 use Rattle.cts_model.specs.declared.period.PeriodShow.TheVariants.{Cycle, Floor}
@@ -11,6 +11,9 @@ use Rattle.cts_model.specs.declared.report.Version.{Version}
 use Rattle.cts_model.specs.declared.report.Version.TheVariants.{First, Second}
 use Rattle.cts_model.specs.declared.tech.Tech.{Tech}
 use Rattle.cts_model.specs.report.ReportBounds.{Spells}
+use Rattle.cts_model.specs.text.PrintedLines.{Words, count_line}
+use Rattle.cts_model.specs.declared.report.Version.TheVariants as version
+use Rattle.name_set.proofs.OneName.{few_registers}
 use Rattle.report_text.specs.declared.fault.ReportFault.TheVariants.{Extra, BadLine, Missing}
 use Rattle.report_text.specs.declared.form.Form.{Form}
 use Rattle.report_text.specs.declared.form.Scale.{Scale}
@@ -18,21 +21,13 @@ use Rattle.report_text.specs.declared.sections.Heading.{Heading}
 use Rattle.report_text.specs.declared.sections.Parts.{Parts}
 use Rattle.report_text.specs.declared.timing_values.PeriodLine.{PeriodLine}
 use Rattle.report_text.specs.declared.timing_values.ShowLine.{ShowLine}
-use Rattle.report_text.specs.Forms.{cycle_forms, forms_after, lead_forms, fields_of}
+use Rattle.report_text.specs.Forms.{cycle_forms, forms_after, lead_forms, fields_of, forms_of}
 use Rattle.report_text.specs.Headings.{HasHeading, HasShown, IsSmallCount, count_of, heading_forms}
 use Rattle.report_text.specs.Parts.{HasParts, scale_in, whole}
 use Rattle.report_text.specs.ReportFaults.{is_line_feed, words_of, HasFault, cycle_denoted, scale_denoted, version_denoted, HasFirstFault, fault_of}
 use Rattle.report_text.specs.TimingValues.{DenotesPeriod, DenotesShow, IsFlawless, DenotesConstraint, DenotesLead, DenotesPath}
 use Rattle.report_text.specs.DenotedReports.{report_denoted}
 use Rattle.report_text.specs.Walks.{Left, DenotesVersion, ReadsLine, DenotesTimed, TakesLine, DenotesLine}
-use Rattle.report_text.proofs.GridLemmas.{scale_small}
-use Rattle.report_text.proofs.HeadingLemmas.{cycle_shown, heading_read, pathed_shown}
-use Rattle.name_set.proofs.OneName.{few_registers}
-use Rattle.report_text.proofs.PartLemmas.{forms_denoted}
-use Rattle.report_text.proofs.AssemblyLemmas.{parts_spelled}
-use Rattle.report_text.proofs.TimingLines.{period_found, show_found, version_found, constraint_found, count_found, lead_found, path_found, timed_found}
-use Rattle.report_text.proofs.WalkLemmas.{read_none, cut_within, line_read}
-use Rattle.cts_model.specs.text.PrintedLines.{Words, count_line}
 use Rattle.report_text.specs.declared.field.Keyword.{Keyword}
 use Rattle.report_text.specs.declared.sections.Pathed.{Pathed}
 use Rattle.report_text.specs.declared.timing_values.PathLine.{PathLine}
@@ -41,14 +36,21 @@ use Rattle.report_text.specs.Bodies.{HasBody, HasVersionLeads}
 use Rattle.report_text.specs.Keywords.{keyword_text}
 use Rattle.report_text.specs.Rows.{Counted, HasPathed, HasRows}
 use Rattle.report_text.specs.Values.{IsSmallScale, SaysMerge, SaysNode, SaysSource, SaysTotal}
-use Rattle.report_text.proofs.BodyLemmas.{leads_given, merge_forms, node_forms, register_forms, sections_apart}
-use Rattle.report_text.proofs.RowLemmas.{no_rows, one_form, pathed_next, rows_next}
-use Rattle.report_text.proofs.TreeLines.{merge_found, node_found, source_found, total_found}
 use Rattle.report_text.specs.declared.field.Flaw.{Flaw}
 use Rattle.report_text.specs.Fields.{LineHasFlaw}
 use Rattle.report_text.specs.declared.form.Form.TheVariants as form
-use Rattle.cts_model.specs.declared.report.Version.TheVariants as version
 use Rattle.report_text.specs.declared.field.Keyword.TheVariants as word
+use Rattle.report_text.specs.declared.fault.ReportFault.{ReportFault}
+use Rattle.report_text.specs.Laws.{HasFaultOrReport}
+use Rattle.report_text.proofs.SpelledFields.{scale_small}
+use Rattle.report_text.proofs.BodyLemmas.{cycle_shown, heading_read, pathed_shown, leads_given, merge_forms, node_forms, register_forms, sections_apart}
+use Rattle.report_text.proofs.PartLemmas.{forms_denoted}
+use Rattle.report_text.proofs.AssemblyLemmas.{parts_spelled}
+use Rattle.report_text.proofs.TimingLines.{period_found, show_found, version_found, constraint_found, count_found, lead_found, path_found, timed_found}
+use Rattle.report_text.proofs.WalkLemmas.{read_none, cut_within, line_read}
+use Rattle.report_text.proofs.RowLemmas.{no_rows, one_form, pathed_next, rows_next}
+use Rattle.report_text.proofs.TreeLines.{merge_found, node_found, source_found, total_found}
+use Rattle.report_text.proofs.JudgedWords.{line_judged}
 
 -- by these forms there is no fault in what is left
 abbrev pub IsSound : Circuit → Scale → List Form → Left → Type 0
@@ -76,17 +78,7 @@ line_taken : (old : Left) (end : ℕ) → (length old.text == 0) ≡ false
     → position is_line_feed old.text ≡ Some end
     → TakesLine old (take end old.text)
     (record { line = old.line + 1; text = drop (end + 1) old.text })
-line_taken old end some found =
-    let within = (cut_within is_line_feed old.text end found).1 in
-    let long : end ≡ length (take end old.text) =
-    omega (arith, within, length-take end old.text) in
-    record {
-      some = some;
-      end = found ∙ ap Some long;
-      line_is = ap (λ n. take n old.text) long;
-      text = ap (λ n. drop (n + 1) old.text) long;
-      number = refl;
-    }
+line_taken old end some found = search (arith, cut_within, length-take)
 
 line_passed : (circuit : Circuit) (scale : Scale) (due : Form) (more : List Form) (old : Left)
     → IsSound circuit scale (due ∷ more) old → PassedLine circuit scale due more old
@@ -115,8 +107,7 @@ line_passed circuit scale due more old sound =
           (words_of (take end old.text)) refl flawless;
       rest = rest;
     }
-    at false (Some end) some found (Some flaw, has, is) =
-        absurd (none-some (fault_of due old.line flaw) is)
+    at false (Some end) some found (Some flaw, has, is) = search (arith, none-some)
 
 -- where words without a flaw tell a value, the next line does
 pub denoted_passed : {X : Type 0} (circuit : Circuit) (scale : Scale) (due : Form)
@@ -148,12 +139,7 @@ pub steps_passed : {X : Type 0} (circuit : Circuit) (scale : Scale) (more : List
     → Has place between value → IsSound circuit scale (forms place rest ++ more) between
     → Passed circuit scale more (Has count)
 steps_passed circuit scale more Has count due forms begins ends next zero place last between value
-    has sound = record {
-      new = between;
-      value = value;
-      has = subst (λ n. Has n between value) (omega (arith, last)) has;
-      rest = subst (λ fs. IsSound circuit scale (fs ++ more) between) (ends place) sound;
-    }
+    has sound = search (arith)
 steps_passed circuit scale more Has count due forms begins ends next (suc rest) place last between
     value has sound =
     let step = next place (forms (place + 1) rest ++ more) between value (omega (arith, last)) has
@@ -275,12 +261,7 @@ module _ (circuit : Circuit) (scale : Scale) where
   version_leads_passed : (version : Version) (count : ℕ) (more : List Form) (old : Left)
       → IsSound circuit scale (lead_forms version count ++ more) old
       → Passed circuit scale more (HasVersionLeads circuit scale version count old)
-  version_leads_passed version.First count more old sound = record {
-    new = old;
-    value = [];
-    has = record { lines = []; read = read_none circuit scale old; each = tt; many = refl };
-    rest = sound;
-  }
+  version_leads_passed version.First count more old sound = search (arith, read_none)
   version_leads_passed version.Second count more old sound =
       let leads = rows_passed (λ number. form.Lead) (λ number. DenotesLead circuit) 0 count more
       old (λ number words within some. lead_found circuit scale words)
@@ -438,11 +419,7 @@ nothing_left circuit scale left sound = at left.text sound
     at : (text : List ℕ)
         → None ≡ (if length text == 0 then None else Some (Extra left.line)) → text ≡ []
     at [] is = refl
-    at (byte ∷ text) is =
-        let some : (suc (length text) == 0) ≡ false =
-        ne_eqb (suc (length text)) 0 (λ none. omega (arith, none)) in
-        absurd (none-some (Extra left.line)
-        (is ∙ ap (λ b. if b then None else Some (Extra left.line)) some))
+    at (byte ∷ text) is = search (arith, ne_eqb, none-some)
 
 -- all lines
 parts_passed : (circuit : Circuit) (tech : Tech) (text : List ℕ) → HasFault circuit tech text None
@@ -479,3 +456,51 @@ pub report_spelled : (circuit : Circuit) (tech : Tech) (text : List ℕ)
 report_spelled circuit tech text sound =
     let (parts, has) = parts_passed circuit tech text sound in
     (report_denoted tech parts, parts_spelled has)
+
+-- a text has a first fault by forms, or has none
+forms_judged : (circuit : Circuit) (scale : Scale) (forms : List Form) (line : ℕ)
+    → (text : List ℕ)
+    → (fault : Option ReportFault) × HasFirstFault circuit scale forms line text fault
+forms_judged circuit scale [] line text = (_, refl)
+forms_judged circuit scale (due ∷ more) line text =
+    at (length text == 0) (position is_line_feed text)
+    (λ end. forms_judged circuit scale more (line + 1) (drop (end + 1) text))
+  where
+    Later : (end : ℕ) → Option ReportFault → Type 0
+    Later end fault = HasFirstFault circuit scale more (line + 1) (drop (end + 1) text) fault
+
+    Judged : (end : ℕ) → Option ReportFault → Type 0
+    Judged end fault = (flaw : Option Flaw)
+        × LineHasFlaw circuit (fields_of circuit scale due (words_of (take end text)))
+        (words_of (take end text)) flaw
+        × MatchOption flaw (Later end fault) (λ found. fault ≡ Some (fault_of due line found))
+
+    by : (end : ℕ) → ((fault : Option ReportFault) × Later end fault) → (flaw : Option Flaw)
+        → LineHasFlaw circuit (fields_of circuit scale due (words_of (take end text)))
+        (words_of (take end text)) flaw → (fault : Option ReportFault) × Judged end fault
+    by end later None has = (later.0, (None, has, later.1))
+    by end later (Some flaw) has = (Some (fault_of due line flaw), (Some flaw, has, refl))
+
+    at : (none : Bool) (end : Option ℕ)
+        → ((end : ℕ) → (fault : Option ReportFault) × Later end fault)
+        → (fault : Option ReportFault) × MatchBool none (fault ≡ Some (Missing line))
+        (MatchOption end (fault ≡ Some (BadLine line)) (λ n. Judged n fault))
+    at true end later = (Some (Missing line), refl)
+    at false None later = (Some (BadLine line), refl)
+    at false (Some end) later =
+        let words : Words = words_of (take end text) in
+        let (flaw, has) = line_judged circuit (fields_of circuit scale due words) words in
+        by end (later end) flaw has
+
+-- so a text has a fault or spells a report
+pub fault_or_report : (circuit : Circuit) (tech : Tech) (text : List ℕ)
+    → HasFaultOrReport circuit tech text
+fault_or_report circuit tech text =
+    let (fault, has) = forms_judged circuit (scale_denoted tech text)
+    (forms_of (version_denoted text) (cycle_denoted text) (length circuit.registers)) 1 text in
+    at fault has
+  where
+    at : (fault : Option ReportFault) → HasFault circuit tech text fault
+        → HasFaultOrReport circuit tech text
+    at None has = inr (report_spelled circuit tech text has)
+    at (Some fault) has = inl (fault, has)

@@ -179,6 +179,4 @@ tree_are circuit report =
 -- the lines of a report are lines
 pub report_lines_are : (circuit : Circuit) (report : Report)
     → AreLines (report_lines circuit report)
-report_lines_are circuit report =
-    appended IsLine (timing_lines circuit report) (tree_lines circuit report)
-    (timing_are circuit report) (tree_are circuit report)
+report_lines_are circuit report = search (arith, appended, timing_are, tree_are)

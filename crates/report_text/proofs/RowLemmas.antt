@@ -27,8 +27,7 @@ use Rattle.report_text.proofs.WalkLemmas.{next_read, next_stops, read_more, read
 -- a list with one more item
 module _ {X : Type 0} (xs xs' : List X) (x : X) (is : xs' ≡ xs ++ x ∷ []) where
   pub longer : (count : ℕ) → length xs ≡ count → length xs' ≡ count + 1
-  longer count long =
-      omega (arith, ap (λ (l : List X). length l) is, length-append xs (x ∷ []), long)
+  longer count long = search (arith, length-append)
 
   all_with : (P : X → Type 0) → All P xs → P x → All P xs'
   all_with P each last = subst (All P) (sym is) (All-push P xs x each last)
@@ -41,11 +40,12 @@ module _ {X : Type 0} (Says : ℕ → Words → X → Type 0) where
       → SayEach Says first lines rows → Says (first + length rows) words row
       → SayEach Says first (lines ++ words ∷ []) (rows ++ row ∷ [])
   say_more first [] [] words row each says = (subst (λ n. Says n words row) (omega arith) says, tt)
-  say_more first (line ∷ lines) (other ∷ rows) words row each says = (
-    each.0,
-    say_more (first + 1) lines rows words row each.1
-        (subst (λ n. Says n words row) (omega arith) says),
-  )
+  say_more first (line ∷ lines) (other ∷ rows) words row each says =
+      search (
+        arith,
+        say_more (first + 1) lines rows words row each.1 (subst (λ n. Says n words row)
+            (omega arith) says),
+      )
   say_more first lines rows words row each says = absurd each
 
   -- the lines are those of the rows
@@ -55,8 +55,7 @@ module _ {X : Type 0} (Says : ℕ → Words → X → Type 0) where
       → lines ≡ lines_of line first rows
   rows_lines line is first [] [] each = refl
   rows_lines line is first (words ∷ lines) (row ∷ rows) each =
-      ap₂ (λ w ws. w ∷ ws) (is first words row each.0)
-      (rows_lines line is (first + 1) lines rows each.1)
+      search (arith, rows_lines line is (first + 1) lines rows each.1)
   rows_lines line is first lines rows each = absurd each
 
   -- and each row has what its line gives
@@ -73,8 +72,7 @@ module _ {X : Type 0} (Says : ℕ → Words → X → Type 0) where
 pub plain_lines : {X : Type 0} (line : X → Words) (first : ℕ) (rows : List X)
     → lines_of (λ number. line) first rows ≡ map line rows
 plain_lines line first [] = refl
-plain_lines line first (row ∷ rows) =
-    ap (λ lines. line row ∷ lines) (plain_lines line (first + 1) rows)
+plain_lines line first (row ∷ rows) = search (arith, plain_lines line (first + 1) rows)
 
 -- forms that are numbered
 numbered_step : (due : ℕ → Form) (first place : ℕ)
@@ -172,10 +170,7 @@ module _ {X : Type 0} {circuit : Circuit} {scale : Scale} {keyword : Keyword} {d
 pub pathed_step : (place : ℕ) → cycle_forms version.Second (place + 1)
     ≡ cycle_forms version.Second place ++ form.Constraint ∷ form.Path ∷ []
 pathed_step zero = refl
-pathed_step (suc place) =
-    let more : suc place + 1 ≡ suc (place + 1) = omega arith in
-    ap (cycle_forms version.Second) more
-    ∙ ap (λ forms. form.Constraint ∷ form.Path ∷ forms) (pathed_step place)
+pathed_step (suc place) = search (arith, pathed_step place)
 
 pub length_pathed : (place : ℕ) → length (cycle_forms version.Second place) ≡ 2 * place
 length_pathed zero = refl
@@ -189,8 +184,7 @@ pathed_more : (circuit : Circuit) (cycle : List Constraint) (paths : List (List 
     ++ line_for circuit constraint ∷ path_line circuit path ∷ []
 pathed_more circuit [] [] constraint path as_many = refl
 pathed_more circuit (first ∷ cycle) (way ∷ paths) constraint path as_many =
-    ap (λ lines. line_for circuit first ∷ path_line circuit way ∷ lines)
-    (pathed_more circuit cycle paths constraint path (omega arith))
+    search (arith, pathed_more circuit cycle paths constraint path (omega arith))
 pathed_more circuit cycle paths constraint path as_many = absurd (omega arith)
 
 -- one more constraint and its path

@@ -1,12 +1,24 @@
 -- Words that are taken one after the other, and a line that is read to its end.
-use Rattle.std.proofs.Common.{◌≡◌, ◌<◌, ◌≤◌, ℕ, nat_le, Bool, true, false, true≢false, if◌then◌else◌, List, [], ◌∷◌, ◌++◌, drop, length, Option, Some, None, Result, Ok, Err, IfOk, refl, sym, ap, ◌∙◌, subst, append_assoc, append-nil, length-append, arith}
+use Rattle.std.proofs.Common.{◌≡◌, ◌<◌, ◌≤◌, ℕ, nat_le, Bool, true, false, true≢false, if◌then◌else◌, List, [], ◌∷◌, ◌++◌, drop, length, Option, Some, None, Result, Ok, Err, IfOk, refl, sym, ap, ◌∙◌, subst, append_assoc, append-nil, length-append, arith, ◌+◌, ◌^◌, ℤ, pos, cond, All, map, replicate, codes, ◌*◌, get_or, set, take}
+use Rattle.std.specs.Fmt.{signed_decimal}
+use Rattle.std.specs.List.{flat_map}
 use Rattle.std.proofs.lemmas.Bool.{le-leb, leb-true}
 use Rattle.std.proofs.lemmas.Bool.Decides.{nat_tests}
-use Rattle.std.proofs.lemmas.List.{drop-drop}
+use Rattle.std.proofs.lemmas.List.{drop-drop, map_push, replicate_more, drop-set-lt, drop_more, length-set, replicate-append-replicate, take_more_set}
 use Rattle.std.proofs.lemmas.List.Splits.{length-slice_split}
 use Rattle.std.proofs.lemmas.Option.{none-some}
+use Rattle.std.proofs.lemmas.List.Elements.{All-nil, All-push, All-rest, All-same}
+use Rattle.std.proofs.lemmas.Grind.{flat_map-append}
 use Rattle.cts_model.specs.declared.circuit.Circuit.{Circuit}
-use Rattle.cts_model.specs.text.PrintedLines.{Words}
+use Rattle.cts_model.specs.text.PrintedLines.{Words, constraint_line, line_for}
+use Rattle.cts_model.specs.declared.constraint.Constraint.{Constraint}
+use Rattle.cts_model.specs.declared.report.Version.{Version}
+use Rattle.cts_model.specs.declared.report.Version.TheVariants.{First, Second}
+use Rattle.cts_model.specs.placement.Points.{IsBelow, IsPointBelow}
+use Rattle.cts_model.specs.report.ReportBounds.{HasSmallWeight, IsBetweenRegisters}
+use Rattle.cts_model.specs.report.ReportLines.{path_line, signal_name, origin}
+use Rattle.cts_model.specs.declared.place.Point.{Point}
+use Rattle.cts_model.specs.tree.DrawnWires.{ArePadded}
 use Rattle.report_text.specs.LineFields.{Field}
 use Rattle.report_text.specs.declared.field.Flaw.{Flaw}
 use Rattle.report_text.specs.declared.field.Flaw.TheVariants as flaws
@@ -14,13 +26,16 @@ use Rattle.report_text.specs.declared.form.Form.{Form}
 use Rattle.report_text.specs.declared.form.Scale.{Scale}
 use Rattle.report_text.specs.Fields.{LineHasFlaw, WordHasFlaw}
 use Rattle.report_text.specs.FlawOrder.{rank, sooner_flaw}
-use Rattle.report_text.specs.Forms.{fields_of}
+use Rattle.report_text.specs.Forms.{fields_of, constraint_fields, length_field}
 use Rattle.report_text.specs.declared.fault.ReportFault.{ReportFault}
-use Rattle.report_text.specs.ReportFaults.{fault_of, is_space, words_of}
-use Rattle.report_text.specs.Walks.{Left, ReadsLine, StopsLine, TakesLine}
+use Rattle.report_text.specs.ReportFaults.{fault_of, words_of}
+use Rattle.report_text.specs.Walks.{Left, ReadsLine, StopsLine, TakesLine, DenotesVersion}
 use Rattle.report_text.specs.Scans.{EndsIn, Keeps, LineLeft, ReadsForm, Taken, Takes, TakesNext, flaw_in}
-use Rattle.report_text.proofs.FlawLemmas.{line_first}
-use Rattle.report_text.proofs.WalkLemmas.{line_read}
+use Rattle.report_text.specs.LineFields as field
+use Rattle.report_text.specs.Keywords.{version_text}
+use Rattle.report_text.specs.TimingValues.{DenotesConstraint, DenotesPath}
+use Rattle.report_text.specs.Values.{coordinates}
+use Rattle.report_text.proofs.WalkLemmas.{line_first, line_read}
 
 -- ---- of flaws the sooner
 
@@ -57,11 +72,7 @@ sooner_sound first second is = at first second (nat_le (rank first) (rank second
 
     at : (first second : Option Flaw) (sooner : Bool) → nat_le (rank first) (rank second) ≡ sooner
         → (if sooner then first else second) ≡ None → (first ≡ None) × (second ≡ None)
-    at first second true le is = (
-      is,
-      last second (leb-true (rank None) (rank second)
-          (ap (λ (f : Option Flaw). nat_le (rank f) (rank second)) (sym is) ∙ le)),
-    )
+    at first second true le is = search (arith, last, leb-true, nat_le)
     at first second false more is =
         let le : nat_le (rank first) (rank None) ≡ true = le-leb (rank first) 4 (most first) in
         absurd (true≢false (sym le ∙ ap (λ (f : Option Flaw). nat_le (rank first) (rank f)) (sym is)
@@ -93,18 +104,7 @@ module _ {X : Type 0} (circuit : Circuit) (due : Field) {old between new : LineL
                   ∙ ap (λ f. sooner_flaw f (flaw_in read)) form ∙ form_sooner (flaw_in read))
                   ∙ form_sooner found ∙ sym (sooner_form old.flaw),
             )
-        at (first ∷ rest) some =
-            let (words, same) = next.some (subst (λ (ws : Words). 0 < length ws) (sym some)
-            (omega arith)) in (
-              sooner_flaw (flaw_in read) found,
-              subst (λ (ws : Words). LineHasFlaw circuit (due ∷ more) ws
-                  (sooner_flaw (flaw_in read) found)) (sym words)
-                  (line_first circuit due more word between.words (flaw_in read) found flaw
-                  (subst (λ (ws : Words). LineHasFlaw circuit more ws found) kept.words has)),
-              is ∙ ap (λ f. sooner_flaw f found) (kept.flaw
-                  ∙ ap (λ f. sooner_flaw f (flaw_in read)) same)
-                  ∙ sooner_assoc old.flaw (flaw_in read) found,
-            )
+        at (first ∷ rest) some = search (arith, line_first, sooner_assoc)
 
     -- one word is taken
     word_rest : new.words ≡ drop 1 old.words
@@ -112,10 +112,7 @@ module _ {X : Type 0} (circuit : Circuit) (due : Field) {old between new : LineL
       where
         at : (words : Words) → old.words ≡ words → new.words ≡ drop 1 old.words
         at [] none = kept.words ∙ (next.none none).0 ∙ sym (ap (drop 1) none)
-        at (first ∷ rest) some =
-            let (words, same) = next.some (subst (λ (ws : Words). 0 < length ws) (sym some)
-            (omega arith)) in
-            kept.words ∙ sym (ap (drop 1) words)
+        at (first ∷ rest) some = search (arith)
 
     -- by its field; where nothing is wrong it is that of its value
     pub takes_word : (text : X → List ℕ) (Holds : X → Type 0)
@@ -133,16 +130,8 @@ module _ {X : Type 0} (circuit : Circuit) (due : Field) {old between new : LineL
             → IfOk read (λ value. (word ≡ text value) × Holds value)
             → (words : Words) → old.words ≡ words → between.flaw ≡ None
             → Taken (text given ∷ []) (Holds given) old new
-        at (Ok value) same ok spells [] none sound =
-            absurd (none-some flaws.Form (sym sound ∙ (next.none none).1))
-        at (Ok value) same ok spells (first ∷ rest) some sound =
-            let (words, flaw_is) = next.some (subst (λ (ws : Words). 0 < length ws) (sym some)
-            (omega arith)) in
-            record {
-              sound = sym flaw_is ∙ sound;
-              words = words ∙ (λ i. (spells.0 ∙ ap text (sym same)) i ∷ sym kept.words i);
-              holds = subst Holds (sym same) spells.1;
-            }
+        at (Ok value) same ok spells [] none sound = search (arith, none-some)
+        at (Ok value) same ok spells (first ∷ rest) some sound = search (arith)
         at (Err flaw) same ok spells words are sound = absurd (none-some flaw (sym ok))
 
     -- and where that is all that is wanted
@@ -158,11 +147,7 @@ module _ {X : Type 0} (circuit : Circuit) (due : Field) {old between new : LineL
 -- ---- several words
 
 pub takes_none : (circuit : Circuit) (left : LineLeft) → Takes circuit [] [] (Unit {0}) left left
-takes_none circuit left = record {
-  rest = refl;
-  judged = λ more flaw ends. ends;
-  taken = λ none. record { sound = none; words = refl; holds = tt };
-}
+takes_none circuit left = search (arith)
 
 -- words, and more after them
 pub takes_then : {circuit : Circuit} {fields fields' : List Field} {texts texts' : Words}
@@ -194,13 +179,7 @@ takes_then {circuit} {fields} {fields'} {texts} {texts'} {Holds} {Holds'} {old} 
 pub takes_so : {circuit : Circuit} {fields : List Field} {texts : Words} {Holds Follows : Type 0}
     {old new : LineLeft} → Takes circuit fields texts Holds old new → (Holds → Follows)
     → Takes circuit fields texts Follows old new
-takes_so takes follow = record {
-  rest = takes.rest;
-  judged = takes.judged;
-  taken = λ none.
-      let taken = takes.taken none in
-      record { sound = taken.sound; words = taken.words; holds = follow taken.holds };
-}
+takes_so takes follow = search (arith)
 
 -- ---- the end
 
@@ -217,8 +196,7 @@ ends_some circuit left some =
 pub whole_line : (circuit : Circuit) (fields : List Field) (words : Words) (flaw : Option Flaw)
     → EndsIn circuit fields (record { words = words; flaw = None }) flaw
     → LineHasFlaw circuit fields words flaw
-whole_line circuit fields words flaw (found, has, is) =
-    subst (LineHasFlaw circuit fields words) (sym (is ∙ none_sooner found)) has
+whole_line circuit fields words flaw (found, has, is) = search (arith, none_sooner)
 
 -- all words of a form
 pub form_read : {circuit : Circuit} {scale : Scale} {form : Form} {fields : List Field}
@@ -241,10 +219,7 @@ module _ (line : List ℕ) {words : Words} (are : words ≡ words_of line) {star
     (begins : start ≡ record { words = words; flaw = None }) where
   -- it has a word
   pub some_words : 0 < length start.words
-  some_words =
-      let long : length start.words ≡ length (words_of line) =
-      ap (λ (left : LineLeft). length left.words) begins ∙ ap (λ (ws : Words). length ws) are in
-      omega (arith, long, length-slice_split is_space line)
+  some_words = search (arith, length-slice_split)
 
   module _ {circuit : Circuit} {scale : Scale} {form : Form} {old new : Left}
       (takes : TakesLine old line new) {Says : Words → Type 0} {left : LineLeft}
@@ -274,3 +249,135 @@ module _ (line : List ℕ) {words : Words} (are : words ≡ words_of line) {star
           (are ∙ ap words_of takes.line_is) (line_judged (Some flaw) ends),
       is,
     )
+
+pub version_read : {words : Words} (version : Version)
+    → words ≡ codes "cts" ∷ version_text version ∷ [] → DenotesVersion words version
+version_read First are = are
+version_read Second are = are
+
+-- the words of a constraint, by its kind
+pub constraint_read : {circuit : Circuit} {words : Words} {launch capture : ℕ} {weight : ℤ}
+    (setup : Bool)
+    → words ≡ constraint_line (cond setup (codes "setup") (codes "hold")) circuit launch capture
+    weight
+    → launch < length circuit.registers → capture < length circuit.registers
+    → IsBelow (10 ^ 12) weight → DenotesConstraint circuit words (record {
+      setup = setup;
+      tail = cond setup launch capture;
+      head = cond setup capture launch;
+      weight = weight;
+    })
+constraint_read true are launches captures small = search (are, launches, captures, small)
+constraint_read false are launches captures small = search (are, launches, captures, small)
+
+pub constraint_taken : {circuit : Circuit} {launch capture : ℕ} {weight : ℤ} {old new : LineLeft}
+    (setup : Bool) → Takes circuit constraint_fields
+    (constraint_line (cond setup (codes "setup") (codes "hold")) circuit launch capture weight)
+    (Unit {0} × ((launch < length circuit.registers)
+    × ((capture < length circuit.registers) × IsBelow (10 ^ 12) weight))) old new
+    → (constraint : Constraint) → constraint ≡ record {
+      setup = setup;
+      tail = cond setup launch capture;
+      head = cond setup capture launch;
+      weight = weight;
+    } → Takes circuit constraint_fields (line_for circuit constraint)
+    (IsBetweenRegisters (length circuit.registers) constraint × HasSmallWeight constraint) old new
+constraint_taken {circuit} {launch} {capture} {weight} {old} {new} setup takes constraint is =
+    search (arith, constraint_read)
+
+-- ---- paths
+
+-- so many names of signals are taken
+abbrev pub TakesSignals : Circuit → (count : ℕ) (signals : List ℕ) (old new : LineLeft) → Type 0
+TakesSignals circuit count signals old new = (length signals ≡ count)
+    × Takes circuit (replicate count field.Signal) (map (signal_name circuit) signals)
+    (All (λ number. number < length circuit.signals) signals) old new
+
+module _ (circuit : Circuit) where
+  -- they are signals of the circuit
+  abbrev pub among : List ℕ → Type 0
+  among = All (λ number. number < length circuit.signals)
+
+  pub no_signals : (left : LineLeft) → TakesSignals circuit 0 [] left left
+  no_signals left = search (arith, takes_so, All-nil)
+
+  pub signals_next : {count signal : ℕ} (signals : List ℕ) {signals' : List ℕ}
+      {old between new : LineLeft} → TakesSignals circuit count signals old between
+      → Takes circuit (field.Signal ∷ []) (signal_name circuit signal ∷ [])
+      (signal < length circuit.signals) between new → signals' ≡ signals ++ signal ∷ []
+      → TakesSignals circuit (count + 1) signals' old new
+  signals_next {count} {signal} signals {signals'} {old} {between} {new} first next is =
+      subst (λ all. TakesSignals circuit (count + 1) all old new) (sym is) (
+        length-append signals (signal ∷ []) ∙ omega (arith, first.0),
+        subst (λ (fields : List Field). Takes circuit fields
+            (map (signal_name circuit) (signals ++ signal ∷ []))
+            (among (signals ++ signal ∷ [])) old new)
+            (replicate_more count field.Signal)
+            (subst (λ (texts : Words). Takes circuit (replicate count field.Signal
+            ++ field.Signal ∷ []) texts (among (signals ++ signal ∷ [])) old new)
+            (sym (map_push (signal_name circuit) signals signal)) all),
+      )
+    where
+      all : Takes circuit (replicate count field.Signal ++ field.Signal ∷ [])
+          (map (signal_name circuit) signals ++ signal_name circuit signal ∷ [])
+          (among (signals ++ signal ∷ [])) old new
+      all = takes_so (takes_then first.1 next) (λ holds.
+          All-push (λ number. number < length circuit.signals) signals signal holds.0 holds.1)
+
+  -- the words of a path that is printed
+  pub path_read : {count : ℕ} {words : Words} (path : List ℕ) → length path ≡ count
+      → 1 ≤ count → count ≤ 65536 → among path
+      → words ≡ codes "path" ∷ signed_decimal (pos count) ∷ map (signal_name circuit) path
+      → DenotesPath circuit words path
+  path_read {count} {words} path long some few within are = record {
+    line = printed path (omega (arith, some, long))
+        (are ∙ ap (λ n. codes "path" ∷ signed_decimal (pos n)
+        ∷ map (signal_name circuit) path) (sym long));
+    signals = within;
+    few = omega (arith, few, long);
+  }
+    where
+      printed : (path : List ℕ) → 1 ≤ length path
+          → words ≡ codes "path" ∷ signed_decimal (pos (length path))
+          ∷ map (signal_name circuit) path → words ≡ path_line circuit path
+      printed [] some is = absurd (omega (arith, some))
+      printed (first ∷ more) some is = is
+
+-- so many of the five points are read
+pub record HasRead (scale : Scale) (start : LineLeft) (count : ℕ) (corners : List Point)
+    (now : LineLeft) : Type 0 where
+  pub padded : ArePadded (record { corners = corners; used = count })
+  pub taken : (circuit : Circuit) → Takes circuit (replicate (2 * count) (length_field scale))
+      (flat_map (coordinates scale.grid) (take count corners))
+      (All (IsPointBelow (10 ^ 32)) (take count corners)) start now
+
+-- and one more
+pub corner_read : (scale : Scale) (start : LineLeft) (count : ℕ) (corners : List Point)
+    (point : Point) (between new : LineLeft) → HasRead scale start count corners between → count < 5
+    → ((circuit : Circuit) → Takes circuit (length_field scale ∷ length_field scale ∷ [])
+    (coordinates scale.grid point) (IsPointBelow (10 ^ 32) point) between new)
+    → HasRead scale start (count + 1) (set corners count point) new
+corner_read scale start count corners point between new has within next =
+    let few : count < length corners = omega (arith, has.padded.all, within) in
+    let more = take_more_set corners count point few in
+    let field = length_field scale in
+    record {
+      padded = record {
+        all = length-set corners count point ∙ has.padded.all;
+        rest = All-same (λ corner. corner ≡ origin) (drop (count + 1) (set corners count point))
+            (drop (count + 1) corners) (drop-set-lt (count + 1) corners count point (omega arith))
+            (All-rest (λ corner. corner ≡ origin) (get_or corners count origin)
+            (drop (count + 1) corners) (drop count corners) (drop_more corners count origin few)
+            has.padded.rest);
+      };
+      taken = λ circuit.
+          let two = takes_then (has.taken circuit) (next circuit) in
+          subst (λ fields. Takes circuit fields (flat_map (coordinates scale.grid)
+          (take (count + 1) (set corners count point)))
+          (All (IsPointBelow (10 ^ 32)) (take (count + 1) (set corners count point))) start new)
+          (replicate-append-replicate (2 * count) 2 field
+          ∙ ap (λ n. replicate n field) (omega arith))
+          (rw (more, flat_map-append (coordinates scale.grid) (take count corners) (point ∷ []))
+          (takes_so two (λ holds. All-push (IsPointBelow (10 ^ 32)) (take count corners) point
+          holds.0 holds.1)));
+    }

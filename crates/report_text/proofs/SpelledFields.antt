@@ -1,9 +1,11 @@
 -- What each word of a line without a flaw is: the word of a value that its field admits. A line has
 -- no flaw just where each of its words is one.
-use Rattle.std.proofs.Common.{◌≡◌, ◌<◌, ◌≤◌, ◌^◌, ◌⊎◌, ℕ, ℤ, pos, negsuc, ◌≤ℤ◌, nat_abs, Bool, true, false, inl, inr, List, [], ◌∷◌, length, if◌then◌else◌, Option, Some, None, codes, drop, get_or, refl, sym, ap, ◌∙◌, subst, arith}
-use Rattle.std.proofs.lemmas.Int.{ints}
+use Rattle.std.proofs.Common.{◌≡◌, ◌*◌, ◌^◌, ℤ, pos, negsuc, ◌*ℤ◌, ◌≤ℤ◌, arith, ◌<◌, ◌≤◌, ◌⊎◌, ℕ, nat_abs, Bool, true, false, inl, inr, List, [], ◌∷◌, length, if◌then◌else◌, Option, Some, None, codes, drop, refl, sym, ap, ◌∙◌, subst}
 use Rattle.std.specs.Fmt.{signed_decimal}
 use Rattle.std.specs.List.{AllByRecursion}
+use Rattle.std.proofs.Math.Nat.{one-le-mul}
+use Rattle.std.proofs.lemmas.Int.{ints}
+use Rattle.std.proofs.lemmas.Nat.{mul-le}
 use Rattle.std.proofs.Props.{props}
 use Rattle.cts_base.specs.declared.fraction.Fraction.{Fraction}
 use Rattle.cts_base.specs.Fractions.{HasSizeBelow, fraction_text, quotient_text, IsLowest}
@@ -12,22 +14,51 @@ use Rattle.cts_base.proofs.FractionReading.{few_digits}
 use Rattle.cts_base.proofs.GreatestDivisors.{lowest_sizes}
 use Rattle.cts_base.proofs.OneNumberText.{no_fraction_minus, one_decimal, one_fraction_text, one_number_text, one_quotient_text}
 use Rattle.cts_base.proofs.OneSpelling.{one_whole, quotient_some, quotient_text_spelled}
+use Rattle.cts_model.specs.declared.tech.Tech.{Tech}
+use Rattle.cts_model.specs.placement.Points.{IsBelow}
+use Rattle.cts_model.specs.timing.Schedules.{IsSmallPeriod}
 use Rattle.cts_model.specs.declared.circuit.Circuit.{Circuit}
 use Rattle.cts_model.specs.declared.report.Version.{Version}
 use Rattle.cts_model.specs.declared.report.Version.TheVariants.{First, Second}
 use Rattle.cts_model.specs.netlist.Paths.{register_name}
-use Rattle.cts_model.specs.placement.Points.{IsBelow}
 use Rattle.cts_model.specs.report.ReportLines.{signal_name}
 use Rattle.cts_model.specs.text.PrintedLines.{Words, slack_text}
-use Rattle.cts_model.specs.timing.Schedules.{IsSmallPeriod}
 use Rattle.cts_model.specs.timing.Slacks.{IsSmallSlack}
+use Rattle.name_set.proofs.OneName.{one_register, one_signal}
+use Rattle.report_text.specs.Parts.{scale_in}
+use Rattle.report_text.specs.Values.{IsSmallScale}
 use Rattle.report_text.specs.LineFields.{Field}
 use Rattle.report_text.specs.Fields.{AreFewSteps, IsFractionForm, IsWholeSteps, LineHasFlaw, NamesRegister, WordHasFlaw}
 use Rattle.report_text.specs.Keywords.{keyword_text, version_text}
+use Rattle.report_text.specs.LineFields as field
 use Rattle.report_text.proofs.FractionFlaws.{dash_plain, period_within, read_quotient_is, steps_denoted, steps_small}
 use Rattle.report_text.proofs.NumberWords.{below_bound, denoted_steps, smaller, spelled_steps, spelled_whole, whole_word}
-use Rattle.name_set.proofs.OneName.{one_register, one_signal}
-use Rattle.report_text.specs.LineFields as field
+
+-- eight million times a period's denominator and a wire's numerator
+grid_within : (den wire : ℤ) → pos 1 ≤ℤ den → den ≤ℤ pos 4097 → pos 1 ≤ℤ wire
+    → wire ≤ℤ pos 1000000
+    → (pos 1 ≤ℤ (pos (10 ^ 6) *ℤ (pos 8 *ℤ den *ℤ wire)))
+    × IsBelow (10 ^ 37) (pos (10 ^ 6) *ℤ (pos 8 *ℤ den *ℤ wire))
+grid_within (pos den) (pos wire) some few some' few' = search (arith, ints, one-le-mul, mul-le)
+grid_within (negsuc den) wire some few some' few' = absurd (omega (arith, ints))
+grid_within den (negsuc wire) some few some' few' = absurd (omega (arith, ints))
+
+-- the steps of a report of a small period are few
+pub scale_small : (tech : Tech) (period : Fraction) → IsSmallPeriod period
+    → IsSmallScale (scale_in tech period)
+scale_small tech period small =
+    let grid = grid_within period.den tech.wire_num period.lowest.some_den small.low
+    tech.valid.wire_num_within.above tech.valid.wire_num_within.below in
+    let some = period.lowest.some_den in
+    let low = small.low in record {
+      some_den = some;
+      small_den = record {
+        above = omega (arith, ints, some);
+        below = omega (arith, ints, low);
+      };
+      some_grid = grid.0;
+      small_grid = record { above = grid.1.above; below = grid.1.below };
+    }
 
 -- a fraction of its parts
 fraction_of : (parts : ℤ × ℤ) → IsLowest parts.0 parts.1 → Fraction
@@ -138,10 +169,7 @@ small_number number less = record { above = omega (arith, ints); below = omega (
 -- a number below a bound is below a greater one
 pub size_below : (bound : ℕ) (number : ℤ) → bound ≤ 10 ^ 37 → IsBelow bound number
     → HasSizeBelow (10 ^ 37) number
-size_below bound number less small =
-    let above = small.above in
-    let below = small.below in
-    record { above = omega (arith, ints, less, above); below = omega (arith, ints, less, below) }
+size_below bound number less small = search (arith, ints)
 
 -- a number of a range
 number_spelled : (least most : ℕ) (word : List ℕ) → most < 10 ^ 37 → (value : ℤ)
@@ -153,20 +181,12 @@ number_spelled least most word small (pos n) spells low high =
       (omega (arith, ints, low), few),
       whole_word word (pos n) (small_number n (omega (arith, few, small))) spells,
     )
-number_spelled least most word small (negsuc n) spells low high =
-    absurd (omega (arith, ints, low))
+number_spelled least most word small (negsuc n) spells low high = search (arith, ints)
 
 -- the numbers of a small period are small
 pub small_period : (period : Fraction) → IsSmallPeriod period
     → HaveSmallSizes period.num period.den
-small_period period small =
-    let some = period.lowest.some_den in
-    let from = small.from_zero in
-    let below = small.small in
-    let low = small.low in (
-      record { above = omega (arith, ints, from); below = omega (arith, ints, below) },
-      record { above = omega (arith, ints, some); below = omega (arith, ints, low) },
-    )
+small_period period small = search (arith, ints)
 
 -- ---- slacks
 
@@ -221,15 +241,7 @@ spelled circuit (field.Counted count most) word small ((some, spells), known, fi
   whole_word word (pos count) (small_number count (omega (arith, within, small))) spells,
 )
 spelled circuit field.Weight word small ((value, spells), known, fit, within) =
-    let few = within value spells in
-    let above = few.above in
-    let below = few.below in
-    let below12 : IsBelow (10 ^ 12) value = record { above = above; below = below } in (
-      value,
-      below12,
-      whole_word word value (size_below (10 ^ 12) value (omega arith) below12)
-          spells,
-    )
+    search (arith, whole_word, size_below)
 spelled circuit field.Period word small ((num, den, form, from), known, fit, within) =
     let (low, few) = within num den form.0 in
     let some = quotient_some word num den form.0 in
@@ -289,11 +301,7 @@ module _ (circuit : Circuit) where
 
   period_plain : (period : Fraction) → IsSmallPeriod period
       → WordHasFlaw circuit field.Period (fraction_text period.num period.den) None
-  period_plain period small =
-      let sizes = small_period period small in
-      let text = fraction_text period.num period.den in
-      period_within text period.num period.den (read_quotient_is text period sizes refl) circuit
-      period.lowest small.from_zero (small.small, small.low)
+  period_plain period small = search (arith, small_period, period_within, read_quotient_is)
 
   steps_plain : (over : ℤ) (bound : ℕ) (steps : ℤ) → pos 1 ≤ℤ over
       → HasSizeBelow (10 ^ 37) over → bound ≤ 10 ^ 37 → IsBelow bound steps
@@ -325,10 +333,8 @@ module _ (circuit : Circuit) where
   plain field.Version Second small is = (inr refl, tt, tt, tt)
   plain field.Kind true small is = (inl refl, tt, tt, tt)
   plain field.Kind false small is = (inr refl, tt, tt, tt)
-  plain (field.Exactly number) value small is =
-      (spelled_whole (pos number) (small_number number small), tt, tt, tt)
-  plain (field.Number least most) number small is =
-      number_plain least most number small is.0 is.1
+  plain (field.Exactly number) value small is = search (arith, spelled_whole, small_number)
+  plain (field.Number least most) number small is = search (arith, number_plain)
   plain (field.Counted count most) value small (some, few) = (
     (some, spelled_whole (pos count) (small_number count (omega (arith, few, small)))),
     tt,
@@ -337,22 +343,14 @@ module _ (circuit : Circuit) where
   )
   plain field.Weight weight small below = weight_plain weight below
   plain field.Period period small low = period_plain period low
-  plain (field.Steps over (pos bound)) steps small below =
-      steps_plain over bound steps small.0 small.1 small.2 below
+  plain (field.Steps over (pos bound)) steps small below = search (arith, steps_plain)
   plain (field.Steps over (negsuc bound)) steps small below = absurd small
   plain (field.Slack over bound) slack small low =
       subst (λ b. WordHasFlaw circuit (field.Slack over b) (slack_text slack) None) (sym small.2)
       (slack_plain over slack small.0 small.1 low)
   plain field.Register register small below = (tt, (register, below, refl), tt, tt)
   plain (field.Named register) value small named = (tt, named, refl, tt)
-  plain (field.From first) register small (from, below) = (
-    tt,
-    (register, below, refl),
-    λ other below' name.
-        let one = one_register circuit register other below below' (sym name) in
-        omega (arith, one, from),
-    tt,
-  )
+  plain (field.From first) register small (from, below) = search (arith, one_register)
   plain field.Signal number small below = (tt, (number, below, refl), tt, tt)
 
   -- ---- a value is determined by its word
@@ -378,40 +376,28 @@ module _ (circuit : Circuit) where
       absurd (no_fraction_minus slack.num slack.den
       (few_digits slack.num (small_slack over slack some low small).0) same)
   one_slack over (Some slack) (Some other) some low small small' same =
-      ap Some (one_fraction slack other (small_slack over slack some low small)
-      (small_slack over other some low small') same)
+      search (arith, one_fraction, small_slack)
 
   pub one_value : (due : Field) (value other : Value due) → IsSmallField due
       → Admits circuit due value → Admits circuit due other
       → spell circuit due value ≡ spell circuit due other → value ≡ other
   one_value field.Version First First small is is' same = refl
   one_value field.Version Second Second small is is' same = refl
-  one_value field.Version value other small is is' same =
-      absurd (omega (arith, ap (λ (word : List ℕ). get_or word 0 0) same))
+  one_value field.Version value other small is is' same = search (arith)
   one_value field.Kind true true small is is' same = refl
   one_value field.Kind false false small is is' same = refl
-  one_value field.Kind value other small is is' same =
-      absurd (omega (arith, ap (λ (word : List ℕ). get_or word 0 0) same))
-  one_value (field.Number least most) value other small is is' same =
-      one_decimal value other (omega (arith, small, is.1)) (omega (arith, small, is'.1)) same
-  one_value field.Weight value other small is is' same = one_number_text value other
-      (few_digits value (size_below (10 ^ 12) value (omega arith) is))
-      (few_digits other (size_below (10 ^ 12) other (omega arith) is')) same
-  one_value field.Period value other small is is' same =
-      one_fraction value other (small_period value is) (small_period other is') same
+  one_value field.Kind value other small is is' same = search (arith)
+  one_value (field.Number least most) value other small is is' same = search (arith, one_decimal)
+  one_value field.Weight value other small is is' same =
+      search (arith, one_number_text, few_digits, size_below)
+  one_value field.Period value other small is is' same = search (arith, one_fraction, small_period)
   one_value (field.Steps over (pos bound)) value other small is is' same =
-      one_quotient_text value other over small.0
-      (few_digits value (size_below bound value small.2 is))
-      (few_digits other (size_below bound other small.2 is')) (few_digits over small.1) same
+      search (arith, one_quotient_text, few_digits, size_below)
   one_value (field.Steps over (negsuc bound)) value other small is is' same = absurd small
-  one_value (field.Slack over bound) value other small is is' same =
-      one_slack over value other small.0 small.1 is is' same
-  one_value field.Register value other small is is' same =
-      one_register circuit value other is is' same
-  one_value (field.From first) value other small is is' same =
-      one_register circuit value other is.1 is'.1 same
-  one_value field.Signal value other small is is' same =
-      one_signal circuit value other is is' same
+  one_value (field.Slack over bound) value other small is is' same = search (arith, one_slack)
+  one_value field.Register value other small is is' same = search (arith, one_register)
+  one_value (field.From first) value other small is is' same = search (arith, one_register)
+  one_value field.Signal value other small is is' same = search (arith, one_signal)
   one_value (field.Word keyword) value other small is is' same = refl
   one_value (field.Exactly number) value other small is is' same = refl
   one_value (field.Counted count most) value other small is is' same = refl
@@ -424,11 +410,12 @@ module _ (circuit : Circuit) where
       → spell_line circuit fields values ≡ spell_line circuit fields others → values ≡ others
   one_values [] values others small is is' same = refl
   one_values (due ∷ fields) values others small is is' same =
-      let first = one_value due values.0 others.0 small.0 is.0 is'.0
-      (ap (λ (words : Words). get_or words 0 []) same) in
-      let more = one_values fields values.1 others.1 small.1 is.1 is'.1
-      (ap (λ (words : Words). drop 1 words) same) in
-      λ i. (first i, more i)
+      search (
+        arith,
+        one_value,
+        one_values fields values.1 others.1 small.1 is.1 is'.1 (ap (λ (words
+            : Words). drop 1 words) same),
+      )
 
   -- ---- the line
 
@@ -474,6 +461,4 @@ module _ (circuit : Circuit) where
   pub values_plain : (fields : List Field) (values : Values fields)
       → AllByRecursion IsSmallField fields → AdmitsEach circuit fields values
       → LineHasFlaw circuit fields (spell_line circuit fields values) None
-  values_plain fields values small admitted =
-      line_plain fields (spell_line circuit fields values) small
-      (record { values = values; admitted = admitted; are = refl })
+  values_plain fields values small admitted = search (arith, line_plain)

@@ -33,13 +33,13 @@ use Rattle.report_text.specs.declared.form.Form.TheVariants as form
 use Rattle.report_text.specs.declared.form.Scale.{Scale}
 use Rattle.report_text.specs.declared.timing_values.Timed.{Timed}
 use Rattle.report_text.specs.Fields.{LineHasFlaw}
-use Rattle.report_text.specs.Forms.{constraint_fields, is_word, register_fields, slack_field}
+use Rattle.report_text.specs.Forms.{constraint_fields, is_word, register_fields}
 use Rattle.report_text.specs.Headings.{IsSmallCount, shown_line}
 use Rattle.report_text.specs.Keywords.{keyword_text}
 use Rattle.report_text.specs.TimingValues.{IsFlawless, DenotesConstraint, DenotesLead, DenotesPath, DenotesPeriod, DenotesShow}
 use Rattle.report_text.specs.Values.{IsSmallScale}
 use Rattle.report_text.specs.Walks.{DenotesTimed, DenotesVersion}
-use Rattle.report_text.proofs.TimingReads.{constraint_read, path_read, version_read}
+use Rattle.report_text.proofs.ScanLemmas.{constraint_read, path_read, version_read}
 use Rattle.report_text.proofs.SpelledFields.{AdmitsEach, IsSmallField, Tells, Values, line_plain, line_spelled, small_number, spell_line, values_plain}
 
 -- ---- the first lines
@@ -60,16 +60,12 @@ shown_fields floor = cond floor (field.Word word.Floor ∷ []) cycle_fields
 module _ (circuit : Circuit) (scale : Scale) where
   pub version_found : (words : Words) → IsFlawless circuit scale form.Version words
       → (version : Version) × DenotesVersion words version
-  version_found words flawless =
-      let line = line_spelled circuit version_fields words (tt, (tt, tt)) flawless in
-      (line.values.1.0, version_read line.values.1.0 line.are)
+  version_found words flawless = search (arith, line_spelled, version_read)
 
   pub version_plain : (version : Version)
       → IsFlawless circuit scale form.Version (version_line version)
-  version_plain First =
-      values_plain circuit version_fields (tt, (First, tt)) (tt, (tt, tt)) (tt, (tt, tt))
-  version_plain Second =
-      values_plain circuit version_fields (tt, (Second, tt)) (tt, (tt, tt)) (tt, (tt, tt))
+  version_plain First = search (arith, values_plain)
+  version_plain Second = search (arith, values_plain)
 
   pub period_found : (words : Words) → IsFlawless circuit scale form.Period words
       → (period : Fraction) × DenotesPeriod words period
@@ -88,8 +84,7 @@ module _ (circuit : Circuit) (scale : Scale) where
     where
       at : (floor : Bool) → LineHasFlaw circuit (shown_fields floor) words None
           → (count : Option ℕ) × DenotesShow words count
-      at true flawless =
-          (None, (line_spelled circuit (shown_fields true) words (tt, tt) flawless).are)
+      at true flawless = search (arith, line_spelled)
       at false flawless =
           let line = line_spelled circuit cycle_fields words (tt, (omega arith, tt)) flawless in
           (Some line.values.1.0, (line.are, line.admitted.1.0.0, line.admitted.1.0.1))
@@ -185,9 +180,7 @@ lead_found circuit scale words flawless = at (is_word words 1 word.Zero) flawles
   where
     at : (zero : Bool) → LineHasFlaw circuit (led_fields zero) words None
         → (lead : Lead) × DenotesLead circuit words lead
-    at true flawless =
-        let line = line_spelled circuit (led_fields true) words (tt, (tt, tt)) flawless in
-        (Zero, record { line = line.are; registers = tt; small = tt })
+    at true flawless = search (arith, line_spelled)
     at false flawless =
         let line = line_spelled circuit tight_fields words small_tight flawless in
         let (some, few) = line.admitted.1.0 in
@@ -216,8 +209,7 @@ not_zero number some few =
 pub lead_plain : (circuit : Circuit) (scale : Scale) (lead : Lead)
     → LeadsAmong (length circuit.registers) lead → IsSmallLead lead
     → IsFlawless circuit scale form.Lead (lead_line circuit lead)
-lead_plain circuit scale Zero among small =
-    values_plain circuit (led_fields true) (tt, (tt, tt)) (tt, (tt, tt)) (tt, (tt, tt))
+lead_plain circuit scale Zero among small = search (arith, values_plain)
 lead_plain circuit scale (Tight depth constraint) among (some, few, weight) =
     let line : Words = lead_line circuit (Tight depth constraint) in
     let (admitted, are) = constraint_told circuit constraint among weight in
@@ -232,9 +224,7 @@ lead_plain circuit scale (Tight depth constraint) among (some, few, weight) =
 
 small_register : (scale : Scale) (register : ℕ) → IsSmallScale scale
     → AllByRecursion IsSmallField (register_fields scale register)
-small_register scale register small =
-    let slack : IsSmallField (slack_field scale) = (small.some_den, small.small_den, refl) in
-    (tt, ((small.some_den, small.small_den, omega arith), (slack, (slack, tt))))
+small_register scale register small = search (arith, IsSmallField)
 
 pub timed_found : (circuit : Circuit) (scale : Scale) (register : ℕ) (words : Words)
     → IsSmallScale scale → IsFlawless circuit scale (form.Register register) words
@@ -284,12 +274,7 @@ record AreSignals (circuit : Circuit) (count : ℕ) (words : Words) : Type 0 whe
 signals_found : (circuit : Circuit) (count : ℕ) (values : Values (replicate count field.Signal))
     → AdmitsEach circuit (replicate count field.Signal) values
     → AreSignals circuit count (spell_line circuit (replicate count field.Signal) values)
-signals_found circuit zero values admitted = record {
-  signals = [];
-  many = refl;
-  within = All-nil (λ number. number < length circuit.signals);
-  are = refl;
-}
+signals_found circuit zero values admitted = search (arith, All-nil)
 signals_found circuit (suc count) values admitted =
     let more = signals_found circuit count values.1 admitted.1 in
     record {
@@ -307,14 +292,7 @@ path_found circuit scale words flawless = at (is_word words 1 word.Dash) flawles
   where
     at : (dash : Bool) → LineHasFlaw circuit (way_fields dash (length words - 2)) words None
         → (path : List ℕ) × DenotesPath circuit words path
-    at true flawless = (
-      [],
-      record {
-        line = (line_spelled circuit (way_fields true 0) words (tt, (tt, tt)) flawless).are;
-        signals = All-nil (λ number. number < length circuit.signals);
-        few = omega arith;
-      },
-    )
+    at true flawless = search (arith, line_spelled, All-nil)
     at false flawless =
         let count = length words - 2 in
         let line = line_spelled circuit (way_fields false count) words
@@ -351,8 +329,7 @@ names_told circuit (number ∷ path) within =
 pub path_plain : (circuit : Circuit) (scale : Scale) (path : List ℕ)
     → All (λ number. number < length circuit.signals) path → length path ≤ 65536
     → IsFlawless circuit scale form.Path (path_line circuit path)
-path_plain circuit scale [] within few =
-    values_plain circuit (way_fields true 0) (tt, (tt, tt)) (tt, (tt, tt)) (tt, (tt, tt))
+path_plain circuit scale [] within few = search (arith, values_plain)
 path_plain circuit scale (first ∷ more) within few =
     let path : List ℕ = first ∷ more in
     let line : Words = path_line circuit path in

@@ -1,6 +1,6 @@
 -- A line of the tree without a flaw is that of a value, and the line of a value within the bounds
 -- has no flaw.
-use Rattle.std.proofs.Common.{◌≡◌, ◌<◌, ◌≤◌, ◌+◌, ◌*◌, ◌-◌, ◌^◌, ◌==◌, ◌&&◌, ◌++◌, nat_le, suc, zero, replicate, take, ap₂, All, Bool, if◌then◌else◌, ℕ, ℤ, pos, List, [], ◌∷◌, get_or, length, None, true, false, refl, sym, ap, ◌∙◌, subst, codes, arith}
+use Rattle.std.proofs.Common.{◌≡◌, ◌<◌, ◌≤◌, ◌+◌, ◌*◌, ◌-◌, ◌^◌, ◌++◌, nat_le, suc, zero, replicate, take, All, Bool, if◌then◌else◌, ℕ, ℤ, pos, List, [], ◌∷◌, get_or, length, None, true, false, refl, sym, ap, ◌∙◌, subst, codes, arith}
 use Rattle.std.proofs.lemmas.Bool.{le-leb, leb-true}
 use Rattle.std.proofs.lemmas.Bool.Decides.{Decides-eqb}
 use Rattle.std.proofs.lemmas.List.{drop_at, length-append, length-replicate, length-take, take_at}
@@ -30,7 +30,7 @@ use Rattle.report_text.specs.Forms.{has_points, is_word, length_field, merge_fie
 use Rattle.report_text.specs.TimingValues.{IsFlawless}
 use Rattle.report_text.specs.Values.{IsSmallScale, SaysMerge, SaysNode, SaysSource, SaysTotal, coordinates, merged_line, sourced_line}
 use Rattle.report_text.proofs.WordBytes.{both}
-use Rattle.report_text.proofs.RegisterNames.{named_register}
+use Rattle.report_text.proofs.NameNumbers.{named_register}
 use Rattle.report_text.proofs.SpelledFields.{IsSmallField, Tells, line_plain, line_spelled, values_plain}
 
 -- a length is small
@@ -179,12 +179,7 @@ record ArePoints (grid : ℤ) (count : ℕ) (words : Words) : Type 0 where
 points_found : (circuit : Circuit) (scale : Scale) (count : ℕ) (words : Words)
     → Tells circuit (replicate (2 * count) (length_field scale)) words
     → ArePoints scale.grid count words
-points_found circuit scale zero words line = record {
-  points = [];
-  many = refl;
-  below = All-nil (IsPointBelow (10 ^ 32));
-  are = line.are;
-}
+points_found circuit scale zero words line = search (arith, All-nil)
 points_found circuit scale (suc count) words line =
     let length = length_field scale in
     let even : 2 * suc count ≡ suc (suc (2 * count)) = omega arith in
@@ -225,15 +220,7 @@ record PointsFit (words : Words) : Type 0 where
   few : points_of words ≤ 5
 
 points_fit : (words : Words) → has_points words ≡ true → PointsFit words
-points_fit words is =
-    let (all, fit) = both (length words == 5 + 2 * points_of words)
-    (nat_le 1 (points_of words) && nat_le (points_of words) 5) is in
-    let (some, few) = both (nat_le 1 (points_of words)) (nat_le (points_of words) 5) fit in
-    record {
-      all = (Decides-eqb (length words) (5 + 2 * points_of words)).0 all;
-      some = leb-true 1 (points_of words) some;
-      few = leb-true (points_of words) 5 few;
-    }
+points_fit words is = search (arith, both, nat_le, Decides-eqb, leb-true)
 
 pub node_found : (circuit : Circuit) (scale : Scale) (node : ℕ) (words : Words)
     → IsSmallScale scale → node < 2 ^ 32 → 0 < length words
@@ -303,15 +290,7 @@ node_found circuit scale node words small below some flawless =
 pub points_are : (scale : Scale) (node : ℕ) (words : Words) (points : ℕ)
     → length words ≡ 5 + 2 * points → 1 ≤ points → points ≤ 5
     → pointed_fields scale node words ≡ node_fields scale node points
-points_are scale node words points all some few =
-    let are : points_of words ≡ points = omega (arith, all) in
-    let has : has_points words ≡ true =
-    ap₂ (λ x y. x && y)
-    ((Decides-eqb (length words) (5 + 2 * points_of words)).1 (omega (arith, all, are)))
-    (ap₂ (λ x y. x && y) (le-leb 1 (points_of words) (omega (arith, some, are)))
-    (le-leb (points_of words) 5 (omega (arith, few, are)))) in
-    ap (λ has. if has then node_fields scale node (points_of words) else []) has
-    ∙ ap (node_fields scale node) are
+points_are scale node words points all some few = search (arith, Decides-eqb, le-leb)
 
 -- and so many are those of none
 pub no_points : (scale : Scale) (node : ℕ) (words : Words)

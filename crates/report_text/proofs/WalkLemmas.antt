@@ -1,23 +1,100 @@
--- Lines that are taken from a text one after the other.
-use Rattle.std.proofs.Common.{ℕ, zero, suc, ◌≡◌, ◌<◌, ◌+◌, ◌-◌, ◌==◌, Bool, true, false, Option, Some, None, Result, Ok, Err, IfErr, IsErrAnd, List, [], ◌∷◌, ◌++◌, map, length, take, drop, get_or, MatchBool, MatchOption, refl, sym, ap, ap₂, subst, ◌∙◌, append_assoc, append-nil, arith, drop-cons}
-use Rattle.std.specs.List.{slice_split, position, position_or_len}
+-- Lines that are taken from a text one after the other, the first flaw of a line, and the first
+-- fault of a text.
+use Rattle.std.proofs.Common.{◌≡◌, ◌↔◌, ℕ, List, ◌∷◌, Option, Some, None, refl, zero, suc, ◌<◌, ◌+◌, ◌-◌, ◌==◌, Bool, true, false, Result, Ok, Err, IfErr, IsErrAnd, [], ◌++◌, map, length, take, drop, get_or, MatchBool, MatchOption, sym, ap, ap₂, subst, ◌∙◌, append_assoc, append-nil, arith, drop-cons, nat_lt, length-append, lt-ltb, eq-eqb, ne_eqb}
+use Rattle.std.specs.List.{slice_split, position, position_or_len, join_with_byte}
 use Rattle.std.proofs.lemmas.Bool.Decides.{nat_tests}
 use Rattle.std.proofs.lemmas.Grind.{flat_map-append}
-use Rattle.std.proofs.lemmas.List.{take-append-drop, drop-drop, length-append}
+use Rattle.std.proofs.lemmas.List.{take-append-drop, drop-drop, length-append, take_at}
 use Rattle.std.proofs.lemmas.List.Splits.{join_with_byte-slice_split, length-slice_split, slice_split_first}
 use Rattle.std.proofs.lemmas.List.Sums.{passes_at_first}
 use Rattle.cts_model.specs.declared.circuit.Circuit.{Circuit}
-use Rattle.cts_model.specs.text.PrintedLines.{Words, line_of, text_of}
+use Rattle.cts_model.specs.text.PrintedLines.{Words, line_of}
+use Rattle.report_text.specs.LineFields.{Field}
+use Rattle.report_text.specs.declared.field.Flaw.{Flaw}
+use Rattle.report_text.specs.declared.field.Flaw.TheVariants.{Form as Malformed, Unknown, Unfit, Large}
+use Rattle.report_text.specs.Fields.{EachWord, IsFirstFlaw, IsFit, IsFormed, IsKnown, IsWithin, LineHasFlaw, WordHasFlaw}
+use Rattle.report_text.specs.FlawOrder.{sooner_flaw}
 use Rattle.report_text.specs.declared.fault.ReportFault.{ReportFault}
 use Rattle.report_text.specs.declared.fault.ReportFault.TheVariants.{BadLine, Missing}
-use Rattle.report_text.specs.declared.field.Flaw.{Flaw}
 use Rattle.report_text.specs.declared.form.Form.{Form}
 use Rattle.report_text.specs.declared.form.Scale.{Scale}
-use Rattle.report_text.specs.Fields.{LineHasFlaw}
 use Rattle.report_text.specs.Forms.{fields_of}
 use Rattle.report_text.specs.ReportFaults.{HasFirstFault, is_line_feed, is_space, words_of, fault_of}
 use Rattle.report_text.specs.TimingValues.{IsFlawless}
 use Rattle.report_text.specs.Walks.{Left, TakesLine, Reads, ReadsLine, Stops, StopsLine}
+use Rattle.report_text.proofs.OneLine.{IsLine, Lacks, words_cut, words_lack}
+
+-- ---- of two
+
+-- what holds of both is what holds of the one and of the other; so their first flaw is the sooner
+module _ {F F' F'' K K' K'' I I' I'' W W' W'' : Type 0} (f : F'' ↔ (F × F')) (k : K'' ↔ (K × K'))
+    (i : I'' ↔ (I × I')) (w : W'' ↔ (W × W')) where
+  pub sooner_of : (first second : Option Flaw) → IsFirstFlaw F K I W first
+      → IsFirstFlaw F' K' I' W' second → IsFirstFlaw F'' K'' I'' W'' (sooner_flaw first second)
+  sooner_of None None h g = (f.1 (h.0, g.0), k.1 (h.1, g.1), i.1 (h.2, g.2), w.1 (h.3, g.3))
+  sooner_of None (Some Malformed) h g = λ all. g (f.0 all).1
+  sooner_of None (Some Unknown) h g = (f.1 (h.0, g.0), λ all. g.1 (k.0 all).1)
+  sooner_of None (Some Unfit) h g = (f.1 (h.0, g.0), k.1 (h.1, g.1), λ all. g.2 (i.0 all).1)
+  sooner_of None (Some Large) h g = search (arith)
+  sooner_of (Some Malformed) None h g = λ all. h (f.0 all).0
+  sooner_of (Some Malformed) (Some Malformed) h g = λ all. h (f.0 all).0
+  sooner_of (Some Malformed) second h g = λ all. h (f.0 all).0
+  sooner_of (Some Unknown) (Some Malformed) h g = λ all. g (f.0 all).1
+  sooner_of (Some Unknown) second h g = (f.1 (h.0, g.0), λ all. h.1 (k.0 all).0)
+  sooner_of (Some Unfit) (Some Malformed) h g = λ all. g (f.0 all).1
+  sooner_of (Some Unfit) (Some Unknown) h g = (f.1 (h.0, g.0), λ all. g.1 (k.0 all).1)
+  sooner_of (Some Unfit) second h g = (f.1 (h.0, g.0), k.1 (h.1, g.1), λ all. h.2 (i.0 all).0)
+  sooner_of (Some Large) (Some Malformed) h g = λ all. g (f.0 all).1
+  sooner_of (Some Large) (Some Unknown) h g = (f.1 (h.0, g.0), λ all. g.1 (k.0 all).1)
+  sooner_of (Some Large) (Some Unfit) h g = (f.1 (h.0, g.0), k.1 (h.1, g.1), λ all. g.2 (i.0 all).1)
+  sooner_of (Some Large) second h g = search (arith)
+
+-- ---- one flaw
+
+-- of the four one fails first
+module _ (F K I W : Type 0) where
+  pub one_first_flaw : (flaw other : Option Flaw) → IsFirstFlaw F K I W flaw
+      → IsFirstFlaw F K I W other → flaw ≡ other
+  one_first_flaw None None h g = refl
+  one_first_flaw None (Some Malformed) h g = absurd (g h.0)
+  one_first_flaw None (Some Unknown) h g = absurd (g.1 h.1)
+  one_first_flaw None (Some Unfit) h g = absurd (g.2 h.2)
+  one_first_flaw None (Some Large) h g = absurd (g.3 h.3)
+  one_first_flaw (Some Malformed) (Some Malformed) h g = refl
+  one_first_flaw (Some Malformed) other h g = absurd (h g.0)
+  one_first_flaw (Some Unknown) (Some Malformed) h g = absurd (g h.0)
+  one_first_flaw (Some Unknown) (Some Unknown) h g = refl
+  one_first_flaw (Some Unknown) other h g = absurd (h.1 g.1)
+  one_first_flaw (Some Unfit) (Some Malformed) h g = absurd (g h.0)
+  one_first_flaw (Some Unfit) (Some Unknown) h g = absurd (g.1 h.1)
+  one_first_flaw (Some Unfit) (Some Unfit) h g = refl
+  one_first_flaw (Some Unfit) other h g = absurd (h.2 g.2)
+  one_first_flaw (Some Large) (Some Malformed) h g = absurd (g h.0)
+  one_first_flaw (Some Large) (Some Unknown) h g = absurd (g.1 h.1)
+  one_first_flaw (Some Large) (Some Unfit) h g = absurd (g.2 h.2)
+  one_first_flaw (Some Large) (Some Large) h g = refl
+  one_first_flaw (Some Large) None h g = absurd (h.3 g.3)
+
+-- two flaws of a line are the same
+pub one_flaw : (circuit : Circuit) (fields : List Field) (words : List (List ℕ))
+    (flaw other : Option Flaw) → LineHasFlaw circuit fields words flaw
+    → LineHasFlaw circuit fields words other → flaw ≡ other
+one_flaw circuit fields words flaw other has has' = search (arith, one_first_flaw)
+
+-- ---- a line from its first word on
+
+-- its first flaw is that of its first word or of those after it
+pub line_first : (circuit : Circuit) (due : Field) (fields : List Field) (word : List ℕ)
+    (words : List (List ℕ)) (flaw found : Option Flaw) → WordHasFlaw circuit due word flaw
+    → LineHasFlaw circuit fields words found
+    → LineHasFlaw circuit (due ∷ fields) (word ∷ words) (sooner_flaw flaw found)
+line_first circuit due fields word words flaw found has has' =
+    sooner_of (parts IsFormed) (parts (IsKnown circuit)) (parts (IsFit circuit)) (parts IsWithin)
+    flaw found has has'
+  where
+    parts : (Holds : Field → List ℕ → Type 0) → EachWord Holds (due ∷ fields) (word ∷ words)
+        ↔ (Holds due word × EachWord Holds fields words)
+    parts Holds = (λ each. each, λ each. each)
 
 -- the first byte that passes stands before the end
 pub cut_within : (p : ℕ → Bool) (text : List ℕ) (end : ℕ) → position p text ≡ Some end
@@ -102,12 +179,7 @@ module _ {old new : Left} {line : List ℕ} (taken : TakesLine old line new) whe
 -- nothing is read
 pub read_none : (circuit : Circuit) (scale : Scale) (left : Left)
     → Reads circuit scale [] [] left left
-read_none circuit scale left = record {
-  text = refl;
-  words = refl;
-  number = omega arith;
-  faults = λ more fault found. found;
-}
+read_none circuit scale left = search (arith)
 
 module _ {circuit : Circuit} {scale : Scale} {forms : List Form} {lines : List Words}
     {old between : Left} (first : Reads circuit scale forms lines old between) where
@@ -115,37 +187,19 @@ module _ {circuit : Circuit} {scale : Scale} {forms : List Form} {lines : List W
   pub read_more : (forms' : List Form) (lines' : List Words) (new : Left)
       → Reads circuit scale forms' lines' between new
       → Reads circuit scale (forms ++ forms') (lines ++ lines') old new
-  read_more forms' lines' new second = record {
-    text =
-        first.text ∙ ap (λ bytes. text_of lines ++ bytes) second.text
-        ∙ sym (append_assoc (text_of lines) (text_of lines') new.text)
-        ∙ ap (λ bytes. bytes ++ new.text) (sym (flat_map-append line_of lines lines'));
-    words =
-        first.words ∙ ap (λ ws. lines ++ ws) second.words
-        ∙ sym (append_assoc lines lines' (map words_of (slice_split is_line_feed new.text)));
-    number = omega (arith, first.number, second.number, length-append forms forms');
-    faults = λ more fault found.
-        subst (λ fs. HasFirstFault circuit scale fs old.line old.text fault)
-        (sym (append_assoc forms forms' more))
-        (first.faults (forms' ++ more) fault (second.faults more fault found));
-  }
+  read_more forms' lines' new second = search (arith, append_assoc, flat_map-append, length-append)
 
   -- lines, and a fault after them
   pub stop_after : (forms' : List Form) (fault : ReportFault)
       → Stops circuit scale forms' between fault
       → Stops circuit scale (forms ++ forms') old fault
-  stop_after forms' fault stops memory more =
-      subst (λ fs. HasFirstFault circuit scale fs old.line old.text (Some fault))
-      (sym (append_assoc forms forms' more))
-      (first.faults (forms' ++ more) (Some fault) (stops memory more))
+  stop_after forms' fault stops memory more = search (arith, append_assoc)
 
 -- a fault is the first whatever is to follow
 pub stop_before : (circuit : Circuit) (scale : Scale) (forms forms' : List Form) (left : Left)
     (fault : ReportFault) → Stops circuit scale forms left fault
     → Stops circuit scale (forms ++ forms') left fault
-stop_before circuit scale forms forms' left fault stops memory more =
-    subst (λ fs. HasFirstFault circuit scale fs left.line left.text (Some fault))
-    (sym (append_assoc forms forms' more)) (stops memory (forms' ++ more))
+stop_before circuit scale forms forms' left fault stops memory more = search (arith, append_assoc)
 
 -- a fault of the next line is the first, whatever is to follow
 pub stop_line : (circuit : Circuit) (scale : Scale) (form : Form) (left : Left)
@@ -182,8 +236,7 @@ passed_on (Err passed) fault P is p = subst P (sym is) p
 module _ (forms due : ℕ → List Form) (step : (n : ℕ) → forms (n + 1) ≡ forms n ++ due n) where
   forms_after : (place more : ℕ) → (rest : List Form)
       × (forms (place + more) ≡ forms place ++ rest)
-  forms_after place zero =
-      ([], ap forms (omega arith) ∙ sym (append-nil (forms place)))
+  forms_after place zero = search (arith, append-nil)
   forms_after place (suc more) =
       let suffix = forms_after place more in (
         suffix.0 ++ due (place + more),
@@ -215,3 +268,104 @@ module _ {circuit : Circuit} {scale : Scale} (forms due : ℕ → List Form)
       (ap (λ prefix. prefix ++ suffix.0) (sym (step place)) ∙ sym suffix.1 ∙ ap forms (omega arith))
       (stop_before circuit scale (forms place ++ due place) suffix.0 old fault
       (stop_after read (due place) fault stops))
+
+-- ---- one fault
+
+-- the fault of a text whose first line ends there, by the flaw of that line
+abbrev IsJudged : Circuit → Scale → (due : Form) (more : List Form) (line : ℕ) (text : List ℕ)
+    → Option ReportFault → (end : ℕ) → Type 0
+IsJudged circuit scale due more line text fault end = (flaw : Option Flaw)
+    × LineHasFlaw circuit (fields_of circuit scale due (words_of (take end text)))
+    (words_of (take end text)) flaw
+    × MatchOption flaw
+    (HasFirstFault circuit scale more (line + 1) (drop (end + 1) text) fault)
+    (λ found. fault ≡ Some (fault_of due line found))
+
+-- and by where that line ends
+abbrev IsFaultAt : Circuit → Scale → (due : Form) (more : List Form) (line : ℕ) (text : List ℕ)
+    → Option ReportFault → (none : Bool) (end : Option ℕ) → Type 0
+IsFaultAt circuit scale due more line text fault none end =
+    MatchBool none (fault ≡ Some (Missing line))
+    (MatchOption end (fault ≡ Some (BadLine line))
+    (IsJudged circuit scale due more line text fault))
+
+-- two first faults of a text by the same forms are the same
+pub one_first_fault : (circuit : Circuit) (scale : Scale) (forms : List Form) (line : ℕ)
+    (text : List ℕ) (fault other : Option ReportFault)
+    → HasFirstFault circuit scale forms line text fault
+    → HasFirstFault circuit scale forms line text other → fault ≡ other
+one_first_fault circuit scale [] line text fault other is is' = is ∙ sym is'
+one_first_fault circuit scale (due ∷ more) line text fault other is is' =
+    at (length text == 0) (position is_line_feed text)
+    (λ end. one_first_fault circuit scale more (line + 1) (drop (end + 1) text) fault other) is is'
+  where
+    judged : (flaw flaw' : Option Flaw) → flaw ≡ flaw' → (First Second : Type 0)
+        → (First → Second → fault ≡ other)
+        → MatchOption flaw First (λ found. fault ≡ Some (fault_of due line found))
+        → MatchOption flaw' Second (λ found. other ≡ Some (fault_of due line found))
+        → fault ≡ other
+    judged flaw flaw' same First Second later is is' =
+        by flaw is (subst (λ (f : Option Flaw). MatchOption f Second
+        (λ found. other ≡ Some (fault_of due line found))) (sym same) is')
+      where
+        by : (flaw : Option Flaw)
+            → MatchOption flaw First (λ found. fault ≡ Some (fault_of due line found))
+            → MatchOption flaw Second (λ found. other ≡ Some (fault_of due line found))
+            → fault ≡ other
+        by None is is' = later is is'
+        by (Some found) is is' = is ∙ sym is'
+
+    at : (none : Bool) (end : Option ℕ)
+        → ((end : ℕ)
+        → HasFirstFault circuit scale more (line + 1) (drop (end + 1) text) fault
+        → HasFirstFault circuit scale more (line + 1) (drop (end + 1) text) other
+        → fault ≡ other)
+        → IsFaultAt circuit scale due more line text fault none end
+        → IsFaultAt circuit scale due more line text other none end → fault ≡ other
+    at true end later is is' = is ∙ sym is'
+    at false None later is is' = is ∙ sym is'
+    at false (Some end) later (flaw, has, is) (flaw', has', is') =
+        let words : Words = words_of (take end text) in
+        judged flaw flaw'
+        (one_flaw circuit (fields_of circuit scale due words) words flaw flaw' has has')
+        (HasFirstFault circuit scale more (line + 1) (drop (end + 1) text) fault)
+        (HasFirstFault circuit scale more (line + 1) (drop (end + 1) text) other)
+        (later end) is is'
+
+-- ---- the next line
+
+-- the first place of a byte
+pub first_place : (byte : ℕ) (bytes rest : List ℕ) → Lacks byte bytes
+    → position_or_len (λ other. other == byte) (bytes ++ byte ∷ rest) ≡ length bytes
+first_place byte [] rest lacks = search (arith, eq-eqb)
+first_place byte (first ∷ bytes) rest lacks = search (arith, first_place byte bytes rest lacks.1)
+
+-- what stands after it
+pub after_place : (byte : ℕ) (bytes rest : List ℕ)
+    → drop (length bytes + 1) (bytes ++ byte ∷ rest) ≡ rest
+after_place byte [] rest = refl
+after_place byte (first ∷ bytes) rest = search (arith, after_place byte bytes rest)
+
+-- the first line feed
+feed_found : (bytes rest : List ℕ) → Lacks 10 bytes
+    → position is_line_feed (bytes ++ 10 ∷ rest) ≡ Some (length bytes)
+feed_found bytes rest lacks = search (arith, nat_lt, first_place, lt-ltb, length-append)
+
+-- it is read where it has these words, without a flaw
+pub line_reads : (circuit : Circuit) (scale : Scale) (due : Form) (words : Words) (old : Left)
+    (rest : List ℕ) → IsLine words → IsFlawless circuit scale due words
+    → old.text ≡ line_of words ++ rest
+    → ReadsLine circuit scale due words old (record { line = old.line + 1; text = rest })
+line_reads circuit scale due words old rest is flawless text =
+    let bytes : List ℕ = join_with_byte 32 words in
+    let cut : old.text ≡ bytes ++ 10 ∷ rest = text ∙ append_assoc bytes (10 ∷ []) rest in
+    let taken : TakesLine old bytes (record { line = old.line + 1; text = rest }) = record {
+      some = ne_eqb (length old.text) 0
+          (λ none. omega (arith, none, ap length cut, length-append bytes (10 ∷ rest)));
+      end = ap (position is_line_feed) cut ∙ feed_found bytes rest (words_lack words is);
+      line_is = sym (ap (take (length bytes)) cut
+          ∙ take_at bytes (10 ∷ rest) (length bytes) refl);
+      text = sym (ap (drop (length bytes + 1)) cut ∙ after_place 10 bytes rest);
+      number = refl;
+    } in
+    line_read taken circuit scale due words (sym (words_cut words is)) flawless

@@ -1,16 +1,15 @@
 -- The words of a report have no space and no line feed: numbers, and the names of signals.
-use Rattle.std.proofs.Common.{◌≡◌, ◌<◌, ◌+◌, ◌/◌, ◌%◌, ◌==◌, ◌&&◌, ◌||◌, not, ℕ, suc, zero, ℤ, pos, negsuc, Bool, true, false, cond, List, [], ◌∷◌, ◌++◌, Option, Some, None, slice_get, nat_lt, nat_le, nat_abs, length, refl, sym, subst, true≢false, arith}
+use Rattle.std.proofs.Common.{◌≡◌, ◌<◌, ◌+◌, ◌/◌, ◌%◌, ◌==◌, ◌&&◌, ◌||◌, not, ℕ, suc, zero, ℤ, pos, negsuc, Bool, true, false, cond, List, [], ◌∷◌, ◌++◌, Option, Some, None, slice_get, nat_lt, nat_le, refl, sym, subst, true≢false, arith}
 use Rattle.std.specs.Fmt.{digits, digits_onto, digit_glyph, signed_decimal}
 use Rattle.std.specs.List.{list_all}
 use Rattle.std.specs.Option.{option_and_then, option_map_or}
 use Rattle.std.specs.Ordering.{int_eq}
 use Rattle.std.specs.Str.{bytes_eq}
-use Rattle.std.specs.Int.RustNames.{int_div}
 use Rattle.std.proofs.lemmas.Bool.{leb-true}
 use Rattle.std.proofs.lemmas.Option.{slice_get_within, get_or_from_slice_get}
 use Rattle.std.proofs.lemmas.Slice.Eq.{bytes_eq-Decides}
 use Rattle.cts_base.specs.declared.fraction.Fraction.{Fraction}
-use Rattle.cts_base.specs.Fractions.{divisor_up_to, fraction_text, quotient_text}
+use Rattle.cts_base.specs.Fractions.{fraction_text, quotient_text}
 use Rattle.cts_model.specs.declared.signal.Signal.{Signal}
 use Rattle.cts_model.specs.declared.circuit.Circuit.{Circuit}
 use Rattle.cts_model.specs.netlist.Circuits.{host_name, is_named}
@@ -39,7 +38,7 @@ glyph_above digit = at (nat_lt digit 10)
   where
     at : (small : Bool) → 32 < cond small (48 + digit) (87 + digit)
     at true = omega arith
-    at false = omega arith
+    at false = search (arith)
 
 -- so are the digits of a number
 digits_above : (most base number : ℕ) (suffix : List ℕ) → IsWord suffix
@@ -71,16 +70,12 @@ fraction_word num den = at (int_eq den (pos 1))
     at : (whole : Bool) → IsWord (cond whole (signed_decimal num)
         (signed_decimal num ++ 47 ∷ signed_decimal den))
     at true = number_word num
-    at false =
-        word_parts (signed_decimal num) (47 ∷ signed_decimal den) (number_word num)
-        (omega arith, number_word den)
+    at false = search (arith, word_parts, number_word)
 
 -- a quotient
 pub quotient_word : (num den : ℤ) → IsWord (quotient_text num den)
 unfolding quotient_text
-quotient_word num den =
-    fraction_word (int_div num (pos (divisor_up_to (nat_abs den) (nat_abs num) (nat_abs den))))
-    (int_div den (pos (divisor_up_to (nat_abs den) (nat_abs num) (nat_abs den))))
+quotient_word num den = search (arith, fraction_word)
 
 -- and a slack
 pub slack_word : (slack : Option Fraction) → IsWord (slack_text slack)
@@ -113,18 +108,14 @@ name_word : (signal : Signal) → is_named signal ≡ true → IsWord signal.nam
 name_word signal named = at (is_host signal.kind) named
   where
     host_word : IsWord host_name
-    host_word =
-        (omega arith, (omega arith, (omega arith, (omega arith, (omega arith, (omega arith, tt))))))
+    host_word = search (arith)
 
     at : (host : Bool)
         → cond host (bytes_eq signal.name host_name)
         (is_name signal.name && is_short signal.name) ≡ true
         → IsWord signal.name
     at true is = subst IsWord (sym ((bytes_eq-Decides signal.name host_name).0 is)) host_word
-    at false is =
-        name_bytes signal.name
-        (both (nat_le 1 (length signal.name)) (list_all is_name_byte signal.name)
-        (both (is_name signal.name) (is_short signal.name) is).0).1
+    at false is = search (arith, name_bytes, both, nat_le)
 
 -- and so is what is printed for a signal's number
 pub signal_word : (circuit : Circuit) (number : ℕ) → IsWord (signal_name circuit number)

@@ -1,7 +1,5 @@
-use Rattle.std.proofs.Common.{subst, sym}
-use Rattle.cts_model.specs.report.ReportBounds.{Spells}
-use Rattle.report_text.proofs.AssemblyLemmas.{arrivals_below, parts_spelled}
-use Rattle.report_text.proofs.PrintedParts.{parts_printable}
+use Rattle.std.proofs.Common.{arith}
+use Rattle.report_text.proofs.AssemblyLemmas.{arrivals_below, parts_spelled, parts_printable}
 use Rattle.report_text.proofs.assembly.report_of.Goals as goal
 
 pub put_together-requires-clause-period : goal.put_together-requires-clause-period
@@ -12,5 +10,4 @@ put_together-requires-clause-arrivals c =
     arrivals_below (parts_printable c.requires.2)
 
 pub returns : goal.returns
-returns c circuit text has = subst (Spells circuit c.args.tech.now text)
-    (sym c.in_ok-report.ensures) (parts_spelled has)
+returns c circuit text has = search (arith, parts_spelled, c.in_ok-report.ensures)

@@ -1,8 +1,7 @@
-use Rattle.std.proofs.Common.{◌^◌, ◌∙◌, sym, subst}
+use Rattle.std.proofs.Common.{◌^◌, ◌∙◌, sym, subst, arith}
 use Rattle.cts_base.specs.Fractions.{HasSizeBelow}
 use Rattle.cts_base.proofs.FractionReading.{held_same}
-use Rattle.report_text.specs.Values.{IsSmallScale}
-use Rattle.report_text.proofs.GridLemmas.{scale_small}
+use Rattle.report_text.proofs.SpelledFields.{scale_small}
 use Rattle.report_text.proofs.grid.scale_of.Goals as goal
 
 pub returns-clause-value : goal.returns-clause-value
@@ -17,6 +16,4 @@ returns-clause-value c =
     λ i. record { den = den i; grid = grid i }
 
 pub returns-clause-small : goal.returns-clause-small
-returns-clause-small c =
-    subst IsSmallScale (sym (returns-clause-value c))
-    (scale_small c.args.tech.now c.args.period c.requires)
+returns-clause-small c = search (arith, returns-clause-value, scale_small, c.requires)

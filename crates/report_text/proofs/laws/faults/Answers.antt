@@ -1,5 +1,4 @@
-use Rattle.report_text.proofs.JudgedTexts.{fault_or_report}
-use Rattle.report_text.proofs.PassedTexts.{report_spelled}
+use Rattle.report_text.proofs.PassedTexts.{fault_or_report, report_spelled}
 use Rattle.report_text.proofs.WholeTexts.{no_fault, one_fault}
 use Rattle.report_text.proofs.laws.faults.Goals as goal
 

@@ -1,4 +1,4 @@
-use Rattle.std.proofs.Common.{◌<◌, ◌++◌, ◌∷◌, [], length, sym, ap, ◌∙◌, rules, arith}
+use Rattle.std.proofs.Common.{◌++◌, ◌∷◌, [], sym, ap, ◌∙◌, arith}
 use Rattle.std.proofs.lemmas.List.FromFn.{map-range_with_len_more}
 use Rattle.cts_model.specs.report.ReportLines.{signal_name}
 use Rattle.report_text.proofs.NameNumbers.{signal_new, signals_few}
@@ -6,15 +6,10 @@ use Rattle.report_text.proofs.names.signal_names.Goals as goal
 
 pub push-requires-clause-new : goal.push-requires-clause-new
 push-requires-clause-new c =
-    let within : c.loop-signal.signal < length c.args.circuit.now.signals = search rules in
-    rw (c.signal_name.ensures, c.loop-signal.invariant)
-    (signal_new c.args.circuit.now c.loop-signal.signal within)
+    search (arith, signal_new, c.signal_name.ensures, c.loop-signal.invariant)
 
 pub push-requires-clause-room : goal.push-requires-clause-room
-push-requires-clause-room c =
-    let within : c.loop-signal.signal < length c.args.circuit.now.signals = search rules in
-    signals_few c.args.circuit.now c.loop-signal.names c.loop-signal.signal within
-    c.loop-signal.invariant
+push-requires-clause-room c = search (arith, signals_few, c.loop-signal.invariant)
 
 pub loop-signal-preserved : goal.loop-signal-preserved
 loop-signal-preserved c =

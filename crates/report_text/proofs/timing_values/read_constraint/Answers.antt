@@ -1,8 +1,7 @@
 use Rattle.std.proofs.Common.{false, true}
 use mir.Syntax.{w128}
 use Rattle.std.proofs.lemmas.Int.{to_z-of_z}
-use Rattle.report_text.proofs.ScanLemmas.{takes_then}
-use Rattle.report_text.proofs.TimingReads.{constraint_taken}
+use Rattle.report_text.proofs.ScanLemmas.{takes_then, constraint_taken}
 use Rattle.report_text.proofs.timing_values.read_constraint.Goals as goal
 
 pub returns-then-setup : goal.returns-then-setup

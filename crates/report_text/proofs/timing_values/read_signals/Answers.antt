@@ -1,17 +1,13 @@
-use Rattle.std.proofs.Common.{sym, subst, arith}
-use Rattle.report_text.proofs.TimingReads.{TakesSignals, no_signals, signals_next}
+use Rattle.std.proofs.Common.{subst, arith}
+use Rattle.report_text.proofs.ScanLemmas.{TakesSignals, no_signals, signals_next}
 use Rattle.report_text.proofs.timing_values.read_signals.Goals as goal
 
 pub loop-place-init : goal.loop-place-init
-loop-place-init c =
-    subst (λ signals. TakesSignals c.args.rules.now.circuit.now 0 signals c.args.scan.now
-    c.args.scan.now) (sym c.new-signals.ensures)
-    (no_signals c.args.rules.now.circuit.now c.args.scan.now)
+loop-place-init c = search (arith, TakesSignals, no_signals, c.new-signals.ensures)
 
 pub loop-place-preserved : goal.loop-place-preserved
 loop-place-preserved c =
-    signals_next c.args.rules.now.circuit.now c.loop-place.signals c.loop-place.invariant
-    c.signal.ensures c.in_ok-push.ensures.ok
+    search (arith, signals_next, c.loop-place.invariant, c.signal.ensures, c.in_ok-push.ensures.ok)
 
 pub returns : goal.returns
 returns c =

@@ -1,4 +1,4 @@
-use Rattle.report_text.proofs.TimingReads.{TakesSignals}
+use Rattle.report_text.proofs.ScanLemmas.{TakesSignals}
 use Rattle.report_text.proofs.timing_values.read_signals.Given as goal
 
 -- the signals so far

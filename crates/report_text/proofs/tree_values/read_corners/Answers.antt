@@ -1,5 +1,5 @@
 use Rattle.std.proofs.Common.{◌≡◌, arith}
-use Rattle.report_text.proofs.ReadCorners.{corner_read}
+use Rattle.report_text.proofs.ScanLemmas.{corner_read}
 use Rattle.report_text.proofs.tree_values.read_corners.Goals as goal
 
 pub loop-place-preserved : goal.loop-place-preserved

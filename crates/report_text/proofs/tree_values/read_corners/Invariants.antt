@@ -1,4 +1,4 @@
-use Rattle.report_text.proofs.ReadCorners.{HasRead}
+use Rattle.report_text.proofs.ScanLemmas.{HasRead}
 use Rattle.report_text.proofs.tree_values.read_corners.Given as goal
 
 abbrev pub invariant-loop-place : goal.invariant-loop-place

@@ -1,12 +1,9 @@
-use Rattle.std.proofs.Common.{refl}
+use Rattle.std.proofs.Common.{refl, arith}
 use Rattle.report_text.proofs.FractionFlaws.{negative_kept}
 use Rattle.report_text.proofs.judging.fraction.is_negative.Goals as goal
 
 pub returns-in-Some : goal.returns-in-Some
-returns-in-Some c =
-    let (num, den, spells, is, is') = c.in-Some.ensures.some in
-    negative_kept c.args.word.now num den c.in-Some.quotient.num c.is_below_zero.result spells is
-    c.is_below_zero.ensures
+returns-in-Some c = search (arith, negative_kept, c.in-Some.ensures.some, c.is_below_zero.ensures)
 
 pub returns-in-None : goal.returns-in-None
 returns-in-None c = (

@@ -1,4 +1,4 @@
-use Rattle.std.proofs.Common.{pos, ◌^◌, Some, None, refl, subst}
+use Rattle.std.proofs.Common.{pos, ◌^◌, Some, None, subst, arith}
 use mir.Syntax.{w128}
 use Rattle.std.proofs.lemmas.Int.{to_z-of_z}
 use Rattle.report_text.specs.Fields.{WordHasFlaw}
@@ -8,8 +8,7 @@ use Rattle.report_text.proofs.FractionFlaws.{dash_plain, passed_flaw, slack_deno
 use Rattle.report_text.proofs.judging.fraction.read_slack.Goals as goal
 
 pub returns-then-is_keyword-clause-flaw : goal.returns-then-is_keyword-clause-flaw
-returns-then-is_keyword-clause-flaw c =
-    dash_plain c.args.over (pos (10 ^ 20)) c.args.word.now (c.if-is_keyword.ensures.0 refl)
+returns-then-is_keyword-clause-flaw c = search (arith, dash_plain, c.if-is_keyword.ensures.0)
 
 pub returns-in_err-fraction-clause-flaw : goal.returns-in_err-fraction-clause-flaw
 returns-in_err-fraction-clause-flaw c circuit =

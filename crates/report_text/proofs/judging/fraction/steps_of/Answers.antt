@@ -1,4 +1,4 @@
-use Rattle.std.proofs.Common.{sym, ◌∙◌, rules, FitsSigned}
+use Rattle.std.proofs.Common.{sym, ◌∙◌, rules, FitsSigned, arith}
 use mir.Syntax.{w128}
 use Rattle.std.proofs.lemmas.Int.{to_z-of_z}
 use Rattle.report_text.proofs.FractionFlaws.{steps_past, steps_taken, steps_unfit, steps_within}
@@ -13,14 +13,14 @@ returns-then-not-divides-clause-flaw c =
 
 pub returns-in-Some-clause-flaw : goal.returns-in-Some-clause-flaw
 returns-in-Some-clause-flaw c =
-    let fraction = c.args.fraction in
-    let divides = rw (to_z-of_z w128 c.args.over c.ranges.over) at c.divides.ensures in
-    let below = rw (
-      to_z-of_z w128 c.args.over c.ranges.over,
-      to_z-of_z w128 c.args.bound c.ranges.bound,
-    ) at c.in-Some.ensures in
-    steps_within c.args.over c.args.bound fraction.num fraction.den fraction.lowest
-    (divides.0 c.if-not-divides.false) below.1
+    search (
+      arith,
+      to_z-of_z,
+      steps_within,
+      c.divides.ensures,
+      c.in-Some.ensures,
+      c.if-not-divides.false,
+    )
 
 pub returns-in-Some-clause-value : goal.returns-in-Some-clause-value
 returns-in-Some-clause-value c =

@@ -17,9 +17,16 @@ read_counted-requires-2-clause-line c =
 
 pub read-requires : goal.read-requires
 read-requires c =
-    let before = lines_before_merges c.in_ok-timings.ensures.ok c.in_ok-leads.ensures.ok in
-    let merged = counted_number c.in_ok-merged.ensures.ok in
-    record { line = omega (arith, before, merged, c.requires.line, c.requires.few) }
+    search (
+      arith,
+      lines_before_merges,
+      counted_number,
+      c.in_ok-timings.ensures.ok,
+      c.in_ok-leads.ensures.ok,
+      c.in_ok-merged.ensures.ok,
+      c.requires.line,
+      c.requires.few,
+    )
 
 pub read_counted-requires-3-clause-line : goal.read_counted-requires-3-clause-line
 read_counted-requires-3-clause-line c =
@@ -40,12 +47,13 @@ read-requires-2 c =
 
 pub returns-in_err-timings-clause-fault : goal.returns-in_err-timings-clause-fault
 returns-in_err-timings-clause-fault c =
-    let circuit = c.args.rules.now.circuit.now in
-    let scale = c.args.rules.now.scale in
-    let fault = c.in_err-timings.field-0.0 in
-    passed_on _ _ _ c.from_residual.ensures.1
-    (first_stops circuit scale c.args.version c.args.count c.args.cursor.now fault
-    c.in_err-timings.ensures.fault)
+    search (
+      arith,
+      passed_on,
+      first_stops,
+      c.from_residual.ensures.1,
+      c.in_err-timings.ensures.fault,
+    )
 
 pub returns-in_err-leads-clause-fault : goal.returns-in_err-leads-clause-fault
 returns-in_err-leads-clause-fault c =

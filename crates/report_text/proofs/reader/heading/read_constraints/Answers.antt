@@ -1,7 +1,7 @@
 use Rattle.std.proofs.Common.{subst}
 use Rattle.report_text.specs.declared.form.Form.TheVariants as form
 use Rattle.report_text.specs.Walks.{Stops}
-use Rattle.report_text.proofs.HeadingLemmas.{cycle_shown}
+use Rattle.report_text.proofs.BodyLemmas.{cycle_shown}
 use Rattle.report_text.proofs.RowLemmas.{one_form}
 use Rattle.report_text.proofs.WalkLemmas.{passed_on}
 use Rattle.report_text.proofs.reader.heading.read_constraints.Goals as goal

@@ -1,6 +1,4 @@
-use Rattle.std.proofs.Common.{[], ◌∷◌, map, arith}
-use Rattle.std.specs.List.{range_with_len}
-use Rattle.report_text.specs.declared.form.Form.TheVariants as form
+use Rattle.std.proofs.Common.{arith}
 use Rattle.report_text.proofs.WalkLemmas.{passed_on, stop_before, stop_after, stop_line}
 use Rattle.report_text.proofs.reader.rows.read_counted.Goals as goal
 
@@ -12,14 +10,14 @@ read_rows-requires-clause-line g c =
 
 pub returns-in_err-read_count-clause-fault : goal.returns-in_err-read_count-clause-fault
 returns-in_err-read_count-clause-fault g c =
-    let circuit = c.args.rules.now.circuit.now in
-    let scale = c.args.rules.now.scale in
-    passed_on _ _ _ c.from_residual.ensures.1
-    (stop_before circuit scale (form.Count c.args.word c.args.count ∷ [])
-    (map g.L.Line.due (range_with_len c.args.first c.args.count)) c.args.cursor.now
-    c.in_err-read_count.field-0.0
-    (stop_line circuit scale (form.Count c.args.word c.args.count)
-    c.args.cursor.now c.in_err-read_count.field-0.0 c.in_err-read_count.ensures.fault))
+    search (
+      arith,
+      passed_on,
+      stop_before,
+      stop_line,
+      c.from_residual.ensures.1,
+      c.in_err-read_count.ensures.fault,
+    )
 
 pub returns-in_err-rows-clause-fault : goal.returns-in_err-rows-clause-fault
 returns-in_err-rows-clause-fault g c =

@@ -1,16 +1,10 @@
-use Rattle.std.proofs.Common.{sym, subst, arith}
-use Rattle.report_text.specs.Rows.{HasRows}
+use Rattle.std.proofs.Common.{arith}
 use Rattle.report_text.proofs.RowLemmas.{no_rows, rows_next, rows_number, rows_stop}
 use Rattle.report_text.proofs.WalkLemmas.{passed_on}
 use Rattle.report_text.proofs.reader.rows.read_rows.Goals as goal
 
 pub read-requires : goal.read-requires
-read-requires g c =
-    let circuit = c.args.rules.now.circuit.now in
-    let scale = c.args.rules.now.scale in
-    let number = rows_number g.L.Line.due (g.L.Line.says circuit scale) c.args.first
-    c.loop-place.invariant in
-    record { line = omega arith }
+read-requires g c = search (arith, rows_number, c.loop-place.invariant)
 
 pub returns-in_err-row-clause-fault : goal.returns-in_err-row-clause-fault
 returns-in_err-row-clause-fault g c =
@@ -21,17 +15,14 @@ returns-in_err-row-clause-fault g c =
     c.args.count c.in_err-row.field-0.0 c.loop-place-test.true c.in_err-row.ensures.fault)
 
 pub loop-place-init : goal.loop-place-init
-loop-place-init g c =
-    let circuit = c.args.rules.now.circuit.now in
-    let scale = c.args.rules.now.scale in
-    subst (HasRows circuit scale g.L.Line.due (g.L.Line.says circuit scale) c.args.first 0
-    c.args.cursor.now c.args.cursor.now) (sym c.new-rows.ensures)
-    (no_rows g.L.Line.due (g.L.Line.says circuit scale) c.args.first)
+loop-place-init g c = search (arith, no_rows, c.new-rows.ensures)
 
 pub loop-place-preserved : goal.loop-place-preserved
 loop-place-preserved g c =
-    let circuit = c.args.rules.now.circuit.now in
-    let scale = c.args.rules.now.scale in
-    rows_next g.L.Line.due (g.L.Line.says circuit scale) c.args.first c.loop-place.invariant
-    c.push.new.self c.in_ok-row.row c.read.new.cursor c.in_ok-row.ensures.ok
-    c.in_ok-push.ensures.ok
+    search (
+      arith,
+      rows_next,
+      c.loop-place.invariant,
+      c.in_ok-row.ensures.ok,
+      c.in_ok-push.ensures.ok,
+    )

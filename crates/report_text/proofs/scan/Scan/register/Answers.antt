@@ -3,7 +3,7 @@ use Rattle.cts_model.specs.netlist.Paths.{register_name}
 use Rattle.report_text.specs.LineFields as field
 use Rattle.report_text.specs.Forms.{register_named}
 use Rattle.name_set.proofs.OneName.{few_registers}
-use Rattle.report_text.proofs.RegisterNames.{name_read}
+use Rattle.report_text.proofs.NameNumbers.{name_read}
 use Rattle.report_text.proofs.ScanLemmas.{takes_word}
 use Rattle.report_text.proofs.scan.Scan.register.Goals as goal
 

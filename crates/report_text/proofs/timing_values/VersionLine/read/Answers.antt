@@ -1,6 +1,5 @@
 use Rattle.std.proofs.Common.{refl}
-use Rattle.report_text.proofs.ScanLemmas.{form_read, takes_then}
-use Rattle.report_text.proofs.TimingReads.{version_read}
+use Rattle.report_text.proofs.ScanLemmas.{form_read, takes_then, version_read}
 use Rattle.report_text.proofs.timing_values.VersionLine.read.Goals as goal
 
 pub returns : goal.returns
