@@ -14,7 +14,7 @@ use Rattle.cts_model.specs.declared.report.Version.{Version}
 use Rattle.cts_model.specs.declared.tech.Tech.{Tech}
 use Rattle.cts_model.specs.placement.Points.{IsBelow, IsPointBelow}
 use Rattle.cts_model.specs.report.ReportBounds.{HasSmallWeight, HasSmallWeights, IsBetweenRegisters, ShowsPeriodAmong, count_in, cycle_length, HasTimingBounds, HasTreeBounds, IsMergeShow, IsOfSize, IsSmallWire, IsSourceShow, IsWithinBounds, ShowsAmong, IsSmallMerge, Spells}
-use Rattle.cts_model.specs.report.ReportLines.{lead_line, lines_below, merge_line_at, no_wire, node_line_at, origin, period_show_lines, register_line_at, report_lines, source_line, timing_lines, tree_lines, version_line}
+use Rattle.cts_model.specs.report.ReportLines.{lead_line, lines_below, merge_line_at, no_wire, node_line_at, origin, period_show_lines, register_line_at, report_lines, show_words, source_line, timing_lines, tree_lines, version_line}
 use Rattle.cts_model.specs.text.PrintedLines.{Words, line_for, count_line, period_line, register_line, text_of}
 use Rattle.cts_model.specs.timing.Schedules.{IsSmallPeriod, arrival_of}
 use Rattle.cts_model.specs.tree.Problems.{grid_of, scheduled_length}
@@ -396,31 +396,21 @@ module _ {circuit : Circuit} {tech : Tech} {parts : Parts}
       → merge_line_at circuit report place
       ≡ merged_line circuit grid (count + place) (get_or parts.body.merged place default)
   merge_same default place within =
-      search (
-        arith,
-        length-map,
-        get_or_append_left,
-        as_many,
-        length-append,
-        get_or-append-add,
-        get_or-map,
-        arrivals_many,
-      )
+      search (arith, length-map, get_or_append_left, length-append, get_or-append-add, get_or-map)
 
   -- that of the source
   source_same : source_line circuit report ≡ sourced_line circuit grid parts.body.source
   source_same =
-      search (
-        arith,
-        length-append,
-        as_many,
-        arrivals_many,
-        reaches_many,
-        some,
-        get_or_push,
-        shows_many,
-        merges_many,
-      )
+      let node = source_of (length (arrivals_in parts)) in
+      let suffix : length (sinks ++ (reaches_in parts)) ≡ node =
+      simp length-append (omega (arith, as_many, arrivals_many, reaches_many, some)) in
+      let reach = get_or_push (sinks ++ (reaches_in parts)) parts.body.source.reach (pos 0)
+      node suffix
+      in
+      let show = get_or_push (shows_in parts) parts.body.source.show Root
+      (length (merges_in parts))
+      (shows_many ∙ sym merges_many) in
+      λ i. codes "source" ∷ quotient_text (reach i) grid ∷ show_words circuit (show i)
 
   -- that of a node
   node_same : (default : NodeLine) (place : ℕ) → place < length parts.body.placed

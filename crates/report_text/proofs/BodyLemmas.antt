@@ -36,7 +36,7 @@ pub read_as : (circuit : Circuit) (scale other : Scale) (form : Form) (words lin
     (old new : Left) → ReadsLine circuit scale form words old new
     → IsFlawless circuit other form words → words ≡ line
     → Reads circuit other (form ∷ []) (line ∷ []) old new
-read_as circuit scale other form words line old new read flawless is = search (arith)
+read_as circuit scale other form words line old new read flawless is = search arith
 
 -- the line that denotes what shows the period
 show_line : (words : Words) (count : Option ℕ) → DenotesShow words count → words ≡ shown_line count
@@ -129,7 +129,7 @@ pub pathed_shown : {circuit : Circuit} {scale : Scale} {count : ℕ} {old new : 
     → HasPathed circuit scale count old new pathed
     → HasShown circuit scale Second (Some count) old new
     (record { shown = Cycle pathed.cycle; paths = pathed.paths })
-pathed_shown {circuit} {scale} {count} {old} {new} pathed small has = search (arith)
+pathed_shown {circuit} {scale} {count} {old} {new} pathed small has = search arith
 
 -- the forms of three sections, after how many lines each has
 abbrev pub register_forms : ℕ → List Form
@@ -149,60 +149,14 @@ pub sections_apart : {X : Type 0} (a b c d e : List X)
     → a ++ b ++ c ++ d ++ e ≡ a ++ (b ++ (c ++ (d ++ e)))
 sections_apart a b c d e = simp append_assoc
 
--- a fault in one of the five sections
-module _ (circuit : Circuit) (scale : Scale) (version : Version) (count : ℕ) (old : Left)
-    (fault : ReportFault) where
-  abbrev a : List Form
-  a = register_forms count
-
-  abbrev b : List Form
-  b = lead_forms version count
-
-  abbrev c : List Form
-  c = merge_forms count
-
-  abbrev d : List Form
-  d = form.Source ∷ node_forms count
-
-  abbrev e : List Form
-  e = form.Total ∷ []
-
-  after_fourth : Stops circuit scale (a ++ b ++ c ++ d) old fault
-      → Stops circuit scale (a ++ b ++ c ++ d ++ e) old fault
-  after_fourth stops = stop_before circuit scale (a ++ b ++ c ++ d) e old fault stops
-
-  after_third : Stops circuit scale (a ++ b ++ c) old fault
-      → Stops circuit scale (a ++ b ++ c ++ d ++ e) old fault
-  after_third stops = after_fourth (stop_before circuit scale (a ++ b ++ c) d old fault stops)
-
-  after_second : Stops circuit scale (a ++ b) old fault
-      → Stops circuit scale (a ++ b ++ c ++ d ++ e) old fault
-  after_second stops = after_third (stop_before circuit scale (a ++ b) c old fault stops)
-
-  pub first_stops : Stops circuit scale a old fault
-      → Stops circuit scale (a ++ b ++ c ++ d ++ e) old fault
-  first_stops stops = after_second (stop_before circuit scale a b old fault stops)
-
-  module _ (lines : List Words) (between : Left) where
-    pub second_stops : Reads circuit scale a lines old between
-        → Stops circuit scale b between fault
-        → Stops circuit scale (a ++ b ++ c ++ d ++ e) old fault
-    second_stops read stops = after_second (stop_after read b fault stops)
-
-    pub third_stops : Reads circuit scale (a ++ b) lines old between
-        → Stops circuit scale c between fault
-        → Stops circuit scale (a ++ b ++ c ++ d ++ e) old fault
-    third_stops read stops = after_third (stop_after read c fault stops)
-
-    pub fourth_stops : Reads circuit scale (a ++ b ++ c) lines old between
-        → Stops circuit scale d between fault
-        → Stops circuit scale (a ++ b ++ c ++ d ++ e) old fault
-    fourth_stops read stops = after_fourth (stop_after read d fault stops)
-
-    pub fifth_stops : Reads circuit scale (a ++ b ++ c ++ d) lines old between
-        → Stops circuit scale e between fault
-        → Stops circuit scale (a ++ b ++ c ++ d ++ e) old fault
-    fifth_stops read stops = stop_after read e fault stops
+-- a fault by forms that stand among all, after lines that are read
+pub stops_within : {circuit : Circuit} {scale : Scale} {lines : List Words} {old between : Left}
+    (all a b more : List Form) → (a ++ b) ++ more ≡ all → (fault : ReportFault)
+    → Reads circuit scale a lines old between → Stops circuit scale b between fault
+    → Stops circuit scale all old fault
+stops_within {circuit} {scale} {lines} {old} {between} all a b more same fault read stops =
+    subst (λ forms. Stops circuit scale forms old fault) same
+    (stop_before circuit scale (a ++ b) more old fault (stop_after read b fault stops))
 
 -- there are no more leads than registers
 leads_line : (circuit : Circuit) (scale : Scale) (version : Version) (count : ℕ)

@@ -236,7 +236,7 @@ module _ (text : List ℕ) (num den : ℤ) (spells : SpellsQuotient text num den
     -- or not
     pub period_past : ((num <ℤ pos (10 ^ 18)) × (den ≤ℤ pos 4097) → ⊥)
         → WordHasFlaw circuit Period text (Some Large)
-    period_past past = search (arith)
+    period_past past = search arith
 
 -- ---- of a text that is refused
 

@@ -7,7 +7,7 @@ use Rattle.std.specs.Int.RustNames.{int_div}
 use Rattle.cts_base.specs.declared.fraction.Fraction.{Fraction}
 use Rattle.cts_base.specs.Fractions.{HasSizeBelow, divisor_up_to, quotient_text}
 use Rattle.cts_base.specs.NumberTexts.{SpellsWhole, HaveSmallSizes, kept_size}
-use Rattle.cts_base.proofs.FractionReading.{few_digits, kept_same, kept_small}
+use Rattle.cts_base.proofs.FractionReading.{few_digits}
 use Rattle.cts_base.proofs.GreatestDivisors.{up_to_second, quotient_text_is}
 use Rattle.cts_base.proofs.OneSpelling.{whole_text, whole_spelled, quotient_text_spelled, fraction_spelled}
 use Rattle.cts_base.proofs.Quotients.{int_div-le, lowest_quotients, same_value}
@@ -25,8 +25,7 @@ whole_word word value small spells = whole_text word value (few_digits value sma
 pub whole_read : (word : List ℕ) (value read number : ℤ) → SpellsWhole word value
     → read ≡ kept_size value → number ≡ read → HasSizeBelow (10 ^ 37) number
     → word ≡ signed_decimal number
-whole_read word value read number spells kept same small =
-    search (arith, kept_small, whole_word, kept_same)
+whole_read word value read number spells kept same small = search (arith, whole_word)
 
 -- and what a report has for such a number spells it
 pub spelled_whole : (value : ℤ) → HasSizeBelow (10 ^ 37) value

@@ -1,5 +1,5 @@
 -- Lines are determined by their bytes: no word has a space or a line feed, or any byte below them.
-use Rattle.std.proofs.Common.{◌≡◌, ◌<◌, ◌==◌, false, ℕ, List, [], ◌∷◌, ◌++◌, All, map, refl, append_assoc, ne_eqb, arith}
+use Rattle.std.proofs.Common.{◌≡◌, ◌<◌, ◌==◌, false, ℕ, List, [], ◌∷◌, ◌++◌, All, map, refl, ap, ap₂, ◌∙◌, append_assoc, ne_eqb, arith}
 use Rattle.std.proofs.lemmas.List.{same_from_push}
 use Rattle.std.proofs.lemmas.List.Elements.{All-from_recursion}
 use Rattle.std.proofs.lemmas.List.Splits.{slice_split_none, slice_split_at}
@@ -60,16 +60,12 @@ pub lines_cut : (lines : List Words) → AllByRecursion IsLine lines
     → map words_of (slice_split is_line_feed (text_of lines)) ≡ lines ++ ([] ∷ []) ∷ []
 lines_cut [] are = refl
 lines_cut (words ∷ lines) are =
-    search (
-      arith,
-      append_assoc,
-      slice_split_at,
-      lacks_each,
-      words_lack,
-      words_cut,
-      lines_cut lines
-          are.1,
-    )
+    let bytes : List ℕ = join_with_byte 32 words in
+    ap (λ text. map words_of (slice_split is_line_feed text))
+    (append_assoc bytes (10 ∷ []) (text_of lines))
+    ∙ ap (map words_of) (slice_split_at is_line_feed bytes 10 (text_of lines)
+    (lacks_each 10 bytes (words_lack words are.0)) refl)
+    ∙ ap₂ (λ w ws. w ∷ ws) (words_cut words are.0) (lines_cut lines are.1)
 
 -- so lines are determined by their text
 pub one_text : (lines others : List Words) → AllByRecursion IsLine lines

@@ -214,4 +214,4 @@ module _ {circuit : Circuit} {text : List ℕ} {new : Left} {heading : Heading}
 pub heading_fault : (circuit : Circuit) (tech : Tech) (text : List ℕ) (fault : ReportFault)
     → ((scale : Scale) → Stops circuit scale heading_forms (whole text) fault)
     → fault ≢ NoMemory → HasFault circuit tech text (Some fault)
-heading_fault circuit tech text fault stops named = search (arith)
+heading_fault circuit tech text fault stops named = search arith

@@ -191,7 +191,7 @@ module _ (circuit : Circuit) (tech : Tech) (report : Report) (size : IsOfSize ci
 
   leads_told : All (IsTold (λ number. DenotesLead circuit) (λ number. lead_line circuit))
       report.leads
-  leads_told k d within number = search (arith)
+  leads_told k d within number = search arith
 
   merges_told : All (IsTold (SaysMerge circuit scale.grid) (merged_line circuit scale.grid))
       parts.body.merged

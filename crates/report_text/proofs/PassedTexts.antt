@@ -139,7 +139,7 @@ pub steps_passed : {X : Type 0} (circuit : Circuit) (scale : Scale) (more : List
     → Has place between value → IsSound circuit scale (forms place rest ++ more) between
     → Passed circuit scale more (Has count)
 steps_passed circuit scale more Has count due forms begins ends next zero place last between value
-    has sound = search (arith)
+    has sound = search arith
 steps_passed circuit scale more Has count due forms begins ends next (suc rest) place last between
     value has sound =
     let step = next place (forms (place + 1) rest ++ more) between value (omega (arith, last)) has

@@ -40,12 +40,11 @@ module _ {X : Type 0} (Says : ℕ → Words → X → Type 0) where
       → SayEach Says first lines rows → Says (first + length rows) words row
       → SayEach Says first (lines ++ words ∷ []) (rows ++ row ∷ [])
   say_more first [] [] words row each says = (subst (λ n. Says n words row) (omega arith) says, tt)
-  say_more first (line ∷ lines) (other ∷ rows) words row each says =
-      search (
-        arith,
-        say_more (first + 1) lines rows words row each.1 (subst (λ n. Says n words row)
-            (omega arith) says),
-      )
+  say_more first (line ∷ lines) (other ∷ rows) words row each says = (
+    each.0,
+    say_more (first + 1) lines rows words row each.1
+        (subst (λ n. Says n words row) (omega arith) says),
+  )
   say_more first lines rows words row each says = absurd each
 
   -- the lines are those of the rows

@@ -112,7 +112,7 @@ module _ {X : Type 0} (circuit : Circuit) (due : Field) {old between new : LineL
       where
         at : (words : Words) → old.words ≡ words → new.words ≡ drop 1 old.words
         at [] none = kept.words ∙ (next.none none).0 ∙ sym (ap (drop 1) none)
-        at (first ∷ rest) some = search (arith)
+        at (first ∷ rest) some = search arith
 
     -- by its field; where nothing is wrong it is that of its value
     pub takes_word : (text : X → List ℕ) (Holds : X → Type 0)
@@ -131,7 +131,7 @@ module _ {X : Type 0} (circuit : Circuit) (due : Field) {old between new : LineL
             → (words : Words) → old.words ≡ words → between.flaw ≡ None
             → Taken (text given ∷ []) (Holds given) old new
         at (Ok value) same ok spells [] none sound = search (arith, none-some)
-        at (Ok value) same ok spells (first ∷ rest) some sound = search (arith)
+        at (Ok value) same ok spells (first ∷ rest) some sound = search arith
         at (Err flaw) same ok spells words are sound = absurd (none-some flaw (sym ok))
 
     -- and where that is all that is wanted
@@ -147,7 +147,7 @@ module _ {X : Type 0} (circuit : Circuit) (due : Field) {old between new : LineL
 -- ---- several words
 
 pub takes_none : (circuit : Circuit) (left : LineLeft) → Takes circuit [] [] (Unit {0}) left left
-takes_none circuit left = search (arith)
+takes_none circuit left = search arith
 
 -- words, and more after them
 pub takes_then : {circuit : Circuit} {fields fields' : List Field} {texts texts' : Words}
@@ -179,7 +179,7 @@ takes_then {circuit} {fields} {fields'} {texts} {texts'} {Holds} {Holds'} {old} 
 pub takes_so : {circuit : Circuit} {fields : List Field} {texts : Words} {Holds Follows : Type 0}
     {old new : LineLeft} → Takes circuit fields texts Holds old new → (Holds → Follows)
     → Takes circuit fields texts Follows old new
-takes_so takes follow = search (arith)
+takes_so takes follow = search arith
 
 -- ---- the end
 
@@ -283,7 +283,7 @@ pub constraint_taken : {circuit : Circuit} {launch capture : ℕ} {weight : ℤ}
     } → Takes circuit constraint_fields (line_for circuit constraint)
     (IsBetweenRegisters (length circuit.registers) constraint × HasSmallWeight constraint) old new
 constraint_taken {circuit} {launch} {capture} {weight} {old} {new} setup takes constraint is =
-    search (arith, constraint_read)
+    search arith
 
 -- ---- paths
 

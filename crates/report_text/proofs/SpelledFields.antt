@@ -1,6 +1,6 @@
 -- What each word of a line without a flaw is: the word of a value that its field admits. A line has
 -- no flaw just where each of its words is one.
-use Rattle.std.proofs.Common.{◌≡◌, ◌*◌, ◌^◌, ℤ, pos, negsuc, ◌*ℤ◌, ◌≤ℤ◌, arith, ◌<◌, ◌≤◌, ◌⊎◌, ℕ, nat_abs, Bool, true, false, inl, inr, List, [], ◌∷◌, length, if◌then◌else◌, Option, Some, None, codes, drop, refl, sym, ap, ◌∙◌, subst}
+use Rattle.std.proofs.Common.{◌≡◌, ◌*◌, ◌^◌, ℤ, pos, negsuc, ◌*ℤ◌, ◌≤ℤ◌, arith, ◌<◌, ◌≤◌, ◌⊎◌, ℕ, nat_abs, Bool, true, false, inl, inr, List, [], ◌∷◌, length, if◌then◌else◌, Option, Some, None, codes, drop, get_or, refl, sym, ap, ◌∙◌, subst}
 use Rattle.std.specs.Fmt.{signed_decimal}
 use Rattle.std.specs.List.{AllByRecursion}
 use Rattle.std.proofs.Math.Nat.{one-le-mul}
@@ -241,7 +241,7 @@ spelled circuit (field.Counted count most) word small ((some, spells), known, fi
   whole_word word (pos count) (small_number count (omega (arith, within, small))) spells,
 )
 spelled circuit field.Weight word small ((value, spells), known, fit, within) =
-    search (arith, whole_word, size_below)
+    search (arith, whole_word)
 spelled circuit field.Period word small ((num, den, form, from), known, fit, within) =
     let (low, few) = within num den form.0 in
     let some = quotient_some word num den form.0 in
@@ -383,13 +383,12 @@ module _ (circuit : Circuit) where
       → spell circuit due value ≡ spell circuit due other → value ≡ other
   one_value field.Version First First small is is' same = refl
   one_value field.Version Second Second small is is' same = refl
-  one_value field.Version value other small is is' same = search (arith)
+  one_value field.Version value other small is is' same = search arith
   one_value field.Kind true true small is is' same = refl
   one_value field.Kind false false small is is' same = refl
-  one_value field.Kind value other small is is' same = search (arith)
+  one_value field.Kind value other small is is' same = search arith
   one_value (field.Number least most) value other small is is' same = search (arith, one_decimal)
-  one_value field.Weight value other small is is' same =
-      search (arith, one_number_text, few_digits, size_below)
+  one_value field.Weight value other small is is' same = search (arith, one_number_text)
   one_value field.Period value other small is is' same = search (arith, one_fraction, small_period)
   one_value (field.Steps over (pos bound)) value other small is is' same =
       search (arith, one_quotient_text, few_digits, size_below)
@@ -410,12 +409,11 @@ module _ (circuit : Circuit) where
       → spell_line circuit fields values ≡ spell_line circuit fields others → values ≡ others
   one_values [] values others small is is' same = refl
   one_values (due ∷ fields) values others small is is' same =
-      search (
-        arith,
-        one_value,
-        one_values fields values.1 others.1 small.1 is.1 is'.1 (ap (λ (words
-            : Words). drop 1 words) same),
-      )
+      let first = one_value due values.0 others.0 small.0 is.0 is'.0
+      (ap (λ (words : Words). get_or words 0 []) same) in
+      let more = one_values fields values.1 others.1 small.1 is.1 is'.1
+      (ap (λ (words : Words). drop 1 words) same) in
+      λ i. (first i, more i)
 
   -- ---- the line
 

@@ -31,23 +31,12 @@ module _ {F F' F'' K K' K'' I I' I'' W W' W'' : Type 0} (f : F'' ↔ (F × F')) 
     (i : I'' ↔ (I × I')) (w : W'' ↔ (W × W')) where
   pub sooner_of : (first second : Option Flaw) → IsFirstFlaw F K I W first
       → IsFirstFlaw F' K' I' W' second → IsFirstFlaw F'' K'' I'' W'' (sooner_flaw first second)
-  sooner_of None None h g = (f.1 (h.0, g.0), k.1 (h.1, g.1), i.1 (h.2, g.2), w.1 (h.3, g.3))
-  sooner_of None (Some Malformed) h g = λ all. g (f.0 all).1
-  sooner_of None (Some Unknown) h g = (f.1 (h.0, g.0), λ all. g.1 (k.0 all).1)
-  sooner_of None (Some Unfit) h g = (f.1 (h.0, g.0), k.1 (h.1, g.1), λ all. g.2 (i.0 all).1)
-  sooner_of None (Some Large) h g = search (arith)
-  sooner_of (Some Malformed) None h g = λ all. h (f.0 all).0
-  sooner_of (Some Malformed) (Some Malformed) h g = λ all. h (f.0 all).0
-  sooner_of (Some Malformed) second h g = λ all. h (f.0 all).0
-  sooner_of (Some Unknown) (Some Malformed) h g = λ all. g (f.0 all).1
-  sooner_of (Some Unknown) second h g = (f.1 (h.0, g.0), λ all. h.1 (k.0 all).0)
-  sooner_of (Some Unfit) (Some Malformed) h g = λ all. g (f.0 all).1
-  sooner_of (Some Unfit) (Some Unknown) h g = (f.1 (h.0, g.0), λ all. g.1 (k.0 all).1)
-  sooner_of (Some Unfit) second h g = (f.1 (h.0, g.0), k.1 (h.1, g.1), λ all. h.2 (i.0 all).0)
-  sooner_of (Some Large) (Some Malformed) h g = λ all. g (f.0 all).1
-  sooner_of (Some Large) (Some Unknown) h g = (f.1 (h.0, g.0), λ all. g.1 (k.0 all).1)
-  sooner_of (Some Large) (Some Unfit) h g = (f.1 (h.0, g.0), k.1 (h.1, g.1), λ all. g.2 (i.0 all).1)
-  sooner_of (Some Large) second h g = search (arith)
+  sooner_of None None h g = search (arith, f.1, k.1, i.1, w.1)
+  sooner_of (Some Malformed) (Some Malformed) h g = search (arith, f.0)
+  sooner_of (Some Unknown) (Some Unknown) h g = search (arith, f.1, k.0)
+  sooner_of (Some Unfit) (Some Unfit) h g = search (arith, f.1, k.1, i.0)
+  sooner_of (Some Large) (Some Large) h g = search (arith, f.1, k.1, i.1, w.0)
+  sooner_of first second h g = search (arith, f.0, f.1, k.0, k.1, i.0, i.1, w.0, w.1)
 
 -- ---- one flaw
 
@@ -56,24 +45,11 @@ module _ (F K I W : Type 0) where
   pub one_first_flaw : (flaw other : Option Flaw) → IsFirstFlaw F K I W flaw
       → IsFirstFlaw F K I W other → flaw ≡ other
   one_first_flaw None None h g = refl
-  one_first_flaw None (Some Malformed) h g = absurd (g h.0)
-  one_first_flaw None (Some Unknown) h g = absurd (g.1 h.1)
-  one_first_flaw None (Some Unfit) h g = absurd (g.2 h.2)
-  one_first_flaw None (Some Large) h g = absurd (g.3 h.3)
   one_first_flaw (Some Malformed) (Some Malformed) h g = refl
-  one_first_flaw (Some Malformed) other h g = absurd (h g.0)
-  one_first_flaw (Some Unknown) (Some Malformed) h g = absurd (g h.0)
   one_first_flaw (Some Unknown) (Some Unknown) h g = refl
-  one_first_flaw (Some Unknown) other h g = absurd (h.1 g.1)
-  one_first_flaw (Some Unfit) (Some Malformed) h g = absurd (g h.0)
-  one_first_flaw (Some Unfit) (Some Unknown) h g = absurd (g.1 h.1)
   one_first_flaw (Some Unfit) (Some Unfit) h g = refl
-  one_first_flaw (Some Unfit) other h g = absurd (h.2 g.2)
-  one_first_flaw (Some Large) (Some Malformed) h g = absurd (g h.0)
-  one_first_flaw (Some Large) (Some Unknown) h g = absurd (g.1 h.1)
-  one_first_flaw (Some Large) (Some Unfit) h g = absurd (g.2 h.2)
   one_first_flaw (Some Large) (Some Large) h g = refl
-  one_first_flaw (Some Large) None h g = absurd (h.3 g.3)
+  one_first_flaw flaw other h g = search arith
 
 -- two flaws of a line are the same
 pub one_flaw : (circuit : Circuit) (fields : List Field) (words : List (List ℕ))
@@ -179,7 +155,7 @@ module _ {old new : Left} {line : List ℕ} (taken : TakesLine old line new) whe
 -- nothing is read
 pub read_none : (circuit : Circuit) (scale : Scale) (left : Left)
     → Reads circuit scale [] [] left left
-read_none circuit scale left = search (arith)
+read_none circuit scale left = search arith
 
 module _ {circuit : Circuit} {scale : Scale} {forms : List Form} {lines : List Words}
     {old between : Left} (first : Reads circuit scale forms lines old between) where

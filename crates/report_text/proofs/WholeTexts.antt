@@ -91,7 +91,7 @@ one_version : (version other : Version) → version_line version ≡ version_lin
     → version ≡ other
 one_version First First same = refl
 one_version Second Second same = refl
-one_version version other same = search (arith)
+one_version version other same = search arith
 
 module _ (circuit : Circuit) where
   -- a constraint of the circuit
@@ -156,7 +156,7 @@ module _ (circuit : Circuit) where
       search (arith, one_register)
   one_show (Sink register) (Sink register') among among' same = search (arith, one_register)
   one_show Root Root among among' same = refl
-  one_show show other among among' same = search (arith)
+  one_show show other among among' same = search arith
 
   module _ (scale : Scale) (small : IsSmallScale scale) where
     one_timed : (register : ℕ) (timed other : Timed)
@@ -304,7 +304,7 @@ module _ (circuit : Circuit) where
       → All (All (λ n. n < length circuit.signals)) paths'
       → pathed_lines circuit cycle paths ++ rest ≡ pathed_lines circuit other paths' ++ rest'
       → (cycle ≡ other) × (paths ≡ paths') × (rest ≡ rest')
-  one_pathed [] [] [] [] rest rest' many has has' each each' signals signals' same = search (arith)
+  one_pathed [] [] [] [] rest rest' many has has' each each' signals signals' same = search arith
   one_pathed (c ∷ cycle) (o ∷ other) (p ∷ paths) (p' ∷ paths') rest rest' many has has' each each'
       signals signals' same =
       let (cycles, ways, after) = one_pathed cycle other paths paths' rest rest' (omega arith)
@@ -492,7 +492,7 @@ module _ (circuit : Circuit) (scale : Scale) where
         → AreFlawless (cycle_forms Second (length cycle) ++ more)
         (pathed_lines circuit cycle paths ++ rest)
     pathed_flawless [] paths many among small signals few = after
-    pathed_flawless (constraint ∷ cycle) [] many among small signals few = search (arith)
+    pathed_flawless (constraint ∷ cycle) [] many among small signals few = search arith
     pathed_flawless (constraint ∷ cycle) (path ∷ paths) many among small signals few = (
       constraint_plain circuit scale constraint (among 0 constraint (omega arith))
           (small 0 constraint (omega arith)),

@@ -38,7 +38,7 @@ glyph_above digit = at (nat_lt digit 10)
   where
     at : (small : Bool) → 32 < cond small (48 + digit) (87 + digit)
     at true = omega arith
-    at false = search (arith)
+    at false = search arith
 
 -- so are the digits of a number
 digits_above : (most base number : ℕ) (suffix : List ℕ) → IsWord suffix
@@ -108,7 +108,7 @@ name_word : (signal : Signal) → is_named signal ≡ true → IsWord signal.nam
 name_word signal named = at (is_host signal.kind) named
   where
     host_word : IsWord host_name
-    host_word = search (arith)
+    host_word = search arith
 
     at : (host : Bool)
         → cond host (bytes_eq signal.name host_name)

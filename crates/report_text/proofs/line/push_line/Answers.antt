@@ -1,16 +1,15 @@
-use Rattle.std.proofs.Common.{append_assoc, arith}
+use Rattle.std.proofs.Common.{◌∙◌, append_assoc}
 use Rattle.std.proofs.lemmas.List.{take_all}
 use Rattle.report_text.proofs.LineLemmas.{join_with_byte-map}
 use Rattle.report_text.proofs.line.push_line.Goals as goal
 
 pub returns : goal.returns
 returns c =
-    search (
-      arith,
-      take_all,
-      join_with_byte-map,
-      append_assoc,
-      c.loop-other-test.false,
-      c.in_ok-push.ensures.items,
+    let all = take_all c.loop-other.other-index c.args.others.now c.loop-other-test.false in
+    c.in_ok-push.ensures.items
+    ∙ rw (
       c.loop-other.invariant,
-    )
+      all,
+      join_with_byte-map
+          (λ other. other.now) 32 c.args.word.now c.args.others.now,
+    ) (simp append_assoc)

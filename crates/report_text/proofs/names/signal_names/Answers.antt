@@ -5,8 +5,7 @@ use Rattle.report_text.proofs.NameNumbers.{signal_new, signals_few}
 use Rattle.report_text.proofs.names.signal_names.Goals as goal
 
 pub push-requires-clause-new : goal.push-requires-clause-new
-push-requires-clause-new c =
-    search (arith, signal_new, c.signal_name.ensures, c.loop-signal.invariant)
+push-requires-clause-new c = search (arith, signal_new)
 
 pub push-requires-clause-room : goal.push-requires-clause-room
 push-requires-clause-room c = search (arith, signals_few, c.loop-signal.invariant)

@@ -3,5 +3,4 @@ use Rattle.report_text.proofs.LineLemmas.{more_lines}
 use Rattle.report_text.proofs.timing.push_registers.Goals as goal
 
 pub loop-register-preserved : goal.loop-register-preserved
-loop-register-preserved c =
-    search (arith, more_lines, c.loop-register.invariant, c.in_ok-push_register_at.ensures)
+loop-register-preserved c = search (arith, more_lines)

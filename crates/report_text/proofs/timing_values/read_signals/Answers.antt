@@ -6,8 +6,7 @@ pub loop-place-init : goal.loop-place-init
 loop-place-init c = search (arith, TakesSignals, no_signals, c.new-signals.ensures)
 
 pub loop-place-preserved : goal.loop-place-preserved
-loop-place-preserved c =
-    search (arith, signals_next, c.loop-place.invariant, c.signal.ensures, c.in_ok-push.ensures.ok)
+loop-place-preserved c = search (arith, signals_next, c.in_ok-push.ensures.ok)
 
 pub returns : goal.returns
 returns c =

@@ -3,5 +3,4 @@ use Rattle.std.proofs.lemmas.Int.{to_z-of_z}
 use Rattle.report_text.proofs.judging.fraction.steps_below.Goals as goal
 
 pub returns : goal.returns
-returns c =
-    search (arith, to_z-of_z, c.num.ensures.value, c.steps_each.ensures, c.product_below.ensures)
+returns c = search (arith, to_z-of_z)

@@ -12,15 +12,7 @@ returns-then-not-divides-clause-flaw c =
     (λ none. let bad = sym c.if-not-divides.true ∙ divides.1 none in cc)
 
 pub returns-in-Some-clause-flaw : goal.returns-in-Some-clause-flaw
-returns-in-Some-clause-flaw c =
-    search (
-      arith,
-      to_z-of_z,
-      steps_within,
-      c.divides.ensures,
-      c.in-Some.ensures,
-      c.if-not-divides.false,
-    )
+returns-in-Some-clause-flaw c = search (arith, to_z-of_z, steps_within)
 
 pub returns-in-Some-clause-value : goal.returns-in-Some-clause-value
 returns-in-Some-clause-value c =

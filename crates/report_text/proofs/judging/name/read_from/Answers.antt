@@ -3,5 +3,4 @@ use Rattle.name_set.proofs.OneName.{one_register}
 use Rattle.report_text.proofs.judging.name.read_from.Goals as goal
 
 pub returns-in-Some-clause-flaw : goal.returns-in-Some-clause-flaw
-returns-in-Some-clause-flaw c =
-    search (arith, one_register, c.in-Some.ensures, c.if-first-found.true)
+returns-in-Some-clause-flaw c = search (arith, one_register)

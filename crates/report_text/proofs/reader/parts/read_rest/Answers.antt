@@ -12,14 +12,7 @@ returns-in_err-shown-clause-fault c =
     shown_fault heading tech _ (rw same at c.in_err-shown.ensures.fault) named)
 
 pub read_body-requires : goal.read_body-requires
-read_body-requires c =
-    search (
-      arith,
-      cycle_few,
-      c.requires.line,
-      c.in_ok-shown.ensures.ok.lines.number,
-      c.requires.count,
-    )
+read_body-requires c = search (arith, cycle_few)
 
 pub returns-in_err-body-clause-fault : goal.returns-in_err-body-clause-fault
 returns-in_err-body-clause-fault c =
@@ -37,5 +30,4 @@ returns-in_err-at_end-clause-fault c =
     c.in_err-at_end.ensures.fault))
 
 pub returns-clause-ok : goal.returns-clause-ok
-returns-clause-ok c tech text heading same =
-    search (arith, c.in_ok-shown.ensures.ok, c.in_ok-body.ensures.ok, c.in_ok-at_end.ensures.ok)
+returns-clause-ok c tech text heading same = search arith

@@ -9,15 +9,7 @@ read_rows-requires-clause-line g c =
     omega (arith, read.number, c.requires.line)
 
 pub returns-in_err-read_count-clause-fault : goal.returns-in_err-read_count-clause-fault
-returns-in_err-read_count-clause-fault g c =
-    search (
-      arith,
-      passed_on,
-      stop_before,
-      stop_line,
-      c.from_residual.ensures.1,
-      c.in_err-read_count.ensures.fault,
-    )
+returns-in_err-read_count-clause-fault g c = search (arith, passed_on, stop_before, stop_line)
 
 pub returns-in_err-rows-clause-fault : goal.returns-in_err-rows-clause-fault
 returns-in_err-rows-clause-fault g c =

@@ -18,11 +18,4 @@ pub loop-place-init : goal.loop-place-init
 loop-place-init g c = search (arith, no_rows, c.new-rows.ensures)
 
 pub loop-place-preserved : goal.loop-place-preserved
-loop-place-preserved g c =
-    search (
-      arith,
-      rows_next,
-      c.loop-place.invariant,
-      c.in_ok-row.ensures.ok,
-      c.in_ok-push.ensures.ok,
-    )
+loop-place-preserved g c = search (arith, rows_next)
