@@ -104,7 +104,18 @@ module _ {X : Type 0} (circuit : Circuit) (due : Field) {old between new : LineL
                   ∙ ap (λ f. sooner_flaw f (flaw_in read)) form ∙ form_sooner (flaw_in read))
                   ∙ form_sooner found ∙ sym (sooner_form old.flaw),
             )
-        at (first ∷ rest) some = search (arith, line_first, sooner_assoc)
+        at (first ∷ rest) some =
+            let (words, same) = next.some (subst (λ (ws : Words). 0 < length ws) (sym some)
+            (omega arith)) in (
+              sooner_flaw (flaw_in read) found,
+              subst (λ (ws : Words). LineHasFlaw circuit (due ∷ more) ws
+                  (sooner_flaw (flaw_in read) found)) (sym words)
+                  (line_first circuit due more word between.words (flaw_in read) found flaw
+                  (subst (λ (ws : Words). LineHasFlaw circuit more ws found) kept.words has)),
+              is ∙ ap (λ f. sooner_flaw f found) (kept.flaw
+                  ∙ ap (λ f. sooner_flaw f (flaw_in read)) same)
+                  ∙ sooner_assoc old.flaw (flaw_in read) found,
+            )
 
     -- one word is taken
     word_rest : new.words ≡ drop 1 old.words
@@ -112,7 +123,10 @@ module _ {X : Type 0} (circuit : Circuit) (due : Field) {old between new : LineL
       where
         at : (words : Words) → old.words ≡ words → new.words ≡ drop 1 old.words
         at [] none = kept.words ∙ (next.none none).0 ∙ sym (ap (drop 1) none)
-        at (first ∷ rest) some = search arith
+        at (first ∷ rest) some =
+            let (words, same) = next.some (subst (λ (ws : Words). 0 < length ws) (sym some)
+            (omega arith)) in
+            kept.words ∙ sym (ap (drop 1) words)
 
     -- by its field; where nothing is wrong it is that of its value
     pub takes_word : (text : X → List ℕ) (Holds : X → Type 0)

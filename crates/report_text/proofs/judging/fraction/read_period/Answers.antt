@@ -1,4 +1,4 @@
-use Rattle.std.proofs.Common.{refl, arith}
+use Rattle.std.proofs.Common.{refl}
 use Rattle.report_text.specs.Fields.{WordHasFlaw}
 use Rattle.report_text.specs.LineFields.{Period}
 use Rattle.report_text.proofs.FractionFlaws.{from_zero, negative_refused, passed_flaw, period_past, period_refused, period_within}
@@ -39,4 +39,10 @@ returns-clause-flaw c circuit =
     (c.if-not-is_small_period.ensures.0 refl)
 
 pub returns-clause-value : goal.returns-clause-value
-returns-clause-value c = search (arith, from_zero)
+returns-clause-value c =
+    let period = c.in_ok-period.period in
+    let (spells, small, same) = c.in_ok-period.ensures.spelled in
+    let some = from_zero c.args.word.now period.num period.den spells
+    (λ negative. let bad = c.if-is_negative.ensures.1 negative in cc) in
+    let within = c.if-not-is_small_period.ensures.0 refl in
+    (same, record { from_zero = some; small = within.0; low = within.1 })

@@ -19,7 +19,13 @@ read-requires-3 c =
     record { line = omega (arith, read.number, next.number, c.requires.line) }
 
 pub returns-in_err-version-clause-fault : goal.returns-in_err-version-clause-fault
-returns-in_err-version-clause-fault c = search (arith, passed_on, stop_before, stop_line)
+returns-in_err-version-clause-fault c =
+    passed_on _ _ _ c.from_residual.ensures.1
+    (λ scale. stop_before c.args.rules.now.circuit.now scale (form.Version ∷ [])
+    (form.Period ∷ form.Show ∷ []) c.args.cursor.now c.in_err-version.field-0.0
+    (stop_line c.args.rules.now.circuit.now scale form.Version c.args.cursor.now
+    c.in_err-version.field-0.0
+    c.in_err-version.ensures.fault))
 
 pub returns-in_err-period-clause-fault : goal.returns-in_err-period-clause-fault
 returns-in_err-period-clause-fault c =

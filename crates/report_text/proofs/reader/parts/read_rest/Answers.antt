@@ -30,4 +30,12 @@ returns-in_err-at_end-clause-fault c =
     c.in_err-at_end.ensures.fault))
 
 pub returns-clause-ok : goal.returns-clause-ok
-returns-clause-ok c tech text heading same = search arith
+returns-clause-ok c tech text heading same = record {
+  after_heading = c.args.cursor;
+  after_shown = c.read_shown.new.cursor;
+  end = c.read_body.new.cursor;
+  heading = heading;
+  shown = rw same at c.in_ok-shown.ensures.ok;
+  body = rw same at c.in_ok-body.ensures.ok;
+  ended = c.in_ok-at_end.ensures.ok;
+}
