@@ -14,11 +14,11 @@ pub(crate) fn expect_same<T: Debug + Drop + PartialEq>(
 }
 
 /// What a call that may fail has made; where it failed, as where memory is refused, the test ends.
-pub(crate) fn made<T, E: Drop>(rt: &impl Abort, call: Result<T, E>) -> T
+pub(crate) fn made<T, E: Debug + Drop>(rt: &impl Abort, call: Result<T, E>) -> T
     ensures { call ≡ Ok result }
 {
     match call {
         Ok(value) => value,
-        Err(_) => panic!(rt; "a call failed"),
+        Err(error) => panic!(rt; "{error:?}"),
     }
 }

@@ -7,8 +7,9 @@ use Rattle.tree_tests.proofs.HeldForOthers.{JoinsAt, held_lower, tree_sinks_set}
 use Rattle.tree_tests.proofs.merge_tests.counts_what_is_renewed.Goals as goal
 
 pub renew-requires-clause-sinks : goal.renew-requires-clause-sinks
-renew-requires-clause-sinks g c = tree_sinks_set c.sinks_of-sinks.result.items c.deref-2.result.now 0
-    c.sink-moved.result (c.deref-2.ensures.value ∙ c.move_first.ensures) c.sink-moved.ensures
+renew-requires-clause-sinks g c = tree_sinks_set c.sinks_of-sinks.result.items
+    c.deref-2.result.now 0 c.sink-moved.result
+    (c.deref-2.ensures.value ∙ c.move_first.ensures) c.sink-moved.ensures
     c.sinks_of-sinks.ensures.sinks
 
 pub renew-requires-clause-joined : goal.renew-requires-clause-joined
@@ -26,8 +27,9 @@ renew-requires-clause-joined g c =
     (λ lower before. absurd (omega (arith, before))) 4 (omega (arith, count))
 
 pub renew-requires-2-clause-sinks : goal.renew-requires-2-clause-sinks
-renew-requires-2-clause-sinks g c = tree_sinks_set c.sinks_of-sinks.result.items c.deref-3.result.now 0
-    c.sink-moved.result (c.deref-3.ensures.value ∙ c.move_first.ensures) c.sink-moved.ensures
+renew-requires-2-clause-sinks g c = tree_sinks_set c.sinks_of-sinks.result.items
+    c.deref-3.result.now 0 c.sink-moved.result
+    (c.deref-3.ensures.value ∙ c.move_first.ensures) c.sink-moved.ensures
     c.sinks_of-sinks.ensures.sinks
 
 pub renew-requires-2-clause-joined : goal.renew-requires-2-clause-joined

@@ -40,8 +40,8 @@ returns-else-contains c =
           (sums_through (lane_of c.args.given.now lane) (delay_at network gate)))) (sym none));
       beside = λ lane differs. ap (option_map (λ (lanes : Lanes). lane_of lanes lane)) here
           ∙ (ap Some (c.only.ensures.others lane differs)
-          ∙ ap (λ o. Some (unwrap_or (option_map (λ (lanes : Lanes). lane_of lanes lane) o) no_sums))
-          (sym none));
+          ∙ ap (λ o. Some (unwrap_or (option_map (λ (lanes : Lanes). lane_of lanes lane) o)
+          no_sums)) (sym none));
       others = put_beside words c.insert.new.self.words.items old.lanes.items gate c.only.result
           c.insert.ensures;
       waits = λ rank. c.insert-else-contains.ensures.each rank
