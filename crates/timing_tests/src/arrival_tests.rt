@@ -6,7 +6,7 @@ use crate::same::{expect_same, made};
 use cts_base::Listed;
 use cts_model::Schedule;
 use gate_order::levels;
-use path_delays::arrivals;
+use path_delays::{Window, arrivals};
 use std::alloc::Global;
 use std::process::Abort;
 
@@ -33,6 +33,19 @@ fn widened(arrival: i64) -> i128
     i128::from(arrival)
 }
 
+// The earliest and the latest moment of each window, and `none` where there is none.
+fn text_of(rt: &impl Abort, alloc: Global, windows: &[Option<Window>]) -> String {
+    let mut text = String::new(alloc);
+    for window in windows {
+        let times = match window {
+            None => format!(in alloc; "none "),
+            Some(window) => format!(in alloc; "{} {} ", window.earliest, window.latest),
+        };
+        made(rt, text.push_str(made(rt, times).as_str()));
+    }
+    text
+}
+
 // The arrivals at the registers of s27 are 2, 0 and 0.
 #[test]
 fn finds_when_launches_arrive(rt: HostRuntime) {
@@ -42,16 +55,7 @@ fn finds_when_launches_arrive(rt: HostRuntime) {
     let order = made(&rt, levels(alloc, &circuit));
     assert!(rt; circuit.registers.len() == 3);
     let schedule = schedule_of(&rt, alloc, 1, &[2, 0, 0]);
-    let mut text = String::new(alloc);
-    for window in made(&rt, arrivals(alloc, &circuit, &order, &tech, &schedule)).as_slice() {
-        let times = match window {
-            None => made(&rt, format!(in alloc; "none ")),
-            Some(window) => made(
-                &rt,
-                format!(in alloc; "{} {} ", window.earliest, window.latest),
-            ),
-        };
-        made(&rt, text.push_str(times.as_str()));
-    }
+    let windows = made(&rt, arrivals(alloc, &circuit, &order, &tech, &schedule));
+    let text = text_of(&rt, alloc, windows.as_slice());
     expect_same(&rt, text.as_str(), "5 14 4 12 3 6 ", &"text.as_str");
 }

@@ -1,3 +1,5 @@
+ghost use Rattle.gate_order.specs.LevelParts.{IsLevelsOf};
+
 use crate::circuits::{
     RING, Registers, S27, S27_GATES, TO_OUTPUT, TWO_WAYS, TWO_WAYS_GATES, circuit_of, table_of,
     wide,
@@ -6,7 +8,7 @@ use crate::same::{expect_same, made};
 use constraints::constraints_of;
 use cts_base::Listed;
 use cts_model::{Circuit, PairDelay, Tech, ZeroSkew};
-use gate_order::levels;
+use gate_order::{Levels, levels};
 use path_delays::{PairFault, Paths, delays_between, pair_delay, pair_delays, path_of};
 use std::alloc::Global;
 use std::process::Abort;
@@ -63,32 +65,37 @@ const S27_HOST_PAIRS: [Row; 14] = [
     (3, 3, 7, 9),
 ];
 
+// A pair's longest and its shortest path have two signals less than its delays have ticks.
+fn expect_lengths(
+    rt: &impl Abort,
+    alloc: Global,
+    circuit: &Circuit,
+    order: &Levels,
+    tech: &Tech,
+    pair: PairDelay,
+)
+    requires { IsLevelsOf circuit.now order.now }
+{
+    let PairDelay { from, to, .. } = pair;
+    assert!(rt; (from as usize) < circuit.registers.len());
+    assert!(rt; (to as usize) < circuit.registers.len());
+    for (longest, delay) in [(true, pair.greatest), (false, pair.least)].as_slice() {
+        let path = made(rt, path_of(alloc, circuit, order, tech, from, to, *longest));
+        let length = path.expect(rt, "a path").len();
+        assert!(rt; length < 100);
+        expect_same(rt, length as i128 + 2, *delay, &(from, to));
+    }
+}
+
 fn expect_s27(rt: &impl Abort, alloc: Global, host: bool, rows: &[Row]) {
     let tech = Tech::plain(alloc);
     let circuit = circuit_of(rt, alloc, S27, host);
     let order = made(rt, levels(alloc, &circuit));
     let pairs = made(rt, pair_delays(alloc, &circuit, &order, &tech));
     expect_same(rt, pairs.len(), rows.len(), &"pairs.len");
-    let count = circuit.registers.len();
-    for (pair, (from, to, least, greatest)) in pairs.as_slice().iter().zip(rows) {
-        let wanted = PairDelay {
-            from: *from,
-            to: *to,
-            least: *least,
-            greatest: *greatest,
-        };
-        expect_same(rt, *pair, wanted, &(from, to));
-        assert!(rt; (pair.from as usize) < count);
-        assert!(rt; (pair.to as usize) < count);
-        for (longest, delay) in [(true, *greatest), (false, *least)].as_slice() {
-            let path = made(
-                rt,
-                path_of(alloc, &circuit, &order, &tech, pair.from, pair.to, *longest),
-            );
-            let length = path.expect(rt, "a path").len();
-            assert!(rt; length < 100);
-            expect_same(rt, length as i128 + 2, *delay, &(from, to));
-        }
+    for (found, row) in pairs.as_slice().iter().zip(rows) {
+        expect_same(rt, *found, pair(*row), &row);
+        expect_lengths(rt, alloc, &circuit, &order, &tech, *found);
     }
 }
 
@@ -98,7 +105,29 @@ fn finds_the_delays_of_s27(rt: HostRuntime) {
     expect_s27(&rt, rt.alloc(), true, &S27_HOST_PAIRS)
 }
 
-// The pairs of a netlist with a table, and of each two registers whether they are a pair.
+// Each two registers are a pair where a row says so.
+fn expect_each(
+    rt: &impl Abort,
+    alloc: Global,
+    circuit: &Circuit,
+    order: &Levels,
+    tech: &Tech,
+    rows: &[Row],
+)
+    requires { IsLevelsOf circuit.now order.now }
+{
+    let count = circuit.registers.len();
+    for from in 0..4u32 {
+        for to in 0..4u32 {
+            if (from as usize) < count && (to as usize) < count {
+                let alone = made(rt, pair_delay(alloc, circuit, order, tech, from, to));
+                expect_same(rt, alone, row_of(rows, from, to), &(from, to, rows));
+            }
+        }
+    }
+}
+
+// The pairs of a netlist with a table.
 fn expect_pairs(
     rt: &impl Abort,
     alloc: Global,
@@ -116,15 +145,7 @@ fn expect_pairs(
     for (found, row) in pairs.as_slice().iter().zip(rows) {
         expect_same(rt, *found, pair(*row), &text);
     }
-    let count = circuit.registers.len();
-    for from in 0..4u32 {
-        for to in 0..4u32 {
-            if (from as usize) < count && (to as usize) < count {
-                let alone = made(rt, pair_delay(alloc, &circuit, &order, &tech, from, to));
-                expect_same(rt, alone, row_of(rows, from, to), &(from, to, text));
-            }
-        }
-    }
+    expect_each(rt, alloc, &circuit, &order, &tech, rows);
 }
 
 // A netlist, whether it has the host, its registers and gates, and the pairs.

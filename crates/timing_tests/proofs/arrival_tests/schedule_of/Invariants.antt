@@ -5,5 +5,5 @@ use Rattle.cts_model.specs.placement.Points.{IsBelow}
 use Rattle.timing_tests.proofs.arrival_tests.schedule_of.Given as goal
 
 abbrev pub invariant-loop-arrival : goal.invariant-loop-arrival
-invariant-loop-arrival l = All (IsBelow (10 ^ 19)) l.at.items
+invariant-loop-arrival g l = All (IsBelow (10 ^ 19)) l.at.items
     × (length l.at.items ≡ l.arrival-index)

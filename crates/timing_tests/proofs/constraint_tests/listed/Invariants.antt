@@ -3,4 +3,4 @@ use Rattle.cts_model.specs.timing.PairLists.{IsSmallPair}
 use Rattle.timing_tests.proofs.constraint_tests.listed.Given as goal
 
 abbrev pub invariant-loop-row : goal.invariant-loop-row
-invariant-loop-row l = All IsSmallPair l.pairs
+invariant-loop-row g l = All IsSmallPair l.pairs
