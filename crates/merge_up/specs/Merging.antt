@@ -1,6 +1,6 @@
 -- The reaches, regions and shows of a topology's nodes, as a room holds them: Boese and Kahng 1992;
 -- Chao and others 1992.
-use Rattle.std.specs.Prelude.{◌≡◌, ℕ, ◌+◌, ◌-◌, ◌^◌, ◌<◌, min, false, true, All, IsFalse, List, IsSomeAnd, Some, length, replicate, slice_get, slice_set, ℤ, ◌+ℤ◌}
+use Rattle.std.specs.Prelude.{◌≡◌, ℕ, ◌+◌, ◌-◌, ◌^◌, ◌<◌, Bool, min, false, true, All, IsFalse, List, IsSomeAnd, Some, length, replicate, slice_get, slice_set, ℤ, ◌+ℤ◌}
 use Rattle.cts_model.specs.declared.place.Sink.{Sink}
 use Rattle.cts_model.specs.declared.tree.Merge.{Merge}
 use Rattle.cts_model.specs.declared.tree.Show.{Show}
@@ -81,6 +81,23 @@ unsettled work = record work { settled = replicate (length work.settled) false }
 abbrev pub counted : ℕ → ℕ
 counted renewals = min (renewals + 1) (2 ^ 64 - 1)
 
+-- the same work with this of the merge at a place, one more renewal and nothing settled
+abbrev pub renewed_as : (sinks place : ℕ) → (reach : ℤ) → Rect → Ends → Show → WorkState → WorkState
+renewed_as sinks place reach region ends show work = record (unsettled work) {
+  tree = record work.tree { reach = slice_set work.tree.reach (sinks + place) reach };
+  regions = slice_set work.regions (sinks + place) region;
+  ends = slice_set work.ends place ends;
+  shows = slice_set work.shows place show;
+  renewals = counted work.renewals;
+}
+
+-- the same work with these places, lengths and marks of what is settled
+abbrev pub placed_as : List Point → List ℤ → List Bool → WorkState → WorkState
+placed_as places lengths settled work = record work {
+  tree = record work.tree { place = places; length = lengths };
+  settled = settled;
+}
+
 -- a sink's reach and region are set; all else stays
 pub record IsSinkSet (register : ℕ) (sink : Sink) (old new : WorkState) : Type 0 where
   pub fit : IsFit new
@@ -98,15 +115,7 @@ pub record IsRenewed (sinks : List Sink) (merges : List Merge) (place : ℕ)
   pub held : HoldsMerge sinks merges new place
   pub ends : Ends
   pub kept : KeepsEnds sinks merges new place
-  pub rest : new ≡ record (unsettled old) {
-    tree = record old.tree {
-      reach = slice_set old.tree.reach (length sinks + place) held.reach;
-    };
-    regions = slice_set old.regions (length sinks + place) held.region;
-    ends = slice_set old.ends place ends;
-    shows = slice_set old.shows place held.show;
-    renewals = counted old.renewals;
-  }
+  pub rest : new ≡ renewed_as (length sinks) place held.reach held.region ends held.show old
 
 -- a room in which nothing is made yet
 pub record IsFresh (places : ℕ) (work : WorkState) : Type 0 where
@@ -121,13 +130,8 @@ pub record IsNodeSettled (node : ℕ) (at : Uv) (length : ℤ) (old new : WorkSt
   pub fit : IsFit new
   pub point : Point
   pub stands : rotated point ≡ at
-  pub rest : new ≡ record old {
-    tree = record old.tree {
-      place = slice_set old.tree.place node point;
-      length = slice_set old.tree.length node length;
-    };
-    settled = slice_set old.settled node true;
-  }
+  pub rest : new ≡ placed_as (slice_set old.tree.place node point)
+      (slice_set old.tree.length node length) (slice_set old.settled node true) old
 
 -- the source stands there, with that reach and show; all else stays
 pub record IsSourcePlaced (at : Uv) (reach : ℤ) (show : Show) (old new : WorkState) : Type 0 where

@@ -1,20 +1,28 @@
 use Rattle.std.proofs.Common.{◌≡◌, ◌+◌, ◌-◌, length, refl, subst, arith}
-use Rattle.merge_up.specs.Merging.{IsRenewed}
-use Rattle.merge_up.proofs.WorkLemmas.{joined_kept, merged_at_first, merged_next}
+use Rattle.merge_up.specs.Merging.{IsRenewed, KeepsEnds}
+use Rattle.merge_up.proofs.WorkLemmas.{joined_before, merged_next}
 use Rattle.merge_up.proofs.bottom_up.merge.Goals as goal
 
 pub loop-place-init : goal.loop-place-init
 loop-place-init c =
     let begun = c.begin.ensures in
-    merged_at_first c.args.sinks.now c.args.topology.now.merges c.args.work.now c.begin.new.self
-    begun.fit begun.room begun.count begun.renewals begun.held begun.settled
+    record {
+      room = begun.room;
+      count = begun.count;
+      renewals = omega (arith, begun.renewals, begun.fit.renewals);
+      of_sinks = begun.held;
+      of_merges = λ lower before. absurd (omega (arith, before));
+      kept = λ lower before. absurd (omega (arith, before));
+      settled = begun.settled;
+    }
 
 pub make-requires-clause-kept : goal.make-requires-clause-kept
 make-requires-clause-kept c =
     let sinks = c.args.sinks.now in
+    let merges = c.args.topology.now.merges in
     let place = c.loop-place.place in
-    joined_kept sinks c.args.topology.now.merges place c.loop-place.work c.requires.topology
-    c.loop-place.invariant.kept (length sinks + place) refl
+    joined_before (length sinks) merges place (KeepsEnds sinks merges c.loop-place.work)
+    c.requires.topology c.loop-place.invariant.kept (length sinks + place) refl
 
 pub loop-place-preserved : goal.loop-place-preserved
 loop-place-preserved c =

@@ -1,59 +1,41 @@
-use Rattle.std.proofs.Common.{◌-◌, get_or, length, inl, inr, sym, subst, arith}
+use Rattle.std.proofs.Common.{◌-◌, length, inl, inr, arith}
 use Rattle.cts_model.specs.tree.Topologies.{numbers_below}
-use Rattle.cts_model.proofs.TopologyLemmas.{numbers_below-merge, second_made}
-use Rattle.merge_up.specs.Sides.{AreEnds}
-use Rattle.merge_up.proofs.WorkLemmas.{merge_read, no_merge}
+use Rattle.cts_model.proofs.TopologyLemmas.{merge_at, merge_here, second_made}
+use Rattle.merge_up.proofs.WorkLemmas.{ends_of_merge}
 use Rattle.merge_up.proofs.work.Work.renew.Goals as goal
 
 pub found_ends-first-requires-clause-held : goal.found_ends-first-requires-clause-held
-found_ends-first-requires-clause-held c =
-    let sinks = c.args.sinks.now in
-    let merges = c.args.topology.now.merges in
-    let place = c.args.node - length sinks in
-    let here = merge_read merges c.as_slice.result.now place c.as_slice.ensures
-    (omega (arith, c.requires.merge, c.requires.made, c.requires.topology.all)) in
-    λ lower is. c.requires.joined (get_or c.as_slice.result.now place no_merge) lower here
-    (inl is)
+found_ends-first-requires-clause-held c = λ lower is.
+    let place = c.args.node - length c.args.sinks.now in
+    c.requires.joined _ lower (merge_here c.args.topology.now.merges place
+    (omega (arith, c.requires))) (inl (rw c.as_slice.ensures at is))
 
 pub found_ends-second-requires-clause-held : goal.found_ends-second-requires-clause-held
-found_ends-second-requires-clause-held c =
-    let sinks = c.args.sinks.now in
-    let merges = c.args.topology.now.merges in
-    let place = c.args.node - length sinks in
-    let here = merge_read merges c.as_slice.result.now place c.as_slice.ensures
-    (omega (arith, c.requires.merge, c.requires.made, c.requires.topology.all)) in
-    λ lower is. c.requires.joined (get_or c.as_slice.result.now place no_merge) lower here
-    (inr is)
+found_ends-second-requires-clause-held c = λ lower is.
+    let place = c.args.node - length c.args.sinks.now in
+    c.requires.joined _ lower (merge_here c.args.topology.now.merges place
+    (omega (arith, c.requires))) (inr (rw c.as_slice.ensures at is))
 
 pub found_ends-second-requires-clause-node : goal.found_ends-second-requires-clause-node
 found_ends-second-requires-clause-node c =
-    let sinks = c.args.sinks.now in
+    let sinks = length c.args.sinks.now in
     let merges = c.args.topology.now.merges in
-    let place = c.args.node - length sinks in
-    let here = merge_read merges c.as_slice.result.now place c.as_slice.ensures
-    (omega (arith, c.requires.merge, c.requires.made, c.requires.topology.all)) in
-    omega (
+    let here = merge_here merges (c.args.node - sinks) (omega (arith, c.requires)) in
+    rw c.as_slice.ensures (omega (
       arith,
-      c.requires.topology.all,
-      c.requires.merge,
-      c.requires.made,
-      second_made (length sinks) merges c.requires.topology.each place
-          (get_or c.as_slice.result.now place no_merge) here,
-    )
+      c.requires,
+      second_made sinks merges c.requires.topology.each (c.args.node - sinks) _ here,
+    ))
 
 pub returns : goal.returns
 returns c =
     let sinks = c.args.sinks.now in
     let merges = c.args.topology.now.merges in
     let place = c.args.node - length sinks in
-    let here = merge_read merges c.as_slice.result.now place c.as_slice.ensures
-    (omega (arith, c.requires.merge, c.requires.made, c.requires.topology.all)) in
-    let merge = get_or c.as_slice.result.now place no_merge in
     c.hold.ensures sinks merges c.requires.count
-    (subst (λ numbers. AreEnds sinks numbers c.joined.result)
-    (sym (numbers_below-merge (length sinks) merges place merge here
-    (c.requires.topology.each place merge here)))
-    (c.joined.ensures sinks (numbers_below (length sinks) merges merge.first)
-    (numbers_below (length sinks) merges merge.second)
-    c.found_ends-first.ensures
-    c.found_ends-second.ensures))
+    (ends_of_merge sinks merges place c.joined.result c.requires.topology
+    (omega (arith, c.requires))
+    (c.joined.ensures sinks (numbers_below (length sinks) merges (merge_at merges place).first)
+    (numbers_below (length sinks) merges (merge_at merges place).second)
+    (rw c.as_slice.ensures at c.found_ends-first.ensures)
+    (rw c.as_slice.ensures at c.found_ends-second.ensures)))

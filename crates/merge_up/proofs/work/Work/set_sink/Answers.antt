@@ -2,6 +2,7 @@ use Rattle.std.proofs.Common.{◌≡◌, ◌<◌, ◌*◌, ◌-◌, ◌∙◌, t
 use Rattle.std.proofs.lemmas.Int.{to_z-of_z}
 use Rattle.std.proofs.lemmas.List.{length-set}
 use Rattle.std.specs.Int.{w128}
+use Rattle.merge_up.specs.Views.{cut, state_of}
 use Rattle.merge_up.proofs.WorkLemmas.{fit_state, take_set, take_unsettled}
 use Rattle.merge_up.proofs.work.Work.set_sink.Goals as goal
 
@@ -11,19 +12,7 @@ invariant_of-self c =
     let has = c.self.invariant in
     let reaches = ap length c.set.ensures ∙ length-set work.tree.reach c.args.register _ in
     let regions = ap length c.set-2.ensures ∙ length-set work.regions c.args.register _ in
-    let settled = c.fill.ensures.len in
-    record {
-      some = has.some;
-      few = has.few;
-      merged = has.merged;
-      reaches = reaches ∙ has.reaches;
-      places = has.places;
-      lengths = has.lengths;
-      regions = omega (arith, regions, has.regions);
-      ends = has.ends;
-      settled = omega (arith, settled, c.fill.new.self.ok.0, work.settled.ok.0, has.settled);
-      renewals = has.renewals;
-    }
+    search (rules, reaches, regions, c.fill.ensures.len, has)
 
 pub returns : goal.returns
 returns c =
@@ -34,27 +23,18 @@ returns c =
     let reach = c.set.ensures
     ∙ ap (slice_set work.tree.reach register)
     (to_z-of_z w128 c.args.sink.offset (search rules)) in
-    let count : vec_len work.settled ≡ length work.settled.items = omega (arith, work.settled.ok.0)
-    in
-    let settled = c.fill.ensures.items (λ y same. same) in
     record {
       fit = fit_state _ (invariant_of-self c);
       region = c.point.result;
       point = c.point.ensures.sides;
-      rest = rw (← c.self.view_is) (λ i. record {
-        room = length work.shows;
-        sinks = work.sinks;
-        tree = record {
-          reach = take_set (2 * work.sinks) work.tree.reach c.set.new.self register
-              c.args.sink.offset (omega (arith, low)) reach i;
-          place = take (2 * work.sinks) work.tree.place;
-          length = take (2 * work.sinks - 1) work.tree.length;
+      rest = rw (← c.self.view_is) (λ i. record (state_of work) {
+        tree = record (cut work.sinks work.tree) {
+          reach = take_set (2 * work.sinks) work.tree.reach c.args.sink.offset (omega
+              (arith, low)) reach i;
         };
         regions = c.set-2.ensures i;
-        ends = work.ends;
-        shows = take work.sinks work.shows;
-        settled = take_unsettled (2 * work.sinks) work.settled.items c.fill.new.self.items
-            (vec_len work.settled) count (omega (arith, has.merged, has.settled)) settled i;
-        renewals = work.renewals;
+        settled = take_unsettled (2 * work.sinks) work.settled.items (omega
+            (arith, work.settled.ok.0)) (omega (arith, has)) (c.fill.ensures.items (λ y same. same))
+            i;
       });
     }

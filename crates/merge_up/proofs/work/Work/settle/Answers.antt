@@ -1,7 +1,10 @@
-use Rattle.std.proofs.Common.{◌<◌, ◌*◌, ◌-◌, ◌∙◌, ap, length, refl, true, take, slice_set, arith}
+use Rattle.std.proofs.Common.{◌<◌, ◌*◌, ◌-◌, ◌∙◌, ap, length, refl, true, take, slice_set, rules, arith}
 use Rattle.std.proofs.lemmas.Int.{to_z-of_z}
 use Rattle.std.proofs.lemmas.List.{length-set}
+use Rattle.std.proofs.Math.Seq.{take-set-lt}
 use Rattle.std.specs.Int.{w128}
+use Rattle.merge_up.specs.Merging.{placed_as}
+use Rattle.merge_up.specs.Views.{state_of}
 use Rattle.merge_up.proofs.WorkLemmas.{fit_state, take_set}
 use Rattle.merge_up.proofs.work.Work.settle.Goals as goal
 
@@ -10,19 +13,9 @@ invariant_of-self c =
     let work = c.self.inside in
     let has = c.self.invariant in
     let node = c.args.node in
+    let places = ap length c.set.ensures ∙ length-set work.tree.place node _ in
     let lengths = ap length c.set-2.ensures ∙ length-set work.tree.length node _ in
-    record {
-      some = has.some;
-      few = has.few;
-      merged = has.merged;
-      reaches = has.reaches;
-      places = ap length c.set.ensures ∙ length-set work.tree.place node _ ∙ has.places;
-      lengths = omega (arith, lengths, has.lengths);
-      regions = has.regions;
-      ends = has.ends;
-      settled = length-set work.settled.items node true ∙ has.settled;
-      renewals = has.renewals;
-    }
+    search (rules, places, lengths, length-set work.settled.items node true, has)
 
 pub returns : goal.returns
 returns c =
@@ -35,21 +28,9 @@ returns c =
       fit = fit_state _ (invariant_of-self c);
       point = c.to_point.result;
       stands = c.to_point.ensures.back;
-      rest = rw (← c.self.view_is) (λ i. record {
-        room = length work.shows;
-        sinks = work.sinks;
-        tree = record {
-          reach = take (2 * work.sinks) work.tree.reach;
-          place = take_set (2 * work.sinks) work.tree.place c.set.new.self node c.to_point.result
-              (omega (arith, low)) c.set.ensures i;
-          length = take_set (2 * work.sinks - 1) work.tree.length c.set-2.new.self node
-              c.args.length low long i;
-        };
-        regions = work.regions;
-        ends = work.ends;
-        shows = take work.sinks work.shows;
-        settled = take_set (2 * work.sinks) work.settled.items _ node true (omega (arith, low))
-            refl i;
-        renewals = work.renewals;
-      });
+      rest = rw (← c.self.view_is) (λ i. placed_as
+          (take_set (2 * work.sinks) work.tree.place _ (omega (arith, low)) c.set.ensures i)
+          (take_set (2 * work.sinks - 1) work.tree.length c.args.length low long i)
+          (take-set-lt (2 * work.sinks) work.settled.items node true (omega (arith, low)) i)
+          (state_of work));
     }

@@ -1,7 +1,9 @@
-use Rattle.std.proofs.Common.{◌<◌, ◌≤◌, ◌*◌, ◌-◌, ◌∙◌, ap, length, refl, true, take, slice_set, arith}
+use Rattle.std.proofs.Common.{◌<◌, ◌≤◌, ◌*◌, ◌-◌, ◌∙◌, ap, length, refl, true, take, slice_set, rules, arith}
 use Rattle.std.proofs.lemmas.Int.{to_z-of_z}
 use Rattle.std.proofs.lemmas.List.{length-set}
+use Rattle.std.proofs.Math.Seq.{take-set-lt}
 use Rattle.std.specs.Int.{w128}
+use Rattle.merge_up.specs.Views.{cut, state_of}
 use Rattle.merge_up.proofs.WorkLemmas.{fit_state, take_set}
 use Rattle.merge_up.proofs.work.Work.settle_source.Goals as goal
 
@@ -13,19 +15,7 @@ invariant_of-self c =
     let shows = ap length c.set-3.ensures ∙ length-set work.shows (work.sinks - 1) c.args.show in
     let reaches = ap length c.set-2.ensures ∙ length-set work.tree.reach source _ in
     let places = ap length c.set.ensures ∙ length-set work.tree.place source _ in
-    let settled = length-set work.settled.items source true in
-    record {
-      some = omega (arith, shows, has.some);
-      few = omega (arith, shows, has.few);
-      merged = omega (arith, shows, has.merged);
-      reaches = omega (arith, shows, reaches, has.reaches);
-      places = omega (arith, shows, places, has.places);
-      lengths = omega (arith, shows, has.lengths);
-      regions = omega (arith, shows, has.regions);
-      ends = omega (arith, shows, has.ends);
-      settled = omega (arith, shows, settled, has.settled);
-      renewals = has.renewals;
-    }
+    search (rules, shows, reaches, places, length-set work.settled.items source true, has)
 
 pub returns : goal.returns
 returns c =
@@ -39,22 +29,14 @@ returns c =
       fit = fit_state _ (invariant_of-self c);
       point = c.to_point.result;
       stands = c.to_point.ensures.back;
-      rest = rw (← c.self.view_is) (λ i. record {
+      rest = rw (← c.self.view_is) (λ i. record (state_of work) {
         room = (ap length c.set-3.ensures
             ∙ length-set work.shows (work.sinks - 1) c.args.show) i;
-        sinks = work.sinks;
-        tree = record {
-          reach = take_set (2 * work.sinks) work.tree.reach c.set-2.new.self source c.args.reach
-              low reach i;
-          place = take_set (2 * work.sinks) work.tree.place c.set.new.self source
-              c.to_point.result low c.set.ensures i;
-          length = take (2 * work.sinks - 1) work.tree.length;
+        tree = record (cut work.sinks work.tree) {
+          reach = take_set (2 * work.sinks) work.tree.reach c.args.reach low reach i;
+          place = take_set (2 * work.sinks) work.tree.place _ low c.set.ensures i;
         };
-        regions = work.regions;
-        ends = work.ends;
-        shows = take_set work.sinks work.shows c.set-3.new.self (work.sinks - 1) c.args.show
-            (omega (arith, some)) c.set-3.ensures i;
-        settled = take_set (2 * work.sinks) work.settled.items _ source true low refl i;
-        renewals = work.renewals;
+        shows = take_set work.sinks work.shows c.args.show (omega (arith, some)) c.set-3.ensures i;
+        settled = take-set-lt (2 * work.sinks) work.settled.items source true low i;
       });
     }
