@@ -1,5 +1,5 @@
 -- The furthest sinks of a set to the four sides, and what they say of its reach and its shows.
-use Rattle.std.proofs.Common.{◌≡◌, ℕ, ◌≤◌, ◌⊎◌, inl, inr, min, max, List, [], ◌∷◌, ◌++◌, Contains, Some, IsSomeAnd, slice_get, filter_map, ℤ, ◌+ℤ◌, ◌-ℤ◌, neg_ℤ, ◌≤ℤ◌, refl, sym, subst, None, Option, ◌∙◌, arith}
+use Rattle.std.proofs.Common.{◌≡◌, ℕ, ◌≤◌, inl, inr, min, max, List, [], ◌∷◌, ◌++◌, Contains, Some, slice_get, filter_map, ℤ, ◌+ℤ◌, ◌-ℤ◌, neg_ℤ, ◌≤ℤ◌, sym, subst, ◌∙◌, arith}
 use Rattle.std.proofs.lemmas.Int.{ints, clamps, to_z-of_z}
 use Rattle.std.proofs.lemmas.List.Elements.{Contains-append_left, Contains-append_right, filter_map-append}
 use Rattle.std.specs.Int.{int_max, w128}
@@ -10,8 +10,8 @@ use Rattle.std.proofs.lemmas.Bool.{cases_lt}
 use Rattle.cts_model.specs.tree.Regions.{span, IsReach}
 use Rattle.cts_model.specs.tree.ShownReaches.{ShowsMerge}
 use Rattle.tilted_rect.proofs.SpanLemmas.{sinks_of_u_show, sinks_of_v_show, span_is_symmetric, spread_is_reach}
-use Rattle.cts_model.proofs.TopologyLemmas.{found_among}
-use Rattle.tilted_rect.specs.Extremes.{IsExtremes, IsGreatest, IsLeastOf, spread, u_above, u_below, v_above, v_below}
+use Rattle.cts_model.proofs.TopologyLemmas.{found_among, some_and}
+use Rattle.tilted_rect.specs.Extremes.{Extremes, IsExtremes, IsGreatest, IsLeastOf, spread, u_below, v_below}
 use Rattle.tilted_rect.proofs.ExtremeLemmas.{append_is_union, greatest_one, greatest_union}
 use Rattle.merge_up.specs.declared.end.End.{End}
 use Rattle.merge_up.specs.declared.ends.Ends.{Ends}
@@ -20,10 +20,10 @@ use Rattle.merge_up.specs.Sides.{IsEnd, AreEnds, extremes_of, pair_of, u_back, v
 -- ---- one side
 
 -- a sink alone is its furthest sink
-pub end_alone : (sinks : List Sink) (register : ℕ) (sink : Sink) (far : Sink → ℤ) (end : End)
+pub end_alone : {sinks : List Sink} {register : ℕ} {sink : Sink} {far : Sink → ℤ} {end : End}
     → slice_get sinks register ≡ Some sink → end.sink ≡ register → far sink ≡ end.far
     → IsEnd sinks (register ∷ []) far end
-end_alone sinks register sink far end here at is = record {
+end_alone {sinks} {register} {sink} {far} {end} here at is = record {
   among = (0, omega arith, sym at);
   attained = rw (at, here) is;
   furthest = rw here (subst (λ number. IsGreatest far (sink ∷ []) number) is
@@ -31,44 +31,36 @@ end_alone sinks register sink far end here at is = record {
 }
 
 -- of two sets together the greater of how far their ends are
-furthest_append : (sinks : List Sink) (first second : List ℕ) (far : Sink → ℤ) (one other : End)
-    → IsEnd sinks first far one → IsEnd sinks second far other
-    → IsGreatest far (filter_map (slice_get sinks) (first ++ second)) (int_max one.far other.far)
-furthest_append sinks first second far one other held others =
-    rw (filter_map-append (slice_get sinks) first second)
-    (greatest_union far (filter_map (slice_get sinks) first) (filter_map (slice_get sinks) second)
-    (filter_map (slice_get sinks) first ++ filter_map (slice_get sinks) second) one.far other.far
-    (append_is_union (filter_map (slice_get sinks) first) (filter_map (slice_get sinks) second))
+furthest_append : {sinks : List Sink} {first second : List ℕ} {far : Sink → ℤ} {one other : End}
+    (greater : ℤ) → int_max one.far other.far ≡ greater → IsEnd sinks first far one
+    → IsEnd sinks second far other
+    → IsGreatest far (filter_map (slice_get sinks) (first ++ second)) greater
+furthest_append {sinks} {first} {second} {far} {one} {other} greater is held others =
+    let below = filter_map (slice_get sinks) first in
+    let also = filter_map (slice_get sinks) second in
+    rw (filter_map-append (slice_get sinks) first second, ← is)
+    (greatest_union far below also (below ++ also) one.far other.far (append_is_union below also)
     held.furthest others.furthest)
 
-max_right : (a b : ℤ) → a ≤ℤ b → int_max a b ≡ b
-max_right a b below = omega (arith, ints, clamps)
+-- the end of the first set is that of both where it is no less far
+pub end_first : {sinks : List Sink} {first second : List ℕ} {far : Sink → ℤ} {one other : End}
+    → other.far ≤ℤ one.far → IsEnd sinks first far one → IsEnd sinks second far other
+    → IsEnd sinks (first ++ second) far one
+end_first {sinks} {first} {second} {far} {one} {other} less held others = record {
+  among = Contains-append_left first second one.sink held.among;
+  attained = held.attained;
+  furthest = furthest_append one.far (omega (arith, ints, clamps, less)) held others;
+}
 
-max_left : (a b : ℤ) → b ≤ℤ a → int_max a b ≡ a
-max_left a b below = omega (arith, ints, clamps)
-
--- of two ends the one that is no less far is the end of both sets together
-pub end_further : (sinks : List Sink) (first second : List ℕ) (far : Sink → ℤ)
-    (one other found : End)
-    → IsEnd sinks first far one → IsEnd sinks second far other
-    → ((one.far ≤ℤ other.far) × (found ≡ other)) ⊎ ((other.far ≤ℤ one.far) × (found ≡ one))
-    → IsEnd sinks (first ++ second) far found
-end_further sinks first second far one other found held others (inl (less, is)) =
-    subst (λ end. IsEnd sinks (first ++ second) far end) (sym is) (record {
-      among = Contains-append_right first second other.sink others.among;
-      attained = others.attained;
-      furthest = subst (IsGreatest far (filter_map (slice_get sinks) (first ++ second)))
-          (max_right one.far other.far less) (furthest_append sinks first second far one other held
-          others);
-    })
-end_further sinks first second far one other found held others (inr (less, is)) =
-    subst (λ end. IsEnd sinks (first ++ second) far end) (sym is) (record {
-      among = Contains-append_left first second one.sink held.among;
-      attained = held.attained;
-      furthest = subst (IsGreatest far (filter_map (slice_get sinks) (first ++ second)))
-          (max_left one.far other.far less) (furthest_append sinks first second far one other held
-          others);
-    })
+-- and so for the second
+pub end_second : {sinks : List Sink} {first second : List ℕ} {far : Sink → ℤ} {one other : End}
+    → one.far ≤ℤ other.far → IsEnd sinks first far one → IsEnd sinks second far other
+    → IsEnd sinks (first ++ second) far other
+end_second {sinks} {first} {second} {far} {one} {other} less held others = record {
+  among = Contains-append_right first second other.sink others.among;
+  attained = others.attained;
+  furthest = furthest_append other.far (omega (arith, ints, clamps, less)) held others;
+}
 
 -- ---- the four sides
 
@@ -96,11 +88,6 @@ ends_are_extremes sinks numbers ends are = record {
 }
 
 -- ---- shows
-
-some_of : (found : Option Sink) (Holds : Sink → Type 0) → IsSomeAnd found Holds
-    → (sink : Sink) × (found ≡ Some sink) × Holds sink
-some_of (Some sink) Holds held = (sink, refl, held)
-some_of None Holds held = absurd held
 
 -- two ends whose sum is twice the reach show it
 pair_shows : (sinks : List Sink) (numbers : List ℕ) (reach : ℤ) (high low : ℕ) (one other : Sink)
@@ -139,28 +126,35 @@ pair_shows sinks numbers reach high low one other high_in low_in here there is =
     max_right_of : (a b : ℕ) → a ≤ b → max a b ≡ b
     max_right_of a b less = omega arith
 
+-- two ends show what the sinks there span
+ends_show : {sinks : List Sink} {numbers : List ℕ} {far back : Sink → ℤ} {high low : End} (reach : ℤ)
+    → IsEnd sinks numbers far high → IsEnd sinks numbers back low
+    → ((one other : Sink) → Contains (filter_map (slice_get sinks) numbers) one
+    → Contains (filter_map (slice_get sinks) numbers) other → far one ≡ high.far
+    → back other ≡ low.far → reach +ℤ reach ≡ span one other)
+    → ShowsMerge sinks numbers reach (pair_of high.sink low.sink)
+ends_show {sinks} {numbers} {far} {back} {high} {low} reach held others is =
+    let (one, here, at) = some_and (slice_get sinks high.sink) (λ sink. far sink ≡ high.far)
+    held.attained in
+    let (other, there, also) = some_and (slice_get sinks low.sink) (λ sink. back sink ≡ low.far)
+    others.attained in
+    pair_shows sinks numbers reach high.sink low.sink one other held.among others.among here there
+    (is one other (found_among (slice_get sinks) numbers high.sink one held.among here)
+    (found_among (slice_get sinks) numbers low.sink other others.among there) at also)
+
 -- the sinks that are furthest in u show the reach where the spread in u is no smaller
 pub u_ends_show : (sinks : List Sink) (numbers : List ℕ) (reach : ℤ) (ends : Ends)
     → AreEnds sinks numbers ends → reach +ℤ reach ≡ spread (extremes_of ends)
     → (ends.high_v.far +ℤ ends.low_v.far) ≤ℤ (ends.high_u.far +ℤ ends.low_u.far)
     → ShowsMerge sinks numbers reach (pair_of ends.high_u.sink ends.low_u.sink)
 u_ends_show sinks numbers reach ends are twice wider =
-    let extremes = ends_are_extremes sinks numbers ends are in
     let set = filter_map (slice_get sinks) numbers in
-    let high = some_of (slice_get sinks ends.high_u.sink) (λ sink. u_above sink ≡ ends.high_u.far)
-    are.high_u.attained in
-    let low = some_of (slice_get sinks ends.low_u.sink) (λ sink. u_back sink ≡ ends.low_u.far)
-    are.low_u.attained in
-    let is : spread (extremes_of ends) ≡ ends.high_u.far -ℤ neg_ℤ ends.low_u.far = omega
-    (arith, ints, clamps, wider) in
-    let reached : IsReach set (ends.high_u.far -ℤ neg_ℤ ends.low_u.far) = subst (IsReach set) is
-    (spread_is_reach set (extremes_of ends) extremes) in
-    pair_shows sinks numbers reach ends.high_u.sink ends.low_u.sink high.0 low.0 are.high_u.among
-    are.low_u.among high.1 low.1
-    (twice ∙ is ∙ sym (sinks_of_u_show set (extremes_of ends) high.0 low.0 reached
-    (found_among (slice_get sinks) numbers ends.high_u.sink high.0 are.high_u.among high.1)
-    (found_among (slice_get sinks) numbers ends.low_u.sink low.0 are.low_u.among low.1)
-    high.2 (omega (arith, ints, low.2))))
+    let all : Extremes = extremes_of ends in
+    let is : spread all ≡ all.greatest_u -ℤ all.least_u = omega (arith, ints, clamps, wider) in
+    let reached = subst (IsReach set) is
+    (spread_is_reach set all (ends_are_extremes sinks numbers ends are)) in
+    ends_show reach are.high_u are.low_u (λ one other among also at back. twice ∙ is
+    ∙ sym (sinks_of_u_show set all one other reached among also at (omega (arith, ints, back))))
 
 -- and those in v where the spread in v is no smaller
 pub v_ends_show : (sinks : List Sink) (numbers : List ℕ) (reach : ℤ) (ends : Ends)
@@ -168,22 +162,13 @@ pub v_ends_show : (sinks : List Sink) (numbers : List ℕ) (reach : ℤ) (ends :
     → (ends.high_u.far +ℤ ends.low_u.far) ≤ℤ (ends.high_v.far +ℤ ends.low_v.far)
     → ShowsMerge sinks numbers reach (pair_of ends.high_v.sink ends.low_v.sink)
 v_ends_show sinks numbers reach ends are twice wider =
-    let extremes = ends_are_extremes sinks numbers ends are in
     let set = filter_map (slice_get sinks) numbers in
-    let high = some_of (slice_get sinks ends.high_v.sink) (λ sink. v_above sink ≡ ends.high_v.far)
-    are.high_v.attained in
-    let low = some_of (slice_get sinks ends.low_v.sink) (λ sink. v_back sink ≡ ends.low_v.far)
-    are.low_v.attained in
-    let is : spread (extremes_of ends) ≡ ends.high_v.far -ℤ neg_ℤ ends.low_v.far = omega
-    (arith, ints, clamps, wider) in
-    let reached : IsReach set (ends.high_v.far -ℤ neg_ℤ ends.low_v.far) = subst (IsReach set) is
-    (spread_is_reach set (extremes_of ends) extremes) in
-    pair_shows sinks numbers reach ends.high_v.sink ends.low_v.sink high.0 low.0 are.high_v.among
-    are.low_v.among high.1 low.1
-    (twice ∙ is ∙ sym (sinks_of_v_show set (extremes_of ends) high.0 low.0 reached
-    (found_among (slice_get sinks) numbers ends.high_v.sink high.0 are.high_v.among high.1)
-    (found_among (slice_get sinks) numbers ends.low_v.sink low.0 are.low_v.among low.1)
-    high.2 (omega (arith, ints, low.2))))
+    let all : Extremes = extremes_of ends in
+    let is : spread all ≡ all.greatest_v -ℤ all.least_v = omega (arith, ints, clamps, wider) in
+    let reached = subst (IsReach set) is
+    (spread_is_reach set all (ends_are_extremes sinks numbers ends are)) in
+    ends_show reach are.high_v are.low_v (λ one other among also at back. twice ∙ is
+    ∙ sym (sinks_of_v_show set all one other reached among also at (omega (arith, ints, back))))
 
 -- ---- regions
 

@@ -7,7 +7,7 @@ use Rattle.cts_model.specs.declared.tree.Merge.{Merge}
 use Rattle.cts_model.specs.tree.Sinks.{AreTreeSinks, IsTreeSink}
 use Rattle.cts_model.specs.tree.Topologies.{IsTopology, Joins, numbers_below, sinks_below}
 use Rattle.cts_model.proofs.TopologyLemmas.{first_made, second_made, number_below, numbers_below-merge, numbers_below-sink, sinks_below-among}
-use Rattle.tilted_rect.specs.Extremes.{IsGreatest, IsLeastOf, IsRegion, u_below, v_below}
+use Rattle.tilted_rect.specs.Extremes.{Extremes, HasExtremeSides, IsExtremes, IsGreatest, IsLeastOf, IsRegion, u_above, u_below, v_above, v_below}
 use Rattle.tilted_rect.specs.declared.rect.Rect.{Rect}
 use Rattle.tilted_rect.proofs.CodeNumbers.{kept}
 use Rattle.tilted_rect.proofs.RegionLemmas.{region_extremes, sides_from_region}
@@ -37,31 +37,25 @@ back_of_least set far under number back is = record {
 -- the region and the reach of a set say how far its furthest sinks are
 pub greatest_to : (side : Side) (set : List Sink) (region : Rect) (reach : ℤ)
     → IsRegion region set reach → IsGreatest (far_to side) set (furthest_to side region reach)
-greatest_to sides.HighU set region reach is =
+greatest_to side set region reach is =
     let (extremes, are) = region_extremes set region reach is in
-    subst (IsGreatest (far_to sides.HighU) set)
-    (omega (arith, ints, (sides_from_region set extremes region reach are is).ulo))
-    are.greatest_u
-greatest_to sides.LowU set region reach is =
-    let (extremes, are) = region_extremes set region reach is in
-    subst (IsGreatest u_back set)
-    (omega (arith, ints, (sides_from_region set extremes region reach are is).uhi))
-    (back_of_least set u_back u_below extremes.least_u (λ sink. omega (arith, ints)) are.least_u)
-greatest_to sides.HighV set region reach is =
-    let (extremes, are) = region_extremes set region reach is in
-    subst (IsGreatest (far_to sides.HighV) set)
-    (omega (arith, ints, (sides_from_region set extremes region reach are is).vlo))
-    are.greatest_v
-greatest_to sides.LowV set region reach is =
-    let (extremes, are) = region_extremes set region reach is in
-    subst (IsGreatest v_back set)
-    (omega (arith, ints, (sides_from_region set extremes region reach are is).vhi))
-    (back_of_least set v_back v_below extremes.least_v (λ sink. omega (arith, ints)) are.least_v)
+    at extremes are (sides_from_region set extremes region reach are is) side
+  where
+    at : (all : Extremes) → IsExtremes set all → HasExtremeSides region all reach → (side : Side)
+        → IsGreatest (far_to side) set (furthest_to side region reach)
+    at all are has sides.HighU =
+        subst (IsGreatest u_above set) (omega (arith, ints, has.ulo)) are.greatest_u
+    at all are has sides.LowU = subst (IsGreatest u_back set) (omega (arith, ints, has.uhi))
+        (back_of_least set u_back u_below all.least_u (λ sink. omega (arith, ints)) are.least_u)
+    at all are has sides.HighV =
+        subst (IsGreatest v_above set) (omega (arith, ints, has.vlo)) are.greatest_v
+    at all are has sides.LowV = subst (IsGreatest v_back set) (omega (arith, ints, has.vhi))
+        (back_of_least set v_back v_below all.least_v (λ sink. omega (arith, ints)) are.least_v)
 
 -- one place holds one thing
-same_some : {X : Type 0} (found : Option X) (one other : X) → found ≡ Some one
+same_some : {X : Type 0} {found : Option X} {one other : X} → found ≡ Some one
     → found ≡ Some other → one ≡ other
-same_some found one other is also = ap (λ found. unwrap_or found one) (sym is ∙ also)
+same_some {X} {found} {one} {other} is also = ap (λ found. unwrap_or found one) (sym is ∙ also)
 
 -- so the region and the reach of a merge that is held do
 pub greatest_held : (sinks : List Sink) (merges : List Merge) (work : WorkState) (node : ℕ)
@@ -70,16 +64,11 @@ pub greatest_held : (sinks : List Sink) (merges : List Merge) (work : WorkState)
     → slice_get work.regions node ≡ Some region → slice_get work.tree.reach node ≡ Some reach
     → IsGreatest (far_to side) (sinks_below sinks merges node) (furthest_to side region reach)
 greatest_held sinks merges work node region reach side high held region_here reach_here =
-    let at : length sinks + (node - length sinks) ≡ node = omega (arith, high) in
-    let same_region = same_some (slice_get work.regions node) held.region region
-    (subst (λ n. slice_get work.regions n ≡ Some held.region) at held.region_held) region_here in
-    let same_reach = same_some (slice_get work.tree.reach node) held.reach reach
-    (subst (λ n. slice_get work.tree.reach n ≡ Some held.reach) at held.reach_held) reach_here in
+    let same : length sinks + (node - length sinks) ≡ node = omega (arith, high) in
+    let region_is = same_some (rw same at held.region_held) region_here in
+    let reach_is = same_some (rw same at held.reach_held) reach_here in
     greatest_to side (sinks_below sinks merges node) region reach
-    (subst (IsRegion region (sinks_below sinks merges node)) same_reach
-    (subst (λ rect. IsRegion rect (sinks_below sinks merges node) held.reach) same_region
-    (subst (λ n. IsRegion held.region (sinks_below sinks merges n) held.reach) at
-    held.is_region)))
+    (rw (← region_is, ← reach_is) (rw same at held.is_region))
 
 -- and so they do as the code's numbers hold them
 pub greatest_read : (sinks : List Sink) (merges : List Merge) (work : WorkState) (node : ℕ)
@@ -97,34 +86,10 @@ greatest_read sinks merges work node region reach side far high held region_here
 
 -- no tree sink is further than the code's numbers hold
 far_sink : (side : Side) (sink : Sink) → IsTreeSink sink → IsFar (far_to side sink)
-far_sink sides.HighU sink is = record {
-  below = record {
-    above = omega (arith, ints, is.at_below.u, is.offset_below);
-    below = omega (arith, ints, is.at_below.u, is.offset_below);
-  };
-  multiple = omega (arith, ints, is.at_multiple.u, is.offset_multiple);
-}
-far_sink sides.LowU sink is = record {
-  below = record {
-    above = omega (arith, ints, is.at_below.u, is.offset_below);
-    below = omega (arith, ints, is.at_below.u, is.offset_below);
-  };
-  multiple = omega (arith, ints, is.at_multiple.u, is.offset_multiple);
-}
-far_sink sides.HighV sink is = record {
-  below = record {
-    above = omega (arith, ints, is.at_below.v, is.offset_below);
-    below = omega (arith, ints, is.at_below.v, is.offset_below);
-  };
-  multiple = omega (arith, ints, is.at_multiple.v, is.offset_multiple);
-}
-far_sink sides.LowV sink is = record {
-  below = record {
-    above = omega (arith, ints, is.at_below.v, is.offset_below);
-    below = omega (arith, ints, is.at_below.v, is.offset_below);
-  };
-  multiple = omega (arith, ints, is.at_multiple.v, is.offset_multiple);
-}
+far_sink sides.HighU sink is = search (arith, ints, is)
+far_sink sides.LowU sink is = search (arith, ints, is)
+far_sink sides.HighV sink is = search (arith, ints, is)
+far_sink sides.LowV sink is = search (arith, ints, is)
 
 -- ---- the sinks of a node
 
@@ -191,47 +156,28 @@ module _ (sinks : List Sink) (merges : List Merge) (topology : IsTopology (lengt
         | inr low ↦ inr (record { among = low; attained = is.attained })
       ]
 
--- whichever of the two nodes of a merge comes first, both are joined
+  -- so what is below neither, whichever of the two comes first, is nowhere
+  pub below_neither : (order : ℕ × ℕ)
+      → (order ≡ (merge.first, merge.second)) ⊎ (order ≡ (merge.second, merge.first))
+      → (IsSoFar sinks (numbers_below (length sinks) merges order.0) side far register → ⊥)
+      → (IsSoFar sinks (numbers_below (length sinks) merges order.1) side far register → ⊥)
+      → IsSoFar sinks (numbers_below (length sinks) merges (length sinks + place)) side far register
+      → ⊥
+  below_neither order (inl same) none nor is = elim (so_far_below is) [
+    | inl first ↦ none (rw same first)
+    | inr second ↦ nor (rw same second)
+  ]
+  below_neither order (inr same) none nor is = elim (so_far_below is) [
+    | inl first ↦ nor (rw same first)
+    | inr second ↦ none (rw same second)
+  ]
+
+-- both nodes of a merge are joined, whichever comes first
 pub order_joins : (merge : Merge) (order : ℕ × ℕ)
     → (order ≡ (merge.first, merge.second)) ⊎ (order ≡ (merge.second, merge.first))
     → Joins merge order.0 × Joins merge order.1
-order_joins merge order (inl same) =
-    (inl (sym (ap (λ pair. pair.0) same)), inr (sym (ap (λ pair. pair.1) same)))
-order_joins merge order (inr same) =
-    (inr (sym (ap (λ pair. pair.0) same)), inl (sym (ap (λ pair. pair.1) same)))
-
--- what is below neither is nowhere
-pub below_neither : (sinks : List Sink) (merges : List Merge) (place : ℕ) (merge : Merge)
-    (side : Side) (far : ℤ) (order : ℕ × ℕ) → IsTopology (length sinks) merges
-    → slice_get merges place ≡ Some merge
-    → (order ≡ (merge.first, merge.second)) ⊎ (order ≡ (merge.second, merge.first))
-    → ((register : ℕ)
-    → IsSoFar sinks (numbers_below (length sinks) merges order.0) side far register → ⊥)
-    → ((register : ℕ)
-    → IsSoFar sinks (numbers_below (length sinks) merges order.1) side far register → ⊥)
-    → (register : ℕ)
-    → IsSoFar sinks (numbers_below (length sinks) merges (length sinks + place)) side far register
-    → ⊥
-below_neither sinks merges place merge side far order topology here either none nor register is =
-    at either (so_far_below sinks merges topology place merge here side far register is)
-  where
-    at : (order ≡ (merge.first, merge.second)) ⊎ (order ≡ (merge.second, merge.first))
-        → IsSoFar sinks (numbers_below (length sinks) merges merge.first) side far register
-        ⊎ IsSoFar sinks (numbers_below (length sinks) merges merge.second) side far register → ⊥
-    at (inl same) (inl first) =
-        none register
-        (subst (λ pair. IsSoFar sinks (numbers_below (length sinks) merges pair.0) side
-        far register) (sym same) first)
-    at (inl same) (inr second) =
-        nor register (subst (λ pair. IsSoFar sinks (numbers_below (length sinks) merges pair.1) side
-        far register) (sym same) second)
-    at (inr same) (inl first) =
-        nor register (subst (λ pair. IsSoFar sinks (numbers_below (length sinks) merges pair.1) side
-        far register) (sym same) first)
-    at (inr same) (inr second) =
-        none register
-        (subst (λ pair. IsSoFar sinks (numbers_below (length sinks) merges pair.0) side
-        far register) (sym same) second)
+order_joins merge order (inl same) = rw same (inl refl, inr refl)
+order_joins merge order (inr same) = rw same (inr refl, inl refl)
 
 -- a node that a merge joins is below it
 pub joined_low : (sinks : ℕ) (merges : List Merge) (place : ℕ) (merge : Merge) (node : ℕ)

@@ -271,8 +271,11 @@ pub joined_before : (sinks : ℕ) (merges : List Merge) (place : ℕ) (Holds : �
     → slice_get merges (node - sinks) ≡ Some merge → Joins merge (sinks + lower) → Holds lower
 joined_before sinks merges place Holds topology held node at merge lower here joins =
     let same : node - sinks ≡ place = omega (arith, at) in
-    held lower (omega (arith, joined_low sinks merges place merge (sinks + lower) topology
-    (subst (λ n. slice_get merges n ≡ Some merge) same here) joins))
+    held lower (omega (
+      arith,
+      joined_low sinks merges place merge (sinks + lower) topology
+          (subst (λ n. slice_get merges n ≡ Some merge) same here) joins,
+    ))
 
 -- which are held
 pub joined_held : (sinks : List Sink) (merges : List Merge) (place : ℕ) (work : WorkState)

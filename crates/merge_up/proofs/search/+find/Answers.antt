@@ -1,27 +1,16 @@
-use Rattle.std.proofs.Common.{◌≡◌, ◌+◌, ◌-◌, ◌<◌, ◌≤◌, Some, get_or, ◌∙◌, pos, inl, refl, length, slice_get, sym, subst, arith}
+use Rattle.std.proofs.Common.{◌≡◌, ◌+◌, ◌-◌, get_or, ◌∙◌, pos, inl, refl, length, sym, subst, arith}
 use Rattle.std.proofs.lemmas.Int.{ints, to_z-of_z}
 use Rattle.std.proofs.lemmas.Option.{slice_get-get_or}
 use Rattle.std.specs.Int.{w128}
-use Rattle.std.specs.Prelude.{ℕ, List}
 use Rattle.cts_model.specs.declared.place.Sink.{Sink}
-use Rattle.cts_model.specs.declared.tree.Merge.{Merge}
 use Rattle.cts_model.specs.tree.Topologies.{numbers_below}
+use Rattle.cts_model.proofs.TopologyLemmas.{merge_here}
 use Rattle.merge_up.specs.Sides.{IsSoFar}
 use Rattle.merge_up.proofs.SearchLemmas.{alone_so_far, below_neither, if_found, joined_low, order_joins, so_far_above, so_far_alone}
 use Rattle.merge_up.proofs.search.+find.Goals as goal
 
 abbrev no_sink : Sink
 no_sink = record { at = record { u = pos 0; v = pos 0 }; offset = pos 0 }
-
-abbrev no_merge : Merge
-no_merge = record { first = 0; second = 0 }
-
--- the merge that makes a node
-made_by : (sinks : ℕ) (merges : List Merge) (node : ℕ) → sinks ≤ node
-    → node < sinks + length merges
-    → slice_get merges (node - sinks) ≡ Some (get_or merges (node - sinks) no_merge)
-made_by sinks merges node high low =
-    slice_get-get_or merges (node - sinks) no_merge (omega (arith, high, low))
 
 pub returns-then-far-clause-found : goal.returns-then-far-clause-found
 returns-then-far-clause-found t c =
@@ -47,7 +36,8 @@ in_order-next-requires-clause-first t c =
     let sinks = length c.args.sinks.now in
     let merges = c.args.merges.now in
     let node = c.args.node in
-    let here = made_by sinks merges node c.if-place-sinks.false c.requires.node in
+    let here = merge_here merges (node - sinks)
+    (omega (arith, c.if-place-sinks.false, c.requires.node)) in
     let low = joined_low sinks merges (node - sinks) _ _ c.requires.topology here (inl refl) in
     omega (arith, low, c.if-place-sinks.false, c.requires.node, c.requires.kept)
 
@@ -56,7 +46,8 @@ find-found-requires t c =
     let sinks = length c.args.sinks.now in
     let merges = c.args.merges.now in
     let node = c.args.node in
-    let here = made_by sinks merges node c.if-place-sinks.false c.requires.node in
+    let here = merge_here merges (node - sinks)
+    (omega (arith, c.if-place-sinks.false, c.requires.node)) in
     let low = joined_low sinks merges (node - sinks) _ _ c.requires.topology here
     (order_joins _ c.in_order-next.result c.in_order-next.ensures).0 in (
       omega (arith, low, c.if-place-sinks.false, c.decreases),
@@ -74,7 +65,7 @@ returns-then-is_some-clause-found t c =
     let sinks = c.args.sinks.now in
     let merges = c.args.merges.now in
     let place = c.args.node - length sinks in
-    let here = made_by (length sinks) merges c.args.node c.if-place-sinks.false c.requires.node in
+    let here = merge_here merges place (omega (arith, c.if-place-sinks.false, c.requires.node)) in
     let at : length sinks + place ≡ c.args.node = omega (arith, c.if-place-sinks.false) in
     if_found c.find-found.result (λ register is.
     subst (λ node. IsSoFar sinks (numbers_below (length sinks) merges node) c.args.side c.args.far
@@ -89,7 +80,8 @@ find-requires t c =
     let sinks = length c.args.sinks.now in
     let merges = c.args.merges.now in
     let node = c.args.node in
-    let here = made_by sinks merges node c.if-place-sinks.false c.requires.node in
+    let here = merge_here merges (node - sinks)
+    (omega (arith, c.if-place-sinks.false, c.requires.node)) in
     let low = joined_low sinks merges (node - sinks) _ _ c.requires.topology here
     (order_joins _ c.in_order-next.result c.in_order-next.ensures).1 in (
       omega (arith, low, c.if-place-sinks.false, c.decreases),
@@ -107,7 +99,7 @@ returns-clause-found t c =
     let sinks = c.args.sinks.now in
     let merges = c.args.merges.now in
     let place = c.args.node - length sinks in
-    let here = made_by (length sinks) merges c.args.node c.if-place-sinks.false c.requires.node in
+    let here = merge_here merges place (omega (arith, c.if-place-sinks.false, c.requires.node)) in
     let at : length sinks + place ≡ c.args.node = omega (arith, c.if-place-sinks.false) in
     if_found c.find.result (λ register is.
     subst (λ node. IsSoFar sinks (numbers_below (length sinks) merges node) c.args.side c.args.far
@@ -122,12 +114,12 @@ returns-clause-none t c = λ none register is.
     let sinks = c.args.sinks.now in
     let merges = c.args.merges.now in
     let place = c.args.node - length sinks in
-    let here = made_by (length sinks) merges c.args.node c.if-place-sinks.false c.requires.node in
+    let here = merge_here merges place (omega (arith, c.if-place-sinks.false, c.requires.node)) in
     let at : length sinks + place ≡ c.args.node = omega (arith, c.if-place-sinks.false) in
-    below_neither sinks merges place _ c.args.side c.args.far c.in_order-next.result
-    c.requires.topology here c.in_order-next.ensures
+    below_neither sinks merges c.requires.topology place _ here c.args.side c.args.far register
+    c.in_order-next.result c.in_order-next.ensures
     (rw (to_z-of_z w128 c.args.far c.ranges.far) at (c.find-found.ensures.none
-    (sym c.is_some.ensures ∙ c.if-is_some.false)))
-    (rw (to_z-of_z w128 c.args.far c.ranges.far) at (c.find.ensures.none none)) register
+    (sym c.is_some.ensures ∙ c.if-is_some.false) register))
+    (rw (to_z-of_z w128 c.args.far c.ranges.far) at (c.find.ensures.none none register))
     (subst (λ node. IsSoFar sinks (numbers_below (length sinks) merges node) c.args.side c.args.far
     register) (sym at) is)

@@ -1,11 +1,13 @@
-use Rattle.std.proofs.Common.{IfSome, length, sym, subst, refl}
+use Rattle.std.proofs.Common.{IfSome, length, subst, refl}
 use Rattle.std.proofs.lemmas.Int.{to_z-of_z}
 use Rattle.std.specs.Int.{w128}
-use Rattle.cts_model.specs.tree.Topologies.{numbers_below}
+use Rattle.cts_model.specs.tree.Topologies.{numbers_below, sinks_below}
+use Rattle.tilted_rect.specs.Extremes.{IsGreatest}
 use Rattle.tilted_rect.proofs.CodeNumbers.{kept}
-use Rattle.merge_up.specs.Sides.{IsSoFar, furthest_to}
+use Rattle.merge_up.specs.Sides.{IsSoFar, far_to, furthest_to}
 use Rattle.merge_up.proofs.SearchLemmas.{end_so_far, far_below, greatest_held, greatest_read, some_so_far, some_unless}
 use Rattle.merge_up.proofs.work.Work.found_end.Goals as goal
+use Rattle.merge_up.proofs.work.Work.found_end.Goals.{After-furthest-far}
 
 pub furthest-far-requires : goal.furthest-far-requires
 furthest-far-requires c =
@@ -18,43 +20,38 @@ furthest-far-requires c =
     c.args.side c.requires.merge c.requires.held c.region.ensures.value c.reach.ensures.value)
     c.requires.sinks)
 
+-- how far the furthest sink is, as the code's numbers hold it
+greatest : (c : After-furthest-far) → IsGreatest (far_to c.args.side)
+    (sinks_below c.args.sinks.now c.args.topology.now.merges c.args.node)
+    (kept c.furthest-far.result)
+greatest c = greatest_read c.args.sinks.now c.args.topology.now.merges c.args.self.now c.args.node
+    c.region.result c.reach.result c.args.side c.furthest-far.result c.requires.merge
+    c.requires.held c.region.ensures.value c.reach.ensures.value
+    (record { sfits = c.reach.type_inv }) (record { sfits = c.furthest-far.type_inv })
+    c.furthest-far.ensures
+
 pub unwrap-requires : goal.unwrap-requires
 unwrap-requires c =
-    let sinks = c.args.sinks.now in
-    let merges = c.args.topology.now.merges in
-    let far = kept c.furthest-far.result in
-    let greatest = greatest_read sinks merges c.args.self.now c.args.node c.region.result
-    c.reach.result c.args.side c.furthest-far.result c.requires.merge c.requires.held
-    c.region.ensures.value c.reach.ensures.value (record { sfits = c.reach.type_inv })
-    (record { sfits = c.furthest-far.type_inv }) c.furthest-far.ensures in
-    let (register, is) = some_so_far sinks merges c.args.node c.args.side far greatest in
+    let (register, is) = some_so_far c.args.sinks.now c.args.topology.now.merges c.args.node
+    c.args.side (kept c.furthest-far.result)
+    (greatest (goal.at.unwrap-requires c).After-furthest-far) in
     some_unless c.find-found.result (λ none. c.find-found.ensures.none none register
-    (subst (λ merges. IsSoFar sinks (numbers_below (length sinks) merges c.args.node) c.args.side
-    far register) (sym c.as_slice-merges.ensures) is))
+    (rw c.as_slice-merges.ensures is))
 
 pub invariant_of-result : goal.invariant_of-result
-invariant_of-result c =
-    let sinks = c.args.sinks.now in
-    let merges = c.args.topology.now.merges in
-    let far = kept c.furthest-far.result in
-    let greatest = greatest_read sinks merges c.args.self.now c.args.node c.region.result
-    c.reach.result c.args.side c.furthest-far.result c.requires.merge c.requires.held
-    c.region.ensures.value c.reach.ensures.value (record { sfits = c.reach.type_inv })
-    (record { sfits = c.furthest-far.type_inv }) c.furthest-far.ensures in
-    record { valid = far_below sinks merges c.args.node c.args.side far greatest c.requires.sinks }
+invariant_of-result c = record {
+  valid = far_below c.args.sinks.now c.args.topology.now.merges c.args.node c.args.side
+      (kept c.furthest-far.result) (greatest (goal.at.invariant_of-result c).After-furthest-far)
+      c.requires.sinks;
+}
 
 pub returns : goal.returns
 returns c =
     let sinks = c.args.sinks.now in
     let merges = c.args.topology.now.merges in
     let far = kept c.furthest-far.result in
-    let greatest = greatest_read sinks merges c.args.self.now c.args.node c.region.result
-    c.reach.result c.args.side c.furthest-far.result c.requires.merge c.requires.held
-    c.region.ensures.value c.reach.ensures.value (record { sfits = c.reach.type_inv })
-    (record { sfits = c.furthest-far.type_inv }) c.furthest-far.ensures in
     let found = subst (λ found. IfSome found (IsSoFar sinks
-    (numbers_below (length sinks) c.as_slice-merges.result.now c.args.node) c.args.side far))
-    c.unwrap.ensures c.find-found.ensures.found in
-    end_so_far sinks merges c.args.node c.args.side far greatest _ refl
-    (subst (λ merges. IsSoFar sinks (numbers_below (length sinks) merges c.args.node) c.args.side
-    far c.unwrap.result) c.as_slice-merges.ensures found)
+    (numbers_below (length sinks) merges c.args.node) c.args.side far))
+    c.unwrap.ensures (rw c.as_slice-merges.ensures at c.find-found.ensures.found) in
+    end_so_far sinks merges c.args.node c.args.side far
+    (greatest (goal.at.returns c).After-furthest-far) _ refl found

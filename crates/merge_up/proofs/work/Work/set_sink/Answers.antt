@@ -1,4 +1,4 @@
-use Rattle.std.proofs.Common.{◌≡◌, ◌<◌, ◌*◌, ◌-◌, ◌∙◌, take, vec_len, ap, length, slice_set, rules, arith}
+use Rattle.std.proofs.Common.{◌<◌, ◌*◌, ◌∙◌, ap, length, slice_set, rules, arith}
 use Rattle.std.proofs.lemmas.Int.{to_z-of_z}
 use Rattle.std.proofs.lemmas.List.{length-set}
 use Rattle.std.specs.Int.{w128}
