@@ -1,29 +1,21 @@
 -- The walk over the merges from a sink up to the root.
-use Rattle.std.proofs.Common.{◌≡◌, ◌≢◌, ◌⊎◌, inl, inr, ℕ, zero, suc, ◌+◌, ◌-◌, ◌^◌, ◌<◌, ◌≤◌, min, true, false, List, [], ◌∷◌, ◌++◌, length, take, get_or, Some, slice_get, refl, sym, ap, subst, ◌∙◌, arith}
-use Rattle.std.specs.Prelude.{IsSomeAnd}
+use Rattle.std.proofs.Common.{◌≡◌, ◌⊎◌, inl, inr, ℕ, zero, suc, ◌+◌, ◌-◌, ◌^◌, ◌<◌, ◌≤◌, min, true, false, List, [], ◌∷◌, ◌++◌, length, take, get_or, Some, slice_get, refl, sym, ap, subst, ◌∙◌, arith}
 use Rattle.std.specs.Cmp.{nat_eq_equiv}
 use Rattle.std.specs.List.{Contains, count_by, range_with_len}
-use Rattle.std.proofs.lemmas.Bool.{cases_eq, cases_lt, eqb-true, false_from_ne_true}
-use Rattle.std.proofs.lemmas.List.{get_or-take, length-take-le, take_all}
+use Rattle.std.proofs.lemmas.Bool.{cases_lt, eqb-true, false_from_ne_true}
+use Rattle.std.proofs.lemmas.List.{get_or-take, length-take, take_all}
 use Rattle.std.proofs.lemmas.List.Elements.{Contains-append_cases, Contains-append_left, Contains-append_right}
 use Rattle.std.proofs.lemmas.List.FromFn.{get_or-range_with_len, length-range_with_len}
 use Rattle.std.proofs.lemmas.List.Sums.{count_by_more_no, count_by_more_yes}
 use Rattle.std.proofs.lemmas.Map.Views.{Contains-from_any, list_any-from_Contains}
-use Rattle.std.proofs.lemmas.Option.{get_or_from_slice_get, slice_get-get_or, slice_get_within}
 use Rattle.cts_model.specs.declared.place.Sink.{Sink}
 use Rattle.cts_model.specs.declared.tree.Merge.{Merge}
 use Rattle.cts_model.specs.tree.Topologies.{IsLive, IsMerge, IsTopology, Joins, numbers_below}
-use Rattle.cts_model.proofs.TopologyLemmas.{numbers_below-merge, numbers_below-sink, some_and}
+use Rattle.cts_model.proofs.TopologyLemmas.{merge_at, merge_here, numbers_below-merge, numbers_below-sink}
 use Rattle.merge_up.specs.Merging.{HoldsMerge, HoldsSinks, IsMerged, IsRenewed}
 use Rattle.merge_up.specs.Works.{IsFit, WorkState}
-use Rattle.merge_up.proofs.WorkLemmas.{merge_along, no_merge, set_kept, sink_along}
+use Rattle.merge_up.proofs.WorkLemmas.{merges_renewed, sinks_renewed}
 use Rattle.move_session.specs.MergesAbove.{IsMergedBeside, IsStep, JoinsAt, is_above, merges_above}
-
--- a merge that is read joins the node
-pub joins_here : (merges : List Merge) (place node : ℕ) (merge : Merge)
-    → slice_get merges place ≡ Some merge → Joins merge node → JoinsAt merges place node
-joins_here merges place node merge here joins =
-    subst (λ found. IsSomeAnd found (λ merge. Joins merge node)) (sym here) joins
 
 -- what a list of one item contains is that item
 only_one : (item other : ℕ) → Contains (item ∷ []) other → other ≡ item
@@ -99,92 +91,66 @@ module _ (sinks : List Sink) (merges : List Merge) (register : ℕ) where
   module _ (topology : IsTopology (length sinks) merges) where
     module _ (place : ℕ) (within : place < length merges) where
       -- the merge at the place
-      abbrev here_merge : Merge
-      here_merge = get_or merges place no_merge
+      here : slice_get merges place ≡ Some (merge_at merges place)
+      here = merge_here merges place within
 
-      here : slice_get merges place ≡ Some here_merge
-      here = slice_get-get_or merges place no_merge within
-
-      joins : IsMerge (length sinks) (take place merges) here_merge
-      joins = topology.each place here_merge here
+      joins : IsMerge (length sinks) (take place merges) (merge_at merges place)
+      joins = topology.each place (merge_at merges place) here
 
       -- the sinks below it
       numbers_here : numbers_below (length sinks) merges (length sinks + place)
-          ≡ numbers_below (length sinks) merges here_merge.first
-          ++ numbers_below (length sinks) merges here_merge.second
-      numbers_here = numbers_below-merge (length sinks) merges place here_merge here joins
-
-      joined_first : Below here_merge.first → Below (length sinks + place)
-      joined_first below = subst (λ numbers. Contains numbers register) (sym numbers_here)
-          (Contains-append_left (numbers_below (length sinks) merges here_merge.first)
-          (numbers_below (length sinks) merges here_merge.second) register below)
-
-      joined_second : Below here_merge.second → Below (length sinks + place)
-      joined_second below = subst (λ numbers. Contains numbers register) (sym numbers_here)
-          (Contains-append_right (numbers_below (length sinks) merges here_merge.first)
-          (numbers_below (length sinks) merges here_merge.second) register below)
+          ≡ numbers_below (length sinks) merges (merge_at merges place).first
+          ++ numbers_below (length sinks) merges (merge_at merges place).second
+      numbers_here =
+          numbers_below-merge (length sinks) merges place (merge_at merges place) here joins
 
       -- where it joins a node, that is one of the two
-      joined_here : (node : ℕ) → JoinsAt merges place node → Joins here_merge node
-      joined_here node found =
-          let (merge, read, joined) = some_and (slice_get merges place)
-          (λ merge. Joins merge node) found in
-          subst (λ one. Joins one node)
-          (sym (get_or_from_slice_get merges place merge no_merge read)) joined
+      joined_here : (node : ℕ) → JoinsAt merges place node → Joins (merge_at merges place) node
+      joined_here node found = rw here at found
 
       -- it is above a sink where it joins the live node that has the sink below it
       above_joined : (node : ℕ) → Below node → JoinsAt merges place node
           → Below (length sinks + place)
-      above_joined node below found = elim (joined_here node found) [
-        | inl same ↦ joined_first (subst Below (sym same) below)
-        | inr same ↦ joined_second (subst Below (sym same) below)
-      ]
+      above_joined node below found = rw numbers_here (elim (joined_here node found) [
+        | inl same ↦ Contains-append_left (numbers_below (length sinks) merges _)
+            (numbers_below (length sinks) merges _) register (rw same below)
+        | inr same ↦ Contains-append_right (numbers_below (length sinks) merges _)
+            (numbers_below (length sinks) merges _) register (rw same below)
+      ])
 
       -- and nowhere else
       joined_above : (node : ℕ) → ((other : ℕ) → IsLive (length sinks) (take place merges) other
           → Below other → other ≡ node) → Below (length sinks + place) → JoinsAt merges place node
-      joined_above node one below = elim (Contains-append_cases
-          (numbers_below (length sinks) merges here_merge.first)
-          (numbers_below (length sinks) merges here_merge.second) register
-          (subst (λ numbers. Contains numbers register) numbers_here below)) [
-            | inl first ↦ joins_here merges place node here_merge here
-                (inl (one here_merge.first joins.first first))
-            | inr second ↦ joins_here merges place node here_merge here
-                (inr (one here_merge.second joins.second second))
-          ]
+      joined_above node one below = rw here (elim (Contains-append_cases
+          (numbers_below (length sinks) merges (merge_at merges place).first)
+          (numbers_below (length sinks) merges (merge_at merges place).second) register
+          (rw numbers_here at below)) [
+            | inl first ↦ inl (one (merge_at merges place).first joins.first first)
+            | inr second ↦ inr (one (merge_at merges place).second joins.second second)
+          ])
 
       -- a node that lives after the merge is what it makes, or lived before it
       live_before : (other : ℕ) → IsLive (length sinks) (take (place + 1) merges) other
           → other < length sinks + place → IsLive (length sinks) (take place merges) other
       live_before other live low = record {
-        made = omega (arith, low, length-take-le place merges (omega (arith, within)));
-        unjoined = λ k default before.
-            let first : k < place = omega (
-              arith,
-              before,
-              length-take-le place merges (omega (arith, within)),
-            ) in
-            let also : k < length (take (place + 1) merges) = omega (
-              arith,
-              first,
-              length-take-le (place + 1) merges (omega (arith, within)),
-            ) in
-            subst (λ (merge : Merge). (merge.first ≢ other) × (merge.second ≢ other))
-            (get_or-take (place + 1) merges k default (omega (arith, first))
-            ∙ sym (get_or-take place merges k default first)) (live.unjoined k default also);
+        made = omega (arith, low, within, length-take place merges);
+        unjoined = λ lower default before.
+            let first : lower < place = omega (arith, before, within, length-take place merges) in
+            rw (
+              get_or-take place merges lower default first,
+              ← get_or-take (place + 1) merges lower default (omega (arith, first)),
+            )
+            (live.unjoined lower default (omega
+            (arith, first, within, length-take (place + 1) merges)));
       }
 
       -- and isn't joined by it
       live_apart : (other : ℕ) → IsLive (length sinks) (take (place + 1) merges) other
-          → Joins here_merge other → ⊥
+          → Joins (merge_at merges place) other → ⊥
       live_apart other live joined =
-          let also : place < length (take (place + 1) merges) = omega (
-            arith,
-            length-take-le (place + 1) merges (omega (arith, within)),
-          ) in
-          let apart = subst (λ (merge : Merge). (merge.first ≢ other) × (merge.second ≢ other))
-          (get_or-take (place + 1) merges place no_merge (omega arith))
-          (live.unjoined place no_merge also) in
+          let apart = rw (get_or-take (place + 1) merges place (merge_at [] 0) (omega arith)) at
+          (live.unjoined place (merge_at [] 0) (omega
+          (arith, within, length-take (place + 1) merges))) in
           elim joined [
             | inl same ↦ apart.0 same
             | inr same ↦ apart.1 same
@@ -192,12 +158,8 @@ module _ (sinks : List Sink) (merges : List Merge) (register : ℕ) where
 
       made_last : (other : ℕ) → IsLive (length sinks) (take (place + 1) merges) other
           → length sinks + place ≤ other → other ≡ length sinks + place
-      made_last other live high = omega (
-        arith,
-        high,
-        live.made,
-        length-take-le (place + 1) merges (omega (arith, within)),
-      )
+      made_last other live high =
+          omega (arith, high, live.made, within, length-take (place + 1) merges)
 
       range_within : place < length (range_with_len 0 (length merges))
       range_within = omega (arith, within, length-range_with_len 0 (length merges))
@@ -251,15 +213,15 @@ module _ (sinks : List Sink) (merges : List Merge) (register : ℕ) where
         renewed new joined is = record {
           count = ap (λ work. work.sinks) is.rest ∙ way.count;
           room = ap (λ work. work.room) is.rest ∙ way.room;
-          of_sinks = λ other sink read.
-              let apart : other ≢ length sinks + place = λ same. absurd
-              (omega (arith, same, slice_get_within sinks other sink read)) in
-              sink_along work new other sink (reaches other apart) (regions other apart)
-              (way.of_sinks other sink read);
-          of_merges = of_merges;
+          of_sinks = sinks_renewed is way.of_sinks;
+          of_merges = λ lower made how. merges_renewed is lower (λ apart. way.of_merges lower made
+              (elim how [
+                | inl before ↦ inl (omega (arith, before, apart))
+                | inr beside ↦ inr beside
+              ]));
           below = above_joined node way.below joined;
           one = λ other live below. elim (cases_lt other (length sinks + place)) [
-            | inl low ↦ absurd (live_apart other live (subst (Joins here_merge)
+            | inl low ↦ absurd (live_apart other live (subst (Joins (merge_at merges place))
                 (sym (way.one other (live_before other live low) below))
                 (joined_here node joined)))
             | inr high ↦ made_last other live high
@@ -268,41 +230,6 @@ module _ (sinks : List Sink) (merges : List Merge) (register : ℕ) where
               (ap (λ work. work.renewals) is.rest) way.renewals counted_here;
         }
           where
-            reaches : (other : ℕ) → other ≢ length sinks + place
-                → slice_get new.tree.reach other ≡ slice_get work.tree.reach other
-            reaches other apart = ap (λ work. slice_get work.tree.reach other) is.rest
-                ∙ set_kept work.tree.reach (length sinks + place) other is.held.reach apart
-
-            regions : (other : ℕ) → other ≢ length sinks + place
-                → slice_get new.regions other ≡ slice_get work.regions other
-            regions other apart = ap (λ work. slice_get work.regions other) is.rest
-                ∙ set_kept work.regions (length sinks + place) other is.held.region apart
-
-            earlier_or_beside : (lower : ℕ) → lower ≢ place
-                → (lower < place + 1) ⊎ (Below (length sinks + lower) → ⊥)
-                → (lower < place) ⊎ (Below (length sinks + lower) → ⊥)
-            earlier_or_beside lower apart (inl before) = inl (elim (cases_lt lower place) [
-              | inl earlier ↦ earlier
-              | inr later ↦ absurd (apart (omega (arith, before, later)))
-            ])
-            earlier_or_beside lower apart (inr beside) = inr beside
-
-            of_merges : (lower : ℕ) → lower < length merges
-                → (lower < place + 1) ⊎ (Below (length sinks + lower) → ⊥)
-                → HoldsMerge sinks merges new lower
-            of_merges lower made how = elim (cases_eq lower place) [
-              | inl same ↦ subst (HoldsMerge sinks merges new) (sym same) is.held
-              | inr apart ↦
-                  let apart_node : length sinks + lower ≢ length sinks + place = λ same.
-                  apart (omega (arith, same)) in
-                  merge_along sinks merges work new lower
-                  (reaches (length sinks + lower) apart_node)
-                  (regions (length sinks + lower) apart_node)
-                  (ap (λ work. slice_get work.shows lower) is.rest
-                  ∙ set_kept work.shows place lower is.held.show apart)
-                  (way.of_merges lower made (earlier_or_beside lower apart how))
-            ]
-
             is_one : is_above (length sinks) merges register
                 (get_or (range_with_len 0 (length merges)) place 0) ≡ true
             is_one =

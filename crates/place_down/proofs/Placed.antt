@@ -1,11 +1,12 @@
 -- A tree whose nodes all have their places.
-use Rattle.std.proofs.Common.{◌≡◌, ◌≢◌, ◌↔◌, ℕ, ◌+◌, ◌-◌, ◌*◌, ◌^◌, ◌<◌, ◌≤◌, inl, inr, true, false, ℤ, pos, ◌+ℤ◌, ◌-ℤ◌, ◌*ℤ◌, ◌≤ℤ◌, List, Some, unwrap_or, length, get_or, set, slice_get, slice_set, refl, sym, ap, subst, ◌∙◌, arith}
-use Rattle.std.specs.Prelude.{IsTrue}
+use Rattle.std.proofs.Common.{◌≡◌, ◌↔◌, ℕ, ◌+◌, ◌-◌, ◌*◌, ◌^◌, ◌<◌, ◌≤◌, inl, inr, true, false, ℤ, pos, ◌-ℤ◌, ◌*ℤ◌, ◌≤ℤ◌, List, Some, unwrap_or, length, get_or, slice_get, slice_set, refl, sym, ap, subst, ◌∙◌, arith}
+use Rattle.std.specs.Prelude.{All, Bool, IsTrue, Option}
 use Rattle.std.proofs.lemmas.Bool.{cases_lt}
 use Rattle.std.proofs.lemmas.Int.{ints, clamps}
 use Rattle.std.specs.Int.{int_max}
-use Rattle.std.proofs.lemmas.List.{get_or-set_same, get_or-set_other, length-set}
-use Rattle.std.proofs.lemmas.Option.{slice_get_cases, slice_get_within, slice_get_past, slice_get-get_or, get_or_from_slice_get}
+use Rattle.std.proofs.lemmas.Grind.{get_or-set_at}
+use Rattle.std.proofs.lemmas.Option.{slice_get_cases, slice_get_within, slice_get-get_or, get_or_from_slice_get}
+use Rattle.cts_model.specs.declared.place.Point.{Point}
 use Rattle.cts_model.specs.declared.place.Sink.{Sink}
 use Rattle.cts_model.specs.declared.place.Uv.{Uv}
 use Rattle.cts_model.specs.declared.tree.Merge.{Merge}
@@ -14,136 +15,42 @@ use Rattle.cts_model.specs.declared.tree.Show.TheVariants.{Root}
 use Rattle.cts_model.specs.tree.ChosenPlaces.{AreChosen, IsSourceReach}
 use Rattle.cts_model.specs.tree.Embeddings.{IsEmbedding, embedding_of}
 use Rattle.cts_model.specs.placement.Points.{apart, IsBelow, IsMultipleOf, IsUvBelow, IsUvMultipleOf, scaled, rotated, rotated_distance}
-use Rattle.cts_model.specs.tree.Regions.{InRegion, IsReach}
-use Rattle.cts_model.specs.tree.ShownReaches.{AreShownBy, ShowsMerge, ShowsSource}
+use Rattle.cts_model.specs.tree.Regions.{InRegion}
+use Rattle.cts_model.specs.tree.ShownReaches.{AreShownBy, ShowsSource}
 use Rattle.cts_model.specs.tree.Sinks.{AreTreeSinks}
-use Rattle.cts_model.specs.tree.Topologies.{IsTopology, IsParent, Joins, numbers_below, root_of, sinks_below, source_of}
+use Rattle.cts_model.specs.tree.Topologies.{IsTopology, IsParent, Joins, root_of, source_of}
 use Rattle.cts_model.proofs.ParentLemmas.{has_parent, parent_stands}
 use Rattle.cts_model.proofs.PointLemmas.{distance_from_zero}
 use Rattle.cts_model.proofs.TopologyLemmas.{some_and, sinks_below-sink}
 use Rattle.merge_up.specs.Merging.{IsMerged, IsSourcePlaced}
 use Rattle.merge_up.specs.Works.{WorkState, IsFit, IsSettled}
+use Rattle.merge_up.proofs.WorkLemmas.{set_held, set_kept}
 use Rattle.tilted_rect.proofs.ExtremeLemmas.{contains_itself}
-use Rattle.place_down.specs.Descents.{CanSettle, IsSettledBelow, StandFrom, StandsBelow, StaysAbove}
+use Rattle.place_down.specs.Descents.{CanSettle, IsSettledBelow, StandFrom, StandsBelow, StaysAbove, standing}
 use Rattle.place_down.specs.Sources.{IsTop}
-use Rattle.place_down.specs.Trees.{HasTreeNumbers, IsEdgeLength, IsPlacedTree, IsTreeSource, StaysMerged, reach_in}
+use Rattle.place_down.specs.Trees.{HasTreeNumbers, IsEdgeLength, IsPlacedTree, IsTreeSource, StaysMerged, merged_as, reach_in}
 use Rattle.place_down.specs.declared.source.Top.{Top}
-use Rattle.place_down.proofs.RegionBounds.{below_more, holds_node, place_of_node, point_below_more, reach_of_node, region_of_source}
-use Rattle.place_down.proofs.Standing.{above_twice, length_of, origin, own_small, placed_above, point_of, settled_stands}
+use Rattle.place_down.proofs.RegionBounds.{below_more, holds_node, place_of_node, point_below_more, region_of_source}
+use Rattle.place_down.proofs.Standing.{IsReady, above_twice, can_settle, child_above, child_stands, held_small, merged_kept, merged_still, origin, point_of, stays_below}
 
--- ---- lists
-
--- a write to another place doesn't change what is found
-slice_get-set_other : {X : Type 0} (items : List X) (at : ℕ) (item : X) (other : ℕ) → other ≢ at
-    → slice_get (slice_set items at item) other ≡ slice_get items other
-slice_get-set_other items at item other apart = elim (cases_lt other (length items)) [
-  | inl within ↦
-      slice_get-get_or (set items at item) other item
-      (omega (arith, length-set items at item, within))
-      ∙ ap Some (get_or-set_other items at other item item apart)
-      ∙ sym (slice_get-get_or items other item within)
-  | inr past ↦ slice_get_past (set items at item) other
-      (omega (arith, length-set items at item, past))
-      ∙ sym (slice_get_past items other past)
-]
-
--- within a list the default doesn't matter
-get_or_any : {X : Type 0} (items : List X) (at : ℕ) (one other : X) → at < length items
-    → get_or items at one ≡ get_or items at other
-get_or_any items at one other within =
-    get_or_from_slice_get items at (get_or items at other) one
-    (slice_get-get_or items at other within)
-
--- what is set at a place is found there
-found_set : {X : Type 0} (items : List X) (at : ℕ) (item : X) → at < length items
-    → slice_get (slice_set items at item) at ≡ Some item
-found_set items at item within =
-    slice_get-get_or (set items at item) at item (omega (arith, within, length-set items at item))
-    ∙ ap Some (get_or-set_same items at item item within)
-
--- ---- what stays
-
--- what was merged is so still
-pub merged_kept : {sinks : List Sink} {merges : List Merge} {old new : WorkState}
-    → IsTopology (length sinks) merges → StaysMerged old new → IsMerged sinks merges old
-    → IsMerged sinks merges new
-merged_kept {sinks} {merges} {old} {new} topology stays merged =
-    let regions = ap (λ work. work.regions) stays.rest in
-    record {
-      count = ap (λ work. work.sinks) stays.rest ∙ merged.count;
-      of_sinks = λ register sink here. let held = merged.of_sinks register sink here in record {
-        reach = stays.reaches register (omega (
-          arith,
-          merged.count,
-          slice_get_within sinks register
-              sink here,
-        ))
-            ∙ held.reach;
-        region = rw regions held.region;
-      };
-      of_merges = λ place within. let held = merged.of_merges place within in record {
-        reach = held.reach;
-        region = held.region;
-        show = held.show;
-        reach_held = stays.reaches (length sinks + place)
-            (omega (arith, merged.count, within, topology.all)) ∙ held.reach_held;
-        region_held = rw regions held.region_held;
-        show_held = stays.shows place (omega (arith, merged.count, within, topology.all))
-            ∙ held.show_held;
-        is_reach = held.is_reach;
-        is_region = held.is_region;
-        shows = held.shows;
-      };
-    }
+-- what holds of each place holds of all, whatever stands past the end
+each_is : {X : Type 0} (Holds : X → Type 0) (items : List X) (one : X)
+    → ((place : ℕ) → place < length items → Holds (get_or items place one)) → All Holds items
+each_is Holds items one holds = λ place default within. subst Holds
+    (get_or_from_slice_get items place (get_or items place default) one
+    (slice_get-get_or items place default within)) (holds place within)
 
 -- the source's place leaves what was merged
 source_stays : {source : Uv} {reach : ℤ} {show : Show} {old new : WorkState}
     → IsSourcePlaced source reach show old new → StaysMerged old new
 source_stays {source} {reach} {show} {old} {new} placed = record {
-  rest = λ i. record {
-    room = (placed.rest i).room;
-    sinks = (placed.rest i).sinks;
-    tree = new.tree;
-    regions = (placed.rest i).regions;
-    ends = (placed.rest i).ends;
-    shows = new.shows;
-    settled = new.settled;
-    renewals = (placed.rest i).renewals;
-  };
+  rest = ap (merged_as new.tree new.shows new.settled) placed.rest;
   reaches = λ node below. ap (λ work. slice_get work.tree.reach node) placed.rest
-      ∙ slice_get-set_other old.tree.reach (source_of old.sinks) reach node
+      ∙ set_kept old.tree.reach (source_of old.sinks) node reach
       (λ same. omega (arith, below, same));
   shows = λ place below. ap (λ work. slice_get work.shows place) placed.rest
-      ∙ slice_get-set_other old.shows (old.sinks - 1) show place
-      (λ same. omega (arith, below, same));
+      ∙ set_kept old.shows (old.sinks - 1) place show (λ same. omega (arith, below, same));
 }
-
--- and so do places below it
-stays_below : {old mid new : WorkState} → StaysMerged old mid → StaysAbove mid new
-    → StaysMerged old new
-stays_below {old} {mid} {new} first second =
-    let room = ap (λ work. work.room) second.rest ∙ ap (λ work. work.room) first.rest in
-    let sinks = ap (λ work. work.sinks) second.rest ∙ ap (λ work. work.sinks) first.rest in
-    let regions = ap (λ work. work.regions) second.rest ∙ ap (λ work. work.regions) first.rest in
-    let ends = ap (λ work. work.ends) second.rest ∙ ap (λ work. work.ends) first.rest in
-    let renewals = ap (λ work. work.renewals) second.rest
-    ∙ ap (λ work. work.renewals) first.rest in
-    record {
-      rest = λ i. record {
-        room = room i;
-        sinks = sinks i;
-        tree = new.tree;
-        regions = regions i;
-        ends = ends i;
-        shows = new.shows;
-        settled = new.settled;
-        renewals = renewals i;
-      };
-      reaches = λ node below. ap (λ work. slice_get work.tree.reach node) second.rest
-          ∙ first.reaches node below;
-      shows = λ place below. ap (λ work. slice_get work.shows place) second.rest
-          ∙ first.shows place below;
-    }
 
 -- ---- the way down
 
@@ -176,80 +83,56 @@ module _ {sinks : List Sink} {merges : List Merge} (are : AreTreeSinks sinks)
     (root_held : slice_get old.tree.reach (root_of (length sinks)) ≡ Some root)
     (is : IsTop sinks sinks source root top)
     (placed : IsSourcePlaced source top.reach top.show old first) where
-  -- the source's numbers are small
-  source_low : IsUvBelow (10 ^ 32) source
-  source_low = point_below_more (omega arith) from.below
+  -- what a work has of the source: where it stands, whether it is settled, its reach and its show
+  abbrev at_source : WorkState → Point × Bool × ℤ × Option Show
+  at_source work = (
+    point_of work (source_of (length sinks)),
+    get_or work.settled (source_of (length sinks)) false,
+    reach_in work.tree (source_of (length sinks)),
+    slice_get work.shows (length merges),
+  )
 
-  source_near : IsUvBelow (5 * 10 ^ 31) source
-  source_near = point_below_more (omega arith) from.below
+  first_source : at_source first ≡ (placed.point, true, top.reach, Some top.show)
+  first_source =
+      let source = source_of (length sinks) in
+      let same : source ≡ source_of old.sinks = ap source_of (sym merged.count) in
+      let last : old.sinks - 1 ≡ length merges = omega (arith, merged.count, topology.all) in
+      ap at_source placed.rest ∙ (λ i. (
+        get_or-set_at old.tree.place (source_of old.sinks) source placed.point origin same
+            (omega (arith, fit, merged.count, are.some)) i,
+        get_or-set_at old.settled (source_of old.sinks) source true false same
+            (omega (arith, fit, merged.count, are.some)) i,
+        get_or-set_at old.tree.reach (source_of old.sinks) source top.reach (pos 0) same
+            (omega (arith, fit, merged.count, are.some)) i,
+        (subst (λ n. slice_get (slice_set old.shows (old.sinks - 1) top.show) n ≡ Some top.show)
+            last (set_held old.shows (old.sinks - 1) top.show (omega
+            (arith, fit, merged.count, are.some)))) i,
+      ))
 
-  source_multiple : IsUvMultipleOf 4 source
-  source_multiple = record {
-    u = omega (arith, ints, from.multiple.u);
-    v = omega (arith, ints, from.multiple.v);
+  -- so the root may be settled
+  source_ready : IsReady are topology first (source_of (length sinks)) top.reach source
+  source_ready = record {
+    fit = placed.fit;
+    merged = merged_kept topology (source_stays placed) merged;
+    reach_is = ap (λ at. at.2) first_source;
+    stands = ap (λ at. rotated at.0) first_source ∙ placed.stands;
+    small = below_more (omega arith) is.below;
+    below = point_below_more (omega arith) from.below;
+    multiple = record {
+      u = omega (arith, ints, from.multiple.u);
+      v = omega (arith, ints, from.multiple.v);
+    };
+    within = λ node child. region_of_source are topology source root top.reach is.reach node;
   }
 
-  -- the source stands
-  source_at : rotated (point_of first (source_of (length sinks))) ≡ source
-  source_at = subst (λ n. rotated (point_of first (source_of n)) ≡ source) merged.count
-      (ap (λ work. rotated (point_of work (source_of old.sinks))) placed.rest
-      ∙ ap rotated (get_or-set_same old.tree.place (source_of old.sinks) placed.point origin
-      (omega (arith, fit, merged.count, are.some)))
-      ∙ placed.stands)
-
-  -- with its reach, its show and its mark
-  source_reaches : slice_get first.tree.reach (source_of (length sinks)) ≡ Some top.reach
-  source_reaches = subst (λ n. slice_get first.tree.reach (source_of n) ≡ Some top.reach)
-      merged.count
-      (ap (λ work. slice_get work.tree.reach (source_of old.sinks)) placed.rest
-      ∙ found_set old.tree.reach (source_of old.sinks) top.reach
-      (omega (arith, fit, merged.count, are.some)))
-
-  source_shown : slice_get first.shows (length merges) ≡ Some top.show
-  source_shown = subst (λ n. slice_get first.shows n ≡ Some top.show)
-      (last_show old.sinks (length sinks) (length merges) merged.count topology.all)
-      (ap (λ work. slice_get work.shows (old.sinks - 1)) placed.rest
-      ∙ found_set old.shows (old.sinks - 1) top.show (omega (arith, fit, merged.count, are.some)))
-    where
-      last_show : (count sinks merges : ℕ) → count ≡ sinks → sinks ≡ merges + 1
-          → count - 1 ≡ merges
-      last_show count sinks merges same all = omega arith
-
-  source_settled : get_or first.settled (source_of (length sinks)) false ≡ true
-  source_settled = subst (λ n. get_or first.settled (source_of n) false ≡ true) merged.count
-      (ap (λ work. get_or work.settled (source_of old.sinks) false) placed.rest
-      ∙ get_or-set_same old.settled (source_of old.sinks) true false
-      (omega (arith, fit, merged.count, are.some)))
-
-  -- and what was merged is so still
-  pub first_kept : IsMerged sinks merges first
-  first_kept = merged_kept topology (source_stays placed) merged
-
-  -- the root may be settled
   pub can_settle_root : CanSettle (root_of (length sinks)) top.reach source first
-  can_settle_root = record {
-    stands = omega (arith, first_kept.count, are.some);
-    own = own_small are topology first first_kept (root_of (length sinks))
-        (omega (arith, are.some));
-    wide = below_more (omega arith) is.below;
-    below = source_low;
-    multiple = source_multiple;
-  }
+  can_settle_root = can_settle are topology source_ready (inr (refl, refl))
 
   module _ {second : WorkState}
       (settled : IsSettledBelow (root_of (length sinks)) top.reach source first second) where
     -- nothing but the root's place changes then
     root_above : StaysAbove first second
-    root_above = placed_above settled.placed (omega (arith, first_kept.count, are.some))
-
-    -- the root stands below the source
-    root_stands : StandsBelow sinks merges second (root_of (length sinks))
-        (source_of (length sinks))
-    root_stands = settled_stands are topology (source_of (length sinks)) placed.fit first_kept
-        settled (omega (arith, are.some)) (omega (arith, are.some))
-        (get_or_from_slice_get first.tree.reach (source_of (length sinks)) top.reach (pos 0)
-        source_reaches) source_at
-        (region_of_source are topology source root top.reach is.reach (root_of (length sinks)))
+    root_above = child_above are topology source_ready (inr (refl, refl)) settled
 
     -- the root is the only node with the source for its parent
     each_below_source : (node parent : ℕ) → IsParent (length sinks) merges node parent
@@ -258,16 +141,14 @@ module _ {sinks : List Sink} {merges : List Merge} (are : AreTreeSinks sinks)
         let (merge, here, joins) = some_and (slice_get merges place)
         (λ merge. Joins merge node) found in
         absurd (omega (arith, high, is, slice_get_within merges place merge here))
-    each_below_source node parent (inr (is_root, is_source)) high =
-        subst (λ parent. StandsBelow sinks merges second node parent) (sym is_source)
-        (subst (λ node. StandsBelow sinks merges second node (source_of (length sinks)))
-        (sym is_root) root_stands)
+    each_below_source node parent (inr (is_root, is_source)) high = rw (is_root, is_source)
+        (child_stands are topology source_ready (inr (refl, refl)) settled)
 
     -- so merges may come one after the other
     pub root_stand : StandFrom sinks merges (length merges) second
     root_stand = record {
       fit = settled.placed.fit;
-      merged = merged_kept topology (stays_below (source_stays placed) root_above) merged;
+      merged = merged_still topology root_above source_ready.merged;
       each = each_below_source;
     }
 
@@ -287,28 +168,27 @@ module _ {sinks : List Sink} {merges : List Merge} (are : AreTreeSinks sinks)
       all_stand node parent below =
           stand.each node parent below (parent_high topology node parent below)
 
-      -- the source stands where it did
-      source_stands : rotated (point_of new (source_of (length sinks))) ≡ source
-      source_stands = ap rotated (subst (λ n. point_of new (source_of n)
-          ≡ point_of first (source_of n)) first_kept.count all_above.source) ∙ source_at
+      -- what the work has of the source stays
+      new_source : at_source new ≡ (placed.point, true, top.reach, Some top.show)
+      new_source =
+          let above = subst (λ n. standing new (source_of n) ≡ standing first (source_of n))
+          source_ready.merged.count all_above.source in
+          let rest = ap at_source all_above.rest in
+          (λ i. ((above i).0, (above i).2, (rest i).2, (rest i).3)) ∙ first_source
 
-      -- the source's reach and show, and the root's reach, are those found
-      new_source_reaches : slice_get new.tree.reach (source_of (length sinks)) ≡ Some top.reach
-      new_source_reaches =
-          ap (λ work. slice_get work.tree.reach (source_of (length sinks))) all_above.rest
-          ∙ source_reaches
+      source_stands : rotated (point_of new (source_of (length sinks))) ≡ source
+      source_stands = ap (λ at. rotated at.0) new_source ∙ placed.stands
 
       source_reach_is : reach_in new.tree (source_of (length sinks)) ≡ top.reach
-      source_reach_is = get_or_from_slice_get new.tree.reach (source_of (length sinks)) top.reach
-          (pos 0) new_source_reaches
+      source_reach_is = ap (λ at. at.2) new_source
+
+      show_is : slice_get new.shows (length merges) ≡ Some top.show
+      show_is = ap (λ at. at.3) new_source
 
       root_reach_is : reach_in new.tree (root_of (length sinks)) ≡ root
       root_reach_is = get_or_from_slice_get new.tree.reach (root_of (length sinks)) root (pos 0)
           (new_stays.reaches (root_of (length sinks)) (omega (arith, merged.count, are.some))
           ∙ root_held)
-
-      show_is : slice_get new.shows (length merges) ≡ Some top.show
-      show_is = ap (λ work. slice_get work.shows (length merges)) all_above.rest ∙ source_shown
 
       -- ---- the numbers
 
@@ -317,21 +197,12 @@ module _ {sinks : List Sink} {merges : List Merge} (are : AreTreeSinks sinks)
           → IsBelow (3 * 10 ^ 31) (reach_in new.tree node) × IsMultipleOf 4 (reach_in new.tree node)
       reach_at node within = elim (cases_lt node (source_of (length sinks))) [
         | inl below ↦
-            let held = holds_node are topology new stand.merged node below in
-            let small = reach_of_node are topology node held.reach held.is_reach in
-            let same = get_or_from_slice_get new.tree.reach node held.reach (pos 0)
-            held.reach_held in (
-              subst (IsBelow (3 * 10 ^ 31)) (sym same)
-                  (below_more (omega arith) small.0),
-              subst (IsMultipleOf 4) (sym same) small.1,
-            )
+            let small = held_small are topology new stand.merged node below in
+            (below_more (omega arith) small.0, small.1)
         | inr high ↦
             let last : node ≡ source_of (length sinks) =
             omega (arith, high, within, stand.fit, stand.merged.count, are.some) in
-            let same = ap (λ n. reach_in new.tree n) last ∙ source_reach_is in (
-              subst (IsBelow (3 * 10 ^ 31)) (sym same) is.below,
-              subst (IsMultipleOf 4) (sym same) is.multiple,
-            )
+            rw (last, source_reach_is) (is.below, is.multiple)
       ]
 
       -- and so is where it stands
@@ -342,25 +213,20 @@ module _ {sinks : List Sink} {merges : List Merge} (are : AreTreeSinks sinks)
         | inl below ↦
             let parent = has_parent topology node below in
             let stands = all_stand node parent.0 parent.1 in
-            let held = holds_node are topology new stand.merged node below in
-            let same = get_or_from_slice_get new.tree.reach node held.reach (pos 0)
-            held.reach_held in
-            let reach = subst (λ z. IsReach (sinks_below sinks merges node) (z +ℤ z)) (sym same)
-            held.is_reach in
-            let low = place_of_node are topology node (reach_in new.tree node)
-            (rotated (point_of new node)) below reach stands.chosen.within in
-            (low, stands.multiple)
+            let held = holds_node are topology new stand.merged node below in (
+              place_of_node are topology node (reach_in new.tree node)
+                  (rotated (point_of new node)) below held.is_reach stands.chosen.within,
+              stands.multiple,
+            )
         | inr high ↦
             let last : node ≡ source_of (length sinks) =
             omega (arith, high, within, stand.fit, stand.merged.count, are.some) in
-            let same = ap (λ n. rotated (point_of new n)) last ∙ source_stands in (
-              subst (IsUvBelow (5 * 10 ^ 31)) (sym same) source_near,
-              subst (IsUvMultipleOf 4) (sym same) source_multiple,
-            )
+            rw (last, source_stands)
+            (point_below_more (omega arith) from.below, source_ready.multiple)
       ]
 
       -- and how long its edge is
-      length_at : (node : ℕ) → node < source_of (length sinks) → IsEdgeLength (length_of new node)
+      length_at : (node : ℕ) → node < source_of (length sinks) → IsEdgeLength ((embedding_of new.tree).length node)
       length_at node below =
           let parent = has_parent topology node below in
           let stands = all_stand node parent.0 parent.1 in
@@ -396,27 +262,23 @@ module _ {sinks : List Sink} {merges : List Merge} (are : AreTreeSinks sinks)
       -- so all numbers are small
       new_numbers : HasTreeNumbers new.tree
       new_numbers = record {
-        reaches = λ node default within. subst (IsBelow (10 ^ 32))
-            (get_or_any new.tree.reach node (pos 0) default within)
-            (let small = (reach_at node within).0 in
-            below_more (omega arith) small);
-        reach_multiples = λ node default within. subst (IsMultipleOf 4)
-            (get_or_any new.tree.reach node (pos 0) default within) (reach_at node within).1;
-        places = λ node default within. subst (λ point. IsUvBelow (5 * 10 ^ 31) (rotated point))
-            (get_or_any new.tree.place node origin default within) (place_at node within).0;
-        place_multiples = λ node default within. subst (λ point. IsUvMultipleOf 4 (rotated point))
-            (get_or_any new.tree.place node origin default within) (place_at node within).1;
-        lengths = λ node default within. subst IsEdgeLength
-            (get_or_any new.tree.length node (pos 0) default within)
-            (length_at node (omega (arith, within, stand.fit, stand.merged.count, are.some)));
+        reaches = each_is (IsBelow (10 ^ 32)) new.tree.reach (pos 0)
+            (λ node within. below_more (omega arith) (reach_at node within).0);
+        reach_multiples = each_is (IsMultipleOf 4) new.tree.reach (pos 0)
+            (λ node within. (reach_at node within).1);
+        places = each_is (λ point. IsUvBelow (5 * 10 ^ 31) (rotated point)) new.tree.place origin
+            (λ node within. (place_at node within).0);
+        place_multiples = each_is (λ point. IsUvMultipleOf 4 (rotated point)) new.tree.place origin
+            (λ node within. (place_at node within).1);
+        lengths = each_is IsEdgeLength new.tree.length (pos 0) (λ node within. length_at node
+            (omega (arith, within, stand.fit, stand.merged.count, are.some)));
       }
 
       -- all nodes are settled
       new_settled : IsSettled new
       new_settled = record {
         merged = omega (arith, stand.merged.count, are.some);
-        all = λ node default within. subst IsTrue
-            (get_or_any new.settled node false default within) (settled_at node within);
+        all = each_is IsTrue new.settled false settled_at;
       }
         where
           settled_at : (node : ℕ) → node < length new.settled → get_or new.settled node false ≡ true
@@ -427,11 +289,7 @@ module _ {sinks : List Sink} {merges : List Merge} (are : AreTreeSinks sinks)
             | inr high ↦
                 let last : node ≡ source_of (length sinks) =
                 omega (arith, high, within, stand.fit, stand.merged.count, are.some) in
-                ap (λ n. get_or new.settled n false) last
-                ∙ subst (λ n. get_or new.settled (source_of n) false
-                ≡ get_or first.settled (source_of n) false) first_kept.count
-                all_above.source_settled
-                ∙ source_settled
+                ap (λ n. get_or new.settled n false) last ∙ ap (λ at. at.1) new_source
           ]
 
       -- ---- the tree
@@ -468,16 +326,18 @@ module _ {sinks : List Sink} {merges : List Merge} (are : AreTreeSinks sinks)
           one_scale : (at : Uv) → at ≡ scaled 1 at
           one_scale at = λ i. record { u = over_one at.u i; v = over_one at.v i }
 
-      -- each merge stands at its chosen place with the least reach
+      -- a merge has the reach that is held of it
+      reach_of_merge : (place : ℕ) (within : place < length merges)
+          → reach_in new.tree (length sinks + place) ≡ (stand.merged.of_merges place within).reach
+      reach_of_merge place within = get_or_from_slice_get new.tree.reach (length sinks + place) _
+          (pos 0) (stand.merged.of_merges place within).reach_held
+
+      -- so each stands at its chosen place with the least reach
       new_chosen : AreChosen sinks merges (reach_in new.tree) (embedding_of new.tree)
       new_chosen = record {
         reaches = λ place merge here.
-            let held = stand.merged.of_merges place (slice_get_within merges place merge here) in
-            let same = get_or_from_slice_get new.tree.reach (length sinks + place) held.reach
-            (pos 0)
-            held.reach_held in
-            subst (λ z. IsReach (sinks_below sinks merges (length sinks + place)) (z +ℤ z))
-            (sym same) held.is_reach;
+            let within = slice_get_within merges place merge here in
+            rw (reach_of_merge place within) (stand.merged.of_merges place within).is_reach;
         places = λ place parent merge here below.
             (all_stand (length sinks + place) parent below).chosen;
       }
@@ -485,15 +345,11 @@ module _ {sinks : List Sink} {merges : List Merge} (are : AreTreeSinks sinks)
       -- the source has the least reach, and its show says so
       new_source_reach : IsSourceReach sinks source (reach_in new.tree (root_of (length sinks)))
           (reach_in new.tree (source_of (length sinks)))
-      new_source_reach = subst (λ z. IsSourceReach sinks source z
-          (reach_in new.tree (source_of (length sinks)))) (sym root_reach_is)
-          (subst (λ z. IsSourceReach sinks source root z) (sym source_reach_is) is.reach)
+      new_source_reach = rw (root_reach_is, source_reach_is) is.reach
 
       new_source_shown : ShowsSource sinks source (reach_in new.tree (root_of (length sinks)))
           (reach_in new.tree (source_of (length sinks))) top.show
-      new_source_shown = subst (λ z. ShowsSource sinks source z
-          (reach_in new.tree (source_of (length sinks))) top.show) (sym root_reach_is)
-          (subst (λ z. ShowsSource sinks source root z top.show) (sym source_reach_is) is.shown)
+      new_source_shown = rw (root_reach_is, source_reach_is) is.shown
 
       -- and so has each merge
       new_shown : AreShownBy sinks merges source (reach_in new.tree) new.shows
@@ -506,23 +362,19 @@ module _ {sinks : List Sink} {merges : List Merge} (are : AreTreeSinks sinks)
         ];
         of_merges = λ place within.
             let held = stand.merged.of_merges place within in
-            let same = get_or_from_slice_get new.tree.reach (length sinks + place) held.reach
-            (pos 0)
-            held.reach_held in
-            rw held.show_held (subst (λ z. ShowsMerge sinks (numbers_below (length sinks) merges
-            (length sinks + place)) z held.show) (sym same) held.shows);
+            rw held.show_held (rw (reach_of_merge place within) held.shows);
         of_source = rw show_is new_source_shown;
       }
 
       -- the edge of the root is as long as the source's reach is above the root's
-      root_length : length_of new (root_of (length sinks)) ≡ top.reach -ℤ root
+      root_length : (embedding_of new.tree).length (root_of (length sinks)) ≡ top.reach -ℤ root
       root_length = (all_stand (root_of (length sinks)) (source_of (length sinks))
           (inr (refl, refl))).length ∙ ap (λ z. z -ℤ reach_in new.tree (root_of (length sinks)))
           source_reach_is ∙ ap (λ z. top.reach -ℤ z) root_reach_is
 
       -- so the root shows it exactly where that is nothing
       new_root_shows : slice_get new.shows (length merges) ≡ Some Root
-          ↔ (length_of new (root_of (length sinks)) ≡ pos 0)
+          ↔ ((embedding_of new.tree).length (root_of (length sinks)) ≡ pos 0)
       new_root_shows = (
         λ same.
             let by_root = is.root_shows.0 (ap (λ o. unwrap_or o Root) (sym show_is ∙ same)) in

@@ -5,7 +5,7 @@ use Rattle.std.specs.Int.{int_max}
 use Rattle.std.proofs.lemmas.Bool.{cases_lt}
 use Rattle.std.proofs.lemmas.Int.{ints, clamps}
 use Rattle.std.proofs.lemmas.List.Elements.{All-contains, Contains-append_left, Contains-append_right}
-use Rattle.std.proofs.lemmas.Option.{slice_get_cases}
+use Rattle.std.proofs.lemmas.Option.{get_or_from_slice_get, slice_get_cases}
 use Rattle.cts_model.specs.declared.place.Point.{Point}
 use Rattle.cts_model.specs.declared.place.Sink.{Sink}
 use Rattle.cts_model.specs.declared.place.Uv.{Uv}
@@ -24,6 +24,7 @@ use Rattle.tilted_rect.specs.declared.rect.Rect.{Rect}
 use Rattle.tilted_rect.proofs.MergeLemmas.{sink_reach, sink_region}
 use Rattle.tilted_rect.proofs.MultipleLemmas.{reach_is_multiple}
 use Rattle.tilted_rect.proofs.RegionLemmas.{region_has_point, wider_region_is_near}
+use Rattle.place_down.specs.Trees.{reach_in}
 use Rattle.place_down.proofs.SourceLemmas.{distance_below}
 
 -- ---- plain points
@@ -151,12 +152,11 @@ chosen_near set rect own wide at found reach region within nearest =
 -- what a merged work holds of a node
 pub record HoldsNode (sinks : List Sink) (merges : List Merge) (work : WorkState)
     (node : ℕ) : Type 0 where
-  pub reach : ℤ
   pub region : Rect
-  pub reach_held : slice_get work.tree.reach node ≡ Some reach
   pub region_held : slice_get work.regions node ≡ Some region
-  pub is_reach : IsReach (sinks_below sinks merges node) (reach +ℤ reach)
-  pub is_region : IsRegion region (sinks_below sinks merges node) reach
+  pub is_reach : IsReach (sinks_below sinks merges node)
+      (reach_in work.tree node +ℤ reach_in work.tree node)
+  pub is_region : IsRegion region (sinks_below sinks merges node) (reach_in work.tree node)
 
 module _ {sinks : List Sink} {merges : List Merge} (are : AreTreeSinks sinks)
     (topology : IsTopology (length sinks) merges) where
@@ -167,15 +167,13 @@ module _ {sinks : List Sink} {merges : List Merge} (are : AreTreeSinks sinks)
       let held = merged.of_sinks register sink here in
       let (region, there, point) = some_and (slice_get work.regions register)
       (λ region. IsPointOf region sink) held.region in
-      let alone = sym (sinks_below-sink sinks merges register sink here) in
+      let alone = sinks_below-sink sinks merges register sink here in
+      let reach = get_or_from_slice_get work.tree.reach register sink.offset (pos 0) held.reach in
       record {
-        reach = sink.offset;
         region = region;
-        reach_held = held.reach;
         region_held = there;
-        is_reach = subst (λ set. IsReach set (sink.offset +ℤ sink.offset)) alone (sink_reach sink);
-        is_region = subst (λ set. IsRegion region set sink.offset) alone
-            (sink_region sink region point);
+        is_reach = rw (alone, reach) (sink_reach sink);
+        is_region = rw (alone, reach) (sink_region sink region point);
       }
 
   -- of any node but the source
@@ -187,15 +185,16 @@ module _ {sinks : List Sink} {merges : List Merge} (are : AreTreeSinks sinks)
       | inr past ↦ absurd (omega (arith, past.0))
     ]
     | inr high ↦
-        let same : length sinks + (node - length sinks) ≡ node = omega arith in
-        let held = merged.of_merges (node - length sinks) (omega (arith, topology.all)) in
+        let place = node - length sinks in
+        let same : length sinks + place ≡ node = omega arith in
+        let held = merged.of_merges place (omega (arith, topology.all)) in
+        let reach = get_or_from_slice_get work.tree.reach (length sinks + place) held.reach (pos 0)
+        held.reach_held in
         subst (HoldsNode sinks merges work) same (record {
-          reach = held.reach;
           region = held.region;
-          reach_held = held.reach_held;
           region_held = held.region_held;
-          is_reach = held.is_reach;
-          is_region = held.is_region;
+          is_reach = rw reach held.is_reach;
+          is_region = rw reach held.is_region;
         })
   ]
 

@@ -1,6 +1,6 @@
 -- What a tree is whose nodes have their places: Boese and Kahng 1992; Chao and others 1992. Places,
 -- lengths and reaches are in grid steps.
-use Rattle.std.specs.Prelude.{◌≡◌, ◌↔◌, ℕ, ◌<◌, ◌+◌, ◌*◌, ◌^◌, ℤ, pos, ◌≤ℤ◌, List, All, Some, length, slice_get, slice_index_or}
+use Rattle.std.specs.Prelude.{◌≡◌, ◌↔◌, ℕ, ◌<◌, ◌+◌, ◌*◌, ◌^◌, ℤ, pos, ◌≤ℤ◌, Bool, List, All, Some, length, slice_get, slice_index_or}
 use Rattle.cts_model.specs.declared.place.Sink.{Sink}
 use Rattle.cts_model.specs.declared.place.Uv.{Uv}
 use Rattle.cts_model.specs.declared.tree.Merge.{Merge}
@@ -51,9 +51,14 @@ pub record HasTreeNumbers (tree : Tree) : Type 0 where
   pub place_multiples : All (λ place. IsUvMultipleOf 4 (rotated place)) tree.place
   pub lengths : All IsEdgeLength tree.length
 
+-- the same work with this tree, these shows and marks of what is settled
+abbrev pub merged_as : Tree → List Show → List Bool → WorkState → WorkState
+merged_as tree shows settled work =
+    record work { tree = tree; shows = shows; settled = settled }
+
 -- the reaches, regions and shows of sinks and merges stay, and so does the count of renewals
 pub record StaysMerged (old new : WorkState) : Type 0 where
-  pub rest : new ≡ record old { tree = new.tree; shows = new.shows; settled = new.settled }
+  pub rest : new ≡ merged_as new.tree new.shows new.settled old
   pub reaches : (node : ℕ) → node < source_of old.sinks
       → slice_get new.tree.reach node ≡ slice_get old.tree.reach node
   pub shows : (place : ℕ) → place + 1 < old.sinks
