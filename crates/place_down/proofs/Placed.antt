@@ -3,7 +3,6 @@ use Rattle.std.proofs.Common.{◌≡◌, ◌↔◌, ℕ, ◌+◌, ◌-◌, ◌*�
 use Rattle.std.specs.Prelude.{All, Bool, IsTrue, Option}
 use Rattle.std.proofs.lemmas.Bool.{cases_lt}
 use Rattle.std.proofs.lemmas.Int.{ints, clamps}
-use Rattle.std.specs.Int.{int_max}
 use Rattle.std.proofs.lemmas.Grind.{get_or-set_at}
 use Rattle.std.proofs.lemmas.Option.{slice_get_cases, slice_get_within, slice_get-get_or, get_or_from_slice_get}
 use Rattle.cts_model.specs.declared.place.Point.{Point}
@@ -12,15 +11,15 @@ use Rattle.cts_model.specs.declared.place.Uv.{Uv}
 use Rattle.cts_model.specs.declared.tree.Merge.{Merge}
 use Rattle.cts_model.specs.declared.tree.Show.{Show}
 use Rattle.cts_model.specs.declared.tree.Show.TheVariants.{Root}
-use Rattle.cts_model.specs.tree.ChosenPlaces.{AreChosen, IsSourceReach}
+use Rattle.cts_model.specs.tree.ChosenPlaces.{AreChosen}
 use Rattle.cts_model.specs.tree.Embeddings.{IsEmbedding, embedding_of}
-use Rattle.cts_model.specs.placement.Points.{apart, IsBelow, IsMultipleOf, IsUvBelow, IsUvMultipleOf, scaled, rotated, rotated_distance}
+use Rattle.cts_model.specs.placement.Points.{IsBelow, IsMultipleOf, IsUvBelow, IsUvMultipleOf, scaled, rotated, rotated_distance}
 use Rattle.cts_model.specs.tree.Regions.{InRegion}
-use Rattle.cts_model.specs.tree.ShownReaches.{AreShownBy, ShowsSource}
+use Rattle.cts_model.specs.tree.ShownReaches.{AreShownBy}
 use Rattle.cts_model.specs.tree.Sinks.{AreTreeSinks}
 use Rattle.cts_model.specs.tree.Topologies.{IsTopology, IsParent, Joins, root_of, source_of}
 use Rattle.cts_model.proofs.ParentLemmas.{has_parent, parent_stands}
-use Rattle.cts_model.proofs.PointLemmas.{distance_from_zero}
+use Rattle.cts_model.proofs.PointLemmas.{distance_from_zero, same_uv}
 use Rattle.cts_model.proofs.TopologyLemmas.{some_and, sinks_below-sink}
 use Rattle.merge_up.specs.Merging.{IsMerged, IsSourcePlaced}
 use Rattle.merge_up.specs.Works.{WorkState, IsFit, IsSettled}
@@ -30,7 +29,7 @@ use Rattle.place_down.specs.Descents.{CanSettle, IsSettledBelow, StandFrom, Stan
 use Rattle.place_down.specs.Sources.{IsTop}
 use Rattle.place_down.specs.Trees.{HasTreeNumbers, IsEdgeLength, IsPlacedTree, IsTreeSource, StaysMerged, merged_as, reach_in}
 use Rattle.place_down.specs.declared.source.Top.{Top}
-use Rattle.place_down.proofs.RegionBounds.{below_more, holds_node, place_of_node, point_below_more, region_of_source}
+use Rattle.place_down.proofs.RegionBounds.{below_more, holds_node, over_one, place_of_node, point_below_more, region_of_source}
 use Rattle.place_down.proofs.Standing.{IsReady, above_twice, can_settle, child_above, child_stands, held_small, merged_kept, merged_still, origin, point_of, stays_below}
 
 -- what holds of each place holds of all, whatever stands past the end
@@ -64,17 +63,7 @@ parent_high topology node parent (inr (is_root, is)) = omega (arith, is, topolog
 one_place : (a b : Uv) (far less : ℤ) → far ≡ less → rotated_distance a b ≤ℤ (far -ℤ pos 1 *ℤ less)
     → b ≡ a
 one_place a b far less same near =
-    let u = no_way a.u b.u a.v b.v far less same near in
-    let v = no_other_way a.u b.u a.v b.v far less same near in
-    λ i. record { u = u i; v = v i }
-  where
-    no_way : (a b c d far less : ℤ) → far ≡ less
-        → int_max (apart a b) (apart c d) ≤ℤ (far -ℤ pos 1 *ℤ less) → b ≡ a
-    no_way a b c d far less same near = omega (arith, ints, clamps)
-
-    no_other_way : (a b c d far less : ℤ) → far ≡ less
-        → int_max (apart a b) (apart c d) ≤ℤ (far -ℤ pos 1 *ℤ less) → d ≡ c
-    no_other_way a b c d far less same near = omega (arith, ints, clamps)
+    same_uv (omega (arith, ints, clamps, same, near)) (omega (arith, ints, clamps, same, near))
 
 module _ {sinks : List Sink} {merges : List Merge} (are : AreTreeSinks sinks)
     (topology : IsTopology (length sinks) merges) {source : Uv} {root : ℤ} {top : Top}
@@ -154,6 +143,10 @@ module _ {sinks : List Sink} {merges : List Merge} (are : AreTreeSinks sinks)
 
     module _ {new : WorkState} (stand : StandFrom sinks merges 0 new)
         (stays : StaysAbove second new) where
+      -- the lists are as long as there are nodes
+      room : IsFit new × (new.sinks ≡ length sinks) × (1 ≤ length sinks)
+      room = (stand.fit, stand.merged.count, are.some)
+
       -- nothing but places of nodes below the source changes then
       all_above : StaysAbove first new
       all_above = above_twice root_above stays
@@ -200,8 +193,7 @@ module _ {sinks : List Sink} {merges : List Merge} (are : AreTreeSinks sinks)
             let small = held_small are topology new stand.merged node below in
             (below_more (omega arith) small.0, small.1)
         | inr high ↦
-            let last : node ≡ source_of (length sinks) =
-            omega (arith, high, within, stand.fit, stand.merged.count, are.some) in
+            let last : node ≡ source_of (length sinks) = omega (arith, high, within, room) in
             rw (last, source_reach_is) (is.below, is.multiple)
       ]
 
@@ -219,45 +211,29 @@ module _ {sinks : List Sink} {merges : List Merge} (are : AreTreeSinks sinks)
               stands.multiple,
             )
         | inr high ↦
-            let last : node ≡ source_of (length sinks) =
-            omega (arith, high, within, stand.fit, stand.merged.count, are.some) in
+            let last : node ≡ source_of (length sinks) = omega (arith, high, within, room) in
             rw (last, source_stands)
             (point_below_more (omega arith) from.below, source_ready.multiple)
       ]
 
       -- and how long its edge is
-      length_at : (node : ℕ) → node < source_of (length sinks) → IsEdgeLength ((embedding_of new.tree).length node)
+      length_at : (node : ℕ) → node < source_of (length sinks)
+          → IsEdgeLength ((embedding_of new.tree).length node)
       length_at node below =
           let parent = has_parent topology node below in
           let stands = all_stand node parent.0 parent.1 in
           let high = parent_stands topology node parent.0 parent.1 in
           let zero = distance_from_zero (point_of new parent.0) (point_of new node) in
-          let upper = reach_at parent.0 (omega (
-            arith,
-            high,
-            stand.fit,
-            stand.merged.count,
-            are.some,
-          )) in
-          let lower = reach_at node (omega (
-            arith,
-            below,
-            stand.fit,
-            stand.merged.count,
-            are.some,
-          )) in
+          let upper = reach_at parent.0 (omega (arith, high, room)) in
+          let lower = reach_at node (omega (arith, below, room)) in
           record {
             least = omega (arith, ints, zero, stands.near);
             below = record {
               above = omega (arith, ints, zero, stands.near);
               below = omega (arith, ints, stands.length, upper.0, lower.0);
             };
-            multiple = subst (IsMultipleOf 4) (sym stands.length)
-                (difference (reach_in new.tree parent.0) (reach_in new.tree node) upper.1 lower.1);
+            multiple = omega (arith, ints, stands.length, upper.1, lower.1);
           }
-        where
-          difference : (a b : ℤ) → IsMultipleOf 4 a → IsMultipleOf 4 b → IsMultipleOf 4 (a -ℤ b)
-          difference a b one other = omega (arith, ints)
 
       -- so all numbers are small
       new_numbers : HasTreeNumbers new.tree
@@ -271,13 +247,13 @@ module _ {sinks : List Sink} {merges : List Merge} (are : AreTreeSinks sinks)
         place_multiples = each_is (λ point. IsUvMultipleOf 4 (rotated point)) new.tree.place origin
             (λ node within. (place_at node within).1);
         lengths = each_is IsEdgeLength new.tree.length (pos 0) (λ node within. length_at node
-            (omega (arith, within, stand.fit, stand.merged.count, are.some)));
+            (omega (arith, within, room)));
       }
 
       -- all nodes are settled
       new_settled : IsSettled new
       new_settled = record {
-        merged = omega (arith, stand.merged.count, are.some);
+        merged = omega (arith, room);
         all = each_is IsTrue new.settled false settled_at;
       }
         where
@@ -287,8 +263,7 @@ module _ {sinks : List Sink} {merges : List Merge} (are : AreTreeSinks sinks)
                 let parent = has_parent topology node below in
                 (all_stand node parent.0 parent.1).settled
             | inr high ↦
-                let last : node ≡ source_of (length sinks) =
-                omega (arith, high, within, stand.fit, stand.merged.count, are.some) in
+                let last : node ≡ source_of (length sinks) = omega (arith, high, within, room) in
                 ap (λ n. get_or new.settled n false) last ∙ ap (λ at. at.1) new_source
           ]
 
@@ -316,15 +291,9 @@ module _ {sinks : List Sink} {merges : List Merge} (are : AreTreeSinks sinks)
           | inl there ↦ rw there.2 (sink_stands register there.0 there.2)
           | inr past ↦ rw past.1 tt
         ];
-        source_stands = source_stands ∙ one_scale source;
+        source_stands = rw (over_one source.u, over_one source.v) source_stands;
         long_enough = λ node parent below. (all_stand node parent below).near;
       }
-        where
-          over_one : (a : ℤ) → a ≡ pos 1 *ℤ a
-          over_one a = omega (arith, ints)
-
-          one_scale : (at : Uv) → at ≡ scaled 1 at
-          one_scale at = λ i. record { u = over_one at.u i; v = over_one at.v i }
 
       -- a merge has the reach that is held of it
       reach_of_merge : (place : ℕ) (within : place < length merges)
@@ -342,19 +311,10 @@ module _ {sinks : List Sink} {merges : List Merge} (are : AreTreeSinks sinks)
             (all_stand (length sinks + place) parent below).chosen;
       }
 
-      -- the source has the least reach, and its show says so
-      new_source_reach : IsSourceReach sinks source (reach_in new.tree (root_of (length sinks)))
-          (reach_in new.tree (source_of (length sinks)))
-      new_source_reach = rw (root_reach_is, source_reach_is) is.reach
-
-      new_source_shown : ShowsSource sinks source (reach_in new.tree (root_of (length sinks)))
-          (reach_in new.tree (source_of (length sinks))) top.show
-      new_source_shown = rw (root_reach_is, source_reach_is) is.shown
-
-      -- and so has each merge
+      -- and each reach is shown
       new_shown : AreShownBy sinks merges source (reach_in new.tree) new.shows
       new_shown = record {
-        all = omega (arith, stand.fit, stand.merged.count, are.some, topology.all);
+        all = omega (arith, room, topology.all);
         of_sinks = λ register. elim ((slice_get_cases sinks register).1) [
           | inl there ↦ rw there.2 (get_or_from_slice_get new.tree.reach register there.0.offset
               (pos 0) (stand.merged.of_sinks register there.0 there.2).reach)
@@ -363,14 +323,13 @@ module _ {sinks : List Sink} {merges : List Merge} (are : AreTreeSinks sinks)
         of_merges = λ place within.
             let held = stand.merged.of_merges place within in
             rw held.show_held (rw (reach_of_merge place within) held.shows);
-        of_source = rw show_is new_source_shown;
+        of_source = rw (show_is, root_reach_is, source_reach_is) is.shown;
       }
 
       -- the edge of the root is as long as the source's reach is above the root's
       root_length : (embedding_of new.tree).length (root_of (length sinks)) ≡ top.reach -ℤ root
-      root_length = (all_stand (root_of (length sinks)) (source_of (length sinks))
-          (inr (refl, refl))).length ∙ ap (λ z. z -ℤ reach_in new.tree (root_of (length sinks)))
-          source_reach_is ∙ ap (λ z. top.reach -ℤ z) root_reach_is
+      root_length = rw (root_reach_is, source_reach_is) at (all_stand (root_of (length sinks))
+          (source_of (length sinks)) (inr (refl, refl))).length
 
       -- so the root shows it exactly where that is nothing
       new_root_shows : slice_get new.shows (length merges) ≡ Some Root
@@ -378,16 +337,9 @@ module _ {sinks : List Sink} {merges : List Merge} (are : AreTreeSinks sinks)
       new_root_shows = (
         λ same.
             let by_root = is.root_shows.0 (ap (λ o. unwrap_or o Root) (sym show_is ∙ same)) in
-            root_length ∙ no_longer top.reach root by_root,
-        λ none. show_is ∙ ap Some (is.root_shows.1 (as_far top.reach root
-            (sym root_length ∙ none))),
+            omega (arith, ints, root_length, by_root),
+        λ none. show_is ∙ ap Some (is.root_shows.1 (omega (arith, ints, root_length, none))),
       )
-        where
-          no_longer : (a b : ℤ) → a ≡ b → a -ℤ b ≡ pos 0
-          no_longer a b same = omega (arith, ints)
-
-          as_far : (a b : ℤ) → a -ℤ b ≡ pos 0 → a ≡ b
-          as_far a b none = omega (arith, ints)
 
       -- all in one
       new_tree : IsPlacedTree sinks merges source new.tree new.shows
@@ -395,7 +347,7 @@ module _ {sinks : List Sink} {merges : List Merge} (are : AreTreeSinks sinks)
         embedded = new_embeds;
         reaches = λ node parent below. (all_stand node parent below).length;
         chosen = new_chosen;
-        source_reach = new_source_reach;
+        source_reach = rw (root_reach_is, source_reach_is) is.reach;
         shown = new_shown;
         root_shows = new_root_shows;
       }

@@ -30,7 +30,7 @@ use Rattle.place_down.proofs.SourceLemmas.{distance_below}
 -- ---- plain points
 
 -- a number over the scale 1
-over_one : (a : ℤ) → pos 1 *ℤ a ≡ a
+pub over_one : (a : ℤ) → pos 1 *ℤ a ≡ a
 over_one a = omega (arith, ints)
 
 -- how far two numbers are apart, the one over the scale 1

@@ -15,7 +15,7 @@ use Rattle.cts_model.proofs.TopologyLemmas.{numbers_below-merge, numbers_below-s
 use Rattle.tilted_rect.specs.Extremes.{IsRegion}
 use Rattle.merge_up.specs.Merging.{HoldsMerge, IsRenewed, IsSinkSet}
 use Rattle.merge_up.specs.Works.{WorkState}
-use Rattle.merge_up.proofs.WorkLemmas.{merge_along, set_kept}
+use Rattle.merge_up.proofs.WorkLemmas.{merges_renewed, merges_set, set_kept}
 
 -- two rules that agree on each item pick the same
 filter_map_same : {X Y : Type 0} (pick other : X → Option Y) (items : List X)
@@ -112,35 +112,6 @@ held_of_two sinks others merges work place first second topology count first_in 
     Same : ℕ → Type 0
     Same number = slice_get others number ≡ slice_get sinks number
 
--- once a sink is set, merges are held as before
-pub held_once_set : (sinks : List Sink) (merges : List Merge) (register place : ℕ) (sink : Sink)
-    (work new : WorkState) → register < length sinks → IsSinkSet register sink work new
-    → HoldsMerge sinks merges work place → HoldsMerge sinks merges new place
-held_once_set sinks merges register place sink work new within is =
-    let node = length sinks + place in
-    let apart : node ≢ register = λ same. absurd (omega (arith, same, within)) in
-    merge_along sinks merges work new place
-    (ap (λ work. slice_get work.tree.reach node) is.rest
-    ∙ set_kept work.tree.reach register node sink.offset apart)
-    (ap (λ work. slice_get work.regions node) is.rest
-    ∙ set_kept work.regions register node is.region apart)
-    (ap (λ work. slice_get work.shows place) is.rest)
-
--- once a merge is renewed, the others are held as before
-held_once_renewed : (sinks : List Sink) (merges : List Merge) (other place : ℕ)
-    (work new : WorkState) → place ≢ other → IsRenewed sinks merges other work new
-    → HoldsMerge sinks merges work place → HoldsMerge sinks merges new place
-held_once_renewed sinks merges other place work new apart is =
-    let n = length sinks in
-    let nodes_apart : (n + place) ≢ (n + other) = λ same. apart (omega (arith, same)) in
-    merge_along sinks merges work new place
-    (ap (λ work. slice_get work.tree.reach (n + place)) is.rest
-    ∙ set_kept work.tree.reach (n + other) (n + place) is.held.reach nodes_apart)
-    (ap (λ work. slice_get work.regions (n + place)) is.rest
-    ∙ set_kept work.regions (n + other) (n + place) is.held.region nodes_apart)
-    (ap (λ work. slice_get work.shows place) is.rest
-    ∙ set_kept work.shows other place is.held.show apart)
-
 -- once the first of four sinks is set and its merge renewed, both lower merges are held
 pub held_lower : (sinks others : List Sink) (merges : List Merge) (sink : Sink)
     (work between new : WorkState) → length sinks ≡ 4 → IsTopology 4 merges
@@ -152,15 +123,14 @@ held_lower sinks others merges sink work between new four topology is joins held
 held_lower sinks others merges sink work between new four topology is joins held set renewed
     (suc zero) low =
     let count : length others ≡ length sinks = ap length is ∙ length-set sinks 0 sink in
-    held_once_renewed others merges 0 1 between new (λ same. absurd (omega (arith, same))) renewed
-    (held_of_two sinks others merges between 1 2 3
+    merges_renewed renewed 1 (λ apart. held_of_two sinks others merges between 1 2 3
     (subst (λ n. IsTopology n merges) (sym four) topology) count
     (omega (arith, four)) (omega (arith, four)) joins
     (ap (λ list. slice_get list 2) is
     ∙ set_kept sinks 0 2 sink (λ same. absurd (omega (arith, same))))
     (ap (λ list. slice_get list 3) is
     ∙ set_kept sinks 0 3 sink (λ same. absurd (omega (arith, same))))
-    (held_once_set sinks merges 0 1 sink work between (omega (arith, four)) set held))
+    (merges_set set sinks merges 1 (omega (arith, four)) held))
 held_lower sinks others merges sink work between new four topology is joins held set renewed
     (suc (suc lower)) low = absurd (omega (arith, low))
 

@@ -18,8 +18,8 @@ use Rattle.tilted_rect.proofs.RegionLemmas.{region_from_sides, sides_from_region
 use Rattle.tilted_rect.proofs.SpanLemmas.{reach_is_spread}
 use Rattle.merge_up.specs.Merging.{HoldsMerge, HoldsSink, IsMerged, IsSinkSet, IsUnsettled}
 use Rattle.merge_up.specs.Works.{WorkState, IsFit}
-use Rattle.merge_up.proofs.WorkLemmas.{IsBegun, begun_next}
-use Rattle.tree_tests.proofs.HeldForOthers.{JoinsAt, held_of_two, held_once_set, joined_numbers}
+use Rattle.merge_up.proofs.WorkLemmas.{IsBegun, begun_next, merges_set}
+use Rattle.tree_tests.proofs.HeldForOthers.{JoinsAt, held_of_two, joined_numbers}
 
 -- a sink with the offset 0
 abbrev pub still : (u v : ℤ) → Sink
@@ -257,9 +257,9 @@ merged_once_set merges work new topology lower upper fit unsettled merged set = 
     }) set
 
     of_merges : (place : ℕ) → place < length merges → HoldsMerge (with near) merges new place
-    of_merges zero within = held_once_set (with near) merges 2 0 near work new (omega arith) set
+    of_merges zero within = merges_set set (with near) merges 0 (omega arith)
         (held_of_two (with far) (with near) merges work 0 0 1 topology refl (omega arith)
         (omega arith) lower refl refl (merged.of_merges 0 within))
-    of_merges (suc zero) within = held_once_set (with near) merges 2 1 near work new (omega arith)
-        set (held_of_three merges work topology lower upper (merged.of_merges 1 within))
+    of_merges (suc zero) within = merges_set set (with near) merges 1 (omega arith)
+        (held_of_three merges work topology lower upper (merged.of_merges 1 within))
     of_merges (suc (suc place)) within = absurd (omega (arith, within, topology.all))
