@@ -172,30 +172,25 @@ v_ends_show sinks numbers reach ends are twice wider =
 
 -- ---- regions
 
--- what the code keeps of a rectangle's sides is a rectangle
-pub rect_kept : (ulo uhi vlo vhi : ℤ) → IsRect ulo uhi vlo vhi
-    → IsRect (kept ulo) (kept uhi) (kept vlo) (kept vhi)
-rect_kept ulo uhi vlo vhi valid =
-    subst (λ z. IsRect z (kept uhi) (kept vlo) (kept vhi)) (side_kept ulo valid.least_u)
-    (subst (λ z. IsRect ulo z (kept vlo) (kept vhi)) (side_kept uhi valid.greatest_u)
-    (subst (λ z. IsRect ulo uhi z (kept vhi)) (side_kept vlo valid.least_v)
-    (subst (λ z. IsRect ulo uhi vlo z) (side_kept vhi valid.greatest_v) valid)))
-  where
-    side_kept : (side : ℤ) → IsSide side → side ≡ kept side
-    side_kept side is = sym (to_z-of_z w128 side (below_fits side is.below))
+-- a side as the code keeps it
+pub side_kept : {side value : ℤ} → side ≡ value → IsSide side
+    → (kept side ≡ value) × IsSide (kept side)
+side_kept {side} {value} is valid =
+    let same = to_z-of_z w128 side (below_fits side valid.below) in
+    (same ∙ is, rw same valid)
 
 -- a reach of half the spread leaves the sides in order
-pub region_valid : (ends : Ends) (reach same ulo uhi vlo vhi : ℤ) → same ≡ reach
+pub sides_are_rect : (ends : Ends) (reach ulo uhi vlo vhi : ℤ)
     → reach +ℤ reach ≡ spread (extremes_of ends)
-    → ulo ≡ ends.high_u.far -ℤ same → uhi ≡ neg_ℤ ends.low_u.far +ℤ same
-    → vlo ≡ ends.high_v.far -ℤ same → vhi ≡ neg_ℤ ends.low_v.far +ℤ same
-    → IsSide ulo → IsSide uhi → IsSide vlo → IsSide vhi → IsRect ulo uhi vlo vhi
-region_valid ends reach same ulo uhi vlo vhi is twice is_ulo is_uhi is_vlo is_vhi low_u high_u low_v
-    high_v = record {
-      u_ordered = omega (arith, ints, clamps, is, twice, is_ulo, is_uhi);
-      v_ordered = omega (arith, ints, clamps, is, twice, is_vlo, is_vhi);
-      least_u = low_u;
-      greatest_u = high_u;
-      least_v = low_v;
-      greatest_v = high_v;
-    }
+    → (ulo ≡ ends.high_u.far -ℤ reach) × IsSide ulo
+    → (uhi ≡ neg_ℤ ends.low_u.far +ℤ reach) × IsSide uhi
+    → (vlo ≡ ends.high_v.far -ℤ reach) × IsSide vlo
+    → (vhi ≡ neg_ℤ ends.low_v.far +ℤ reach) × IsSide vhi → IsRect ulo uhi vlo vhi
+sides_are_rect ends reach ulo uhi vlo vhi twice low_u high_u low_v high_v = record {
+  u_ordered = omega (arith, ints, clamps, twice, low_u.0, high_u.0);
+  v_ordered = omega (arith, ints, clamps, twice, low_v.0, high_v.0);
+  least_u = low_u.1;
+  greatest_u = high_u.1;
+  least_v = low_v.1;
+  greatest_v = high_v.1;
+}

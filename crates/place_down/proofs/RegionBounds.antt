@@ -1,7 +1,6 @@
 -- Where a node may stand below its parent, and how large the numbers of its place are.
 use Rattle.std.proofs.Common.{◌≤◌, ◌≡◌, ℕ, ◌+◌, ◌-◌, ◌*◌, ◌^◌, ◌<◌, inl, inr, ℤ, pos, ◌+ℤ◌, ◌-ℤ◌, ◌*ℤ◌, ◌≤ℤ◌, List, ◌++◌, Some, length, slice_get, refl, sym, subst, arith}
 use Rattle.std.specs.List.{Contains}
-use Rattle.std.specs.Int.{int_max}
 use Rattle.std.proofs.lemmas.Bool.{cases_lt}
 use Rattle.std.proofs.lemmas.Int.{ints, clamps}
 use Rattle.std.proofs.lemmas.List.Elements.{All-contains, Contains-append_left, Contains-append_right}
@@ -40,10 +39,6 @@ apart_over_one a b = rw (over_one a) (omega (arith, ints, clamps))
 -- and so for two points
 distance_over_one : (a b : Uv) → rotated_distance (scaled 1 a) b ≡ rotated_distance b a
 distance_over_one a b = rw (apart_over_one a.u b.u, apart_over_one a.v b.v) refl
-
--- no axis is further than the distance
-axis_within : (a b far : ℤ) (u v : ℤ) → apart a b ≡ u → int_max u v ≤ℤ far → apart a b ≤ℤ far
-axis_within a b far u v is within = omega (arith, ints, clamps)
 
 -- what is below one bound is below a greater one
 pub below_more : {small large : ℕ} {number : ℤ} → small ≤ large → IsBelow small number
@@ -101,23 +96,15 @@ pub region_below : (set : List Sink) (radius : ℤ) (at : Uv) (sink : Sink) → 
     → IsUvBelow (5 * 10 ^ 31) at
 region_below set radius at sink among placed below region =
     let near = rw (distance_over_one sink.at at, over_one sink.offset) at (region sink among) in
-    let u = axis_within at.u sink.at.u (radius -ℤ sink.offset) (apart at.u sink.at.u)
-    (apart at.v sink.at.v) refl near in
-    let v : apart at.v sink.at.v ≤ℤ (radius -ℤ sink.offset) = other_axis (apart at.u sink.at.u)
-    (apart at.v sink.at.v) (radius -ℤ sink.offset) near in
     record {
-      u = around at.u sink.at.u sink.offset radius placed.at_below.u placed.offset_below below u;
-      v = around at.v sink.at.v sink.offset radius placed.at_below.v placed.offset_below below v;
-    }
-  where
-    other_axis : (u v far : ℤ) → int_max u v ≤ℤ far → v ≤ℤ far
-    other_axis u v far within = omega (arith, ints, clamps)
-
-    around : (a b offset radius : ℤ) → IsBelow (10 ^ 31) b → IsBelow (10 ^ 31) offset
-        → IsBelow (2 * 10 ^ 31) radius → apart a b ≤ℤ (radius -ℤ offset) → IsBelow (5 * 10 ^ 31) a
-    around a b offset radius place small below near = record {
-      above = omega (arith, ints, clamps, place, small, below, near);
-      below = omega (arith, ints, clamps, place, small, below, near);
+      u = record {
+        above = omega (arith, ints, clamps, placed, below, near);
+        below = omega (arith, ints, clamps, placed, below, near);
+      };
+      v = record {
+        above = omega (arith, ints, clamps, placed, below, near);
+        below = omega (arith, ints, clamps, placed, below, near);
+      };
     }
 
 -- what is within the region of a set at a radius is so for a part of it

@@ -17,18 +17,10 @@ use Rattle.place_down.specs.declared.source.Top.{Top}
 
 -- ---- a sink's distance with its offset
 
--- two numbers that stay below a bound are less than twice that apart
-apart_below : (a b : ℤ) → IsBelow (10 ^ 31) a → IsBelow (10 ^ 31) b
-    → (pos 0 ≤ℤ apart a b) × (apart a b <ℤ pos (2 * 10 ^ 31))
-apart_below a b first second = (omega (arith, ints, clamps), omega (arith, ints, clamps))
-
--- and so are two points
+-- two points that stay below a bound are less than twice that apart
 pub distance_below : (a b : Uv) → IsUvBelow (10 ^ 31) a → IsUvBelow (10 ^ 31) b
     → (pos 0 ≤ℤ rotated_distance a b) × (rotated_distance a b <ℤ pos (2 * 10 ^ 31))
-distance_below a b first second =
-    let u = apart_below a.u b.u first.u second.u in
-    let v = apart_below a.v b.v first.v second.v in
-    (omega (arith, ints, clamps, u, v), omega (arith, ints, clamps, u, v))
+distance_below a b first second = (omega (arith, ints, clamps), omega (arith, ints, clamps))
 
 -- the greater of two multiples is one
 greater_multiple : (a b : ℤ) → IsMultipleOf 8 a → IsMultipleOf 8 b → IsMultipleOf 8 (int_max a b)
@@ -53,14 +45,14 @@ far_below sink source placed from =
 -- by a multiple of 8
 pub far_multiple : (sink : Sink) (source : Uv) → IsTreeSink sink → IsTreeSource source
     → IsMultipleOf 8 (sink.offset +ℤ rotated_distance source sink.at)
-far_multiple sink source placed from =
-    let way = greater_multiple (apart source.u sink.at.u) (apart source.v sink.at.v)
-    (apart_multiple source.u sink.at.u from.multiple.u placed.at_multiple.u)
-    (apart_multiple source.v sink.at.v from.multiple.v placed.at_multiple.v) in
-    sum_of sink.offset (rotated_distance source sink.at) placed.offset_multiple way
-  where
-    sum_of : (a b : ℤ) → IsMultipleOf 8 a → IsMultipleOf 8 b → IsMultipleOf 8 (a +ℤ b)
-    sum_of a b first second = omega (arith, ints)
+far_multiple sink source placed from = omega (
+  arith,
+  ints,
+  placed.offset_multiple,
+  greater_multiple (apart source.u sink.at.u) (apart source.v sink.at.v)
+      (apart_multiple source.u sink.at.u from.multiple.u placed.at_multiple.u)
+      (apart_multiple source.v sink.at.v from.multiple.v placed.at_multiple.v),
+)
 
 -- ---- one sink more
 

@@ -1,4 +1,4 @@
-use Rattle.std.proofs.Common.{◌≡◌, ◌+◌, ◌-◌, get_or, ◌∙◌, pos, inl, refl, length, sym, subst, arith}
+use Rattle.std.proofs.Common.{◌≡◌, ◌+◌, ◌-◌, get_or, ◌∙◌, pos, inl, refl, length, sym, subst, arith, rules}
 use Rattle.std.proofs.lemmas.Int.{ints, to_z-of_z}
 use Rattle.std.proofs.lemmas.Option.{slice_get-get_or}
 use Rattle.std.specs.Int.{w128}
@@ -49,16 +49,8 @@ find-found-requires t c =
     let here = merge_here merges (node - sinks)
     (omega (arith, c.if-place-sinks.false, c.requires.node)) in
     let low = joined_low sinks merges (node - sinks) _ _ c.requires.topology here
-    (order_joins _ c.in_order-next.result c.in_order-next.ensures).0 in (
-      omega (arith, low, c.if-place-sinks.false, c.decreases),
-      (
-        c.requires.sinks,
-        (
-          c.requires.topology,
-          (c.requires.kept, omega (arith, low, c.if-place-sinks.false, c.requires.node)),
-        ),
-      ),
-    )
+    (order_joins _ c.in_order-next.result c.in_order-next.ensures).0 in
+    search (rules, low, c.if-place-sinks.false, c.decreases, c.requires)
 
 pub returns-then-is_some-clause-found : goal.returns-then-is_some-clause-found
 returns-then-is_some-clause-found t c =
@@ -83,16 +75,8 @@ find-requires t c =
     let here = merge_here merges (node - sinks)
     (omega (arith, c.if-place-sinks.false, c.requires.node)) in
     let low = joined_low sinks merges (node - sinks) _ _ c.requires.topology here
-    (order_joins _ c.in_order-next.result c.in_order-next.ensures).1 in (
-      omega (arith, low, c.if-place-sinks.false, c.decreases),
-      (
-        c.requires.sinks,
-        (
-          c.requires.topology,
-          (c.requires.kept, omega (arith, low, c.if-place-sinks.false, c.requires.node)),
-        ),
-      ),
-    )
+    (order_joins _ c.in_order-next.result c.in_order-next.ensures).1 in
+    search (rules, low, c.if-place-sinks.false, c.decreases, c.requires)
 
 pub returns-clause-found : goal.returns-clause-found
 returns-clause-found t c =

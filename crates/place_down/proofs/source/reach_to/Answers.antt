@@ -1,40 +1,44 @@
-use Rattle.std.proofs.Common.{◌*◌, ◌^◌, ◌+ℤ◌, FitsSigned, ap, sym, subst, ◌∙◌, arith}
+use Rattle.std.proofs.Common.{◌≡◌, ◌+ℤ◌, FitsSigned, ap, ◌∙◌, arith}
 use Rattle.std.proofs.lemmas.Int.{ints, to_z-of_z}
 use Rattle.std.specs.Int.{w128}
-use Rattle.cts_model.specs.placement.Points.{IsBelow, IsMultipleOf, rotated, rotated_distance}
-use Rattle.tilted_rect.proofs.CodeNumbers.{kept, sum_read}
+use Rattle.cts_model.specs.placement.Points.{rotated, rotated_distance}
+use Rattle.tilted_rect.proofs.CodeNumbers.{sum_read}
 use Rattle.place_down.proofs.SourceLemmas.{far_below, far_multiple}
 use Rattle.place_down.proofs.source.reach_to.Goals as goal
+use Rattle.place_down.proofs.source.reach_to.Goals.{After-manhattan}
+
+-- how far the source is
+way_is : (c : After-manhattan)
+    → c.manhattan.result ≡ rotated_distance (rotated c.args.source) c.args.sink.at
+way_is c = c.manhattan.ensures.rotated
+    ∙ ap (rotated_distance (rotated c.args.source)) c.to_point.ensures.back
+
+-- both numbers and their sum are those that the code's numbers hold
+fits : (c : After-manhattan) → FitsSigned w128 c.args.sink.offset × FitsSigned w128 c.manhattan.result
+    × FitsSigned w128 (c.args.sink.offset +ℤ c.manhattan.result)
+fits c =
+    let far = far_below c.args.sink (rotated c.args.source) c.requires.sink c.requires.source in
+    let below = c.requires.sink.offset_below in (
+      omega (arith, ints, below),
+      omega (arith, ints, below, far, way_is c),
+      omega (arith, ints, far, way_is c),
+    )
 
 pub overflow_add-result : goal.overflow_add-result
 overflow_add-result c =
-    let offset = c.args.sink.offset in
-    let way = c.manhattan.result in
-    let far = far_below c.args.sink (rotated c.args.source) c.requires.sink c.requires.source in
-    let is = c.manhattan.ensures.rotated
-    ∙ ap (rotated_distance (rotated c.args.source)) c.to_point.ensures.back in
-    let below = c.requires.sink.offset_below in
-    subst (FitsSigned w128)
-    (sym (ap (λ z. z +ℤ kept way) (to_z-of_z w128 offset (omega (arith, ints, below)))
-    ∙ ap (λ z. offset +ℤ z) (to_z-of_z w128 way (omega (arith, ints, below, far, is)))))
-    (omega (arith, ints, far, is))
+    let (first, second, both) = fits (goal.at.overflow_add-result c).After-manhattan in
+    rw (to_z-of_z w128 c.args.sink.offset first, to_z-of_z w128 c.manhattan.result second) both
 
 pub returns-clause-value : goal.returns-clause-value
 returns-clause-value c =
-    let offset = c.args.sink.offset in
-    let way = c.manhattan.result in
-    let far = far_below c.args.sink (rotated c.args.source) c.requires.sink c.requires.source in
-    let is = c.manhattan.ensures.rotated
-    ∙ ap (rotated_distance (rotated c.args.source)) c.to_point.ensures.back in
-    let below = c.requires.sink.offset_below in
-    sum_read offset way (omega (arith, ints, below)) (omega (arith, ints, below, far, is))
-    (omega (arith, ints, far, is))
-    ∙ ap (λ z. offset +ℤ z) is
+    let (first, second, both) = fits (goal.at.returns-clause-value c).After-manhattan in
+    sum_read c.args.sink.offset c.manhattan.result first second both
+    ∙ ap (λ z. c.args.sink.offset +ℤ z) (way_is (goal.at.returns-clause-value c).After-manhattan)
 
 pub returns-clause-below : goal.returns-clause-below
-returns-clause-below c = subst (IsBelow (3 * 10 ^ 31)) (sym (returns-clause-value c))
+returns-clause-below c = rw (returns-clause-value c)
     (far_below c.args.sink (rotated c.args.source) c.requires.sink c.requires.source)
 
 pub returns-clause-multiple : goal.returns-clause-multiple
-returns-clause-multiple c = subst (IsMultipleOf 8) (sym (returns-clause-value c))
+returns-clause-multiple c = rw (returns-clause-value c)
     (far_multiple c.args.sink (rotated c.args.source) c.requires.sink c.requires.source)
