@@ -1,8 +1,8 @@
 -- The walk over the merges from a sink up to the root.
-use Rattle.std.proofs.Common.{◌≡◌, ◌⊎◌, inl, inr, ℕ, zero, suc, ◌+◌, ◌-◌, ◌^◌, ◌<◌, ◌≤◌, min, true, false, List, [], ◌∷◌, ◌++◌, length, take, get_or, Some, slice_get, refl, sym, ap, subst, ◌∙◌, arith}
+use Rattle.std.proofs.Common.{◌≡◌, inl, inr, ℕ, zero, suc, ◌+◌, ◌-◌, ◌^◌, ◌<◌, ◌≤◌, min, true, false, List, [], ◌∷◌, ◌++◌, length, take, get_or, Some, slice_get, refl, sym, ap, subst, ◌∙◌, arith}
 use Rattle.std.specs.Cmp.{nat_eq_equiv}
 use Rattle.std.specs.List.{Contains, count_by, range_with_len}
-use Rattle.std.proofs.lemmas.Bool.{cases_lt, eqb-true, false_from_ne_true}
+use Rattle.std.proofs.lemmas.Bool.{cases_eq, cases_lt, eqb-true, false_from_ne_true}
 use Rattle.std.proofs.lemmas.List.{get_or-take, length-take, take_all}
 use Rattle.std.proofs.lemmas.List.Elements.{Contains-append_cases, Contains-append_left, Contains-append_right}
 use Rattle.std.proofs.lemmas.List.FromFn.{get_or-range_with_len, length-range_with_len}
@@ -39,8 +39,7 @@ module _ (sinks : List Sink) (merges : List Merge) (register : ℕ) where
     pub room : work.room ≡ old.room
     pub of_sinks : HoldsSinks sinks work
     pub of_merges : (lower : ℕ) → lower < length merges
-        → (lower < place) ⊎ (Below (length sinks + lower) → ⊥)
-        → HoldsMerge sinks merges work lower
+        → (place ≤ lower → Below (length sinks + lower) → ⊥) → HoldsMerge sinks merges work lower
     pub below : Below node
     pub one : (other : ℕ) → IsLive (length sinks) (take place merges) other → Below other
         → other ≡ node
@@ -49,25 +48,21 @@ module _ (sinks : List Sink) (merges : List Merge) (register : ℕ) where
   -- it begins at the sink
   pub on_way_first : (work : WorkState) → register < length sinks → IsFit work
       → IsMergedBeside sinks merges register work → IsOnWay 0 register work work
-  on_way_first work within fit beside = record {
-    count = beside.count;
-    room = refl;
-    of_sinks = beside.of_sinks;
-    of_merges = λ lower made how. elim how [
-      | inl before ↦ absurd (omega (arith, before))
-      | inr apart ↦ beside.of_merges lower made apart
-    ];
-    below = subst (λ numbers. Contains numbers register)
-        (sym (numbers_below-sink (length sinks) merges register within)) (zero, omega arith, refl);
-    one = λ other live below.
-        let made : other < length sinks = omega (arith, live.made) in
-        sym (only_one other register (subst (λ numbers. Contains numbers register)
-        (numbers_below-sink (length sinks) merges other made) below));
-    renewals = omega (arith, fit.renewals, none_before);
-  }
-    where
-      none_before : above_before 0 ≡ 0
-      none_before = refl
+  on_way_first work within fit beside =
+      let none : above_before 0 ≡ 0 = refl in
+      record {
+        count = beside.count;
+        room = refl;
+        of_sinks = beside.of_sinks;
+        of_merges = λ lower made beyond. beside.of_merges lower made (beyond (omega arith));
+        below = rw (numbers_below-sink (length sinks) merges register within)
+            (zero, omega arith, refl);
+        one = λ other live below.
+            let made : other < length sinks = omega (arith, live.made) in
+            sym (only_one other register
+            (rw (numbers_below-sink (length sinks) merges other made) at below));
+        renewals = omega (arith, fit.renewals, none);
+      }
 
   -- past the last merge all is held
   pub way_merged : {node : ℕ} {old work : WorkState} → IsOnWay (length merges) node old work
@@ -75,18 +70,14 @@ module _ (sinks : List Sink) (merges : List Merge) (register : ℕ) where
   way_merged way = record {
     count = way.count;
     of_sinks = way.of_sinks;
-    of_merges = λ place made. way.of_merges place made (inl made);
+    of_merges = λ place made. way.of_merges place made (λ past. absurd (omega (arith, made, past)));
   }
 
   pub way_counted : {node : ℕ} {old work : WorkState} → IsOnWay (length merges) node old work
       → work.renewals
       ≡ min (old.renewals + merges_above (length sinks) merges register) (2 ^ 64 - 1)
-  way_counted {node} {old} {work} way =
-      let range = range_with_len 0 (length merges) in
-      subst (λ list. work.renewals ≡ min (old.renewals
-      + count_by (is_above (length sinks) merges register) list) (2 ^ 64 - 1))
-      (take_all (length merges) range (omega (arith, length-range_with_len 0 (length merges))))
-      way.renewals
+  way_counted way = rw (take_all (length merges) (range_with_len 0 (length merges))
+      (omega (arith, length-range_with_len 0 (length merges)))) at way.renewals
 
   module _ (topology : IsTopology (length sinks) merges) where
     module _ (place : ℕ) (within : place < length merges) where
@@ -104,14 +95,10 @@ module _ (sinks : List Sink) (merges : List Merge) (register : ℕ) where
       numbers_here =
           numbers_below-merge (length sinks) merges place (merge_at merges place) here joins
 
-      -- where it joins a node, that is one of the two
-      joined_here : (node : ℕ) → JoinsAt merges place node → Joins (merge_at merges place) node
-      joined_here node found = rw here at found
-
       -- it is above a sink where it joins the live node that has the sink below it
       above_joined : (node : ℕ) → Below node → JoinsAt merges place node
           → Below (length sinks + place)
-      above_joined node below found = rw numbers_here (elim (joined_here node found) [
+      above_joined node below found = rw numbers_here (elim (rw here at found) [
         | inl same ↦ Contains-append_left (numbers_below (length sinks) merges _)
             (numbers_below (length sinks) merges _) register (rw same below)
         | inr same ↦ Contains-append_right (numbers_below (length sinks) merges _)
@@ -174,23 +161,17 @@ module _ (sinks : List Sink) (merges : List Merge) (register : ℕ) where
           count = way.count;
           room = way.room;
           of_sinks = way.of_sinks;
-          of_merges = λ lower made how. elim how [
-            | inl before ↦ elim (cases_lt lower place) [
-              | inl earlier ↦ way.of_merges lower made (inl earlier)
-              | inr later ↦
-                  let same : place ≡ lower = omega (arith, before, later) in
-                  way.of_merges lower made (inr (λ below. not_above
-                  (subst (λ n. Below (length sinks + n)) (sym same) below)))
-            ]
-            | inr beside ↦ way.of_merges lower made (inr beside)
-          ];
+          of_merges = λ lower made beyond. way.of_merges lower made (λ past below.
+              elim (cases_eq lower place) [
+                | inl same ↦ not_above (rw same at below)
+                | inr other ↦ beyond (omega (arith, past, other)) below
+              ]);
           below = way.below;
           one = λ other live below. elim (cases_lt other (length sinks + place)) [
             | inl low ↦ way.one other (live_before other live low) below
             | inr high ↦ absurd (not_above (subst Below (made_last other live high) below))
           ];
-          renewals = subst (λ count. work.renewals ≡ min (old.renewals + count) (2 ^ 64 - 1))
-              (sym counted_as_before) way.renewals;
+          renewals = rw counted_as_before way.renewals;
         }
           where
             not_above : Below (length sinks + place) → ⊥
@@ -214,16 +195,13 @@ module _ (sinks : List Sink) (merges : List Merge) (register : ℕ) where
           count = ap (λ work. work.sinks) is.rest ∙ way.count;
           room = ap (λ work. work.room) is.rest ∙ way.room;
           of_sinks = sinks_renewed is way.of_sinks;
-          of_merges = λ lower made how. merges_renewed is lower (λ apart. way.of_merges lower made
-              (elim how [
-                | inl before ↦ inl (omega (arith, before, apart))
-                | inr beside ↦ inr beside
-              ]));
+          of_merges = λ lower made beyond. merges_renewed is lower
+              (λ apart. way.of_merges lower made (λ past. beyond (omega (arith, past, apart))));
           below = above_joined node way.below joined;
           one = λ other live below. elim (cases_lt other (length sinks + place)) [
             | inl low ↦ absurd (live_apart other live (subst (Joins (merge_at merges place))
                 (sym (way.one other (live_before other live low) below))
-                (joined_here node joined)))
+                (rw here at joined)))
             | inr high ↦ made_last other live high
           ];
           renewals = once work.renewals new.renewals (2 ^ 64 - 1)
@@ -251,7 +229,5 @@ module _ (sinks : List Sink) (merges : List Merge) (register : ℕ) where
         -- either way the walk goes on
         pub on_way_next : (new : WorkState) (next : ℕ)
             → IsStep sinks merges place node work new next → IsOnWay (place + 1) next old new
-        on_way_next new next (inl up) = subst (λ n. IsOnWay (place + 1) n old new) (sym up.up)
-            (renewed new up.joins up.renewed)
-        on_way_next new next (inr past) = subst (λ n. IsOnWay (place + 1) n old new) (sym past.same)
-            (subst (IsOnWay (place + 1) node old) (sym past.stays) (passed past.apart))
+        on_way_next new next (inl up) = rw up.up (renewed new up.joins up.renewed)
+        on_way_next new next (inr past) = rw (past.same, past.stays) (passed past.apart)

@@ -1,4 +1,4 @@
-use Rattle.std.proofs.Common.{◌≡◌, ◌+◌, ◌<◌, arith, inl, length, refl, subst}
+use Rattle.std.proofs.Common.{◌≡◌, ◌+◌, ◌<◌, arith, length, refl, subst}
 use Rattle.merge_up.proofs.WorkLemmas.{joined_held}
 use Rattle.move_session.proofs.StepsUp.{IsOnWay, on_way_first, on_way_next, way_counted}
 use Rattle.move_session.proofs.way_up.renew_above.Goals as goal
@@ -12,10 +12,10 @@ renew_joining-node-requires-clause-joined c =
     let sinks = c.args.sinks.now in
     let merges = c.args.topology.now.merges in
     let place = c.loop-place.place in
-    let within = c.loop-place-test.true in
     joined_held sinks merges place c.loop-place.work c.requires.topology
-    (λ lower before. c.loop-place.invariant.of_merges lower (omega (arith, before, within))
-    (inl before)) (length sinks + place) refl
+    (λ lower before. c.loop-place.invariant.of_merges lower
+    (omega (arith, before, c.loop-place-test.true)) (λ past. absurd (omega (arith, before, past))))
+    (length sinks + place) refl
 
 pub loop-place-preserved : goal.loop-place-preserved
 loop-place-preserved c =
