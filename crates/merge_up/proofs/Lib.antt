@@ -1,3 +1,3 @@
 mod EndLemmas
-mod SearchLemmas
+pub mod SearchLemmas
 pub mod WorkLemmas

@@ -6,7 +6,7 @@ use Rattle.cts_model.specs.declared.place.Sink.{Sink}
 use Rattle.cts_model.specs.declared.tree.Merge.{Merge}
 use Rattle.cts_model.specs.tree.Sinks.{AreTreeSinks, IsTreeSink}
 use Rattle.cts_model.specs.tree.Topologies.{IsTopology, Joins, numbers_below, sinks_below}
-use Rattle.cts_model.proofs.TopologyLemmas.{first_made, second_made, number_below, numbers_below-merge, numbers_below-sink, sinks_below-among}
+use Rattle.cts_model.proofs.TopologyLemmas.{first_made, merge_at, merge_here, second_made, number_below, numbers_below-merge, numbers_below-sink, sinks_below-among}
 use Rattle.tilted_rect.specs.Extremes.{Extremes, HasExtremeSides, IsExtremes, IsGreatest, IsLeastOf, IsRegion, u_above, u_below, v_above, v_below}
 use Rattle.tilted_rect.specs.declared.rect.Rect.{Rect}
 use Rattle.tilted_rect.proofs.CodeNumbers.{kept}
@@ -118,60 +118,6 @@ alone_so_far sinks merges side far register sink within here other is =
     only other (zero, within, is) = sym is
     only other (suc place, within, is) = absurd (omega (arith, within))
 
-module _ (sinks : List Sink) (merges : List Merge) (topology : IsTopology (length sinks) merges)
-    (place : ℕ) (merge : Merge) (here : slice_get merges place ≡ Some merge) (side : Side)
-    (far : ℤ) (register : ℕ) where
-  -- what a node's sinks are
-  abbrev below : ℕ → List ℕ
-  below node = numbers_below (length sinks) merges node
-
-  both : below (length sinks + place) ≡ below merge.first ++ below merge.second
-  both = numbers_below-merge (length sinks) merges place merge here
-      (topology.each place merge here)
-
-  -- what is found below one of the two nodes of a merge is found below the merge
-  pub so_far_above : (node : ℕ) → Joins merge node
-      → IsSoFar sinks (numbers_below (length sinks) merges node) side far register
-      → IsSoFar sinks (numbers_below (length sinks) merges (length sinks + place)) side far
-      register
-  so_far_above node (inl same) is = record {
-    among = rw both (Contains-append_left (below merge.first) (below merge.second) register
-        (rw same is.among));
-    attained = is.attained;
-  }
-  so_far_above node (inr same) is = record {
-    among = rw both (Contains-append_right (below merge.first) (below merge.second) register
-        (rw same is.among));
-    attained = is.attained;
-  }
-
-  -- and what is there is below one of the two
-  pub so_far_below : IsSoFar sinks (numbers_below (length sinks) merges (length sinks + place)) side
-      far register
-      → IsSoFar sinks (numbers_below (length sinks) merges merge.first) side far register
-      ⊎ IsSoFar sinks (numbers_below (length sinks) merges merge.second) side far register
-  so_far_below is = elim (Contains-append_cases (below merge.first) (below merge.second) register
-      (rw both at is.among)) [
-        | inl low ↦ inl (record { among = low; attained = is.attained })
-        | inr low ↦ inr (record { among = low; attained = is.attained })
-      ]
-
-  -- so what is below neither, whichever of the two comes first, is nowhere
-  pub below_neither : (order : ℕ × ℕ)
-      → (order ≡ (merge.first, merge.second)) ⊎ (order ≡ (merge.second, merge.first))
-      → (IsSoFar sinks (numbers_below (length sinks) merges order.0) side far register → ⊥)
-      → (IsSoFar sinks (numbers_below (length sinks) merges order.1) side far register → ⊥)
-      → IsSoFar sinks (numbers_below (length sinks) merges (length sinks + place)) side far register
-      → ⊥
-  below_neither order (inl same) none nor is = elim (so_far_below is) [
-    | inl first ↦ none (rw same first)
-    | inr second ↦ nor (rw same second)
-  ]
-  below_neither order (inr same) none nor is = elim (so_far_below is) [
-    | inl first ↦ nor (rw same first)
-    | inr second ↦ none (rw same second)
-  ]
-
 -- both nodes of a merge are joined, whichever comes first
 pub order_joins : (merge : Merge) (order : ℕ × ℕ)
     → (order ≡ (merge.first, merge.second)) ⊎ (order ≡ (merge.second, merge.first))
@@ -187,6 +133,87 @@ joined_low sinks merges place merge node topology here (inl same) =
     omega (arith, same, first_made sinks merges topology.each place merge here)
 joined_low sinks merges place merge node topology here (inr same) =
     omega (arith, same, second_made sinks merges topology.each place merge here)
+
+module _ (sinks : ℕ) (merges : List Merge) (topology : IsTopology sinks merges) (place : ℕ)
+    (within : place < length merges) (register : ℕ) where
+  -- the register is one of a node's sinks
+  abbrev Below : ℕ → Type 0
+  Below node = Contains (numbers_below sinks merges node) register
+
+  both : numbers_below sinks merges (sinks + place)
+      ≡ numbers_below sinks merges (merge_at merges place).first
+      ++ numbers_below sinks merges (merge_at merges place).second
+  both = numbers_below-merge sinks merges place (merge_at merges place)
+      (merge_here merges place within)
+      (topology.each place (merge_at merges place) (merge_here merges place within))
+
+  -- what is below one of the two nodes of a merge is below the merge
+  pub below_merge : (node : ℕ) → Joins (merge_at merges place) node → Below node
+      → Below (sinks + place)
+  below_merge node (inl same) is = rw both (Contains-append_left
+      (numbers_below sinks merges _) (numbers_below sinks merges _) register (rw same is))
+  below_merge node (inr same) is = rw both (Contains-append_right
+      (numbers_below sinks merges _) (numbers_below sinks merges _) register (rw same is))
+
+  -- and what is there is below one of the two
+  pub below_either : Below (sinks + place)
+      → Below (merge_at merges place).first ⊎ Below (merge_at merges place).second
+  below_either is = Contains-append_cases (numbers_below sinks merges (merge_at merges place).first)
+      (numbers_below sinks merges (merge_at merges place).second) register (rw both at is)
+
+module _ (sinks : List Sink) (merges : List Merge) (topology : IsTopology (length sinks) merges)
+    (node : ℕ) (high : length sinks ≤ node) (made : node < length sinks + length merges) where
+  -- the place of the merge that makes the node, and the merge
+  abbrev place : ℕ
+  place = node - length sinks
+
+  abbrev merge : Merge
+  merge = merge_at merges place
+
+  within : place < length merges
+  within = omega (arith, high, made)
+
+  at : length sinks + place ≡ node
+  at = omega (arith, high)
+
+  -- the two nodes that it joins are below it
+  pub lower_than : (lower : ℕ) → Joins merge lower → lower < node
+  lower_than lower joins = omega (
+    arith,
+    high,
+    joined_low (length sinks) merges place merge lower
+        topology (merge_here merges place within) joins,
+  )
+
+  module _ (side : Side) (far : ℤ) (register : ℕ) where
+    -- where a sink is that is so far
+    abbrev SoFar : ℕ → Type 0
+    SoFar node = IsSoFar sinks (numbers_below (length sinks) merges node) side far register
+
+    -- what is found below one of the two nodes is found below the merge
+    pub so_far_above : (lower : ℕ) → Joins merge lower → SoFar lower → SoFar node
+    so_far_above lower joins is = record {
+      among = rw at at (below_merge (length sinks) merges topology place within register lower joins
+          is.among);
+      attained = is.attained;
+    }
+
+    -- and what is found below neither, whichever of the two comes first, is nowhere
+    pub below_neither : (order : ℕ × ℕ)
+        → (order ≡ (merge.first, merge.second)) ⊎ (order ≡ (merge.second, merge.first))
+        → (SoFar order.0 → ⊥) → (SoFar order.1 → ⊥) → SoFar node → ⊥
+    below_neither order either none nor is = not either (elim (below_either (length sinks) merges
+        topology place within register (rw (← at) at is.among)) [
+          | inl low ↦ inl (record { among = low; attained = is.attained })
+          | inr low ↦ inr (record { among = low; attained = is.attained })
+        ])
+      where
+        not : (order ≡ (merge.first, merge.second)) ⊎ (order ≡ (merge.second, merge.first))
+            → SoFar merge.first ⊎ SoFar merge.second → ⊥
+        not (inl same) (inl first) = none (rw same first)
+        not (inl same) (inr second) = nor (rw same second)
+        not (inr same) (inl first) = nor (rw same first)
+        not (inr same) (inr second) = none (rw same second)
 
 -- what isn't wanting is there
 pub some_unless : (found : Option ℕ) → (IsNone found → ⊥) → IsSome found

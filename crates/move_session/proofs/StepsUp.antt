@@ -1,19 +1,19 @@
 -- The walk over the merges from a sink up to the root.
-use Rattle.std.proofs.Common.{◌≡◌, inl, inr, ℕ, zero, suc, ◌+◌, ◌-◌, ◌^◌, ◌<◌, ◌≤◌, min, true, false, List, [], ◌∷◌, ◌++◌, length, take, get_or, Some, slice_get, refl, sym, ap, subst, ◌∙◌, arith}
+use Rattle.std.proofs.Common.{◌≡◌, inl, inr, ℕ, zero, suc, ◌+◌, ◌-◌, ◌^◌, ◌<◌, ◌≤◌, min, true, false, List, [], ◌∷◌, length, take, get_or, Some, slice_get, refl, sym, ap, subst, ◌∙◌, arith}
 use Rattle.std.specs.Cmp.{nat_eq_equiv}
 use Rattle.std.specs.List.{Contains, count_by, range_with_len}
 use Rattle.std.proofs.lemmas.Bool.{cases_eq, cases_lt, eqb-true, false_from_ne_true}
 use Rattle.std.proofs.lemmas.List.{get_or-take, length-take, take_all}
-use Rattle.std.proofs.lemmas.List.Elements.{Contains-append_cases, Contains-append_left, Contains-append_right}
 use Rattle.std.proofs.lemmas.List.FromFn.{get_or-range_with_len, length-range_with_len}
 use Rattle.std.proofs.lemmas.List.Sums.{count_by_more_no, count_by_more_yes}
 use Rattle.std.proofs.lemmas.Map.Views.{Contains-from_any, list_any-from_Contains}
 use Rattle.cts_model.specs.declared.place.Sink.{Sink}
 use Rattle.cts_model.specs.declared.tree.Merge.{Merge}
 use Rattle.cts_model.specs.tree.Topologies.{IsLive, IsMerge, IsTopology, Joins, numbers_below}
-use Rattle.cts_model.proofs.TopologyLemmas.{merge_at, merge_here, numbers_below-merge, numbers_below-sink}
+use Rattle.cts_model.proofs.TopologyLemmas.{merge_at, merge_here, numbers_below-sink}
 use Rattle.merge_up.specs.Merging.{HoldsMerge, HoldsSinks, IsMerged, IsRenewed}
 use Rattle.merge_up.specs.Works.{IsFit, WorkState}
+use Rattle.merge_up.proofs.SearchLemmas.{below_either, below_merge}
 use Rattle.merge_up.proofs.WorkLemmas.{merges_renewed, sinks_renewed}
 use Rattle.move_session.specs.MergesAbove.{IsMergedBeside, IsStep, JoinsAt, is_above, merges_above}
 
@@ -88,30 +88,17 @@ module _ (sinks : List Sink) (merges : List Merge) (register : ℕ) where
       joins : IsMerge (length sinks) (take place merges) (merge_at merges place)
       joins = topology.each place (merge_at merges place) here
 
-      -- the sinks below it
-      numbers_here : numbers_below (length sinks) merges (length sinks + place)
-          ≡ numbers_below (length sinks) merges (merge_at merges place).first
-          ++ numbers_below (length sinks) merges (merge_at merges place).second
-      numbers_here =
-          numbers_below-merge (length sinks) merges place (merge_at merges place) here joins
-
       -- it is above a sink where it joins the live node that has the sink below it
       above_joined : (node : ℕ) → Below node → JoinsAt merges place node
           → Below (length sinks + place)
-      above_joined node below found = rw numbers_here (elim (rw here at found) [
-        | inl same ↦ Contains-append_left (numbers_below (length sinks) merges _)
-            (numbers_below (length sinks) merges _) register (rw same below)
-        | inr same ↦ Contains-append_right (numbers_below (length sinks) merges _)
-            (numbers_below (length sinks) merges _) register (rw same below)
-      ])
+      above_joined node below found = below_merge (length sinks) merges topology place within
+          register node (rw here at found) below
 
       -- and nowhere else
       joined_above : (node : ℕ) → ((other : ℕ) → IsLive (length sinks) (take place merges) other
           → Below other → other ≡ node) → Below (length sinks + place) → JoinsAt merges place node
-      joined_above node one below = rw here (elim (Contains-append_cases
-          (numbers_below (length sinks) merges (merge_at merges place).first)
-          (numbers_below (length sinks) merges (merge_at merges place).second) register
-          (rw numbers_here at below)) [
+      joined_above node one below = rw here (elim (below_either (length sinks) merges topology
+          place within register below) [
             | inl first ↦ inl (one (merge_at merges place).first joins.first first)
             | inr second ↦ inr (one (merge_at merges place).second joins.second second)
           ])

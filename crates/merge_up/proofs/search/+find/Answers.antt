@@ -1,12 +1,9 @@
-use Rattle.std.proofs.Common.{◌≡◌, ◌+◌, ◌-◌, get_or, ◌∙◌, pos, inl, refl, length, sym, subst, arith, rules}
+use Rattle.std.proofs.Common.{get_or, ◌∙◌, pos, inl, refl, sym, arith, rules}
 use Rattle.std.proofs.lemmas.Int.{ints, to_z-of_z}
 use Rattle.std.proofs.lemmas.Option.{slice_get-get_or}
 use Rattle.std.specs.Int.{w128}
 use Rattle.cts_model.specs.declared.place.Sink.{Sink}
-use Rattle.cts_model.specs.tree.Topologies.{numbers_below}
-use Rattle.cts_model.proofs.TopologyLemmas.{merge_here}
-use Rattle.merge_up.specs.Sides.{IsSoFar}
-use Rattle.merge_up.proofs.SearchLemmas.{alone_so_far, below_neither, if_found, joined_low, order_joins, so_far_above, so_far_alone}
+use Rattle.merge_up.proofs.SearchLemmas.{alone_so_far, below_neither, if_found, lower_than, order_joins, so_far_above, so_far_alone}
 use Rattle.merge_up.proofs.search.+find.Goals as goal
 
 abbrev no_sink : Sink
@@ -33,77 +30,45 @@ returns-else-far-clause-none t c = λ none register is.
 
 pub in_order-next-requires-clause-first : goal.in_order-next-requires-clause-first
 in_order-next-requires-clause-first t c =
-    let sinks = length c.args.sinks.now in
-    let merges = c.args.merges.now in
-    let node = c.args.node in
-    let here = merge_here merges (node - sinks)
-    (omega (arith, c.if-place-sinks.false, c.requires.node)) in
-    let low = joined_low sinks merges (node - sinks) _ _ c.requires.topology here (inl refl) in
-    omega (arith, low, c.if-place-sinks.false, c.requires.node, c.requires.kept)
+    let low = lower_than c.args.sinks.now c.args.merges.now c.requires.topology c.args.node
+    c.if-place-sinks.false c.requires.node _ (inl refl) in
+    omega (arith, low, c.requires.node, c.requires.kept)
 
 pub find-found-requires : goal.find-found-requires
 find-found-requires t c =
-    let sinks = length c.args.sinks.now in
-    let merges = c.args.merges.now in
-    let node = c.args.node in
-    let here = merge_here merges (node - sinks)
-    (omega (arith, c.if-place-sinks.false, c.requires.node)) in
-    let low = joined_low sinks merges (node - sinks) _ _ c.requires.topology here
+    let low = lower_than c.args.sinks.now c.args.merges.now c.requires.topology c.args.node
+    c.if-place-sinks.false c.requires.node c.in_order-next.result.0
     (order_joins _ c.in_order-next.result c.in_order-next.ensures).0 in
-    search (rules, low, c.if-place-sinks.false, c.decreases, c.requires)
+    search (rules, low, c.decreases, c.requires)
 
 pub returns-then-is_some-clause-found : goal.returns-then-is_some-clause-found
 returns-then-is_some-clause-found t c =
-    let sinks = c.args.sinks.now in
-    let merges = c.args.merges.now in
-    let place = c.args.node - length sinks in
-    let here = merge_here merges place (omega (arith, c.if-place-sinks.false, c.requires.node)) in
-    let at : length sinks + place ≡ c.args.node = omega (arith, c.if-place-sinks.false) in
-    if_found c.find-found.result (λ register is.
-    subst (λ node. IsSoFar sinks (numbers_below (length sinks) merges node) c.args.side c.args.far
-    register) at
-    (so_far_above sinks merges c.requires.topology place _ here c.args.side c.args.far register
-    c.in_order-next.result.0
-    (order_joins _ c.in_order-next.result c.in_order-next.ensures).0 is))
+    if_found c.find-found.result (λ register. so_far_above c.args.sinks.now c.args.merges.now
+    c.requires.topology c.args.node c.if-place-sinks.false c.requires.node c.args.side c.args.far
+    register c.in_order-next.result.0
+    (order_joins _ c.in_order-next.result c.in_order-next.ensures).0)
     (rw (to_z-of_z w128 c.args.far c.ranges.far) at c.find-found.ensures.found)
 
 pub find-requires : goal.find-requires
 find-requires t c =
-    let sinks = length c.args.sinks.now in
-    let merges = c.args.merges.now in
-    let node = c.args.node in
-    let here = merge_here merges (node - sinks)
-    (omega (arith, c.if-place-sinks.false, c.requires.node)) in
-    let low = joined_low sinks merges (node - sinks) _ _ c.requires.topology here
+    let low = lower_than c.args.sinks.now c.args.merges.now c.requires.topology c.args.node
+    c.if-place-sinks.false c.requires.node c.in_order-next.result.1
     (order_joins _ c.in_order-next.result c.in_order-next.ensures).1 in
-    search (rules, low, c.if-place-sinks.false, c.decreases, c.requires)
+    search (rules, low, c.decreases, c.requires)
 
 pub returns-clause-found : goal.returns-clause-found
 returns-clause-found t c =
-    let sinks = c.args.sinks.now in
-    let merges = c.args.merges.now in
-    let place = c.args.node - length sinks in
-    let here = merge_here merges place (omega (arith, c.if-place-sinks.false, c.requires.node)) in
-    let at : length sinks + place ≡ c.args.node = omega (arith, c.if-place-sinks.false) in
-    if_found c.find.result (λ register is.
-    subst (λ node. IsSoFar sinks (numbers_below (length sinks) merges node) c.args.side c.args.far
-    register) at
-    (so_far_above sinks merges c.requires.topology place _ here c.args.side c.args.far register
-    c.in_order-next.result.1
-    (order_joins _ c.in_order-next.result c.in_order-next.ensures).1 is))
+    if_found c.find.result (λ register. so_far_above c.args.sinks.now c.args.merges.now
+    c.requires.topology c.args.node c.if-place-sinks.false c.requires.node c.args.side c.args.far
+    register c.in_order-next.result.1
+    (order_joins _ c.in_order-next.result c.in_order-next.ensures).1)
     (rw (to_z-of_z w128 c.args.far c.ranges.far) at c.find.ensures.found)
 
 pub returns-clause-none : goal.returns-clause-none
-returns-clause-none t c = λ none register is.
-    let sinks = c.args.sinks.now in
-    let merges = c.args.merges.now in
-    let place = c.args.node - length sinks in
-    let here = merge_here merges place (omega (arith, c.if-place-sinks.false, c.requires.node)) in
-    let at : length sinks + place ≡ c.args.node = omega (arith, c.if-place-sinks.false) in
-    below_neither sinks merges c.requires.topology place _ here c.args.side c.args.far register
-    c.in_order-next.result c.in_order-next.ensures
+returns-clause-none t c = λ none register.
+    below_neither c.args.sinks.now c.args.merges.now c.requires.topology c.args.node
+    c.if-place-sinks.false c.requires.node c.args.side c.args.far register c.in_order-next.result
+    c.in_order-next.ensures
     (rw (to_z-of_z w128 c.args.far c.ranges.far) at (c.find-found.ensures.none
     (sym c.is_some.ensures ∙ c.if-is_some.false) register))
     (rw (to_z-of_z w128 c.args.far c.ranges.far) at (c.find.ensures.none none register))
-    (subst (λ node. IsSoFar sinks (numbers_below (length sinks) merges node) c.args.side c.args.far
-    register) (sym at) is)
