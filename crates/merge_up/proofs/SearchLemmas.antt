@@ -93,6 +93,11 @@ far_sink sides.LowV sink is = search (arith, ints, is)
 
 -- ---- the sinks of a node
 
+-- what a list of one item contains is that item
+pub only_one : (item other : ℕ) → Contains (item ∷ []) other → other ≡ item
+only_one item other (zero, within, same) = sym same
+only_one item other (suc place, within, same) = absurd (omega (arith, within))
+
 -- a sink alone is found where it is so far
 pub so_far_alone : (sinks : List Sink) (merges : List Merge) (side : Side) (far : ℤ)
     (register : ℕ) (sink : Sink) → register < length sinks
@@ -111,12 +116,7 @@ pub alone_so_far : (sinks : List Sink) (merges : List Merge) (side : Side) (far 
     → far_to side sink ≡ far
 alone_so_far sinks merges side far register sink within here other is =
     let among = rw (numbers_below-sink (length sinks) merges register within) at is.among in
-    let same = only other among in
-    rw (same, here) at is.attained
-  where
-    only : (other : ℕ) → Contains (register ∷ []) other → other ≡ register
-    only other (zero, within, is) = sym is
-    only other (suc place, within, is) = absurd (omega (arith, within))
+    rw (only_one register other among, here) at is.attained
 
 -- both nodes of a merge are joined, whichever comes first
 pub order_joins : (merge : Merge) (order : ℕ × ℕ)

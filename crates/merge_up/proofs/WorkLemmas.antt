@@ -164,16 +164,15 @@ begun_next sinks register sink old work new here begun is = record {
 -- by its furthest sinks and what they say
 pub renewed_by : (sinks : List Sink) (merges : List Merge) (place : ℕ) (old new : WorkState)
     (ends : Ends) (reach : ℤ) (region : Rect) (show : Show) → IsFit new
-    → length sinks + place < length old.tree.reach → length sinks + place < length old.regions
-    → place < length old.ends → place < length old.shows
+    → IsFit old → old.sinks ≡ length sinks → place + 1 < old.sinks
     → new ≡ renewed_as (length sinks) place reach region ends show old
     → AreEnds sinks (numbers_below (length sinks) merges (length sinks + place)) ends
     → reach +ℤ reach ≡ spread (extremes_of ends)
     → HasExtremeSides region (extremes_of ends) reach
     → ShowsMerge sinks (numbers_below (length sinks) merges (length sinks + place)) reach show
     → IsRenewed sinks merges place old new
-renewed_by sinks merges place old new ends reach region show fit reaches regions all_ends all_shows
-    is are twice sides shows =
+renewed_by sinks merges place old new ends reach region show fit was count low is are twice sides
+    shows =
     let node = length sinks + place in
     let numbers = numbers_below (length sinks) merges node in
     let set = filter_map (slice_get sinks) numbers in
@@ -185,11 +184,11 @@ renewed_by sinks merges place old new ends reach region show fit reaches regions
         region = region;
         show = show;
         reach_held = ap (λ work. slice_get work.tree.reach node) is
-            ∙ set_held old.tree.reach node reach reaches;
+            ∙ set_held old.tree.reach node reach (omega (arith, low, count, was));
         region_held = ap (λ work. slice_get work.regions node) is
-            ∙ set_held old.regions node region regions;
+            ∙ set_held old.regions node region (omega (arith, low, count, was));
         show_held = ap (λ work. slice_get work.shows place) is
-            ∙ set_held old.shows place show all_shows;
+            ∙ set_held old.shows place show (omega (arith, low, was));
         is_reach = subst (IsReach set) (sym twice) (spread_is_reach set (extremes_of ends) extremes);
         is_region = region_from_sides set (extremes_of ends) region reach extremes sides;
         shows = shows;
@@ -197,7 +196,7 @@ renewed_by sinks merges place old new ends reach region show fit reaches regions
       ends = ends;
       kept = subst (λ found. IsSomeAnd found (AreEnds sinks numbers))
           (sym (ap (λ work. slice_get work.ends place) is
-          ∙ set_held old.ends place ends all_ends)) are;
+          ∙ set_held old.ends place ends (omega (arith, low, was)))) are;
       rest = is;
     }
 

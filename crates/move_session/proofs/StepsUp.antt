@@ -1,5 +1,5 @@
 -- The walk over the merges from a sink up to the root.
-use Rattle.std.proofs.Common.{◌≡◌, inl, inr, ℕ, zero, suc, ◌+◌, ◌-◌, ◌^◌, ◌<◌, ◌≤◌, min, true, false, List, [], ◌∷◌, length, take, get_or, Some, slice_get, refl, sym, ap, subst, ◌∙◌, arith}
+use Rattle.std.proofs.Common.{◌≡◌, inl, inr, ℕ, zero, ◌+◌, ◌-◌, ◌^◌, ◌<◌, ◌≤◌, min, true, false, List, [], length, take, get_or, Some, slice_get, refl, sym, ap, subst, ◌∙◌, arith}
 use Rattle.std.specs.Cmp.{nat_eq_equiv}
 use Rattle.std.specs.List.{Contains, count_by, range_with_len}
 use Rattle.std.proofs.lemmas.Bool.{cases_eq, cases_lt, eqb-true, false_from_ne_true}
@@ -13,14 +13,9 @@ use Rattle.cts_model.specs.tree.Topologies.{IsLive, IsMerge, IsTopology, Joins, 
 use Rattle.cts_model.proofs.TopologyLemmas.{merge_at, merge_here, numbers_below-sink}
 use Rattle.merge_up.specs.Merging.{HoldsMerge, HoldsSinks, IsMerged, IsRenewed}
 use Rattle.merge_up.specs.Works.{IsFit, WorkState}
-use Rattle.merge_up.proofs.SearchLemmas.{below_either, below_merge}
+use Rattle.merge_up.proofs.SearchLemmas.{below_either, below_merge, only_one}
 use Rattle.merge_up.proofs.WorkLemmas.{merges_renewed, sinks_renewed}
 use Rattle.move_session.specs.MergesAbove.{IsMergedBeside, IsStep, JoinsAt, is_above, merges_above}
-
--- what a list of one item contains is that item
-only_one : (item other : ℕ) → Contains (item ∷ []) other → other ≡ item
-only_one item other (zero, within, same) = sym same
-only_one item other (suc place, within, same) = absurd (omega arith)
 
 module _ (sinks : List Sink) (merges : List Merge) (register : ℕ) where
   -- the sink is below the node

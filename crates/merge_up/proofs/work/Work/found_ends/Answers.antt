@@ -1,13 +1,11 @@
-use Rattle.std.proofs.Common.{length, sym, subst}
+use Rattle.std.proofs.Common.{length}
 use Rattle.std.proofs.lemmas.Option.{slice_get-get_or}
 use Rattle.cts_model.proofs.TopologyLemmas.{numbers_below-sink}
-use Rattle.merge_up.specs.Sides.{AreEnds}
 use Rattle.merge_up.proofs.work.Work.found_ends.Goals as goal
 
 pub returns-then-node-sinks : goal.returns-then-node-sinks
 returns-then-node-sinks c =
     let sinks = c.args.sinks.now in
-    subst (λ numbers. AreEnds sinks numbers c.of.result)
-    (sym (numbers_below-sink (length sinks) c.args.topology.now.merges c.args.node
-    c.if-node-sinks.true))
+    rw (numbers_below-sink (length sinks) c.args.topology.now.merges c.args.node
+    c.if-node-sinks.true)
     (c.of.ensures sinks (slice_get-get_or sinks c.args.node _ c.if-node-sinks.true))

@@ -26,7 +26,6 @@ pub returns : goal.returns
 returns c = λ sinks merges same are.
     let work = c.self.inside in
     let has = c.self.invariant in
-    let fit = fit_state work has in
     let place = c.args.place in
     let node = work.sinks + place in
     let ends = c.args.ends in
@@ -41,8 +40,7 @@ returns c = λ sinks merges same are.
     let regions = c.set-2.ensures ∙ ap (λ n. slice_set work.regions n c.region.result) at in
     rw (← c.self.view_is) (renewed_by sinks merges place (state_of work) _ ends found
     c.region.result c.show.result (fit_state _ (invariant_of-self c))
-    (omega (arith, at, low, fit)) (omega (arith, at, low, fit)) (omega (arith, low, fit))
-    (omega (arith, low, fit))
+    (fit_state work has) count low
     (λ i. record (state_of work) {
       room = (ap length c.set-4.ensures ∙ length-set work.shows place c.show.result) i;
       tree = record (cut work.sinks work.tree) { reach = reaches i };

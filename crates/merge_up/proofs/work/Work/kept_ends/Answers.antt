@@ -1,4 +1,4 @@
-use Rattle.std.proofs.Common.{◌≡◌, ◌+◌, ◌-◌, Some, ap, length, slice_get, sym, subst, ◌∙◌, arith}
+use Rattle.std.proofs.Common.{◌≡◌, ◌+◌, ◌-◌, Some, ap, length, slice_get, ◌∙◌, arith}
 use Rattle.std.proofs.lemmas.Option.{get_or_from_slice_get, slice_get-get_or}
 use Rattle.cts_model.specs.tree.Topologies.{numbers_below}
 use Rattle.cts_model.proofs.TopologyLemmas.{numbers_below-sink, some_and}
@@ -8,8 +8,7 @@ use Rattle.merge_up.proofs.work.Work.kept_ends.Goals as goal
 pub returns-then-node_place-sinks : goal.returns-then-node_place-sinks
 returns-then-node_place-sinks c = λ merges held.
     let sinks = c.args.sinks.now in
-    subst (λ numbers. AreEnds sinks numbers c.of.result)
-    (sym (numbers_below-sink (length sinks) merges c.args.node c.if-node_place-sinks.true))
+    rw (numbers_below-sink (length sinks) merges c.args.node c.if-node_place-sinks.true)
     (c.of.ensures sinks (slice_get-get_or sinks c.args.node _ c.if-node_place-sinks.true))
 
 pub returns-else-node_place-sinks : goal.returns-else-node_place-sinks
@@ -22,7 +21,8 @@ returns-else-node_place-sinks c = λ merges held.
     (AreEnds sinks (numbers_below (length sinks) merges (length sinks + place))) (held place at) in
     let here : slice_get c.self.inside.ends place ≡ Some ends =
     ap (λ work. slice_get work.ends place) c.self.view_is ∙ there in
-    let is : result ≡ ends = (rw c.as_slice.ensures at c.index-as_slice-node_place.is)
-    ∙ get_or_from_slice_get c.self.inside.ends place ends result here in
-    subst (λ ends. AreEnds sinks (numbers_below (length sinks) merges c.args.node) ends) (sym is)
-    (subst (λ node. AreEnds sinks (numbers_below (length sinks) merges node) ends) (sym at) are)
+    rw (
+      at,
+      rw c.as_slice.ensures at c.index-as_slice-node_place.is,
+      get_or_from_slice_get c.self.inside.ends place ends result here,
+    ) are
