@@ -127,8 +127,8 @@ pair_shows sinks numbers reach high low one other high_in low_in here there is =
     max_right_of a b less = omega arith
 
 -- two ends show what the sinks there span
-ends_show : {sinks : List Sink} {numbers : List ℕ} {far back : Sink → ℤ} {high low : End} (reach : ℤ)
-    → IsEnd sinks numbers far high → IsEnd sinks numbers back low
+ends_show : {sinks : List Sink} {numbers : List ℕ} {far back : Sink → ℤ} {high low : End}
+    (reach : ℤ) → IsEnd sinks numbers far high → IsEnd sinks numbers back low
     → ((one other : Sink) → Contains (filter_map (slice_get sinks) numbers) one
     → Contains (filter_map (slice_get sinks) numbers) other → far one ≡ high.far
     → back other ≡ low.far → reach +ℤ reach ≡ span one other)

@@ -8,7 +8,6 @@ use Rattle.std.proofs.lemmas.Option.{slice_get-get_or, slice_get_within}
 use Rattle.cts_model.specs.declared.place.Sink.{Sink}
 use Rattle.cts_model.specs.declared.tree.Merge.{Merge}
 use Rattle.cts_model.specs.declared.tree.Show.{Show}
-use Rattle.cts_model.specs.tree.Regions.{IsReach}
 use Rattle.cts_model.specs.tree.ShownReaches.{ShowsMerge}
 use Rattle.cts_model.specs.tree.Topologies.{IsTopology, Joins, numbers_below}
 use Rattle.cts_model.proofs.TopologyLemmas.{merge_at, merge_here, numbers_below-merge}
@@ -189,7 +188,7 @@ renewed_by sinks merges place old new ends reach region show fit was count low i
             ∙ set_held old.regions node region (omega (arith, low, count, was));
         show_held = ap (λ work. slice_get work.shows place) is
             ∙ set_held old.shows place show (omega (arith, low, was));
-        is_reach = subst (IsReach set) (sym twice) (spread_is_reach set (extremes_of ends) extremes);
+        is_reach = rw twice (spread_is_reach set (extremes_of ends) extremes);
         is_region = region_from_sides set (extremes_of ends) region reach extremes sides;
         shows = shows;
       };

@@ -91,10 +91,10 @@ module _ {node : ℕ} {at : Uv} {long : ℤ} {old new : WorkState}
   -- it stands there, its edge has that length, and it is settled
   placed_here : node < length old.tree.place → node < length old.tree.length
       → node < length old.settled → standing new node ≡ (placed.point, long, true)
-  placed_here in_places in_lengths in_settled = ap (λ work. standing work node) placed.rest ∙ (λ i. (
-    get_or-set_same old.tree.place node placed.point origin in_places i,
-    get_or-set_same old.tree.length node long (pos 0) in_lengths i,
-    get_or-set_same old.settled node true false in_settled i,
+  placed_here places lengths settled = ap (λ work. standing work node) placed.rest ∙ (λ i. (
+    get_or-set_same old.tree.place node placed.point origin places i,
+    get_or-set_same old.tree.length node long (pos 0) lengths i,
+    get_or-set_same old.settled node true false settled i,
   ))
 
   -- any other stands as it did

@@ -14,7 +14,8 @@ way_is c = c.manhattan.ensures.rotated
     ∙ ap (rotated_distance (rotated c.args.source)) c.to_point.ensures.back
 
 -- both numbers and their sum are those that the code's numbers hold
-fits : (c : After-manhattan) → FitsSigned w128 c.args.sink.offset × FitsSigned w128 c.manhattan.result
+fits : (c : After-manhattan) → FitsSigned w128 c.args.sink.offset
+    × FitsSigned w128 c.manhattan.result
     × FitsSigned w128 (c.args.sink.offset +ℤ c.manhattan.result)
 fits c =
     let far = far_below c.args.sink (rotated c.args.source) c.requires.sink c.requires.source in

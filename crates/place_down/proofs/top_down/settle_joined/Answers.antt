@@ -22,8 +22,8 @@ is_read : (c : After-to_uv-at) → IsReady c.requires.sinks c.requires.topology 
     (length c.args.sinks.now + c.args.place) (kept c.reach-reach.result) c.to_uv-at.result
 is_read c =
     let is = is_ready (goal.at.After-to_uv-at c).After-place in
-    rw (to_z-of_z w128 c.reach-reach.result (omega (arith, ints, is.small)), c.to_uv-at.ensures.value)
-    is
+    let reach = to_z-of_z w128 c.reach-reach.result (omega (arith, ints, is.small)) in
+    rw (reach, c.to_uv-at.ensures.value) is
 
 pub to_uv-at-requires : goal.to_uv-at-requires
 to_uv-at-requires c =
