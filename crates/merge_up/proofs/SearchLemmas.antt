@@ -140,6 +140,7 @@ module _ (sinks : ℕ) (merges : List Merge) (topology : IsTopology sinks merges
   abbrev Below : ℕ → Type 0
   Below node = Contains (numbers_below sinks merges node) register
 
+  -- a merge's sinks are those of both nodes
   both : numbers_below sinks merges (sinks + place)
       ≡ numbers_below sinks merges (merge_at merges place).first
       ++ numbers_below sinks merges (merge_at merges place).second
@@ -170,9 +171,11 @@ module _ (sinks : List Sink) (merges : List Merge) (topology : IsTopology (lengt
   abbrev merge : Merge
   merge = merge_at merges place
 
+  -- which is among the merges
   within : place < length merges
   within = omega (arith, high, made)
 
+  -- and makes the node
   at : length sinks + place ≡ node
   at = omega (arith, high)
 

@@ -81,6 +81,7 @@ module _ {sinks : List Sink} {merges : List Merge} (are : AreTreeSinks sinks)
     slice_get work.shows (length merges),
   )
 
+  -- once the source is placed, that is what was given
   first_source : at_source first ≡ (placed.point, true, top.reach, Some top.show)
   first_source =
       let source = source_of (length sinks) in
@@ -169,6 +170,7 @@ module _ {sinks : List Sink} {merges : List Merge} (are : AreTreeSinks sinks)
           let rest = ap at_source all_above.rest in
           (λ i. ((above i).0, (above i).2, (rest i).2, (rest i).3)) ∙ first_source
 
+      -- so the source stands where it did, with its reach and its show
       source_stands : rotated (point_of new (source_of (length sinks))) ≡ source
       source_stands = ap (λ at. rotated at.0) new_source ∙ placed.stands
 
@@ -178,6 +180,7 @@ module _ {sinks : List Sink} {merges : List Merge} (are : AreTreeSinks sinks)
       show_is : slice_get new.shows (length merges) ≡ Some top.show
       show_is = ap (λ at. at.3) new_source
 
+      -- and the root has its reach
       root_reach_is : reach_in new.tree (root_of (length sinks)) ≡ root
       root_reach_is = get_or_from_slice_get new.tree.reach (root_of (length sinks)) root (pos 0)
           (new_stays.reaches (root_of (length sinks)) (omega (arith, merged.count, are.some))

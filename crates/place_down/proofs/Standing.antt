@@ -175,6 +175,7 @@ module _ {sinks : List Sink} {merges : List Merge} (are : AreTreeSinks sinks)
       pub child_above : StaysAbove work new
       child_above = placed_above settled.placed (omega (arith, child_low child, is.merged.count))
 
+      -- the child isn't the node
       apart : parent ≢ node
       apart same = omega (arith, same, parent_above topology node parent child)
 
@@ -267,6 +268,7 @@ module _ {sinks : List Sink} {merges : List Merge} (are : AreTreeSinks sinks)
     child = made_parent (length sinks) merges place (merge_at merges place)
         (merge_here merges place within)
 
+    -- and below it
     low : (node : ℕ) → Joins (merge_at merges place) node → node < length sinks + place
     low node joins = parent_above topology node (length sinks + place) (child node joins)
 
