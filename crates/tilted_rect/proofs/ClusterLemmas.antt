@@ -1,12 +1,12 @@
 -- Clusters of sinks that trees are made over: how large their numbers are, and how two are joined.
-use Rattle.std.proofs.Common.{◌≡◌, ◌↔◌, ◌<ℤ◌, Option, Some, None, ◌*◌, ◌^◌, List, [], ◌∷◌, ◌++◌, ℤ, pos, ◌+ℤ◌, ◌-ℤ◌, ◌≤ℤ◌, refl, sym, subst, ap, ◌∙◌, arith}
+use Rattle.std.proofs.Common.{◌≡◌, ◌↔◌, ◌<ℤ◌, Option, Some, None, ◌*◌, ◌^◌, List, [], ◌∷◌, ◌++◌, ℤ, pos, ◌+ℤ◌, ◌-ℤ◌, ◌≤ℤ◌, refl, sym, subst, arith}
 use Rattle.std.specs.Option.{IsSome, IsNone, IfSome}
 use Rattle.std.specs.List.{Contains, All}
 use Rattle.std.proofs.lemmas.Int.{ints, clamps, to_z-of_z}
 use Rattle.std.proofs.lemmas.List.Elements.{All-contains, All-append, All-nil, All-cons}
 use Rattle.std.proofs.Math.Logic.{∥∥₁_elim, ∥∥₁_map, ∥∥₁_prop}
 use Rattle.std.proofs.Props.{props}
-use Rattle.std.specs.Int.{w128, int_max}
+use Rattle.std.specs.Int.{int_max}
 use Rattle.cts_model.specs.declared.place.Sink.{Sink}
 use Rattle.cts_model.specs.placement.Points.{IsBelow, IsMultipleOf}
 use Rattle.cts_model.specs.tree.Regions.{IsReach, IsUnion}
@@ -64,10 +64,7 @@ small_extremes sinks extremes each held = record {
 
 -- places and offsets of tree sinks are multiples of 8
 tree_multiples : (sinks : List Sink) → All IsTreeSink sinks → AreMultiplesOf 8 sinks
-tree_multiples sinks each = record {
-  places = λ sink among. (All-contains IsTreeSink sinks sink each among).at_multiple;
-  offsets = λ sink among. (All-contains IsTreeSink sinks sink each among).offset_multiple;
-}
+tree_multiples sinks each = search (arith, All-contains)
 
 spread_below : (twice a b c d : ℤ) → twice ≡ int_max (a -ℤ b) (c -ℤ d) → IsBelow (2 * 10 ^ 31) a
     → IsBelow (2 * 10 ^ 31) b → IsBelow (2 * 10 ^ 31) c → IsBelow (2 * 10 ^ 31) d
@@ -237,11 +234,7 @@ even_joining twice held = omega (arith, ints, held.multiple)
 -- twice the reach as the code has it
 pub reaches_summed : (a b cost : ℤ) → IsBelow (10 ^ 32) a → IsBelow (10 ^ 32) b
     → IsBelow (10 ^ 34) cost → kept (kept (kept a +ℤ kept b) +ℤ kept cost) ≡ a +ℤ b +ℤ cost
-reaches_summed a b cost one two three =
-    ap (λ z. kept (z +ℤ kept cost))
-    (sum_read a b (omega (arith, ints)) (omega (arith, ints)) (omega (arith, ints)))
-    ∙ ap (λ z. kept (a +ℤ b +ℤ z)) (to_z-of_z w128 cost (omega (arith, ints)))
-    ∙ to_z-of_z w128 (a +ℤ b +ℤ cost) (omega (arith, ints))
+reaches_summed a b cost one two three = search (arith, kept, sum_read, ints, to_z-of_z)
 
 pub even_twice : (self other : Cluster) (twice : ℤ) → IsJoinedTwice self other twice
     → IsMultipleOf 2 twice

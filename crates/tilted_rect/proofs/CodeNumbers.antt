@@ -20,11 +20,7 @@ two_read f r a b fits first second value = to_z-of_z w128 r fits ∙ value
 -- of a number clamped
 pub clamp_read : (r lo hi to : ℤ) → FitsSigned w128 r → FitsSigned w128 lo → FitsSigned w128 hi
     → FitsSigned w128 to → r ≡ clamped (kept lo) (kept hi) (kept to) → kept r ≡ clamped lo hi to
-clamp_read r lo hi to fits low high at value =
-    to_z-of_z w128 r fits ∙ value
-    ∙ ap (λ z. clamped z (kept hi) (kept to)) (to_z-of_z w128 lo low)
-    ∙ ap (λ z. clamped lo z (kept to)) (to_z-of_z w128 hi high)
-    ∙ ap (λ z. clamped lo hi z) (to_z-of_z w128 to at)
+clamp_read r lo hi to fits low high at value = search (arith, to_z-of_z)
 
 -- of how far two intervals are apart
 pub between_read : (r lo hi other_lo other_hi : ℤ) → FitsSigned w128 r → FitsSigned w128 lo
@@ -32,11 +28,7 @@ pub between_read : (r lo hi other_lo other_hi : ℤ) → FitsSigned w128 r → F
     → r ≡ between (kept lo) (kept hi) (kept other_lo) (kept other_hi)
     → kept r ≡ between lo hi other_lo other_hi
 between_read r lo hi other_lo other_hi fits low high other_low other_high value =
-    to_z-of_z w128 r fits ∙ value
-    ∙ ap (λ z. between z (kept hi) (kept other_lo) (kept other_hi)) (to_z-of_z w128 lo low)
-    ∙ ap (λ z. between lo z (kept other_lo) (kept other_hi)) (to_z-of_z w128 hi high)
-    ∙ ap (λ z. between lo hi z (kept other_hi)) (to_z-of_z w128 other_lo other_low)
-    ∙ ap (λ z. between lo hi other_lo z) (to_z-of_z w128 other_hi other_high)
+    search (arith, to_z-of_z)
 
 -- what is below the bound fits the code's numbers
 pub below_fits : (at : ℤ) → IsBelow bound at → FitsSigned w128 at

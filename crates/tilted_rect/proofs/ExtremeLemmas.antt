@@ -1,5 +1,5 @@
 -- The greatest and the least number over a set of sinks, and the four extremes.
-use Rattle.std.proofs.Common.{◌≡◌, List, [], ◌∷◌, ◌++◌, get_or, ℤ, ◌≤ℤ◌, ◌<ℤ◌, inl, inr, refl, subst, ◌∙◌, arith}
+use Rattle.std.proofs.Common.{◌≡◌, List, [], ◌∷◌, ◌++◌, ℤ, ◌≤ℤ◌, ◌<ℤ◌, inl, inr, refl, subst, ◌∙◌, arith}
 use Rattle.std.specs.List.{Contains}
 use Rattle.std.proofs.lemmas.Int.{ints, clamps, by_lt_z}
 use Rattle.std.proofs.lemmas.List.Elements.{Contains-append_left, Contains-append_right, Contains-append_cases}
@@ -12,20 +12,15 @@ use Rattle.tilted_rect.specs.Extremes.{IsGreatest, IsLeastOf, u_above, u_below, 
 
 -- one list after the other has the sinks of both
 pub append_is_union : (first second : List Sink) → IsUnion first second (first ++ second)
-append_is_union first second = record {
-  first_in = Contains-append_left first second;
-  second_in = Contains-append_right first second;
-  from_either = Contains-append_cases first second;
-}
+append_is_union first second =
+    search (arith, Contains-append_left, Contains-append_right, Contains-append_cases)
 
 -- a set of one sink
 pub contains_itself : (sink : Sink) → Contains (sink ∷ []) sink
 contains_itself sink = (0, omega arith, refl)
 
 pub contains_one : (sink other : Sink) → Contains (sink ∷ []) other → sink ≡ other
-contains_one sink other (k, below, is) =
-    let first : k ≡ 0 = omega arith in
-    subst (λ n. get_or (sink ∷ []) n other ≡ other) first is
+contains_one sink other (k, below, is) = search arith
 
 -- an empty set has no sink
 pub contains_none : (sink : Sink) → Contains [] sink → ⊥
@@ -134,16 +129,8 @@ extremes_one sink = record {
 pub extremes_union : (first second both : List Sink) (extremes others : Extremes)
     → IsUnion first second both → IsExtremes first extremes → IsExtremes second others
     → IsExtremes both (joined extremes others)
-extremes_union first second both extremes others union one other = record {
-  greatest_u = greatest_union u_above first second both extremes.greatest_u others.greatest_u union
-      one.greatest_u other.greatest_u;
-  least_u = least_union u_below first second both extremes.least_u others.least_u union one.least_u
-      other.least_u;
-  greatest_v = greatest_union v_above first second both extremes.greatest_v others.greatest_v union
-      one.greatest_v other.greatest_v;
-  least_v = least_union v_below first second both extremes.least_v others.least_v union one.least_v
-      other.least_v;
-}
+extremes_union first second both extremes others union one other =
+    search (arith, greatest_union, least_union)
 
 -- a set with at least one sink has extremes
 pub has_extremes : (sink : Sink) (more : List Sink)

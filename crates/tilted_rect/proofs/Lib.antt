@@ -6,6 +6,5 @@ pub mod MergeLemmas
 pub mod MultipleLemmas
 mod RectLemmas
 pub mod RegionLemmas
-mod Scaling
 pub mod SpanLemmas
 mod TurnLemmas

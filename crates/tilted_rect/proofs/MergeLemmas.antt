@@ -69,12 +69,7 @@ grown_high side grown least radius wide is grown_is = omega (arith, ints)
 grown_sides : (rect grown : Rect) (extremes : Extremes) (radius wide : ℤ)
     → HasExtremeSides rect extremes radius → IsGrown rect (wide -ℤ radius) grown
     → HasExtremeSides grown extremes wide
-grown_sides rect grown extremes radius wide sides grown_is = record {
-  ulo = grown_low rect.ulo grown.ulo extremes.greatest_u radius wide sides.ulo grown_is.ulo;
-  uhi = grown_high rect.uhi grown.uhi extremes.least_u radius wide sides.uhi grown_is.uhi;
-  vlo = grown_low rect.vlo grown.vlo extremes.greatest_v radius wide sides.vlo grown_is.vlo;
-  vhi = grown_high rect.vhi grown.vhi extremes.least_v radius wide sides.vhi grown_is.vhi;
-}
+grown_sides rect grown extremes radius wide sides grown_is = search (arith, grown_low, grown_high)
 
 -- the sides of where two regions of one radius meet
 meeting_low : (a b common greatest other wide : ℤ) → a ≡ greatest -ℤ wide → b ≡ other -ℤ wide
@@ -88,16 +83,8 @@ meeting_high a b common least other wide is other_is common_is = omega (arith, i
 meeting_sides : (rect other common : Rect) (extremes others : Extremes) (wide : ℤ)
     → HasExtremeSides rect extremes wide → HasExtremeSides other others wide
     → IsMeeting rect other common → HasExtremeSides common (joined extremes others) wide
-meeting_sides rect other common extremes others wide sides other_sides meeting = record {
-  ulo = meeting_low rect.ulo other.ulo common.ulo extremes.greatest_u others.greatest_u wide
-      sides.ulo other_sides.ulo meeting.ulo;
-  uhi = meeting_high rect.uhi other.uhi common.uhi extremes.least_u others.least_u wide sides.uhi
-      other_sides.uhi meeting.uhi;
-  vlo = meeting_low rect.vlo other.vlo common.vlo extremes.greatest_v others.greatest_v wide
-      sides.vlo other_sides.vlo meeting.vlo;
-  vhi = meeting_high rect.vhi other.vhi common.vhi extremes.least_v others.least_v wide sides.vhi
-      other_sides.vhi meeting.vhi;
-}
+meeting_sides rect other common extremes others wide sides other_sides meeting =
+    search (arith, meeting_low, meeting_high)
 
 -- the grown regions of two sets meet in the region of the union
 pub grown_regions_meet_in_region : (first second both : List Sink)
@@ -184,18 +171,7 @@ gap_is : (rect other : Rect) (extremes others : Extremes) (radius other_radius :
     → HasExtremeSides rect extremes radius → HasExtremeSides other others other_radius
     → gap_of rect other ≡ int_max (cross extremes others -ℤ (radius +ℤ other_radius)) (pos 0)
 gap_is rect other extremes others radius other_radius sides other_sides =
-    gap_join
-    (int_max (extremes.greatest_u -ℤ others.least_u) (others.greatest_u -ℤ extremes.least_u))
-    (int_max (extremes.greatest_v -ℤ others.least_v) (others.greatest_v -ℤ extremes.least_v))
-    (between rect.ulo rect.uhi other.ulo other.uhi)
-    (between rect.vlo rect.vhi other.vlo other.vhi)
-    (radius +ℤ other_radius)
-    (gap_axis extremes.greatest_u extremes.least_u others.greatest_u others.least_u rect.ulo
-    rect.uhi other.ulo other.uhi radius other_radius sides.ulo sides.uhi other_sides.ulo
-    other_sides.uhi)
-    (gap_axis extremes.greatest_v extremes.least_v others.greatest_v others.least_v rect.vlo
-    rect.vhi other.vlo other.vhi radius other_radius sides.vlo sides.vhi other_sides.vlo
-    other_sides.vhi)
+    search (arith, gap_join, gap_axis)
 
 -- the same, for what a caller knows of two regions
 regions_gap : (first second : List Sink) (rect other : Rect) (radius other_radius : ℤ)
@@ -203,10 +179,7 @@ regions_gap : (first second : List Sink) (rect other : Rect) (radius other_radiu
     → IsRegion rect first radius → IsRegion other second other_radius
     → gap_of rect other ≡ int_max (cross extremes others -ℤ (radius +ℤ other_radius)) (pos 0)
 regions_gap first second rect other radius other_radius extremes others held other_held region
-    other_region =
-    gap_is rect other extremes others radius other_radius
-    (sides_from_region first extremes rect radius held region)
-    (sides_from_region second others other other_radius other_held other_region)
+    other_region = search (arith, gap_is, sides_from_region)
 
 -- a number above another by the gap, where there is one
 above_by_gap : (across radii gap : ℤ) → gap ≡ int_max (across -ℤ radii) (pos 0) → pos 0 <ℤ gap

@@ -6,7 +6,7 @@ use Rattle.std.proofs.lemmas.Int.{ints}
 use Rattle.cts_model.specs.declared.place.Sink.{Sink}
 use Rattle.cts_model.specs.placement.Points.{IsMultipleOf, apart}
 use Rattle.cts_model.specs.tree.Regions.{span, IsGreatestSpan, IsReach}
-use Rattle.tilted_rect.specs.Extremes.{u_above, u_below, v_above, v_below, Extremes, IsExtremes, IsGreatest, IsLeastOf, AreMultiplesOf, AreSidesMultiples}
+use Rattle.tilted_rect.specs.Extremes.{Extremes, IsExtremes, AreMultiplesOf, AreSidesMultiples}
 use Rattle.tilted_rect.proofs.RectLemmas.{max_either}
 use Rattle.cts_model.proofs.PointLemmas.{halves}
 
@@ -75,29 +75,5 @@ reach_is_multiple sinks twice multiples reach =
 pub corners_are_multiples : (sinks : List Sink) (extremes : Extremes) (radius : ℤ)
     → AreMultiplesOf 8 sinks → IsExtremes sinks extremes → IsMultipleOf 4 radius
     → AreSidesMultiples extremes radius
-corners_are_multiples sinks extremes radius multiples held multiple = record {
-  ulo = less_than_eighths extremes.greatest_u radius
-      (greatest u_above
-      (λ sink among. sum_of_eighths sink.at.u sink.offset (multiples.places sink among).u
-      (multiples.offsets sink among)) extremes.greatest_u held.greatest_u) multiple;
-  uhi = more_than_eighths extremes.least_u radius
-      (least u_below
-      (λ sink among. difference_of_eighths sink.at.u sink.offset (multiples.places sink among).u
-      (multiples.offsets sink among)) extremes.least_u held.least_u) multiple;
-  vlo = less_than_eighths extremes.greatest_v radius
-      (greatest v_above
-      (λ sink among. sum_of_eighths sink.at.v sink.offset (multiples.places sink among).v
-      (multiples.offsets sink among)) extremes.greatest_v held.greatest_v) multiple;
-  vhi = more_than_eighths extremes.least_v radius
-      (least v_below
-      (λ sink among. difference_of_eighths sink.at.v sink.offset (multiples.places sink among).v
-      (multiples.offsets sink among)) extremes.least_v held.least_v) multiple;
-}
-  where
-    greatest : (of : Sink → ℤ) → ((sink : Sink) → Contains sinks sink → IsMultipleOf 8 (of sink))
-        → (number : ℤ) → IsGreatest of sinks number → IsMultipleOf 8 number
-    greatest of each number is = subst (IsMultipleOf 8) is.attained (each is.sink is.among)
-
-    least : (of : Sink → ℤ) → ((sink : Sink) → Contains sinks sink → IsMultipleOf 8 (of sink))
-        → (number : ℤ) → IsLeastOf of sinks number → IsMultipleOf 8 number
-    least of each number is = subst (IsMultipleOf 8) is.attained (each is.sink is.among)
+corners_are_multiples sinks extremes radius multiples held multiple =
+    search (arith, less_than_eighths, sum_of_eighths, more_than_eighths, difference_of_eighths)

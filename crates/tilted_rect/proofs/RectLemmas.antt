@@ -3,14 +3,13 @@ use Rattle.std.proofs.Common.{◌≡◌, ℕ, true, false, cond, int_lt, ℤ, po
 use Rattle.std.proofs.lemmas.Int.{ints}
 use Rattle.std.specs.Int.{int_max, int_min}
 use Rattle.cts_model.specs.declared.place.Uv.{Uv}
-use Rattle.cts_model.specs.placement.Points.{IsMultipleOf, apart, rotated_distance, scaled}
+use Rattle.cts_model.specs.placement.Points.{IsMultipleOf, apart, rotated_distance}
 use Rattle.tilted_rect.specs.declared.rect.Rect.{Rect}
 use Rattle.tilted_rect.specs.Corners.{IsSide, IsRect}
 use Rattle.tilted_rect.specs.Intervals.{between, clamped}
 use Rattle.tilted_rect.specs.Rects.{Holds, HoldBoth, IsNear, HasSides, CanGrowBy, gap_of, IsLeastDistance, clamped_into, IsNearest}
-use Rattle.tilted_rect.proofs.IntervalLemmas.{clamped_ge, clamped_le, clamped_near, near_ge, near_le, clamped_least, between_least, between_shown, between_above, between_none, max_le, le_max_left, le_max_right, max_mono, above_left, above_right, le_min, min_le_left, min_le_right}
+use Rattle.tilted_rect.proofs.IntervalLemmas.{clamped_ge, clamped_le, clamped_near, near_ge, near_le, clamped_least, between_least, between_shown, between_above, between_none, max_le, le_max_left, le_max_right, max_mono, above_left, above_right, le_min, min_le_left, min_le_right, scale-min, scale-clamped, scale-between}
 use Rattle.cts_model.proofs.ScaleLemmas.{scale_le, scale-sub, scale-add, scale-max, scale-apart}
-use Rattle.tilted_rect.proofs.Scaling.{scale-min, scale-clamped, scale-between}
 
 -- ---- points near a rectangle
 
@@ -32,10 +31,7 @@ axis_near : (scale : ℕ) (lo hi by low high at : ℤ) → lo ≤ℤ hi → pos 
     → high ≡ hi +ℤ by → (pos scale *ℤ low) ≤ℤ at → at ≤ℤ (pos scale *ℤ high)
     → apart (clamped (pos scale *ℤ lo) (pos scale *ℤ hi) at) at ≤ℤ (pos scale *ℤ by)
 axis_near scale lo hi by low high at ordered least low_is high_is above below =
-    clamped_near (pos scale *ℤ lo) (pos scale *ℤ hi)
-    (pos scale *ℤ by) at (scale_le scale lo hi ordered) (scale_least scale by least)
-    (subst (λ z. z ≤ℤ at) (grown_low scale lo by low low_is) above)
-    (subst (λ z. at ≤ℤ z) (grown_high scale hi by high high_is) below)
+    search (arith, clamped_near, scale_le, scale_least, grown_low, grown_high)
 
 -- a point of the grown rectangle is near one of the rectangle
 near_from_held : (rect grown : Rect) (by : ℤ) (scale : ℕ) (at : Uv) → pos 0 ≤ℤ by
@@ -46,19 +42,8 @@ near_from_held rect grown by scale at least sides held =
     let v = clamped (pos scale *ℤ rect.vlo) (pos scale *ℤ rect.vhi) at.v in
     record {
       from = record { u = u; v = v };
-      holds = record {
-        ulo = clamped_ge (pos scale *ℤ rect.ulo) (pos scale *ℤ rect.uhi) at.u;
-        uhi = clamped_le (pos scale *ℤ rect.ulo) (pos scale *ℤ rect.uhi) at.u
-            (scale_le scale rect.ulo rect.uhi rect.valid.u_ordered);
-        vlo = clamped_ge (pos scale *ℤ rect.vlo) (pos scale *ℤ rect.vhi) at.v;
-        vhi = clamped_le (pos scale *ℤ rect.vlo) (pos scale *ℤ rect.vhi) at.v
-            (scale_le scale rect.vlo rect.vhi rect.valid.v_ordered);
-      };
-      near = max_le (apart u at.u) (apart v at.v) (pos scale *ℤ by)
-          (axis_near scale rect.ulo rect.uhi by grown.ulo grown.uhi at.u rect.valid.u_ordered least
-          sides.ulo sides.uhi held.ulo held.uhi)
-          (axis_near scale rect.vlo rect.vhi by grown.vlo grown.vhi at.v rect.valid.v_ordered least
-          sides.vlo sides.vhi held.vlo held.vhi);
+      holds = search (arith, clamped_ge, u, clamped_le, scale_le, v);
+      near = search (arith, max_le, u, v, axis_near);
     }
 
 -- and the other way about
@@ -97,38 +82,19 @@ over_one a = omega (arith, ints)
 
 -- a point clamped into a rectangle is in it
 clamped_held : (rect : Rect) (at : Uv) → Holds rect 1 (clamped_into rect at)
-clamped_held rect at = record {
-  ulo = subst (λ z. z ≤ℤ clamped rect.ulo rect.uhi at.u) (sym (over_one rect.ulo))
-      (clamped_ge rect.ulo rect.uhi at.u);
-  uhi = subst (λ z. clamped rect.ulo rect.uhi at.u ≤ℤ z) (sym (over_one rect.uhi))
-      (clamped_le rect.ulo rect.uhi at.u rect.valid.u_ordered);
-  vlo = subst (λ z. z ≤ℤ clamped rect.vlo rect.vhi at.v) (sym (over_one rect.vlo))
-      (clamped_ge rect.vlo rect.vhi at.v);
-  vhi = subst (λ z. clamped rect.vlo rect.vhi at.v ≤ℤ z) (sym (over_one rect.vhi))
-      (clamped_le rect.vlo rect.vhi at.v rect.valid.v_ordered);
-}
+clamped_held rect at = search (arith, over_one, clamped_ge, clamped_le)
 
 -- on one axis, numbers of two intervals are no closer than the intervals
 axis_apart : (scale : ℕ) (lo hi other_lo other_hi from to : ℤ) → (pos scale *ℤ lo) ≤ℤ from
     → from ≤ℤ (pos scale *ℤ hi) → (pos scale *ℤ other_lo) ≤ℤ to → to ≤ℤ (pos scale *ℤ other_hi)
     → (pos scale *ℤ between lo hi other_lo other_hi) ≤ℤ apart from to
 axis_apart scale lo hi other_lo other_hi from to above below other_above other_below =
-    subst (λ z. z ≤ℤ apart from to) (sym (scale-between scale lo hi other_lo other_hi))
-    (between_least (pos scale *ℤ lo) (pos scale *ℤ hi) (pos scale *ℤ other_lo)
-    (pos scale *ℤ other_hi) from to above below other_above other_below)
+    search (arith, scale-between, between_least)
 
 -- points of two rectangles are no closer than the gap
 gap_least : (rect other : Rect) (scale : ℕ) (from to : Uv) → Holds rect scale from
     → Holds other scale to → (pos scale *ℤ gap_of rect other) ≤ℤ rotated_distance from to
-gap_least rect other scale from to held other_held =
-    let u = between rect.ulo rect.uhi other.ulo other.uhi in
-    let v = between rect.vlo rect.vhi other.vlo other.vhi in
-    subst (λ z. z ≤ℤ rotated_distance from to) (sym (scale-max scale u v))
-    (max_mono (pos scale *ℤ u) (pos scale *ℤ v) (apart from.u to.u) (apart from.v to.v)
-    (axis_apart scale rect.ulo rect.uhi other.ulo other.uhi from.u to.u held.ulo held.uhi
-    other_held.ulo other_held.uhi)
-    (axis_apart scale rect.vlo rect.vhi other.vlo other.vhi from.v to.v held.vlo held.vhi
-    other_held.vlo other_held.vhi))
+gap_least rect other scale from to held other_held = search (arith, scale-max, max_mono, axis_apart)
 
 -- the gap is the least distance of the two rectangles
 pub gap_is_least : (rect other : Rect) → IsLeastDistance rect other (gap_of rect other)
@@ -142,13 +108,7 @@ gap_is_least rect other =
       to = to;
       from_held = clamped_held rect corner;
       to_held = clamped_held other from;
-      shown =
-          ap (λ z. int_max z (apart from.v to.v))
-          (between_shown rect.ulo rect.uhi other.ulo other.uhi rect.valid.u_ordered
-          other.valid.u_ordered)
-          ∙ ap (λ z. int_max (between rect.ulo rect.uhi other.ulo other.uhi) z)
-          (between_shown rect.vlo rect.vhi other.vlo other.vhi rect.valid.v_ordered
-          other.valid.v_ordered);
+      shown = search (arith, from, to, between_shown);
     }
 
 -- ---- the nearest point
@@ -157,10 +117,7 @@ gap_is_least rect other =
 axis_nearest : (scale : ℕ) (lo hi to at : ℤ) → (pos scale *ℤ lo) ≤ℤ at → at ≤ℤ (pos scale *ℤ hi)
     → (pos scale *ℤ apart to (clamped lo hi to)) ≤ℤ apart (pos scale *ℤ to) at
 axis_nearest scale lo hi to at above below =
-    subst (λ z. z ≤ℤ apart (pos scale *ℤ to) at)
-    (sym (scale-apart scale to (clamped lo hi to)
-    ∙ ap (λ z. apart (pos scale *ℤ to) z) (scale-clamped scale lo hi to)))
-    (clamped_least (pos scale *ℤ lo) (pos scale *ℤ hi) (pos scale *ℤ to) at above below)
+    search (arith, scale-apart, scale-clamped, clamped_least)
 
 -- the clamped point is the nearest one
 pub clamped_nearest : (rect : Rect) (to : Uv) → IsNearest rect to (clamped_into rect to)
@@ -173,12 +130,7 @@ clamped_nearest rect to =
       holds = clamped_held rect to;
       u = in_u;
       v = in_v;
-      least = λ scale at held.
-          let u = apart to.u (clamped rect.ulo rect.uhi to.u) in
-          let v = apart to.v (clamped rect.vlo rect.vhi to.v) in
-          subst (λ z. z ≤ℤ rotated_distance (scaled scale to) at) (sym (scale-max scale u v))
-          (max_mono (pos scale *ℤ u) (pos scale *ℤ v) (apart (pos scale *ℤ to.u) at.u)
-          (apart (pos scale *ℤ to.v) at.v) (in_u scale at held) (in_v scale at held));
+      least = search (arith, scale-max, max_mono, in_u, in_v);
     }
 
 -- ---- the common points
@@ -206,18 +158,8 @@ both_from_common rect other common scale at sides held =
     let vhi =
     subst (λ z. at.v ≤ℤ z) (common_high scale rect.vhi other.vhi common.vhi sides.vhi) held.vhi in
     record {
-      first = record {
-        ulo = le_max_left (pos scale *ℤ rect.ulo) (pos scale *ℤ other.ulo) at.u ulo;
-        uhi = min_le_left (pos scale *ℤ rect.uhi) (pos scale *ℤ other.uhi) at.u uhi;
-        vlo = le_max_left (pos scale *ℤ rect.vlo) (pos scale *ℤ other.vlo) at.v vlo;
-        vhi = min_le_left (pos scale *ℤ rect.vhi) (pos scale *ℤ other.vhi) at.v vhi;
-      };
-      second = record {
-        ulo = le_max_right (pos scale *ℤ rect.ulo) (pos scale *ℤ other.ulo) at.u ulo;
-        uhi = min_le_right (pos scale *ℤ rect.uhi) (pos scale *ℤ other.uhi) at.u uhi;
-        vlo = le_max_right (pos scale *ℤ rect.vlo) (pos scale *ℤ other.vlo) at.v vlo;
-        vhi = min_le_right (pos scale *ℤ rect.vhi) (pos scale *ℤ other.vhi) at.v vhi;
-      };
+      first = search (arith, ulo, le_max_left, uhi, min_le_left, vlo, vhi);
+      second = search (arith, ulo, le_max_right, uhi, min_le_right, vlo, vhi);
     }
 
 common_from_both : (rect other common : Rect) (scale : ℕ) (at : Uv)
@@ -240,36 +182,21 @@ pub meet_points : (rect other common : Rect)
     → HasSides common (int_max rect.ulo other.ulo) (int_min rect.uhi other.uhi)
     (int_max rect.vlo other.vlo) (int_min rect.vhi other.vhi) → (scale : ℕ) (at : Uv)
     → Holds common scale at ↔ HoldBoth rect other scale at
-meet_points rect other common sides scale at = (
-  both_from_common rect other common scale at sides,
-  common_from_both rect other common scale at sides,
-)
+meet_points rect other common sides scale at = search (arith, both_from_common, common_from_both)
 
 -- rectangles without a common u, or without a common v, are apart
 pub gap_above_u : (rect other : Rect) → int_min rect.uhi other.uhi <ℤ int_max rect.ulo other.ulo
     → pos 0 <ℤ gap_of rect other
-gap_above_u rect other crossed =
-    above_left (between rect.ulo rect.uhi other.ulo other.uhi)
-    (between rect.vlo rect.vhi other.vlo other.vhi)
-    (between_above rect.ulo rect.uhi other.ulo other.uhi rect.valid.u_ordered other.valid.u_ordered
-    crossed)
+gap_above_u rect other crossed = search (arith, above_left, between_above)
 
 pub gap_above_v : (rect other : Rect) → int_min rect.vhi other.vhi <ℤ int_max rect.vlo other.vlo
     → pos 0 <ℤ gap_of rect other
-gap_above_v rect other crossed =
-    above_right (between rect.ulo rect.uhi other.ulo other.uhi)
-    (between rect.vlo rect.vhi other.vlo other.vhi)
-    (between_above rect.vlo rect.vhi other.vlo other.vhi rect.valid.v_ordered other.valid.v_ordered
-    crossed)
+gap_above_v rect other crossed = search (arith, above_right, between_above)
 
 -- others aren't
 pub gap_none : (rect other : Rect) → int_max rect.ulo other.ulo ≤ℤ int_min rect.uhi other.uhi
     → int_max rect.vlo other.vlo ≤ℤ int_min rect.vhi other.vhi → gap_of rect other ≤ℤ pos 0
-gap_none rect other common_u common_v =
-    max_le (between rect.ulo rect.uhi other.ulo other.uhi)
-    (between rect.vlo rect.vhi other.vlo other.vhi) (pos 0)
-    (between_none rect.ulo rect.uhi other.ulo other.uhi common_u)
-    (between_none rect.vlo rect.vhi other.vlo other.vhi common_v)
+gap_none rect other common_u common_v = search (arith, max_le, between_none)
 
 -- ---- the sides
 
@@ -285,10 +212,7 @@ min_either P a b first second =
 -- where four sides are those of a rectangle, so are their equals
 pub is_rect_along : (ulo uhi vlo vhi ulo' uhi' vlo' vhi' : ℤ) → ulo' ≡ ulo → uhi' ≡ uhi → vlo' ≡ vlo
     → vhi' ≡ vhi → IsRect ulo uhi vlo vhi → IsRect ulo' uhi' vlo' vhi'
-is_rect_along ulo uhi vlo vhi ulo' uhi' vlo' vhi' a b c d valid =
-    subst (λ z. IsRect z uhi' vlo' vhi') (sym a)
-    (subst (λ z. IsRect ulo z vlo' vhi') (sym b)
-    (subst (λ z. IsRect ulo uhi z vhi') (sym c) (subst (λ z. IsRect ulo uhi vlo z) (sym d) valid)))
+is_rect_along ulo uhi vlo vhi ulo' uhi' vlo' vhi' a b c d valid = search arith
 
 grown_ordered : (lo hi by : ℤ) → lo ≤ℤ hi → pos 0 ≤ℤ by → (lo -ℤ by) ≤ℤ (hi +ℤ by)
 grown_ordered lo hi by ordered least = omega (arith, ints)
@@ -303,26 +227,8 @@ sum_multiple a b first second = omega (arith, ints)
 -- the sides of a grown rectangle
 pub grown_valid : (rect : Rect) (by : ℤ) → pos 0 ≤ℤ by → IsMultipleOf 4 by → CanGrowBy rect by
     → IsRect (rect.ulo -ℤ by) (rect.uhi +ℤ by) (rect.vlo -ℤ by) (rect.vhi +ℤ by)
-grown_valid rect by least multiple room = record {
-  u_ordered = grown_ordered rect.ulo rect.uhi by rect.valid.u_ordered least;
-  v_ordered = grown_ordered rect.vlo rect.vhi by rect.valid.v_ordered least;
-  least_u = record {
-    below = room.ulo;
-    multiple = difference_multiple rect.ulo by rect.valid.least_u.multiple multiple;
-  };
-  greatest_u = record {
-    below = room.uhi;
-    multiple = sum_multiple rect.uhi by rect.valid.greatest_u.multiple multiple;
-  };
-  least_v = record {
-    below = room.vlo;
-    multiple = difference_multiple rect.vlo by rect.valid.least_v.multiple multiple;
-  };
-  greatest_v = record {
-    below = room.vhi;
-    multiple = sum_multiple rect.vhi by rect.valid.greatest_v.multiple multiple;
-  };
-}
+grown_valid rect by least multiple room =
+    search (arith, grown_ordered, difference_multiple, sum_multiple)
 
 -- the sides of a common rectangle
 pub meet_valid : (rect other : Rect) → int_max rect.ulo other.ulo ≤ℤ int_min rect.uhi other.uhi

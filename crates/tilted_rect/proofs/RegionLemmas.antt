@@ -3,7 +3,6 @@ use Rattle.std.proofs.Common.{◌≡◌, ℕ, List, [], ◌∷◌, ℤ, pos, ◌
 use Rattle.std.specs.List.{Contains}
 use Rattle.std.proofs.lemmas.Int.{ints, clamps}
 use Rattle.std.proofs.lemmas.List.Elements.{Contains-append_right}
-use Rattle.std.specs.Int.{int_max}
 use Rattle.cts_model.specs.declared.place.Sink.{Sink}
 use Rattle.cts_model.specs.declared.place.Uv.{Uv}
 use Rattle.cts_model.specs.placement.Points.{apart, scaled, rotated_distance}
@@ -92,55 +91,32 @@ between_from_region : (sinks : List Sink) (extremes : Extremes) (scale : ℕ) (r
     (point : Uv) → IsExtremes sinks extremes → InRegion sinks scale radius point
     → IsBetween extremes scale radius point
 between_from_region sinks extremes scale radius point held region = record {
-  ulo =
-      let sink = held.greatest_u.sink in
-      scaled_low scale sink.at.u sink.offset point.u radius extremes.greatest_u
-      held.greatest_u.attained (near_u sink held.greatest_u.among);
-  uhi =
-      let sink = held.least_u.sink in
-      scaled_high scale sink.at.u sink.offset point.u radius extremes.least_u held.least_u.attained
-      (near_u sink held.least_u.among);
-  vlo =
-      let sink = held.greatest_v.sink in
-      scaled_low scale sink.at.v sink.offset point.v radius extremes.greatest_v
-      held.greatest_v.attained (near_v sink held.greatest_v.among);
-  vhi =
-      let sink = held.least_v.sink in
-      scaled_high scale sink.at.v sink.offset point.v radius extremes.least_v held.least_v.attained
-      (near_v sink held.least_v.among);
+  ulo = search (arith, scaled_low, near_u);
+  uhi = search (arith, scaled_high, near_u);
+  vlo = search (arith, scaled_low, near_v);
+  vhi = search (arith, scaled_high, near_v);
 }
   where
     near_u : (sink : Sink) → Contains sinks sink
         → apart (pos scale *ℤ sink.at.u) point.u ≤ℤ (radius -ℤ pos scale *ℤ sink.offset)
-    near_u sink among = le_max_left (apart (pos scale *ℤ sink.at.u) point.u)
-        (apart (pos scale *ℤ sink.at.v) point.v) (radius -ℤ pos scale *ℤ sink.offset)
-        (region sink among)
+    near_u sink among = search (arith, le_max_left)
 
     near_v : (sink : Sink) → Contains sinks sink
         → apart (pos scale *ℤ sink.at.v) point.v ≤ℤ (radius -ℤ pos scale *ℤ sink.offset)
-    near_v sink among = le_max_right (apart (pos scale *ℤ sink.at.u) point.u)
-        (apart (pos scale *ℤ sink.at.v) point.v) (radius -ℤ pos scale *ℤ sink.offset)
-        (region sink among)
+    near_v sink among = search (arith, le_max_right)
 
 region_from_between : (sinks : List Sink) (extremes : Extremes) (scale : ℕ) (radius : ℤ)
     (point : Uv) → IsExtremes sinks extremes → IsBetween extremes scale radius point
     → InRegion sinks scale radius point
 region_from_between sinks extremes scale radius point held between sink among =
-    max_le (apart (pos scale *ℤ sink.at.u) point.u) (apart (pos scale *ℤ sink.at.v) point.v)
-    (radius -ℤ pos scale *ℤ sink.offset)
-    (scaled_near scale sink.at.u sink.offset point.u radius extremes.greatest_u extremes.least_u
-    (held.greatest_u.most sink among) (held.least_u.least sink among) between.ulo between.uhi)
-    (scaled_near scale sink.at.v sink.offset point.v radius extremes.greatest_v extremes.least_v
-    (held.greatest_v.most sink among) (held.least_v.least sink among) between.vlo between.vhi)
+    search (arith, max_le, scaled_near)
 
 -- the points of a region are those between the extremes
 pub region_is_between : (sinks : List Sink) (extremes : Extremes) (scale : ℕ) (radius : ℤ)
     (point : Uv) → IsExtremes sinks extremes
     → InRegion sinks scale radius point ↔ IsBetween extremes scale radius point
-region_is_between sinks extremes scale radius point held = (
-  between_from_region sinks extremes scale radius point held,
-  region_from_between sinks extremes scale radius point held,
-)
+region_is_between sinks extremes scale radius point held =
+    search (arith, between_from_region, region_from_between)
 
 -- ---- the rectangle of a region
 
@@ -158,28 +134,7 @@ side_high scale side least radius is = ap (λ z. pos scale *ℤ z) is ∙ scale-
 held_is_between : (rect : Rect) (extremes : Extremes) (scale : ℕ) (radius : ℤ) (point : Uv)
     → HasExtremeSides rect extremes radius
     → Holds rect scale point ↔ IsBetween extremes scale (pos scale *ℤ radius) point
-held_is_between rect extremes scale radius point sides = (
-  λ held. record {
-    ulo = subst (λ z. z ≤ℤ point.u)
-        (side_low scale rect.ulo extremes.greatest_u radius sides.ulo) held.ulo;
-    uhi = subst (λ z. point.u ≤ℤ z)
-        (side_high scale rect.uhi extremes.least_u radius sides.uhi) held.uhi;
-    vlo = subst (λ z. z ≤ℤ point.v)
-        (side_low scale rect.vlo extremes.greatest_v radius sides.vlo) held.vlo;
-    vhi = subst (λ z. point.v ≤ℤ z)
-        (side_high scale rect.vhi extremes.least_v radius sides.vhi) held.vhi;
-  },
-  λ between. record {
-    ulo = subst (λ z. z ≤ℤ point.u)
-        (sym (side_low scale rect.ulo extremes.greatest_u radius sides.ulo)) between.ulo;
-    uhi = subst (λ z. point.u ≤ℤ z)
-        (sym (side_high scale rect.uhi extremes.least_u radius sides.uhi)) between.uhi;
-    vlo = subst (λ z. z ≤ℤ point.v)
-        (sym (side_low scale rect.vlo extremes.greatest_v radius sides.vlo)) between.vlo;
-    vhi = subst (λ z. point.v ≤ℤ z)
-        (sym (side_high scale rect.vhi extremes.least_v radius sides.vhi)) between.vhi;
-  },
-)
+held_is_between rect extremes scale radius point sides = search (arith, side_low, side_high)
 
 pub region_from_sides : (sinks : List Sink) (extremes : Extremes) (rect : Rect) (radius : ℤ)
     → IsExtremes sinks extremes → HasExtremeSides rect extremes radius → IsRegion rect sinks radius
@@ -193,20 +148,10 @@ region_from_sides sinks extremes rect radius held sides scale point =
 
 -- a corner of the rectangle is in it
 low_corner : (rect : Rect) → Holds rect 1 (record { u = rect.ulo; v = rect.vlo })
-low_corner rect = record {
-  ulo = subst (λ z. z ≤ℤ rect.ulo) (sym (over_one rect.ulo)) (omega (arith, ints));
-  uhi = subst (λ z. rect.ulo ≤ℤ z) (sym (over_one rect.uhi)) rect.valid.u_ordered;
-  vlo = subst (λ z. z ≤ℤ rect.vlo) (sym (over_one rect.vlo)) (omega (arith, ints));
-  vhi = subst (λ z. rect.vlo ≤ℤ z) (sym (over_one rect.vhi)) rect.valid.v_ordered;
-}
+low_corner rect = search (arith, over_one, ints)
 
 high_corner : (rect : Rect) → Holds rect 1 (record { u = rect.uhi; v = rect.vhi })
-high_corner rect = record {
-  ulo = subst (λ z. z ≤ℤ rect.uhi) (sym (over_one rect.ulo)) rect.valid.u_ordered;
-  uhi = subst (λ z. rect.uhi ≤ℤ z) (sym (over_one rect.uhi)) (omega (arith, ints));
-  vlo = subst (λ z. z ≤ℤ rect.vhi) (sym (over_one rect.vlo)) rect.valid.v_ordered;
-  vhi = subst (λ z. rect.vhi ≤ℤ z) (sym (over_one rect.vhi)) (omega (arith, ints));
-}
+high_corner rect = search (arith, over_one, ints)
 
 pub sides_from_region : (sinks : List Sink) (extremes : Extremes) (rect : Rect) (radius : ℤ)
     → IsExtremes sinks extremes → IsRegion rect sinks radius → HasExtremeSides rect extremes radius
@@ -250,10 +195,8 @@ sides_from_region sinks extremes rect radius held region =
 -- the rectangle of a region is the one between the extremes
 pub region_has_extreme_sides : (sinks : List Sink) (extremes : Extremes) (rect : Rect) (radius : ℤ)
     → IsExtremes sinks extremes → IsRegion rect sinks radius ↔ HasExtremeSides rect extremes radius
-region_has_extreme_sides sinks extremes rect radius held = (
-  sides_from_region sinks extremes rect radius held,
-  region_from_sides sinks extremes rect radius held,
-)
+region_has_extreme_sides sinks extremes rect radius held =
+    search (arith, sides_from_region, region_from_sides)
 
 -- ---- the region at a greater radius
 
@@ -295,19 +238,8 @@ near_from_between rect extremes radius wide scale point sides more between =
     let v = clamped (pos scale *ℤ rect.vlo) (pos scale *ℤ rect.vhi) point.v in
     record {
       from = record { u = u; v = v };
-      holds = record {
-        ulo = clamped_ge (pos scale *ℤ rect.ulo) (pos scale *ℤ rect.uhi) point.u;
-        uhi = clamped_le (pos scale *ℤ rect.ulo) (pos scale *ℤ rect.uhi) point.u
-            (scale_le scale rect.ulo rect.uhi rect.valid.u_ordered);
-        vlo = clamped_ge (pos scale *ℤ rect.vlo) (pos scale *ℤ rect.vhi) point.v;
-        vhi = clamped_le (pos scale *ℤ rect.vlo) (pos scale *ℤ rect.vhi) point.v
-            (scale_le scale rect.vlo rect.vhi rect.valid.v_ordered);
-      };
-      near = max_le (apart u point.u) (apart v point.v) (pos scale *ℤ (wide -ℤ radius))
-          (near_axis scale rect.ulo rect.uhi extremes.greatest_u extremes.least_u radius wide
-          point.u rect.valid.u_ordered more sides.ulo sides.uhi between.ulo between.uhi)
-          (near_axis scale rect.vlo rect.vhi extremes.greatest_v extremes.least_v radius wide
-          point.v rect.valid.v_ordered more sides.vlo sides.vhi between.vlo between.vhi);
+      holds = search (arith, clamped_ge, u, clamped_le, scale_le, v);
+      near = search (arith, max_le, u, v, near_axis);
     }
 
 -- a point near one of the region is in the region at the greater radius
@@ -354,16 +286,7 @@ wider_region_is_near sinks rect radius wide scale point region more =
 scale-span : (scale : ℕ) (one other : Sink)
     → pos scale *ℤ span one other ≡ pos scale *ℤ one.offset +ℤ pos scale *ℤ other.offset
     +ℤ rotated_distance (scaled scale one.at) (scaled scale other.at)
-scale-span scale one other =
-    let across = rotated_distance one.at other.at in
-    scale-add scale (one.offset +ℤ other.offset) across
-    ∙ ap (λ z. z +ℤ pos scale *ℤ across) (scale-add scale one.offset other.offset)
-    ∙ ap (λ z. pos scale *ℤ one.offset +ℤ pos scale *ℤ other.offset +ℤ z)
-    (scale-max scale (apart one.at.u other.at.u) (apart one.at.v other.at.v)
-    ∙ ap (λ z. int_max z (pos scale *ℤ apart one.at.v other.at.v))
-    (scale-apart scale one.at.u other.at.u)
-    ∙ ap (λ z. int_max (apart (pos scale *ℤ one.at.u) (pos scale *ℤ other.at.u)) z)
-    (scale-apart scale one.at.v other.at.v))
+scale-span scale one other = search (arith, scale-add, scale-max, scale-apart)
 
 -- lengths from a point to two sinks, each with its offset at most the radius
 both_within : (a b radius across : ℤ) → across ≤ℤ ((radius -ℤ a) +ℤ (radius -ℤ b))
@@ -373,13 +296,7 @@ both_within a b radius across within = omega (arith, ints)
 distance_within : (from to point : Uv) (a b : ℤ) → rotated_distance from point ≤ℤ a
     → rotated_distance to point ≤ℤ b → rotated_distance from to ≤ℤ (a +ℤ b)
 distance_within from to point a b near far =
-    max_le (apart from.u to.u) (apart from.v to.v) (a +ℤ b)
-    (near_both from.u to.u point.u a b
-    (le_max_left (apart from.u point.u) (apart from.v point.v) a near)
-    (le_max_left (apart to.u point.u) (apart to.v point.v) b far))
-    (near_both from.v to.v point.v a b
-    (le_max_right (apart from.u point.u) (apart from.v point.v) a near)
-    (le_max_right (apart to.u point.u) (apart to.v point.v) b far))
+    search (arith, max_le, near_both, le_max_left, le_max_right)
 
 -- a point that is near two sinks shows that their span is no more than twice the radius
 pub span_within : (sinks : List Sink) (scale : ℕ) (radius : ℤ) (point : Uv) (one other : Sink)

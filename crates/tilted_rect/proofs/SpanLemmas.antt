@@ -43,12 +43,7 @@ difference_le x y greatest least above below = omega (arith, ints)
 le_greatest : (a b c d : ℤ)
     → (a ≤ℤ int_max (int_max a b) (int_max c d)) × (b ≤ℤ int_max (int_max a b) (int_max c d))
     × (c ≤ℤ int_max (int_max a b) (int_max c d)) × (d ≤ℤ int_max (int_max a b) (int_max c d))
-le_greatest a b c d = (
-  omega (arith, ints, clamps),
-  omega (arith, ints, clamps),
-  omega (arith, ints, clamps),
-  omega (arith, ints, clamps),
-)
+le_greatest a b c d = search (arith, ints, clamps)
 
 -- a difference of two numbers that are known by equations
 as_far : (x y greatest least far : ℤ) → x ≡ greatest → y ≡ least → (x -ℤ y) ≤ℤ far
@@ -118,13 +113,7 @@ has_cross first second extremes others held other_held =
       other = other;
       one_among = held.greatest_u.among;
       other_among = other_held.least_u.among;
-      far = omega (
-        arith,
-        ints,
-        span_ge_right one.offset other.offset one.at.u other.at.u one.at.v other.at.v,
-        held.greatest_u.attained,
-        other_held.least_u.attained,
-      );
+      far = search (arith, ints, span_ge_right, one, other);
     })
     (let one = held.least_u.sink in
     let other = other_held.greatest_u.sink in
@@ -133,13 +122,7 @@ has_cross first second extremes others held other_held =
       other = other;
       one_among = held.least_u.among;
       other_among = other_held.greatest_u.among;
-      far = omega (
-        arith,
-        ints,
-        span_ge_left one.offset other.offset one.at.u other.at.u one.at.v other.at.v,
-        held.least_u.attained,
-        other_held.greatest_u.attained,
-      );
+      far = search (arith, ints, span_ge_left, one, other);
     }))
     (max_either (HasSpan first second) (extremes.greatest_v -ℤ others.least_v)
     (others.greatest_v -ℤ extremes.least_v) (let one = held.greatest_v.sink in
@@ -149,13 +132,7 @@ has_cross first second extremes others held other_held =
       other = other;
       one_among = held.greatest_v.among;
       other_among = other_held.least_v.among;
-      far = omega (
-        arith,
-        ints,
-        span_ge_up one.offset other.offset one.at.u other.at.u one.at.v other.at.v,
-        held.greatest_v.attained,
-        other_held.least_v.attained,
-      );
+      far = search (arith, ints, span_ge_up, one, other);
     })
     (let one = held.least_v.sink in
     let other = other_held.greatest_v.sink in
@@ -164,13 +141,7 @@ has_cross first second extremes others held other_held =
       other = other;
       one_among = held.least_v.among;
       other_among = other_held.greatest_v.among;
-      far = omega (
-        arith,
-        ints,
-        span_ge_down one.offset other.offset one.at.u other.at.u one.at.v other.at.v,
-        held.least_v.attained,
-        other_held.greatest_v.attained,
-      );
+      far = search (arith, ints, span_ge_down, one, other);
     }))
 
 -- numbers of which neither is above the other are the same
@@ -196,9 +167,7 @@ pub cross_is_greatest : (first second : List Sink) (extremes others : Extremes)
     → IsExtremes first extremes → IsExtremes second others
     → IsGreatestSpan first second (cross extremes others)
 cross_is_greatest first second extremes others held other_held =
-    greatest_from_span first second (cross extremes others)
-    (span_le_cross first second extremes others held other_held)
-    (has_cross first second extremes others held other_held)
+    search (arith, greatest_from_span, span_le_cross, has_cross)
 
 -- two sets have one greatest span
 pub one_greatest_span : (first second : List Sink) (greatest other : ℤ)
