@@ -91,15 +91,7 @@ abbrev pub broken_pairs : Live → List Pair → ℕ
 broken_pairs live kept = sum_by (broken live) kept
 
 pair_whole : (live : Live) (pair : Pair) → IsPair live pair → has_pair live pair ≡ true
-pair_whole live pair is = rw (
-  lt-ltb pair.first pair.second is.ordered,
-  is.first,
-  is.second,
-  is.cost,
-) (same (cost_of is.one is.other))
-  where
-    same : (z : ℤ) → int_eq z z ≡ true
-    same z = (Decides-int_eq z z).1 refl
+pair_whole live pair is = search (arith, lt-ltb, Decides-int_eq)
 
 pair_broken : (live : Live) (pair : Pair) → ¬ IsPair live pair → has_pair live pair ≡ false
 pair_broken live pair none = at (has_pair live pair) refl

@@ -56,21 +56,8 @@ sink_added sinks register sink old new cluster here alone held added = record {
 -- all sinks are live before the first merge
 pub sinks_live : (sinks : List Sink) (register : ℕ) (live : Live) → register ≡ length sinks
     → AreFirstSinks sinks register live → AreLive sinks [] live
-sinks_live sinks register live all held = record {
-  ordered = held.ordered;
-  count = held.count ∙ all ∙ sym (add-zero (length sinks));
-  clusters = held.clusters;
-  unjoined = λ node. (
-    λ is. record {
-      made =
-          let (cluster, has) = unjoined_there live node is in
-          omega (arith, node_within live node cluster has, held.count, all);
-      unjoined = All-nil (λ (merge : Merge). (merge.first ≢ node) × (merge.second ≢ node));
-    },
-    λ is. held.unjoined node (omega (arith, is.made, all)),
-  );
-  left = omega (arith, held.left, all);
-}
+sinks_live sinks register live all held =
+    search (arith, add-zero, unjoined_there, node_within, All-nil)
 
 -- ---- two clusters are merged
 
@@ -189,10 +176,7 @@ module _ {sinks : List Sink} {merges : List Merge} {old new : Live} {pair : Pair
 
   still : (node : ℕ) → IsUnjoined old node → node ≢ pair.first → node ≢ pair.second
       → IsUnjoined new node
-  still node was first second =
-      let (cluster, has) = unjoined_there old node was in
-      subst IsSome (sym (joined.others node first second
-      (λ is. omega (arith, is, node_within old node cluster has)))) was
+  still node was first second = search (arith, unjoined_there, node_within)
 
   module _ (is_pair : IsPair old pair) where
     -- a pair that is there after the merge was there, or has the node made

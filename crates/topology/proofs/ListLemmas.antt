@@ -1,5 +1,5 @@
 -- Items of lists that grow at the end, or where one is set.
-use Rattle.std.proofs.Common.{◌≡◌, ◌≢◌, ◌⊎◌, ℕ, zero, suc, ◌<◌, List, [], ◌∷◌, ◌++◌, length, set, Some, inl, inr, refl, sym, ap, ◌∙◌, arith}
+use Rattle.std.proofs.Common.{◌≡◌, ◌≢◌, ◌⊎◌, ℕ, zero, suc, ◌<◌, List, [], ◌∷◌, ◌++◌, length, set, Some, refl, ap, arith}
 use Rattle.std.specs.List.{slice_get}
 use Rattle.std.proofs.lemmas.Bool.{cases_eq}
 use Rattle.std.proofs.lemmas.Option.{slice_get_within}
@@ -22,19 +22,8 @@ module _ {A : Type 0} where
   pub pushed_cases : (xs : List A) (last : A) (k : ℕ) (x : A)
       → slice_get (xs ++ last ∷ []) k ≡ Some x
       → ((k < length xs) × (slice_get xs k ≡ Some x)) ⊎ ((k ≡ length xs) × (last ≡ x))
-  pushed_cases xs last k x here = elim (cases_eq k (length xs)) [
-    | inl is ↦ inr (
-      is,
-      same_item last x (sym (pushed_last xs last)
-          ∙ ap (slice_get (xs ++ last ∷ [])) (sym is) ∙ here),
-    )
-    | inr differs ↦
-        let was = sym (pushed_other xs last k differs) ∙ here in
-        inl (slice_get_within xs k x was, was)
-  ]
-    where
-      same_item : (a b : A) → Some a ≡ Some b → a ≡ b
-      same_item a b is = cc
+  pushed_cases xs last k x here =
+      search (arith, cases_eq, pushed_last, pushed_other, slice_get_within)
 
   -- where one is set, the others stay
   pub set_other : (xs : List A) (i : ℕ) (y : A) (k : ℕ) → k ≢ i

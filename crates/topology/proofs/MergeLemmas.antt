@@ -1,5 +1,5 @@
 -- Each merge of the cheapest pair keeps the clusters and the merges so far right.
-use Rattle.std.proofs.Common.{◌≡◌, ◌⊎◌, ℕ, ◌<◌, ◌≤◌, ◌+◌, List, length, ℤ, ◌+ℤ◌, ◌-ℤ◌, ◌≤ℤ◌, inl, inr, refl, sym, ap, subst, ◌∙◌, arith}
+use Rattle.std.proofs.Common.{◌≡◌, ◌⊎◌, ℕ, ◌<◌, ◌≤◌, ◌+◌, List, length, ℤ, ◌+ℤ◌, ◌-ℤ◌, ◌≤ℤ◌, inl, inr, refl, sym, ap, subst, arith}
 use Rattle.std.proofs.lemmas.Bool.{cases_lt}
 use Rattle.std.proofs.lemmas.Int.{ints, by_lt_z}
 use Rattle.cts_model.specs.declared.place.Sink.{Sink}
@@ -34,20 +34,7 @@ after_or_same cost merge other_cost other not_before =
 
     at : cost ≡ other_cost → ((other.first ≡ merge.first) × (other.second ≡ merge.second))
         ⊎ IsCheaper cost merge other_cost other
-    at same = elim (cases_lt merge.first other.first) [
-      | inl first ↦ inr (inr (same, inl first))
-      | inr from ↦ elim (cases_lt other.first merge.first) [
-        | inl before ↦ absurd (not_before (inr (sym same, inl before)))
-        | inr to ↦ elim (cases_lt merge.second other.second) [
-          | inl second ↦ inr (inr (same, inr (omega (arith, from, to), second)))
-          | inr second_from ↦ elim (cases_lt other.second merge.second) [
-            | inl before ↦ absurd
-                (not_before (inr (sym same, inr (omega (arith, from, to), before))))
-            | inr second_to ↦ inl (omega (arith, from, to), omega (arith, second_from, second_to))
-          ]
-        ]
-      ]
-    ]
+    at same = search (arith, cases_lt)
 
 -- twice the cost of merging two clusters, by their sinks
 double_cost : (sinks : List Sink) (merges : List Merge) (merge : Merge) (one other : Cluster)
@@ -172,13 +159,7 @@ pair_there sinks merges live held two =
     -- the two stand at places of their own
     apart : (one other : Cluster) → HasCluster live (node_at live 0) one
         → HasCluster live (node_at live 1) other → node_at live 0 ≡ node_at live 1 → ⊥
-    apart one other has other_has same =
-        let low = low_is live 0 one held.ordered (omega (arith, two, held.left)) has in
-        let other_low = low_is live 1 one held.ordered (omega (arith, two, held.left))
-        (subst (λ n. HasCluster live n one) same has) in
-        let numbered = held.ordered.numbered 0 1 (omega arith) (omega (arith, two, held.left))
-        (low ∙ sym other_low) in
-        omega (arith, numbered, same)
+    apart one other has other_has same = search (arith, low_is)
 
     pair_of : (node other_node : ℕ) (one other : Cluster) → node < other_node
         → HasCluster live node one → HasCluster live other_node other

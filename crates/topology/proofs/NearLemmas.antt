@@ -1,5 +1,5 @@
 -- A search for the cheapest pair that a node keeps.
-use Rattle.std.proofs.Common.{◌≡◌, ◌↔◌, ◌⊎◌, ℕ, ◌<◌, ◌≤◌, Bool, true, false, cond, Option, Some, None, length, ℤ, pos, ◌-ℤ◌, ◌≤ℤ◌, ◌<ℤ◌, inl, inr, refl, sym, ap, subst, ◌∙◌, ◌^◌, FitsSigned, arith}
+use Rattle.std.proofs.Common.{◌≡◌, ◌↔◌, ◌⊎◌, ℕ, ◌<◌, ◌≤◌, cond, Option, Some, None, length, ℤ, pos, ◌-ℤ◌, ◌≤ℤ◌, ◌<ℤ◌, inl, inr, refl, sym, ap, subst, ◌∙◌, ◌^◌, FitsSigned, arith}
 use Rattle.std.specs.Int.{int_max, w128}
 use Rattle.std.specs.Bool.{nat_lt}
 use Rattle.std.specs.Option.{IsSomeAnd}
@@ -59,17 +59,12 @@ same_le a = omega (arith, ints)
 -- a cost is no less than the gap, nor than the gap on an axis
 gap_most : (one other : Cluster) (a : ℤ) → a ≤ℤ gap_of one.region other.region
     → a ≤ℤ cost_of one other
-gap_most one other a is =
-    at_left a (int_max (gap_of one.region other.region) (one.reach -ℤ other.reach))
-    (other.reach -ℤ one.reach)
-    (at_left a (gap_of one.region other.region) (one.reach -ℤ other.reach) is)
+gap_most one other a is = search (arith, at_left)
 
 u_most : (one other : Cluster) (a : ℤ)
     → a ≤ℤ between one.region.ulo one.region.uhi other.region.ulo other.region.uhi
     → a ≤ℤ cost_of one other
-u_most one other a is = gap_most one other a (at_left a
-    (between one.region.ulo one.region.uhi other.region.ulo other.region.uhi)
-    (between one.region.vlo one.region.vhi other.region.vlo other.region.vhi) is)
+u_most one other a is = search (arith, gap_most, at_left)
 
 v_most : (one other : Cluster) (a : ℤ)
     → a ≤ℤ between one.region.vlo one.region.vhi other.region.vlo other.region.vhi
@@ -97,9 +92,7 @@ up_within U one other = u_most one other (other.region.ulo -ℤ one.region.uhi)
     (up_between one.region.ulo one.region.uhi other.region.ulo other.region.uhi)
 up_within V one other = v_most one other (other.region.vlo -ℤ one.region.vhi)
     (up_between one.region.vlo one.region.vhi other.region.vlo other.region.vhi)
-up_within Reach one other = at_right (other.reach -ℤ one.reach)
-    (int_max (gap_of one.region other.region) (one.reach -ℤ other.reach))
-    (other.reach -ℤ one.reach) (same_le (other.reach -ℤ one.reach))
+up_within Reach one other = search (arith, at_right, same_le)
 
 down_within : (axis : Axis) (one other : Cluster)
     → (low_on axis one -ℤ high_on axis other) ≤ℤ cost_of one other
@@ -107,11 +100,7 @@ down_within U one other = u_most one other (one.region.ulo -ℤ other.region.uhi
     (down_between one.region.ulo one.region.uhi other.region.ulo other.region.uhi)
 down_within V one other = v_most one other (one.region.vlo -ℤ other.region.vhi)
     (down_between one.region.vlo one.region.vhi other.region.vlo other.region.vhi)
-down_within Reach one other = at_left (one.reach -ℤ other.reach)
-    (int_max (gap_of one.region other.region) (one.reach -ℤ other.reach))
-    (other.reach -ℤ one.reach) (at_right (one.reach -ℤ other.reach)
-    (gap_of one.region other.region) (one.reach -ℤ other.reach)
-    (same_le (one.reach -ℤ other.reach)))
+down_within Reach one other = search (arith, at_left, at_right, same_le)
 
 pub cost_least : (one other : Cluster) → pos 0 ≤ℤ cost_of one other
 cost_least one other = u_most one other (pos 0)
@@ -141,13 +130,7 @@ cost_turned one other =
 pub sides : (early : ℕ) (pair : Pair) (owner node : ℕ) → owner_of early pair ≡ owner
     → other_of early pair ≡ node
     → ((pair.first ≡ owner) × (pair.second ≡ node)) ⊎ ((pair.first ≡ node) × (pair.second ≡ owner))
-sides early pair owner node = at (nat_lt pair.second early)
-  where
-    at : (b : Bool) → cond b pair.first pair.second ≡ owner → cond b pair.second pair.first ≡ node
-        → ((pair.first ≡ owner) × (pair.second ≡ node))
-        ⊎ ((pair.first ≡ node) × (pair.second ≡ owner))
-    at true is other_is = inl (is, other_is)
-    at false is other_is = inr (other_is, is)
+sides early pair owner node = search arith
 
 -- no merge joins the other
 pub other_has : (live : Live) (owner : ℕ) (pair : Pair) → IsKept live owner pair
@@ -265,25 +248,13 @@ module _ {live : Live} {owner : ℕ} where
   -- before the first node
   pub look_starts : (IsPassed : ℕ → Type 0) (least : Option Pair)
       → ((place : ℕ) → ¬ IsPassed place) → IsLooked live owner IsPassed least least
-  look_starts IsPassed least none = record {
-    stays = λ pair within. within;
-    bound = λ place pair passed below held. absurd (none place passed);
-    there = λ pair is. inl is;
-  }
+  look_starts IsPassed least none = search arith
 
   -- one node alone, whose pair is kept or not
   pub look_keeps : (node : ℕ) (old new found : Option Pair) → IsCheaperOf old found new
       → ((pair : Pair) → (found ≡ Some pair) ↔ IsKeptWith live owner node pair)
       → IsLooked live owner (λ place. node_at live place ≡ node) old new
-  look_keeps node old new found cheaper law = record {
-    stays = λ pair within. at_most_along old new pair within cheaper.first;
-    bound = λ place pair here below with_it. cheaper.second pair ((law pair).1
-        (subst (λ n. IsKeptWith live owner n pair) here with_it));
-    there = λ pair is. elim cheaper.either [
-      | inl same ↦ inl (sym same ∙ is)
-      | inr same ↦ inr ((law pair).0 (sym same ∙ is)).kept
-    ];
-  }
+  look_keeps node old new found cheaper law = search (arith, at_most_along)
 
   -- one node alone, which has no cheaper pair
   pub look_leaves : (node : ℕ) (least : Option Pair)
@@ -303,18 +274,7 @@ module _ {live : Live} {owner : ℕ} where
       → IsLooked live owner IsPassed old now
       → IsLooked live owner (λ k. node_at live k ≡ node) now next
       → IsLooked live owner IsPassedNext old next
-  look_next IsPassed IsPassedNext old now next place node is more held step = record {
-    stays = λ pair within. step.stays pair (held.stays pair within);
-    bound = λ other pair passed below with_it. elim (more other passed) [
-      | inl before ↦ step.stays pair (held.bound other pair before below with_it)
-      | inr here ↦ step.bound other pair
-          (ap (node_at live) here ∙ sym is) below with_it
-    ];
-    there = λ pair found. elim (step.there pair found) [
-      | inl was ↦ held.there pair was
-      | inr kept ↦ inr kept
-    ];
-  }
+  look_next IsPassed IsPassedNext old now next place node is more held step = search arith
 
   -- where the others are too far
   pub look_stops : (IsPassed IsWanted : ℕ → Type 0) (old now : Option Pair) (gap : ℤ)
@@ -323,14 +283,7 @@ module _ {live : Live} {owner : ℕ} where
       → other < length live.order.items
       → IsKeptWith live owner (node_at live other) pair → gap ≤ℤ pair.cost))
       → IsLooked live owner IsWanted old now
-  look_stops IsPassed IsWanted old now gap held less rest = record {
-    stays = held.stays;
-    bound = λ other pair wanted below with_it. elim (rest other wanted) [
-      | inl before ↦ held.bound other pair before below with_it
-      | inr far ↦ less_is_at_most now pair gap less (far pair below with_it)
-    ];
-    there = held.there;
-  }
+  look_stops IsPassed IsWanted old now gap held less rest = search (arith, less_is_at_most)
 
   -- where those that are as near have higher numbers
   pub look_passes : (IsPassed IsWanted : ℕ → Type 0) (old now : Option Pair) (gap : ℤ) (node : ℕ)
@@ -445,16 +398,7 @@ module _ {live : Live} {owner : ℕ} where
 -- a gap downwards fits the code's numbers
 pub gap_fits : (lo widest low : ℤ) → IsBelow (10 ^ 33) lo → IsBelow (10 ^ 34) widest
     → IsBelow (10 ^ 33) low → FitsSigned w128 (lo -ℤ widest -ℤ low)
-gap_fits lo widest low below wide low_below = omega (
-  arith,
-  ints,
-  below.above,
-  below.below,
-  wide.above,
-  wide.below,
-  low_below.above,
-  low_below.below,
-)
+gap_fits lo widest low below wide low_below = search (arith, ints)
 
 -- the search upwards and that downwards from one place find the cheapest
 pub looked_both : (live : Live) (owner from : ℕ) (middle found : Option Pair) → IsOrdered live
@@ -485,12 +429,4 @@ looked_both live owner from middle found ordered up down = record {
 -- where the node has no cluster it keeps no pair
 pub none_nearest : (live : Live) (owner : ℕ)
     → ((cluster : Cluster) → ¬ HasCluster live owner cluster) → IsNearest live owner None
-none_nearest live owner none = record {
-  bound = λ pair held. elim (sides live.early pair owner _ held.owner refl) [
-    | inl (first, _) ↦ absurd (none held.pair.one
-        (subst (λ n. HasCluster live n held.pair.one) first held.pair.first))
-    | inr (_, second) ↦ absurd (none held.pair.other
-        (subst (λ n. HasCluster live n held.pair.other) second held.pair.second))
-  ];
-  there = λ pair is. absurd (cc);
-}
+none_nearest live owner none = search (arith, sides)

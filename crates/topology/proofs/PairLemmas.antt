@@ -15,12 +15,7 @@ IsOf live first second pair = IsPair live pair × (pair.first ≡ first) × (pai
 pub no_pair : (live : Live) (first second : ℕ)
     → ((one other : Cluster) → HasCluster live first one → HasCluster live second other → ⊥)
     → (pair : Pair) → (None ≡ Some pair) ↔ IsOf live first second pair
-no_pair live first second none pair = (
-  λ is. absurd (cc),
-  λ (is, at_first, at_second). absurd (none is.one is.other
-      (subst (λ n. HasCluster live n is.one) at_first is.first)
-      (subst (λ n. HasCluster live n is.other) at_second is.second)),
-)
+no_pair live first second none pair = search arith
 
 pub found_pair : (live : Live) (first second : ℕ) (one other : Cluster) (cost : ℤ) → first < second
     → HasCluster live first one → HasCluster live second other → cost ≡ cost_of one other

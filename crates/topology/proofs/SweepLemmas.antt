@@ -85,12 +85,7 @@ sweep_starts sinks merges live kept none empty some early held =
 -- while all nodes are early each pair is kept at the first
 owner_first : (live : Live) (pair : Pair) → IsOrdered live → live.early + 1 ≡ 2 ^ 32
     → IsPair live pair → owner_of live.early pair ≡ pair.first
-owner_first live pair ordered early is = (owner_ahead live.early pair (omega (
-  arith,
-  node_within live pair.second is.other is.second,
-  ordered.few,
-  early,
-))).0
+owner_first live pair ordered early is = search (arith, owner_ahead, node_within)
 
 -- a pair of the node that costs nothing is the cheapest of all
 pub free_is_cheapest : (sinks : List Sink) (merges : List Merge) (live : Live) (kept : List Pair)
@@ -123,10 +118,7 @@ free_is_cheapest sinks merges live kept node pair held nearest free = record {
 
     costly : (least other : Pair) → IsBefore other pair → ¬ IsBefore other least
         → pos 0 <ℤ least.cost → ⊥
-    costly least other before not_least cost = not_least (inl (elim before [
-      | inl less ↦ omega (arith, ints, less, free, cost)
-      | inr (same, _) ↦ omega (arith, ints, same, free, cost)
-    ]))
+    costly least other before not_least cost = search (arith, ints)
 
     later : (other : Pair) → IsPair live other → IsBefore other pair → pair.first < other.first → ⊥
     later other is before behind = elim before [

@@ -1,4 +1,4 @@
-use Rattle.std.proofs.Common.{◌+ℤ◌, ◌-ℤ◌, rules, arith}
+use Rattle.std.proofs.Common.{rules, arith}
 use Rattle.std.proofs.lemmas.Int.{ints}
 use Rattle.tilted_rect.proofs.CodeNumbers.{below_fits, difference_read, sum_read}
 use Rattle.tilted_rect.proofs.RectLemmas.{is_rect_along, grown_valid, grown_points}
@@ -9,17 +9,7 @@ overflow_sub-result-2 c = omega (arith, ints, c.requires.room.vlo)
 
 pub invariant_of-result : goal.invariant_of-result
 invariant_of-result c =
-    let rect = c.args.self in
-    let room = c.requires.room in
-    record {
-      valid = is_rect_along (rect.ulo -ℤ c.args.by) (rect.uhi +ℤ c.args.by) (rect.vlo -ℤ c.args.by)
-          (rect.vhi +ℤ c.args.by) _ _ _ _
-          (difference_read rect.ulo c.args.by (search rules) (search rules) (below_fits _ room.ulo))
-          (sum_read rect.uhi c.args.by (search rules) (search rules) (below_fits _ room.uhi))
-          (difference_read rect.vlo c.args.by (search rules) (search rules) (below_fits _ room.vlo))
-          (sum_read rect.vhi c.args.by (search rules) (search rules) (below_fits _ room.vhi))
-          (grown_valid rect c.args.by c.requires.least c.requires.multiple room);
-    }
+    search (arith, is_rect_along, difference_read, below_fits, sum_read, grown_valid)
 
 pub returns-clause-sides : goal.returns-clause-sides
 returns-clause-sides c =
