@@ -1,5 +1,5 @@
--- Intervals on one axis, and numbers taken over a scale: the smaller of two, and what is clamped into
--- an interval or between two.
+-- Intervals on one axis, and numbers taken over a scale: the smaller of two, and what is clamped
+-- into an interval or between two.
 use Rattle.std.proofs.Common.{◌≡◌, ℕ, ℤ, pos, ◌+ℤ◌, ◌-ℤ◌, ◌*ℤ◌, ◌≤ℤ◌, ◌<ℤ◌, ap, ◌∙◌, arith}
 use Rattle.std.proofs.lemmas.Int.{ints, clamps, by_lt_z}
 use Rattle.std.proofs.Math.IntN.{*ℤ-zero}
