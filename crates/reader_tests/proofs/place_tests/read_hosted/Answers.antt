@@ -8,6 +8,8 @@ read_places-requires-clause-host g c = (
   λ none.
       let empty : length c.args.host.now ≡ 0 = ap length (sym c.as_bytes-3.ensures.value ∙ none) in
       absurd (grind (arith, nat_tests)),
-  λ hostless. absurd (true≢false (sym (has_host-with_host c.in_ok-read_bench.field-0
-      c.in_ok-circuit.circuit c.in_ok-circuit.ensures) ∙ hostless)),
+  λ hostless.
+      let hosted = rw c.made-circuit.ensures at c.with_host.ensures in
+      absurd (true≢false (sym (has_host-with_host c.made.result c.made-circuit.result hosted)
+      ∙ hostless)),
 )
