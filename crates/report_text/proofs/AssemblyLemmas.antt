@@ -1,47 +1,11 @@
 -- A report that is put together from its sections: how large its numbers are, and its lines.
-use Rattle.std.proofs.Common.{◌≡◌, ◌<◌, ◌≤◌, ◌-◌, ◌*◌, ◌^◌, ℕ, List, All, Option, Some, None, length, map, refl, sym, ap, arith, ◌+◌, ℤ, pos, neg_ℤ, to_z, of_z, [], ◌∷◌, ◌++◌, get_or, codes, ap₂, ◌∙◌, subst, append_assoc, drop, append-nil}
-use Rattle.std.specs.Prelude.{slice_get, unsigned_abs}
-use Rattle.std.proofs.lemmas.List.Elements.{All-map, All-append, All-cons, All-nil, All-push}
-use Rattle.std.proofs.lemmas.Int.{ints}
-use Rattle.std.proofs.lemmas.List.{drop_at, get_or-append-add, get_or-map, get_or-take, get_or_append_left, get_or_push, length-append, length-map, length-take, length_push, take_at}
-use Rattle.std.proofs.lemmas.Option.{get_or_from_slice_get, slice_get-get_or}
-use Rattle.cts_base.specs.Fractions.{quotient_text}
-use Rattle.cts_model.specs.declared.circuit.Circuit.{Circuit}
-use Rattle.cts_model.specs.declared.constraint.Constraint.{Constraint}
-use Rattle.cts_model.specs.declared.period.PeriodShow.{PeriodShow}
-use Rattle.cts_model.specs.declared.period.PeriodShow.TheVariants.{Cycle, Floor}
-use Rattle.cts_model.specs.declared.report.Version.{Version}
-use Rattle.cts_model.specs.declared.tech.Tech.{Tech}
-use Rattle.cts_model.specs.placement.Points.{IsBelow, IsPointBelow}
-use Rattle.cts_model.specs.report.ReportBounds.{HasSmallWeight, HasSmallWeights, IsBetweenRegisters, ShowsPeriodAmong, count_in, cycle_length, HasTimingBounds, HasTreeBounds, IsMergeShow, IsOfSize, IsSmallWire, IsSourceShow, IsWithinBounds, ShowsAmong, IsSmallMerge, Spells}
-use Rattle.cts_model.specs.report.ReportLines.{lead_line, lines_below, merge_line_at, no_wire, node_line_at, origin, period_show_lines, register_line_at, report_lines, show_words, source_line, timing_lines, tree_lines, version_line}
-use Rattle.cts_model.specs.text.PrintedLines.{Words, line_for, count_line, period_line, register_line, text_of}
-use Rattle.cts_model.specs.timing.Schedules.{IsSmallPeriod, arrival_of}
-use Rattle.cts_model.specs.tree.Problems.{grid_of, scheduled_length}
-use Rattle.cts_model.specs.declared.report.Report.{Report}
+use Rattle.report_text.proofs.Vocabulary.{◌≡◌, ◌<◌, ◌≤◌, ◌-◌, ◌*◌, ◌^◌, ℕ, List, All, Option, Some, None, length, map, refl, sym, ap, arith, ◌+◌, ℤ, pos, neg_ℤ, to_z, of_z, [], ◌∷◌, ◌++◌, get_or, codes, ap₂, ◌∙◌, subst, append_assoc, drop, append-nil, slice_get, All-map, All-append, All-cons, All-nil, All-push, ints, drop_at, get_or-append-add, get_or-map, get_or-take, get_or_append_left, get_or_push, length-append, length-map, length-take, length_push, take_at, get_or_from_slice_get, slice_get-get_or, quotient_text, Circuit, Constraint, PeriodShow, Cycle, Floor, Version, Tech, IsBelow, IsPointBelow, HasSmallWeight, HasSmallWeights, IsBetweenRegisters, ShowsPeriodAmong, count_in, cycle_length, HasTimingBounds, HasTreeBounds, IsMergeShow, IsOfSize, IsSmallWire, IsSourceShow, IsWithinBounds, ShowsAmong, IsSmallMerge, Spells, lead_line, lines_below, merge_line_at, no_wire, node_line_at, origin, period_show_lines, register_line_at, report_lines, show_words, source_line, timing_lines, tree_lines, version_line, Words, line_for, count_line, period_line, register_line, text_of, IsSmallPeriod, arrival_of, grid_of, scheduled_length, Report, Root, Wire, root_of, source_of, AreSmallSlacks, Parts, timed_line, arrivals_in, begin_of, denoted_lines, lengths_in, merges_in, places_in, reaches_in, report_denoted, shows_in, sink_reach, sink_reaches, wires_in, lines_after, IsSmallCount, count_of, shown_line, HasParts, scale_in, DenotesConstraint, DenotesLead, SaysMerge, SaysNode, SaysSource, merged_line, placed_line, sourced_line, DenotesTimed, Timed, MergeLine, NodeLine, lines_of, Scale, cycle_forms, forms_after, w128}
+use Rattle.std.specs.Prelude.{unsigned_abs}
 use Rattle.cts_model.specs.declared.schedule.Slack.{Slack}
-use Rattle.cts_model.specs.declared.tree.Show.TheVariants.{Root}
-use Rattle.cts_model.specs.declared.tree.Wire.{Wire}
-use Rattle.cts_model.specs.tree.Topologies.{root_of, source_of}
-use Rattle.cts_model.specs.timing.Slacks.{AreSmallSlacks}
 use Rattle.cts_model.proofs.GridLemmas.{scheduled_size}
-use Rattle.report_text.specs.declared.sections.Parts.{Parts}
-use Rattle.report_text.specs.DenotedReports.{timed_line, arrivals_in, begin_of, denoted_lines, lengths_in, merges_in, places_in, reaches_in, report_denoted, shows_in, sink_reach, sink_reaches, wires_in, lines_after}
-use Rattle.report_text.specs.Headings.{IsSmallCount, count_of, shown_line}
-use Rattle.report_text.specs.Parts.{HasParts, scale_in}
-use Rattle.report_text.specs.TimingValues.{DenotesConstraint, DenotesLead}
-use Rattle.report_text.specs.Values.{SaysMerge, SaysNode, SaysSource, merged_line, placed_line, sourced_line}
-use Rattle.report_text.specs.Walks.{DenotesTimed}
-use Rattle.report_text.specs.declared.timing_values.Timed.{Timed}
-use Rattle.report_text.specs.declared.tree_values.MergeLine.{MergeLine}
-use Rattle.report_text.specs.declared.tree_values.NodeLine.{NodeLine}
-use Rattle.report_text.specs.Rows.{lines_of}
-use Rattle.report_text.specs.declared.form.Scale.{Scale}
-use Rattle.report_text.specs.Forms.{cycle_forms, forms_after}
 use Rattle.report_text.proofs.RowLemmas.{rows_all, numbered_rows, plain_lines, rows_lines}
 use Rattle.report_text.proofs.BodyLemmas.{body_lines, body_read}
 use Rattle.report_text.proofs.WalkLemmas.{read_more}
-use mir.Syntax.{w128}
 
 -- a row is what its line tells, whatever its number
 abbrev pub IsTold : {X : Type 0} (Says : ℕ → Words → X → Type 0) (line : ℕ → X → Words) → X

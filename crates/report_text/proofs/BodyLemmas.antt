@@ -1,33 +1,9 @@
 -- The first lines of a report, what shows its period, and the sections after it.
-use Rattle.std.proofs.Common.{◌≡◌, ℕ, Option, Some, None, List, [], ◌∷◌, codes, length, map, refl, ap, ◌∙◌, subst, arith, append_assoc, ◌≤◌, ◌+◌, ◌-◌, ◌*◌, ◌++◌, append-nil}
-use Rattle.std.specs.List.{range_with_len}
-use Rattle.std.proofs.lemmas.List.{length-replicate}
-use Rattle.cts_model.specs.declared.circuit.Circuit.{Circuit}
-use Rattle.cts_model.specs.declared.constraint.Constraint.{Constraint}
-use Rattle.cts_model.specs.declared.period.PeriodShow.TheVariants.{Cycle}
-use Rattle.cts_model.specs.declared.report.Version.{Version}
-use Rattle.cts_model.specs.declared.report.Version.TheVariants.{First, Second}
-use Rattle.cts_model.specs.text.PrintedLines.{Words, count_line, line_for}
-use Rattle.cts_model.specs.report.ReportBounds.{HasSmallWeight, IsBetweenRegisters}
+use Rattle.report_text.proofs.Vocabulary.{◌≡◌, ℕ, Option, Some, None, List, [], ◌∷◌, codes, length, map, refl, ap, ◌∙◌, subst, arith, append_assoc, ◌≤◌, ◌+◌, ◌-◌, ◌*◌, ◌++◌, append-nil, range_with_len, length-replicate, Circuit, Constraint, Cycle, Version, First, Second, Words, count_line, line_for, HasSmallWeight, IsBetweenRegisters, Lead, ReportFault, Form, Scale, Pathed, PeriodLine, ShowLine, HasHeading, HasShown, IsSmallCount, shown_line, HasPathed, HasRows, Counted, IsFlawless, DenotesConstraint, DenotesPeriod, DenotesShow, DenotesLead, Left, Reads, ReadsLine, Stops, DenotesLine, DenotesVersion, DenotesTimed, Timed, HasBody, HasVersionLeads, forms_after, lead_forms, HasFirstFault}
 use Rattle.cts_model.specs.declared.report.Version.TheVariants as version
-use Rattle.cts_model.specs.declared.schedule.Lead.{Lead}
-use Rattle.report_text.specs.declared.fault.ReportFault.{ReportFault}
-use Rattle.report_text.specs.declared.form.Form.{Form}
 use Rattle.report_text.specs.declared.form.Form.TheVariants as form
-use Rattle.report_text.specs.declared.form.Scale.{Scale}
-use Rattle.report_text.specs.declared.sections.Pathed.{Pathed}
-use Rattle.report_text.specs.declared.timing_values.PeriodLine.{PeriodLine}
-use Rattle.report_text.specs.declared.timing_values.ShowLine.{ShowLine}
-use Rattle.report_text.specs.Headings.{HasHeading, HasShown, IsSmallCount, shown_line}
-use Rattle.report_text.specs.Rows.{HasPathed, HasRows, Counted}
-use Rattle.report_text.specs.TimingValues.{IsFlawless, DenotesConstraint, DenotesPeriod, DenotesShow, DenotesLead}
-use Rattle.report_text.specs.Walks.{Left, Reads, ReadsLine, Stops, DenotesLine, DenotesVersion, DenotesTimed}
 use Rattle.report_text.specs.declared.field.Keyword.TheVariants as word
 use Rattle.report_text.specs.declared.sections.Body.{Body}
-use Rattle.report_text.specs.declared.timing_values.Timed.{Timed}
-use Rattle.report_text.specs.Bodies.{HasBody, HasVersionLeads}
-use Rattle.report_text.specs.Forms.{forms_after, lead_forms}
-use Rattle.report_text.specs.ReportFaults.{HasFirstFault}
 use Rattle.report_text.proofs.RowLemmas.{one_form, plain_lines, rows_all, rows_lines, counted_number, counted_read}
 use Rattle.report_text.proofs.WalkLemmas.{read_more, stop_after, stop_before}
 

@@ -1,29 +1,9 @@
 -- What is wrong with a word that is to be a fraction, by what is read of it; and how many steps the
 -- value of a fraction in lowest terms is.
-use Rattle.std.proofs.Common.{◌≡◌, ◌<◌, ◌≤◌, ◌+◌, ◌-◌, ◌*◌, ◌%◌, ℕ, zero, suc, ℤ, pos, negsuc, neg_ℤ, ◌*ℤ◌, ◌+ℤ◌, ◌≤ℤ◌, nat_abs, inl, inr, refl, sym, ap, ◌∙◌, subst, arith, ◌↔◌, ◌^◌, ◌<ℤ◌, Bool, IsTrue, List, Option, Some, None, Result, Ok, Err, IsErrAnd, codes}
-use Rattle.std.specs.Int.{◌∣◌, IsGcd}
-use Rattle.std.specs.Int.RustNames.{int_div, int_rem}
+use Rattle.report_text.proofs.Vocabulary.{◌≡◌, ◌<◌, ◌≤◌, ◌+◌, ◌-◌, ◌*◌, ◌%◌, ℕ, zero, suc, ℤ, pos, negsuc, neg_ℤ, ◌*ℤ◌, ◌+ℤ◌, ◌≤ℤ◌, nat_abs, inl, inr, refl, sym, ap, ◌∙◌, subst, arith, ◌↔◌, ◌^◌, ◌<ℤ◌, Bool, IsTrue, List, Option, Some, None, Result, Ok, Err, IsErrAnd, codes, ◌∣◌, IsGcd, int_div, int_rem, one-dvd, dvd-mul_right, dvd-sub_iff_left, cases_lt, ints, quot-rem, unsigned_abs-mul, IsGcd-swap, IsGcd-from_zero, mod-eq-zero_of_dvd, same_from_IsGcd, IsLowest, fraction_text, SpellsWhole, SpellsQuotient, HaveSmallSizes, IsNoFraction, kept_size, Fraction, same_factor, negative, few_digits, slash_differs, fraction_spelled, one_quotient, plain_no_minus, quotient_some, Circuit, IsBelow, AreSteps, AreFewSteps, IsFormed, IsFractionForm, IsWholeSteps, WordHasFlaw, Period, Steps, Flaw, Unknown, Unfit, Large, HasStepsFlaw, IsBetween, IsNegativeQuotient, IsRefusedFor, flaw_in}
 use Rattle.std.proofs.Math.IntN.{*ℤ_comm}
-use Rattle.std.proofs.Math.Nat.{one-dvd, dvd-mul_right, dvd-sub_iff_left}
-use Rattle.std.proofs.lemmas.Bool.{cases_lt}
-use Rattle.std.proofs.lemmas.Int.{ints, quot-rem, unsigned_abs-mul}
-use Rattle.std.proofs.lemmas.Nat.Gcd.{IsGcd-swap, IsGcd-from_zero, mod-eq-zero_of_dvd, same_from_IsGcd}
-use Rattle.cts_base.specs.Fractions.{IsLowest, fraction_text}
-use Rattle.cts_base.specs.NumberTexts.{SpellsWhole, SpellsQuotient, HaveSmallSizes, IsNoFraction, kept_size}
-use Rattle.cts_base.specs.declared.fraction.Fraction.{Fraction}
-use Rattle.cts_base.proofs.GreatestDivisors.{same_factor}
-use Rattle.cts_base.proofs.Quotients.{negative}
-use Rattle.cts_base.proofs.FractionReading.{few_digits}
-use Rattle.cts_base.proofs.OneNumberText.{slash_differs}
-use Rattle.cts_base.proofs.OneSpelling.{fraction_spelled, one_quotient, plain_no_minus, quotient_some}
-use Rattle.cts_model.specs.declared.circuit.Circuit.{Circuit}
-use Rattle.cts_model.specs.placement.Points.{IsBelow}
-use Rattle.report_text.specs.Fields.{AreSteps, AreFewSteps, IsFormed, IsFractionForm, IsWholeSteps, WordHasFlaw}
-use Rattle.report_text.specs.LineFields.{Period, Slack, Steps}
-use Rattle.report_text.specs.declared.field.Flaw.{Flaw}
-use Rattle.report_text.specs.declared.field.Flaw.TheVariants.{Form, Unknown, Unfit, Large}
-use Rattle.report_text.specs.JudgedFractions.{HasStepsFlaw, IsBetween, IsNegativeQuotient, IsRefusedFor}
-use Rattle.report_text.specs.Scans.{flaw_in}
+use Rattle.report_text.specs.LineFields.{Slack}
+use Rattle.report_text.specs.declared.field.Flaw.TheVariants.{Form}
 use Rattle.report_text.proofs.NumberWords.{within_bound}
 
 -- ---- Euclid's steps

@@ -1,33 +1,8 @@
 -- Whether a text spells a number, and which; so each word has a flaw by its field or has none, and
 -- so each line has.
-use Rattle.std.proofs.Common.{◌≡◌, ◌⊎◌, ◌<◌, ◌^◌, ◌==◌, ℕ, zero, suc, ℤ, pos, negsuc, ◌≤ℤ◌, nat_abs, Bool, true, false, true≢false, inl, inr, List, [], ◌∷◌, ◌++◌, drop, refl, sym, ap, subst, ◌∙◌, arith, ◌≤◌, ◌<ℤ◌, ◌+ℤ◌, ◌*ℤ◌, Option, Some, None, codes}
-use Rattle.std.specs.Int.{IsGcd}
-use Rattle.std.specs.Ordering.{int_eq}
-use Rattle.std.specs.Str.{bytes_eq}
-use Rattle.std.specs.Str.Parse.{AllDigits, IsNumeral, digits_value, starts_with_minus}
-use Rattle.std.specs.Int.RustNames.{int_div, int_rem}
-use Rattle.std.specs.List.{position}
-use Rattle.std.proofs.lemmas.Bool.{cases_lt}
-use Rattle.std.proofs.lemmas.Bool.Decides.{Decides-eqb, Decides-int_eq}
-use Rattle.std.proofs.lemmas.Int.{ints, by_lt_z}
-use Rattle.std.proofs.lemmas.Nat.Gcd.{le_of_dvd}
-use Rattle.std.proofs.lemmas.Slice.Eq.{bytes_eq-Decides}
-use Rattle.cts_base.specs.Fractions.{HasSizeBelow, IsLowest, divisor_up_to}
-use Rattle.cts_base.specs.NumberTexts.{HaveSmallSizes, IsPlainNumeral, SpellsQuotient, SpellsWhole}
-use Rattle.cts_base.proofs.GreatestDivisors.{up_to_second}
-use Rattle.cts_base.proofs.OneNumberText.{HasNoSlash, one_split, slash_differs}
-use Rattle.cts_base.proofs.OneSpelling.{one_whole, plain_no_minus, quotient_some, whole_no_slash, one_quotient}
-use Rattle.cts_model.specs.declared.circuit.Circuit.{Circuit}
-use Rattle.name_set.specs.RegisterNames.{register_names}
-use Rattle.name_set.proofs.OneName.{one_register}
-use Rattle.report_text.specs.declared.field.Flaw.{Flaw}
-use Rattle.report_text.specs.declared.field.Flaw.TheVariants.{Form, Large, Unfit, Unknown}
-use Rattle.report_text.specs.JudgedFractions.{IsRefusedFor, HasStepsFlaw, IsNegativeQuotient}
-use Rattle.report_text.specs.LineFields.{Field}
+use Rattle.report_text.proofs.Vocabulary.{◌≡◌, ◌⊎◌, ◌<◌, ◌^◌, ◌==◌, ℕ, zero, suc, ℤ, pos, negsuc, ◌≤ℤ◌, nat_abs, Bool, true, false, true≢false, inl, inr, List, [], ◌∷◌, ◌++◌, drop, refl, sym, ap, subst, ◌∙◌, arith, ◌≤◌, ◌<ℤ◌, ◌+ℤ◌, ◌*ℤ◌, Option, Some, None, codes, IsGcd, int_eq, bytes_eq, AllDigits, IsNumeral, digits_value, starts_with_minus, int_div, int_rem, position, cases_lt, Decides-eqb, Decides-int_eq, ints, by_lt_z, le_of_dvd, bytes_eq-Decides, HasSizeBelow, IsLowest, divisor_up_to, HaveSmallSizes, IsPlainNumeral, SpellsQuotient, SpellsWhole, up_to_second, HasNoSlash, one_split, slash_differs, one_whole, plain_no_minus, quotient_some, whole_no_slash, one_quotient, Circuit, register_names, one_register, Flaw, Large, Unfit, Unknown, IsRefusedFor, HasStepsFlaw, IsNegativeQuotient, Field, IsFirstFlaw, LineHasFlaw, NamesRegister, NamesSignal, WordHasFlaw, sooner_flaw, DenotesRegister, DenotesSignal, signal_names}
+use Rattle.report_text.specs.declared.field.Flaw.TheVariants.{Form}
 use Rattle.report_text.specs.LineFields as field
-use Rattle.report_text.specs.Fields.{IsFirstFlaw, LineHasFlaw, NamesRegister, NamesSignal, WordHasFlaw}
-use Rattle.report_text.specs.FlawOrder.{sooner_flaw}
-use Rattle.report_text.specs.NamesOf.{DenotesRegister, DenotesSignal, signal_names}
 use Rattle.report_text.proofs.WalkLemmas.{line_first}
 use Rattle.report_text.proofs.FractionFlaws.{dash_plain, from_zero, negative_refused, period_past, period_refused, period_within, slack_denoted, steps_denoted, steps_past, steps_refused, steps_unfit, steps_within}
 use Rattle.report_text.proofs.NameNumbers.{register_denoted, signal_denoted}

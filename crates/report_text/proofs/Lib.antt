@@ -1,3 +1,4 @@
+mod Vocabulary
 mod SpelledFields
 mod TreeLines
 mod TimingLines

@@ -1,13 +1,5 @@
 -- A line's words, one after the other, and lines one after the other.
-use Rattle.std.proofs.Common.{ℕ, ◌≡◌, ◌+◌, ◌==◌, false, List, [], ◌∷◌, ◌++◌, map, length, pos, codes, refl, ap, sym, ◌∙◌, append-nil, append_assoc, true≢false, arith}
-use Rattle.std.specs.Fmt.{signed_decimal}
-use Rattle.std.specs.List.{join_with_byte, flat_map}
-use Rattle.std.proofs.lemmas.Grind.{flat_map-append}
-use Rattle.std.proofs.lemmas.List.FromFn.{map-range_with_len_more}
-use Rattle.cts_model.specs.declared.circuit.Circuit.{Circuit}
-use Rattle.cts_model.specs.text.PrintedLines.{Words, line_of, text_of}
-use Rattle.cts_model.specs.report.ReportLines.{lines_below, path_line, signal_name}
-use Rattle.report_text.specs.Pieces.{suffix}
+use Rattle.report_text.proofs.Vocabulary.{ℕ, ◌≡◌, ◌+◌, ◌==◌, false, List, [], ◌∷◌, ◌++◌, map, length, pos, codes, refl, ap, sym, ◌∙◌, append-nil, append_assoc, true≢false, arith, signed_decimal, join_with_byte, flat_map, flat_map-append, map-range_with_len_more, Circuit, Words, line_of, text_of, lines_below, path_line, signal_name, suffix}
 
 -- each word after the first stands after the byte
 pub join_with_byte-map : {X : Type 0} (read : X → List ℕ) (byte : ℕ) (word : List ℕ)

@@ -1,31 +1,8 @@
 -- The registers and the signals that names denote, and that no other number has the name of one.
-use Rattle.std.proofs.Common.{◌≡◌, ◌<◌, ◌≤◌, ℕ, Bool, List, Result, Ok, Err, IfOk, IfErr, length, get_or, sym, ap, ◌∙◌, arith, true, false, ◌&&◌, cond, IsTrue, [], None, inl, inr, refl, ◌+◌, map, position, Option, Some, subst}
-use Rattle.std.specs.List.{range_with_len, list_any}
-use Rattle.std.specs.Str.{bytes_eq}
-use Rattle.std.proofs.lemmas.Bool.{false_from_ne_true, cases_lt}
-use Rattle.std.proofs.lemmas.List.FromFn.{get_or-range_with_len, length-range_with_len, length-map-range_with_len}
-use Rattle.std.proofs.lemmas.List.Sums.{position_or_len_is}
-use Rattle.std.proofs.lemmas.Slice.Eq.{bytes_eq-Decides}
-use Rattle.std.proofs.lemmas.Bool.Decides.{nat_tests}
-use Rattle.std.proofs.lemmas.Option.{slice_get_past, slice_get_within, get_or_from_slice_get}
-use Rattle.cts_model.specs.declared.circuit.Circuit.{Circuit}
-use Rattle.cts_model.specs.netlist.Paths.{register_name}
-use Rattle.cts_model.specs.declared.signal.Signal.{Signal}
-use Rattle.cts_model.specs.netlist.Circuits.{host_name, is_named, has_host}
-use Rattle.cts_model.specs.netlist.Kinds.{is_host}
-use Rattle.cts_model.specs.text.Names.{is_name, is_short}
-use Rattle.cts_model.specs.report.ReportLines.{signal_name}
+use Rattle.report_text.proofs.Vocabulary.{◌≡◌, ◌<◌, ◌≤◌, ℕ, Bool, List, Result, Ok, Err, IfOk, IfErr, length, get_or, sym, ap, ◌∙◌, arith, true, false, ◌&&◌, cond, IsTrue, [], None, inl, inr, refl, ◌+◌, map, position, Option, Some, subst, range_with_len, list_any, bytes_eq, false_from_ne_true, cases_lt, get_or-range_with_len, length-range_with_len, length-map-range_with_len, position_or_len_is, bytes_eq-Decides, nat_tests, slice_get_past, slice_get_within, get_or_from_slice_get, Circuit, register_name, Signal, host_name, is_named, has_host, is_host, is_name, is_short, signal_name, register_names, one_register, one_signal, Register, Flaw, NamesRegister, WordHasFlaw, register_named, flaw_in, signal_names, DenotesRegister, DenotesSignal}
 use Rattle.cts_model.proofs.CircuitLemmas.{registered, register_signal_is}
-use Rattle.name_set.specs.RegisterNames.{register_names}
-use Rattle.name_set.proofs.OneName.{one_register, one_signal}
 use Rattle.name_set.proofs.NameNumbers.{absent_below, found_below, missed_below}
-use Rattle.report_text.specs.LineFields.{Register}
-use Rattle.report_text.specs.declared.field.Flaw.{Flaw}
 use Rattle.report_text.specs.declared.field.Flaw.TheVariants as flaws
-use Rattle.report_text.specs.Fields.{NamesRegister, WordHasFlaw}
-use Rattle.report_text.specs.Forms.{register_named}
-use Rattle.report_text.specs.Scans.{flaw_in}
-use Rattle.report_text.specs.NamesOf.{signal_names, DenotesRegister, DenotesSignal}
 
 module _ (circuit : Circuit) (name : List ℕ) where
   -- it is the first number whose register has the name

@@ -1,18 +1,5 @@
 -- The word of a number and the number: whole numbers, and fractions that are whole steps.
-use Rattle.std.proofs.Common.{◌≡◌, ◌≤◌, ◌^◌, ℕ, ℤ, pos, negsuc, ◌+ℤ◌, ◌≤ℤ◌, nat_abs, List, FitsSigned, refl, ◌∙◌, arith}
-use mir.Syntax.{w128}
-use Rattle.std.proofs.lemmas.Int.{ints}
-use Rattle.std.specs.Fmt.{signed_decimal}
-use Rattle.std.specs.Int.RustNames.{int_div}
-use Rattle.cts_base.specs.declared.fraction.Fraction.{Fraction}
-use Rattle.cts_base.specs.Fractions.{HasSizeBelow, divisor_up_to, quotient_text}
-use Rattle.cts_base.specs.NumberTexts.{SpellsWhole, HaveSmallSizes, kept_size}
-use Rattle.cts_base.proofs.FractionReading.{few_digits}
-use Rattle.cts_base.proofs.GreatestDivisors.{up_to_second, quotient_text_is}
-use Rattle.cts_base.proofs.OneSpelling.{whole_text, whole_spelled, quotient_text_spelled, fraction_spelled}
-use Rattle.cts_base.proofs.Quotients.{int_div-le, lowest_quotients, same_value}
-use Rattle.cts_model.specs.placement.Points.{IsBelow}
-use Rattle.report_text.specs.Fields.{IsFractionForm, AreSteps, IsWholeSteps, AreFewSteps}
+use Rattle.report_text.proofs.Vocabulary.{◌≡◌, ◌≤◌, ◌^◌, ℕ, ℤ, pos, negsuc, ◌+ℤ◌, ◌≤ℤ◌, nat_abs, List, FitsSigned, refl, ◌∙◌, arith, w128, ints, signed_decimal, int_div, Fraction, HasSizeBelow, divisor_up_to, quotient_text, SpellsWhole, HaveSmallSizes, kept_size, few_digits, up_to_second, quotient_text_is, whole_text, whole_spelled, quotient_text_spelled, fraction_spelled, int_div-le, lowest_quotients, same_value, IsBelow, IsFractionForm, AreSteps, IsWholeSteps, AreFewSteps}
 
 -- ---- whole numbers
 

@@ -1,11 +1,5 @@
 -- Lines are determined by their bytes: no word has a space or a line feed, or any byte below them.
-use Rattle.std.proofs.Common.{◌≡◌, ◌<◌, ◌==◌, false, ℕ, List, [], ◌∷◌, ◌++◌, All, map, refl, ap, ap₂, ◌∙◌, append_assoc, ne_eqb, arith}
-use Rattle.std.proofs.lemmas.List.{same_from_push}
-use Rattle.std.proofs.lemmas.List.Elements.{All-from_recursion}
-use Rattle.std.proofs.lemmas.List.Splits.{slice_split_none, slice_split_at}
-use Rattle.std.specs.List.{AllByRecursion, join_with_byte, slice_split}
-use Rattle.cts_model.specs.text.PrintedLines.{Words, text_of}
-use Rattle.report_text.specs.ReportFaults.{is_line_feed, words_of}
+use Rattle.report_text.proofs.Vocabulary.{◌≡◌, ◌<◌, ◌==◌, false, ℕ, List, [], ◌∷◌, ◌++◌, All, map, refl, ap, ap₂, ◌∙◌, append_assoc, ne_eqb, arith, same_from_push, All-from_recursion, slice_split_none, slice_split_at, AllByRecursion, join_with_byte, slice_split, Words, text_of, is_line_feed, words_of}
 
 -- each byte is above the space
 abbrev pub IsWord : List ℕ → Type 0

@@ -1,36 +1,7 @@
 -- What the first lines of a text tell of the lines after them, and where its first fault is.
-use Rattle.std.proofs.Common.{◌≡◌, ◌≢◌, ◌≤◌, ◌^◌, ℕ, zero, suc, pos, Option, Some, None, List, [], ◌∷◌, ◌++◌, map, length, get_or, codes, if◌then◌else◌, refl, sym, ap, subst, ◌∙◌, append-nil, arith, ◌+◌, ℤ, negsuc, ◌≤ℤ◌, Bool, true, false, cond, ne_eqb}
-use Rattle.std.specs.List.{slice_split, after_first, list_any}
-use Rattle.std.specs.Str.{bytes_eq}
-use Rattle.std.proofs.lemmas.List.{length-replicate}
-use Rattle.std.proofs.lemmas.Bool.Decides.{Decides-int_eq}
-use Rattle.std.proofs.lemmas.Int.{ints}
-use Rattle.std.specs.Fmt.{signed_decimal}
-use Rattle.std.specs.Ordering.{int_eq}
-use Rattle.std.specs.Str.Parse.{digits_value}
-use Rattle.cts_model.specs.declared.circuit.Circuit.{Circuit}
-use Rattle.cts_model.specs.declared.report.Version.{Version}
-use Rattle.cts_model.specs.declared.report.Version.TheVariants.{First, Second}
-use Rattle.cts_model.specs.declared.tech.Tech.{Tech}
-use Rattle.cts_model.specs.text.PrintedLines.{Words, period_line}
-use Rattle.cts_model.specs.report.ReportLines.{version_line}
-use Rattle.cts_model.specs.timing.Schedules.{IsSmallPeriod}
-use Rattle.report_text.specs.declared.fault.ReportFault.{ReportFault}
-use Rattle.report_text.specs.declared.fault.ReportFault.TheVariants.{NoMemory}
-use Rattle.report_text.specs.declared.form.Scale.{Scale}
-use Rattle.report_text.specs.declared.sections.Heading.{Heading}
+use Rattle.report_text.proofs.Vocabulary.{◌≡◌, ◌≢◌, ◌≤◌, ◌^◌, ℕ, zero, suc, pos, Option, Some, None, List, [], ◌∷◌, ◌++◌, map, length, get_or, codes, if◌then◌else◌, refl, sym, ap, subst, ◌∙◌, append-nil, arith, ◌+◌, ℤ, negsuc, ◌≤ℤ◌, Bool, true, false, cond, ne_eqb, slice_split, after_first, list_any, bytes_eq, length-replicate, Decides-int_eq, ints, signed_decimal, int_eq, digits_value, Circuit, Version, First, Second, Tech, Words, period_line, version_line, IsSmallPeriod, ReportFault, NoMemory, Scale, Heading, cycle_forms, forms_after, forms_of, HasHeading, HasShown, IsSmallCount, count_of, heading_forms, shown_line, scale_in, whole, HasFault, HasFirstFault, cycle_denoted, den_denoted, is_line_feed, scale_denoted, version_denoted, word_at, words_of, Left, Stops, Fraction, HasSizeBelow, fraction_text, is_slash, HasNoSlash, whole_no_slash}
 use Rattle.report_text.specs.declared.sections.Shown.{Shown}
-use Rattle.report_text.specs.Forms.{cycle_forms, forms_after, forms_of}
-use Rattle.report_text.specs.Headings.{HasHeading, HasShown, IsSmallCount, count_of, heading_forms, shown_line}
-use Rattle.report_text.specs.Parts.{scale_in, whole}
-use Rattle.report_text.specs.ReportFaults.{HasFault, HasFirstFault, cycle_denoted, den_denoted, is_line_feed, scale_denoted, version_denoted, word_at, words_of}
-use Rattle.report_text.specs.Walks.{Left, Stops}
 use Rattle.report_text.proofs.RowLemmas.{length_pathed}
-use Rattle.cts_base.specs.declared.fraction.Fraction.{Fraction}
-use Rattle.cts_base.specs.Fractions.{HasSizeBelow, fraction_text}
-use Rattle.cts_base.specs.NumberTexts.{is_slash}
-use Rattle.cts_base.proofs.OneNumberText.{HasNoSlash}
-use Rattle.cts_base.proofs.OneSpelling.{whole_no_slash}
 use Rattle.report_text.proofs.WalkLemmas.{after_place, first_place}
 use Rattle.report_text.proofs.OneLine.{Lacks}
 use Rattle.report_text.proofs.NumberWords.{spelled_whole}

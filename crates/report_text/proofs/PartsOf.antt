@@ -1,28 +1,7 @@
 -- The parts of a report within its bounds: the report is put together from them, and each is what a
 -- line tells.
-use Rattle.std.proofs.Common.{◌≡◌, ◌<◌, ◌≤◌, ◌+◌, ◌-◌, ◌*◌, ℕ, pos, List, [], ◌∷◌, ◌++◌, All, None, map, take, drop, length, get_or, refl, sym, ap, ap₂, ◌∙◌, subst, append_assoc, arith}
-use Rattle.std.specs.List.{range_with_len}
+use Rattle.report_text.proofs.Vocabulary.{◌≡◌, ◌<◌, ◌≤◌, ◌+◌, ◌-◌, ◌*◌, ℕ, pos, List, [], ◌∷◌, ◌++◌, All, None, map, take, drop, length, get_or, refl, sym, ap, ap₂, ◌∙◌, subst, append_assoc, arith, range_with_len, get_or-drop, get_or-take, length-drop, length-take, length-take-le, take-append-drop, take_all, take_more, fill_by_all, get_or-map-range_with_len, length-map-range_with_len, slice_get-get_or, unwrap_or-slice_get, Circuit, Report, Tech, Root, IsMergeShow, IsOfSize, IsSourceShow, IsWithinBounds, lead_line, no_wire, number_at, origin, report_lines, arrival_of, Scale, Parts, Timed, MergeLine, NodeLine, arrivals_in, begin_of, denoted_lines, reaches_in, report_denoted, sink_reach, sink_reaches, timed_line, wires_in, scale_in, DenotesLead, SaysMerge, SaysNode, SaysSource, merged_line, placed_line, sourced_line, DenotesTimed}
 use Rattle.std.proofs.lemmas.Simd.{map-map}
-use Rattle.std.proofs.lemmas.List.{get_or-drop, get_or-take, length-drop, length-take, length-take-le, take-append-drop, take_all, take_more}
-use Rattle.std.proofs.lemmas.List.FromFn.{fill_by_all, get_or-map-range_with_len, length-map-range_with_len}
-use Rattle.std.proofs.lemmas.Option.{slice_get-get_or, unwrap_or-slice_get}
-use Rattle.cts_model.specs.declared.circuit.Circuit.{Circuit}
-use Rattle.cts_model.specs.declared.report.Report.{Report}
-use Rattle.cts_model.specs.declared.tech.Tech.{Tech}
-use Rattle.cts_model.specs.declared.tree.Show.TheVariants.{Root}
-use Rattle.cts_model.specs.report.ReportBounds.{IsMergeShow, IsOfSize, IsSourceShow, IsWithinBounds}
-use Rattle.cts_model.specs.report.ReportLines.{lead_line, no_wire, number_at, origin, report_lines}
-use Rattle.cts_model.specs.timing.Schedules.{arrival_of}
-use Rattle.report_text.specs.declared.form.Scale.{Scale}
-use Rattle.report_text.specs.declared.sections.Parts.{Parts}
-use Rattle.report_text.specs.declared.timing_values.Timed.{Timed}
-use Rattle.report_text.specs.declared.tree_values.MergeLine.{MergeLine}
-use Rattle.report_text.specs.declared.tree_values.NodeLine.{NodeLine}
-use Rattle.report_text.specs.DenotedReports.{arrivals_in, begin_of, denoted_lines, reaches_in, report_denoted, sink_reach, sink_reaches, timed_line, wires_in}
-use Rattle.report_text.specs.Parts.{scale_in}
-use Rattle.report_text.specs.TimingValues.{DenotesLead}
-use Rattle.report_text.specs.Values.{SaysMerge, SaysNode, SaysSource, merged_line, placed_line, sourced_line}
-use Rattle.report_text.specs.Walks.{DenotesTimed}
 use Rattle.report_text.proofs.AssemblyLemmas.{lines_denoted, ArePrintable, IsTold, count_shown}
 
 -- ---- values at places

@@ -1,47 +1,9 @@
 -- A text without a fault spells a report; so each text has a fault as a report or spells one.
-use Rattle.std.proofs.Common.{map, pos, ◌≡◌, ◌==◌, ℕ, suc, false, Option, Some, None, List, [], ◌∷◌, ◌++◌, length, if◌then◌else◌, refl, sym, ap, ◌∙◌, subst, append-nil, arith, ◌<◌, ◌≤◌, ◌+◌, ◌-◌, ◌*◌, ◌^◌, append_assoc, zero, Bool, true, MatchBool, MatchOption, take, drop, inl, inr}
-use Rattle.std.specs.List.{slice_split, range_with_len, position}
-use Rattle.std.proofs.lemmas.Bool.{ne_eqb}
-use Rattle.std.proofs.lemmas.Option.{none-some}
-use Rattle.std.proofs.lemmas.List.{length-take}
-use Rattle.cts_model.specs.declared.circuit.Circuit.{Circuit}
-use Rattle.cts_model.specs.declared.period.PeriodShow.TheVariants.{Cycle, Floor}
-use Rattle.cts_model.specs.declared.report.Report.{Report}
-use Rattle.cts_model.specs.declared.report.Version.{Version}
-use Rattle.cts_model.specs.declared.report.Version.TheVariants.{First, Second}
-use Rattle.cts_model.specs.declared.tech.Tech.{Tech}
-use Rattle.cts_model.specs.report.ReportBounds.{Spells}
-use Rattle.cts_model.specs.text.PrintedLines.{Words, count_line}
+use Rattle.report_text.proofs.Vocabulary.{map, pos, ◌≡◌, ◌==◌, ℕ, suc, false, Option, Some, None, List, [], ◌∷◌, ◌++◌, length, if◌then◌else◌, refl, sym, ap, ◌∙◌, subst, append-nil, arith, ◌<◌, ◌≤◌, ◌+◌, ◌-◌, ◌*◌, ◌^◌, append_assoc, zero, Bool, true, MatchBool, MatchOption, take, drop, inl, inr, slice_split, range_with_len, position, ne_eqb, none-some, length-take, Circuit, Cycle, Floor, Report, Version, First, Second, Tech, Spells, Words, count_line, few_registers, Extra, BadLine, Missing, Form, Scale, Heading, Parts, PeriodLine, ShowLine, cycle_forms, forms_after, lead_forms, fields_of, forms_of, HasHeading, HasShown, IsSmallCount, count_of, heading_forms, HasParts, scale_in, whole, is_line_feed, words_of, HasFault, cycle_denoted, scale_denoted, version_denoted, HasFirstFault, fault_of, DenotesPeriod, DenotesShow, IsFlawless, DenotesConstraint, DenotesLead, DenotesPath, report_denoted, Left, DenotesVersion, ReadsLine, DenotesTimed, TakesLine, DenotesLine, Keyword, Pathed, PathLine, HasBody, HasVersionLeads, keyword_text, Counted, HasPathed, HasRows, IsSmallScale, SaysMerge, SaysNode, SaysSource, SaysTotal, Flaw, LineHasFlaw, ReportFault, HasFaultOrReport}
 use Rattle.cts_model.specs.declared.report.Version.TheVariants as version
-use Rattle.name_set.proofs.OneName.{few_registers}
-use Rattle.report_text.specs.declared.fault.ReportFault.TheVariants.{Extra, BadLine, Missing}
-use Rattle.report_text.specs.declared.form.Form.{Form}
-use Rattle.report_text.specs.declared.form.Scale.{Scale}
-use Rattle.report_text.specs.declared.sections.Heading.{Heading}
-use Rattle.report_text.specs.declared.sections.Parts.{Parts}
-use Rattle.report_text.specs.declared.timing_values.PeriodLine.{PeriodLine}
-use Rattle.report_text.specs.declared.timing_values.ShowLine.{ShowLine}
-use Rattle.report_text.specs.Forms.{cycle_forms, forms_after, lead_forms, fields_of, forms_of}
-use Rattle.report_text.specs.Headings.{HasHeading, HasShown, IsSmallCount, count_of, heading_forms}
-use Rattle.report_text.specs.Parts.{HasParts, scale_in, whole}
-use Rattle.report_text.specs.ReportFaults.{is_line_feed, words_of, HasFault, cycle_denoted, scale_denoted, version_denoted, HasFirstFault, fault_of}
-use Rattle.report_text.specs.TimingValues.{DenotesPeriod, DenotesShow, IsFlawless, DenotesConstraint, DenotesLead, DenotesPath}
-use Rattle.report_text.specs.DenotedReports.{report_denoted}
-use Rattle.report_text.specs.Walks.{Left, DenotesVersion, ReadsLine, DenotesTimed, TakesLine, DenotesLine}
-use Rattle.report_text.specs.declared.field.Keyword.{Keyword}
-use Rattle.report_text.specs.declared.sections.Pathed.{Pathed}
-use Rattle.report_text.specs.declared.timing_values.PathLine.{PathLine}
 use Rattle.report_text.specs.declared.tree_values.TotalLine.{TotalLine}
-use Rattle.report_text.specs.Bodies.{HasBody, HasVersionLeads}
-use Rattle.report_text.specs.Keywords.{keyword_text}
-use Rattle.report_text.specs.Rows.{Counted, HasPathed, HasRows}
-use Rattle.report_text.specs.Values.{IsSmallScale, SaysMerge, SaysNode, SaysSource, SaysTotal}
-use Rattle.report_text.specs.declared.field.Flaw.{Flaw}
-use Rattle.report_text.specs.Fields.{LineHasFlaw}
 use Rattle.report_text.specs.declared.form.Form.TheVariants as form
 use Rattle.report_text.specs.declared.field.Keyword.TheVariants as word
-use Rattle.report_text.specs.declared.fault.ReportFault.{ReportFault}
-use Rattle.report_text.specs.Laws.{HasFaultOrReport}
 use Rattle.report_text.proofs.SpelledFields.{scale_small}
 use Rattle.report_text.proofs.BodyLemmas.{cycle_shown, heading_read, pathed_shown, leads_given, merge_forms, node_forms, register_forms, sections_apart}
 use Rattle.report_text.proofs.PartLemmas.{forms_denoted}

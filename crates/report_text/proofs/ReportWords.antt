@@ -1,20 +1,5 @@
 -- The lines of a report are lines: words with no space and no line feed.
-use Rattle.std.proofs.Common.{ℕ, pos, Bool, true, false, List, [], ◌∷◌, ◌++◌, map, length, codes, if◌then◌else◌, arith}
-use Rattle.std.specs.List.{AllByRecursion, flat_map, range_with_len}
-use Rattle.cts_model.specs.declared.circuit.Circuit.{Circuit}
-use Rattle.cts_model.specs.declared.constraint.Constraint.{Constraint}
-use Rattle.cts_model.specs.declared.period.PeriodShow.{PeriodShow}
-use Rattle.cts_model.specs.declared.period.PeriodShow.TheVariants.{Cycle, Floor}
-use Rattle.cts_model.specs.declared.place.Point.{Point}
-use Rattle.cts_model.specs.declared.report.Report.{Report}
-use Rattle.cts_model.specs.declared.report.Version.{Version}
-use Rattle.cts_model.specs.declared.report.Version.TheVariants.{First, Second}
-use Rattle.cts_model.specs.declared.schedule.Lead.{Lead}
-use Rattle.cts_model.specs.declared.schedule.Lead.TheVariants.{Zero, Tight}
-use Rattle.cts_model.specs.declared.tree.Show.{Show}
-use Rattle.cts_model.specs.declared.tree.Show.TheVariants.{Pair, Sink, Root}
-use Rattle.cts_model.specs.text.PrintedLines.{Words, count_line, period_line, constraint_line, line_for}
-use Rattle.cts_model.specs.report.ReportLines.{length_text, version_line, path_line, pathed_lines, period_show_lines, register_line_at, lead_line, show_words, merge_line_at, source_line, point_words, node_line_at, lines_below, timing_lines, tree_lines, report_lines, signal_name}
+use Rattle.report_text.proofs.Vocabulary.{ℕ, pos, Bool, true, false, List, [], ◌∷◌, ◌++◌, map, length, codes, if◌then◌else◌, arith, AllByRecursion, flat_map, range_with_len, Circuit, Constraint, PeriodShow, Cycle, Floor, Point, Report, Version, First, Second, Lead, Zero, Tight, Show, Pair, Sink, Root, Words, count_line, period_line, constraint_line, line_for, length_text, version_line, path_line, pathed_lines, period_show_lines, register_line_at, lead_line, show_words, merge_line_at, source_line, point_words, node_line_at, lines_below, timing_lines, tree_lines, report_lines, signal_name}
 use Rattle.report_text.proofs.OneLine.{IsWord, IsLine}
 use Rattle.report_text.proofs.WordBytes.{number_word, fraction_word, quotient_word, slack_word, signal_word, register_word}
 

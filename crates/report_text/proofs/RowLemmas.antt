@@ -1,27 +1,7 @@
 -- Lines of one form, one after the other, and the rows that they tell.
-use Rattle.std.proofs.Common.{ℕ, zero, suc, ◌≡◌, ◌<◌, ◌≤◌, ◌+◌, ◌*◌, All, List, [], ◌∷◌, ◌++◌, map, length, get_or, replicate, refl, sym, ap, ap₂, subst, ◌∙◌, arith}
-use Rattle.std.specs.List.{range_with_len}
-use Rattle.std.proofs.lemmas.List.{length-append}
-use Rattle.std.proofs.lemmas.List.Elements.{All-cons, All-nil, All-push}
-use Rattle.std.proofs.lemmas.List.FromFn.{length-map-range_with_len, map-range_with_len_more}
-use Rattle.cts_model.specs.declared.circuit.Circuit.{Circuit}
-use Rattle.cts_model.specs.declared.constraint.Constraint.{Constraint}
+use Rattle.report_text.proofs.Vocabulary.{ℕ, zero, suc, ◌≡◌, ◌<◌, ◌≤◌, ◌+◌, ◌*◌, All, List, [], ◌∷◌, ◌++◌, map, length, get_or, replicate, refl, sym, ap, ap₂, subst, ◌∙◌, arith, range_with_len, length-append, All-cons, All-nil, All-push, length-map-range_with_len, map-range_with_len_more, Circuit, Constraint, Words, count_line, line_for, HasSmallWeight, IsBetweenRegisters, path_line, pathed_lines, ReportFault, Keyword, Form, Scale, Pathed, PathLine, cycle_forms, keyword_text, Counted, HasPathed, HasRows, SayEach, lines_of, DenotesConstraint, DenotesPath, Left, Reads, Stops, StopsLine, DenotesLine}
 use Rattle.cts_model.specs.declared.report.Version.TheVariants as version
-use Rattle.cts_model.specs.text.PrintedLines.{Words, count_line, line_for}
-use Rattle.cts_model.specs.report.ReportBounds.{HasSmallWeight, IsBetweenRegisters}
-use Rattle.cts_model.specs.report.ReportLines.{path_line, pathed_lines}
-use Rattle.report_text.specs.declared.fault.ReportFault.{ReportFault}
-use Rattle.report_text.specs.declared.field.Keyword.{Keyword}
-use Rattle.report_text.specs.declared.form.Form.{Form}
 use Rattle.report_text.specs.declared.form.Form.TheVariants as form
-use Rattle.report_text.specs.declared.form.Scale.{Scale}
-use Rattle.report_text.specs.declared.sections.Pathed.{Pathed}
-use Rattle.report_text.specs.declared.timing_values.PathLine.{PathLine}
-use Rattle.report_text.specs.Forms.{cycle_forms}
-use Rattle.report_text.specs.Keywords.{keyword_text}
-use Rattle.report_text.specs.Rows.{Counted, HasPathed, HasRows, SayEach, lines_of}
-use Rattle.report_text.specs.TimingValues.{DenotesConstraint, DenotesPath}
-use Rattle.report_text.specs.Walks.{Left, Reads, Stops, StopsLine, DenotesLine}
 use Rattle.report_text.proofs.WalkLemmas.{next_read, next_stops, read_more, read_none, stop_line}
 
 -- a list with one more item

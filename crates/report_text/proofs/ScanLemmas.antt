@@ -1,40 +1,8 @@
 -- Words that are taken one after the other, and a line that is read to its end.
-use Rattle.std.proofs.Common.{◌≡◌, ◌<◌, ◌≤◌, ℕ, nat_le, Bool, true, false, true≢false, if◌then◌else◌, List, [], ◌∷◌, ◌++◌, drop, length, Option, Some, None, Result, Ok, Err, IfOk, refl, sym, ap, ◌∙◌, subst, append_assoc, append-nil, length-append, arith, ◌+◌, ◌^◌, ℤ, pos, cond, All, map, replicate, codes, ◌*◌, get_or, set, take}
-use Rattle.std.specs.Fmt.{signed_decimal}
-use Rattle.std.specs.List.{flat_map}
-use Rattle.std.proofs.lemmas.Bool.{le-leb, leb-true}
-use Rattle.std.proofs.lemmas.Bool.Decides.{nat_tests}
-use Rattle.std.proofs.lemmas.List.{drop-drop, map_push, replicate_more, drop-set-lt, drop_more, length-set, replicate-append-replicate, take_more_set}
-use Rattle.std.proofs.lemmas.List.Splits.{length-slice_split}
-use Rattle.std.proofs.lemmas.Option.{none-some}
-use Rattle.std.proofs.lemmas.List.Elements.{All-nil, All-push, All-rest, All-same}
-use Rattle.std.proofs.lemmas.Grind.{flat_map-append}
-use Rattle.cts_model.specs.declared.circuit.Circuit.{Circuit}
-use Rattle.cts_model.specs.text.PrintedLines.{Words, constraint_line, line_for}
-use Rattle.cts_model.specs.declared.constraint.Constraint.{Constraint}
-use Rattle.cts_model.specs.declared.report.Version.{Version}
-use Rattle.cts_model.specs.declared.report.Version.TheVariants.{First, Second}
-use Rattle.cts_model.specs.placement.Points.{IsBelow, IsPointBelow}
-use Rattle.cts_model.specs.report.ReportBounds.{HasSmallWeight, IsBetweenRegisters}
-use Rattle.cts_model.specs.report.ReportLines.{path_line, signal_name, origin}
-use Rattle.cts_model.specs.declared.place.Point.{Point}
+use Rattle.report_text.proofs.Vocabulary.{◌≡◌, ◌<◌, ◌≤◌, ℕ, nat_le, Bool, true, false, true≢false, if◌then◌else◌, List, [], ◌∷◌, ◌++◌, drop, length, Option, Some, None, Result, Ok, Err, IfOk, refl, sym, ap, ◌∙◌, subst, append_assoc, append-nil, length-append, arith, ◌+◌, ◌^◌, ℤ, pos, cond, All, map, replicate, codes, ◌*◌, get_or, set, take, signed_decimal, flat_map, le-leb, leb-true, nat_tests, drop-drop, map_push, replicate_more, drop-set-lt, drop_more, length-set, replicate-append-replicate, take_more_set, length-slice_split, none-some, All-nil, All-push, All-rest, All-same, flat_map-append, Circuit, Words, constraint_line, line_for, Constraint, Version, First, Second, IsBelow, IsPointBelow, HasSmallWeight, IsBetweenRegisters, path_line, signal_name, origin, Point, Field, Flaw, Form, Scale, LineHasFlaw, WordHasFlaw, rank, sooner_flaw, fields_of, constraint_fields, length_field, ReportFault, fault_of, words_of, Left, ReadsLine, StopsLine, TakesLine, DenotesVersion, EndsIn, Keeps, LineLeft, ReadsForm, Taken, Takes, TakesNext, flaw_in, version_text, DenotesConstraint, DenotesPath, coordinates}
 use Rattle.cts_model.specs.tree.DrawnWires.{ArePadded}
-use Rattle.report_text.specs.LineFields.{Field}
-use Rattle.report_text.specs.declared.field.Flaw.{Flaw}
 use Rattle.report_text.specs.declared.field.Flaw.TheVariants as flaws
-use Rattle.report_text.specs.declared.form.Form.{Form}
-use Rattle.report_text.specs.declared.form.Scale.{Scale}
-use Rattle.report_text.specs.Fields.{LineHasFlaw, WordHasFlaw}
-use Rattle.report_text.specs.FlawOrder.{rank, sooner_flaw}
-use Rattle.report_text.specs.Forms.{fields_of, constraint_fields, length_field}
-use Rattle.report_text.specs.declared.fault.ReportFault.{ReportFault}
-use Rattle.report_text.specs.ReportFaults.{fault_of, words_of}
-use Rattle.report_text.specs.Walks.{Left, ReadsLine, StopsLine, TakesLine, DenotesVersion}
-use Rattle.report_text.specs.Scans.{EndsIn, Keeps, LineLeft, ReadsForm, Taken, Takes, TakesNext, flaw_in}
 use Rattle.report_text.specs.LineFields as field
-use Rattle.report_text.specs.Keywords.{version_text}
-use Rattle.report_text.specs.TimingValues.{DenotesConstraint, DenotesPath}
-use Rattle.report_text.specs.Values.{coordinates}
 use Rattle.report_text.proofs.WalkLemmas.{line_first, line_read}
 
 -- ---- of flaws the sooner

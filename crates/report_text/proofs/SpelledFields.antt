@@ -1,35 +1,8 @@
 -- What each word of a line without a flaw is: the word of a value that its field admits. A line has
 -- no flaw just where each of its words is one.
-use Rattle.std.proofs.Common.{◌≡◌, ◌*◌, ◌^◌, ℤ, pos, negsuc, ◌*ℤ◌, ◌≤ℤ◌, arith, ◌<◌, ◌≤◌, ◌⊎◌, ℕ, nat_abs, Bool, true, false, inl, inr, List, [], ◌∷◌, length, if◌then◌else◌, Option, Some, None, codes, drop, get_or, refl, sym, ap, ◌∙◌, subst}
-use Rattle.std.specs.Fmt.{signed_decimal}
-use Rattle.std.specs.List.{AllByRecursion}
-use Rattle.std.proofs.Math.Nat.{one-le-mul}
-use Rattle.std.proofs.lemmas.Int.{ints}
+use Rattle.report_text.proofs.Vocabulary.{◌≡◌, ◌*◌, ◌^◌, ℤ, pos, negsuc, ◌*ℤ◌, ◌≤ℤ◌, arith, ◌<◌, ◌≤◌, ◌⊎◌, ℕ, nat_abs, Bool, true, false, inl, inr, List, [], ◌∷◌, length, if◌then◌else◌, Option, Some, None, codes, drop, get_or, refl, sym, ap, ◌∙◌, subst, signed_decimal, AllByRecursion, one-le-mul, ints, Fraction, HasSizeBelow, fraction_text, quotient_text, IsLowest, SpellsWhole, HaveSmallSizes, few_digits, lowest_sizes, no_fraction_minus, one_decimal, one_fraction_text, one_number_text, one_quotient_text, one_whole, quotient_some, quotient_text_spelled, Tech, IsBelow, IsSmallPeriod, Circuit, Version, First, Second, register_name, signal_name, Words, slack_text, IsSmallSlack, one_register, one_signal, scale_in, IsSmallScale, Field, AreFewSteps, IsFractionForm, IsWholeSteps, LineHasFlaw, NamesRegister, WordHasFlaw, keyword_text, version_text}
 use Rattle.std.proofs.lemmas.Nat.{mul-le}
 use Rattle.std.proofs.Props.{props}
-use Rattle.cts_base.specs.declared.fraction.Fraction.{Fraction}
-use Rattle.cts_base.specs.Fractions.{HasSizeBelow, fraction_text, quotient_text, IsLowest}
-use Rattle.cts_base.specs.NumberTexts.{SpellsWhole, HaveSmallSizes}
-use Rattle.cts_base.proofs.FractionReading.{few_digits}
-use Rattle.cts_base.proofs.GreatestDivisors.{lowest_sizes}
-use Rattle.cts_base.proofs.OneNumberText.{no_fraction_minus, one_decimal, one_fraction_text, one_number_text, one_quotient_text}
-use Rattle.cts_base.proofs.OneSpelling.{one_whole, quotient_some, quotient_text_spelled}
-use Rattle.cts_model.specs.declared.tech.Tech.{Tech}
-use Rattle.cts_model.specs.placement.Points.{IsBelow}
-use Rattle.cts_model.specs.timing.Schedules.{IsSmallPeriod}
-use Rattle.cts_model.specs.declared.circuit.Circuit.{Circuit}
-use Rattle.cts_model.specs.declared.report.Version.{Version}
-use Rattle.cts_model.specs.declared.report.Version.TheVariants.{First, Second}
-use Rattle.cts_model.specs.netlist.Paths.{register_name}
-use Rattle.cts_model.specs.report.ReportLines.{signal_name}
-use Rattle.cts_model.specs.text.PrintedLines.{Words, slack_text}
-use Rattle.cts_model.specs.timing.Slacks.{IsSmallSlack}
-use Rattle.name_set.proofs.OneName.{one_register, one_signal}
-use Rattle.report_text.specs.Parts.{scale_in}
-use Rattle.report_text.specs.Values.{IsSmallScale}
-use Rattle.report_text.specs.LineFields.{Field}
-use Rattle.report_text.specs.Fields.{AreFewSteps, IsFractionForm, IsWholeSteps, LineHasFlaw, NamesRegister, WordHasFlaw}
-use Rattle.report_text.specs.Keywords.{keyword_text, version_text}
 use Rattle.report_text.specs.LineFields as field
 use Rattle.report_text.proofs.FractionFlaws.{dash_plain, period_within, read_quotient_is, steps_denoted, steps_small}
 use Rattle.report_text.proofs.NumberWords.{below_bound, denoted_steps, smaller, spelled_steps, spelled_whole, whole_word}

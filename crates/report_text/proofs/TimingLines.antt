@@ -1,44 +1,10 @@
 -- A line of the timing without a flaw is that of a value, and the line of a value within the bounds
 -- has no flaw.
-use Rattle.std.proofs.Common.{if◌then◌else◌, ℤ, ◌≡◌, ◌<◌, ◌≤◌, ◌-◌, ◌^◌, ℕ, zero, suc, pos, Bool, true, false, cond, List, [], ◌∷◌, All, map, replicate, length, Option, Some, None, codes, refl, sym, ap, ◌∙◌, subst, arith}
-use Rattle.std.proofs.lemmas.Bool.{false_from_ne_true}
+use Rattle.report_text.proofs.Vocabulary.{if◌then◌else◌, ℤ, ◌≡◌, ◌<◌, ◌≤◌, ◌-◌, ◌^◌, ℕ, zero, suc, pos, Bool, true, false, cond, List, [], ◌∷◌, All, map, replicate, length, Option, Some, None, codes, refl, sym, ap, ◌∙◌, subst, arith, false_from_ne_true, ints, length-map, All-cons, All-nil, bytes_eq-Decides, signed_decimal, AllByRecursion, bytes_eq, Fraction, few_digits, no_fraction_minus, one_number_text, Circuit, Constraint, Version, First, Second, Lead, Zero, Tight, IsBelow, Words, constraint_line, count_line, line_for, period_line, register_line, IsBetweenRegisters, HasSmallWeight, LeadsAmong, IsSmallLead, lead_line, path_line, signal_name, version_line, IsSmallPeriod, AreSmallSlacks, Field, Keyword, Scale, Timed, LineHasFlaw, constraint_fields, is_word, register_fields, IsSmallCount, shown_line, keyword_text, IsFlawless, DenotesConstraint, DenotesLead, DenotesPath, DenotesPeriod, DenotesShow, IsSmallScale, DenotesTimed, DenotesVersion}
 use Rattle.std.proofs.lemmas.Fmt.{decimal_digit}
-use Rattle.std.proofs.lemmas.Int.{ints}
-use Rattle.std.proofs.lemmas.List.{length-map}
-use Rattle.std.proofs.lemmas.List.Elements.{All-cons, All-nil}
-use Rattle.std.proofs.lemmas.Slice.Eq.{bytes_eq-Decides}
-use Rattle.std.specs.Fmt.{signed_decimal}
-use Rattle.std.specs.List.{AllByRecursion}
-use Rattle.std.specs.Str.{bytes_eq}
-use Rattle.cts_base.specs.declared.fraction.Fraction.{Fraction}
-use Rattle.cts_base.proofs.FractionReading.{few_digits}
-use Rattle.cts_base.proofs.OneNumberText.{no_fraction_minus, one_number_text}
-use Rattle.cts_model.specs.declared.circuit.Circuit.{Circuit}
-use Rattle.cts_model.specs.declared.constraint.Constraint.{Constraint}
-use Rattle.cts_model.specs.declared.report.Version.{Version}
-use Rattle.cts_model.specs.declared.report.Version.TheVariants.{First, Second}
-use Rattle.cts_model.specs.declared.schedule.Lead.{Lead}
-use Rattle.cts_model.specs.declared.schedule.Lead.TheVariants.{Zero, Tight}
-use Rattle.cts_model.specs.placement.Points.{IsBelow}
-use Rattle.cts_model.specs.text.PrintedLines.{Words, constraint_line, count_line, line_for, period_line, register_line}
-use Rattle.cts_model.specs.report.ReportBounds.{IsBetweenRegisters, HasSmallWeight, LeadsAmong, IsSmallLead}
-use Rattle.cts_model.specs.report.ReportLines.{lead_line, path_line, signal_name, version_line}
-use Rattle.cts_model.specs.timing.Schedules.{IsSmallPeriod}
-use Rattle.cts_model.specs.timing.Slacks.{AreSmallSlacks}
-use Rattle.report_text.specs.LineFields.{Field}
 use Rattle.report_text.specs.LineFields as field
-use Rattle.report_text.specs.declared.field.Keyword.{Keyword}
 use Rattle.report_text.specs.declared.field.Keyword.TheVariants as word
 use Rattle.report_text.specs.declared.form.Form.TheVariants as form
-use Rattle.report_text.specs.declared.form.Scale.{Scale}
-use Rattle.report_text.specs.declared.timing_values.Timed.{Timed}
-use Rattle.report_text.specs.Fields.{LineHasFlaw}
-use Rattle.report_text.specs.Forms.{constraint_fields, is_word, register_fields}
-use Rattle.report_text.specs.Headings.{IsSmallCount, shown_line}
-use Rattle.report_text.specs.Keywords.{keyword_text}
-use Rattle.report_text.specs.TimingValues.{IsFlawless, DenotesConstraint, DenotesLead, DenotesPath, DenotesPeriod, DenotesShow}
-use Rattle.report_text.specs.Values.{IsSmallScale}
-use Rattle.report_text.specs.Walks.{DenotesTimed, DenotesVersion}
 use Rattle.report_text.proofs.ScanLemmas.{constraint_read, path_read, version_read}
 use Rattle.report_text.proofs.SpelledFields.{AdmitsEach, IsSmallField, Tells, Values, line_plain, line_spelled, small_number, spell_line, values_plain}
 

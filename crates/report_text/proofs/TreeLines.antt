@@ -1,34 +1,9 @@
 -- A line of the tree without a flaw is that of a value, and the line of a value within the bounds
 -- has no flaw.
-use Rattle.std.proofs.Common.{◌≡◌, ◌<◌, ◌≤◌, ◌+◌, ◌*◌, ◌-◌, ◌^◌, ◌++◌, nat_le, suc, zero, replicate, take, All, Bool, if◌then◌else◌, ℕ, ℤ, pos, List, [], ◌∷◌, get_or, length, None, true, false, refl, sym, ap, ◌∙◌, subst, codes, arith}
-use Rattle.std.proofs.lemmas.Bool.{le-leb, leb-true}
-use Rattle.std.proofs.lemmas.Bool.Decides.{Decides-eqb}
-use Rattle.std.proofs.lemmas.List.{drop_at, length-append, length-replicate, length-take, take_at}
-use Rattle.std.proofs.lemmas.List.Elements.{All-cons, All-nil, All-replicate}
-use Rattle.std.specs.Fmt.{signed_decimal}
-use Rattle.std.specs.List.{AllByRecursion, flat_map}
-use Rattle.cts_base.specs.Fractions.{quotient_text}
-use Rattle.cts_model.specs.declared.circuit.Circuit.{Circuit}
-use Rattle.cts_model.specs.declared.place.Point.{Point}
-use Rattle.cts_model.specs.declared.tree.Show.{Show}
-use Rattle.cts_model.specs.declared.tree.Show.TheVariants.{Pair, Sink, Root}
-use Rattle.cts_model.specs.netlist.Paths.{register_name}
-use Rattle.cts_model.specs.placement.Points.{IsBelow, IsPointBelow}
-use Rattle.cts_model.specs.text.PrintedLines.{Words}
-use Rattle.cts_model.specs.report.ReportBounds.{IsMergeShow, IsSourceShow, ShowsAmong}
-use Rattle.cts_model.specs.report.ReportLines.{origin}
-use Rattle.report_text.specs.LineFields.{Field}
+use Rattle.report_text.proofs.Vocabulary.{◌≡◌, ◌<◌, ◌≤◌, ◌+◌, ◌*◌, ◌-◌, ◌^◌, ◌++◌, nat_le, suc, zero, replicate, take, All, Bool, if◌then◌else◌, ℕ, ℤ, pos, List, [], ◌∷◌, get_or, length, None, true, false, refl, sym, ap, ◌∙◌, subst, codes, arith, le-leb, leb-true, Decides-eqb, drop_at, length-append, length-replicate, length-take, take_at, All-cons, All-nil, All-replicate, signed_decimal, AllByRecursion, flat_map, quotient_text, Circuit, Point, Show, Pair, Sink, Root, register_name, IsBelow, IsPointBelow, Words, IsMergeShow, IsSourceShow, ShowsAmong, origin, Field, Scale, MergeLine, NodeLine, SourceLine, LineHasFlaw, has_points, is_word, length_field, merge_fields, node_fields, pointed_fields, points_of, total_fields, IsFlawless, IsSmallScale, SaysMerge, SaysNode, SaysSource, SaysTotal, coordinates, merged_line, sourced_line}
 use Rattle.report_text.specs.LineFields as field
 use Rattle.report_text.specs.declared.field.Keyword.TheVariants as word
 use Rattle.report_text.specs.declared.form.Form.TheVariants as form
-use Rattle.report_text.specs.declared.form.Scale.{Scale}
-use Rattle.report_text.specs.declared.tree_values.MergeLine.{MergeLine}
-use Rattle.report_text.specs.declared.tree_values.NodeLine.{NodeLine}
-use Rattle.report_text.specs.declared.tree_values.SourceLine.{SourceLine}
-use Rattle.report_text.specs.Fields.{LineHasFlaw}
-use Rattle.report_text.specs.Forms.{has_points, is_word, length_field, merge_fields, node_fields, pointed_fields, points_of, total_fields}
-use Rattle.report_text.specs.TimingValues.{IsFlawless}
-use Rattle.report_text.specs.Values.{IsSmallScale, SaysMerge, SaysNode, SaysSource, SaysTotal, coordinates, merged_line, sourced_line}
 use Rattle.report_text.proofs.WordBytes.{both}
 use Rattle.report_text.proofs.NameNumbers.{named_register}
 use Rattle.report_text.proofs.SpelledFields.{IsSmallField, Tells, line_plain, line_spelled, values_plain}

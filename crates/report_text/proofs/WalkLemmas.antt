@@ -1,27 +1,7 @@
 -- Lines that are taken from a text one after the other, the first flaw of a line, and the first
 -- fault of a text.
-use Rattle.std.proofs.Common.{◌≡◌, ◌↔◌, ℕ, List, ◌∷◌, Option, Some, None, refl, zero, suc, ◌<◌, ◌+◌, ◌-◌, ◌==◌, Bool, true, false, Result, Ok, Err, IfErr, IsErrAnd, [], ◌++◌, map, length, take, drop, get_or, MatchBool, MatchOption, sym, ap, ap₂, subst, ◌∙◌, append_assoc, append-nil, arith, drop-cons, nat_lt, length-append, lt-ltb, eq-eqb, ne_eqb}
-use Rattle.std.specs.List.{slice_split, position, position_or_len, join_with_byte}
-use Rattle.std.proofs.lemmas.Bool.Decides.{nat_tests}
-use Rattle.std.proofs.lemmas.Grind.{flat_map-append}
-use Rattle.std.proofs.lemmas.List.{take-append-drop, drop-drop, length-append, take_at}
-use Rattle.std.proofs.lemmas.List.Splits.{join_with_byte-slice_split, length-slice_split, slice_split_first}
-use Rattle.std.proofs.lemmas.List.Sums.{passes_at_first}
-use Rattle.cts_model.specs.declared.circuit.Circuit.{Circuit}
-use Rattle.cts_model.specs.text.PrintedLines.{Words, line_of}
-use Rattle.report_text.specs.LineFields.{Field}
-use Rattle.report_text.specs.declared.field.Flaw.{Flaw}
-use Rattle.report_text.specs.declared.field.Flaw.TheVariants.{Form as Malformed, Unknown, Unfit, Large}
-use Rattle.report_text.specs.Fields.{EachWord, IsFirstFlaw, IsFit, IsFormed, IsKnown, IsWithin, LineHasFlaw, WordHasFlaw}
-use Rattle.report_text.specs.FlawOrder.{sooner_flaw}
-use Rattle.report_text.specs.declared.fault.ReportFault.{ReportFault}
-use Rattle.report_text.specs.declared.fault.ReportFault.TheVariants.{BadLine, Missing}
-use Rattle.report_text.specs.declared.form.Form.{Form}
-use Rattle.report_text.specs.declared.form.Scale.{Scale}
-use Rattle.report_text.specs.Forms.{fields_of}
-use Rattle.report_text.specs.ReportFaults.{HasFirstFault, is_line_feed, is_space, words_of, fault_of}
-use Rattle.report_text.specs.TimingValues.{IsFlawless}
-use Rattle.report_text.specs.Walks.{Left, TakesLine, Reads, ReadsLine, Stops, StopsLine}
+use Rattle.report_text.proofs.Vocabulary.{◌≡◌, ◌↔◌, ℕ, List, ◌∷◌, Option, Some, None, refl, zero, suc, ◌<◌, ◌+◌, ◌-◌, ◌==◌, Bool, true, false, Result, Ok, Err, IfErr, IsErrAnd, [], ◌++◌, map, length, take, drop, get_or, MatchBool, MatchOption, sym, ap, ap₂, subst, ◌∙◌, append_assoc, append-nil, arith, drop-cons, nat_lt, length-append, lt-ltb, eq-eqb, ne_eqb, slice_split, position, position_or_len, join_with_byte, nat_tests, flat_map-append, take-append-drop, drop-drop, take_at, join_with_byte-slice_split, length-slice_split, slice_split_first, passes_at_first, Circuit, Words, line_of, Field, Flaw, Unknown, Unfit, Large, EachWord, IsFirstFlaw, IsFit, IsFormed, IsKnown, IsWithin, LineHasFlaw, WordHasFlaw, sooner_flaw, ReportFault, BadLine, Missing, Form, Scale, fields_of, HasFirstFault, is_line_feed, is_space, words_of, fault_of, IsFlawless, Left, TakesLine, Reads, ReadsLine, Stops, StopsLine}
+use Rattle.report_text.specs.declared.field.Flaw.TheVariants.{Form as Malformed}
 use Rattle.report_text.proofs.OneLine.{IsLine, Lacks, words_cut, words_lack}
 
 -- ---- of two

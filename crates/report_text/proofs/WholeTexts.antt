@@ -1,51 +1,9 @@
 -- A text spells one report at the most and has one fault at the most, and none where it spells one;
 -- so what is read of it is that report, and a text with a fault is refused for that fault.
-use Rattle.std.proofs.Common.{◌≡◌, ◌<◌, ◌≤◌, ◌+◌, ◌^◌, ℕ, suc, pos, Bool, true, false, cond, List, [], ◌∷◌, ◌++◌, All, map, take, drop, get_or, length, codes, refl, sym, ap, ap₂, ◌∙◌, subst, arith, ◌-◌, ◌*◌, zero, None, ◌≢◌, ◌⊎◌, inl, inr, Option, Some, Result, Ok, Err, IfErr, IfOk}
-use Rattle.std.specs.List.{flat_map, range_with_len}
-use Rattle.std.proofs.lemmas.List.{length-drop, same_lists, take-append-drop}
-use Rattle.std.proofs.lemmas.Option.{same_Some}
-use Rattle.cts_base.specs.Fractions.{quotient_text}
-use Rattle.cts_model.specs.declared.circuit.Circuit.{Circuit}
-use Rattle.cts_model.specs.declared.constraint.Constraint.{Constraint}
-use Rattle.cts_model.specs.declared.period.PeriodShow.{PeriodShow}
-use Rattle.cts_model.specs.declared.period.PeriodShow.TheVariants.{Cycle, Floor}
-use Rattle.cts_model.specs.declared.place.Point.{Point}
-use Rattle.cts_model.specs.declared.report.Version.{Version}
-use Rattle.cts_model.specs.declared.report.Version.TheVariants.{First, Second}
-use Rattle.cts_model.specs.declared.schedule.Lead.{Lead}
-use Rattle.cts_model.specs.declared.schedule.Lead.TheVariants.{Zero, Tight}
-use Rattle.cts_model.specs.declared.tech.Tech.{Tech}
-use Rattle.cts_model.specs.declared.tree.Show.{Show}
-use Rattle.cts_model.specs.declared.tree.Show.TheVariants.{Pair, Sink, Root}
-use Rattle.cts_model.specs.declared.tree.Wire.{Wire}
-use Rattle.cts_model.specs.placement.Points.{IsPointBelow}
-use Rattle.cts_model.specs.report.ReportBounds.{HasSmallWeight, IsBetweenRegisters, IsSmallWire, ShowsAmong, HasSmallWeights, count_in, Spells}
-use Rattle.cts_model.specs.report.ReportLines.{lead_line, path_line, pathed_lines, period_show_lines, show_words, signal_name, version_line, report_lines}
-use Rattle.cts_model.specs.text.PrintedLines.{Words, count_line, line_for, line_of, period_line, text_of}
-use Rattle.cts_model.specs.declared.report.Report.{Report}
-use Rattle.name_set.proofs.OneName.{one_register, one_signal, few_registers}
+use Rattle.report_text.proofs.Vocabulary.{◌≡◌, ◌<◌, ◌≤◌, ◌+◌, ◌^◌, ℕ, suc, pos, Bool, true, false, cond, List, [], ◌∷◌, ◌++◌, All, map, take, drop, get_or, length, codes, refl, sym, ap, ap₂, ◌∙◌, subst, arith, ◌-◌, ◌*◌, zero, None, ◌≢◌, ◌⊎◌, inl, inr, Option, Some, Result, Ok, Err, IfErr, IfOk, flat_map, range_with_len, length-drop, same_lists, take-append-drop, same_Some, quotient_text, Circuit, Constraint, PeriodShow, Cycle, Floor, Point, Version, First, Second, Lead, Zero, Tight, Tech, Show, Pair, Sink, Root, Wire, IsPointBelow, HasSmallWeight, IsBetweenRegisters, IsSmallWire, ShowsAmong, HasSmallWeights, count_in, Spells, lead_line, path_line, pathed_lines, period_show_lines, show_words, signal_name, version_line, report_lines, Words, count_line, line_for, line_of, period_line, text_of, Report, one_register, one_signal, few_registers, Scale, Parts, Timed, MergeLine, NodeLine, SourceLine, denoted_lines, timed_line, lines_after, report_denoted, constraint_fields, length_field, slack_field, cycle_forms, forms_after, forms_of, lead_forms, scale_in, lines_of, DenotesConstraint, DenotesLead, IsFlawless, IsSmallScale, SaysMerge, SaysNode, SaysSource, coordinates, merged_line, placed_line, sourced_line, DenotesTimed, Left, Form, IsSmallCount, count_of, shown_line, HasFault, HasFirstFault, cycle_denoted, scale_denoted, version_denoted, ReportFault, NoMemory, OneReport}
 use Rattle.report_text.specs.LineFields as field
-use Rattle.report_text.specs.declared.form.Scale.{Scale}
-use Rattle.report_text.specs.declared.sections.Parts.{Parts}
-use Rattle.report_text.specs.declared.timing_values.Timed.{Timed}
-use Rattle.report_text.specs.declared.tree_values.MergeLine.{MergeLine}
-use Rattle.report_text.specs.declared.tree_values.NodeLine.{NodeLine}
-use Rattle.report_text.specs.declared.tree_values.SourceLine.{SourceLine}
-use Rattle.report_text.specs.DenotedReports.{denoted_lines, timed_line, lines_after, report_denoted}
-use Rattle.report_text.specs.Forms.{constraint_fields, length_field, slack_field, cycle_forms, forms_after, forms_of, lead_forms}
-use Rattle.report_text.specs.Parts.{scale_in}
-use Rattle.report_text.specs.Rows.{lines_of}
-use Rattle.report_text.specs.TimingValues.{DenotesConstraint, DenotesLead, IsFlawless}
-use Rattle.report_text.specs.Values.{IsSmallScale, SaysMerge, SaysNode, SaysSource, coordinates, merged_line, placed_line, sourced_line}
-use Rattle.report_text.specs.Walks.{DenotesTimed, Left}
 use Rattle.report_text.specs.declared.field.Keyword.TheVariants as word
-use Rattle.report_text.specs.declared.form.Form.{Form}
 use Rattle.report_text.specs.declared.form.Form.TheVariants as form
-use Rattle.report_text.specs.Headings.{IsSmallCount, count_of, shown_line}
-use Rattle.report_text.specs.ReportFaults.{HasFault, HasFirstFault, cycle_denoted, scale_denoted, version_denoted}
-use Rattle.report_text.specs.declared.fault.ReportFault.{ReportFault}
-use Rattle.report_text.specs.declared.fault.ReportFault.TheVariants.{NoMemory}
-use Rattle.report_text.specs.Laws.{OneReport}
 use Rattle.report_text.proofs.AssemblyLemmas.{after_apart, ArePrintable, IsPrintableShow, IsTold, count_shown, cycle_told}
 use Rattle.report_text.proofs.SpelledFields.{scale_small, IsSmallField, Values, one_value, one_values}
 use Rattle.report_text.proofs.RowLemmas.{plain_lines, one_form}

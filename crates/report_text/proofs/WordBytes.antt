@@ -1,23 +1,6 @@
 -- The words of a report have no space and no line feed: numbers, and the names of signals.
-use Rattle.std.proofs.Common.{◌≡◌, ◌<◌, ◌+◌, ◌/◌, ◌%◌, ◌==◌, ◌&&◌, ◌||◌, not, ℕ, suc, zero, ℤ, pos, negsuc, Bool, true, false, cond, List, [], ◌∷◌, ◌++◌, Option, Some, None, slice_get, nat_lt, nat_le, refl, sym, subst, true≢false, arith}
-use Rattle.std.specs.Fmt.{digits, digits_onto, digit_glyph, signed_decimal}
-use Rattle.std.specs.List.{list_all}
+use Rattle.report_text.proofs.Vocabulary.{◌≡◌, ◌<◌, ◌+◌, ◌/◌, ◌%◌, ◌==◌, ◌&&◌, ◌||◌, not, ℕ, suc, zero, ℤ, pos, negsuc, Bool, true, false, cond, List, [], ◌∷◌, ◌++◌, Option, Some, None, slice_get, nat_lt, nat_le, refl, sym, subst, true≢false, arith, digits, digits_onto, digit_glyph, signed_decimal, list_all, int_eq, bytes_eq, leb-true, slice_get_within, get_or_from_slice_get, bytes_eq-Decides, Fraction, fraction_text, quotient_text, Signal, Circuit, host_name, is_named, is_host, is_mark, is_name_byte, is_name, is_short, register_name, slack_text, signal_name}
 use Rattle.std.specs.Option.{option_and_then, option_map_or}
-use Rattle.std.specs.Ordering.{int_eq}
-use Rattle.std.specs.Str.{bytes_eq}
-use Rattle.std.proofs.lemmas.Bool.{leb-true}
-use Rattle.std.proofs.lemmas.Option.{slice_get_within, get_or_from_slice_get}
-use Rattle.std.proofs.lemmas.Slice.Eq.{bytes_eq-Decides}
-use Rattle.cts_base.specs.declared.fraction.Fraction.{Fraction}
-use Rattle.cts_base.specs.Fractions.{fraction_text, quotient_text}
-use Rattle.cts_model.specs.declared.signal.Signal.{Signal}
-use Rattle.cts_model.specs.declared.circuit.Circuit.{Circuit}
-use Rattle.cts_model.specs.netlist.Circuits.{host_name, is_named}
-use Rattle.cts_model.specs.netlist.Kinds.{is_host}
-use Rattle.cts_model.specs.text.Names.{is_mark, is_name_byte, is_name, is_short}
-use Rattle.cts_model.specs.netlist.Paths.{register_name}
-use Rattle.cts_model.specs.text.PrintedLines.{slack_text}
-use Rattle.cts_model.specs.report.ReportLines.{signal_name}
 use Rattle.report_text.proofs.OneLine.{IsWord}
 
 -- both of two tests pass

@@ -1,6 +1,4 @@
-use Rattle.std.proofs.Common.{◌≡◌, to_z, of_z, rules}
-use mir.Syntax.{w128}
-use Rattle.cts_model.specs.tree.Problems.{grid_of}
+use Rattle.report_text.proofs.Vocabulary.{◌≡◌, to_z, of_z, rules, w128, grid_of}
 use Rattle.report_text.proofs.assembly.put_together.Goals as goal
 
 pub returns : goal.returns

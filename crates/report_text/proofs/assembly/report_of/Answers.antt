@@ -1,4 +1,4 @@
-use Rattle.std.proofs.Common.{arith}
+use Rattle.report_text.proofs.Vocabulary.{arith}
 use Rattle.report_text.proofs.AssemblyLemmas.{arrivals_below, parts_spelled, parts_printable}
 use Rattle.report_text.proofs.assembly.report_of.Goals as goal
 

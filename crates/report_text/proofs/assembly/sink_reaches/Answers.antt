@@ -1,9 +1,4 @@
-use Rattle.std.proofs.Common.{◌≡◌, ◌^◌, ◌∷◌, ◌++◌, ◌∙◌, [], pos, get_or, take, to_z, of_z, ap, subst, sym, arith}
-use mir.Syntax.{w128}
-use Rattle.std.proofs.lemmas.Int.{ints}
-use Rattle.std.proofs.lemmas.List.{map_more}
-use Rattle.cts_model.specs.placement.Points.{IsBelow}
-use Rattle.report_text.specs.DenotedReports.{sink_reach, sink_reaches}
+use Rattle.report_text.proofs.Vocabulary.{◌≡◌, ◌^◌, ◌∷◌, ◌++◌, ◌∙◌, [], pos, get_or, take, to_z, of_z, ap, subst, sym, arith, w128, ints, map_more, IsBelow, sink_reach, sink_reaches}
 use Rattle.report_text.proofs.AssemblyLemmas.{sink_below, small_read}
 use Rattle.report_text.proofs.assembly.sink_reaches.Goals as goal
 

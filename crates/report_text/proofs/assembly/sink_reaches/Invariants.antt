@@ -1,5 +1,4 @@
-use Rattle.std.proofs.Common.{◌≡◌, take}
-use Rattle.report_text.specs.DenotedReports.{sink_reaches}
+use Rattle.report_text.proofs.Vocabulary.{◌≡◌, take, sink_reaches}
 use Rattle.report_text.proofs.assembly.sink_reaches.Given as goal
 
 -- the reaches of the sinks so far

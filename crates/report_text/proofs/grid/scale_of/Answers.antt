@@ -1,6 +1,4 @@
-use Rattle.std.proofs.Common.{◌^◌, ◌∙◌, sym, subst, arith}
-use Rattle.cts_base.specs.Fractions.{HasSizeBelow}
-use Rattle.cts_base.proofs.FractionReading.{held_same}
+use Rattle.report_text.proofs.Vocabulary.{◌^◌, ◌∙◌, sym, subst, arith, HasSizeBelow, held_same}
 use Rattle.report_text.proofs.SpelledFields.{scale_small}
 use Rattle.report_text.proofs.grid.scale_of.Goals as goal
 

@@ -1,5 +1,4 @@
-use Rattle.std.proofs.Common.{◌∙◌, append_assoc}
-use Rattle.std.proofs.lemmas.List.{take_all}
+use Rattle.report_text.proofs.Vocabulary.{◌∙◌, append_assoc, take_all}
 use Rattle.report_text.proofs.LineLemmas.{join_with_byte-map}
 use Rattle.report_text.proofs.line.push_line.Goals as goal
 

@@ -1,5 +1,4 @@
-use Rattle.std.proofs.Common.{◌≡◌, ◌++◌, ◌∷◌, take}
-use Rattle.std.specs.List.{flat_map}
+use Rattle.report_text.proofs.Vocabulary.{◌≡◌, ◌++◌, ◌∷◌, take, flat_map}
 use Rattle.report_text.proofs.line.push_line.Given as goal
 
 -- the words so far, each but the first after a space

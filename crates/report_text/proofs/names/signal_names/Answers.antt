@@ -1,6 +1,4 @@
-use Rattle.std.proofs.Common.{◌++◌, ◌∷◌, [], sym, ap, ◌∙◌, arith}
-use Rattle.std.proofs.lemmas.List.FromFn.{map-range_with_len_more}
-use Rattle.cts_model.specs.report.ReportLines.{signal_name}
+use Rattle.report_text.proofs.Vocabulary.{◌++◌, ◌∷◌, [], sym, ap, ◌∙◌, arith, map-range_with_len_more, signal_name}
 use Rattle.report_text.proofs.NameNumbers.{signal_new, signals_few}
 use Rattle.report_text.proofs.names.signal_names.Goals as goal
 

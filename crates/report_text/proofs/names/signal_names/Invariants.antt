@@ -1,6 +1,4 @@
-use Rattle.std.proofs.Common.{◌≡◌, map}
-use Rattle.std.specs.List.{range_with_len}
-use Rattle.cts_model.specs.report.ReportLines.{signal_name}
+use Rattle.report_text.proofs.Vocabulary.{◌≡◌, map, range_with_len, signal_name}
 use Rattle.report_text.proofs.names.signal_names.Given as goal
 
 abbrev pub invariant-loop-signal : goal.invariant-loop-signal

@@ -1,5 +1,4 @@
-use Rattle.std.proofs.Common.{◌≡◌, ◌++◌, ◌∷◌, map, take, length, codes}
-use Rattle.cts_model.specs.text.PrintedLines.{line_for, count_line, text_of}
+use Rattle.report_text.proofs.Vocabulary.{◌≡◌, ◌++◌, ◌∷◌, map, take, length, codes, line_for, count_line, text_of}
 use Rattle.report_text.proofs.period.push_cycle.Given as goal
 
 -- the count, and the constraints so far

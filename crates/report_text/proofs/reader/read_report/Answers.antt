@@ -1,4 +1,4 @@
-use Rattle.std.proofs.Common.{rules, arith}
+use Rattle.report_text.proofs.Vocabulary.{rules, arith}
 use Rattle.report_text.proofs.PassedTexts.{fault_or_report}
 use Rattle.report_text.proofs.WalkLemmas.{passed_on}
 use Rattle.report_text.proofs.WholeTexts.{fault_read, spelled_read}

@@ -1,6 +1,4 @@
-use Rattle.std.proofs.Common.{◌≡◌, ◌++◌, map, take}
-use Rattle.cts_model.specs.text.PrintedLines.{text_of}
-use Rattle.cts_model.specs.report.ReportLines.{lead_line}
+use Rattle.report_text.proofs.Vocabulary.{◌≡◌, ◌++◌, map, take, text_of, lead_line}
 use Rattle.report_text.proofs.timing.push_leads.Given as goal
 
 -- the leads so far

@@ -1,4 +1,4 @@
-use Rattle.std.proofs.Common.{append_assoc, arith}
+use Rattle.report_text.proofs.Vocabulary.{append_assoc, arith}
 use Rattle.report_text.proofs.LineLemmas.{line_of-suffix, path_line-some}
 use Rattle.report_text.proofs.timing.push_path.Goals as goal
 

@@ -1,6 +1,4 @@
-use Rattle.std.proofs.Common.{◌≡◌, ◌++◌, ◌∷◌, drop, length, codes}
-use Rattle.cts_model.specs.text.PrintedLines.{count_line, text_of}
-use Rattle.cts_model.specs.report.ReportLines.{pathed_lines}
+use Rattle.report_text.proofs.Vocabulary.{◌≡◌, ◌++◌, ◌∷◌, drop, length, codes, count_line, text_of, pathed_lines}
 use Rattle.report_text.proofs.timing.push_pathed.Given as goal
 
 -- with the lines that are left, all is there

@@ -1,5 +1,4 @@
-use Rattle.std.proofs.Common.{append_assoc, arith}
-use Rattle.cts_base.proofs.FractionReading.{held_same}
+use Rattle.report_text.proofs.Vocabulary.{append_assoc, arith, held_same}
 use Rattle.report_text.proofs.timing.push_register.Goals as goal
 
 pub returns : goal.returns

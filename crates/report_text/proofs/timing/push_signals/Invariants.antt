@@ -1,6 +1,4 @@
-use Rattle.std.proofs.Common.{◌≡◌, ◌++◌, map, take}
-use Rattle.cts_model.specs.report.ReportLines.{signal_name}
-use Rattle.report_text.specs.Pieces.{suffix}
+use Rattle.report_text.proofs.Vocabulary.{◌≡◌, ◌++◌, map, take, signal_name, suffix}
 use Rattle.report_text.proofs.timing.push_signals.Given as goal
 
 -- the names so far

@@ -1,6 +1,4 @@
-use Rattle.std.proofs.Common.{false, true}
-use mir.Syntax.{w128}
-use Rattle.std.proofs.lemmas.Int.{to_z-of_z}
+use Rattle.report_text.proofs.Vocabulary.{false, true, w128, to_z-of_z}
 use Rattle.report_text.proofs.ScanLemmas.{takes_then, constraint_taken}
 use Rattle.report_text.proofs.timing_values.read_constraint.Goals as goal
 

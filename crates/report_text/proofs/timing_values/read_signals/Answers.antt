@@ -1,4 +1,4 @@
-use Rattle.std.proofs.Common.{subst, arith}
+use Rattle.report_text.proofs.Vocabulary.{subst, arith}
 use Rattle.report_text.proofs.ScanLemmas.{TakesSignals, no_signals, signals_next}
 use Rattle.report_text.proofs.timing_values.read_signals.Goals as goal
 

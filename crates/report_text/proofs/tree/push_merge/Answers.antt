@@ -1,7 +1,4 @@
-use Rattle.std.proofs.Common.{◌∷◌, [], ◌+◌, length, pos, slice_index_or}
-use Rattle.std.specs.Fmt.{signed_decimal}
-use Rattle.cts_model.specs.declared.tree.Show.TheVariants.{Root}
-use Rattle.cts_model.specs.report.ReportLines.{length_text, number_at, show_words}
+use Rattle.report_text.proofs.Vocabulary.{◌∷◌, [], ◌+◌, length, pos, slice_index_or, signed_decimal, Root, length_text, number_at, show_words}
 use Rattle.report_text.proofs.LineLemmas.{after_more, whole_line}
 use Rattle.report_text.proofs.tree.push_merge.Goals as goal
 

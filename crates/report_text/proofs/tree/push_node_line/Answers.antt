@@ -1,6 +1,4 @@
-use Rattle.std.proofs.Common.{◌∷◌, [], ◌++◌, pos, slice_index_or}
-use Rattle.std.specs.Fmt.{signed_decimal}
-use Rattle.cts_model.specs.report.ReportLines.{length_text, no_wire, number_at, origin, point_words, wire_words}
+use Rattle.report_text.proofs.Vocabulary.{◌∷◌, [], ◌++◌, pos, slice_index_or, signed_decimal, length_text, no_wire, number_at, origin, point_words, wire_words}
 use Rattle.report_text.proofs.LineLemmas.{after_more, whole_line}
 use Rattle.report_text.proofs.tree.push_node_line.Goals as goal
 

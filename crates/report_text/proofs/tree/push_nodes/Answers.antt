@@ -1,4 +1,4 @@
-use Rattle.std.proofs.Common.{arith}
+use Rattle.report_text.proofs.Vocabulary.{arith}
 use Rattle.report_text.proofs.LineLemmas.{more_lines}
 use Rattle.report_text.proofs.tree.push_nodes.Goals as goal
 

@@ -1,6 +1,4 @@
-use Rattle.std.proofs.Common.{◌≡◌, ◌++◌}
-use Rattle.cts_model.specs.text.PrintedLines.{text_of}
-use Rattle.cts_model.specs.report.ReportLines.{lines_below, node_line_at}
+use Rattle.report_text.proofs.Vocabulary.{◌≡◌, ◌++◌, text_of, lines_below, node_line_at}
 use Rattle.report_text.proofs.tree.push_nodes.Given as goal
 
 -- the nodes so far

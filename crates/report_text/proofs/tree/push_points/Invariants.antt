@@ -1,7 +1,4 @@
-use Rattle.std.proofs.Common.{◌≡◌, ◌++◌, take}
-use Rattle.std.specs.List.{flat_map}
-use Rattle.cts_model.specs.report.ReportLines.{point_words}
-use Rattle.report_text.specs.Pieces.{suffix}
+use Rattle.report_text.proofs.Vocabulary.{◌≡◌, ◌++◌, take, flat_map, point_words, suffix}
 use Rattle.report_text.proofs.tree.push_points.Given as goal
 
 -- the points so far

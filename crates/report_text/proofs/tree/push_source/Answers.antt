@@ -1,7 +1,4 @@
-use Rattle.std.proofs.Common.{◌∷◌, [], length, codes, slice_index_or}
-use Rattle.cts_model.specs.report.ReportLines.{length_text, number_at, show_words}
-use Rattle.cts_model.specs.tree.Topologies.{source_of}
-use Rattle.cts_model.specs.declared.tree.Show.TheVariants.{Root}
+use Rattle.report_text.proofs.Vocabulary.{◌∷◌, [], length, codes, slice_index_or, length_text, number_at, show_words, source_of, Root}
 use Rattle.report_text.proofs.LineLemmas.{after_more, whole_line}
 use Rattle.report_text.proofs.tree.push_source.Goals as goal
 

@@ -1,6 +1,4 @@
-use Rattle.std.proofs.Common.{◌∷◌, [], ◌++◌, length, codes}
-use Rattle.cts_model.specs.text.PrintedLines.{count_line}
-use Rattle.cts_model.specs.report.ReportLines.{length_text, lines_below, merge_line_at, node_line_at, source_line}
+use Rattle.report_text.proofs.Vocabulary.{◌∷◌, [], ◌++◌, length, codes, count_line, length_text, lines_below, merge_line_at, node_line_at, source_line}
 use Rattle.report_text.proofs.LineLemmas.{lines_more, one_line}
 use Rattle.report_text.proofs.tree.push_tree.Goals as goal
 

@@ -1,4 +1,4 @@
-use Rattle.std.proofs.Common.{◌≡◌, arith}
+use Rattle.report_text.proofs.Vocabulary.{◌≡◌, arith}
 use Rattle.report_text.proofs.ScanLemmas.{corner_read}
 use Rattle.report_text.proofs.tree_values.read_corners.Goals as goal
 

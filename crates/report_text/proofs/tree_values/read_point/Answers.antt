@@ -1,5 +1,4 @@
-use mir.Syntax.{w128}
-use Rattle.std.proofs.lemmas.Int.{to_z-of_z}
+use Rattle.report_text.proofs.Vocabulary.{w128, to_z-of_z}
 use Rattle.report_text.proofs.ScanLemmas.{takes_so, takes_then}
 use Rattle.report_text.proofs.tree_values.read_point.Goals as goal
 

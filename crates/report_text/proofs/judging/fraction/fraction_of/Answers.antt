@@ -1,4 +1,4 @@
-use Rattle.std.proofs.Common.{arith}
+use Rattle.report_text.proofs.Vocabulary.{arith}
 use Rattle.report_text.proofs.FractionFlaws.{read_quotient_is}
 use Rattle.report_text.proofs.judging.fraction.fraction_of.Goals as goal
 

@@ -1,4 +1,4 @@
-use Rattle.std.proofs.Common.{refl, arith}
+use Rattle.report_text.proofs.Vocabulary.{refl, arith}
 use Rattle.report_text.proofs.FractionFlaws.{negative_kept}
 use Rattle.report_text.proofs.judging.fraction.is_negative.Goals as goal
 

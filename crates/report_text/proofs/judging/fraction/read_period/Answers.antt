@@ -1,6 +1,4 @@
-use Rattle.std.proofs.Common.{refl}
-use Rattle.report_text.specs.Fields.{WordHasFlaw}
-use Rattle.report_text.specs.LineFields.{Period}
+use Rattle.report_text.proofs.Vocabulary.{refl, WordHasFlaw, Period}
 use Rattle.report_text.proofs.FractionFlaws.{from_zero, negative_refused, passed_flaw, period_past, period_refused, period_within}
 use Rattle.report_text.proofs.judging.fraction.read_period.Goals as goal
 

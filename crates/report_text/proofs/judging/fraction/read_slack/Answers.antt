@@ -1,9 +1,5 @@
-use Rattle.std.proofs.Common.{pos, ◌^◌, Some, None, subst, arith}
-use mir.Syntax.{w128}
-use Rattle.std.proofs.lemmas.Int.{to_z-of_z}
-use Rattle.report_text.specs.Fields.{WordHasFlaw}
+use Rattle.report_text.proofs.Vocabulary.{pos, ◌^◌, Some, None, subst, arith, w128, to_z-of_z, WordHasFlaw, HasStepsFlaw}
 use Rattle.report_text.specs.LineFields.{Slack}
-use Rattle.report_text.specs.JudgedFractions.{HasStepsFlaw}
 use Rattle.report_text.proofs.FractionFlaws.{dash_plain, passed_flaw, slack_denoted, steps_denoted, steps_refused}
 use Rattle.report_text.proofs.judging.fraction.read_slack.Goals as goal
 

@@ -1,11 +1,4 @@
-use Rattle.std.proofs.Common.{◌≡◌, nat_abs}
-use mir.Syntax.{w128}
-use Rattle.std.proofs.lemmas.Int.{to_z-of_z}
-use Rattle.std.proofs.lemmas.Result.{IfOk-weaker}
-use Rattle.cts_base.specs.Fractions.{quotient_text}
-use Rattle.cts_model.specs.placement.Points.{IsBelow}
-use Rattle.report_text.specs.Fields.{AreSteps, WordHasFlaw}
-use Rattle.report_text.specs.LineFields.{Steps}
+use Rattle.report_text.proofs.Vocabulary.{◌≡◌, nat_abs, w128, to_z-of_z, IfOk-weaker, quotient_text, IsBelow, AreSteps, WordHasFlaw, Steps}
 use Rattle.report_text.proofs.FractionFlaws.{passed_flaw, steps_denoted, steps_refused}
 use Rattle.report_text.proofs.NumberWords.{steps_word}
 use Rattle.report_text.proofs.judging.fraction.read_steps.Goals as goal

@@ -1,5 +1,4 @@
-use Rattle.std.proofs.Common.{arith}
-use Rattle.std.proofs.lemmas.Int.{to_z-of_z}
+use Rattle.report_text.proofs.Vocabulary.{arith, to_z-of_z}
 use Rattle.report_text.proofs.judging.fraction.steps_below.Goals as goal
 
 pub returns : goal.returns

@@ -1,6 +1,4 @@
-use Rattle.std.proofs.Common.{sym, ◌∙◌, rules, FitsSigned, arith}
-use mir.Syntax.{w128}
-use Rattle.std.proofs.lemmas.Int.{to_z-of_z}
+use Rattle.report_text.proofs.Vocabulary.{sym, ◌∙◌, rules, FitsSigned, arith, w128, to_z-of_z}
 use Rattle.report_text.proofs.FractionFlaws.{steps_past, steps_taken, steps_unfit, steps_within}
 use Rattle.report_text.proofs.judging.fraction.steps_of.Goals as goal
 

@@ -1,5 +1,4 @@
-use Rattle.std.proofs.Common.{arith}
-use Rattle.name_set.proofs.OneName.{one_register}
+use Rattle.report_text.proofs.Vocabulary.{arith, one_register}
 use Rattle.report_text.proofs.judging.name.read_from.Goals as goal
 
 pub returns-in-Some-clause-flaw : goal.returns-in-Some-clause-flaw

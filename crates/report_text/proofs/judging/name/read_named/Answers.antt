@@ -1,4 +1,4 @@
-use Rattle.std.proofs.Common.{arith}
+use Rattle.report_text.proofs.Vocabulary.{arith}
 use Rattle.report_text.proofs.NameNumbers.{other_register}
 use Rattle.report_text.proofs.judging.name.read_named.Goals as goal
 

@@ -1,5 +1,4 @@
-use Rattle.std.proofs.Common.{◌≡◌, pos, refl, arith}
-use Rattle.std.proofs.lemmas.Int.{ints}
+use Rattle.report_text.proofs.Vocabulary.{◌≡◌, pos, refl, arith, ints}
 use Rattle.report_text.proofs.NumberWords.{whole_read}
 use Rattle.report_text.proofs.SpelledFields.{small_number}
 use Rattle.report_text.proofs.judging.number.is_number.Goals as goal

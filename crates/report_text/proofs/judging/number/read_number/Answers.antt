@@ -1,6 +1,4 @@
-use Rattle.std.proofs.Common.{◌≡◌, ◌≤◌, pos, nat_abs, of_z, to_z, arith}
-use mir.Syntax.{w128}
-use Rattle.std.proofs.lemmas.Int.{ints}
+use Rattle.report_text.proofs.Vocabulary.{◌≡◌, ◌≤◌, pos, nat_abs, of_z, to_z, arith, w128, ints}
 use Rattle.report_text.proofs.NumberWords.{whole_read}
 use Rattle.report_text.proofs.SpelledFields.{small_number}
 use Rattle.report_text.proofs.judging.number.read_number.Goals as goal

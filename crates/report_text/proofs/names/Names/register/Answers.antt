@@ -1,4 +1,4 @@
-use Rattle.std.proofs.Common.{arith}
+use Rattle.report_text.proofs.Vocabulary.{arith}
 use Rattle.report_text.proofs.NameNumbers.{register_denoted}
 use Rattle.report_text.proofs.names.Names.register.Goals as goal
 

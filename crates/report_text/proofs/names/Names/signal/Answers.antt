@@ -1,4 +1,4 @@
-use Rattle.std.proofs.Common.{arith}
+use Rattle.report_text.proofs.Vocabulary.{arith}
 use Rattle.report_text.proofs.NameNumbers.{signal_denoted}
 use Rattle.report_text.proofs.names.Names.signal.Goals as goal
 

@@ -1,4 +1,4 @@
-use Rattle.std.proofs.Common.{arith}
+use Rattle.report_text.proofs.Vocabulary.{arith}
 use Rattle.report_text.proofs.reader.body.read_body.Goals as goal
 
 pub returns-clause-ok : goal.returns-clause-ok

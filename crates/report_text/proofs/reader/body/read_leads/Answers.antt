@@ -1,6 +1,5 @@
-use Rattle.std.proofs.Common.{subst}
+use Rattle.report_text.proofs.Vocabulary.{subst, Stops}
 use Rattle.report_text.specs.declared.form.Form.TheVariants as form
-use Rattle.report_text.specs.Walks.{Stops}
 use Rattle.report_text.proofs.BodyLemmas.{leads_given}
 use Rattle.report_text.proofs.RowLemmas.{one_form}
 use Rattle.report_text.proofs.WalkLemmas.{passed_on}

@@ -1,6 +1,5 @@
-use Rattle.std.proofs.Common.{[], ◌∷◌, ◌++◌, append_assoc, refl, arith}
+use Rattle.report_text.proofs.Vocabulary.{[], ◌∷◌, ◌++◌, append_assoc, refl, arith, forms_after, lead_forms}
 use Rattle.report_text.specs.declared.form.Form.TheVariants as form
-use Rattle.report_text.specs.Forms.{forms_after, lead_forms}
 use Rattle.report_text.proofs.BodyLemmas.{lines_before_merges, merge_forms, node_forms, register_forms, stops_within}
 use Rattle.report_text.proofs.RowLemmas.{counted_number, counted_read}
 use Rattle.report_text.proofs.WalkLemmas.{passed_on, read_more, read_none, stop_after, stop_line}

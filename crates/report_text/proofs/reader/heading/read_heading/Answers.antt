@@ -1,4 +1,4 @@
-use Rattle.std.proofs.Common.{[], ◌∷◌, arith}
+use Rattle.report_text.proofs.Vocabulary.{[], ◌∷◌, arith}
 use Rattle.report_text.specs.declared.form.Form.TheVariants as form
 use Rattle.report_text.proofs.BodyLemmas.{heading_read, period_then, version_then}
 use Rattle.report_text.proofs.WalkLemmas.{passed_on, stop_before, stop_line}

@@ -1,5 +1,4 @@
-use Rattle.std.proofs.Common.{List, ℕ, Bor, map, refl, ap, ◌∙◌, arith}
-use Rattle.report_text.specs.ReportFaults.{fault_of}
+use Rattle.report_text.proofs.Vocabulary.{List, ℕ, Bor, map, refl, ap, ◌∙◌, arith, fault_of}
 use Rattle.report_text.proofs.ScanLemmas.{line_says, line_stops, some_words}
 use Rattle.report_text.proofs.reader.line.read.Goals as goal
 

@@ -1,10 +1,5 @@
-use Rattle.std.proofs.Common.{◌≡◌, List, ℕ, Bor, map, refl, ap, ◌∙◌, subst}
-use Rattle.cts_model.specs.text.PrintedLines.{count_line}
+use Rattle.report_text.proofs.Vocabulary.{◌≡◌, List, ℕ, Bor, map, refl, ap, ◌∙◌, subst, count_line, keyword_text, fault_of, ReadsForm, ReadsLine}
 use Rattle.report_text.specs.declared.form.Form.TheVariants as form
-use Rattle.report_text.specs.Keywords.{keyword_text}
-use Rattle.report_text.specs.ReportFaults.{fault_of}
-use Rattle.report_text.specs.Scans.{ReadsForm}
-use Rattle.report_text.specs.Walks.{ReadsLine}
 use Rattle.report_text.proofs.ScanLemmas.{form_read, line_says, line_stops, takes_then}
 use Rattle.report_text.proofs.reader.line.read_count.Goals as goal
 

@@ -1,10 +1,4 @@
-use Rattle.std.proofs.Common.{◌∙◌, Some, pos, sym, subst, arith}
-use Rattle.std.proofs.lemmas.Result.{IfErr-weaker, IfOk-weaker}
-use Rattle.cts_model.specs.declared.circuit.Circuit.{Circuit}
-use Rattle.report_text.specs.Headings.{HasHeading}
-use Rattle.report_text.specs.Parts.{HasParts}
-use Rattle.report_text.specs.ReportFaults.{HasFault}
-use Rattle.report_text.specs.Walks.{Left}
+use Rattle.report_text.proofs.Vocabulary.{◌∙◌, Some, pos, sym, subst, arith, IfErr-weaker, IfOk-weaker, Circuit, HasHeading, HasParts, HasFault, Left}
 use Rattle.report_text.proofs.PartLemmas.{heading_fault}
 use Rattle.report_text.proofs.WalkLemmas.{passed_on}
 use Rattle.report_text.proofs.reader.parts.read_named.Goals as goal

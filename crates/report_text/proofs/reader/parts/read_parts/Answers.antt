@@ -1,7 +1,4 @@
-use Rattle.std.proofs.Common.{◌≢◌, Some, subst}
-use Rattle.std.specs.Prelude.{IfErr}
-use Rattle.report_text.specs.declared.fault.ReportFault.TheVariants.{NoMemory}
-use Rattle.report_text.specs.ReportFaults.{HasFault}
+use Rattle.report_text.proofs.Vocabulary.{◌≢◌, Some, subst, IfErr, NoMemory, HasFault}
 use Rattle.report_text.proofs.reader.parts.read_parts.Goals as goal
 
 pub returns-clause-fault : goal.returns-clause-fault

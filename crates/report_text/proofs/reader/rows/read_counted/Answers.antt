@@ -1,4 +1,4 @@
-use Rattle.std.proofs.Common.{arith}
+use Rattle.report_text.proofs.Vocabulary.{arith}
 use Rattle.report_text.proofs.WalkLemmas.{passed_on, stop_before, stop_after, stop_line}
 use Rattle.report_text.proofs.reader.rows.read_counted.Goals as goal
 

@@ -1,7 +1,6 @@
-use Rattle.std.proofs.Common.{[], ◌∷◌, arith}
+use Rattle.report_text.proofs.Vocabulary.{[], ◌∷◌, arith, cycle_forms}
 use Rattle.cts_model.specs.declared.report.Version.TheVariants as version
 use Rattle.report_text.specs.declared.form.Form.TheVariants as form
-use Rattle.report_text.specs.Forms.{cycle_forms}
 use Rattle.report_text.proofs.RowLemmas.{length_pathed, pathed_next, pathed_step}
 use Rattle.report_text.proofs.WalkLemmas.{next_stops, passed_on, stop_before, stop_after, stop_line}
 use Rattle.report_text.proofs.reader.rows.read_pathed.Goals as goal

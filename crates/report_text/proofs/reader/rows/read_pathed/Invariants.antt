@@ -1,4 +1,4 @@
-use Rattle.report_text.specs.Rows.{HasPathed}
+use Rattle.report_text.proofs.Vocabulary.{HasPathed}
 use Rattle.report_text.proofs.reader.rows.read_pathed.Given as goal
 
 -- what was read so far

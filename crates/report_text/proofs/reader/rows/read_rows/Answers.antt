@@ -1,4 +1,4 @@
-use Rattle.std.proofs.Common.{arith}
+use Rattle.report_text.proofs.Vocabulary.{arith}
 use Rattle.report_text.proofs.RowLemmas.{no_rows, rows_next, rows_number, rows_stop}
 use Rattle.report_text.proofs.WalkLemmas.{passed_on}
 use Rattle.report_text.proofs.reader.rows.read_rows.Goals as goal

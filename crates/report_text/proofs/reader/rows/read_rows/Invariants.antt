@@ -1,4 +1,4 @@
-use Rattle.report_text.specs.Rows.{HasRows}
+use Rattle.report_text.proofs.Vocabulary.{HasRows}
 use Rattle.report_text.proofs.reader.rows.read_rows.Given as goal
 
 -- what was read so far

@@ -1,6 +1,4 @@
-use Rattle.std.proofs.Common.{Bor, List, ℕ, length, ap, arith}
-use Rattle.std.proofs.lemmas.Bool.Decides.{nat_tests}
-use Rattle.std.proofs.lemmas.List.{length-map}
+use Rattle.report_text.proofs.Vocabulary.{Bor, List, ℕ, length, ap, arith, nat_tests, length-map}
 use Rattle.report_text.proofs.ScanLemmas.{ends_some}
 use Rattle.report_text.proofs.scan.Scan.end.Goals as goal
 

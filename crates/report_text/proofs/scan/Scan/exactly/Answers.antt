@@ -1,5 +1,4 @@
-use Rattle.std.proofs.Common.{pos}
-use Rattle.std.specs.Fmt.{signed_decimal}
+use Rattle.report_text.proofs.Vocabulary.{pos, signed_decimal}
 use Rattle.report_text.specs.LineFields as field
 use Rattle.report_text.proofs.ScanLemmas.{takes_text}
 use Rattle.report_text.proofs.scan.Scan.exactly.Goals as goal

@@ -1,4 +1,4 @@
-use Rattle.report_text.specs.Keywords.{keyword_text}
+use Rattle.report_text.proofs.Vocabulary.{keyword_text}
 use Rattle.report_text.specs.LineFields as field
 use Rattle.report_text.proofs.ScanLemmas.{takes_text}
 use Rattle.report_text.proofs.scan.Scan.keyword.Goals as goal

@@ -1,4 +1,4 @@
-use Rattle.std.proofs.Common.{codes, if◌then◌else◌}
+use Rattle.report_text.proofs.Vocabulary.{codes, if◌then◌else◌}
 use Rattle.report_text.specs.LineFields as field
 use Rattle.report_text.proofs.ScanLemmas.{takes_text}
 use Rattle.report_text.proofs.scan.Scan.kind.Goals as goal

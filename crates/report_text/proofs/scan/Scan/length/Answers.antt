@@ -1,8 +1,4 @@
-use Rattle.std.proofs.Common.{◌^◌, pos}
-use mir.Syntax.{w128}
-use Rattle.std.proofs.lemmas.Int.{to_z-of_z}
-use Rattle.cts_base.specs.Fractions.{quotient_text}
-use Rattle.cts_model.specs.placement.Points.{IsBelow}
+use Rattle.report_text.proofs.Vocabulary.{◌^◌, pos, w128, to_z-of_z, quotient_text, IsBelow}
 use Rattle.report_text.specs.LineFields as field
 use Rattle.report_text.proofs.NumberWords.{fits}
 use Rattle.report_text.proofs.ScanLemmas.{takes_word}

@@ -1,4 +1,4 @@
-use Rattle.cts_model.specs.netlist.Paths.{register_name}
+use Rattle.report_text.proofs.Vocabulary.{register_name}
 use Rattle.report_text.specs.LineFields as field
 use Rattle.report_text.proofs.ScanLemmas.{takes_text}
 use Rattle.report_text.proofs.scan.Scan.named.Goals as goal

@@ -1,6 +1,4 @@
-use Rattle.std.proofs.Common.{◌≡◌, ◌<◌, ◌+◌, Bor, List, ℕ, [], ◌∷◌, map, drop, get_or, length, sym, ap, ◌∙◌, arith}
-use Rattle.std.proofs.lemmas.List.{drop_more, get_or-map, length-drop, length-map}
-use Rattle.report_text.specs.Scans.{LineLeft}
+use Rattle.report_text.proofs.Vocabulary.{◌≡◌, ◌<◌, ◌+◌, Bor, List, ℕ, [], ◌∷◌, map, drop, get_or, length, sym, ap, ◌∙◌, arith, drop_more, get_or-map, length-drop, length-map, LineLeft}
 use Rattle.report_text.proofs.scan.Scan.next.Goals as goal
 
 pub returns-in-Some-clause-taken : goal.returns-in-Some-clause-taken

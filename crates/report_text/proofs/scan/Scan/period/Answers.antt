@@ -1,5 +1,4 @@
-use Rattle.cts_base.specs.Fractions.{fraction_text}
-use Rattle.cts_model.specs.timing.Schedules.{IsSmallPeriod}
+use Rattle.report_text.proofs.Vocabulary.{fraction_text, IsSmallPeriod}
 use Rattle.report_text.specs.LineFields as field
 use Rattle.report_text.proofs.ScanLemmas.{takes_word}
 use Rattle.report_text.proofs.scan.Scan.period.Goals as goal

@@ -1,8 +1,5 @@
-use Rattle.std.proofs.Common.{◌<◌, length, ap, ◌∙◌, arith}
-use Rattle.cts_model.specs.netlist.Paths.{register_name}
+use Rattle.report_text.proofs.Vocabulary.{◌<◌, length, ap, ◌∙◌, arith, register_name, register_named, few_registers}
 use Rattle.report_text.specs.LineFields as field
-use Rattle.report_text.specs.Forms.{register_named}
-use Rattle.name_set.proofs.OneName.{few_registers}
 use Rattle.report_text.proofs.NameNumbers.{name_read}
 use Rattle.report_text.proofs.ScanLemmas.{takes_word}
 use Rattle.report_text.proofs.scan.Scan.register.Goals as goal

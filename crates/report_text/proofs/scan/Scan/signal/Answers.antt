@@ -1,5 +1,4 @@
-use Rattle.std.proofs.Common.{◌<◌, length}
-use Rattle.cts_model.specs.report.ReportLines.{signal_name}
+use Rattle.report_text.proofs.Vocabulary.{◌<◌, length, signal_name}
 use Rattle.report_text.specs.LineFields as field
 use Rattle.report_text.proofs.ScanLemmas.{takes_word}
 use Rattle.report_text.proofs.scan.Scan.signal.Goals as goal

@@ -1,8 +1,4 @@
-use mir.Syntax.{w128}
-use Rattle.std.proofs.lemmas.Int.{to_z-of_z}
-use Rattle.cts_model.specs.text.PrintedLines.{slack_text}
-use Rattle.cts_model.specs.timing.Slacks.{IsSmallSlack}
-use Rattle.report_text.specs.Forms.{slack_field}
+use Rattle.report_text.proofs.Vocabulary.{w128, to_z-of_z, slack_text, IsSmallSlack, slack_field}
 use Rattle.report_text.proofs.NumberWords.{fits}
 use Rattle.report_text.proofs.ScanLemmas.{takes_word}
 use Rattle.report_text.proofs.scan.Scan.slack.Goals as goal

@@ -1,4 +1,4 @@
-use Rattle.report_text.specs.Keywords.{version_text}
+use Rattle.report_text.proofs.Vocabulary.{version_text}
 use Rattle.report_text.specs.LineFields as field
 use Rattle.report_text.proofs.ScanLemmas.{takes_text}
 use Rattle.report_text.proofs.scan.Scan.version.Goals as goal

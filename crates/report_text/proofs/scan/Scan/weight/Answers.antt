@@ -1,8 +1,4 @@
-use Rattle.std.proofs.Common.{◌^◌}
-use mir.Syntax.{w128}
-use Rattle.std.proofs.lemmas.Int.{to_z-of_z}
-use Rattle.std.specs.Fmt.{signed_decimal}
-use Rattle.cts_model.specs.placement.Points.{IsBelow}
+use Rattle.report_text.proofs.Vocabulary.{◌^◌, w128, to_z-of_z, signed_decimal, IsBelow}
 use Rattle.report_text.specs.LineFields as field
 use Rattle.report_text.proofs.ScanLemmas.{takes_word}
 use Rattle.report_text.proofs.scan.Scan.weight.Goals as goal

@@ -1,6 +1,4 @@
-use Rattle.std.proofs.Common.{◌≡◌, ◌<◌, ◌-◌, false, length, sym, ap, ◌∙◌, subst, arith}
-use Rattle.std.proofs.lemmas.List.Elements.{All-nil}
-use Rattle.report_text.specs.TimingValues.{DenotesPath}
+use Rattle.report_text.proofs.Vocabulary.{◌≡◌, ◌<◌, ◌-◌, false, length, sym, ap, ◌∙◌, subst, arith, All-nil, DenotesPath}
 use Rattle.report_text.proofs.ScanLemmas.{form_read, takes_then, path_read}
 use Rattle.report_text.proofs.TimingLines.{way_fields}
 use Rattle.report_text.proofs.timing_values.PathLineLine.read.Goals as goal

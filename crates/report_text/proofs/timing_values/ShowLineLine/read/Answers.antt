@@ -1,4 +1,4 @@
-use Rattle.std.proofs.Common.{sym, ap, ◌∙◌}
+use Rattle.report_text.proofs.Vocabulary.{sym, ap, ◌∙◌}
 use Rattle.report_text.proofs.ScanLemmas.{form_read, takes_then}
 use Rattle.report_text.proofs.TimingLines.{shown_fields}
 use Rattle.report_text.proofs.timing_values.ShowLineLine.read.Goals as goal

@@ -1,7 +1,4 @@
-use Rattle.std.proofs.Common.{refl, sym, subst}
-use mir.Syntax.{w128}
-use Rattle.std.proofs.lemmas.Int.{to_z-of_z}
-use Rattle.report_text.specs.Walks.{DenotesTimed}
+use Rattle.report_text.proofs.Vocabulary.{refl, sym, subst, w128, to_z-of_z, DenotesTimed}
 use Rattle.report_text.proofs.ScanLemmas.{form_read, takes_then}
 use Rattle.report_text.proofs.timing_values.TimedLine.read.Goals as goal
 

@@ -1,9 +1,4 @@
-use Rattle.std.proofs.Common.{◌≡◌, [], get_or, ap, refl, arith, ◌∙◌}
-use mir.Syntax.{w128}
-use Rattle.std.proofs.lemmas.Int.{to_z-of_z}
-use Rattle.std.proofs.lemmas.List.{get_or-drop}
-use Rattle.cts_model.specs.text.PrintedLines.{Words}
-use Rattle.report_text.specs.Forms.{register_named}
+use Rattle.report_text.proofs.Vocabulary.{◌≡◌, [], get_or, ap, refl, arith, ◌∙◌, w128, to_z-of_z, get_or-drop, Words, register_named}
 use Rattle.report_text.proofs.ScanLemmas.{form_read, takes_then}
 use Rattle.report_text.proofs.tree_values.MergeLineLine.read.Goals as goal
 

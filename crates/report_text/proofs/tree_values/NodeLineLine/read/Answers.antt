@@ -1,7 +1,4 @@
-use Rattle.std.proofs.Common.{length, refl, ap, sym, ◌∙◌, arith}
-use mir.Syntax.{w128}
-use Rattle.std.proofs.lemmas.Int.{to_z-of_z}
-use Rattle.cts_model.specs.text.PrintedLines.{Words}
+use Rattle.report_text.proofs.Vocabulary.{length, refl, ap, sym, ◌∙◌, arith, w128, to_z-of_z, Words}
 use Rattle.report_text.proofs.ScanLemmas.{form_read, takes_none, takes_then}
 use Rattle.report_text.proofs.TreeLines.{no_points, points_are}
 use Rattle.report_text.proofs.tree_values.NodeLineLine.read.Goals as goal

@@ -1,6 +1,4 @@
-use Rattle.std.proofs.Common.{ap, sym, ◌∙◌}
-use mir.Syntax.{w128}
-use Rattle.std.proofs.lemmas.Int.{to_z-of_z}
+use Rattle.report_text.proofs.Vocabulary.{ap, sym, ◌∙◌, w128, to_z-of_z}
 use Rattle.report_text.proofs.ScanLemmas.{form_read, takes_then}
 use Rattle.report_text.proofs.TreeLines.{shown_fields}
 use Rattle.report_text.proofs.tree_values.SourceLineLine.read.Goals as goal

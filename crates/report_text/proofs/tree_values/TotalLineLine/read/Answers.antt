@@ -1,6 +1,4 @@
-use Rattle.std.proofs.Common.{refl}
-use mir.Syntax.{w128}
-use Rattle.std.proofs.lemmas.Int.{to_z-of_z}
+use Rattle.report_text.proofs.Vocabulary.{refl, w128, to_z-of_z}
 use Rattle.report_text.proofs.ScanLemmas.{form_read, takes_then}
 use Rattle.report_text.proofs.tree_values.TotalLineLine.read.Goals as goal
 

@@ -1,0 +1,99 @@
+-- The words that the proofs of this crate have in common.
+pub use Rattle.std.proofs.Common.{◌≡◌, ◌<◌, ◌≤◌, ◌-◌, ◌*◌, ◌^◌, ℕ, List, All, Option, Some, None, length, map, refl, sym, ap, arith, ◌+◌, ℤ, pos, neg_ℤ, to_z, of_z, [], ◌∷◌, ◌++◌, get_or, codes, ap₂, ◌∙◌, subst, append_assoc, drop, append-nil, slice_get, length-append, ◌%◌, zero, suc, negsuc, ◌*ℤ◌, ◌+ℤ◌, ◌≤ℤ◌, nat_abs, inl, inr, ◌↔◌, ◌<ℤ◌, Bool, IsTrue, Result, Ok, Err, IsErrAnd, ◌⊎◌, ◌==◌, true, false, true≢false, position, IfOk, IfErr, ◌&&◌, cond, FitsSigned, ne_eqb, ◌≢◌, if◌then◌else◌, take, MatchBool, MatchOption, replicate, nat_le, set, drop-cons, nat_lt, lt-ltb, eq-eqb, ◌/◌, ◌||◌, not, rules, tests, Bor, slice_index_or}
+pub use Rattle.std.proofs.Math.Nat.{one-dvd, dvd-mul_right, dvd-sub_iff_left, one-le-mul}
+pub use Rattle.std.proofs.lemmas.Bool.{cases_lt, false_from_ne_true, le-leb, leb-true}
+pub use Rattle.std.proofs.lemmas.Bool.Decides.{Decides-eqb, Decides-int_eq, nat_tests}
+pub use Rattle.std.proofs.lemmas.Grind.{flat_map-append}
+pub use Rattle.std.proofs.lemmas.Int.{ints, quot-rem, unsigned_abs-mul, by_lt_z, to_z-of_z}
+pub use Rattle.std.proofs.lemmas.List.{drop_at, get_or-append-add, get_or-map, get_or-take, get_or_append_left, get_or_push, length-map, length-take, length_push, take_at, length-replicate, same_from_push, get_or-drop, length-drop, length-take-le, take-append-drop, take_all, take_more, drop-drop, map_push, replicate_more, drop-set-lt, drop_more, length-set, replicate-append-replicate, take_more_set, same_lists, map_more}
+pub use Rattle.std.proofs.lemmas.List.Elements.{All-map, All-append, All-cons, All-nil, All-push, All-from_recursion, All-rest, All-same, All-replicate}
+pub use Rattle.std.proofs.lemmas.List.FromFn.{map-range_with_len_more, get_or-range_with_len, length-range_with_len, length-map-range_with_len, fill_by_all, get_or-map-range_with_len}
+pub use Rattle.std.proofs.lemmas.List.Splits.{slice_split_none, slice_split_at, length-slice_split, join_with_byte-slice_split, slice_split_first}
+pub use Rattle.std.proofs.lemmas.List.Sums.{position_or_len_is, passes_at_first}
+pub use Rattle.std.proofs.lemmas.Nat.Gcd.{IsGcd-swap, IsGcd-from_zero, mod-eq-zero_of_dvd, same_from_IsGcd, le_of_dvd}
+pub use Rattle.std.proofs.lemmas.Option.{get_or_from_slice_get, slice_get-get_or, slice_get_past, slice_get_within, unwrap_or-slice_get, none-some, same_Some}
+pub use Rattle.std.proofs.lemmas.Result.{IfOk-weaker, IfErr-weaker}
+pub use Rattle.std.proofs.lemmas.Slice.Eq.{bytes_eq-Decides}
+unfoldable pub use Rattle.std.specs.Fmt.{digits}
+pub use Rattle.std.specs.Fmt.{signed_decimal, digits_onto, digit_glyph}
+pub use Rattle.std.specs.Int.{◌∣◌, IsGcd}
+pub use Rattle.std.specs.Int.RustNames.{int_div, int_rem}
+pub use Rattle.std.specs.List.{range_with_len, join_with_byte, flat_map, list_any, AllByRecursion, slice_split, after_first, position_or_len, list_all}
+pub use Rattle.std.specs.Ordering.{int_eq}
+pub use Rattle.std.specs.Str.{bytes_eq}
+pub use Rattle.std.specs.Str.Parse.{AllDigits, IsNumeral, digits_value, starts_with_minus}
+pub use mir.Syntax.{w128}
+pub use Rattle.cts_base.proofs.FractionReading.{few_digits, held_same}
+pub use Rattle.cts_base.proofs.GreatestDivisors.{same_factor, up_to_second, quotient_text_is, lowest_sizes}
+pub use Rattle.cts_base.proofs.OneNumberText.{slash_differs, HasNoSlash, one_split, no_fraction_minus, one_decimal, one_fraction_text, one_number_text, one_quotient_text}
+pub use Rattle.cts_base.proofs.OneSpelling.{fraction_spelled, one_quotient, plain_no_minus, quotient_some, one_whole, whole_no_slash, whole_text, whole_spelled, quotient_text_spelled}
+pub use Rattle.cts_base.proofs.Quotients.{negative, int_div-le, lowest_quotients, same_value}
+unfoldable pub use Rattle.cts_base.specs.Fractions.{quotient_text}
+pub use Rattle.cts_base.specs.Fractions.{IsLowest, fraction_text, HasSizeBelow, divisor_up_to}
+pub use Rattle.cts_base.specs.NumberTexts.{SpellsWhole, SpellsQuotient, HaveSmallSizes, IsNoFraction, kept_size, IsPlainNumeral, is_slash}
+pub use Rattle.cts_base.specs.declared.fraction.Fraction.{Fraction}
+pub use Rattle.cts_model.specs.declared.circuit.Circuit.{Circuit}
+pub use Rattle.cts_model.specs.declared.constraint.Constraint.{Constraint}
+pub use Rattle.cts_model.specs.declared.period.PeriodShow.{PeriodShow}
+pub use Rattle.cts_model.specs.declared.period.PeriodShow.TheVariants.{Cycle, Floor}
+pub use Rattle.cts_model.specs.declared.place.Point.{Point}
+pub use Rattle.cts_model.specs.declared.report.Report.{Report}
+pub use Rattle.cts_model.specs.declared.report.Version.{Version}
+pub use Rattle.cts_model.specs.declared.report.Version.TheVariants.{First, Second}
+pub use Rattle.cts_model.specs.declared.schedule.Lead.{Lead}
+pub use Rattle.cts_model.specs.declared.schedule.Lead.TheVariants.{Zero, Tight}
+pub use Rattle.cts_model.specs.declared.signal.Signal.{Signal}
+pub use Rattle.cts_model.specs.declared.tech.Tech.{Tech}
+pub use Rattle.cts_model.specs.declared.tree.Show.{Show}
+pub use Rattle.cts_model.specs.declared.tree.Show.TheVariants.{Root, Pair, Sink}
+pub use Rattle.cts_model.specs.declared.tree.Wire.{Wire}
+pub use Rattle.cts_model.specs.netlist.Circuits.{host_name, is_named, has_host}
+pub use Rattle.cts_model.specs.netlist.Kinds.{is_host}
+pub use Rattle.cts_model.specs.netlist.Paths.{register_name}
+pub use Rattle.cts_model.specs.placement.Points.{IsBelow, IsPointBelow}
+pub use Rattle.cts_model.specs.report.ReportBounds.{HasSmallWeight, HasSmallWeights, IsBetweenRegisters, ShowsPeriodAmong, count_in, cycle_length, HasTimingBounds, HasTreeBounds, IsMergeShow, IsOfSize, IsSmallWire, IsSourceShow, IsWithinBounds, ShowsAmong, IsSmallMerge, Spells, LeadsAmong, IsSmallLead}
+pub use Rattle.cts_model.specs.report.ReportLines.{lead_line, lines_below, merge_line_at, no_wire, node_line_at, origin, period_show_lines, register_line_at, report_lines, show_words, source_line, timing_lines, tree_lines, version_line, path_line, signal_name, number_at, length_text, pathed_lines, point_words, wire_words}
+pub use Rattle.cts_model.specs.text.Names.{is_name, is_short, is_mark, is_name_byte}
+pub use Rattle.cts_model.specs.text.PrintedLines.{Words, line_for, count_line, period_line, register_line, text_of, line_of, constraint_line, slack_text}
+pub use Rattle.cts_model.specs.timing.Schedules.{IsSmallPeriod, arrival_of}
+pub use Rattle.cts_model.specs.timing.Slacks.{AreSmallSlacks, IsSmallSlack}
+pub use Rattle.cts_model.specs.tree.Problems.{grid_of, scheduled_length}
+pub use Rattle.cts_model.specs.tree.Topologies.{root_of, source_of}
+pub use Rattle.name_set.proofs.OneName.{one_register, one_signal, few_registers}
+pub use Rattle.name_set.specs.RegisterNames.{register_names}
+pub use Rattle.report_text.specs.Bodies.{HasBody, HasVersionLeads}
+pub use Rattle.report_text.specs.DenotedReports.{timed_line, arrivals_in, begin_of, denoted_lines, lengths_in, merges_in, places_in, reaches_in, report_denoted, shows_in, sink_reach, sink_reaches, wires_in, lines_after}
+pub use Rattle.report_text.specs.Fields.{AreSteps, AreFewSteps, IsFormed, IsFractionForm, IsWholeSteps, WordHasFlaw, IsFirstFlaw, LineHasFlaw, NamesRegister, NamesSignal, EachWord, IsFit, IsKnown, IsWithin}
+pub use Rattle.report_text.specs.FlawOrder.{sooner_flaw, rank}
+pub use Rattle.report_text.specs.Forms.{cycle_forms, forms_after, lead_forms, register_named, forms_of, fields_of, constraint_fields, length_field, is_word, register_fields, has_points, merge_fields, node_fields, pointed_fields, points_of, total_fields, slack_field}
+pub use Rattle.report_text.specs.Headings.{IsSmallCount, count_of, shown_line, HasHeading, HasShown, heading_forms}
+pub use Rattle.report_text.specs.JudgedFractions.{HasStepsFlaw, IsBetween, IsNegativeQuotient, IsRefusedFor}
+pub use Rattle.report_text.specs.Keywords.{keyword_text, version_text}
+pub use Rattle.report_text.specs.Laws.{HasFaultOrReport, OneReport}
+pub use Rattle.report_text.specs.LineFields.{Period, Steps, Field, Register}
+pub use Rattle.report_text.specs.NamesOf.{DenotesRegister, DenotesSignal, signal_names}
+pub use Rattle.report_text.specs.Parts.{HasParts, scale_in, whole}
+pub use Rattle.report_text.specs.Pieces.{suffix}
+pub use Rattle.report_text.specs.ReportFaults.{HasFirstFault, is_line_feed, words_of, HasFault, cycle_denoted, den_denoted, scale_denoted, version_denoted, word_at, fault_of, is_space}
+pub use Rattle.report_text.specs.Rows.{lines_of, HasPathed, HasRows, Counted, SayEach}
+pub use Rattle.report_text.specs.Scans.{flaw_in, EndsIn, Keeps, LineLeft, ReadsForm, Taken, Takes, TakesNext}
+pub use Rattle.report_text.specs.TimingValues.{DenotesConstraint, DenotesLead, IsFlawless, DenotesPeriod, DenotesShow, DenotesPath}
+pub use Rattle.report_text.specs.Values.{SaysMerge, SaysNode, SaysSource, merged_line, placed_line, sourced_line, IsSmallScale, SaysTotal, coordinates}
+pub use Rattle.report_text.specs.Walks.{DenotesTimed, Left, Reads, ReadsLine, Stops, DenotesLine, DenotesVersion, TakesLine, StopsLine}
+pub use Rattle.report_text.specs.declared.fault.ReportFault.{ReportFault}
+pub use Rattle.report_text.specs.declared.fault.ReportFault.TheVariants.{NoMemory, Extra, BadLine, Missing}
+pub use Rattle.report_text.specs.declared.field.Flaw.{Flaw}
+pub use Rattle.report_text.specs.declared.field.Flaw.TheVariants.{Unknown, Unfit, Large}
+pub use Rattle.report_text.specs.declared.field.Keyword.{Keyword}
+pub use Rattle.report_text.specs.declared.form.Form.{Form}
+pub use Rattle.report_text.specs.declared.form.Scale.{Scale}
+pub use Rattle.report_text.specs.declared.sections.Heading.{Heading}
+pub use Rattle.report_text.specs.declared.sections.Parts.{Parts}
+pub use Rattle.report_text.specs.declared.sections.Pathed.{Pathed}
+pub use Rattle.report_text.specs.declared.timing_values.PathLine.{PathLine}
+pub use Rattle.report_text.specs.declared.timing_values.PeriodLine.{PeriodLine}
+pub use Rattle.report_text.specs.declared.timing_values.ShowLine.{ShowLine}
+pub use Rattle.report_text.specs.declared.timing_values.Timed.{Timed}
+pub use Rattle.report_text.specs.declared.tree_values.MergeLine.{MergeLine}
+pub use Rattle.report_text.specs.declared.tree_values.NodeLine.{NodeLine}
+pub use Rattle.report_text.specs.declared.tree_values.SourceLine.{SourceLine}
