@@ -127,8 +127,7 @@ neg_below number small = record { above = omega (arith, ints); below = omega (ar
 pub sink_below : (tech : Tech) (arrival : ℤ) → IsBelow (10 ^ 19) arrival
     → IsBelow (10 ^ 32) (sink_reach tech arrival)
 sink_below tech arrival small =
-    neg_below (scheduled_length tech arrival)
-    (scheduled_size tech arrival (10 ^ 19) (omega (arith, ints, small)))
+    neg_below _ (scheduled_size tech arrival (10 ^ 19) (omega (arith, ints, small)))
 
 -- the parts of a report's lines, the first two apart
 parts_apart : (a b c d e f : List Words)
@@ -195,9 +194,8 @@ module _ {circuit : Circuit} {tech : Tech} {parts : Parts}
 
   -- and they are small
   pub arrivals_below : All (IsBelow (10 ^ 19)) (arrivals_in parts)
-  arrivals_below = told_all (DenotesTimed circuit scale) (timed_line circuit scale.den)
-      (λ row. row.arrival) (IsBelow (10 ^ 19)) parts.body.timings is.timings
-      (λ row says. says.small)
+  arrivals_below = told_all (DenotesTimed circuit scale) (timed_line circuit scale.den) _ _ _
+      is.timings (λ row says. says.small)
 
   placed_all : {Y : Type 0} (f : NodeLine → Y) (P : Y → Type 0)
       → ((row : NodeLine) → SaysNode grid 0 (placed_line grid 0 row) row → P (f row))
@@ -230,9 +228,7 @@ module _ {circuit : Circuit} {tech : Tech} {parts : Parts}
     leads = is.leads_many;
     period_show = is.shown.among;
     each_show = All-push (ShowsAmong (length circuit.registers)) (shows_in parts)
-        parts.body.source.show
-        (merged_all (λ row. row.show) (ShowsAmong count) (λ row says. says.among))
-        is.source.among;
+        parts.body.source.show (merged_all _ _ (λ row says. says.among)) is.source.among;
     each_lead = λ k default within. (is.leads k default within 0).registers;
     each_path = is.shown.signals;
   }
@@ -252,10 +248,8 @@ module _ {circuit : Circuit} {tech : Tech} {parts : Parts}
   sinks_below : All (IsBelow (10 ^ 32)) sinks
   sinks_below place default within =
       let there : place < length (arrivals_in parts) = omega (arith, within, as_many) in
-      subst (IsBelow (10 ^ 32))
-      (sym (get_or-map (sink_reach tech) (arrivals_in parts) place (pos 0) default there))
-      (sink_below tech (get_or (arrivals_in parts) place (pos 0))
-      (arrivals_below place (pos 0) there))
+      subst (IsBelow (10 ^ 32)) (sym (get_or-map (sink_reach tech) (arrivals_in parts) place (pos 0)
+      default there)) (sink_below tech _ (arrivals_below place (pos 0) there))
 
   -- the root's wire
   root_within : length (wires_in parts) - 1 < length (wires_in parts)
@@ -308,22 +302,17 @@ module _ {circuit : Circuit} {tech : Tech} {parts : Parts}
       let suffix = parts.body.source.show ∷ [] in
       record {
         grid = refl;
-        merges = merged_all (λ row. row.merge) IsSmallMerge (λ row says. says.merge);
-        reaches = All-push (IsBelow (10 ^ 32)) (sinks ++ (reaches_in parts))
-            parts.body.source.reach
-            (All-append (IsBelow (10 ^ 32)) sinks (reaches_in parts) sinks_below
-            (merged_all (λ row. row.reach) (IsBelow (10 ^ 32)) (λ row says. says.reach)))
-            is.source.reach;
-        places = All-push (IsPointBelow (10 ^ 32)) (places_in parts)
-            (begin_of (wires_in parts))
-            (placed_all (λ row. row.place) (IsPointBelow (10 ^ 32)) (λ row says. says.place))
-            begin_below;
-        lengths = placed_all (λ row. row.length) (IsBelow (10 ^ 32)) (λ row says. says.edge);
+        merges = merged_all _ _ (λ row says. says.merge);
+        reaches = All-push (IsBelow (10 ^ 32)) (sinks ++ (reaches_in parts)) parts.body.source.reach
+            (All-append (IsBelow (10 ^ 32)) sinks (reaches_in parts) sinks_below (merged_all _ _
+            (λ row says. says.reach))) is.source.reach;
+        places = All-push (IsPointBelow (10 ^ 32)) (places_in parts) (begin_of (wires_in parts))
+            (placed_all _ _ (λ row says. says.place)) begin_below;
+        lengths = placed_all _ _ (λ row says. says.edge);
         wires = wires_small;
         total = is.total;
         merge_shows = subst (All IsMergeShow) (sym (take_at (shows_in parts) suffix
-            (length (merges_in parts)) same))
-            (merged_all (λ row. row.show) IsMergeShow (λ row says. says.show));
+            (length (merges_in parts)) same)) (merged_all _ _ (λ row says. says.show));
         source_show = subst (All IsSourceShow) (sym (drop_at (shows_in parts) suffix
             (length (merges_in parts)) same))
             (All-cons IsSourceShow parts.body.source.show [] is.source.show
@@ -344,10 +333,8 @@ module _ {circuit : Circuit} {tech : Tech} {parts : Parts}
   registers_same =
       let none : Slack = record { setup = None; hold = None } in
       let default : Timed = record { arrival = pos 0; slack = none } in
-      ap (lines_below (register_line_at circuit report))
-      (length-map parts.body.timings (λ row. row.arrival))
-      ∙ numbered_rows (register_line_at circuit report)
-      (timed_line circuit parts.heading.period.den) default 0 parts.body.timings (λ place within.
+      ap (lines_below (register_line_at circuit report)) (length-map parts.body.timings
+      (λ row. row.arrival)) ∙ numbered_rows _ _ _ 0 _ (λ place within.
       let number : place ≡ 0 + place = omega arith in
       let arrival = get_or-map (λ (row : Timed). row.arrival) parts.body.timings place default
       (pos 0) within in
@@ -416,14 +403,10 @@ module _ {circuit : Circuit} {tech : Tech} {parts : Parts}
         show = Root;
       } in
       let node : NodeLine = record { place = origin; length = pos 0; wire = no_wire } in
-      let merges = ap (lines_below (merge_line_at circuit report))
-      (length-map parts.body.merged (λ row. row.merge))
-      ∙ numbered_rows (merge_line_at circuit report) (merged_line circuit grid) merge count
-      parts.body.merged (merge_same merge) in
-      let nodes = ap (lines_below (node_line_at circuit report))
-      (length-map parts.body.placed (λ row. row.length))
-      ∙ numbered_rows (node_line_at circuit report) (placed_line grid) node 0 parts.body.placed
-      (node_same node) in
+      let merges = ap (lines_below (merge_line_at circuit report)) (length-map parts.body.merged
+      (λ row. row.merge)) ∙ numbered_rows _ _ _ _ _ (merge_same merge) in
+      let nodes = ap (lines_below (node_line_at circuit report)) (length-map parts.body.placed
+      (λ row. row.length)) ∙ numbered_rows _ _ node 0 _ (node_same node) in
       λ i. count_line (codes "merges") (merges_many i) ∷ merges i
       ++ source_same i ∷ count_line (codes "nodes") (lengths_many i) ∷ nodes i
       ++ (codes "wire" ∷ quotient_text parts.body.total.length grid ∷ []) ∷ []
@@ -449,17 +432,11 @@ module _ {circuit : Circuit} {tech : Tech} {text : List ℕ} {parts : Parts}
       let timings = has.body.timings.has in
       let merged = has.body.merged.has in
       let placed = has.body.placed.has in
-      let timed = rows_lines (DenotesTimed circuit of_text) (timed_line circuit of_text.den)
-      (λ number words row denoted. denoted.line) 0 timings.lines parts.body.timings
-      timings.each in
-      let leads = rows_lines (λ number. DenotesLead circuit) (λ number. lead_line circuit)
-      (λ number words row denoted. denoted.line) 0 has.body.leads.lines parts.body.leads
+      let timed = rows_lines _ _ (λ number words row denoted. denoted.line) 0 _ _ timings.each in
+      let leads = rows_lines _ _ (λ number words row denoted. denoted.line) 0 _ _
       has.body.leads.each ∙ plain_lines (lead_line circuit) 0 parts.body.leads in
-      let merges = rows_lines (SaysMerge circuit of_text.grid) (merged_line circuit of_text.grid)
-      (λ number words row says. says.words_are) (length circuit.registers) merged.lines
-      parts.body.merged merged.each in
-      let nodes = rows_lines (SaysNode of_text.grid) (placed_line of_text.grid)
-      (λ number words row says. says.words_are) 0 placed.lines parts.body.placed placed.each in
+      let merges = rows_lines _ _ (λ number words row says. says.words_are) _ _ _ merged.each in
+      let nodes = rows_lines _ _ (λ number words row says. says.words_are) 0 _ _ placed.each in
       λ i. count_line (codes "registers") (length circuit.registers) ∷ timed i ++ leads i
       ++ count_line (codes "merges") (length circuit.registers - 1) ∷ merges i
       ++ has.body.source.denoted.words_are i
@@ -472,11 +449,8 @@ module _ {circuit : Circuit} {tech : Tech} {text : List ℕ} {parts : Parts}
       let shown = period_show_lines parts.heading.version circuit parts.shown.shown
       parts.shown.paths in
       let heading = has.heading.lines of_text in
-      let prefix = read_more heading
-      (cycle_forms parts.heading.version (count_of parts.heading.count)) (drop 1 shown)
-      has.after_shown has.shown.lines in
-      let all = read_more prefix (forms_after parts.heading.version (length circuit.registers))
-      (body_lines has.body) has.end (body_read has.body) in
+      let prefix = read_more heading _ _ _ has.shown.lines in
+      let all = read_more prefix _ _ _ (body_read has.body) in
       let first : version_line parts.heading.version ∷ period_line parts.heading.period
       ∷ shown_line parts.heading.count ∷ drop 1 shown
       ≡ version_line parts.heading.version ∷ period_line parts.heading.period ∷ shown =

@@ -54,17 +54,12 @@ pub heading_read : (circuit : Circuit) (scale : Scale) (old first second new : L
     (record { version = version; period = period.period; count = show.count })
 heading_read circuit scale old first second new version period show is_version is_period is_show =
     record {
-      lines = λ other. read_more
-          (read_as circuit scale other form.Version is_version.words _ old first is_version.line
-          is_version.line.flawless is_version.denoted)
-          (form.Period ∷ form.Show ∷ []) _ new
-          (read_more (read_as circuit scale other form.Period is_period.words _ first second
-          is_period.line is_period.line.flawless is_period.denoted.line)
-          (form.Show ∷ []) _ new
-          (read_as circuit scale other form.Show is_show.words _ second new is_show.line
-          is_show.line.flawless (show_line is_show.words show.count is_show.denoted)));
+      lines = λ other. read_more (read_as _ _ _ _ _ _ old _ is_version.line is_version.line.flawless
+          is_version.denoted) _ _ new (read_more (read_as _ _ _ _ _ _ _ _ is_period.line
+          is_period.line.flawless is_period.denoted.line) _ _ new (read_as _ _ _ _ _ _ _ new
+          is_show.line is_show.line.flawless (show_line _ _ is_show.denoted)));
       small = is_period.denoted.small;
-      count = show_small is_show.words show.count is_show.denoted;
+      count = show_small _ _ is_show.denoted;
     }
 
 -- the constraints of a cycle show the period
@@ -75,8 +70,7 @@ pub cycle_shown : {circuit : Circuit} {scale : Scale} {count : ℕ} {old new : L
     → HasShown circuit scale First (Some count) old new
     (record { shown = Cycle cycle; paths = [] })
 cycle_shown {circuit} {scale} {count} {old} {new} cycle small has =
-    let lines = rows_lines (λ number. DenotesConstraint circuit) (λ number. line_for circuit)
-    (λ number words row denoted. denoted.line) 0 has.lines cycle has.each
+    let lines = rows_lines _ _ (λ number words row denoted. denoted.line) 0 _ _ has.each
     ∙ plain_lines (line_for circuit) 0 cycle in
     record {
       lines = subst (λ forms. Reads circuit scale forms (map (line_for circuit) cycle) old new)
@@ -86,14 +80,11 @@ cycle_shown {circuit} {scale} {count} {old} {new} cycle small has =
       first = ap (λ n. count_line (codes "cycle") n ∷ map (line_for circuit) cycle) has.many;
       counted = has.many;
       paths = refl;
-      among = rows_all (λ number. DenotesConstraint circuit)
-          (IsBetweenRegisters (length circuit.registers))
-          (λ number words row denoted. denoted.registers) 0 has.lines cycle has.each;
+      among = rows_all _ _ (λ number words row denoted. denoted.registers) 0 _ _ has.each;
       weights = (
         omega (arith, has.many, small.0),
         omega (arith, has.many, small.1),
-        rows_all (λ number. DenotesConstraint circuit) HasSmallWeight
-            (λ number words row denoted. denoted.weight) 0 has.lines cycle has.each,
+        rows_all _ _ (λ number words row denoted. denoted.weight) 0 _ _ has.each,
       );
       signals = λ place default within. absurd (omega (arith, within));
       few = λ place default within. absurd (omega (arith, within));
@@ -177,20 +168,9 @@ module _ {circuit : Circuit} {scale : Scale} {version : Version} {count : ℕ} {
   body_read =
       let source = has.source.line.read scale has.source.line.flawless in
       let total = has.total.line.read scale has.total.line.flawless in
-      read_more
-      (read_more
-      (read_more
-      (read_more (counted_read has.timings) (lead_forms version count) has.leads.lines
-      has.after_leads has.leads.read)
-      (merge_forms count) (count_line (codes "merges") (count - 1) ∷ has.merged.has.lines)
-      has.after_merges (counted_read has.merged))
-      (form.Source ∷ node_forms count)
-      (has.source.words ∷ count_line (codes "nodes") (2 * count - 1) ∷ has.placed.has.lines)
-      has.after_nodes
-      (read_more source (node_forms count)
-      (count_line (codes "nodes") (2 * count - 1) ∷ has.placed.has.lines) has.after_nodes
-      (counted_read has.placed)))
-      (form.Total ∷ []) (has.total.words ∷ []) new total
+      read_more (read_more (read_more (read_more (counted_read has.timings) _ _ _ has.leads.read) _
+      _ _ (counted_read has.merged)) _ _ _ (read_more source _ _ _ (counted_read has.placed))) _ _
+      new total
 
   -- a fault after all sections
   pub body_ends : (fault : Option ReportFault)

@@ -83,11 +83,10 @@ no_rest (negsuc o) b none = ap (λ n. neg_ℤ (pos n)) none
 pub divides_steps : (over num den steps : ℤ) → IsLowest num den → AreSteps over num den steps
     → int_rem over den ≡ pos 0
 divides_steps over num (pos b) steps lowest are =
-    let some = lowest.some_den in
     let sizes : nat_abs num * nat_abs over ≡ b * nat_abs steps =
     sym (unsigned_abs-mul num over) ∙ ap nat_abs are ∙ unsigned_abs-mul steps (pos b)
     ∙ rotated (nat_abs steps) b in
-    let (m, is) = divides_by (nat_abs num + b) (nat_abs num) b (nat_abs over) (nat_abs steps)
+    let (m, is) = divides_by (nat_abs num + b) _ b (nat_abs over) _
     (omega arith) lowest.coprime sizes in
     no_rest over b (mod-eq-zero_of_dvd b (subst (λ n. b ∣ n) (sym is) (dvd-mul_right b m)))
   where
@@ -336,9 +335,8 @@ steps_small over num den bound steps lowest are below = (
   tt,
   tt,
   (steps, are),
-  λ other others.
-      within_bound bound other (subst (IsBelow bound)
-      (one_number_of_steps over num den steps other lowest.some_den are others) below),
+  λ other others. within_bound _ _ (subst (IsBelow bound) (one_number_of_steps over num den _ _
+      lowest.some_den are others) below),
 )
 
 module _ (over bound : ℤ) (num den : ℤ) (lowest : IsLowest num den) where
@@ -354,10 +352,8 @@ module _ (over bound : ℤ) (num den : ℤ) (lowest : IsLowest num den) where
     tt,
     tt,
     (num *ℤ int_div over den, steps_are over num den lowest.some_den none),
-    λ steps are.
-        few (num *ℤ int_div over den) steps (one_number_of_steps over num den
-        (num *ℤ int_div over den) steps lowest.some_den
-        (steps_are over num den lowest.some_den none) are) within.0 within.1,
+    λ steps are. few (num *ℤ int_div over den) steps (one_number_of_steps over num den _ _
+        lowest.some_den (steps_are over num den lowest.some_den none) are) within.0 within.1,
   )
     where
       few : (n m : ℤ) → n ≡ m → n <ℤ bound → pos 0 <ℤ (n +ℤ bound)

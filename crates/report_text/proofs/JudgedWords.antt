@@ -303,19 +303,17 @@ module _ (circuit : Circuit) where
         | inr rest ↦ denoted (Some Unfit) (steps_unfit over bound num den lowest rest)
         | inl none ↦
             let steps = num *ℤ int_div over den in
-            by_lt_z steps bound
-            (λ below. by_lt_z (pos 0) (steps +ℤ bound)
-            (λ above. denoted None (steps_within over bound num den lowest none (below, above)))
-            (λ low. denoted (Some Large) (steps_past over bound num den lowest none
-            (λ both. both_past steps both.1 low))))
-            (λ past. denoted (Some Large) (steps_past over bound num den lowest none
-            (λ both. past_bound steps both.0 past)))
+            by_lt_z steps bound (λ below. by_lt_z (pos 0) (steps +ℤ bound) (λ above. denoted None
+            (steps_within over _ num den lowest none (below, above))) (λ low. denoted (Some Large)
+            (steps_past over _ num den lowest none (λ both. both_past steps both.1 low))))
+            (λ past. denoted (Some Large) (steps_past over _ num den lowest none (λ both. past_bound
+            steps both.0 past)))
       ]
     where
       denoted : (flaw : Option Flaw) → HasStepsFlaw over bound num den flaw
           → Judged (field.Steps over bound) text
       denoted flaw has =
-          (flaw, steps_denoted text num den spells over bound small lowest flaw has circuit)
+          (flaw, steps_denoted text num den spells over _ small lowest flaw has circuit)
 
       both_past : (steps : ℤ) → pos 0 <ℤ (steps +ℤ bound) → (steps +ℤ bound) ≤ℤ pos 0 → ⊥
       both_past steps above low = omega (arith, ints, above, low)

@@ -34,8 +34,7 @@ module _ (circuit : Circuit) (name : List ℕ) where
   pub unnamed_register : (NamesRegister circuit name → ⊥)
       → register_named circuit name ≡ length circuit.registers
   unnamed_register none =
-      first_named (length circuit.registers) (omega arith)
-      (λ register before same. none (register, before, same))
+      first_named _ (omega arith) (λ register before same. none (register, before, same))
       (λ past. absurd (omega (arith, past)))
 
   -- so is what is given for the name: the number that is read, or that of all
@@ -81,8 +80,7 @@ other_register circuit register other name within is differs same =
       | inl within' ↦
           differs (one_register circuit register other within within' (is ∙ sym same))
       | inr past ↦
-          register_some circuit register within
-          (is ∙ sym same ∙ nameless other (omega (arith, past)))
+          register_some circuit _ within (is ∙ sym same ∙ nameless other (omega (arith, past)))
     ]
   where
     nameless : (number : ℕ) → length circuit.registers ≤ number

@@ -55,11 +55,10 @@ pub lines_cut : (lines : List Words) → AllByRecursion IsLine lines
 lines_cut [] are = refl
 lines_cut (words ∷ lines) are =
     let bytes : List ℕ = join_with_byte 32 words in
-    ap (λ text. map words_of (slice_split is_line_feed text))
-    (append_assoc bytes (10 ∷ []) (text_of lines))
-    ∙ ap (map words_of) (slice_split_at is_line_feed bytes 10 (text_of lines)
-    (lacks_each 10 bytes (words_lack words are.0)) refl)
-    ∙ ap₂ (λ w ws. w ∷ ws) (words_cut words are.0) (lines_cut lines are.1)
+    ap (λ text. map words_of (slice_split is_line_feed text)) (append_assoc bytes (10 ∷ [])
+    (text_of lines)) ∙ ap (map words_of) (slice_split_at is_line_feed bytes 10 (text_of lines)
+    (lacks_each 10 _ (words_lack words are.0)) refl) ∙ ap₂ (λ w ws. w ∷ ws) (words_cut _ are.0)
+    (lines_cut lines are.1)
 
 -- so lines are determined by their text
 pub one_text : (lines others : List Words) → AllByRecursion IsLine lines

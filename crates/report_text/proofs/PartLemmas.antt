@@ -151,9 +151,8 @@ module _ {circuit : Circuit} {text : List ℕ} {new : Left} {heading : Heading}
   shown_fault tech fault stops named =
       let suffix = forms_after heading.version (length circuit.registers) in
       let read = has.lines (scale_in tech heading.period) in
-      fault_given tech (Some fault)
-      (read.faults (cycle_forms heading.version (count_of heading.count) ++ suffix) (Some fault)
-      (stops named suffix))
+      fault_given tech _ (read.faults (cycle_forms heading.version (count_of heading.count)
+      ++ suffix) (Some fault) (stops named suffix))
 
   module _ (tech : Tech) {further : Left} {shown : Shown}
       (next : HasShown circuit (scale_in tech heading.period) heading.version heading.count new
@@ -166,20 +165,17 @@ module _ {circuit : Circuit} {text : List ℕ} {new : Left} {heading : Heading}
     after_fault fault found =
         let suffix = forms_after heading.version (length circuit.registers) in
         let read = has.lines (scale_in tech heading.period) in
-        fault_given tech fault
-        (read.faults (cycle_forms heading.version (count_of heading.count) ++ suffix) fault
-        (next.lines.faults suffix fault found))
+        fault_given tech _ (read.faults (cycle_forms heading.version (count_of heading.count)
+        ++ suffix) fault (next.lines.faults suffix fault found))
 
     pub body_fault : (fault : ReportFault)
         → Stops circuit (scale_in tech heading.period)
         (forms_after heading.version (length circuit.registers)) further fault
         → fault ≢ NoMemory → HasFault circuit tech text (Some fault)
     body_fault fault stops named =
-        after_fault (Some fault)
-        (subst (λ forms. HasFirstFault circuit (scale_in tech heading.period) forms further.line
-        further.text (Some fault))
-        (append-nil (forms_after heading.version (length circuit.registers)))
-        (stops named []))
+        after_fault _ (subst (λ forms. HasFirstFault circuit (scale_in tech heading.period) forms
+        further.line further.text (Some fault)) (append-nil (forms_after heading.version
+        (length circuit.registers))) (stops named []))
 
 -- a fault in the heading
 pub heading_fault : (circuit : Circuit) (tech : Tech) (text : List ℕ) (fault : ReportFault)

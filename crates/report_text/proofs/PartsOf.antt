@@ -93,8 +93,7 @@ module _ (circuit : Circuit) (tech : Tech) (report : Report) (size : IsOfSize ci
   -- ---- the report is put together from them
 
   wires_same : wires_in parts ≡ report.wires
-  wires_same = told (λ (row : NodeLine). row.wire) (node_at report) report.wires (2 * count - 1)
-      no_wire (omega (arith, size.wires)) (λ k within. refl)
+  wires_same = told _ _ _ _ _ (omega (arith, size.wires)) (λ k within. refl)
 
   -- the sinks' reaches, those of the merges and that of the source
   reach_same : (report_denoted tech parts).tree.reach ≡ report.tree.reach
@@ -107,17 +106,15 @@ module _ (circuit : Circuit) (tech : Tech) (report : Report) (size : IsOfSize ci
       (omega (arith, size.reaches))
       (λ k within. bounds.tree.sinks k (omega (arith, within, size.arrivals))) in
       let long : length rest ≡ count = omega (arith, length-drop count report.tree.reach) in
-      let merges = told_first (λ (row : MergeLine). row.reach) (merged_at report count) rest
-      (count - 1) (pos 0) (omega (arith, long))
-      (λ k within. get_or-drop count report.tree.reach k (pos 0)) in
+      let merges = told_first _ _ rest _ _ (omega (arith, long)) (λ k within. get_or-drop count
+      report.tree.reach k (pos 0)) in
       let last : 2 * count - 1 ≡ count + (count - 1) = omega (arith, some) in
       let source = ap (number_at report.tree.reach) last
       ∙ sym (get_or-drop count report.tree.reach (count - 1) (pos 0)) in
       append_assoc (sink_reaches tech (arrivals_in parts)) (reaches_in parts)
       (number_at report.tree.reach (2 * count - 1) ∷ []) ∙ ap₂ (λ xs ys. xs ++ ys) sinks
-      (ap₂ (λ xs x. xs ++ x ∷ []) merges source
-      ∙ with_last rest (count - 1) (pos 0) (omega (arith, long, some)))
-      ∙ take-append-drop count report.tree.reach
+      (ap₂ (λ xs x. xs ++ x ∷ []) merges source ∙ with_last rest _ (pos 0)
+      (omega (arith, long, some))) ∙ take-append-drop count report.tree.reach
 
   -- the source stands where the root's wire begins
   begin_same : begin_of (wires_in parts) ≡ get_or report.tree.place (2 * count - 1) origin
@@ -125,22 +122,15 @@ module _ (circuit : Circuit) (tech : Tech) (report : Report) (size : IsOfSize ci
 
   pub report_same : report_denoted tech parts ≡ report
   report_same =
-      let arrivals = told (λ (row : Timed). row.arrival) (timed_at report) report.schedule.at count
-      (pos 0) size.arrivals (λ k within. refl) in
-      let slacks = told (λ (row : Timed). row.slack) (timed_at report) report.slacks count _
-      size.slacks (λ k within. refl) in
-      let merges = told (λ (row : MergeLine). row.merge) (merged_at report count)
-      report.topology.merges (count - 1) _ (omega (arith, size.merges)) (λ k within. refl) in
-      let shows = ap (λ xs. xs ++ get_or report.shows (count - 1) Root ∷ [])
-      (told_first (λ (row : MergeLine). row.show) (merged_at report count) report.shows (count - 1)
-      Root (omega (arith, size.shows)) (λ k within. refl))
-      ∙ with_last report.shows (count - 1) Root (omega (arith, size.shows, some)) in
-      let places = ap₂ (λ xs x. xs ++ x ∷ [])
-      (told_first (λ (row : NodeLine). row.place) (node_at report) report.tree.place
-      (2 * count - 1) origin (omega (arith, size.places)) (λ k within. refl)) begin_same
-      ∙ with_last report.tree.place (2 * count - 1) origin (omega (arith, size.places, some)) in
-      let lengths = told (λ (row : NodeLine). row.length) (node_at report) report.tree.length
-      (2 * count - 1) (pos 0) (omega (arith, size.lengths)) (λ k within. refl) in
+      let arrivals = told _ _ _ _ _ size.arrivals (λ k within. refl) in
+      let slacks = told _ _ _ _ _ size.slacks (λ k within. refl) in
+      let merges = told _ _ _ _ _ (omega (arith, size.merges)) (λ k within. refl) in
+      let shows = ap (λ xs. xs ++ get_or report.shows (count - 1) Root ∷ []) (told_first _ _ _ _
+      Root (omega (arith, size.shows)) (λ k within. refl)) ∙ with_last _ _ Root
+      (omega (arith, size.shows, some)) in
+      let places = ap₂ (λ xs x. xs ++ x ∷ []) (told_first _ _ _ _ _ (omega (arith, size.places))
+      (λ k within. refl)) begin_same ∙ with_last _ _ origin (omega (arith, size.places, some)) in
+      let lengths = told _ _ _ _ _ (omega (arith, size.lengths)) (λ k within. refl) in
       λ i. record {
         version = report.version;
         period = report.period;

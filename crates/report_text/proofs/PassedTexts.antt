@@ -65,8 +65,7 @@ line_passed circuit scale due more old sound =
     at false (Some end) some found (None, flawless, rest) = record {
       words = words_of (take end old.text);
       new = record { line = old.line + 1; text = drop (end + 1) old.text };
-      line = line_read (line_taken old end some found) circuit scale due
-          (words_of (take end old.text)) refl flawless;
+      line = line_read (line_taken old end some found) _ _ due _ refl flawless;
       rest = rest;
     }
     at false (Some end) some found (Some flaw, has, is) = search (arith, none-some)
@@ -139,13 +138,12 @@ module _ (circuit : Circuit) (scale : Scale) where
           → IsSound circuit scale (due (first + place) ∷ suffix) between
           → Passed circuit scale suffix (HasRows circuit scale due Says first (place + 1) old)
       next place suffix between value within has sound =
-          let line = denoted_passed circuit scale (due (first + place)) suffix
-          (Says (first + place)) between
-          (λ words. found (first + place) words (omega (arith, within))) sound in
+          let line = denoted_passed circuit _ _ _ _ _ (λ words. found (first + place) words
+          (omega (arith, within))) sound in
           record {
             new = line.new;
             value = value ++ line.value ∷ [];
-            has = rows_next due Says first has _ line.value line.new line.has refl;
+            has = rows_next due Says _ has _ _ _ line.has refl;
             rest = line.rest;
           }
 
@@ -153,11 +151,9 @@ module _ (circuit : Circuit) (scale : Scale) where
       → IsSound circuit scale (cycle_forms version.First count ++ more) old
       → Passed circuit scale more (HasRows circuit scale (λ number. form.Constraint)
       (λ number. DenotesConstraint circuit) 0 count old)
-  cycle_passed count more old sound = rows_passed (λ number. form.Constraint)
-      (λ number. DenotesConstraint circuit) 0 count more old
-      (λ number words within some. constraint_found circuit scale words)
-      (subst (λ forms. IsSound circuit scale (forms ++ more) old)
-      (sym (one_form form.Constraint 0 count)) sound)
+  cycle_passed count more old sound = rows_passed _ _ 0 _ more old (λ number words within
+      some. constraint_found circuit scale words) (subst (λ forms. IsSound circuit scale
+      (forms ++ more) old) (sym (one_form form.Constraint 0 count)) sound)
 
   pub pathed_passed : (count : ℕ) (more : List Form) (old : Left)
       → IsSound circuit scale (cycle_forms version.Second count ++ more) old
@@ -225,14 +221,13 @@ module _ (circuit : Circuit) (scale : Scale) where
       → Passed circuit scale more (HasVersionLeads circuit scale version count old)
   version_leads_passed version.First count more old sound = search (arith, read_none)
   version_leads_passed version.Second count more old sound =
-      let leads = rows_passed (λ number. form.Lead) (λ number. DenotesLead circuit) 0 count more
-      old (λ number words within some. lead_found circuit scale words)
-      (subst (λ forms. IsSound circuit scale (forms ++ more) old) (sym (one_form form.Lead 0 count))
-      sound) in
+      let leads = rows_passed _ _ 0 _ more old (λ number words within some. lead_found circuit scale
+      words) (subst (λ forms. IsSound circuit scale (forms ++ more) old) (sym (one_form form.Lead 0
+      count)) sound) in
       record {
         new = leads.new;
         value = leads.value;
-        has = leads_given leads.value leads.has;
+        has = leads_given _ leads.has;
         rest = leads.rest;
       }
 
@@ -369,8 +364,7 @@ forms_given : {circuit : Circuit} {text : List ℕ} {new : Left} {heading : Head
     ++ forms_after heading.version (length circuit.registers)) new
 forms_given {circuit} {text} {new} {heading} has tech =
     subst (λ (given : Scale × Version × ℕ). IsSound circuit given.0 (cycle_forms given.1 given.2
-    ++ forms_after given.1 (length circuit.registers)) new)
-    (forms_denoted text heading (map words_of (slice_split is_line_feed new.text))
+    ++ forms_after given.1 (length circuit.registers)) new) (forms_denoted text _ _
     (has.lines (record { den = pos 1; grid = pos 1 })).words has.small has.count tech)
 
 -- where nothing more is to follow, nothing is left

@@ -22,8 +22,7 @@ module _ {X : Type 0} (Says : ℕ → Words → X → Type 0) where
   say_more first [] [] words row each says = (subst (λ n. Says n words row) (omega arith) says, tt)
   say_more first (line ∷ lines) (other ∷ rows) words row each says = (
     each.0,
-    say_more (first + 1) lines rows words row each.1
-        (subst (λ n. Says n words row) (omega arith) says),
+    say_more (first + 1) _ rows words row each.1 (subst (λ n. Says n words row) (omega arith) says),
   )
   say_more first lines rows words row each says = absurd each
 
@@ -74,9 +73,8 @@ numbered_lines : {X : Type 0} (f : ℕ → Words) (line : ℕ → X → Words) (
 numbered_lines f line default start first [] same = refl
 numbered_lines f line default start first (row ∷ rows) same =
     ap₂ (λ w ws. w ∷ ws) (same 0 start first (omega arith) (omega arith) (omega arith))
-    (numbered_lines f line default (start + 1) (first + 1) rows
-    (λ place node number is is' within.
-    same (suc place) node number (omega (arith, is)) (omega (arith, is')) (omega (arith, within))))
+    (numbered_lines f line _ (start + 1) _ rows (λ place node number is is' within. same (suc place)
+    node number (omega (arith, is)) (omega (arith, is')) (omega (arith, within))))
 
 -- of numbers from 0 on
 pub numbered_rows : {X : Type 0} (f : ℕ → Words) (line : ℕ → X → Words) (default : X)
@@ -108,14 +106,13 @@ module _ {X : Type 0} {circuit : Circuit} {scale : Scale} (due : ℕ → Form)
         → HasRows circuit scale due Says first (place + 1) old new rows'
     rows_next rows' row new next is = record {
       lines = has.lines ++ next.words ∷ [];
-      read = next_read (λ n. map due (range_with_len first n)) (λ n. due (first + n) ∷ [])
-          (numbered_step due first) place has.lines (next.words ∷ [])
-          (has.lines ++ next.words ∷ []) old between new has.read
-          (next.line.read scale next.line.flawless) refl;
+      read = next_read _ (λ n. due (first + n) ∷ []) (numbered_step due first) _ has.lines _
+          (has.lines ++ next.words ∷ []) old _ new has.read (next.line.read scale
+          next.line.flawless) refl;
       each = subst (SayEach Says first (has.lines ++ next.words ∷ [])) (sym is)
-          (say_more Says first has.lines rows next.words row has.each
+          (say_more Says first _ rows next.words row has.each
           (subst (λ n. Says (first + n) next.words row) (sym has.many) next.denoted));
-      many = longer rows rows' row is place has.many;
+      many = longer rows _ row is place has.many;
     }
 
     -- a fault of the next line
@@ -135,8 +132,7 @@ module _ {X : Type 0} {circuit : Circuit} {scale : Scale} {keyword : Keyword} {d
       (form.Count keyword count ∷ map due (range_with_len first count))
       (count_line (keyword_text keyword) count ∷ has.has.lines) old new
   counted_read =
-      read_more (has.counted.read scale has.counted.flawless)
-      (map due (range_with_len first count)) has.has.lines new has.has.read
+      read_more (has.counted.read scale has.counted.flawless) _ _ new has.has.read
 
   pub counted_number : new.line ≡ old.line + 1 + count
   counted_number =
@@ -179,25 +175,19 @@ pub pathed_next : {circuit : Circuit} {scale : Scale} {place : ℕ} {old between
     → HasPathed circuit scale (place + 1) old new pathed'
 pathed_next {circuit} {scale} {place} {old} {between} {new} middle pathed pathed' constraint path
     has next way cycle paths = record {
-      lines = next_read (cycle_forms version.Second) (λ n. form.Constraint ∷ form.Path ∷ [])
-          pathed_step place (pathed_lines circuit pathed.cycle pathed.paths)
-          (next.words ∷ way.words ∷ []) (pathed_lines circuit pathed'.cycle pathed'.paths)
-          old between new has.lines
-          (read_more (next.line.read scale next.line.flawless) (form.Path ∷ []) (way.words ∷ []) new
-          (way.line.read scale way.line.flawless))
-          (ap₂ (pathed_lines circuit) cycle paths
-          ∙ pathed_more circuit pathed.cycle pathed.paths constraint path.signals
-          (has.as_many ∙ sym has.paths)
-          ∙ ap₂ (λ first second. pathed_lines circuit pathed.cycle pathed.paths
-          ++ first ∷ second ∷ []) (sym next.denoted.line) (sym way.denoted.line));
-      as_many = longer pathed.cycle pathed'.cycle constraint cycle place has.as_many;
-      paths = longer pathed.paths pathed'.paths path.signals paths place has.paths;
-      registers = all_with pathed.cycle pathed'.cycle constraint cycle
+      lines = next_read (cycle_forms version.Second) _ pathed_step place _ (next.words ∷ way.words
+          ∷ []) _ old between new has.lines (read_more (next.line.read scale next.line.flawless) _
+          (way.words ∷ []) new (way.line.read scale way.line.flawless)) (ap₂ (pathed_lines circuit)
+          cycle paths ∙ pathed_more circuit _ pathed.paths constraint path.signals
+          (has.as_many ∙ sym has.paths) ∙ ap₂ (λ first second. pathed_lines circuit pathed.cycle
+          pathed.paths ++ first ∷ second ∷ []) (sym next.denoted.line) (sym way.denoted.line));
+      as_many = longer _ pathed'.cycle _ cycle place has.as_many;
+      paths = longer _ pathed'.paths _ paths place has.paths;
+      registers = all_with _ pathed'.cycle _ cycle
           (IsBetweenRegisters (length circuit.registers)) has.registers next.denoted.registers;
-      weights = all_with pathed.cycle pathed'.cycle constraint cycle HasSmallWeight has.weights
-          next.denoted.weight;
-      signals = all_with pathed.paths pathed'.paths path.signals paths
+      weights = all_with _ pathed'.cycle _ cycle HasSmallWeight has.weights next.denoted.weight;
+      signals = all_with _ pathed'.paths _ paths
           (All (λ number. number < length circuit.signals)) has.signals way.denoted.signals;
-      few = all_with pathed.paths pathed'.paths path.signals paths
+      few = all_with _ pathed'.paths _ paths
           (λ (each : List ℕ). length each ≤ 65536) has.few way.denoted.few;
     }

@@ -52,8 +52,7 @@ pub same_fraction : (fraction other : Fraction) → fraction.num ≡ other.num
     → fraction.den ≡ other.den → fraction ≡ other
 unfolding fraction_of
 same_fraction fraction other num den =
-    parts_same (fraction.num, fraction.den) (other.num, other.den) (λ i. (num i, den i))
-    fraction.lowest other.lowest
+    parts_same _ _ (λ i. (num i, den i)) fraction.lowest other.lowest
 
 -- what the word of a field tells
 abbrev pub Value : Field → Type 0
@@ -182,9 +181,8 @@ pub small_slack : (over : ℤ) (slack : Fraction) → pos 1 ≤ℤ over → HasS
     → IsSmallSlack over (Some slack) → HaveSmallSizes slack.num slack.den
 small_slack over slack some low small =
     let sizes = lowest_sizes small.0 over slack some small.1 in (
-      smaller (10 ^ 37) slack.num small.0 sizes.0
-          (size_below (10 ^ 20) small.0 (omega arith) small.2),
-      smaller (10 ^ 37) slack.den over sizes.1 low,
+      smaller _ _ _ sizes.0 (size_below _ _ (omega arith) small.2),
+      smaller _ _ over sizes.1 low,
     )
 
 -- ---- each word
@@ -294,9 +292,8 @@ module _ (circuit : Circuit) where
       let sizes = small_slack over slack some low (steps, is, below) in
       let text = fraction_text slack.num slack.den in
       let spells = read_quotient_is text slack sizes refl in
-      let has = steps_denoted text slack.num slack.den spells over (pos (10 ^ 20)) sizes
-      slack.lowest None
-      (steps_small over slack.num slack.den (10 ^ 20) steps slack.lowest is below) circuit in
+      let has = steps_denoted text slack.num slack.den spells over _ sizes slack.lowest None
+      (steps_small over _ _ _ _ slack.lowest is below) circuit in
       (inr has.0, tt, has.2, has.3)
 
   plain : (due : Field) (value : Value due) → IsSmallField due → Admits circuit due value

@@ -214,9 +214,7 @@ pub register_plain : (circuit : Circuit) (scale : Scale) (register : ℕ) (timed
     → IsFlawless circuit scale (form.Register register)
     (register_line circuit scale.den register timed.arrival timed.slack)
 register_plain circuit scale register timed small among below slacks =
-    values_plain circuit (register_fields scale register)
-    (tt, (timed.arrival, (timed.slack.setup, (timed.slack.hold, tt))))
-    (small_register scale register small)
+    values_plain circuit (register_fields scale register) _ (small_register _ register small)
     ((register, among, refl), (below, (slacks.setup, (slacks.hold, tt))))
 
 -- ---- a path
@@ -264,11 +262,10 @@ path_found circuit scale words flawless = at (is_word words 1 word.Dash) flawles
         let line = line_spelled circuit (way_fields false count) words
         (tt, (omega arith, small_signals count)) flawless in
         let (some, few) = line.admitted.1.0 in
-        let named = signals_found circuit count line.values.1.1 line.admitted.1.1 in (
+        let named = signals_found circuit _ _ line.admitted.1.1 in (
           named.signals,
-          path_read circuit named.signals named.many some few named.within
-              (line.are ∙ ap (λ names. codes "path" ∷ signed_decimal (pos count) ∷ names)
-              named.are),
+          path_read _ _ named.many some few named.within (line.are ∙ ap (λ names. codes "path"
+              ∷ signed_decimal (pos count) ∷ names) named.are),
         )
 
 -- the digits of a number aren't a dash
@@ -276,8 +273,7 @@ not_dash : (number : ℕ) → number < 10 ^ 37
     → bytes_eq (signed_decimal (pos number)) (codes "-") ≡ false
 not_dash number less =
     false_from_ne_true (bytes_eq (signed_decimal (pos number)) (codes "-"))
-    (λ same. no_fraction_minus (pos number) (pos 1)
-    (few_digits (pos number) (small_number number less))
+    (λ same. no_fraction_minus (pos number) (pos 1) (few_digits (pos number) (small_number _ less))
     ((bytes_eq-Decides (signed_decimal (pos number)) (codes "-")).0 same))
 
 names_told : (circuit : Circuit) (path : List ℕ)
@@ -303,9 +299,8 @@ path_plain circuit scale (first ∷ more) within few =
     omega (arith, length-map path (signal_name circuit)) in
     let names = names_told circuit path within in
     subst (λ (dash : Bool). LineHasFlaw circuit (way_fields dash (length line - 2)) line None)
-    (sym (not_dash (length path) (omega (arith, few))))
-    (subst (λ n. LineHasFlaw circuit (way_fields false n) line None) count
-    (line_plain circuit (way_fields false (length path)) line
+    (sym (not_dash _ (omega (arith, few)))) (subst (λ n. LineHasFlaw circuit (way_fields false n)
+    line None) count (line_plain circuit (way_fields false (length path)) line
     (tt, (omega arith, small_signals (length path))) (record {
       values = (tt, (tt, names.values));
       admitted = (tt, ((omega arith, few), names.admitted));

@@ -293,11 +293,10 @@ node_plain circuit scale node words line small below says =
     ap length says.words_are ∙ omega (arith, many, length-points scale.grid corners) in
     let fields_are = points_are scale node words points all wire.some wire.few in
     let drawn = subst (λ n. Tells circuit (replicate (2 * n) (length_field scale))
-    (flat_map (coordinates scale.grid) corners)) many
-    (points_told circuit scale corners wire.each) in
+    (flat_map (coordinates scale.grid) corners)) many (points_told circuit scale _ wire.each) in
     subst (λ (fields : List Field). LineHasFlaw circuit fields words None) (sym fields_are)
-    (line_plain circuit (node_fields scale node points) words
-    (small_node scale node points small below wire.few) (record {
+    (line_plain circuit (node_fields scale node points) _
+    (small_node scale node _ small below wire.few) (record {
       values = (tt, (line.place.x, (line.place.y, (line.length, (tt, drawn.values)))));
       admitted = (tt, (says.place.x, (says.place.y, (says.edge, (tt, drawn.admitted)))));
       are = says.words_are ∙ ap (λ ws. signed_decimal (pos node)

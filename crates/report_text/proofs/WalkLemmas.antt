@@ -88,17 +88,14 @@ module _ {old new : Left} {line : List ℕ} (taken : TakesLine old line new) whe
   -- what was left is the line, its line feed and what is left now
   line_then : old.text ≡ line ++ 10 ∷ new.text
   line_then =
-      sym (take-append-drop (length line) old.text)
-      ∙ ap₂ (λ prefix rest. prefix ++ rest) (sym taken.line_is)
-      (feed_then old.text (length line) taken.end
-      ∙ ap (λ rest. 10 ∷ rest) (sym taken.text))
+      sym (take-append-drop (length line) old.text) ∙ ap₂ (λ prefix rest. prefix ++ rest)
+      (sym taken.line_is) (feed_then _ _ taken.end ∙ ap (λ rest. 10 ∷ rest) (sym taken.text))
 
   -- the line is the first of those that were left
   line_cut : slice_split is_line_feed old.text ≡ line ∷ slice_split is_line_feed new.text
   line_cut =
-      first_part is_line_feed old.text (length line) taken.end
-      ∙ ap₂ (λ first rest. first ∷ slice_split is_line_feed rest) (sym taken.line_is)
-      (drop-drop 1 (length line) old.text ∙ sym taken.text)
+      first_part _ _ _ taken.end ∙ ap₂ (λ first rest. first ∷ slice_split is_line_feed rest)
+      (sym taken.line_is) (drop-drop 1 (length line) old.text ∙ sym taken.text)
 
   -- a line that has no flaw by the form that is due
   pub line_read : (circuit : Circuit) (scale : Scale) (form : Form) (words : Words)
@@ -219,11 +216,10 @@ module _ {circuit : Circuit} {scale : Scale} (forms due : ℕ → List Form)
       (fault : ReportFault) → place < count → Reads circuit scale (forms place) lines old between
       → Stops circuit scale (due place) between fault → Stops circuit scale (forms count) old fault
   next_stops place count lines old between fault within read stops =
-      let suffix = forms_after forms due step (place + 1) (count - (place + 1)) in
-      subst (λ fs. Stops circuit scale fs old fault)
-      (ap (λ prefix. prefix ++ suffix.0) (sym (step place)) ∙ sym suffix.1 ∙ ap forms (omega arith))
-      (stop_before circuit scale (forms place ++ due place) suffix.0 old fault
-      (stop_after read (due place) fault stops))
+      let suffix = forms_after _ due step (place + 1) (count - (place + 1)) in
+      subst (λ fs. Stops circuit scale fs old fault) (ap (λ prefix. prefix ++ suffix.0)
+      (sym (step place)) ∙ sym suffix.1 ∙ ap forms (omega arith)) (stop_before circuit _
+      (forms place ++ due place) suffix.0 old _ (stop_after read (due place) _ stops))
 
 -- ---- one fault
 
@@ -282,11 +278,9 @@ one_first_fault circuit scale (due ∷ more) line text fault other is is' =
     at false None later is is' = is ∙ sym is'
     at false (Some end) later (flaw, has, is) (flaw', has', is') =
         let words : Words = words_of (take end text) in
-        judged flaw flaw'
-        (one_flaw circuit (fields_of circuit scale due words) words flaw flaw' has has')
-        (HasFirstFault circuit scale more (line + 1) (drop (end + 1) text) fault)
-        (HasFirstFault circuit scale more (line + 1) (drop (end + 1) text) other)
-        (later end) is is'
+        judged flaw flaw' (one_flaw circuit _ words flaw _ has has') (HasFirstFault circuit scale
+        more (line + 1) (drop (end + 1) text) fault) (HasFirstFault circuit scale more (line + 1)
+        (drop (end + 1) text) other) (later end) is is'
 
 -- ---- the next line
 

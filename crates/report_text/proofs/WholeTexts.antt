@@ -90,11 +90,10 @@ module _ (circuit : Circuit) where
       → lead_line circuit lead ≡ lead_line circuit other → lead ≡ other
   one_lead Zero Zero says says' same = refl
   one_lead (Tight depth constraint) (Tight depth' constraint') says says' same =
-      ap₂ (λ d c. Tight d c) (one_value circuit (field.Number 1 9999) depth depth' (omega arith)
-      (says.small.0, says.small.1) (says'.small.0, says'.small.1)
-      (ap (λ (w : Words). get_or w 1 []) same))
-      (one_constraint constraint constraint' (says.registers, says.small.2)
-      (says'.registers, says'.small.2) (rest_of 2 same))
+      ap₂ (λ d c. Tight d c) (one_value circuit (field.Number 1 9999) depth _ (omega arith)
+      (says.small.0, says.small.1) (says'.small.0, says'.small.1) (ap (λ (w : Words). get_or w 1 [])
+      same)) (one_constraint _ _ (says.registers, says.small.2) (says'.registers, says'.small.2)
+      (rest_of 2 same))
   one_lead (Tight depth constraint) Zero says says' same = search (arith, constraint_told)
   one_lead Zero (Tight depth constraint) says says' same = search (arith, constraint_told)
 
@@ -103,8 +102,7 @@ module _ (circuit : Circuit) where
       → path_line circuit path ≡ path_line circuit other → path ≡ other
   one_path [] [] within within' same = refl
   one_path (first ∷ more) (first' ∷ more') within within' same =
-      one_map (λ n. n < length circuit.signals) (signal_name circuit) (first ∷ more)
-      (first' ∷ more') within within' (one_signal circuit) (rest_of 2 same)
+      one_map _ _ _ _ within within' (one_signal circuit) (rest_of 2 same)
   one_path path other within within' same = absurd (omega (arith, ap length same))
 
   one_show : (show other : Show) → ShowsAmong (length circuit.registers) show
@@ -124,14 +122,10 @@ module _ (circuit : Circuit) where
         → timed ≡ other
     one_timed register timed other says says' words =
         let den : IsSmallField (slack_field scale) = (small.some_den, small.small_den, refl) in
-        let same = one_values circuit
-        (field.Steps scale.den (pos (10 ^ 19)) ∷ slack_field scale ∷ slack_field scale ∷ [])
-        (timed.arrival, (timed.slack.setup, (timed.slack.hold, tt)))
-        (other.arrival, (other.slack.setup, (other.slack.hold, tt)))
-        ((small.some_den, small.small_den, omega arith), (den, (den, tt)))
-        (says.small, (says.slacks.setup, (says.slacks.hold, tt)))
-        (says'.small, (says'.slacks.setup, (says'.slacks.hold, tt)))
-        (rest_of 1 words) in
+        let same = one_values circuit (field.Steps scale.den (pos (10 ^ 19)) ∷ slack_field scale
+        ∷ slack_field scale ∷ []) _ _ ((small.some_den, small.small_den, omega arith),
+        (den, (den, tt))) (says.small, (says.slacks.setup, (says.slacks.hold, tt))) (says'.small,
+        (says'.slacks.setup, (says'.slacks.hold, tt))) (rest_of 1 words) in
         λ i. record {
           arrival = (same i).0;
           slack = record { setup = (same i).1.0; hold = (same i).1.1.0 };
@@ -143,15 +137,13 @@ module _ (circuit : Circuit) where
         → merged_line circuit scale.grid node line ≡ merged_line circuit scale.grid node other
         → line ≡ other
     one_merge node line other says says' words =
-        let same = one_values circuit
-        (field.Number 0 9999 ∷ field.Number 0 9999 ∷ length_field scale ∷ [])
-        (line.merge.first, (line.merge.second, (line.reach, tt)))
-        (other.merge.first, (other.merge.second, (other.reach, tt)))
-        (omega arith, (omega arith, (small_length scale small, tt)))
-        ((omega arith, says.merge.first), ((omega arith, says.merge.second), (says.reach, tt)))
-        ((omega arith, says'.merge.first), ((omega arith, says'.merge.second), (says'.reach, tt)))
-        (ap (λ (w : Words). take 3 (drop 1 w)) words) in
-        let show = one_show line.show other.show says.among says'.among (rest_of 4 words) in
+        let same = one_values circuit (field.Number 0 9999 ∷ field.Number 0 9999 ∷ length_field
+        scale ∷ []) (line.merge.first, (line.merge.second, (line.reach, tt))) _ (omega arith,
+        (omega arith, (small_length _ small, tt))) ((omega arith, says.merge.first),
+        ((omega arith, says.merge.second), (says.reach, tt))) ((omega arith, says'.merge.first),
+        ((omega arith, says'.merge.second), (says'.reach, tt))) (ap (λ (w : Words). take 3
+        (drop 1 w)) words) in
+        let show = one_show _ _ says.among says'.among (rest_of 4 words) in
         λ i. record {
           merge = record { first = (same i).0; second = (same i).1.0 };
           reach = (same i).1.1.0;
@@ -164,10 +156,9 @@ module _ (circuit : Circuit) where
         → sourced_line circuit scale.grid line ≡ sourced_line circuit scale.grid other
         → line ≡ other
     one_source line other says says' words =
-        let reach = one_value circuit (length_field scale) line.reach other.reach
-        (small_length scale small) says.reach says'.reach
-        (ap (λ (w : Words). get_or w 1 []) words) in
-        let show = one_show line.show other.show says.among says'.among (rest_of 2 words) in
+        let reach = one_value circuit (length_field scale) line.reach _ (small_length _ small)
+        says.reach says'.reach (ap (λ (w : Words). get_or w 1 []) words) in
+        let show = one_show _ _ says.among says'.among (rest_of 2 words) in
         λ i. record { reach = reach i; show = show i }
 
     one_points : (points others : List Point) → All (IsPointBelow (10 ^ 32)) points
@@ -213,17 +204,13 @@ module _ (circuit : Circuit) where
         let length = length_field scale in
         let few = small_length scale small in
         let same = one_values circuit (length ∷ length ∷ length ∷ field.Number 1 5 ∷ [])
-        (line.place.x, (line.place.y, (line.length, (line.wire.used, tt))))
-        (other.place.x, (other.place.y, (other.length, (other.wire.used, tt))))
-        (few, (few, (few, (omega arith, tt))))
-        (says.place.x, (says.place.y, (says.edge, ((says.wire.some, says.wire.few), tt))))
-        (says'.place.x, (says'.place.y, (says'.edge, ((says'.wire.some, says'.wire.few), tt))))
-        (ap (λ (w : Words). take 4 (drop 1 w)) words) in
-        let points = one_points (take line.wire.used line.wire.corners)
-        (take other.wire.used other.wire.corners) says.wire.each says'.wire.each
-        (rest_of 5 words) in
-        let wire = one_wire line.wire other.wire says.wire says'.wire
-        (ap (λ values. values.1.1.1.0) same) points in
+        (line.place.x, (line.place.y, (line.length, (line.wire.used, tt)))) _
+        (few, (few, (few, (omega arith, tt)))) (says.place.x, (says.place.y,
+        (says.edge, ((says.wire.some, says.wire.few), tt)))) (says'.place.x, (says'.place.y,
+        (says'.edge, ((says'.wire.some, says'.wire.few), tt)))) (ap (λ (w : Words). take 4
+        (drop 1 w)) words) in
+        let points = one_points _ _ says.wire.each says'.wire.each (rest_of 5 words) in
+        let wire = one_wire _ _ says.wire says'.wire (ap (λ values. values.1.1.1.0) same) points in
         λ i. record {
           place = record { x = (same i).0; y = (same i).1.0 };
           length = (same i).1.1.0;
@@ -296,13 +283,12 @@ module _ (circuit : Circuit) where
       ≡ period_show_lines version circuit other paths' ++ rest'
       → (shown ≡ other) × (paths ≡ paths') × (rest ≡ rest')
   one_shown First (Cycle cycle) (Cycle other) [] [] rest rest' is is' same =
-      let (cycles, after) = one_rows (λ number. DenotesConstraint circuit)
-      (λ number. line_for circuit) (λ number c o says says'. one_constraint circuit c o
-      (says.registers, says.weight) (says'.registers, says'.weight)) 0 cycle other rest rest'
-      (counts cycle other is.weights.0 is.weights.1 is'.weights.0 is'.weights.1 (line_at 0 same))
-      (cycle_told cycle is.among is.weights.2) (cycle_told other is'.among is'.weights.2)
-      (rw (plain_lines (line_for circuit) 0 cycle, plain_lines (line_for circuit) 0 other)
-      (from_line 1 same)) in
+      let (cycles, after) = one_rows (λ number. DenotesConstraint circuit) _ (λ number c o says
+      says'. one_constraint circuit c o (says.registers, says.weight) (says'.registers,
+      says'.weight)) 0 cycle _ rest rest' (counts _ other is.weights.0 is.weights.1 is'.weights.0
+      is'.weights.1 (line_at 0 same)) (cycle_told _ is.among is.weights.2) (cycle_told other
+      is'.among is'.weights.2) (rw (plain_lines (line_for circuit) 0 cycle, plain_lines
+      (line_for circuit) 0 other) (from_line 1 same)) in
       (ap (λ c. Cycle c) cycles, refl, after)
   one_shown Second (Cycle cycle) (Cycle other) paths paths' rest rest' is is' same =
       search (arith, one_pathed, counts, line_at, from_line)
@@ -579,35 +565,30 @@ module _ {circuit : Circuit} {tech : Tech} {parts : Parts}
 -- two reports of a text are the same
 pub one_report : OneReport
 one_report circuit tech text report other spells spells' =
-    let same = one_text (report_lines circuit report) (report_lines circuit other)
-    (report_lines_are circuit report) (report_lines_are circuit other)
+    let same = one_text _ _ (report_lines_are circuit report) (report_lines_are circuit other)
     (sym spells.lines ∙ spells'.lines) in
-    let is = report_printable circuit tech report spells.size spells.bounds in
-    let is' = report_printable circuit tech other spells'.size spells'.bounds in
-    sym (report_same circuit tech report spells.size spells.bounds)
-    ∙ ap (report_denoted tech) (one_parts is is'
-    (report_told circuit tech report spells.size spells.bounds ∙ same
-    ∙ sym (report_told circuit tech other spells'.size spells'.bounds)))
-    ∙ report_same circuit tech other spells'.size spells'.bounds
+    let is = report_printable _ tech _ spells.size spells.bounds in
+    let is' = report_printable _ tech _ spells'.size spells'.bounds in
+    sym (report_same _ tech _ spells.size spells.bounds) ∙ ap (report_denoted tech) (one_parts is
+    is' (report_told _ tech _ spells.size spells.bounds ∙ same ∙ sym (report_told _ tech _
+    spells'.size spells'.bounds))) ∙ report_same _ tech _ spells'.size spells'.bounds
 
 -- two faults of a text as a report are the same
 pub one_fault : (circuit : Circuit) (tech : Tech) (text : List ℕ)
     (fault other : Option ReportFault) → HasFault circuit tech text fault
     → HasFault circuit tech text other → fault ≡ other
 one_fault circuit tech text fault other is is' =
-    one_first_fault circuit (scale_denoted tech text)
-    (forms_of (version_denoted text) (cycle_denoted text) (length circuit.registers)) 1 text
-    fault other is is'
+    one_first_fault circuit _ (forms_of (version_denoted text) (cycle_denoted text)
+    (length circuit.registers)) 1 text _ other is is'
 
 -- a text that spells a report has none
 pub no_fault : (circuit : Circuit) (tech : Tech) (text : List ℕ) (report : Report)
     → Spells circuit tech text report → HasFault circuit tech text None
 no_fault circuit tech text report spells =
-    let told = sym (report_told circuit tech report spells.size spells.bounds) in
-    subst (λ (t : List ℕ). HasFault circuit tech t None)
-    (sym (spells.lines ∙ ap text_of told))
-    (parts_sound (report_printable circuit tech report spells.size spells.bounds)
-    (subst AreLines told (report_lines_are circuit report)))
+    let told = sym (report_told _ tech _ spells.size spells.bounds) in
+    subst (λ (t : List ℕ). HasFault circuit tech t None) (sym (spells.lines ∙ ap text_of told))
+    (parts_sound (report_printable _ tech _ spells.size spells.bounds) (subst AreLines told
+    (report_lines_are circuit report)))
 
 -- a fault is want of memory or it isn't
 memory_or_not : (fault : ReportFault) → (fault ≡ NoMemory) ⊎ (fault ≢ NoMemory)

@@ -28,9 +28,8 @@ digits_above : (most base number : ℕ) (suffix : List ℕ) → IsWord suffix
     → IsWord (digits_onto most base false number suffix)
 digits_above zero base number suffix is = is
 digits_above (suc most) base number suffix is =
-    let digit = digit_glyph false (number % base) in
     at (number / base == 0) (glyph_above (number % base), is)
-    (digits_above most base (number / base) (digit ∷ suffix) (glyph_above (number % base), is))
+    (digits_above most base (number / base) _ (glyph_above (number % base), is))
   where
     at : (last : Bool) → IsWord (digit_glyph false (number % base) ∷ suffix)
         → IsWord (digits_onto most base false (number / base)
@@ -70,8 +69,7 @@ slack_word (Some slack) = fraction_word slack.num slack.den
 -- a byte of a name is above the space
 name_byte : (byte : ℕ) → is_name_byte byte ≡ true → 32 < byte
 name_byte byte of_name =
-    at (nat_le 33 byte) refl (nat_le 128 byte) refl (both ((nat_le 33 byte && nat_le byte 126)
-    || (nat_le 128 byte && nat_le byte 255)) (not (is_mark byte)) of_name).0
+    at (nat_le 33 byte) refl (nat_le 128 byte) refl (both _ _ of_name).0
   where
     at : (low : Bool) → nat_le 33 byte ≡ low → (high : Bool) → nat_le 128 byte ≡ high
         → ((low && nat_le byte 126) || (high && nat_le byte 255)) ≡ true → 32 < byte
