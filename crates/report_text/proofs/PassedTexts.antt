@@ -9,7 +9,7 @@ use Rattle.report_text.proofs.BodyLemmas.{cycle_shown, heading_read, pathed_show
 use Rattle.report_text.proofs.PartLemmas.{forms_denoted}
 use Rattle.report_text.proofs.AssemblyLemmas.{parts_spelled}
 use Rattle.report_text.proofs.TimingLines.{period_found, show_found, version_found, constraint_found, count_found, lead_found, path_found, timed_found}
-use Rattle.report_text.proofs.WalkLemmas.{read_none, cut_within, line_read}
+use Rattle.report_text.proofs.WalkLemmas.{IsFaultAt, IsJudged, read_none, cut_within, line_read}
 use Rattle.report_text.proofs.RowLemmas.{no_rows, one_form, pathed_next, rows_next}
 use Rattle.report_text.proofs.TreeLines.{merge_found, node_found, source_found, total_found}
 use Rattle.report_text.proofs.JudgedWords.{line_judged}
@@ -47,18 +47,9 @@ line_passed : (circuit : Circuit) (scale : Scale) (due : Form) (more : List Form
 line_passed circuit scale due more old sound =
     at (length old.text == 0) (position is_line_feed old.text) refl refl sound
   where
-    judged : (end : ℕ) → Option Flaw → Type 0
-    judged end flaw =
-        LineHasFlaw circuit (fields_of circuit scale due (words_of (take end old.text)))
-        (words_of (take end old.text)) flaw
-
     at : (none : Bool) (end : Option ℕ) → (length old.text == 0) ≡ none
         → position is_line_feed old.text ≡ end
-        → MatchBool none (None ≡ Some (Missing old.line))
-        (MatchOption end (None ≡ Some (BadLine old.line))
-        (λ n. (flaw : Option Flaw) × judged n flaw × MatchOption flaw
-        (HasFirstFault circuit scale more (old.line + 1) (drop (n + 1) old.text) None)
-        (λ found. None ≡ Some (fault_of due old.line found))))
+        → IsFaultAt circuit scale due more old.line old.text None none end
         → PassedLine circuit scale due more old
     at true end some found is = absurd (none-some (Missing old.line) is)
     at false None some found is = absurd (none-some (BadLine old.line) is)
@@ -425,22 +416,16 @@ forms_judged circuit scale (due ∷ more) line text =
     Later : (end : ℕ) → Option ReportFault → Type 0
     Later end fault = HasFirstFault circuit scale more (line + 1) (drop (end + 1) text) fault
 
-    Judged : (end : ℕ) → Option ReportFault → Type 0
-    Judged end fault = (flaw : Option Flaw)
-        × LineHasFlaw circuit (fields_of circuit scale due (words_of (take end text)))
-        (words_of (take end text)) flaw
-        × MatchOption flaw (Later end fault) (λ found. fault ≡ Some (fault_of due line found))
-
     by : (end : ℕ) → ((fault : Option ReportFault) × Later end fault) → (flaw : Option Flaw)
         → LineHasFlaw circuit (fields_of circuit scale due (words_of (take end text)))
-        (words_of (take end text)) flaw → (fault : Option ReportFault) × Judged end fault
+        (words_of (take end text)) flaw
+        → (fault : Option ReportFault) × IsJudged circuit scale due more line text fault end
     by end later None has = (later.0, (None, has, later.1))
     by end later (Some flaw) has = (Some (fault_of due line flaw), (Some flaw, has, refl))
 
     at : (none : Bool) (end : Option ℕ)
         → ((end : ℕ) → (fault : Option ReportFault) × Later end fault)
-        → (fault : Option ReportFault) × MatchBool none (fault ≡ Some (Missing line))
-        (MatchOption end (fault ≡ Some (BadLine line)) (λ n. Judged n fault))
+        → (fault : Option ReportFault) × IsFaultAt circuit scale due more line text fault none end
     at true end later = (Some (Missing line), refl)
     at false None later = (Some (BadLine line), refl)
     at false (Some end) later =

@@ -1,6 +1,6 @@
 -- Lines that are taken from a text one after the other, the first flaw of a line, and the first
 -- fault of a text.
-use Rattle.report_text.proofs.Vocabulary.{◌≡◌, ◌↔◌, ℕ, List, ◌∷◌, Option, Some, None, refl, zero, suc, ◌<◌, ◌+◌, ◌-◌, ◌==◌, Bool, true, false, Result, Ok, Err, IfErr, IsErrAnd, [], ◌++◌, map, length, take, drop, get_or, MatchBool, MatchOption, sym, ap, ap₂, subst, ◌∙◌, append_assoc, append-nil, arith, drop-cons, nat_lt, length-append, lt-ltb, eq-eqb, ne_eqb, slice_split, position, position_or_len, join_with_byte, nat_tests, flat_map-append, take-append-drop, drop-drop, take_at, join_with_byte-slice_split, length-slice_split, slice_split_first, passes_at_first, Circuit, Words, line_of, Field, Flaw, Unknown, Unfit, Large, EachWord, IsFirstFlaw, IsFit, IsFormed, IsKnown, IsWithin, LineHasFlaw, WordHasFlaw, sooner_flaw, ReportFault, BadLine, Missing, Form, Scale, fields_of, HasFirstFault, is_line_feed, is_space, words_of, fault_of, IsFlawless, Left, TakesLine, Reads, ReadsLine, Stops, StopsLine}
+use Rattle.report_text.proofs.Vocabulary.{◌≡◌, ◌↔◌, ℕ, List, ◌∷◌, Option, Some, None, refl, zero, suc, ◌<◌, ◌+◌, ◌-◌, ◌==◌, Bool, true, false, Result, Ok, Err, IfErr, IsErrAnd, [], ◌++◌, map, length, take, drop, get_or, MatchBool, MatchOption, sym, ap, ap₂, subst, ◌∙◌, append_assoc, append-nil, arith, drop-cons, nat_lt, length-append, lt-ltb, eq-eqb, ne_eqb, slice_split, position, position_or_len, join_with_byte, nat_tests, flat_map-append, take-append-drop, drop-drop, take_at, join_with_byte-slice_split, length-slice_split, slice_split_first, passes_at_first, Circuit, Words, line_of, Field, Flaw, Unknown, Unfit, Large, EachWord, IsFirstFlaw, IsFit, IsFormed, IsKnown, IsWithin, LineHasFlaw, WordHasFlaw, sooner_flaw, ReportFault, BadLine, Missing, Form, Scale, fields_of, HasFirstFault, is_line_feed, is_space, words_of, fault_of, IsFlawless, Left, TakesLine, Reads, ReadsLine, Stops, StopsLine, none-some, same_Some}
 use Rattle.report_text.specs.declared.field.Flaw.TheVariants.{Form as Malformed}
 use Rattle.report_text.proofs.OneLine.{IsLine, Lacks, words_cut, words_lack}
 
@@ -154,6 +154,24 @@ pub stop_before : (circuit : Circuit) (scale : Scale) (forms forms' : List Form)
     → Stops circuit scale (forms ++ forms') left fault
 stop_before circuit scale forms forms' left fault stops memory more = search (arith, append_assoc)
 
+-- the fault of a text whose first line ends there, by the flaw of that line
+abbrev pub IsJudged : Circuit → Scale → (due : Form) (more : List Form) (line : ℕ) (text : List ℕ)
+    → Option ReportFault → (end : ℕ) → Type 0
+IsJudged circuit scale due more line text fault end = (flaw : Option Flaw)
+    × LineHasFlaw circuit (fields_of circuit scale due (words_of (take end text)))
+    (words_of (take end text)) flaw
+    × MatchOption flaw
+    (HasFirstFault circuit scale more (line + 1) (drop (end + 1) text) fault)
+    (λ found. fault ≡ Some (fault_of due line found))
+
+-- and by where that line ends
+abbrev pub IsFaultAt : Circuit → Scale → (due : Form) (more : List Form) (line : ℕ) (text : List ℕ)
+    → Option ReportFault → (none : Bool) (end : Option ℕ) → Type 0
+IsFaultAt circuit scale due more line text fault none end =
+    MatchBool none (fault ≡ Some (Missing line))
+    (MatchOption end (fault ≡ Some (BadLine line))
+    (IsJudged circuit scale due more line text fault))
+
 -- a fault of the next line is the first, whatever is to follow
 pub stop_line : (circuit : Circuit) (scale : Scale) (form : Form) (left : Left)
     (fault : ReportFault) → StopsLine circuit scale form left fault
@@ -161,20 +179,13 @@ pub stop_line : (circuit : Circuit) (scale : Scale) (form : Form) (left : Left)
 stop_line circuit scale form left fault stops memory more =
     at (length left.text == 0) (position is_line_feed left.text) (stops memory)
   where
-    judged : ℕ → Option Flaw → Type 0
-    judged end flaw =
-        LineHasFlaw circuit (fields_of circuit scale form (words_of (take end left.text)))
-        (words_of (take end left.text)) flaw
-
     at : (none : Bool) (end : Option ℕ)
         → MatchBool none (fault ≡ Missing left.line)
         (MatchOption end (fault ≡ BadLine left.line)
-        (λ n. (flaw : Flaw) × judged n (Some flaw) × (fault ≡ fault_of form left.line flaw)))
-        → MatchBool none (Some fault ≡ Some (Missing left.line))
-        (MatchOption end (Some fault ≡ Some (BadLine left.line))
-        (λ n. (flaw : Option Flaw) × judged n flaw × MatchOption flaw
-        (HasFirstFault circuit scale more (left.line + 1) (drop (n + 1) left.text) (Some fault))
-        (λ found. Some fault ≡ Some (fault_of form left.line found))))
+        (λ n. (flaw : Flaw) × LineHasFlaw circuit
+        (fields_of circuit scale form (words_of (take n left.text)))
+        (words_of (take n left.text)) (Some flaw) × (fault ≡ fault_of form left.line flaw)))
+        → IsFaultAt circuit scale form more left.line left.text (Some fault) none end
     at true end is = ap Some is
     at false None is = ap Some is
     at false (Some n) (flaw, has, is) = (Some flaw, has, ap Some is)
@@ -223,24 +234,6 @@ module _ {circuit : Circuit} {scale : Scale} (forms due : ℕ → List Form)
 
 -- ---- one fault
 
--- the fault of a text whose first line ends there, by the flaw of that line
-abbrev IsJudged : Circuit → Scale → (due : Form) (more : List Form) (line : ℕ) (text : List ℕ)
-    → Option ReportFault → (end : ℕ) → Type 0
-IsJudged circuit scale due more line text fault end = (flaw : Option Flaw)
-    × LineHasFlaw circuit (fields_of circuit scale due (words_of (take end text)))
-    (words_of (take end text)) flaw
-    × MatchOption flaw
-    (HasFirstFault circuit scale more (line + 1) (drop (end + 1) text) fault)
-    (λ found. fault ≡ Some (fault_of due line found))
-
--- and by where that line ends
-abbrev IsFaultAt : Circuit → Scale → (due : Form) (more : List Form) (line : ℕ) (text : List ℕ)
-    → Option ReportFault → (none : Bool) (end : Option ℕ) → Type 0
-IsFaultAt circuit scale due more line text fault none end =
-    MatchBool none (fault ≡ Some (Missing line))
-    (MatchOption end (fault ≡ Some (BadLine line))
-    (IsJudged circuit scale due more line text fault))
-
 -- two first faults of a text by the same forms are the same
 pub one_first_fault : (circuit : Circuit) (scale : Scale) (forms : List Form) (line : ℕ)
     (text : List ℕ) (fault other : Option ReportFault)
@@ -251,22 +244,6 @@ one_first_fault circuit scale (due ∷ more) line text fault other is is' =
     at (length text == 0) (position is_line_feed text)
     (λ end. one_first_fault circuit scale more (line + 1) (drop (end + 1) text) fault other) is is'
   where
-    judged : (flaw flaw' : Option Flaw) → flaw ≡ flaw' → (First Second : Type 0)
-        → (First → Second → fault ≡ other)
-        → MatchOption flaw First (λ found. fault ≡ Some (fault_of due line found))
-        → MatchOption flaw' Second (λ found. other ≡ Some (fault_of due line found))
-        → fault ≡ other
-    judged flaw flaw' same First Second later is is' =
-        by flaw is (subst (λ (f : Option Flaw). MatchOption f Second
-        (λ found. other ≡ Some (fault_of due line found))) (sym same) is')
-      where
-        by : (flaw : Option Flaw)
-            → MatchOption flaw First (λ found. fault ≡ Some (fault_of due line found))
-            → MatchOption flaw Second (λ found. other ≡ Some (fault_of due line found))
-            → fault ≡ other
-        by None is is' = later is is'
-        by (Some found) is is' = is ∙ sym is'
-
     at : (none : Bool) (end : Option ℕ)
         → ((end : ℕ)
         → HasFirstFault circuit scale more (line + 1) (drop (end + 1) text) fault
@@ -276,11 +253,14 @@ one_first_fault circuit scale (due ∷ more) line text fault other is is' =
         → IsFaultAt circuit scale due more line text other none end → fault ≡ other
     at true end later is is' = is ∙ sym is'
     at false None later is is' = is ∙ sym is'
-    at false (Some end) later (flaw, has, is) (flaw', has', is') =
-        let words : Words = words_of (take end text) in
-        judged flaw flaw' (one_flaw circuit _ words flaw _ has has') (HasFirstFault circuit scale
-        more (line + 1) (drop (end + 1) text) fault) (HasFirstFault circuit scale more (line + 1)
-        (drop (end + 1) text) other) (later end) is is'
+    at false (Some end) later (None, has, is) (None, has', is') = later end is is'
+    at false (Some end) later (Some flaw, has, is) (Some flaw', has', is') =
+        is ∙ ap (λ f. Some (fault_of due line f))
+        (same_Some flaw flaw' (one_flaw circuit _ _ _ _ has has')) ∙ sym is'
+    at false (Some end) later (None, has, is) (Some flaw, has', is') =
+        absurd (none-some flaw (one_flaw circuit _ _ None (Some flaw) has has'))
+    at false (Some end) later (Some flaw, has, is) (None, has', is') =
+        absurd (none-some flaw (sym (one_flaw circuit _ _ (Some flaw) None has has')))
 
 -- ---- the next line
 

@@ -22,10 +22,9 @@ returns-else-setup c =
     let circuit = c.args.rules.now.circuit.now in
     let weight = to_z-of_z w128 c.weight-weight.result
     (record { sfits = c.weight-weight.type_inv }) in
-    constraint_taken false (rw c.if-setup.false at (takes_then (c.kind-setup.ensures circuit)
+    constraint_taken _ (rw c.if-setup.false at (takes_then (c.kind-setup.ensures circuit)
     (takes_then c.register-launch.ensures.taken (takes_then c.register-capture.ensures.taken
-    (c.weight-weight.ensures circuit))))) _
-    (λ i. record {
+    (c.weight-weight.ensures circuit))))) _ (λ i. record {
       setup = c.if-setup.false i;
       tail = c.register-capture.result;
       head = c.register-launch.result;

@@ -10,8 +10,7 @@ returns c =
     let words = show_words c.args.printed.now.circuit.now
     (slice_index_or report.shows (length report.topology.merges) Root) in
     let begun = c.extend_from_slice.new.self.items in
-    let shown = after_more begun _ _ (reach ∷ []) words
-    (rw c.len.ensures at c.in_ok-push_reach.ensures)
+    let shown = after_more _ _ _ (reach ∷ []) _ (rw c.len.ensures at c.in_ok-push_reach.ensures)
     (rw (c.show_at.ensures, c.len-merges.ensures) at c.in_ok-push_shown.ensures) in
     whole_line c.args.out.now.items begun _ _ (codes "source") (reach ∷ words)
     c.in_ok-extend_from_slice.ensures.items shown c.in_ok-push.ensures.items

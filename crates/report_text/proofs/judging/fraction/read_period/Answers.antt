@@ -1,4 +1,4 @@
-use Rattle.report_text.proofs.Vocabulary.{refl, WordHasFlaw, Period}
+use Rattle.report_text.proofs.Vocabulary.{refl, WordHasFlaw, Period, arith}
 use Rattle.report_text.proofs.FractionFlaws.{from_zero, negative_refused, passed_flaw, period_past, period_refused, period_within}
 use Rattle.report_text.proofs.judging.fraction.read_period.Goals as goal
 
@@ -10,10 +10,9 @@ pub returns-in_err-period-clause-flaw : goal.returns-in_err-period-clause-flaw
 returns-in_err-period-clause-flaw c circuit =
     let word = c.args.word.now in
     let flaw = c.in_err-period.field-0.0 in
-    passed_flaw c.from_residual.result flaw (WordHasFlaw circuit Period word)
-    c.from_residual.ensures.1 (period_refused word flaw c.in_err-period.ensures.refused
-    (λ negative. let bad = c.if-is_negative.ensures.1 negative in cc)
-    circuit)
+    passed_flaw _ flaw (WordHasFlaw circuit Period word) c.from_residual.ensures.1 (period_refused
+    word flaw c.in_err-period.ensures.refused (λ negative. let bad = c.if-is_negative.ensures.1
+    negative in cc) circuit)
 
 pub returns-then-not-is_small_period-clause-flaw :
     goal.returns-then-not-is_small_period-clause-flaw
@@ -38,9 +37,5 @@ returns-clause-flaw c circuit =
 
 pub returns-clause-value : goal.returns-clause-value
 returns-clause-value c =
-    let period = c.in_ok-period.period in
-    let (spells, small, same) = c.in_ok-period.ensures.spelled in
-    let some = from_zero c.args.word.now period.num period.den spells
-    (λ negative. let bad = c.if-is_negative.ensures.1 negative in cc) in
-    let within = c.if-not-is_small_period.ensures.0 refl in
-    (same, record { from_zero = some; small = within.0; low = within.1 })
+    search (arith, from_zero, c.in_ok-period.ensures.spelled, c.if-is_negative.ensures.1,
+    c.if-not-is_small_period.ensures.0)

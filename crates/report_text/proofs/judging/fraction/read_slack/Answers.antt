@@ -38,12 +38,9 @@ returns-in_err-steps_of-clause-flaw c circuit =
 pub returns-clause-flaw : goal.returns-clause-flaw
 returns-clause-flaw c circuit =
     let over = c.args.over in
-    let bound = pos (10 ^ 20) in
     let word = c.args.word.now in
     let fraction = c.in_ok-fraction.fraction in
     let (spells, small, same) = c.in_ok-fraction.ensures.spelled in
     let has = rw (to_z-of_z w128 over c.ranges.over) at c.in_ok-steps_of.ensures.flaw in
-    slack_denoted over bound word
-    (λ dash. let bad = c.if-is_keyword.ensures.1 dash in cc)
-    None circuit (steps_denoted word fraction.num fraction.den spells over bound small
-    fraction.lowest None has circuit)
+    slack_denoted over _ word (λ dash. let bad = c.if-is_keyword.ensures.1 dash in cc) None circuit
+    (steps_denoted word _ fraction.den spells over _ small fraction.lowest None has circuit)

@@ -19,8 +19,7 @@ returns-clause-flaw c circuit =
       to_z-of_z w128 c.args.over c.ranges.over,
       to_z-of_z w128 c.args.bound c.ranges.bound,
     ) at c.steps_of.ensures.flaw in
-    steps_denoted c.args.word.now fraction.num fraction.den spells c.args.over c.args.bound small
-    fraction.lowest _ has circuit
+    steps_denoted _ _ _ spells _ _ small fraction.lowest _ has circuit
 
 pub returns-clause-value : goal.returns-clause-value
 returns-clause-value c some =
@@ -37,7 +36,6 @@ returns-clause-value c some =
     × IsBelow (nat_abs c.args.bound) steps)
     (λ steps. word ≡ quotient_text steps over × IsBelow (nat_abs c.args.bound) steps)
     (λ steps has. (
-      steps_word word over fraction.num fraction.den steps some (spells, λ _. fraction.lowest)
-          small has.0,
+      steps_word word over _ _ _ some (spells, λ _. fraction.lowest) small has.0,
       has.1,
     )) value

@@ -32,5 +32,4 @@ returns-in-None-clause-flaw c =
       to_z-of_z w128 c.args.over c.ranges.over,
       to_z-of_z w128 c.args.bound c.ranges.bound,
     ) at c.in-None.ensures in
-    steps_past c.args.over c.args.bound fraction.num fraction.den fraction.lowest
-    (divides.0 c.if-not-divides.false) past
+    steps_past _ _ _ _ fraction.lowest (divides.0 c.if-not-divides.false) past

@@ -7,8 +7,7 @@ pub returns-in-Some-clause-text : goal.returns-in-Some-clause-text
 returns-in-Some-clause-text c is =
     let (value, spells, kept) = c.in-Some.ensures.some in
     let same : pos c.args.number ≡ c.in-Some.value = grind (arith, ints) in
-    whole_read c.args.word.now value c.in-Some.value (pos c.args.number) spells kept same
-    (small_number c.args.number (omega arith))
+    whole_read _ _ _ _ spells kept same (small_number _ (omega arith))
 
 pub returns-in-None-clause-spells : goal.returns-in-None-clause-spells
 returns-in-None-clause-spells c = (

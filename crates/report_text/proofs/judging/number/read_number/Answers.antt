@@ -10,7 +10,6 @@ returns-clause-value c =
     let same : pos number ≡ c.in-Some.value =
     omega (arith, ints, c.if-value-least.false, c.if-value-most.false) in
     let few : number ≤ c.args.most = omega (arith, ints, same, c.if-value-most.false) in (
-      whole_read c.args.word.now value c.in-Some.value (pos number) spells kept same
-          (small_number number (omega (arith, few))),
+      whole_read _ _ _ _ spells kept same (small_number _ (omega (arith, few))),
       (omega (arith, ints, same, c.if-value-least.false), few),
     )

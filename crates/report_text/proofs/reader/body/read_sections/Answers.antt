@@ -16,9 +16,8 @@ read_counted-requires-2-clause-line c =
 
 pub read-requires : goal.read-requires
 read-requires c =
-    let before = lines_before_merges c.in_ok-timings.ensures.ok c.in_ok-leads.ensures.ok in
-    let merged = counted_number c.in_ok-merged.ensures.ok in
-    record { line = omega (arith, before, merged, c.requires.line, c.requires.few) }
+    search (arith, lines_before_merges, counted_number, c.in_ok-timings.ensures.ok,
+    c.in_ok-leads.ensures.ok, c.in_ok-merged.ensures.ok, c.requires.line, c.requires.few)
 
 pub read_counted-requires-3-clause-line : goal.read_counted-requires-3-clause-line
 read_counted-requires-3-clause-line c =
@@ -87,27 +86,21 @@ returns-in_err-placed-clause-fault c =
     let count = c.args.count in
     let leads = read_more (counted_read c.in_ok-timings.ensures.ok)
     (lead_forms c.args.version count) _ _ c.in_ok-leads.ensures.ok.read in
-    let merged = read_more leads (merge_forms count) _ _
-    (counted_read c.in_ok-merged.ensures.ok) in
+    let merged = read_more leads _ _ _ (counted_read c.in_ok-merged.ensures.ok) in
     let source = c.in_ok-source.ensures.ok.line.read c.args.rules.now.scale
     c.in_ok-source.ensures.ok.line.flawless in
-    passed_on _ _ _ c.from_residual-in_err-placed.ensures.1
-    (stops_within (forms_after c.args.version count)
-    (register_forms count ++ lead_forms c.args.version count ++ merge_forms count)
-    (form.Source ∷ node_forms count) (form.Total ∷ []) refl _ merged
+    passed_on _ _ _ c.from_residual-in_err-placed.ensures.1 (stops_within
+    (forms_after c.args.version count) _ (form.Source ∷ node_forms count) _ refl _ merged
     (stop_after source (node_forms count) _ c.in_err-placed.ensures.fault))
 
 pub returns-in_err-total-clause-fault : goal.returns-in_err-total-clause-fault
 returns-in_err-total-clause-fault c =
-    let count = c.args.count in
     let leads = read_more (counted_read c.in_ok-timings.ensures.ok)
-    (lead_forms c.args.version count) _ _ c.in_ok-leads.ensures.ok.read in
-    let merged = read_more leads (merge_forms count) _ _
-    (counted_read c.in_ok-merged.ensures.ok) in
+    _ _ _ c.in_ok-leads.ensures.ok.read in
+    let merged = read_more leads _ _ _ (counted_read c.in_ok-merged.ensures.ok) in
     let source = c.in_ok-source.ensures.ok.line.read c.args.rules.now.scale
     c.in_ok-source.ensures.ok.line.flawless in
-    passed_on _ _ _ c.from_residual-in_err-total.ensures.1
-    (stop_after (read_more merged (form.Source ∷ node_forms count) _ _
-    (read_more source (node_forms count) _ _ (counted_read c.in_ok-placed.ensures.ok)))
-    (form.Total ∷ []) _ (stop_line c.args.rules.now.circuit.now c.args.rules.now.scale form.Total
+    passed_on _ _ _ c.from_residual-in_err-total.ensures.1 (stop_after (read_more merged _ _ _
+    (read_more source _ _ _ (counted_read c.in_ok-placed.ensures.ok))) (form.Total ∷ []) _
+    (stop_line c.args.rules.now.circuit.now c.args.rules.now.scale form.Total
     c.read_counted-3.new.cursor _ c.in_err-total.ensures.fault))

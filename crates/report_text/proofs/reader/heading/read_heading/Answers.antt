@@ -20,12 +20,8 @@ read-requires-3 c =
 
 pub returns-in_err-version-clause-fault : goal.returns-in_err-version-clause-fault
 returns-in_err-version-clause-fault c =
-    passed_on _ _ _ c.from_residual.ensures.1
-    (λ scale. stop_before c.args.rules.now.circuit.now scale (form.Version ∷ [])
-    (form.Period ∷ form.Show ∷ []) c.args.cursor.now c.in_err-version.field-0.0
-    (stop_line c.args.rules.now.circuit.now scale form.Version c.args.cursor.now
-    c.in_err-version.field-0.0
-    c.in_err-version.ensures.fault))
+    search (arith, passed_on, stop_before, stop_line, c.from_residual.ensures.1,
+    c.in_err-version.ensures.fault)
 
 pub returns-in_err-period-clause-fault : goal.returns-in_err-period-clause-fault
 returns-in_err-period-clause-fault c =
@@ -48,7 +44,5 @@ returns-in_err-show-clause-fault c =
 
 pub returns-clause-ok : goal.returns-clause-ok
 returns-clause-ok c =
-    heading_read c.args.rules.now.circuit.now c.args.rules.now.scale c.args.cursor.now
-    c.read.new.cursor c.read-2.new.cursor c.read-3.new.cursor c.in_ok-version.version
-    c.in_ok-period.period c.in_ok-show.show c.in_ok-version.ensures.ok c.in_ok-period.ensures.ok
-    c.in_ok-show.ensures.ok
+    search (arith, heading_read, c.in_ok-version.ensures.ok, c.in_ok-period.ensures.ok,
+    c.in_ok-show.ensures.ok)

@@ -1,4 +1,4 @@
-use Rattle.report_text.proofs.Vocabulary.{◌≡◌, List, ℕ, Bor, map, refl, ap, ◌∙◌, subst, count_line, keyword_text, fault_of, ReadsForm, ReadsLine}
+use Rattle.report_text.proofs.Vocabulary.{◌≡◌, List, ℕ, Bor, map, refl, ap, ◌∙◌, subst, count_line, keyword_text, fault_of, ReadsForm, ReadsLine, arith}
 use Rattle.report_text.specs.declared.form.Form.TheVariants as form
 use Rattle.report_text.proofs.ScanLemmas.{form_read, line_says, line_stops, takes_then}
 use Rattle.report_text.proofs.reader.line.read_count.Goals as goal
@@ -14,9 +14,8 @@ returns-in-None-clause-ok c =
     c.exactly.new.self =
     form_read refl (takes_then (c.keyword.ensures circuit) (c.exactly.ensures circuit))
     (λ are _. are) in
-    let (read, says) = line_says c.in_ok-words.ensures.ok.0 are c.of-scan.ensures
-    c.in_ok-words.ensures.ok.1 reads (c.in-None.ensures.judged circuit)
-    (c.in-None.ensures.sound refl) in
+    let (read, says) = line_says _ are c.of-scan.ensures c.in_ok-words.ensures.ok.1 reads
+    (c.in-None.ensures.judged circuit) (c.in-None.ensures.sound refl) in
     subst (λ words. ReadsLine circuit scale (form.Count c.args.word c.args.count) words
     c.args.cursor.now c.next_words.new.cursor) says read
 
@@ -31,7 +30,6 @@ returns-clause-fault c =
     c.exactly.new.self =
     form_read refl (takes_then (c.keyword.ensures circuit) (c.exactly.ensures circuit))
     (λ are _. are) in
-    line_stops c.in_ok-words.ensures.ok.0 are c.of-scan.ensures c.in_ok-words.ensures.ok.1 reads
-    c.in-Some.flaw c.fault_of.result (c.in-Some.ensures.judged circuit)
-    (c.fault_of.ensures ∙ ap (λ line. fault_of (form.Count c.args.word c.args.count) line
-    c.in-Some.flaw) c.line-at.ensures)
+    line_stops _ are c.of-scan.ensures c.in_ok-words.ensures.ok.1 reads _ _
+    (c.in-Some.ensures.judged circuit) (c.fault_of.ensures ∙ ap (λ line. fault_of
+    (form.Count c.args.word c.args.count) line c.in-Some.flaw) c.line-at.ensures)

@@ -1,4 +1,4 @@
-use Rattle.report_text.proofs.Vocabulary.{◌≢◌, Some, subst, IfErr, NoMemory, HasFault}
+use Rattle.report_text.proofs.Vocabulary.{◌≢◌, Some, subst, IfErr, NoMemory, HasFault, arith}
 use Rattle.report_text.proofs.reader.parts.read_parts.Goals as goal
 
 pub returns-clause-fault : goal.returns-clause-fault

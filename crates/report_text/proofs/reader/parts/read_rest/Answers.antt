@@ -22,18 +22,10 @@ returns-in_err-body-clause-fault c =
 
 pub returns-in_err-at_end-clause-fault : goal.returns-in_err-at_end-clause-fault
 returns-in_err-at_end-clause-fault c =
-    passed_on _ _ _ c.from_residual-in_err-at_end.ensures.1 (λ named tech text heading same.
-    after_fault heading tech (rw same at c.in_ok-shown.ensures.ok) _
-    (body_ends (rw same at c.in_ok-body.ensures.ok) (Some c.in_err-at_end.field-0.0)
-    c.in_err-at_end.ensures.fault))
+    passed_on _ _ _ c.from_residual-in_err-at_end.ensures.1 (λ named tech text heading
+    same. after_fault heading tech (rw same at c.in_ok-shown.ensures.ok) _
+    (body_ends (rw same at c.in_ok-body.ensures.ok) _ c.in_err-at_end.ensures.fault))
 
 pub returns-clause-ok : goal.returns-clause-ok
-returns-clause-ok c tech text heading same = record {
-  after_heading = c.args.cursor;
-  after_shown = c.read_shown.new.cursor;
-  end = c.read_body.new.cursor;
-  heading = heading;
-  shown = rw same at c.in_ok-shown.ensures.ok;
-  body = rw same at c.in_ok-body.ensures.ok;
-  ended = c.in_ok-at_end.ensures.ok;
-}
+returns-clause-ok c tech text heading same =
+    search (arith, c.in_ok-shown.ensures.ok, c.in_ok-body.ensures.ok, c.in_ok-at_end.ensures.ok)

@@ -41,7 +41,5 @@ returns-in_err-path-clause-fault c =
 
 pub loop-place-preserved : goal.loop-place-preserved
 loop-place-preserved c =
-    pathed_next c.read.new.cursor c.loop-place.pathed c.push_pathed.new.pathed
-    c.in_ok-constraint.constraint c.in_ok-path.path c.loop-place.invariant
-    c.in_ok-constraint.ensures.ok c.in_ok-path.ensures.ok c.in_ok-push_pathed.ensures.cycle
-    c.in_ok-push_pathed.ensures.paths
+    search (arith, pathed_next, c.loop-place.invariant, c.in_ok-constraint.ensures.ok,
+    c.in_ok-path.ensures.ok, c.in_ok-push_pathed.ensures.cycle, c.in_ok-push_pathed.ensures.paths)

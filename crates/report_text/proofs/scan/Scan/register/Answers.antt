@@ -15,7 +15,6 @@ returns-clause-taken c =
 pub returns-clause-named : goal.returns-clause-named
 returns-clause-named c =
     let circuit = c.args.rules.now.circuit.now in
-    name_read circuit c.next-word.result.now c.read_register.result c.keep.result _
-    c.read_register.ensures.flaw c.read_register.ensures.value c.keep.ensures.kept.value
-    c.keep.ensures.other (omega (arith, few_registers circuit))
-    ∙ ap (register_named circuit) c.next-word.ensures.word
+    name_read circuit _ c.read_register.result _ _ c.read_register.ensures.flaw
+    c.read_register.ensures.value c.keep.ensures.kept.value c.keep.ensures.other
+    (omega (arith, few_registers circuit)) ∙ ap (register_named circuit) c.next-word.ensures.word

@@ -20,11 +20,8 @@ returns c =
     let circuit = c.args.rules.now.circuit.now in
     let count : length c.args.scan.now.words - 2 ≡ c.saturating_sub-count.result =
     omega (arith, c.len.ensures, c.saturating_sub-count.ensures) in
-    form_read
-    (ap (λ dash. way_fields dash (length c.args.scan.now.words - 2))
-    (sym c.has_word-is_printed.ensures ∙ c.if-not-is_printed.false)
-    ∙ ap (λ n. way_fields false n) count)
-    (takes_then (c.keyword.ensures circuit)
-    (takes_then (c.counted.ensures circuit) c.in_ok-signals.ensures.1))
-    (λ are holds. path_read circuit c.in_ok-signals.signals c.in_ok-signals.ensures.0
-    holds.1.0.0 holds.1.0.1 holds.1.1 are)
+    form_read (ap (λ dash. way_fields dash (length c.args.scan.now.words - 2))
+    (sym c.has_word-is_printed.ensures ∙ c.if-not-is_printed.false) ∙ ap (λ n. way_fields false n)
+    count) (takes_then (c.keyword.ensures circuit) (takes_then (c.counted.ensures circuit)
+    c.in_ok-signals.ensures.1)) (λ are holds. path_read _ _ c.in_ok-signals.ensures.0 holds.1.0.0
+    holds.1.0.1 holds.1.1 are)

@@ -1,4 +1,4 @@
-use Rattle.report_text.proofs.Vocabulary.{refl}
+use Rattle.report_text.proofs.Vocabulary.{refl, arith}
 use Rattle.report_text.proofs.ScanLemmas.{form_read, takes_then}
 use Rattle.report_text.proofs.timing_values.PeriodLineLine.read.Goals as goal
 

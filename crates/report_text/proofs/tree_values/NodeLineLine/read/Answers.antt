@@ -5,8 +5,7 @@ use Rattle.report_text.proofs.tree_values.NodeLineLine.read.Goals as goal
 
 pub returns-in_default : goal.returns-in_default
 returns-in_default c =
-    let words = c.args.scan.now.words in
-    form_read (no_points c.args.rules.now.scale c.args.number words
+    form_read (no_points c.args.rules.now.scale c.args.number _
     (λ points some few all. c.in_default.ensures.none refl points some few (c.len.ensures ∙ all)))
     (takes_none c.args.rules.now.circuit.now c.args.scan.now)
     (λ are holds. absurd (omega (arith, c.requires.some, ap (λ (ws : Words). length ws) are)))
