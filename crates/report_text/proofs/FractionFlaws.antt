@@ -1,75 +1,41 @@
 -- What is wrong with a word that is to be a fraction, by what is read of it; and how many steps the
 -- value of a fraction in lowest terms is.
-use Rattle.report_text.proofs.Vocabulary.{◌≡◌, ◌<◌, ◌≤◌, ◌+◌, ◌-◌, ◌*◌, ◌%◌, ℕ, zero, suc, ℤ, pos, negsuc, neg_ℤ, ◌*ℤ◌, ◌+ℤ◌, ◌≤ℤ◌, nat_abs, inl, inr, refl, sym, ap, ◌∙◌, subst, arith, ◌↔◌, ◌^◌, ◌<ℤ◌, Bool, IsTrue, List, Option, Some, None, Result, Ok, Err, IsErrAnd, codes, ◌∣◌, IsGcd, int_div, int_rem, one-dvd, dvd-mul_right, dvd-sub_iff_left, cases_lt, ints, quot-rem, unsigned_abs-mul, IsGcd-swap, IsGcd-from_zero, mod-eq-zero_of_dvd, same_from_IsGcd, IsLowest, fraction_text, SpellsWhole, SpellsQuotient, HaveSmallSizes, IsNoFraction, kept_size, Fraction, same_factor, negative, few_digits, slash_differs, fraction_spelled, one_quotient, plain_no_minus, quotient_some, Circuit, IsBelow, AreSteps, AreFewSteps, IsFormed, IsFractionForm, IsWholeSteps, WordHasFlaw, Period, Steps, Flaw, Unknown, Unfit, Large, HasStepsFlaw, IsBetween, IsNegativeQuotient, IsRefusedFor, flaw_in}
+use Rattle.report_text.proofs.Vocabulary.{◌≡◌, ◌<◌, ◌≤◌, ◌+◌, ◌-◌, ◌*◌, ◌%◌, ℕ, zero, suc, ℤ, pos, negsuc, neg_ℤ, ◌*ℤ◌, ◌+ℤ◌, ◌≤ℤ◌, nat_abs, inl, inr, refl, sym, ap, ◌∙◌, subst, arith, ◌↔◌, ◌^◌, ◌<ℤ◌, Bool, IsTrue, List, Option, Some, None, Result, Ok, Err, IsErrAnd, codes, ◌∣◌, IsGcd, int_div, int_rem, dvd-mul_right, cases_lt, ints, quot-rem, unsigned_abs-mul, mod-eq-zero_of_dvd, IsLowest, fraction_text, SpellsWhole, SpellsQuotient, HaveSmallSizes, IsNoFraction, kept_size, Fraction, same_factor, negative, few_digits, slash_differs, fraction_spelled, one_quotient, plain_no_minus, quotient_some, Circuit, IsBelow, AreSteps, AreFewSteps, IsFormed, IsFractionForm, IsWholeSteps, WordHasFlaw, Period, Steps, Flaw, Unknown, Unfit, Large, HasStepsFlaw, IsBetween, IsNegativeQuotient, IsRefusedFor, flaw_in, lowest_quotients, divisor_up_to, up_to_second, ◌/◌, mul-div_cancel'}
+use Rattle.cts_base.proofs.OneFraction.{one_fraction}
 use Rattle.std.proofs.Math.IntN.{*ℤ_comm}
 use Rattle.report_text.specs.LineFields.{Slack}
 use Rattle.report_text.specs.declared.field.Flaw.TheVariants.{Form}
 use Rattle.report_text.proofs.NumberWords.{within_bound}
 
--- ---- Euclid's steps
+-- ---- coprime numbers
 
--- a step of Euclid's algorithm leaves coprime numbers coprime
-coprime_less : (a b : ℕ) → b ≤ a → IsGcd a b 1 → IsGcd (a - b) b 1
-coprime_less a b less greatest = search (arith, one-dvd, dvd-sub_iff_left)
+-- factors the other way round
+rotated : (p q : ℕ) → p * q ≡ q * p
+rotated p q = omega arith
 
--- coprime to 0 is 1 alone
-coprime_zero : (b : ℕ) → IsGcd 0 b 1 → b ≡ 1
-coprime_zero b lowest = search (arith, same_from_IsGcd, IsGcd-swap, IsGcd-from_zero)
+-- equal products, without a factor that both sides have
+without_factor : (a b c k g p q : ℕ) → 0 < g → g * p ≡ k → g * q ≡ c → a * c ≡ b * k
+    → pos a *ℤ pos q ≡ pos p *ℤ pos b
+without_factor a b c k g p q some is is' same =
+    let crossed : a * (g * q) ≡ b * (g * p) = rw (is', is) same in
+    let product : (a * q) * g ≡ (p * b) * g = omega (arith, crossed) in
+    same_factor (pos (a * q)) (pos (p * b)) g some (ap pos product)
 
--- what one factor has more, the other has less
-more_less : (p d y more : ℕ) → 0 < p → (p + d) * (y + 1 + more) ≡ p * y → ⊥
-more_less p d y more some same = grind arith
-
-low_factor : (p d x y : ℕ) → 0 < p → (p + d) * x ≡ p * y → x ≤ y
-low_factor p d x y some same = search (arith, cases_lt, more_less)
-
--- without the part that both have
-rest_factor : (p d x rest : ℕ) → (p + d) * x ≡ p * (x + rest) → d * x ≡ p * rest
-rest_factor p d x rest same = grind arith
-
--- a factor of both sides
-cancel : (p b c k m : ℕ) → 0 < p → p * c ≡ b * k → k ≡ p * m → c ≡ b * m
-cancel p b c k m some same is =
-    let product : p * c ≡ b * (p * m) = same ∙ ap (λ n. b * n) is in
-    let rotated : c * p ≡ (b * m) * p = grind arith in
-    ap nat_abs (same_factor (pos c) (pos (b * m)) p some (ap pos rotated))
-
--- no factor but 0
-none_factor : (a c k : ℕ) → suc a * c ≡ 0 * k → c ≡ 0 * 0
-none_factor a zero k same = refl
-none_factor a (suc c) k same = absurd (grind arith)
-
--- where b divides a product and is coprime to one factor, it divides the other, by so many steps
-divides_by : (fuel a b c k : ℕ) → a + b ≤ fuel → IsGcd a b 1 → a * c ≡ b * k
-    → (m : ℕ) × (c ≡ b * m)
-divides_by zero zero b c k within lowest same = absurd (omega (arith, coprime_zero b lowest))
-divides_by zero (suc a) b c k within lowest same = absurd (omega arith)
-divides_by (suc fuel) zero b c k within lowest same =
-    let one = coprime_zero b lowest in
-    let once : c ≡ 1 * c = omega arith in
-    (c, once ∙ ap (λ n. n * c) (sym one))
-divides_by (suc fuel) (suc a) zero c k within lowest same = (0, none_factor a c k same)
-divides_by (suc fuel) (suc a) (suc b) c k within lowest same = elim (cases_lt (suc a) (suc b)) [
-  | inl less ↦
-      let d : ℕ = suc b - suc a in
-      let back : suc a + d ≡ suc b = omega arith in
-      let product : (suc a + d) * k ≡ suc a * c = rw back (sym same) in
-      let low : k ≤ c = low_factor (suc a) d k c (omega arith) product in
-      let whole : k + (c - k) ≡ c = omega arith in
-      let (m, is) = divides_by fuel d (suc a) k (c - k) (omega arith)
-      (coprime_less (suc b) (suc a) (omega arith) (IsGcd-swap (suc a) (suc b) 1 lowest))
-      (rest_factor (suc a) d k (c - k) (rw whole product)) in
-      (m, cancel (suc a) (suc b) c k m (omega arith) same is)
-  | inr not_less ↦
-      let d : ℕ = suc a - suc b in
-      let back : suc b + d ≡ suc a = omega arith in
-      let product : (suc b + d) * c ≡ suc b * k = rw back same in
-      let low : c ≤ k = low_factor (suc b) d c k (omega arith) product in
-      let whole : c + (k - c) ≡ k = omega arith in
-      divides_by fuel d (suc b) c (k - c) (omega arith)
-      (coprime_less (suc a) (suc b) (omega arith) lowest)
-      (rest_factor (suc b) d c (k - c) (rw whole product))
-]
+-- what divides a product and is coprime to one factor divides the other
+divides_other : (a b c k : ℕ) → IsLowest (pos a) (pos b) → a * c ≡ b * k → b ∣ c
+divides_other a b zero k lowest same =
+    let none : b * 0 ≡ 0 = omega arith in subst (λ n. b ∣ n) none (dvd-mul_right b 0)
+divides_other a b (suc c) k lowest same =
+    let g = divisor_up_to (suc c) k (suc c) in
+    let (some, greatest) = up_to_second k (suc c) (omega arith) in
+    let whole : g * (suc c / g) ≡ suc c = mul-div_cancel' g greatest.1 in
+    let both = one_fraction (pos a) (pos b) (pos (k / g)) (pos (suc c / g)) lowest
+    (lowest_quotients (pos k) (pos (suc c)) (pos g) (omega (arith, ints)) (omega (arith, ints, some))
+    greatest)
+    (without_factor a b (suc c) k g (k / g) (suc c / g) some (mul-div_cancel' g greatest.0) whole
+    same) in
+    let is : b * g ≡ suc c = ap (λ n. n * g) (ap nat_abs both.1) ∙ rotated (suc c / g) g ∙ whole in
+    subst (λ n. b ∣ n) is (dvd-mul_right b g)
 
 -- ---- numbers of steps
 
@@ -86,12 +52,9 @@ divides_steps over num (pos b) steps lowest are =
     let sizes : nat_abs num * nat_abs over ≡ b * nat_abs steps =
     sym (unsigned_abs-mul num over) ∙ ap nat_abs are ∙ unsigned_abs-mul steps (pos b)
     ∙ rotated (nat_abs steps) b in
-    let (m, is) = divides_by (nat_abs num + b) _ b (nat_abs over) _
-    (omega arith) lowest.coprime sizes in
-    no_rest over b (mod-eq-zero_of_dvd b (subst (λ n. b ∣ n) (sym is) (dvd-mul_right b m)))
-  where
-    rotated : (p q : ℕ) → p * q ≡ q * p
-    rotated p q = omega arith
+    let divides = divides_other (nat_abs num) b (nat_abs over) (nat_abs steps)
+    (record { some_den = lowest.some_den; coprime = lowest.coprime }) sizes in
+    no_rest over b (mod-eq-zero_of_dvd b divides)
 divides_steps over num (negsuc b) steps lowest are = search (arith, ints)
 
 -- two minus signs are none

@@ -1,6 +1,6 @@
 -- The words that the proofs of this crate have in common.
 pub use Rattle.std.proofs.Common.{◌≡◌, ◌<◌, ◌≤◌, ◌-◌, ◌*◌, ◌^◌, ℕ, List, All, Option, Some, None, length, map, refl, sym, ap, arith, ◌+◌, ℤ, pos, neg_ℤ, to_z, of_z, [], ◌∷◌, ◌++◌, get_or, codes, ap₂, ◌∙◌, subst, append_assoc, drop, append-nil, slice_get, length-append, ◌%◌, zero, suc, negsuc, ◌*ℤ◌, ◌+ℤ◌, ◌≤ℤ◌, nat_abs, inl, inr, ◌↔◌, ◌<ℤ◌, Bool, IsTrue, Result, Ok, Err, IsErrAnd, ◌⊎◌, ◌==◌, true, false, true≢false, position, IfOk, IfErr, ◌&&◌, cond, FitsSigned, ne_eqb, ◌≢◌, if◌then◌else◌, take, MatchBool, MatchOption, replicate, nat_le, set, drop-cons, nat_lt, lt-ltb, eq-eqb, ◌/◌, ◌||◌, not, rules, tests, Bor, slice_index_or}
-pub use Rattle.std.proofs.Math.Nat.{one-dvd, dvd-mul_right, dvd-sub_iff_left, one-le-mul}
+pub use Rattle.std.proofs.Math.Nat.{mul-div_cancel', one-dvd, dvd-mul_right, dvd-sub_iff_left, one-le-mul}
 pub use Rattle.std.proofs.lemmas.Bool.{cases_lt, false_from_ne_true, le-leb, leb-true}
 pub use Rattle.std.proofs.lemmas.Bool.Decides.{Decides-eqb, Decides-int_eq, nat_tests}
 pub use Rattle.std.proofs.lemmas.Grind.{flat_map-append}
