@@ -122,8 +122,7 @@ pub stops_within : {circuit : Circuit} {scale : Scale} {lines : List Words} {old
     → Reads circuit scale a lines old between → Stops circuit scale b between fault
     → Stops circuit scale all old fault
 stops_within {circuit} {scale} {lines} {old} {between} all a b more same fault read stops =
-    subst (λ forms. Stops circuit scale forms old fault) same
-    (stop_before circuit scale (a ++ b) more old fault (stop_after read b fault stops))
+    search (arith, stop_before, stop_after)
 
 -- there are no more leads than registers
 leads_line : (circuit : Circuit) (scale : Scale) (version : Version) (count : ℕ)

@@ -236,8 +236,7 @@ spelled circuit (field.Named number) word small (formed, (register, below, name)
     (tt, (register, below, name ∙ sym fit), sym fit)
 spelled circuit (field.From first) word small (formed, (register, below, name), fit, within) =
     (register, (fit register below name, below), sym name)
-spelled circuit field.Signal word small (formed, (number, below, name), fit, within) =
-    (number, below, sym name)
+spelled circuit field.Signal word small (formed, (number, below, name), fit, within) = search arith
 
 -- and the way back
 module _ (circuit : Circuit) where
