@@ -122,10 +122,14 @@ module _ (circuit : Circuit) where
         → timed ≡ other
     one_timed register timed other says says' words =
         let den : IsSmallField (slack_field scale) = (small.some_den, small.small_den, refl) in
-        let same = one_values circuit (field.Steps scale.den (pos (10 ^ 19)) ∷ slack_field scale
-        ∷ slack_field scale ∷ []) _ _ ((small.some_den, small.small_den, omega arith),
-        (den, (den, tt))) (says.small, (says.slacks.setup, (says.slacks.hold, tt))) (says'.small,
-        (says'.slacks.setup, (says'.slacks.hold, tt))) (rest_of 1 words) in
+        let same = one_values circuit
+        (field.Steps scale.den (pos (10 ^ 19)) ∷ slack_field scale ∷ slack_field scale ∷ [])
+        (timed.arrival, (timed.slack.setup, (timed.slack.hold, tt)))
+        (other.arrival, (other.slack.setup, (other.slack.hold, tt)))
+        ((small.some_den, small.small_den, omega arith), (den, (den, tt)))
+        (says.small, (says.slacks.setup, (says.slacks.hold, tt)))
+        (says'.small, (says'.slacks.setup, (says'.slacks.hold, tt)))
+        (rest_of 1 words) in
         λ i. record {
           arrival = (same i).0;
           slack = record { setup = (same i).1.0; hold = (same i).1.1.0 };
@@ -137,13 +141,15 @@ module _ (circuit : Circuit) where
         → merged_line circuit scale.grid node line ≡ merged_line circuit scale.grid node other
         → line ≡ other
     one_merge node line other says says' words =
-        let same = one_values circuit (field.Number 0 9999 ∷ field.Number 0 9999 ∷ length_field
-        scale ∷ []) (line.merge.first, (line.merge.second, (line.reach, tt))) _ (omega arith,
-        (omega arith, (small_length _ small, tt))) ((omega arith, says.merge.first),
-        ((omega arith, says.merge.second), (says.reach, tt))) ((omega arith, says'.merge.first),
-        ((omega arith, says'.merge.second), (says'.reach, tt))) (ap (λ (w : Words). take 3
-        (drop 1 w)) words) in
-        let show = one_show _ _ says.among says'.among (rest_of 4 words) in
+        let same = one_values circuit
+        (field.Number 0 9999 ∷ field.Number 0 9999 ∷ length_field scale ∷ [])
+        (line.merge.first, (line.merge.second, (line.reach, tt)))
+        (other.merge.first, (other.merge.second, (other.reach, tt)))
+        (omega arith, (omega arith, (small_length scale small, tt)))
+        ((omega arith, says.merge.first), ((omega arith, says.merge.second), (says.reach, tt)))
+        ((omega arith, says'.merge.first), ((omega arith, says'.merge.second), (says'.reach, tt)))
+        (ap (λ (w : Words). take 3 (drop 1 w)) words) in
+        let show = one_show line.show other.show says.among says'.among (rest_of 4 words) in
         λ i. record {
           merge = record { first = (same i).0; second = (same i).1.0 };
           reach = (same i).1.1.0;
@@ -204,13 +210,17 @@ module _ (circuit : Circuit) where
         let length = length_field scale in
         let few = small_length scale small in
         let same = one_values circuit (length ∷ length ∷ length ∷ field.Number 1 5 ∷ [])
-        (line.place.x, (line.place.y, (line.length, (line.wire.used, tt)))) _
-        (few, (few, (few, (omega arith, tt)))) (says.place.x, (says.place.y,
-        (says.edge, ((says.wire.some, says.wire.few), tt)))) (says'.place.x, (says'.place.y,
-        (says'.edge, ((says'.wire.some, says'.wire.few), tt)))) (ap (λ (w : Words). take 4
-        (drop 1 w)) words) in
-        let points = one_points _ _ says.wire.each says'.wire.each (rest_of 5 words) in
-        let wire = one_wire _ _ says.wire says'.wire (ap (λ values. values.1.1.1.0) same) points in
+        (line.place.x, (line.place.y, (line.length, (line.wire.used, tt))))
+        (other.place.x, (other.place.y, (other.length, (other.wire.used, tt))))
+        (few, (few, (few, (omega arith, tt))))
+        (says.place.x, (says.place.y, (says.edge, ((says.wire.some, says.wire.few), tt))))
+        (says'.place.x, (says'.place.y, (says'.edge, ((says'.wire.some, says'.wire.few), tt))))
+        (ap (λ (w : Words). take 4 (drop 1 w)) words) in
+        let points = one_points (take line.wire.used line.wire.corners)
+        (take other.wire.used other.wire.corners) says.wire.each says'.wire.each
+        (rest_of 5 words) in
+        let wire = one_wire line.wire other.wire says.wire says'.wire
+        (ap (λ values. values.1.1.1.0) same) points in
         λ i. record {
           place = record { x = (same i).0; y = (same i).1.0 };
           length = (same i).1.1.0;
@@ -283,12 +293,13 @@ module _ (circuit : Circuit) where
       ≡ period_show_lines version circuit other paths' ++ rest'
       → (shown ≡ other) × (paths ≡ paths') × (rest ≡ rest')
   one_shown First (Cycle cycle) (Cycle other) [] [] rest rest' is is' same =
-      let (cycles, after) = one_rows (λ number. DenotesConstraint circuit) _ (λ number c o says
-      says'. one_constraint circuit c o (says.registers, says.weight) (says'.registers,
-      says'.weight)) 0 cycle _ rest rest' (counts _ other is.weights.0 is.weights.1 is'.weights.0
-      is'.weights.1 (line_at 0 same)) (cycle_told _ is.among is.weights.2) (cycle_told other
-      is'.among is'.weights.2) (rw (plain_lines (line_for circuit) 0 cycle, plain_lines
-      (line_for circuit) 0 other) (from_line 1 same)) in
+      let (cycles, after) = one_rows (λ number. DenotesConstraint circuit)
+      (λ number. line_for circuit) (λ number c o says says'. one_constraint circuit c o
+      (says.registers, says.weight) (says'.registers, says'.weight)) 0 cycle other rest rest'
+      (counts cycle other is.weights.0 is.weights.1 is'.weights.0 is'.weights.1 (line_at 0 same))
+      (cycle_told cycle is.among is.weights.2) (cycle_told other is'.among is'.weights.2)
+      (rw (plain_lines (line_for circuit) 0 cycle, plain_lines (line_for circuit) 0 other)
+      (from_line 1 same)) in
       (ap (λ c. Cycle c) cycles, refl, after)
   one_shown Second (Cycle cycle) (Cycle other) paths paths' rest rest' is is' same =
       search (arith, one_pathed, counts, line_at, from_line)

@@ -36,6 +36,4 @@ returns-clause-flaw c circuit =
     (c.if-not-is_small_period.ensures.0 refl)
 
 pub returns-clause-value : goal.returns-clause-value
-returns-clause-value c =
-    search (arith, from_zero, c.in_ok-period.ensures.spelled, c.if-is_negative.ensures.1,
-    c.if-not-is_small_period.ensures.0)
+returns-clause-value c = search (arith, from_zero)

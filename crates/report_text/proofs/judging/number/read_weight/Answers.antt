@@ -4,6 +4,4 @@ use Rattle.report_text.proofs.SpelledFields.{size_below}
 use Rattle.report_text.proofs.judging.number.read_weight.Goals as goal
 
 pub returns-clause-value : goal.returns-clause-value
-returns-clause-value c =
-    search (arith, ints, whole_read, size_below, c.in-Some.ensures.some,
-    c.if-value-ge-MAX_WEIGHT.false, c.if-value.false)
+returns-clause-value c = search (arith, ints, whole_read, size_below)

@@ -15,9 +15,7 @@ read_counted-requires-2-clause-line c =
     omega (arith, before, c.requires.line, c.requires.few)
 
 pub read-requires : goal.read-requires
-read-requires c =
-    search (arith, lines_before_merges, counted_number, c.in_ok-timings.ensures.ok,
-    c.in_ok-leads.ensures.ok, c.in_ok-merged.ensures.ok, c.requires.line, c.requires.few)
+read-requires c = search (arith, lines_before_merges, counted_number)
 
 pub read_counted-requires-3-clause-line : goal.read_counted-requires-3-clause-line
 read_counted-requires-3-clause-line c =

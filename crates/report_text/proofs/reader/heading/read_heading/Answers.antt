@@ -19,9 +19,7 @@ read-requires-3 c =
     record { line = omega (arith, read.number, next.number, c.requires.line) }
 
 pub returns-in_err-version-clause-fault : goal.returns-in_err-version-clause-fault
-returns-in_err-version-clause-fault c =
-    search (arith, passed_on, stop_before, stop_line, c.from_residual.ensures.1,
-    c.in_err-version.ensures.fault)
+returns-in_err-version-clause-fault c = search (arith, passed_on, stop_before, stop_line)
 
 pub returns-in_err-period-clause-fault : goal.returns-in_err-period-clause-fault
 returns-in_err-period-clause-fault c =
@@ -44,5 +42,5 @@ returns-in_err-show-clause-fault c =
 
 pub returns-clause-ok : goal.returns-clause-ok
 returns-clause-ok c =
-    search (arith, heading_read, c.in_ok-version.ensures.ok, c.in_ok-period.ensures.ok,
-    c.in_ok-show.ensures.ok)
+    heading_read _ _ _ _ _ _ _ _ _ c.in_ok-version.ensures.ok c.in_ok-period.ensures.ok
+    c.in_ok-show.ensures.ok
