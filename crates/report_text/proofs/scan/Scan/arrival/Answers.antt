@@ -1,5 +1,4 @@
 use Rattle.report_text.proofs.Vocabulary.{◌^◌, pos, w128, to_z-of_z, quotient_text, IsBelow}
-use Rattle.report_text.specs.LineFields as field
 use Rattle.report_text.proofs.NumberWords.{fits}
 use Rattle.report_text.proofs.ScanLemmas.{takes_word}
 use Rattle.report_text.proofs.scan.Scan.arrival.Goals as goal
@@ -9,8 +8,7 @@ returns c circuit =
     let den = c.args.rules.now.scale.den in
     let small = c.args.rules.now.small in
     let over = to_z-of_z w128 den (fits den small.small_den) in
-    rw (to_z-of_z w128 c.keep.result (record { sfits = c.keep.type_inv }))
-    (takes_word circuit (field.Steps den (pos (10 ^ 19))) c.next-word.ensures.taken
-    (rw over at (c.read_steps.ensures.flaw circuit)) c.keep.ensures.kept
-    (λ steps. quotient_text steps den) (IsBelow (10 ^ 19))
-    ((rw over at c.read_steps.ensures.value) small.some_den))
+    rw (to_z-of_z w128 c.keep.result (record { sfits = c.keep.type_inv })) (takes_word _ _
+    c.next-word.ensures.taken (rw over at (c.read_steps.ensures.flaw circuit)) c.keep.ensures.kept
+    (λ steps. quotient_text steps den) (IsBelow (10 ^ 19)) ((rw over at c.read_steps.ensures.value)
+    small.some_den))

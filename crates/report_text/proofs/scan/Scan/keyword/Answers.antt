@@ -1,11 +1,8 @@
 use Rattle.report_text.proofs.Vocabulary.{keyword_text}
-use Rattle.report_text.specs.LineFields as field
 use Rattle.report_text.proofs.ScanLemmas.{takes_text}
 use Rattle.report_text.proofs.scan.Scan.keyword.Goals as goal
 
 pub returns : goal.returns
 returns c circuit =
-    takes_text circuit (field.Word c.args.keyword) c.next-word.ensures.taken
-    (c.read_keyword.ensures.flaw circuit) c.keep.ensures.kept
-    (λ _. keyword_text c.args.keyword)
-    c.read_keyword.ensures.value
+    takes_text _ _ c.next-word.ensures.taken (c.read_keyword.ensures.flaw circuit)
+    c.keep.ensures.kept (λ _. keyword_text c.args.keyword) c.read_keyword.ensures.value

@@ -1,11 +1,9 @@
 use Rattle.report_text.proofs.Vocabulary.{fraction_text, IsSmallPeriod, arith}
-use Rattle.report_text.specs.LineFields as field
 use Rattle.report_text.proofs.ScanLemmas.{takes_word}
 use Rattle.report_text.proofs.scan.Scan.period.Goals as goal
 
 pub returns : goal.returns
 returns c circuit =
-    takes_word circuit field.Period c.next-word.ensures.taken
-    (c.read_period.ensures.flaw circuit) c.keep.ensures.kept
-    (λ period. fraction_text period.num period.den) IsSmallPeriod
+    takes_word _ _ c.next-word.ensures.taken (c.read_period.ensures.flaw circuit)
+    c.keep.ensures.kept (λ period. fraction_text period.num period.den) IsSmallPeriod
     c.read_period.ensures.value

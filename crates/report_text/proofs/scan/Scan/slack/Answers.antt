@@ -7,6 +7,5 @@ pub returns : goal.returns
 returns c circuit =
     let scale = c.args.rules.now.scale in
     let over = to_z-of_z w128 scale.den (fits scale.den c.args.rules.now.small.small_den) in
-    takes_word circuit (slack_field scale) c.next-word.ensures.taken
-    (rw over at (c.read_slack.ensures.flaw circuit)) c.keep.ensures.kept
-    slack_text (IsSmallSlack scale.den) (rw over at c.read_slack.ensures.value)
+    takes_word _ _ c.next-word.ensures.taken (rw over at (c.read_slack.ensures.flaw circuit))
+    c.keep.ensures.kept slack_text (IsSmallSlack scale.den) (rw over at c.read_slack.ensures.value)
