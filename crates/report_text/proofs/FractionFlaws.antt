@@ -29,11 +29,9 @@ divides_other a b (suc c) k lowest same =
     let g = divisor_up_to (suc c) k (suc c) in
     let (some, greatest) = up_to_second k (suc c) (omega arith) in
     let whole : g * (suc c / g) ≡ suc c = mul-div_cancel' g greatest.1 in
-    let both = one_fraction (pos a) (pos b) (pos (k / g)) (pos (suc c / g)) lowest
-    (lowest_quotients (pos k) (pos (suc c)) (pos g) (omega (arith, ints)) (omega (arith, ints, some))
-    greatest)
-    (without_factor a b (suc c) k g (k / g) (suc c / g) some (mul-div_cancel' g greatest.0) whole
-    same) in
+    let both = one_fraction (pos a) _ _ (pos (suc c / g)) lowest (lowest_quotients (pos k)
+    (pos (suc c)) (pos g) (omega (arith, ints)) (omega (arith, ints, some)) greatest)
+    (without_factor a b _ k g _ _ some (mul-div_cancel' g greatest.0) whole same) in
     let is : b * g ≡ suc c = ap (λ n. n * g) (ap nat_abs both.1) ∙ rotated (suc c / g) g ∙ whole in
     subst (λ n. b ∣ n) is (dvd-mul_right b g)
 
@@ -329,10 +327,9 @@ module _ (over bound : ℤ) (num den : ℤ) (lowest : IsLowest num den) where
   steps_past none past = (
     tt,
     tt,
-    (num *ℤ int_div over den, steps_are over num den lowest.some_den none),
+    (num *ℤ int_div over den, steps_are _ num _ lowest.some_den none),
     λ all.
-        let within = all (num *ℤ int_div over den)
-        (steps_are over num den lowest.some_den none) in
+        let within = all (num *ℤ int_div over den) (steps_are _ num _ lowest.some_den none) in
         past (
           less (num *ℤ int_div over den) bound within.0,
           less (pos 0) ((num *ℤ int_div over den) +ℤ bound) within.1,

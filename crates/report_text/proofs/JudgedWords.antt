@@ -300,20 +300,19 @@ module _ (circuit : Circuit) where
       → Judged (field.Steps over bound) text
   whole_steps_judged over bound text num den spells small lowest =
       elim (same_whole (int_rem over den) (pos 0)) [
-        | inr rest ↦ denoted (Some Unfit) (steps_unfit over bound num den lowest rest)
+        | inr rest ↦ denoted (Some Unfit) (steps_unfit _ bound _ _ lowest rest)
         | inl none ↦
             let steps = num *ℤ int_div over den in
             by_lt_z steps bound (λ below. by_lt_z (pos 0) (steps +ℤ bound) (λ above. denoted None
-            (steps_within over _ num den lowest none (below, above))) (λ low. denoted (Some Large)
-            (steps_past over _ num den lowest none (λ both. both_past steps both.1 low))))
-            (λ past. denoted (Some Large) (steps_past over _ num den lowest none (λ both. past_bound
-            steps both.0 past)))
+            (steps_within _ _ _ _ lowest none (below, above))) (λ low. denoted (Some Large)
+            (steps_past _ _ _ _ lowest none (λ both. both_past steps both.1 low)))) (λ past. denoted
+            (Some Large) (steps_past _ _ _ _ lowest none (λ both. past_bound steps both.0 past)))
       ]
     where
       denoted : (flaw : Option Flaw) → HasStepsFlaw over bound num den flaw
           → Judged (field.Steps over bound) text
       denoted flaw has =
-          (flaw, steps_denoted text num den spells over _ small lowest flaw has circuit)
+          (flaw, steps_denoted _ _ _ spells _ _ small lowest _ has circuit)
 
       both_past : (steps : ℤ) → pos 0 <ℤ (steps +ℤ bound) → (steps +ℤ bound) ≤ℤ pos 0 → ⊥
       both_past steps above low = omega (arith, ints, above, low)
@@ -358,18 +357,17 @@ module _ (circuit : Circuit) where
       small_judged : (IsNegativeQuotient text → ⊥) → (num den : ℤ) → SpellsQuotient text num den
           → HaveSmallSizes num den → IsLowest num den → Judged field.Period text
       small_judged positive num den spells small lowest =
-          let some = from_zero text num den spells positive in
+          let some = from_zero _ _ _ spells positive in
           by_lt_z num (pos (10 ^ 18))
           (λ below. by_lt_z (pos 4097) den
           (λ past. (
             Some Large,
-            period_past text num den spells circuit lowest some
+            period_past _ _ _ spells circuit lowest some
                 (λ both. let few = both.1 in omega (arith, ints, few, past)),
-          ))
-          (λ few. (None, period_within text num den spells circuit lowest some (below, few))))
+          )) (λ few. (None, period_within _ _ _ spells circuit lowest some (below, few))))
           (λ past. (
             Some Large,
-            period_past text num den spells circuit lowest some
+            period_past _ _ _ spells circuit lowest some
                 (λ both. let below = both.0 in omega (arith, ints, below, past)),
           ))
 

@@ -115,12 +115,11 @@ module _ (circuit : Circuit) (scale : Scale) where
       → (more : List Form) (old : Left) → IsFound circuit scale due Says first count
       → IsSound circuit scale (map due (range_with_len first count) ++ more) old
       → Passed circuit scale more (HasRows circuit scale due Says first count old)
-  rows_passed {X} due Says first count more old found sound = steps_passed circuit scale more
-      (λ place. HasRows circuit scale due Says first place old) count
-      (λ place. due (first + place) ∷ [])
-      (λ place rest. map due (range_with_len (first + place) rest))
-      (λ place rest. ap (λ start. due (first + place) ∷ map due (range_with_len start rest))
-      (omega arith)) (λ place. refl) next count 0 (omega arith) old [] (no_rows due Says first)
+  rows_passed {X} due Says first count more old found sound = steps_passed _ _ more
+      (λ place. HasRows circuit scale due Says first place old) count (λ place. due (first + place)
+      ∷ []) (λ place rest. map due (range_with_len (first + place) rest)) (λ place rest. ap
+      (λ start. due (first + place) ∷ map due (range_with_len start rest)) (omega arith))
+      (λ place. refl) next count 0 (omega arith) old [] (no_rows due Says first)
       (subst (λ start. IsSound circuit scale (map due (range_with_len start count) ++ more) old)
       (omega arith) sound)
     where
@@ -189,11 +188,12 @@ module _ (circuit : Circuit) (scale : Scale) where
       ((form.Count keyword count ∷ map due (range_with_len first count)) ++ more) old
       → Passed circuit scale more (Counted circuit scale keyword due Says first count old)
   counted_passed keyword due Says first count more few found old sound =
-      let line = denoted_passed circuit scale (form.Count keyword count)
-      (map due (range_with_len first count) ++ more)
-      (λ words (denoted : ℕ). words ≡ count_line (keyword_text keyword) count) old
-      (λ words some flawless. (0, count_found circuit scale keyword count words few flawless))
-      sound in
+      let line = denoted_passed _ _ _ _ (λ words (denoted : ℕ). words ≡ count_line (keyword_text
+      keyword) count) old (λ words some flawless. (
+        0,
+        count_found circuit scale keyword count words
+            few flawless,
+      )) sound in
       let rows = rows_passed due Says first count more line.new found line.rest in
       record {
         new = rows.new;
@@ -286,17 +286,13 @@ heading_passed : (circuit : Circuit) (scale : Scale) (more : List Form) (old : L
     → IsSound circuit scale (heading_forms ++ more) old
     → Passed circuit scale more (HasHeading circuit old)
 heading_passed circuit scale more old sound =
-    let version = denoted_passed circuit scale form.Version (form.Period ∷ form.Show ∷ more)
-    DenotesVersion old (λ words some. version_found circuit scale words) sound in
-    let period = denoted_passed circuit scale form.Period (form.Show ∷ more)
-    (λ words (line : PeriodLine). DenotesPeriod words line.period) version.new
-    (λ words some flawless.
-    let (period, denoted) = period_found circuit scale words flawless in
+    let version = denoted_passed _ _ _ (form.Period ∷ form.Show ∷ more)
+    _ _ (λ words some. version_found circuit scale words) sound in
+    let period = denoted_passed _ _ _ (form.Show ∷ more) _ _ (λ words some flawless.
+    let (period, denoted) = period_found circuit scale _ flawless in
     (record { period = period }, denoted)) version.rest in
-    let show = denoted_passed circuit scale form.Show more
-    (λ words (line : ShowLine). DenotesShow words line.count) period.new
-    (λ words some flawless.
-    let (count, denoted) = show_found circuit scale words flawless in
+    let show = denoted_passed _ _ _ _ _ _ (λ words some flawless.
+    let (count, denoted) = show_found circuit scale _ flawless in
     (record { count = count }, denoted)) period.rest in
     record {
       new = show.new;
@@ -305,8 +301,7 @@ heading_passed circuit scale more old sound =
         period = period.value.period;
         count = show.value.count;
       };
-      has = heading_read circuit scale old version.new period.new show.new version.value
-          period.value show.value version.has period.has show.has;
+      has = heading_read _ _ _ _ _ _ _ _ _ version.has period.has show.has;
       rest = show.rest;
     }
 

@@ -106,13 +106,11 @@ module _ {X : Type 0} {circuit : Circuit} {scale : Scale} (due : ℕ → Form)
         → HasRows circuit scale due Says first (place + 1) old new rows'
     rows_next rows' row new next is = record {
       lines = has.lines ++ next.words ∷ [];
-      read = next_read _ (λ n. due (first + n) ∷ []) (numbered_step due first) _ has.lines _
-          (has.lines ++ next.words ∷ []) old _ new has.read (next.line.read scale
-          next.line.flawless) refl;
-      each = subst (SayEach Says first (has.lines ++ next.words ∷ [])) (sym is)
-          (say_more Says first _ rows next.words row has.each
-          (subst (λ n. Says (first + n) next.words row) (sym has.many) next.denoted));
-      many = longer rows _ row is place has.many;
+      read = next_read _ (λ n. due (first + n) ∷ []) (numbered_step due first) _ _ _ _ _ _ _
+          has.read (next.line.read scale next.line.flawless) refl;
+      each = subst (SayEach Says first (has.lines ++ next.words ∷ [])) (sym is) (say_more _ _ _ _ _
+          _ has.each (subst (λ n. Says (first + n) next.words row) (sym has.many) next.denoted));
+      many = longer _ _ _ is _ has.many;
     }
 
     -- a fault of the next line
@@ -176,18 +174,17 @@ pub pathed_next : {circuit : Circuit} {scale : Scale} {place : ℕ} {old between
 pathed_next {circuit} {scale} {place} {old} {between} {new} middle pathed pathed' constraint path
     has next way cycle paths = record {
       lines = next_read (cycle_forms version.Second) _ pathed_step place _ (next.words ∷ way.words
-          ∷ []) _ old between new has.lines (read_more (next.line.read scale next.line.flawless) _
-          (way.words ∷ []) new (way.line.read scale way.line.flawless)) (ap₂ (pathed_lines circuit)
-          cycle paths ∙ pathed_more circuit _ pathed.paths constraint path.signals
+          ∷ []) _ _ _ _ has.lines (read_more (next.line.read scale next.line.flawless) _
+          _ _ (way.line.read scale way.line.flawless)) (ap₂ (pathed_lines circuit)
+          cycle paths ∙ pathed_more circuit _ _ constraint path.signals
           (has.as_many ∙ sym has.paths) ∙ ap₂ (λ first second. pathed_lines circuit pathed.cycle
           pathed.paths ++ first ∷ second ∷ []) (sym next.denoted.line) (sym way.denoted.line));
-      as_many = longer _ pathed'.cycle _ cycle place has.as_many;
-      paths = longer _ pathed'.paths _ paths place has.paths;
-      registers = all_with _ pathed'.cycle _ cycle
+      as_many = longer _ _ _ cycle _ has.as_many;
+      paths = longer _ _ _ paths _ has.paths;
+      registers = all_with _ _ _ cycle
           (IsBetweenRegisters (length circuit.registers)) has.registers next.denoted.registers;
-      weights = all_with _ pathed'.cycle _ cycle HasSmallWeight has.weights next.denoted.weight;
-      signals = all_with _ pathed'.paths _ paths
+      weights = all_with _ _ _ cycle HasSmallWeight has.weights next.denoted.weight;
+      signals = all_with _ _ _ paths
           (All (λ number. number < length circuit.signals)) has.signals way.denoted.signals;
-      few = all_with _ pathed'.paths _ paths
-          (λ (each : List ℕ). length each ≤ 65536) has.few way.denoted.few;
+      few = all_with _ _ _ paths (λ (each : List ℕ). length each ≤ 65536) has.few way.denoted.few;
     }

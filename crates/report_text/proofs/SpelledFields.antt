@@ -228,8 +228,7 @@ spelled circuit (field.Steps over (pos bound)) word small ((num, den, form), kno
     denoted_steps word over num den bound small.0 form fit within
 spelled circuit (field.Steps over (negsuc bound)) word small plain = absurd small
 spelled circuit (field.Slack over bound) word small (formed, known, fit, within) =
-    slack_spelled over word formed fit
-    (subst (λ b. AreFewSteps over b word) small.2 within)
+    slack_spelled _ _ formed fit (subst (λ b. AreFewSteps over b word) small.2 within)
 spelled circuit field.Register word small (formed, (register, below, name), fit, within) =
     (register, below, sym name)
 spelled circuit (field.Named number) word small (formed, (register, below, name), fit, within) =
@@ -288,10 +287,9 @@ module _ (circuit : Circuit) where
       → WordHasFlaw circuit (field.Slack over (pos (10 ^ 20))) (slack_text slack) None
   slack_plain over None some low small = dash_plain over (pos (10 ^ 20)) (codes "-") refl circuit
   slack_plain over (Some slack) some low (steps, is, below) =
-      let sizes = small_slack over slack some low (steps, is, below) in
-      let text = fraction_text slack.num slack.den in
-      let spells = read_quotient_is text slack sizes refl in
-      let has = steps_denoted text slack.num slack.den spells over _ sizes slack.lowest None
+      let sizes = small_slack _ slack some low (steps, is, below) in
+      let spells = read_quotient_is _ slack sizes refl in
+      let has = steps_denoted _ slack.num slack.den spells over _ sizes slack.lowest None
       (steps_small over _ _ _ _ slack.lowest is below) circuit in
       (inr has.0, tt, has.2, has.3)
 

@@ -76,13 +76,12 @@ byte_then text place within = rw (drop-cons text place 0 within) refl
 feed_then : (text : List ℕ) (end : ℕ) → position is_line_feed text ≡ Some end
     → drop end text ≡ 10 ∷ drop (end + 1) text
 feed_then text end found =
-    let place = cut_within is_line_feed text end found in
+    let place = cut_within _ _ _ found in
     let passes = passes_at_first is_line_feed text 0
     (subst (λ n. n < length text) (sym place.0) place.1) in
     let feed : get_or text end 0 ≡ 10 = subst (λ n. get_or text n 0 ≡ 10) place.0
     (grind (arith, nat_tests, passes)) in
-    byte_then text end place.1
-    ∙ ap₂ (λ byte rest. byte ∷ rest) feed (drop-drop 1 end text)
+    byte_then _ _ place.1 ∙ ap₂ (λ byte rest. byte ∷ rest) feed (drop-drop 1 end text)
 
 module _ {old new : Left} {line : List ℕ} (taken : TakesLine old line new) where
   -- what was left is the line, its line feed and what is left now
