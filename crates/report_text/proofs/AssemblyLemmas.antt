@@ -8,8 +8,7 @@ use Rattle.report_text.proofs.BodyLemmas.{body_lines, body_read}
 use Rattle.report_text.proofs.WalkLemmas.{read_more}
 
 -- a row is what its line tells, whatever its number
-abbrev pub IsTold : {X : Type 0} (Says : ℕ → Words → X → Type 0) (line : ℕ → X → Words) → X
-    → Type 0
+abbrev pub IsTold : {X : Type 0} (Says : ℕ → Words → X → Type 0) (line : ℕ → X → Words) → X → Type 0
 IsTold Says line row = (number : ℕ) → Says number (line number row) row
 
 -- so each value of the rows has what their lines give
@@ -44,8 +43,7 @@ pub record ArePrintable (circuit : Circuit) (tech : Tech) (parts : Parts) : Type
   pub merged : All (IsTold (SaysMerge circuit (grid_of parts.heading.period tech))
       (merged_line circuit (grid_of parts.heading.period tech))) parts.body.merged
   pub source : SaysSource circuit (grid_of parts.heading.period tech)
-      (sourced_line circuit (grid_of parts.heading.period tech) parts.body.source)
-      parts.body.source
+      (sourced_line circuit (grid_of parts.heading.period tech) parts.body.source) parts.body.source
   pub placed : All (IsTold (SaysNode (grid_of parts.heading.period tech))
       (placed_line (grid_of parts.heading.period tech))) parts.body.placed
   pub total : IsBelow (10 ^ 36) parts.body.total.length
@@ -59,8 +57,7 @@ pub record ArePrintable (circuit : Circuit) (tech : Tech) (parts : Parts) : Type
 pub cycle_told : {circuit : Circuit} (cycle : List Constraint)
     → All (IsBetweenRegisters (length circuit.registers)) cycle → All HasSmallWeight cycle
     → All (IsTold (λ number. DenotesConstraint circuit) (λ number. line_for circuit)) cycle
-cycle_told cycle among small k d within number =
-    search (among k d within, small k d within)
+cycle_told cycle among small k d within number = search (among k d within, small k d within)
 
 -- a count that is that of a cycle
 counted_shown : (count : Option ℕ) (shown : PeriodShow) → IsSmallCount count
@@ -135,15 +132,14 @@ parts_apart : (a b c d e f : List Words)
 parts_apart a b c d e f = simp append_assoc
 
 -- the lines of the sections, one section after the other
-pub after_apart : (circuit : Circuit) (scale : Scale) (parts : Parts)
-    → lines_after circuit scale parts ≡ (count_line (codes "registers") (length circuit.registers)
-    ∷ lines_of (timed_line circuit scale.den) 0 parts.body.timings)
+pub after_apart : (circuit : Circuit) (scale : Scale)
+    (parts : Parts) → lines_after circuit scale parts ≡ (count_line (codes "registers")
+    (length circuit.registers) ∷ lines_of (timed_line circuit scale.den) 0 parts.body.timings)
     ++ (lines_of (λ number. lead_line circuit) 0 parts.body.leads
     ++ ((count_line (codes "merges") (length circuit.registers - 1)
     ∷ lines_of (merged_line circuit scale.grid) (length circuit.registers) parts.body.merged)
-    ++ (sourced_line circuit scale.grid parts.body.source
-    ∷ count_line (codes "nodes") (2 * length circuit.registers - 1)
-    ∷ (lines_of (placed_line scale.grid) 0 parts.body.placed
+    ++ (sourced_line circuit scale.grid parts.body.source ∷ count_line (codes "nodes")
+    (2 * length circuit.registers - 1) ∷ (lines_of (placed_line scale.grid) 0 parts.body.placed
     ++ (codes "wire" ∷ quotient_text parts.body.total.length scale.grid ∷ []) ∷ []))))
 after_apart circuit scale parts =
     simp (append_assoc, plain_lines (lead_line circuit) 0 parts.body.leads)
@@ -255,8 +251,7 @@ module _ {circuit : Circuit} {tech : Tech} {parts : Parts}
   root_within : length (wires_in parts) - 1 < length (wires_in parts)
   root_within = omega (arith, wires_many, some)
 
-  root_small : IsSmallWire
-      (get_or (wires_in parts) (length (wires_in parts) - 1) no_wire)
+  root_small : IsSmallWire (get_or (wires_in parts) (length (wires_in parts) - 1) no_wire)
   root_small = wires_small (length (wires_in parts) - 1) no_wire root_within
 
   begin_below : IsPointBelow (10 ^ 32) (begin_of (wires_in parts))
@@ -290,9 +285,8 @@ module _ {circuit : Circuit} {tech : Tech} {parts : Parts}
       omega (arith, places_many, arrivals_many, some) in
       let begin = begin_of (wires_in parts) in
       slice_get-get_or report.tree.place source origin
-      (omega (arith, suffix, length_push (places_in parts) begin))
-      ∙ ap Some (get_or_push (places_in parts) begin origin source suffix
-      ∙ ap (λ w. get_or w.corners 0 origin) is)
+      (omega (arith, suffix, length_push (places_in parts) begin)) ∙ ap Some (get_or_push
+      (places_in parts) begin origin source suffix ∙ ap (λ w. get_or w.corners 0 origin) is)
       ∙ sym (slice_get-get_or wire.corners 0 origin (omega (arith, corners)))
 
   denoted_tree_bounds : HasTreeBounds tech report
@@ -313,10 +307,9 @@ module _ {circuit : Circuit} {tech : Tech} {parts : Parts}
         total = is.total;
         merge_shows = subst (All IsMergeShow) (sym (take_at (shows_in parts) suffix
             (length (merges_in parts)) same)) (merged_all _ _ (λ row says. says.show));
-        source_show = subst (All IsSourceShow) (sym (drop_at (shows_in parts) suffix
-            (length (merges_in parts)) same))
-            (All-cons IsSourceShow parts.body.source.show [] is.source.show
-            (All-nil IsSourceShow));
+        source_show = subst (All IsSourceShow)
+            (sym (drop_at (shows_in parts) suffix (length (merges_in parts)) same))
+            (All-cons IsSourceShow parts.body.source.show [] is.source.show (All-nil IsSourceShow));
         sinks = sink_at;
         source = source_at;
       }
@@ -358,8 +351,7 @@ module _ {circuit : Circuit} {tech : Tech} {parts : Parts}
       let reach = get_or_push (sinks ++ (reaches_in parts)) parts.body.source.reach (pos 0)
       node suffix
       in
-      let show = get_or_push (shows_in parts) parts.body.source.show Root
-      (length (merges_in parts))
+      let show = get_or_push (shows_in parts) parts.body.source.show Root (length (merges_in parts))
       (shows_many ∙ sym merges_many) in
       λ i. codes "source" ∷ quotient_text (reach i) grid ∷ show_words circuit (show i)
 
@@ -376,8 +368,7 @@ module _ {circuit : Circuit} {tech : Tech} {parts : Parts}
       within in
       let wire = get_or-map (λ (row : NodeLine). row.wire) parts.body.placed place default no_wire
       within in
-      λ i. placed_line grid (number i)
-      (record { place = stands i; length = edge i; wire = wire i })
+      λ i. placed_line grid (number i) (record { place = stands i; length = edge i; wire = wire i })
 
   -- the lines of the timing
   timing_same : timing_lines circuit report
@@ -389,12 +380,10 @@ module _ {circuit : Circuit} {tech : Tech} {parts : Parts}
   timing_same = search (arith, arrivals_many, registers_same)
 
   -- and those of the tree
-  tree_same : tree_lines circuit report
-      ≡ count_line (codes "merges") (count - 1)
-      ∷ lines_of (merged_line circuit grid) count parts.body.merged
+  tree_same : tree_lines circuit report ≡ count_line (codes "merges")
+      (count - 1) ∷ lines_of (merged_line circuit grid) count parts.body.merged
       ++ sourced_line circuit grid parts.body.source
-      ∷ count_line (codes "nodes") (2 * count - 1)
-      ∷ lines_of (placed_line grid) 0 parts.body.placed
+      ∷ count_line (codes "nodes") (2 * count - 1) ∷ lines_of (placed_line grid) 0 parts.body.placed
       ++ (codes "wire" ∷ quotient_text parts.body.total.length grid ∷ []) ∷ []
   tree_same =
       let merge : MergeLine = record {
@@ -439,9 +428,8 @@ module _ {circuit : Circuit} {tech : Tech} {text : List ℕ} {parts : Parts}
       let nodes = rows_lines _ _ (λ number words row says. says.words_are) 0 _ _ placed.each in
       λ i. count_line (codes "registers") (length circuit.registers) ∷ timed i ++ leads i
       ++ count_line (codes "merges") (length circuit.registers - 1) ∷ merges i
-      ++ has.body.source.denoted.words_are i
-      ∷ count_line (codes "nodes") (2 * length circuit.registers - 1)
-      ∷ nodes i ++ has.body.total.denoted.words_are i ∷ []
+      ++ has.body.source.denoted.words_are i ∷ count_line (codes "nodes")
+      (2 * length circuit.registers - 1) ∷ nodes i ++ has.body.total.denoted.words_are i ∷ []
 
   -- the text is that of the lines of all parts
   parts_text : text ≡ text_of (denoted_lines circuit of_text parts)
@@ -456,14 +444,12 @@ module _ {circuit : Circuit} {tech : Tech} {text : List ℕ} {parts : Parts}
       ≡ version_line parts.heading.version ∷ period_line parts.heading.period ∷ shown =
       ap (λ lines. version_line parts.heading.version ∷ period_line parts.heading.period ∷ lines)
       (sym has.shown.first) in
-      all.text
-      ∙ ap (λ bytes. text_of ((version_line parts.heading.version
+      all.text ∙ ap (λ bytes. text_of ((version_line parts.heading.version
       ∷ period_line parts.heading.period ∷ shown_line parts.heading.count ∷ drop 1 shown)
       ++ body_lines has.body) ++ bytes) has.ended
       ∙ append-nil (text_of ((version_line parts.heading.version
       ∷ period_line parts.heading.period ∷ shown_line parts.heading.count ∷ drop 1 shown)
-      ++ body_lines has.body))
-      ∙ ap₂ (λ lines more. text_of (lines ++ more)) first after_denoted
+      ++ body_lines has.body)) ∙ ap₂ (λ lines more. text_of (lines ++ more)) first after_denoted
 
   -- so it spells the report that is put together from them
   pub parts_spelled : Spells circuit tech text (report_denoted tech parts)

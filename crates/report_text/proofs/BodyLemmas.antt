@@ -27,8 +27,7 @@ module _ {circuit : Circuit} {scale : Scale} {old first : Left} {version : Versi
     (denoted : DenotesLine circuit scale form.Version DenotesVersion old first version) where
   -- a fault after the version
   pub version_then : (other : Scale) (forms : List Form) (fault : ReportFault)
-      → Stops circuit other forms first fault
-      → Stops circuit other (form.Version ∷ forms) old fault
+      → Stops circuit other forms first fault → Stops circuit other (form.Version ∷ forms) old fault
   version_then other forms fault stops =
       stop_after (denoted.line.read other denoted.line.flawless) forms fault stops
 
@@ -43,14 +42,13 @@ module _ {circuit : Circuit} {scale : Scale} {first second : Left} {period : Per
       stop_after (denoted.line.read other denoted.line.flawless) forms fault stops
 
 -- the three lines
-pub heading_read : (circuit : Circuit) (scale : Scale) (old first second new : Left)
-    (version : Version) (period : PeriodLine) (show : ShowLine)
+pub heading_read : (circuit : Circuit) (scale : Scale)
+    (old first second new : Left) (version : Version) (period : PeriodLine) (show : ShowLine)
     → DenotesLine circuit scale form.Version DenotesVersion old first version
     → DenotesLine circuit scale form.Period (λ words line. DenotesPeriod words line.period)
     first second period
     → DenotesLine circuit scale form.Show (λ words line. DenotesShow words line.count)
-    second new show
-    → HasHeading circuit old new
+    second new show → HasHeading circuit old new
     (record { version = version; period = period.period; count = show.count })
 heading_read circuit scale old first second new version period show is_version is_period is_show =
     record {
@@ -66,16 +64,14 @@ heading_read circuit scale old first second new version period show is_version i
 pub cycle_shown : {circuit : Circuit} {scale : Scale} {count : ℕ} {old new : Left}
     (cycle : List Constraint) → IsSmallCount (Some count)
     → HasRows circuit scale (λ number. form.Constraint) (λ number. DenotesConstraint circuit) 0
-    count old new cycle
-    → HasShown circuit scale First (Some count) old new
+    count old new cycle → HasShown circuit scale First (Some count) old new
     (record { shown = Cycle cycle; paths = [] })
 cycle_shown {circuit} {scale} {count} {old} {new} cycle small has =
     let lines = rows_lines _ _ (λ number words row denoted. denoted.line) 0 _ _ has.each
     ∙ plain_lines (line_for circuit) 0 cycle in
     record {
       lines = subst (λ forms. Reads circuit scale forms (map (line_for circuit) cycle) old new)
-          (one_form form.Constraint 0 count)
-          (subst (λ ls. Reads circuit scale
+          (one_form form.Constraint 0 count) (subst (λ ls. Reads circuit scale
           (map (λ number. form.Constraint) (range_with_len 0 count)) ls old new) lines has.read);
       first = ap (λ n. count_line (codes "cycle") n ∷ map (line_for circuit) cycle) has.many;
       counted = has.many;
@@ -92,16 +88,14 @@ cycle_shown {circuit} {scale} {count} {old} {new} cycle small has =
 
 -- and so do those with their paths
 pub pathed_shown : {circuit : Circuit} {scale : Scale} {count : ℕ} {old new : Left}
-    (pathed : Pathed) → IsSmallCount (Some count)
-    → HasPathed circuit scale count old new pathed
+    (pathed : Pathed) → IsSmallCount (Some count) → HasPathed circuit scale count old new pathed
     → HasShown circuit scale Second (Some count) old new
     (record { shown = Cycle pathed.cycle; paths = pathed.paths })
 pathed_shown {circuit} {scale} {count} {old} {new} pathed small has = search arith
 
 -- the forms of three sections, after how many lines each has
 abbrev pub register_forms : ℕ → List Form
-register_forms count =
-    form.Count word.Registers count ∷ map form.Register (range_with_len 0 count)
+register_forms count = form.Count word.Registers count ∷ map form.Register (range_with_len 0 count)
 
 abbrev pub merge_forms : ℕ → List Form
 merge_forms count = form.Count word.Merges (count - 1)
@@ -157,11 +151,9 @@ module _ {circuit : Circuit} {scale : Scale} {version : Version} {count : ℕ} {
     {body : Body} (has : HasBody circuit scale version count old new body) where
   -- the lines of all sections
   abbrev pub body_lines : List Words
-  body_lines = count_line (codes "registers") count ∷ has.timings.has.lines
-      ++ has.leads.lines
-      ++ count_line (codes "merges") (count - 1) ∷ has.merged.has.lines
-      ++ has.source.words ∷ count_line (codes "nodes") (2 * count - 1) ∷ has.placed.has.lines
-      ++ has.total.words ∷ []
+  body_lines = count_line (codes "registers") count ∷ has.timings.has.lines ++ has.leads.lines
+      ++ count_line (codes "merges") (count - 1) ∷ has.merged.has.lines ++ has.source.words
+      ∷ count_line (codes "nodes") (2 * count - 1) ∷ has.placed.has.lines ++ has.total.words ∷ []
 
   pub body_read : Reads circuit scale (forms_after version count) body_lines old new
   body_read =

@@ -77,8 +77,7 @@ last_first (negsuc a) b c = search (arith, negative)
 
 above_each : (n : ℕ) (q : ℤ) (d : ℕ) → pos n *ℤ (q *ℤ pos d) ≡ (pos n *ℤ q) *ℤ pos d
 above_each n q d =
-    *ℤ_comm (pos n) (q *ℤ pos d) ∙ last_first q d n
-    ∙ ap (λ x. x *ℤ pos d) (*ℤ_comm q (pos n))
+    *ℤ_comm (pos n) (q *ℤ pos d) ∙ last_first q d n ∙ ap (λ x. x *ℤ pos d) (*ℤ_comm q (pos n))
 
 of_each : (a q : ℤ) (d : ℕ) → a *ℤ (q *ℤ pos d) ≡ (a *ℤ q) *ℤ pos d
 of_each (pos n) q d = above_each n q d
@@ -88,9 +87,8 @@ of_each (negsuc n) q d = search (arith, minus_times, above_each, times_minus)
 pub steps_are : (over num den : ℤ) → pos 1 ≤ℤ den → int_rem over den ≡ pos 0
     → AreSteps over num den (num *ℤ int_div over den)
 steps_are over num (pos d) some none =
-    ap (λ n. num *ℤ n) (sym (quot-rem over (pos d))
-    ∙ whole (int_div over (pos d) *ℤ pos d) (int_rem over (pos d)) none)
-    ∙ of_each num (int_div over (pos d)) d
+    ap (λ n. num *ℤ n) (sym (quot-rem over (pos d)) ∙ whole (int_div over (pos d) *ℤ pos d)
+    (int_rem over (pos d)) none) ∙ of_each num (int_div over (pos d)) d
   where
     whole : (product rest : ℤ) → rest ≡ pos 0 → product +ℤ rest ≡ product
     whole product rest is = omega (arith, ints, is)
@@ -106,8 +104,7 @@ one_number_of_steps over num (negsuc d) steps other some are are' = search (arit
 
 -- a fraction that is read is spelled as a quotient
 pub read_quotient_is : (text : List ℕ) (fraction : Fraction)
-    → HaveSmallSizes fraction.num fraction.den
-    → text ≡ fraction_text fraction.num fraction.den
+    → HaveSmallSizes fraction.num fraction.den → text ≡ fraction_text fraction.num fraction.den
     → SpellsQuotient text fraction.num fraction.den
 read_quotient_is text fraction small same = search (arith, fraction_spelled, few_digits)
 
@@ -203,8 +200,7 @@ steps_refused over bound text flaw none circuit = absurd none
 pub period_refused : (text : List ℕ) (flaw : Flaw) → IsRefusedFor text flaw
     → (IsNegativeQuotient text → ⊥) → (circuit : Circuit)
     → WordHasFlaw circuit Period text (Some flaw)
-period_refused text Form none not_negative circuit =
-    λ form. no_form text none form.0 form.1 form.2
+period_refused text Form none not_negative circuit = λ form. no_form text none form.0 form.1 form.2
 period_refused text Unknown none not_negative circuit = absurd none
 period_refused text Unfit none not_negative circuit = absurd none
 period_refused text Large (num, den, spells, large) not_negative circuit = (
@@ -230,9 +226,8 @@ negative_refused text (num, den, spells, below) (num', den', form, above) =
     omega (arith, ints, above, below')
 
 -- whether a quotient is below 0 is determined by the number that is kept of it
-pub negative_kept : (text : List ℕ) (num den kept : ℤ) (below : Bool)
-    → SpellsQuotient text num den → kept ≡ kept_size num → IsTrue below ↔ (kept <ℤ pos 0)
-    → IsTrue below ↔ IsNegativeQuotient text
+pub negative_kept : (text : List ℕ) (num den kept : ℤ) (below : Bool) → SpellsQuotient text num den
+    → kept ≡ kept_size num → IsTrue below ↔ (kept <ℤ pos 0) → IsTrue below ↔ IsNegativeQuotient text
 negative_kept text num den kept below spells is denoted = (
   λ yes. (num, den, spells, kept_below num (subst (λ n. n <ℤ pos 0) is (denoted.0 yes))),
   λ other. denoted.1 (subst (λ n. n <ℤ pos 0) (sym is) (below_kept num
@@ -272,9 +267,8 @@ dash_plain over bound text dash circuit =
     )
 
 -- a word that isn't `-` has the flaw that it has as a number of steps
-pub slack_denoted : (over bound : ℤ) (text : List ℕ) → (text ≡ codes "-" → ⊥)
-    → (flaw : Option Flaw) (circuit : Circuit)
-    → WordHasFlaw circuit (Steps over bound) text flaw
+pub slack_denoted : (over bound : ℤ) (text : List ℕ) → (text ≡ codes "-" → ⊥) → (flaw : Option Flaw)
+    (circuit : Circuit) → WordHasFlaw circuit (Steps over bound) text flaw
     → WordHasFlaw circuit (Slack over bound) text flaw
 slack_denoted over bound text differs None circuit has = (inr has.0, has.1, has.2, has.3)
 slack_denoted over bound text differs (Some Form) circuit has = at
@@ -290,8 +284,7 @@ slack_denoted over bound text differs (Some Large) circuit has = (inr has.0, has
 
 -- a fraction that is so many steps, below the bound in size
 pub steps_small : (over num den : ℤ) (bound : ℕ) (steps : ℤ) → IsLowest num den
-    → AreSteps over num den steps → IsBelow bound steps
-    → HasStepsFlaw over (pos bound) num den None
+    → AreSteps over num den steps → IsBelow bound steps → HasStepsFlaw over (pos bound) num den None
 steps_small over num den bound steps lowest are below = (
   tt,
   tt,
@@ -303,8 +296,7 @@ steps_small over num den bound steps lowest are below = (
 module _ (over bound : ℤ) (num den : ℤ) (lowest : IsLowest num den) where
   -- a fraction whose denominator doesn't divide the steps of one
   pub steps_unfit : (int_rem over den ≡ pos 0 → ⊥) → HasStepsFlaw over bound num den (Some Unfit)
-  steps_unfit rest =
-      (tt, tt, λ steps. rest (divides_steps over num den steps.0 lowest steps.1))
+  steps_unfit rest = (tt, tt, λ steps. rest (divides_steps over num den steps.0 lowest steps.1))
 
   -- one whose denominator does, and of which so many steps are within the bound
   pub steps_within : int_rem over den ≡ pos 0 → IsBetween bound (num *ℤ int_div over den)

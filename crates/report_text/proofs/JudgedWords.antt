@@ -169,9 +169,8 @@ lowest_or_not num den some =
 
 -- what a text is as a fraction: refused, or a small quotient in lowest terms
 abbrev pub FractionOrNot : List ℕ → Type 0
-FractionOrNot text = ((flaw : Flaw) × IsRefusedFor text flaw)
-    ⊎ ((num : ℤ) × (den : ℤ) × SpellsQuotient text num den × HaveSmallSizes num den
-    × IsLowest num den)
+FractionOrNot text = ((flaw : Flaw) × IsRefusedFor text flaw) ⊎ ((num : ℤ) × (den : ℤ)
+    × SpellsQuotient text num den × HaveSmallSizes num den × IsLowest num den)
 
 pub fraction_or_not : (text : List ℕ) → FractionOrNot text
 fraction_or_not text = elim (quotient_or_not text) [
@@ -193,8 +192,7 @@ fraction_or_not text = elim (quotient_or_not text) [
 
 -- which of four fails first, where each that is asked for holds or doesn't
 judged : {Formed Known Fit Within : Type 0} → OrNot Formed → OrNot Known → (Known → OrNot Fit)
-    → (Formed → OrNot Within)
-    → (flaw : Option Flaw) × IsFirstFlaw Formed Known Fit Within flaw
+    → (Formed → OrNot Within) → (flaw : Option Flaw) × IsFirstFlaw Formed Known Fit Within flaw
 judged formed known fit within = elim formed [
   | inr none ↦ (Some Form, none)
   | inl is ↦ elim known [
@@ -295,9 +293,8 @@ module _ (circuit : Circuit) where
   -- ---- fractions
 
   -- a small quotient in lowest terms, as a number of steps
-  whole_steps_judged : (over bound : ℤ) (text : List ℕ) (num den : ℤ)
-      → SpellsQuotient text num den → HaveSmallSizes num den → IsLowest num den
-      → Judged (field.Steps over bound) text
+  whole_steps_judged : (over bound : ℤ) (text : List ℕ) (num den : ℤ) → SpellsQuotient text num den
+      → HaveSmallSizes num den → IsLowest num den → Judged (field.Steps over bound) text
   whole_steps_judged over bound text num den spells small lowest =
       elim (same_whole (int_rem over den) (pos 0)) [
         | inr rest ↦ denoted (Some Unfit) (steps_unfit _ bound _ _ lowest rest)
@@ -311,8 +308,7 @@ module _ (circuit : Circuit) where
     where
       denoted : (flaw : Option Flaw) → HasStepsFlaw over bound num den flaw
           → Judged (field.Steps over bound) text
-      denoted flaw has =
-          (flaw, steps_denoted _ _ _ spells _ _ small lowest _ has circuit)
+      denoted flaw has = (flaw, steps_denoted _ _ _ spells _ _ small lowest _ has circuit)
 
       both_past : (steps : ℤ) → pos 0 <ℤ (steps +ℤ bound) → (steps +ℤ bound) ≤ℤ pos 0 → ⊥
       both_past steps above low = omega (arith, ints, above, low)
@@ -336,8 +332,7 @@ module _ (circuit : Circuit) where
     | inl found ↦ by_lt_z found.0 (pos 0)
         (λ below. inl (found.0, found.1, found.2, below))
         (λ above. inr (λ negative.
-        let same = (one_quotient text found.0 found.1 negative.0 negative.1 found.2
-        negative.2).0 in
+        let same = (one_quotient text found.0 found.1 negative.0 negative.1 found.2 negative.2).0 in
         let below = negative.3 in
         omega (arith, ints, same, below, above)))
   ]
@@ -395,8 +390,7 @@ module _ (circuit : Circuit) where
   signal_or_not text = at (position (bytes_eq text) (signal_names circuit))
       (signal_denoted circuit text (signal_names circuit) refl)
     where
-      at : (found : Option ℕ) → DenotesSignal circuit text found
-          → OrNot (NamesSignal circuit text)
+      at : (found : Option ℕ) → DenotesSignal circuit text found → OrNot (NamesSignal circuit text)
       at None none = inr none
       at (Some number) is = inl (number, is.0, is.1)
 

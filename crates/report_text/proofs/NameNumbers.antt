@@ -18,8 +18,7 @@ module _ (circuit : Circuit) (name : List ℕ) where
       let at : (k : ℕ) → k < count → get_or numbers k 0 ≡ k =
       λ k below. get_or-range_with_len 0 count k 0 below ∙ omega arith in
       position_or_len_is test numbers number 0 (omega (arith, long, within))
-      (λ k before. ap test (at k (omega arith))
-      ∙ false_from_ne_true (test k)
+      (λ k before. ap test (at k (omega arith)) ∙ false_from_ne_true (test k)
       (λ same. none k before ((bytes_eq-Decides (register_name circuit k) name).0 same)))
       (λ below. ap test (at number (omega (arith, long, below)))
       ∙ (bytes_eq-Decides (register_name circuit number) name).1
@@ -83,8 +82,7 @@ other_register circuit register other name within is differs same =
           register_some circuit _ within (is ∙ sym same ∙ nameless other (omega (arith, past)))
     ]
   where
-    nameless : (number : ℕ) → length circuit.registers ≤ number
-        → register_name circuit number ≡ []
+    nameless : (number : ℕ) → length circuit.registers ≤ number → register_name circuit number ≡ []
     nameless number past = search (arith, slice_get_past)
 
 module _ (circuit : Circuit) (name : List ℕ) where

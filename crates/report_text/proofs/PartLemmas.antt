@@ -47,8 +47,7 @@ fraction_den num (pos den) some small small' = at (int_eq (pos den) (pos 1)) ref
     lacks : Lacks 47 (signed_decimal num)
     lacks = search (arith, lacks_slash, whole_no_slash, spelled_whole)
 
-    at : (whole : Bool) → int_eq (pos den) (pos 1) ≡ whole
-        → den_of (cond whole (signed_decimal num)
+    at : (whole : Bool) → int_eq (pos den) (pos 1) ≡ whole → den_of (cond whole (signed_decimal num)
         (signed_decimal num ++ 47 ∷ signed_decimal (pos den))) ≡ pos den
     at true is = search (arith, no_slash_found, lacks, Decides-int_eq)
     at false is = search (arith, slash_found, lacks, after_slash, value_of)
@@ -69,8 +68,7 @@ version_told Second = refl
 -- ---- how long the cycle is by the line that denotes it
 
 abbrev pub cycle_of : (word count : List ℕ) → ℕ
-cycle_of word count =
-    if bytes_eq word (codes "floor") then 0 else digits_value 10 count
+cycle_of word count = if bytes_eq word (codes "floor") then 0 else digits_value 10 count
 
 pub small_count : (count : ℕ) → count ≤ 9999 → HasSizeBelow (10 ^ 37) (pos count)
 small_count count few = record { above = omega (arith, ints); below = omega (arith, ints, few) }
@@ -105,9 +103,8 @@ module _ (text : List ℕ) (heading : Heading) (rest : List Words)
   denoted : (line place : ℕ) → word_at text line place ≡ get_or (get_or (version_line
       heading.version ∷ period_line heading.period ∷ shown_line heading.count ∷ rest) line
       (words_of [])) place []
-  denoted line place = ap (λ ws. get_or ws place [])
-      (sym (map_at (slice_split is_line_feed text) line)
-      ∙ ap (λ ls. get_or ls line (words_of [])) words)
+  denoted line place = ap (λ ws. get_or ws place []) (sym
+      (map_at (slice_split is_line_feed text) line) ∙ ap (λ ls. get_or ls line (words_of [])) words)
 
   denoted_version : version_denoted text ≡ heading.version
   denoted_version = search (arith, denoted, version_told)
@@ -118,8 +115,7 @@ module _ (text : List ℕ) (heading : Heading) (rest : List Words)
   denoted_cycle : cycle_denoted text ≡ count_of heading.count
   denoted_cycle = search (arith, denoted, shown_count)
 
-  pub forms_denoted : (tech : Tech)
-      → ◌≡◌ {A = Scale × Version × ℕ}
+  pub forms_denoted : (tech : Tech) → ◌≡◌ {A = Scale × Version × ℕ}
       (scale_denoted tech text, version_denoted text, cycle_denoted text)
       (scale_in tech heading.period, heading.version, count_of heading.count)
   forms_denoted tech = search (arith, denoted_den, denoted_version, denoted_cycle)
@@ -154,9 +150,8 @@ module _ {circuit : Circuit} {text : List ℕ} {new : Left} {heading : Heading}
       fault_given tech _ (read.faults (cycle_forms heading.version (count_of heading.count)
       ++ suffix) (Some fault) (stops named suffix))
 
-  module _ (tech : Tech) {further : Left} {shown : Shown}
-      (next : HasShown circuit (scale_in tech heading.period) heading.version heading.count new
-      further shown) where
+  module _ (tech : Tech) {further : Left} {shown : Shown} (next : HasShown circuit
+      (scale_in tech heading.period) heading.version heading.count new further shown) where
     -- a fault after that
     pub after_fault : (fault : Option ReportFault)
         → HasFirstFault circuit (scale_in tech heading.period)
@@ -168,10 +163,9 @@ module _ {circuit : Circuit} {text : List ℕ} {new : Left} {heading : Heading}
         fault_given tech _ (read.faults (cycle_forms heading.version (count_of heading.count)
         ++ suffix) fault (next.lines.faults suffix fault found))
 
-    pub body_fault : (fault : ReportFault)
-        → Stops circuit (scale_in tech heading.period)
-        (forms_after heading.version (length circuit.registers)) further fault
-        → fault ≢ NoMemory → HasFault circuit tech text (Some fault)
+    pub body_fault : (fault : ReportFault) → Stops circuit (scale_in tech heading.period)
+        (forms_after heading.version (length circuit.registers)) further fault → fault ≢ NoMemory
+        → HasFault circuit tech text (Some fault)
     body_fault fault stops named =
         after_fault _ (subst (λ forms. HasFirstFault circuit (scale_in tech heading.period) forms
         further.line further.text (Some fault)) (append-nil (forms_after heading.version

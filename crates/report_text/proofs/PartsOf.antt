@@ -101,8 +101,7 @@ module _ (circuit : Circuit) (tech : Tech) (report : Report) (size : IsOfSize ci
       let at = arrival_of report.schedule.at in
       let rest = drop count report.tree.reach in
       let sinks = ap (sink_reaches tech) (map-map (λ (row : Timed). row.arrival) (timed_at report)
-      (range_with_len 0 count))
-      ∙ told_first (sink_reach tech) at report.tree.reach count (pos 0)
+      (range_with_len 0 count)) ∙ told_first (sink_reach tech) at report.tree.reach count (pos 0)
       (omega (arith, size.reaches))
       (λ k within. bounds.tree.sinks k (omega (arith, within, size.arrivals))) in
       let long : length rest ≡ count = omega (arith, length-drop count report.tree.reach) in

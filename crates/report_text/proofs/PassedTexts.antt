@@ -16,8 +16,7 @@ use Rattle.report_text.proofs.JudgedWords.{line_judged}
 
 -- by these forms there is no fault in what is left
 abbrev pub IsSound : Circuit → Scale → List Form → Left → Type 0
-IsSound circuit scale forms left =
-    HasFirstFault circuit scale forms left.line left.text None
+IsSound circuit scale forms left = HasFirstFault circuit scale forms left.line left.text None
 
 -- a value that is given up to a place, and after it no fault by the forms that are to follow
 pub record Passed {X : Type 0} (circuit : Circuit) (scale : Scale) (more : List Form)
@@ -37,8 +36,7 @@ record PassedLine (circuit : Circuit) (scale : Scale) (due : Form) (more : List 
 
 -- a line that ends there is taken
 line_taken : (old : Left) (end : ℕ) → (length old.text == 0) ≡ false
-    → position is_line_feed old.text ≡ Some end
-    → TakesLine old (take end old.text)
+    → position is_line_feed old.text ≡ Some end → TakesLine old (take end old.text)
     (record { line = old.line + 1; text = drop (end + 1) old.text })
 line_taken old end some found = search (arith, cut_within, length-take)
 
@@ -62,10 +60,9 @@ line_passed circuit scale due more old sound =
     at false (Some end) some found (Some flaw, has, is) = search (arith, none-some)
 
 -- where words without a flaw tell a value, the next line does
-pub denoted_passed : {X : Type 0} (circuit : Circuit) (scale : Scale) (due : Form)
-    (more : List Form)
-    → (Denotes : Words → X → Type 0) (old : Left)
-    → ((words : Words) → 0 < length words → IsFlawless circuit scale due words
+pub denoted_passed : {X : Type 0} (circuit : Circuit)
+    (scale : Scale) (due : Form) (more : List Form) → (Denotes : Words → X → Type 0)
+    (old : Left) → ((words : Words) → 0 < length words → IsFlawless circuit scale due words
     → (value : X) × Denotes words value) → IsSound circuit scale (due ∷ more) old
     → Passed circuit scale more (DenotesLine circuit scale due Denotes old)
 denoted_passed circuit scale due more Denotes old denotes sound =
@@ -80,15 +77,14 @@ denoted_passed circuit scale due more Denotes old denotes sound =
 
 -- so many steps, each of lines by the forms that are due at its place
 pub steps_passed : {X : Type 0} (circuit : Circuit) (scale : Scale) (more : List Form)
-    → (Has : ℕ → Left → X → Type 0) (count : ℕ) (due : ℕ → List Form)
-    → (forms : (place rest : ℕ) → List Form)
-    → ((place rest : ℕ) → forms place (suc rest) ≡ due place ++ forms (place + 1) rest)
+    → (Has : ℕ → Left → X → Type 0) (count : ℕ) (due : ℕ → List Form) → (forms : (place rest : ℕ)
+    → List Form) → ((place rest : ℕ) → forms place (suc rest) ≡ due place ++ forms (place + 1) rest)
     → ((place : ℕ) → forms place 0 ≡ [])
-    → ((place : ℕ) (suffix : List Form) (between : Left) (value : X) → place < count
-    → Has place between value → IsSound circuit scale (due place ++ suffix) between
+    → ((place : ℕ) (suffix : List Form) (between : Left) (value : X)
+    → place < count → Has place between value → IsSound circuit scale (due place ++ suffix) between
     → Passed circuit scale suffix (Has (place + 1)))
-    → (rest place : ℕ) → place + rest ≡ count → (between : Left) (value : X)
-    → Has place between value → IsSound circuit scale (forms place rest ++ more) between
+    → (rest place : ℕ) → place + rest ≡ count → (between : Left)
+    (value : X) → Has place between value → IsSound circuit scale (forms place rest ++ more) between
     → Passed circuit scale more (Has count)
 steps_passed circuit scale more Has count due forms begins ends next zero place last between value
     has sound = search arith
@@ -149,8 +145,7 @@ module _ (circuit : Circuit) (scale : Scale) where
       → IsSound circuit scale (cycle_forms version.Second count ++ more) old
       → Passed circuit scale more (HasPathed circuit scale count old)
   pathed_passed count more old sound = steps_passed circuit scale more
-      (λ place. HasPathed circuit scale place old) count
-      (λ place. form.Constraint ∷ form.Path ∷ [])
+      (λ place. HasPathed circuit scale place old) count (λ place. form.Constraint ∷ form.Path ∷ [])
       (λ place rest. cycle_forms version.Second rest) (λ place rest. refl) (λ place. refl) next
       count 0 (omega arith) old (record { cycle = []; paths = [] })
       (search (arith, read_none circuit scale old)) sound
@@ -183,16 +178,14 @@ module _ (circuit : Circuit) (scale : Scale) where
   -- so many lines after how many they are
   counted_passed : {X : Type 0} (keyword : Keyword) (due : ℕ → Form)
       (Says : ℕ → Words → X → Type 0) (first count : ℕ) (more : List Form) → count < 10 ^ 37
-      → IsFound circuit scale due Says first count → (old : Left)
-      → IsSound circuit scale
+      → IsFound circuit scale due Says first count → (old : Left) → IsSound circuit scale
       ((form.Count keyword count ∷ map due (range_with_len first count)) ++ more) old
       → Passed circuit scale more (Counted circuit scale keyword due Says first count old)
   counted_passed keyword due Says first count more few found old sound =
       let line = denoted_passed _ _ _ _ (λ words (denoted : ℕ). words ≡ count_line (keyword_text
       keyword) count) old (λ words some flawless. (
         0,
-        count_found circuit scale keyword count words
-            few flawless,
+        count_found circuit scale keyword count words few flawless,
       )) sound in
       let rows = rows_passed due Says first count more line.new found line.rest in
       record {
@@ -228,16 +221,14 @@ module _ (circuit : Circuit) (scale : Scale) where
       → Passed circuit scale more (HasBody circuit scale version count old)
   body_passed version count more old small few sound =
       let last : List Form = form.Total ∷ more in
-      let apart = subst (λ forms. IsSound circuit scale forms old)
-      (append_assoc (register_forms count ++ lead_forms version count ++ merge_forms count
-      ++ form.Source ∷ node_forms count) (form.Total ∷ []) more
-      ∙ sections_apart (register_forms count) (lead_forms version count) (merge_forms count)
-      (form.Source ∷ node_forms count) last) sound in
+      let apart = subst (λ forms. IsSound circuit scale forms old) (append_assoc
+      (register_forms count ++ lead_forms version count ++ merge_forms count ++ form.Source
+      ∷ node_forms count) (form.Total ∷ []) more ∙ sections_apart (register_forms count)
+      (lead_forms version count) (merge_forms count) (form.Source ∷ node_forms count) last) sound in
       let timings = counted_passed word.Registers form.Register (DenotesTimed circuit scale) 0 count
       (lead_forms version count ++ (merge_forms count ++ (form.Source ∷ node_forms count ++ last)))
       (omega (arith, few)) (λ number words within some. timed_found circuit scale number words
-      small)
-      old apart in
+      small) old apart in
       let leads = version_leads_passed version count
       (merge_forms count ++ (form.Source ∷ node_forms count ++ last)) timings.new timings.rest in
       let merged = counted_passed word.Merges form.Merge (SaysMerge circuit scale.grid) count
@@ -341,11 +332,10 @@ shown_passed circuit scale Second (Some count) more old small sound =
 
 -- after the heading the forms are those that it denotes
 forms_given : {circuit : Circuit} {text : List ℕ} {new : Left} {heading : Heading}
-    → HasHeading circuit (whole text) new heading → (tech : Tech)
-    → IsSound circuit (scale_denoted tech text)
-    (cycle_forms (version_denoted text) (cycle_denoted text)
-    ++ forms_after (version_denoted text) (length circuit.registers)) new
-    → IsSound circuit (scale_in tech heading.period)
+    → HasHeading circuit (whole text) new heading
+    → (tech : Tech) → IsSound circuit (scale_denoted tech text)
+    (cycle_forms (version_denoted text) (cycle_denoted text) ++ forms_after (version_denoted text)
+    (length circuit.registers)) new → IsSound circuit (scale_in tech heading.period)
     (cycle_forms heading.version (count_of heading.count)
     ++ forms_after heading.version (length circuit.registers)) new
 forms_given {circuit} {text} {new} {heading} has tech =
@@ -400,8 +390,7 @@ report_spelled circuit tech text sound =
     (report_denoted tech parts, parts_spelled has)
 
 -- a text has a first fault by forms, or has none
-forms_judged : (circuit : Circuit) (scale : Scale) (forms : List Form) (line : ℕ)
-    → (text : List ℕ)
+forms_judged : (circuit : Circuit) (scale : Scale) (forms : List Form) (line : ℕ) → (text : List ℕ)
     → (fault : Option ReportFault) × HasFirstFault circuit scale forms line text fault
 forms_judged circuit scale [] line text = (_, refl)
 forms_judged circuit scale (due ∷ more) line text =

@@ -28,8 +28,7 @@ pub constraint_is : (circuit : Circuit) (constraint : Constraint)
     → IsLine (line_for circuit constraint)
 constraint_is circuit constraint = at constraint.setup
   where
-    at : (setup : Bool) → IsLine (if setup
-        then constraint_line
+    at : (setup : Bool) → IsLine (if setup then constraint_line
         (codes "setup") circuit constraint.tail constraint.head constraint.weight
         else constraint_line
         (codes "hold") circuit constraint.head constraint.tail constraint.weight)
@@ -127,8 +126,7 @@ source_is circuit report = search (arith, quotient_word, show_are)
 points_are : (report : Report) (points : List Point)
     → AreWords (flat_map (point_words report) points)
 points_are report [] = tt
-points_are report (point ∷ points) =
-    search (quotient_word, points_are report points)
+points_are report (point ∷ points) = search (quotient_word, points_are report points)
 
 -- the line of a node
 node_is : (circuit : Circuit) (report : Report) (node : ℕ)

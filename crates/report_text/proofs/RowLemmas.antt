@@ -38,9 +38,8 @@ module _ {X : Type 0} (Says : ℕ → Words → X → Type 0) where
 
   -- and each row has what its line gives
   pub rows_all : (P : X → Type 0)
-      → ((number : ℕ) (words : Words) (row : X) → Says number words row → P row)
-      → (first : ℕ) (lines : List Words) (rows : List X) → SayEach Says first lines rows
-      → All P rows
+      → ((number : ℕ) (words : Words) (row : X) → Says number words row → P row) → (first : ℕ)
+      (lines : List Words) (rows : List X) → SayEach Says first lines rows → All P rows
   rows_all P has first [] [] each = All-nil P
   rows_all P has first (words ∷ lines) (row ∷ rows) each = All-cons P row rows
       (has first words row each.0) (rows_all P has (first + 1) lines rows each.1)
@@ -53,8 +52,7 @@ plain_lines line first [] = refl
 plain_lines line first (row ∷ rows) = search (arith, plain_lines line (first + 1) rows)
 
 -- forms that are numbered
-numbered_step : (due : ℕ → Form) (first place : ℕ)
-    → map due (range_with_len first (place + 1))
+numbered_step : (due : ℕ → Form) (first place : ℕ) → map due (range_with_len first (place + 1))
     ≡ map due (range_with_len first place) ++ due (first + place) ∷ []
 numbered_step due first place = map-range_with_len_more due first place (first + place) refl
 
@@ -65,9 +63,8 @@ one_form due first zero = refl
 one_form due first (suc count) = ap (λ forms. due ∷ forms) (one_form due (first + 1) count)
 
 -- the lines of numbers, where each is that of a row
-numbered_lines : {X : Type 0} (f : ℕ → Words) (line : ℕ → X → Words) (default : X)
-    (start first : ℕ) (rows : List X)
-    → ((place node number : ℕ) → start + place ≡ node → first + place ≡ number
+numbered_lines : {X : Type 0} (f : ℕ → Words) (line : ℕ → X → Words) (default : X) (start first : ℕ)
+    (rows : List X) → ((place node number : ℕ) → start + place ≡ node → first + place ≡ number
     → place < length rows → f node ≡ line number (get_or rows place default))
     → map f (range_with_len start (length rows)) ≡ lines_of line first rows
 numbered_lines f line default start first [] same = refl
@@ -77,11 +74,9 @@ numbered_lines f line default start first (row ∷ rows) same =
     node number (omega (arith, is)) (omega (arith, is')) (omega (arith, within))))
 
 -- of numbers from 0 on
-pub numbered_rows : {X : Type 0} (f : ℕ → Words) (line : ℕ → X → Words) (default : X)
-    (first : ℕ) (rows : List X)
-    → ((place : ℕ) → place < length rows
-    → f place ≡ line (first + place) (get_or rows place default))
-    → map f (range_with_len 0 (length rows)) ≡ lines_of line first rows
+pub numbered_rows : {X : Type 0} (f : ℕ → Words) (line : ℕ → X → Words) (default : X) (first : ℕ)
+    (rows : List X) → ((place : ℕ) → place < length rows → f place ≡ line (first + place)
+    (get_or rows place default)) → map f (range_with_len 0 (length rows)) ≡ lines_of line first rows
 numbered_rows f line default first rows same =
     numbered_lines f line default 0 first rows (λ place node number is is' within.
     let here : node ≡ place = omega (arith, is) in
@@ -102,8 +97,7 @@ module _ {X : Type 0} {circuit : Circuit} {scale : Scale} (due : ℕ → Form)
     -- one more row
     pub rows_next : (rows' : List X) (row : X) (new : Left)
         → DenotesLine circuit scale (due (first + place)) (Says (first + place)) between new row
-        → rows' ≡ rows ++ row ∷ []
-        → HasRows circuit scale due Says first (place + 1) old new rows'
+        → rows' ≡ rows ++ row ∷ [] → HasRows circuit scale due Says first (place + 1) old new rows'
     rows_next rows' row new next is = record {
       lines = has.lines ++ next.words ∷ [];
       read = next_read _ (λ n. due (first + n) ∷ []) (numbered_step due first) _ _ _ _ _ _ _
@@ -129,8 +123,7 @@ module _ {X : Type 0} {circuit : Circuit} {scale : Scale} {keyword : Keyword} {d
   pub counted_read : Reads circuit scale
       (form.Count keyword count ∷ map due (range_with_len first count))
       (count_line (keyword_text keyword) count ∷ has.has.lines) old new
-  counted_read =
-      read_more (has.counted.read scale has.counted.flawless) _ _ new has.has.read
+  counted_read = read_more (has.counted.read scale has.counted.flawless) _ _ new has.has.read
 
   pub counted_number : new.line ≡ old.line + 1 + count
   counted_number =
@@ -150,11 +143,10 @@ length_pathed zero = refl
 length_pathed (suc place) = omega (arith, length_pathed place)
 
 -- its lines
-pathed_more : (circuit : Circuit) (cycle : List Constraint) (paths : List (List ℕ))
-    (constraint : Constraint) (path : List ℕ) → length cycle ≡ length paths
+pathed_more : (circuit : Circuit) (cycle : List Constraint)
+    (paths : List (List ℕ)) (constraint : Constraint) (path : List ℕ) → length cycle ≡ length paths
     → pathed_lines circuit (cycle ++ constraint ∷ []) (paths ++ path ∷ [])
-    ≡ pathed_lines circuit cycle paths
-    ++ line_for circuit constraint ∷ path_line circuit path ∷ []
+    ≡ pathed_lines circuit cycle paths ++ line_for circuit constraint ∷ path_line circuit path ∷ []
 pathed_more circuit [] [] constraint path as_many = refl
 pathed_more circuit (first ∷ cycle) (way ∷ paths) constraint path as_many =
     search (arith, pathed_more circuit cycle paths constraint path (omega arith))
@@ -162,13 +154,11 @@ pathed_more circuit cycle paths constraint path as_many = absurd (omega arith)
 
 -- one more constraint and its path
 pub pathed_next : {circuit : Circuit} {scale : Scale} {place : ℕ} {old between new : Left}
-    (middle : Left) (pathed pathed' : Pathed) (constraint : Constraint)
-    (path : PathLine) → HasPathed circuit scale place old between pathed
-    → DenotesLine circuit scale form.Constraint
+    (middle : Left) (pathed pathed' : Pathed) (constraint : Constraint) (path : PathLine)
+    → HasPathed circuit scale place old between pathed → DenotesLine circuit scale form.Constraint
     (DenotesConstraint circuit) between middle constraint
     → DenotesLine circuit scale form.Path (λ words line. DenotesPath circuit words line.signals)
-    middle new path
-    → pathed'.cycle ≡ pathed.cycle ++ constraint ∷ []
+    middle new path → pathed'.cycle ≡ pathed.cycle ++ constraint ∷ []
     → pathed'.paths ≡ pathed.paths ++ path.signals ∷ []
     → HasPathed circuit scale (place + 1) old new pathed'
 pathed_next {circuit} {scale} {place} {old} {between} {new} middle pathed pathed' constraint path

@@ -134,8 +134,7 @@ takes_none circuit left = search arith
 -- words, and more after them
 pub takes_then : {circuit : Circuit} {fields fields' : List Field} {texts texts' : Words}
     {Holds Holds' : Type 0} {old between new : LineLeft}
-    → Takes circuit fields texts Holds old between
-    → Takes circuit fields' texts' Holds' between new
+    → Takes circuit fields texts Holds old between → Takes circuit fields' texts' Holds' between new
     → Takes circuit (fields ++ fields') (texts ++ texts') (Holds × Holds') old new
 takes_then {circuit} {fields} {fields'} {texts} {texts'} {Holds} {Holds'} {old} {between} {new}
     first second = record {
@@ -183,9 +182,8 @@ whole_line circuit fields words flaw (found, has, is) = search (arith, none_soon
 -- all words of a form
 pub form_read : {circuit : Circuit} {scale : Scale} {form : Form} {fields : List Field}
     {texts : Words} {Holds : Type 0} {old new : LineLeft} {Says : Words → Type 0}
-    → fields_of circuit scale form old.words ≡ fields
-    → Takes circuit fields texts Holds old new → (old.words ≡ texts → Holds → Says old.words)
-    → ReadsForm circuit scale form Says old new
+    → fields_of circuit scale form old.words ≡ fields → Takes circuit fields texts Holds old new
+    → (old.words ≡ texts → Holds → Says old.words) → ReadsForm circuit scale form Says old new
 form_read {circuit} {scale} {form} {fields} {texts} {Holds} {old} {new} are takes says = record {
   judged = λ flaw ends.
       subst (λ fs. EndsIn circuit fs old flaw) (append-nil fields ∙ sym are)
@@ -293,8 +291,7 @@ module _ (circuit : Circuit) where
         length-append signals (signal ∷ []) ∙ omega (arith, first.0),
         subst (λ (fields : List Field). Takes circuit fields
             (map (signal_name circuit) (signals ++ signal ∷ []))
-            (among (signals ++ signal ∷ [])) old new)
-            (replicate_more count field.Signal)
+            (among (signals ++ signal ∷ [])) old new) (replicate_more count field.Signal)
             (subst (λ (texts : Words). Takes circuit (replicate count field.Signal
             ++ field.Signal ∷ []) texts (among (signals ++ signal ∷ [])) old new)
             (sym (map_push (signal_name circuit) signals signal)) all),
@@ -312,9 +309,8 @@ module _ (circuit : Circuit) where
       → words ≡ codes "path" ∷ signed_decimal (pos count) ∷ map (signal_name circuit) path
       → DenotesPath circuit words path
   path_read {count} {words} path long some few within are = record {
-    line = printed path (omega (arith, some, long))
-        (are ∙ ap (λ n. codes "path" ∷ signed_decimal (pos n)
-        ∷ map (signal_name circuit) path) (sym long));
+    line = printed path (omega (arith, some, long)) (are ∙ ap (λ n. codes "path" ∷ signed_decimal
+        (pos n) ∷ map (signal_name circuit) path) (sym long));
     signals = within;
     few = omega (arith, few, long);
   }
@@ -354,10 +350,9 @@ corner_read scale start count corners point between new has within next =
       };
       taken = λ circuit.
           let two = takes_then (has.taken circuit) (next circuit) in
-          subst (λ fields. Takes circuit fields (flat_map (coordinates scale.grid)
-          (take (count + 1) (set corners count point)))
-          (All (IsPointBelow (10 ^ 32)) (take (count + 1) (set corners count point))) start new)
-          (replicate-append-replicate (2 * count) 2 field
+          subst (λ fields. Takes circuit fields (flat_map (coordinates scale.grid) (take (count + 1)
+          (set corners count point))) (All (IsPointBelow (10 ^ 32)) (take (count + 1)
+          (set corners count point))) start new) (replicate-append-replicate (2 * count) 2 field
           ∙ ap (λ n. replicate n field) (omega arith))
           (rw (more, flat_map-append (coordinates scale.grid) (take count corners) (point ∷ []))
           (takes_so two (λ holds. All-push (IsPointBelow (10 ^ 32)) (take count corners) point

@@ -9,9 +9,8 @@ use Rattle.report_text.proofs.NumberWords.{below_bound, denoted_steps, smaller, 
 
 -- eight million times a period's denominator and a wire's numerator
 grid_within : (den wire : ℤ) → pos 1 ≤ℤ den → den ≤ℤ pos 4097 → pos 1 ≤ℤ wire
-    → wire ≤ℤ pos 1000000
-    → (pos 1 ≤ℤ (pos (10 ^ 6) *ℤ (pos 8 *ℤ den *ℤ wire)))
-    × IsBelow (10 ^ 37) (pos (10 ^ 6) *ℤ (pos 8 *ℤ den *ℤ wire))
+    → wire ≤ℤ pos 1000000 → (pos 1 ≤ℤ (pos (10 ^ 6) *ℤ (pos 8 *ℤ den *ℤ wire))) × IsBelow (10 ^ 37)
+    (pos (10 ^ 6) *ℤ (pos 8 *ℤ den *ℤ wire))
 grid_within (pos den) (pos wire) some few some' few' = search (arith, ints, one-le-mul, mul-le)
 grid_within (negsuc den) wire some few some' few' = absurd (omega (arith, ints))
 grid_within den (negsuc wire) some few some' few' = absurd (omega (arith, ints))
@@ -94,8 +93,7 @@ Admits circuit field.Period period = IsSmallPeriod period
 Admits circuit (field.Steps over bound) steps = IsBelow (nat_abs bound) steps
 Admits circuit (field.Slack over bound) slack = IsSmallSlack over slack
 Admits circuit field.Register register = register < length circuit.registers
-Admits circuit (field.Named register) value =
-    NamesRegister circuit (register_name circuit register)
+Admits circuit (field.Named register) value = NamesRegister circuit (register_name circuit register)
 Admits circuit (field.From first) register =
     (first ≤ register) × (register < length circuit.registers)
 Admits circuit field.Signal number = number < length circuit.signals
@@ -156,8 +154,7 @@ number_spelled least most word small (pos n) spells low high =
 number_spelled least most word small (negsuc n) spells low high = search (arith, ints)
 
 -- the numbers of a small period are small
-pub small_period : (period : Fraction) → IsSmallPeriod period
-    → HaveSmallSizes period.num period.den
+pub small_period : (period : Fraction) → IsSmallPeriod period → HaveSmallSizes period.num period.den
 small_period period small = search (arith, ints)
 
 -- ---- slacks

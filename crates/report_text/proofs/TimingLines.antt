@@ -154,8 +154,7 @@ lead_found circuit scale words flawless = at (is_word words 1 word.Zero) flawles
         let (constraint, says) = constraint_of circuit line.values.1.1 line.admitted.1.1 in (
           Tight depth constraint,
           record {
-            line = line.are
-                ∙ ap (λ ws. codes "lead" ∷ signed_decimal (pos depth) ∷ ws) says.line;
+            line = line.are ∙ ap (λ ws. codes "lead" ∷ signed_decimal (pos depth) ∷ ws) says.line;
             registers = says.registers;
             small = (some, few, says.weight);
           },
@@ -210,8 +209,7 @@ timed_found circuit scale register words small flawless =
 
 pub register_plain : (circuit : Circuit) (scale : Scale) (register : ℕ) (timed : Timed)
     → IsSmallScale scale → register < length circuit.registers → IsBelow (10 ^ 19) timed.arrival
-    → AreSmallSlacks scale.den timed.slack
-    → IsFlawless circuit scale (form.Register register)
+    → AreSmallSlacks scale.den timed.slack → IsFlawless circuit scale (form.Register register)
     (register_line circuit scale.den register timed.arrival timed.slack)
 register_plain circuit scale register timed small among below slacks =
     values_plain circuit (register_fields scale register) _ (small_register _ register small)
@@ -250,8 +248,7 @@ signals_found circuit (suc count) values admitted =
     }
 
 pub path_found : (circuit : Circuit) (scale : Scale) (words : Words)
-    → IsFlawless circuit scale form.Path words
-    → (path : List ℕ) × DenotesPath circuit words path
+    → IsFlawless circuit scale form.Path words → (path : List ℕ) × DenotesPath circuit words path
 path_found circuit scale words flawless = at (is_word words 1 word.Dash) flawless
   where
     at : (dash : Bool) → LineHasFlaw circuit (way_fields dash (length words - 2)) words None

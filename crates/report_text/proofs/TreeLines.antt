@@ -15,8 +15,7 @@ small_length scale small = (small.some_grid, small.small_grid, omega arith)
 -- ---- the whole wire
 
 pub total_found : (circuit : Circuit) (scale : Scale) (words : Words) → IsSmallScale scale
-    → IsFlawless circuit scale form.Total words
-    → (total : ℤ) × SaysTotal scale.grid words total
+    → IsFlawless circuit scale form.Total words → (total : ℤ) × SaysTotal scale.grid words total
 total_found circuit scale words small flawless =
     let line = line_spelled circuit (total_fields scale) words
     (tt, ((small.some_grid, small.small_grid, omega arith), tt)) flawless in
@@ -59,9 +58,8 @@ merge_found circuit scale node words small below flawless =
       },
     )
 
-pub merge_plain : (circuit : Circuit) (scale : Scale) (node : ℕ) (words : Words)
-    (line : MergeLine) → IsSmallScale scale → node < 2 ^ 32
-    → SaysMerge circuit scale.grid node words line
+pub merge_plain : (circuit : Circuit) (scale : Scale) (node : ℕ) (words : Words) (line : MergeLine)
+    → IsSmallScale scale → node < 2 ^ 32 → SaysMerge circuit scale.grid node words line
     → IsFlawless circuit scale (form.Merge node) words
 merge_plain circuit scale node words line small below says =
     subst (IsFlawless circuit scale (form.Merge node)) (sym says.words_are)
@@ -197,9 +195,8 @@ record PointsFit (words : Words) : Type 0 where
 points_fit : (words : Words) → has_points words ≡ true → PointsFit words
 points_fit words is = search (arith, both, nat_le, Decides-eqb, leb-true)
 
-pub node_found : (circuit : Circuit) (scale : Scale) (node : ℕ) (words : Words)
-    → IsSmallScale scale → node < 2 ^ 32 → 0 < length words
-    → IsFlawless circuit scale (form.Node node) words
+pub node_found : (circuit : Circuit) (scale : Scale) (node : ℕ) (words : Words) → IsSmallScale scale
+    → node < 2 ^ 32 → 0 < length words → IsFlawless circuit scale (form.Node node) words
     → (line : NodeLine) × SaysNode scale.grid node words line
 node_found circuit scale node words small below some flawless =
     at (has_points words) refl flawless
@@ -230,9 +227,8 @@ node_found circuit scale node words small below some flawless =
           },
           record {
             words_are = line.are ∙ ap (λ ws. signed_decimal (pos node) ∷ quotient_text x scale.grid
-                ∷ quotient_text y scale.grid ∷ quotient_text edge scale.grid
-                ∷ signed_decimal (pos points) ∷ ws)
-                (drawn.are ∙ ap (flat_map (coordinates scale.grid)) (sym first));
+                ∷ quotient_text y scale.grid ∷ quotient_text edge scale.grid ∷ signed_decimal
+                (pos points) ∷ ws) (drawn.are ∙ ap (flat_map (coordinates scale.grid)) (sym first));
             place = record { x = x_below; y = y_below };
             edge = edge_below;
             wire = record {
@@ -255,8 +251,7 @@ node_found circuit scale node words small below some flawless =
 
     at : (has : Bool) → has_points words ≡ has
         → LineHasFlaw circuit (if has then node_fields scale node (points_of words) else []) words
-        None
-        → (line : NodeLine) × SaysNode scale.grid node words line
+        None → (line : NodeLine) × SaysNode scale.grid node words line
     at true is flawless =
         let fit = points_fit words is in of_points (points_of words) fit.some fit.few flawless
     at false is flawless = absurd (none words some flawless)
@@ -299,7 +294,6 @@ node_plain circuit scale node words line small below says =
     (small_node scale node _ small below wire.few) (record {
       values = (tt, (line.place.x, (line.place.y, (line.length, (tt, drawn.values)))));
       admitted = (tt, (says.place.x, (says.place.y, (says.edge, (tt, drawn.admitted)))));
-      are = says.words_are ∙ ap (λ ws. signed_decimal (pos node)
-          ∷ coordinates scale.grid line.place ++ quotient_text line.length scale.grid
-          ∷ signed_decimal (pos points) ∷ ws) drawn.are;
+      are = says.words_are ∙ ap (λ ws. signed_decimal (pos node) ∷ coordinates scale.grid line.place
+          ++ quotient_text line.length scale.grid ∷ signed_decimal (pos points) ∷ ws) drawn.are;
     }))

@@ -101,8 +101,7 @@ module _ {old new : Left} {line : List ℕ} (taken : TakesLine old line new) whe
       → words ≡ words_of line → IsFlawless circuit scale form words
       → ReadsLine circuit scale form words old new
   line_read circuit scale form words words_are flawless =
-      let is_line : line_of words ≡ line ++ 10 ∷ []
-      = ap line_of words_are
+      let is_line : line_of words ≡ line ++ 10 ∷ [] = ap line_of words_are
       ∙ ap (λ bytes. bytes ++ 10 ∷ []) (join_with_byte-slice_split 32 line) in
       record {
         some = subst (λ ws. 0 < length ws) (sym words_are)
@@ -110,8 +109,7 @@ module _ {old new : Left} {line : List ℕ} (taken : TakesLine old line new) whe
         flawless = flawless;
         read = λ other flawless'. record {
           text =
-              line_then
-              ∙ sym (append_assoc line (10 ∷ []) new.text)
+              line_then ∙ sym (append_assoc line (10 ∷ []) new.text)
               ∙ ap (λ bytes. bytes ++ new.text) (sym is_line ∙ sym (append-nil (line_of words)));
           words =
               ap (map words_of) line_cut
@@ -143,8 +141,7 @@ module _ {circuit : Circuit} {scale : Scale} {forms : List Form} {lines : List W
 
   -- lines, and a fault after them
   pub stop_after : (forms' : List Form) (fault : ReportFault)
-      → Stops circuit scale forms' between fault
-      → Stops circuit scale (forms ++ forms') old fault
+      → Stops circuit scale forms' between fault → Stops circuit scale (forms ++ forms') old fault
   stop_after forms' fault stops memory more = search (arith, append_assoc)
 
 -- a fault is the first whatever is to follow
@@ -156,19 +153,16 @@ stop_before circuit scale forms forms' left fault stops memory more = search (ar
 -- the fault of a text whose first line ends there, by the flaw of that line
 abbrev pub IsJudged : Circuit → Scale → (due : Form) (more : List Form) (line : ℕ) (text : List ℕ)
     → Option ReportFault → (end : ℕ) → Type 0
-IsJudged circuit scale due more line text fault end = (flaw : Option Flaw)
-    × LineHasFlaw circuit (fields_of circuit scale due (words_of (take end text)))
-    (words_of (take end text)) flaw
-    × MatchOption flaw
-    (HasFirstFault circuit scale more (line + 1) (drop (end + 1) text) fault)
+IsJudged circuit scale due more line text fault end = (flaw : Option Flaw) × LineHasFlaw circuit
+    (fields_of circuit scale due (words_of (take end text))) (words_of (take end text)) flaw
+    × MatchOption flaw (HasFirstFault circuit scale more (line + 1) (drop (end + 1) text) fault)
     (λ found. fault ≡ Some (fault_of due line found))
 
 -- and by where that line ends
 abbrev pub IsFaultAt : Circuit → Scale → (due : Form) (more : List Form) (line : ℕ) (text : List ℕ)
     → Option ReportFault → (none : Bool) (end : Option ℕ) → Type 0
 IsFaultAt circuit scale due more line text fault none end =
-    MatchBool none (fault ≡ Some (Missing line))
-    (MatchOption end (fault ≡ Some (BadLine line))
+    MatchBool none (fault ≡ Some (Missing line)) (MatchOption end (fault ≡ Some (BadLine line))
     (IsJudged circuit scale due more line text fault))
 
 -- a fault of the next line is the first, whatever is to follow
@@ -178,12 +172,10 @@ pub stop_line : (circuit : Circuit) (scale : Scale) (form : Form) (left : Left)
 stop_line circuit scale form left fault stops memory more =
     at (length left.text == 0) (position is_line_feed left.text) (stops memory)
   where
-    at : (none : Bool) (end : Option ℕ)
-        → MatchBool none (fault ≡ Missing left.line)
-        (MatchOption end (fault ≡ BadLine left.line)
-        (λ n. (flaw : Flaw) × LineHasFlaw circuit
-        (fields_of circuit scale form (words_of (take n left.text)))
-        (words_of (take n left.text)) (Some flaw) × (fault ≡ fault_of form left.line flaw)))
+    at : (none : Bool) (end : Option ℕ) → MatchBool none (fault ≡ Missing left.line)
+        (MatchOption end (fault ≡ BadLine left.line) (λ n. (flaw : Flaw) × LineHasFlaw circuit
+        (fields_of circuit scale form (words_of (take n left.text))) (words_of (take n left.text))
+        (Some flaw) × (fault ≡ fault_of form left.line flaw)))
         → IsFaultAt circuit scale form more left.line left.text (Some fault) none end
     at true end is = ap Some is
     at false None is = ap Some is
@@ -197,8 +189,7 @@ passed_on (Err passed) fault P is p = subst P (sym is) p
 
 -- forms that are due one after the other
 module _ (forms due : ℕ → List Form) (step : (n : ℕ) → forms (n + 1) ≡ forms n ++ due n) where
-  forms_after : (place more : ℕ) → (rest : List Form)
-      × (forms (place + more) ≡ forms place ++ rest)
+  forms_after : (place more : ℕ) → (rest : List Form) × (forms (place + more) ≡ forms place ++ rest)
   forms_after place zero = search (arith, append-nil)
   forms_after place (suc more) =
       let suffix = forms_after place more in (
@@ -244,10 +235,8 @@ one_first_fault circuit scale (due ∷ more) line text fault other is is' =
     (λ end. one_first_fault circuit scale more (line + 1) (drop (end + 1) text) fault other) is is'
   where
     at : (none : Bool) (end : Option ℕ)
-        → ((end : ℕ)
-        → HasFirstFault circuit scale more (line + 1) (drop (end + 1) text) fault
-        → HasFirstFault circuit scale more (line + 1) (drop (end + 1) text) other
-        → fault ≡ other)
+        → ((end : ℕ) → HasFirstFault circuit scale more (line + 1) (drop (end + 1) text) fault
+        → HasFirstFault circuit scale more (line + 1) (drop (end + 1) text) other → fault ≡ other)
         → IsFaultAt circuit scale due more line text fault none end
         → IsFaultAt circuit scale due more line text other none end → fault ≡ other
     at true end later is is' = is ∙ sym is'
@@ -292,8 +281,7 @@ line_reads circuit scale due words old rest is flawless text =
       some = ne_eqb (length old.text) 0
           (λ none. omega (arith, none, ap length cut, length-append bytes (10 ∷ rest)));
       end = ap (position is_line_feed) cut ∙ feed_found bytes rest (words_lack words is);
-      line_is = sym (ap (take (length bytes)) cut
-          ∙ take_at bytes (10 ∷ rest) (length bytes) refl);
+      line_is = sym (ap (take (length bytes)) cut ∙ take_at bytes (10 ∷ rest) (length bytes) refl);
       text = sym (ap (drop (length bytes + 1)) cut ∙ after_place 10 bytes rest);
       number = refl;
     } in

@@ -128,8 +128,7 @@ module _ (circuit : Circuit) where
         (other.arrival, (other.slack.setup, (other.slack.hold, tt)))
         ((small.some_den, small.small_den, omega arith), (den, (den, tt)))
         (says.small, (says.slacks.setup, (says.slacks.hold, tt)))
-        (says'.small, (says'.slacks.setup, (says'.slacks.hold, tt)))
-        (rest_of 1 words) in
+        (says'.small, (says'.slacks.setup, (says'.slacks.hold, tt))) (rest_of 1 words) in
         λ i. record {
           arrival = (same i).0;
           slack = record { setup = (same i).1.0; hold = (same i).1.1.0 };
@@ -185,8 +184,7 @@ module _ (circuit : Circuit) where
     one_points points others below below' same = absurd (omega (arith, ap length same))
 
     -- a wire is determined by its points
-    one_wire : (wire other : Wire) → IsSmallWire wire → IsSmallWire other
-        → wire.used ≡ other.used
+    one_wire : (wire other : Wire) → IsSmallWire wire → IsSmallWire other → wire.used ≡ other.used
         → take wire.used wire.corners ≡ take other.used other.corners → wire ≡ other
     one_wire wire other is is' used points =
         let origin : Point = record { x = pos 0; y = pos 0 } in
@@ -229,14 +227,12 @@ module _ (circuit : Circuit) where
 
 -- ---- lists of lines
 
-module _ {X : Type 0} (Says : ℕ → Words → X → Type 0) (line : ℕ → X → Words)
-    (one : (number : ℕ) (row other : X) → Says number (line number row) row
-    → Says number (line number other) other → line number row ≡ line number other
-    → row ≡ other) where
+module _ {X : Type 0} (Says : ℕ → Words → X → Type 0) (line : ℕ → X → Words) (one : (number : ℕ)
+    (row other : X) → Says number (line number row) row → Says number (line number other) other
+    → line number row ≡ line number other → row ≡ other) where
   -- rows are determined by their lines, and so is what stands after them
   one_rows : (first : ℕ) (rows others : List X) (rest rest' : List Words)
-      → length rows ≡ length others → All (IsTold Says line) rows
-      → All (IsTold Says line) others
+      → length rows ≡ length others → All (IsTold Says line) rows → All (IsTold Says line) others
       → lines_of line first rows ++ rest ≡ lines_of line first others ++ rest'
       → (rows ≡ others) × (rest ≡ rest')
   one_rows first [] [] rest rest' many told told' same = (refl, same)
@@ -278,9 +274,8 @@ module _ (circuit : Circuit) where
 
   -- how long a cycle is, by the line before it
   counts : (cycle other : List Constraint) → 1 ≤ length cycle → length cycle ≤ 9999
-      → 1 ≤ length other → length other ≤ 9999
-      → count_line (codes "cycle") (length cycle) ≡ count_line (codes "cycle") (length other)
-      → length cycle ≡ length other
+      → 1 ≤ length other → length other ≤ 9999 → count_line (codes "cycle")
+      (length cycle) ≡ count_line (codes "cycle") (length other) → length cycle ≡ length other
   counts cycle other some few some' few' same =
       one_value circuit (field.Number 1 9999) (length cycle) (length other) (omega arith)
       (some, few) (some', few') (ap (λ (w : Words). get_or w 1 []) same)
@@ -339,9 +334,8 @@ one_parts {circuit} {tech} {parts} {other} is is' lines =
     } in
     let of : ArePrintable circuit tech as_other = subst (ArePrintable circuit tech) same is' in
     let (shown, paths, after) = one_shown circuit parts.heading.version parts.shown.shown
-    other.shown.shown parts.shown.paths other.shown.paths _ _ is.shown of.shown
-    (from_line 2 (lines ∙ ap (λ (p : Parts). denoted_lines circuit
-    (scale_in tech p.heading.period) p) same)) in
+    other.shown.shown parts.shown.paths other.shown.paths _ _ is.shown of.shown (from_line 2 (lines
+    ∙ ap (λ (p : Parts). denoted_lines circuit (scale_in tech p.heading.period) p) same)) in
     let apart = sym (after_apart circuit scale parts) ∙ after
     ∙ after_apart circuit scale as_other in
     let timings = one_rows (DenotesTimed circuit scale) (timed_line circuit scale.den)
@@ -412,10 +406,9 @@ module _ (circuit : Circuit) (scale : Scale) where
     -- the lines of rows
     rows_flawless : {X : Type 0} (due : ℕ → Form) (Says : ℕ → Words → X → Type 0)
         (line : ℕ → X → Words) (first count : ℕ) (rows : List X) → length rows ≡ count
-        → All (IsTold Says line) rows
-        → ((number : ℕ) (row : X) → number < first + count → Says number (line number row) row
-        → IsFlawless circuit scale (due number) (line number row))
-        → AreFlawless (map due (range_with_len first count) ++ more)
+        → All (IsTold Says line) rows → ((number : ℕ) (row : X) → number < first + count
+        → Says number (line number row) row → IsFlawless circuit scale (due number)
+        (line number row)) → AreFlawless (map due (range_with_len first count) ++ more)
         (lines_of line first rows ++ rest)
     rows_flawless due Says line first zero [] many told plain = after
     rows_flawless due Says line first (suc count) (row ∷ rows) many told plain = (
@@ -440,9 +433,8 @@ module _ (circuit : Circuit) (scale : Scale) where
 
     -- constraints and their paths
     pathed_flawless : (cycle : List Constraint) (paths : List (List ℕ))
-        → length paths ≡ length cycle
-        → All (IsBetweenRegisters (length circuit.registers)) cycle → All HasSmallWeight cycle
-        → All (All (λ number. number < length circuit.signals)) paths
+        → length paths ≡ length cycle → All (IsBetweenRegisters (length circuit.registers)) cycle
+        → All HasSmallWeight cycle → All (All (λ number. number < length circuit.signals)) paths
         → All (λ path. length path ≤ 65536) paths
         → AreFlawless (cycle_forms Second (length cycle) ++ more)
         (pathed_lines circuit cycle paths ++ rest)
@@ -558,18 +550,15 @@ module _ {circuit : Circuit} {tech : Tech} {parts : Parts}
       → HasFault circuit tech (text_of (denoted_lines circuit scale parts)) None
   parts_sound are =
       let lines = denoted_lines circuit scale parts in
-      fault_by (text_of lines) parts.heading _
-      (lines_cut lines are ∙ ap (λ shows. version_line parts.heading.version
-      ∷ period_line parts.heading.period ∷ ((shows ++ lines_after circuit scale parts)
-      ++ ([] ∷ []) ∷ []))
+      fault_by (text_of lines) parts.heading _ (lines_cut lines are
+      ∙ ap (λ shows. version_line parts.heading.version ∷ period_line parts.heading.period
+      ∷ ((shows ++ lines_after circuit scale parts) ++ ([] ∷ []) ∷ []))
       (shown_first circuit parts.heading.version parts.shown.shown parts.shown.paths
       ∙ ap (λ count. shown_line count ∷ drop 1 (period_show_lines parts.heading.version circuit
-      parts.shown.shown parts.shown.paths)) (sym is.count)))
-      is.period
+      parts.shown.shown parts.shown.paths)) (sym is.count))) is.period
       (subst IsSmallCount (sym is.count) (small_shown parts.shown.shown is.shown.weights)) circuit
-      tech None (subst (λ counted. HasFirstFault circuit scale
-      (forms_of parts.heading.version (count_of counted) count) 1 (text_of lines) None)
-      (sym is.count) (no_first_fault circuit scale
+      tech None (subst (λ counted. HasFirstFault circuit scale (forms_of parts.heading.version
+      (count_of counted) count) 1 (text_of lines) None) (sym is.count) (no_first_fault circuit scale
       (forms_of parts.heading.version (count_of (count_shown parts.shown.shown)) count) lines 1 are
       parts_flawless))
 
@@ -585,9 +574,8 @@ one_report circuit tech text report other spells spells' =
     spells'.size spells'.bounds))) ∙ report_same _ tech _ spells'.size spells'.bounds
 
 -- two faults of a text as a report are the same
-pub one_fault : (circuit : Circuit) (tech : Tech) (text : List ℕ)
-    (fault other : Option ReportFault) → HasFault circuit tech text fault
-    → HasFault circuit tech text other → fault ≡ other
+pub one_fault : (circuit : Circuit) (tech : Tech) (text : List ℕ) (fault other : Option ReportFault)
+    → HasFault circuit tech text fault → HasFault circuit tech text other → fault ≡ other
 one_fault circuit tech text fault other is is' =
     one_first_fault circuit _ (forms_of (version_denoted text) (cycle_denoted text)
     (length circuit.registers)) 1 text _ other is is'
@@ -610,8 +598,7 @@ memory_or_not fault = inr (λ same. cc)
 -- it, unless for want of memory
 module _ (circuit : Circuit) (tech : Tech) (text : List ℕ) where
   -- answers each report that a text spells
-  pub spelled_read : (result : Result Report ReportFault)
-      → IfOk result (Spells circuit tech text)
+  pub spelled_read : (result : Result Report ReportFault) → IfOk result (Spells circuit tech text)
       → IfErr result (λ fault. fault ≢ NoMemory → HasFault circuit tech text (Some fault))
       → (report : Report) → Spells circuit tech text report
       → (result ≡ Ok report) ⊎ (result ≡ Err NoMemory)
@@ -626,8 +613,7 @@ module _ (circuit : Circuit) (tech : Tech) (text : List ℕ) where
   ]
 
   -- and each fault that a text has
-  pub fault_read : (result : Result Report ReportFault)
-      → IfOk result (Spells circuit tech text)
+  pub fault_read : (result : Result Report ReportFault) → IfOk result (Spells circuit tech text)
       → IfErr result (λ fault. fault ≢ NoMemory → HasFault circuit tech text (Some fault))
       → (fault : ReportFault) → HasFault circuit tech text (Some fault)
       → (result ≡ Err fault) ⊎ (result ≡ Err NoMemory)

@@ -91,10 +91,8 @@ name_word signal named = at (is_host signal.kind) named
     host_word : IsWord host_name
     host_word = search arith
 
-    at : (host : Bool)
-        → cond host (bytes_eq signal.name host_name)
-        (is_name signal.name && is_short signal.name) ≡ true
-        → IsWord signal.name
+    at : (host : Bool) → cond host (bytes_eq signal.name host_name)
+        (is_name signal.name && is_short signal.name) ≡ true → IsWord signal.name
     at true is = subst IsWord (sym ((bytes_eq-Decides signal.name host_name).0 is)) host_word
     at false is = search (arith, name_bytes, both, nat_le)
 
@@ -115,8 +113,7 @@ signal_word circuit number = named (slice_get circuit.signals number) (λ signal
 pub register_word : (circuit : Circuit) (register : ℕ) → IsWord (register_name circuit register)
 register_word circuit register = at (slice_get circuit.registers register)
   where
-    at : (number : Option ℕ)
-        → IsWord (option_map_or (λ signal. signal.name)
+    at : (number : Option ℕ) → IsWord (option_map_or (λ signal. signal.name)
         (option_and_then (slice_get circuit.signals) number) [])
     at None = tt
     at (Some number) = signal_word circuit number

@@ -6,8 +6,7 @@ pub put_together-requires-clause-period : goal.put_together-requires-clause-peri
 put_together-requires-clause-period c = c.requires.2.heading.small
 
 pub put_together-requires-clause-arrivals : goal.put_together-requires-clause-arrivals
-put_together-requires-clause-arrivals c =
-    arrivals_below (parts_printable c.requires.2)
+put_together-requires-clause-arrivals c = arrivals_below (parts_printable c.requires.2)
 
 pub returns : goal.returns
 returns c circuit text has = search (arith, parts_spelled, c.in_ok-report.ensures)

@@ -9,6 +9,5 @@ returns c =
     ∙ rw (
       c.loop-other.invariant,
       all,
-      join_with_byte-map
-          (λ other. other.now) 32 c.args.word.now c.args.others.now,
+      join_with_byte-map (λ other. other.now) 32 c.args.word.now c.args.others.now,
     ) (simp append_assoc)

@@ -10,9 +10,7 @@ push-requires-clause-room c = search (arith, signals_few, c.loop-signal.invarian
 
 pub loop-signal-preserved : goal.loop-signal-preserved
 loop-signal-preserved c =
-    c.in_ok-push.ensures
-    ∙ ap (λ n. c.loop-signal.names ++ n ∷ []) c.signal_name.ensures
+    c.in_ok-push.ensures ∙ ap (λ n. c.loop-signal.names ++ n ∷ []) c.signal_name.ensures
     ∙ ap (λ ns. ns ++ signal_name c.args.circuit.now c.loop-signal.signal ∷ [])
-    c.loop-signal.invariant
-    ∙ sym (map-range_with_len_more (signal_name c.args.circuit.now) 0 c.loop-signal.signal
-    c.loop-signal.signal (omega arith))
+    c.loop-signal.invariant ∙ sym (map-range_with_len_more
+    (signal_name c.args.circuit.now) 0 c.loop-signal.signal c.loop-signal.signal (omega arith))

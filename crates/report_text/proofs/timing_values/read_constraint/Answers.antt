@@ -7,10 +7,9 @@ returns-then-setup c =
     let circuit = c.args.rules.now.circuit.now in
     let weight = to_z-of_z w128 c.weight-weight.result
     (record { sfits = c.weight-weight.type_inv }) in
-    constraint_taken true (rw c.if-setup.true at (takes_then (c.kind-setup.ensures circuit)
+    constraint_taken _ (rw c.if-setup.true at (takes_then (c.kind-setup.ensures circuit)
     (takes_then c.register-launch.ensures.taken (takes_then c.register-capture.ensures.taken
-    (c.weight-weight.ensures circuit))))) _
-    (λ i. record {
+    (c.weight-weight.ensures circuit))))) _ (λ i. record {
       setup = c.if-setup.true i;
       tail = c.register-launch.result;
       head = c.register-capture.result;

@@ -12,5 +12,4 @@ pub returns : goal.returns
 returns c =
     subst (λ count. TakesSignals c.args.rules.now.circuit.now count c.loop-place.signals
     c.args.scan.now c.loop-place.scan)
-    (omega (arith, c.loop-place.auto._place-end, c.loop-place-test.false))
-    c.loop-place.invariant
+    (omega (arith, c.loop-place.auto._place-end, c.loop-place-test.false)) c.loop-place.invariant

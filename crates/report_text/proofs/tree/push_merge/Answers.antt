@@ -14,12 +14,11 @@ returns c =
     let second = signed_decimal (pos merge.second) in
     let words = show_words c.args.printed.now.circuit.now show in
     let begun = c.push_node.new.out.items in
-    let both = after_more begun _ _ (first ∷ []) (second ∷ [])
-    (rw c.as_slice.ensures at c.in_ok-push_number.ensures)
-    (rw c.as_slice.ensures at c.in_ok-push_number-2.ensures) in
-    let reached = after_more begun _ _ (first ∷ second ∷ []) (reach ∷ []) both
+    let both = after_more _ _ _ (first ∷ []) (second ∷ []) (rw c.as_slice.ensures at
+    c.in_ok-push_number.ensures) (rw c.as_slice.ensures at c.in_ok-push_number-2.ensures) in
+    let reached = after_more _ _ _ (first ∷ second ∷ []) (reach ∷ []) both
     (rw c.len.ensures at c.in_ok-push_reach.ensures) in
-    let shown = after_more begun _ _ (first ∷ second ∷ reach ∷ []) words reached
+    let shown = after_more _ _ _ (first ∷ second ∷ reach ∷ []) _ reached
     (rw c.show_at.ensures at c.in_ok-push_shown.ensures) in
     whole_line c.args.out.now.items begun _ _ (signed_decimal (pos node))
     (first ∷ second ∷ reach ∷ words) (rw c.len.ensures at c.in_ok-push_node.ensures) shown

@@ -9,10 +9,9 @@ returns c =
     let length = length_text report (number_at report.tree.length c.args.node) in
     let wire = wire_words report (slice_index_or report.wires c.args.node no_wire) in
     let begun = c.push_node.new.out.items in
-    let both = after_more begun _ _ place (length ∷ [])
-    (rw c.as_slice.ensures at c.in_ok-push_point.ensures)
-    c.in_ok-push_edge.ensures in
-    let drawn = after_more begun _ _ (place ++ length ∷ []) wire both
+    let both = after_more _ _ _ place (length ∷ []) (rw c.as_slice.ensures at
+    c.in_ok-push_point.ensures) c.in_ok-push_edge.ensures in
+    let drawn = after_more _ _ _ (place ++ length ∷ []) wire both
     (rw c.wire_at.ensures.value at c.in_ok-push_wire.ensures) in
     whole_line c.args.out.now.items begun _ _ (signed_decimal (pos c.args.node))
     (place ++ length ∷ wire) c.in_ok-push_node.ensures drawn c.in_ok-push.ensures.items

@@ -12,16 +12,13 @@ returns c =
     let nodes = count_line (codes "nodes") (length report.tree.length) in
     let node_lines = lines_below (node_line_at circuit report) (length report.tree.length) in
     let total = codes "wire" ∷ length_text report report.total ∷ [] in
-    let merged = lines_more c.args.out.now.items _ _ (merges ∷ []) merge_lines
-    (one_line c.args.out.now.items _ merges (rw c.len.ensures at c.in_ok-push_count.ensures))
-    c.in_ok-push_merges.ensures in
-    let counted = lines_more c.push_merges.new.out.items _ _ (source ∷ []) (nodes ∷ [])
-    (one_line c.push_merges.new.out.items _ source c.in_ok-push_source.ensures)
-    (one_line c.push_source.new.out.items _ nodes
-    (rw c.len-2.ensures at c.in_ok-push_count-2.ensures)) in
-    let placed = lines_more c.push_merges.new.out.items _ _ (source ∷ nodes ∷ []) node_lines
-    counted c.in_ok-push_nodes.ensures in
-    let both = lines_more c.args.out.now.items _ _ (merges ∷ merge_lines)
+    let merged = lines_more _ _ _ (merges ∷ []) _ (one_line _ _ merges (rw c.len.ensures at
+    c.in_ok-push_count.ensures)) c.in_ok-push_merges.ensures in
+    let counted = lines_more _ _ _ (source ∷ []) (nodes ∷ []) (one_line _ _ source
+    c.in_ok-push_source.ensures) (one_line _ _ nodes (rw c.len-2.ensures at
+    c.in_ok-push_count-2.ensures)) in
+    let placed = lines_more _ _ _ (source ∷ nodes ∷ []) _ counted c.in_ok-push_nodes.ensures in
+    let both = lines_more _ _ _ (merges ∷ merge_lines)
     (source ∷ nodes ∷ node_lines) merged placed in
-    lines_more c.args.out.now.items _ _ (merges ∷ merge_lines ++ source ∷ nodes ∷ node_lines)
-    (total ∷ []) both (one_line c.push_nodes.new.out.items _ total c.in_ok-push_total.ensures)
+    lines_more _ _ _ (merges ∷ merge_lines ++ source ∷ nodes ∷ node_lines)
+    (total ∷ []) both (one_line _ _ total c.in_ok-push_total.ensures)

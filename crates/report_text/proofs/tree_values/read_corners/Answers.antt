@@ -4,9 +4,11 @@ use Rattle.report_text.proofs.tree_values.read_corners.Goals as goal
 
 pub loop-place-preserved : goal.loop-place-preserved
 loop-place-preserved c =
-    corner_read c.args.rules.now.scale c.args.scan.now c.loop-place.place c.loop-place.corners
-    c.read_point.result c.loop-place.scan c.read_point.new.scan c.loop-place.invariant
-    (omega (arith, c.loop-place-test.true, c.requires)) c.read_point.ensures
+    corner_read _ _ _ _ _ _ _ c.loop-place.invariant (omega (
+      arith,
+      c.loop-place-test.true,
+      c.requires,
+    )) c.read_point.ensures
 
 pub returns-clause-taken : goal.returns-clause-taken
 returns-clause-taken c =

@@ -9,31 +9,26 @@ returns-then-is_negative-clause-flaw c circuit =
 pub returns-in_err-period-clause-flaw : goal.returns-in_err-period-clause-flaw
 returns-in_err-period-clause-flaw c circuit =
     let word = c.args.word.now in
-    let flaw = c.in_err-period.field-0.0 in
-    passed_flaw _ flaw (WordHasFlaw circuit Period word) c.from_residual.ensures.1 (period_refused
-    word flaw c.in_err-period.ensures.refused (λ negative. let bad = c.if-is_negative.ensures.1
+    passed_flaw _ _ (WordHasFlaw circuit Period word) c.from_residual.ensures.1 (period_refused
+    _ _ c.in_err-period.ensures.refused (λ negative. let bad = c.if-is_negative.ensures.1
     negative in cc) circuit)
 
-pub returns-then-not-is_small_period-clause-flaw :
-    goal.returns-then-not-is_small_period-clause-flaw
+pub returns-then-not-is_small_period-clause-flaw : goal.returns-then-not-is_small_period-clause-flaw
 returns-then-not-is_small_period-clause-flaw c circuit =
-    let word = c.args.word.now in
     let period = c.in_ok-period.period in
     let spells = c.in_ok-period.ensures.spelled.0 in
-    let some = from_zero word period.num period.den spells
+    let some = from_zero _ _ _ spells
     (λ negative. let bad = c.if-is_negative.ensures.1 negative in cc) in
-    period_past word period.num period.den spells circuit period.lowest some (λ within.
+    period_past _ _ _ spells circuit period.lowest some (λ within.
     let bad = c.if-not-is_small_period.ensures.1 within in cc)
 
 pub returns-clause-flaw : goal.returns-clause-flaw
 returns-clause-flaw c circuit =
-    let word = c.args.word.now in
     let period = c.in_ok-period.period in
     let spells = c.in_ok-period.ensures.spelled.0 in
-    let some = from_zero word period.num period.den spells
+    let some = from_zero _ _ _ spells
     (λ negative. let bad = c.if-is_negative.ensures.1 negative in cc) in
-    period_within word period.num period.den spells circuit period.lowest some
-    (c.if-not-is_small_period.ensures.0 refl)
+    period_within _ _ _ spells circuit period.lowest some (c.if-not-is_small_period.ensures.0 refl)
 
 pub returns-clause-value : goal.returns-clause-value
 returns-clause-value c = search (arith, from_zero)

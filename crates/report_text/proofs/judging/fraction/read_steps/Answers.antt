@@ -6,10 +6,9 @@ use Rattle.report_text.proofs.judging.fraction.read_steps.Goals as goal
 pub returns-in_err-fraction-clause-flaw : goal.returns-in_err-fraction-clause-flaw
 returns-in_err-fraction-clause-flaw c circuit =
     let word = c.args.word.now in
-    let flaw = c.in_err-fraction.field-0.0 in
-    passed_flaw c.from_residual.result flaw
+    passed_flaw _ _
     (WordHasFlaw circuit (Steps c.args.over c.args.bound) word) c.from_residual.ensures.1
-    (steps_refused c.args.over c.args.bound word flaw c.in_err-fraction.ensures.refused circuit)
+    (steps_refused c.args.over c.args.bound _ _ c.in_err-fraction.ensures.refused circuit)
 
 pub returns-clause-flaw : goal.returns-clause-flaw
 returns-clause-flaw c circuit =

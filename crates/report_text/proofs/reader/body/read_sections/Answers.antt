@@ -37,8 +37,7 @@ read-requires-2 c =
 pub returns-in_err-timings-clause-fault : goal.returns-in_err-timings-clause-fault
 returns-in_err-timings-clause-fault c =
     let count = c.args.count in
-    passed_on _ _ _ c.from_residual.ensures.1
-    (stops_within (forms_after c.args.version count)
+    passed_on _ _ _ c.from_residual.ensures.1 (stops_within (forms_after c.args.version count)
     [] (register_forms count) (lead_forms c.args.version count
     ++ merge_forms count ++ form.Source ∷ node_forms count ++ form.Total ∷ [])
     (simp append_assoc) _ (read_none c.args.rules.now.circuit.now c.args.rules.now.scale
@@ -47,9 +46,8 @@ returns-in_err-timings-clause-fault c =
 pub returns-in_err-leads-clause-fault : goal.returns-in_err-leads-clause-fault
 returns-in_err-leads-clause-fault c =
     let count = c.args.count in
-    passed_on _ _ _ c.from_residual-in_err-leads.ensures.1
-    (stops_within (forms_after c.args.version count)
-    (register_forms count) (lead_forms c.args.version count)
+    passed_on _ _ _ c.from_residual-in_err-leads.ensures.1 (stops_within
+    (forms_after c.args.version count) (register_forms count) (lead_forms c.args.version count)
     (merge_forms count ++ form.Source ∷ node_forms count ++ form.Total ∷ [])
     (search (arith, append_assoc)) _ (counted_read c.in_ok-timings.ensures.ok)
     c.in_err-leads.ensures.fault)
@@ -59,19 +57,17 @@ returns-in_err-merged-clause-fault c =
     let count = c.args.count in
     let leads = read_more (counted_read c.in_ok-timings.ensures.ok)
     (lead_forms c.args.version count) _ _ c.in_ok-leads.ensures.ok.read in
-    passed_on _ _ _ c.from_residual-in_err-merged.ensures.1
-    (stops_within (forms_after c.args.version count)
-    (register_forms count ++ lead_forms c.args.version count) (merge_forms count)
-    (form.Source ∷ node_forms count ++ form.Total ∷ []) (simp append_assoc) _ leads
-    c.in_err-merged.ensures.fault)
+    passed_on _ _ _ c.from_residual-in_err-merged.ensures.1 (stops_within
+    (forms_after c.args.version count) (register_forms count ++ lead_forms c.args.version count)
+    (merge_forms count) (form.Source ∷ node_forms count ++ form.Total ∷ [])
+    (simp append_assoc) _ leads c.in_err-merged.ensures.fault)
 
 pub returns-in_err-source-clause-fault : goal.returns-in_err-source-clause-fault
 returns-in_err-source-clause-fault c =
     let count = c.args.count in
     let leads = read_more (counted_read c.in_ok-timings.ensures.ok)
-    (lead_forms c.args.version count) _ _ c.in_ok-leads.ensures.ok.read in
-    let merged = read_more leads (merge_forms count) _ _
-    (counted_read c.in_ok-merged.ensures.ok) in
+    _ _ _ c.in_ok-leads.ensures.ok.read in
+    let merged = read_more leads _ _ _ (counted_read c.in_ok-merged.ensures.ok) in
     passed_on _ _ _ c.from_residual-in_err-source.ensures.1
     (stops_within (forms_after c.args.version count)
     (register_forms count ++ lead_forms c.args.version count ++ merge_forms count)
@@ -83,12 +79,11 @@ pub returns-in_err-placed-clause-fault : goal.returns-in_err-placed-clause-fault
 returns-in_err-placed-clause-fault c =
     let count = c.args.count in
     let leads = read_more (counted_read c.in_ok-timings.ensures.ok)
-    (lead_forms c.args.version count) _ _ c.in_ok-leads.ensures.ok.read in
+    _ _ _ c.in_ok-leads.ensures.ok.read in
     let merged = read_more leads _ _ _ (counted_read c.in_ok-merged.ensures.ok) in
     let source = c.in_ok-source.ensures.ok.line.read c.args.rules.now.scale
     c.in_ok-source.ensures.ok.line.flawless in
-    passed_on _ _ _ c.from_residual-in_err-placed.ensures.1 (stops_within
-    (forms_after c.args.version count) _ (form.Source ∷ node_forms count) _ refl _ merged
+    passed_on _ _ _ c.from_residual-in_err-placed.ensures.1 (stops_within _ _ _ _ refl _ merged
     (stop_after source (node_forms count) _ c.in_err-placed.ensures.fault))
 
 pub returns-in_err-total-clause-fault : goal.returns-in_err-total-clause-fault

@@ -23,22 +23,19 @@ returns-in_err-version-clause-fault c = search (arith, passed_on, stop_before, s
 
 pub returns-in_err-period-clause-fault : goal.returns-in_err-period-clause-fault
 returns-in_err-period-clause-fault c =
-    passed_on _ _ _ c.from_residual-in_err-period.ensures.1
-    (λ scale. version_then c.in_ok-version.ensures.ok scale (form.Period ∷ form.Show ∷ [])
-    c.in_err-period.field-0.0
+    passed_on _ _ _ c.from_residual-in_err-period.ensures.1 (λ scale. version_then
+    c.in_ok-version.ensures.ok scale (form.Period ∷ form.Show ∷ []) _
     (stop_before c.args.rules.now.circuit.now scale (form.Period ∷ []) (form.Show ∷ [])
-    c.read.new.cursor c.in_err-period.field-0.0
-    (stop_line c.args.rules.now.circuit.now scale form.Period c.read.new.cursor
-    c.in_err-period.field-0.0 c.in_err-period.ensures.fault)))
+    c.read.new.cursor _ (stop_line c.args.rules.now.circuit.now scale form.Period c.read.new.cursor
+    _ c.in_err-period.ensures.fault)))
 
 pub returns-in_err-show-clause-fault : goal.returns-in_err-show-clause-fault
 returns-in_err-show-clause-fault c =
-    passed_on _ _ _ c.from_residual-in_err-show.ensures.1
-    (λ scale. version_then c.in_ok-version.ensures.ok scale (form.Period ∷ form.Show ∷ [])
-    c.in_err-show.field-0.0
-    (period_then c.in_ok-period.ensures.ok scale (form.Show ∷ []) c.in_err-show.field-0.0
-    (stop_line c.args.rules.now.circuit.now scale form.Show c.read-2.new.cursor
-    c.in_err-show.field-0.0 c.in_err-show.ensures.fault)))
+    passed_on _ _ _ c.from_residual-in_err-show.ensures.1 (λ scale. version_then
+    c.in_ok-version.ensures.ok scale (form.Period ∷ form.Show ∷ []) _
+    (period_then c.in_ok-period.ensures.ok scale (form.Show ∷ []) _
+    (stop_line c.args.rules.now.circuit.now scale form.Show c.read-2.new.cursor _
+    c.in_err-show.ensures.fault)))
 
 pub returns-clause-ok : goal.returns-clause-ok
 returns-clause-ok c =

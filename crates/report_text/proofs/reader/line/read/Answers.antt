@@ -18,7 +18,6 @@ pub returns-clause-fault : goal.returns-clause-fault
 returns-clause-fault g c =
     let are = ap (map (λ (word : Bor (List ℕ)). word.now)) c.as_slice.ensures.value
     ∙ c.in_ok-words.ensures.ok.2 in
-    line_stops c.in_ok-words.ensures.ok.0 are c.of-scan.ensures c.in_ok-words.ensures.ok.1
-    c.in_ok-line.ensures c.in-Some.flaw c.fault_of.result
-    (c.in-Some.ensures.judged c.args.rules.now.circuit.now)
-    (c.fault_of.ensures ∙ (λ i. fault_of (c.form.ensures i) (c.line-at.ensures i) c.in-Some.flaw))
+    line_stops _ are c.of-scan.ensures c.in_ok-words.ensures.ok.1 c.in_ok-line.ensures _ _
+    (c.in-Some.ensures.judged c.args.rules.now.circuit.now) (c.fault_of.ensures ∙ (λ i. fault_of
+    (c.form.ensures i) (c.line-at.ensures i) c.in-Some.flaw))

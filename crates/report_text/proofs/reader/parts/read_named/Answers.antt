@@ -5,9 +5,8 @@ use Rattle.report_text.proofs.reader.parts.read_named.Goals as goal
 
 pub returns-in_err-heading-clause-fault : goal.returns-in_err-heading-clause-fault
 returns-in_err-heading-clause-fault c =
-    passed_on _ _ _ c.from_residual.ensures.1
-    (heading_fault c.args.rules.circuit.now c.args.tech.now c.args.bytes.now
-    c.in_err-heading.field-0.0 (rw c.of-cursor.ensures at c.in_err-heading.ensures.fault))
+    passed_on _ _ _ c.from_residual.ensures.1 (heading_fault c.args.rules.circuit.now
+    c.args.tech.now c.args.bytes.now _ (rw c.of-cursor.ensures at c.in_err-heading.ensures.fault))
 
 pub read_rest-requires-clause-line : goal.read_rest-requires-clause-line
 read_rest-requires-clause-line c =

@@ -16,28 +16,21 @@ read-requires-in-loop-place c =
 
 pub returns-in_err-constraint-clause-fault : goal.returns-in_err-constraint-clause-fault
 returns-in_err-constraint-clause-fault c =
-    passed_on _ _ _ c.from_residual.ensures.1
-    (next_stops (cycle_forms version.Second) (λ n. form.Constraint ∷ form.Path ∷ []) pathed_step
-    c.loop-place._place c.args.count _ c.args.cursor.now c.loop-place.cursor
-    c.in_err-constraint.field-0.0 c.loop-place-test.true c.loop-place.invariant.lines
-    (stop_before c.args.rules.now.circuit.now c.args.rules.now.scale (form.Constraint ∷ [])
-    (form.Path ∷ [])
-    c.loop-place.cursor c.in_err-constraint.field-0.0
+    passed_on _ _ _ c.from_residual.ensures.1 (next_stops (cycle_forms version.Second)
+    (λ n. form.Constraint ∷ form.Path ∷ []) pathed_step _ _ _ _ _ _ c.loop-place-test.true
+    c.loop-place.invariant.lines (stop_before c.args.rules.now.circuit.now c.args.rules.now.scale
+    (form.Constraint ∷ []) (form.Path ∷ []) c.loop-place.cursor _
     (stop_line c.args.rules.now.circuit.now c.args.rules.now.scale form.Constraint
-    c.loop-place.cursor
-    c.in_err-constraint.field-0.0 c.in_err-constraint.ensures.fault)))
+    c.loop-place.cursor _ c.in_err-constraint.ensures.fault)))
 
 pub returns-in_err-path-clause-fault : goal.returns-in_err-path-clause-fault
 returns-in_err-path-clause-fault c =
     let next = c.in_ok-constraint.ensures.ok in
-    passed_on _ _ _ c.from_residual-in_err-path.ensures.1
-    (next_stops (cycle_forms version.Second) (λ n. form.Constraint ∷ form.Path ∷ []) pathed_step
-    c.loop-place._place c.args.count _ c.args.cursor.now c.loop-place.cursor
-    c.in_err-path.field-0.0 c.loop-place-test.true c.loop-place.invariant.lines
-    (stop_after (next.line.read c.args.rules.now.scale next.line.flawless) (form.Path ∷ [])
-    c.in_err-path.field-0.0
-    (stop_line c.args.rules.now.circuit.now c.args.rules.now.scale form.Path c.read.new.cursor
-    c.in_err-path.field-0.0 c.in_err-path.ensures.fault)))
+    passed_on _ _ _ c.from_residual-in_err-path.ensures.1 (next_stops (cycle_forms version.Second)
+    (λ n. form.Constraint ∷ form.Path ∷ []) pathed_step _ _ _ _ _ _ c.loop-place-test.true
+    c.loop-place.invariant.lines (stop_after (next.line.read c.args.rules.now.scale
+    next.line.flawless) (form.Path ∷ []) _ (stop_line c.args.rules.now.circuit.now
+    c.args.rules.now.scale form.Path c.read.new.cursor _ c.in_err-path.ensures.fault)))
 
 pub loop-place-preserved : goal.loop-place-preserved
 loop-place-preserved c =

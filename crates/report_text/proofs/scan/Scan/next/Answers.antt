@@ -16,8 +16,7 @@ returns-in-Some-clause-taken c =
     ∙ sym (get_or-map read items taken c.in-Some.word.now [] found.0) in
     record {
       some = λ some. (
-        are ∙ drop_more words taken [] within
-            ∙ ap (λ w. w ∷ drop (taken + 1) words) (sym word),
+        are ∙ drop_more words taken [] within ∙ ap (λ w. w ∷ drop (taken + 1) words) (sym word),
         ap (λ (left : LineLeft). left.flaw) c.self.view_is,
       );
       none = λ none.

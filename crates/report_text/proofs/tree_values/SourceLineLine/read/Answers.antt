@@ -8,9 +8,8 @@ returns-then-is_root c =
     let circuit = c.args.rules.now.circuit.now in
     rw (to_z-of_z w128 c.length-reach.result (record { sfits = c.length-reach.type_inv }))
     (form_read (ap (shown_fields c.args.rules.now.scale)
-    (sym c.has_word-is_root.ensures ∙ c.if-is_root.true))
-    (takes_then (c.keyword.ensures circuit) (takes_then (c.length-reach.ensures circuit)
-    (c.keyword-then-is_root.ensures circuit)))
+    (sym c.has_word-is_root.ensures ∙ c.if-is_root.true)) (takes_then (c.keyword.ensures circuit)
+    (takes_then (c.length-reach.ensures circuit) (c.keyword-then-is_root.ensures circuit)))
     (λ are holds. record { words_are = are; reach = holds.1.0; show = tt; among = tt }))
 
 pub returns : goal.returns
