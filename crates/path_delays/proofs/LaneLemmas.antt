@@ -1,7 +1,7 @@
 -- Sums in lanes: that they keep within their limits, and what is shown of them.
 use Rattle.std.proofs.Common.{cond, ◌≡◌, ◌+◌, ◌≤◌, ℕ, pos, ◌≤ℤ◌, Bool, true, false, List, length, get_or, Option, Some, None, inl, inr, refl, sym, ◌∙◌, ap, subst, arith}
 use Rattle.std.specs.Prelude.{IsSome, int_lt}
-use Rattle.std.specs.Option.{option_and_then, option_map, unwrap_or}
+use Rattle.std.specs.Option.{option_and_then, option_map}
 use Rattle.std.proofs.lemmas.Bool.{cases_lt}
 use Rattle.std.proofs.lemmas.List.{get_or_past, get_or_default}
 use Rattle.std.proofs.lemmas.Int.{clamps, ints}
@@ -262,16 +262,3 @@ bounded_read limit sums lane bounded = elim (cases_lt lane (length sums)) [
   where
     zero : Sums
     zero = record { least = pos 0; greatest = pos 0 }
-
--- what stood there, or nothing, is bounded
-pub stood_bounded : (limit : ℕ) (known : Option Sums)
-    → ((entry : Sums) → known ≡ Some entry → AreBounded limit entry)
-    → AreBounded limit (unwrap_or known no_sums)
-stood_bounded limit None before = inr (none_missing limit)
-stood_bounded limit (Some entry) before = before entry refl
-
--- and is there where it was
-pub stood_some : (known : Option Sums)
-    → some_sums (unwrap_or known no_sums) ≡ option_and_then some_sums known
-stood_some None = refl
-stood_some (Some entry) = refl

@@ -123,7 +123,7 @@ module _ (circuit : Circuit) (tech : Tech) where
     reach_shown network is reach rank within low spread top above signal below =
         reach_of_comes signal (sums_at reach lane signal)
         (carried_end circuit.signals delay Starts (LanesBelow (length registers) lane)
-        (AllBelow network rank lane) (sums_at reach lane) (spread.carried lane low)
+        (AllBelow network rank) (sums_at reach lane) (spread.carried lane low)
         (λ one start starts. within) (λ one. rank_at network one ≤ top)
         (λ read gate reads up_to. omega (arith, is.ranks.rising gate read reads)) all signal below)
         small

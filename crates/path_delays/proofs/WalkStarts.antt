@@ -23,11 +23,24 @@ use Rattle.path_delays.specs.Handing.{rank_at, lane_at, lanes_at, sums_at, IsCle
 use Rattle.path_delays.specs.Walking.{limit_at, AllBelow, AllBelowBut, BegunIn, IsSpread, IsSpreadBelow, LanesBelow, StartsIn}
 use Rattle.path_delays.proofs.CarryLemmas.{IsHandedBy, carried_joined, carried_none, carried_same, listed_next, shown_start}
 use Rattle.path_delays.proofs.SumLemmas.{around_itself}
-use Rattle.path_delays.proofs.LaneLemmas.{bounded_joined, some_is, some_mapped, some_merged, some_within, stood_bounded, stood_some}
+use Rattle.path_delays.proofs.LaneLemmas.{bounded_joined, none_missing, some_is, some_mapped, some_merged, some_within}
 use Rattle.path_delays.proofs.LaunchLemmas.{launched_lowest, launched_within}
 use Rattle.path_delays.proofs.NetworkDelays.{limit_within}
 use Rattle.path_delays.proofs.Rooms.{within_higher}
 use Rattle.path_delays.proofs.WalkSteps.{IsSpread-on}
+
+-- what stood there, or nothing, is bounded
+stood_bounded : (limit : ℕ) (known : Option Sums)
+    → ((entry : Sums) → known ≡ Some entry → AreBounded limit entry)
+    → AreBounded limit (unwrap_or known no_sums)
+stood_bounded limit None before = inr (none_missing limit)
+stood_bounded limit (Some entry) before = before entry refl
+
+-- and is there where it was
+stood_some : (known : Option Sums)
+    → some_sums (unwrap_or known no_sums) ≡ option_and_then some_sums known
+stood_some None = refl
+stood_some (Some entry) = refl
 
 -- what stands at a signal that is marked is bounded where what stood there was
 marked_within : (limit : ℕ) (old new : Reach) (lane signal : ℕ) (sums : Sums)
@@ -68,13 +81,6 @@ marked_bounded old new lane signal sums within marked before given here other lo
     at (Some lanes) there entry equal = subst (AreBounded delay_limit)
         (same_Some (lane_of lanes other) entry (rw there at equal)) (before lanes there other low)
 
--- a signal that is marked is reached
-pub marked_there : (old new : Reach) (lane signal : ℕ) (sums : Sums)
-    → IsMarked lane signal sums old new → IsSome (lanes_at new signal)
-marked_there old new lane signal sums marked =
-    some_mapped (λ lanes. lane_of lanes lane) (lanes_at new signal)
-    (merged_sums (unwrap_or (lane_at old lane signal) no_sums) sums) marked.at
-
 -- nothing is listed in an empty list
 none_listed : (one : ℕ) → Contains [] one → ⊥
 none_listed one (k, inside, here) = absurd (omega arith)
@@ -90,7 +96,7 @@ module _ (circuit : Circuit) (tech : Tech) (network : Network)
   IsSpread-none registers reach clear = record {
     limited = λ lane signal sums low here. absurd (nothing lane signal sums here);
     carried = λ lane low. carried_none circuit.signals delay
-        (StartsIn circuit tech registers lane) (LanesBelow 0 lane) (AllBelow network 1 lane)
+        (StartsIn circuit tech registers lane) (LanesBelow 0 lane) (AllBelow network 1)
         (sums_at reach lane) (λ signal start below. absurd (omega (arith, below)))
         (λ signal. ap (option_and_then some_sums) (none_at lane signal));
     waits = λ signal reached later. let none = clear.none signal in cc;
@@ -113,8 +119,7 @@ module _ (circuit : Circuit) (tech : Tech) (network : Network)
   begun_same registers Begun Later reach back spread = record {
     limited = spread.limited;
     carried = λ lane low. carried_same circuit.signals delay (StartsIn circuit tech registers lane)
-        (Begun lane) (Later lane) (AllBelow network 1 lane) (AllBelow network 1 lane)
-        (sums_at reach lane)
+        (Begun lane) (Later lane) (AllBelow network 1) (AllBelow network 1) (sums_at reach lane)
         (sums_at reach lane) (back lane) (λ read gate sums here below reads. below)
         (λ signal. refl) (spread.carried lane low);
     waits = spread.waits;
@@ -188,23 +193,28 @@ module _ (circuit : Circuit) (tech : Tech) (network : Network)
       | inr apart ↦ ap (option_and_then some_sums) (apart_same other number apart)
     ]
 
+    -- it is reached
+    marked_there : IsSome (lanes_at new signal)
+    marked_there = some_mapped (λ lanes. lane_of lanes lane) (lanes_at new signal)
+        (merged_sums (unwrap_or (lane_at old lane signal) no_sums) start) marked.at
+
     -- a signal that is started in a lane still has to hand on what stands there
     IsSpread-marked : IsSpread circuit tech network registers Later
-        (AllBelowBut network 1 (λ other. other ≡ lane) signal []) 1 new
+        (AllBelowBut network 1 signal []) 1 new
     IsSpread-marked = record {
       limited = limited;
       carried = λ other other_low. elim (cases_eq other lane) [
         | inl same ↦ subst (λ k. AreCarried circuit.signals delay (Starts k) (Later k)
-            (Pending k) (sums_at new k)) (sym same)
+            (AllBelowBut network 1 signal []) (sums_at new k)) (sym same)
             (carried_joined circuit.signals delay (Starts lane) (Begun lane) (Later lane)
-            (AllBelow network 1 lane) (Pending lane) signal (Some start)
+            (AllBelow network 1) (AllBelowBut network 1 signal []) signal (Some start)
             (sums_at old lane) (sums_at new lane) joined_here begins
             (λ sums is_start. subst (AreShownBy (Comes circuit.signals delay (Starts lane) signal))
             (same_Some start sums is_start)
             (shown_start circuit.signals delay (Starts lane) signal start starts)) hands
             (so_far.carried lane low))
         | inr differs ↦ carried_same circuit.signals delay (Starts other) (Begun other)
-            (Later other) (AllBelow network 1 other) (Pending other)
+            (Later other) (AllBelow network 1) (AllBelowBut network 1 signal [])
             (sums_at old other) (sums_at new other)
             (λ one sums starts later. elim (more other one sums later) [
               | inl before ↦ before
@@ -229,9 +239,6 @@ module _ (circuit : Circuit) (tech : Tech) (network : Network)
           };
     }
       where
-        Pending : ℕ → ℕ → ℕ → Type 0
-        Pending = AllBelowBut network 1 (λ other. other ≡ lane) signal []
-
         begins : (one : ℕ) (sums : Sums) → Starts lane one sums → Later lane one sums
             → Begun lane one sums ⊎ ((one ≡ signal) × AreAround (Some start) sums)
         begins one sums (from, is_one, launches, same) later = elim (more lane one sums later) [
@@ -242,11 +249,12 @@ module _ (circuit : Circuit) (tech : Tech) (network : Network)
           )
         ]
 
-        hands : (read gate : ℕ) → Pending lane read gate → Reads circuit.signals gate read
-            → IsHandedBy circuit.signals delay (AllBelow network 1 lane) signal (Some start)
+        hands : (read gate : ℕ) → AllBelowBut network 1 signal [] read gate
+            → Reads circuit.signals gate read
+            → IsHandedBy circuit.signals delay (AllBelow network 1) signal (Some start)
             (sums_at old lane) read gate
         hands read gate (below, listed) reads = record {
-          apart = λ same. none_listed gate (listed refl same);
+          apart = λ same. none_listed gate (listed same);
           counts = inl below;
         }
 
@@ -263,9 +271,10 @@ module _ (circuit : Circuit) (tech : Tech) (network : Network)
   IsSpread-started old new lane signal low (between, marked, on) inside lowest registers starts
       Begun Later more so_far =
       let there = some_is (lanes_at between signal)
-      (marked_there old between lane signal (start_sums tech) marked) in
-      IsSpread-on circuit tech network is registers Later (λ other. other ≡ lane)
-      (λ other. cases_eq other lane) between new 1 signal there.0 (omega arith) inside there.1
+      (marked_there old between lane signal low marked lowest registers starts Begun Later more
+      so_far) in
+      IsSpread-on circuit tech network is registers Later between new 1 signal there.0 (omega arith)
+      inside there.1
       (IsSpread-marked old between lane signal low marked lowest registers starts Begun Later more
       so_far) on
 

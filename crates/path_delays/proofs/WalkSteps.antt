@@ -2,7 +2,7 @@
 -- other.
 use Rattle.std.proofs.Common.{◌≡◌, ◌≢◌, ◌+◌, ◌-◌, ◌<◌, ◌≤◌, ◌==◌, ◌&&◌, ◌||◌, not, ℕ, suc, Bool, true, false, List, [], ◌∷◌, ◌++◌, length, get_or, Contains, Option, Some, None, inl, inr, ◌⊎◌, refl, sym, ◌∙◌, ap, subst, arith, append-nil, append_assoc}
 use Rattle.std.specs.Prelude.{is_none, IsSome}
-use Rattle.std.specs.Option.{option_and_then, option_map, unwrap_or}
+use Rattle.std.specs.Option.{option_and_then, option_map}
 use Rattle.std.specs.List.{slice_get}
 use Rattle.std.proofs.lemmas.Bool.{cases_eq, cases_lt, eqb-true, eq-eqb, ne_eqb, and_parts, or_cases, or_left, or_right, true≢false}
 use Rattle.std.proofs.lemmas.List.Elements.{Contains-push_cases}
@@ -17,15 +17,15 @@ use Rattle.path_delays.specs.declared.sums.Sums.{Sums}
 use Rattle.path_delays.specs.declared.network.Network.{Network}
 use Rattle.path_delays.specs.declared.reach.Reach.{Reach}
 use Rattle.path_delays.specs.Carrying.{IsJoinedAt, gate_sums_at}
-use Rattle.path_delays.specs.LaneParts.{AllBounded, AnyLane, lane_of}
-use Rattle.path_delays.specs.SumParts.{AreAround, AreBounded, delay_limit, either_sums, joined_sums, no_sums, some_sums, sums_through}
+use Rattle.path_delays.specs.LaneParts.{AllBounded, lane_of}
+use Rattle.path_delays.specs.SumParts.{AreAround, AreBounded, delay_limit, either_sums, joined_sums, some_sums, sums_through}
 use Rattle.path_delays.specs.NumberSets.{IsLowestTaken}
 use Rattle.path_delays.specs.Networks.{IsNetworkOf, weight_at}
 use Rattle.path_delays.specs.Handing.{rank_at, lane_at, lanes_at, sums_at, waits_at, IsHanded, AreHanded, IsHandedOn}
 use Rattle.path_delays.specs.Walking.{limit_at, AllBelow, AllBelowBut, IsDue, IsSpread, StartsIn}
 use Rattle.path_delays.proofs.CarryLemmas.{IsHandedBy, carried_joined, carried_same, shown_passed}
 use Rattle.path_delays.proofs.SumLemmas.{around_itself}
-use Rattle.path_delays.proofs.LaneLemmas.{bounded_higher, bounded_joined, bounded_through, some_joined, some_mapped, some_through, stood_bounded, stood_some, lanes_there}
+use Rattle.path_delays.proofs.LaneLemmas.{bounded_higher, bounded_joined, bounded_through, some_joined, some_mapped, some_through, lanes_there}
 use Rattle.path_delays.proofs.NetworkDelays.{delay_is, delay_within, limit_more, limit_within, same_rank}
 use Rattle.path_delays.proofs.Rooms.{rank_within}
 
@@ -66,7 +66,7 @@ module _ (circuit : Circuit) (tech : Tech) (network : Network)
   abbrev Starts : ℕ → ℕ → Sums → Type 0
   Starts = StartsIn circuit tech registers
 
-  abbrev Spread : (ℕ → ℕ → ℕ → Type 0) → ℕ → Reach → Type 0
+  abbrev Spread : (ℕ → ℕ → Type 0) → ℕ → Reach → Type 0
   Spread = IsSpread circuit tech network registers Begun
 
   abbrev delay : ℕ → Sums
@@ -76,7 +76,7 @@ module _ (circuit : Circuit) (tech : Tech) (network : Network)
   limit number = limit_at circuit.signals network.order.items (rank_at network number)
 
   -- what stands in the lanes is bounded
-  pub all_bounded : (reach : Reach) (rank : ℕ) (Handed : ℕ → ℕ → ℕ → Type 0)
+  pub all_bounded : (reach : Reach) (rank : ℕ) (Handed : ℕ → ℕ → Type 0)
       → Spread Handed rank reach → (signal : ℕ) (given : Lanes)
       → lanes_at reach signal ≡ Some given → AllBounded delay_limit given
   all_bounded reach rank Handed spread signal given here lane low =
@@ -85,13 +85,12 @@ module _ (circuit : Circuit) (tech : Tech) (network : Network)
       (spread.limited lane signal (lane_of given lane) low
       (ap (option_map (λ (lanes : Lanes). lane_of lanes lane)) here))
 
-  -- a gate is handed what stands in some lanes at a signal that it reads
-  module _ (Given : ℕ → Type 0) (is_given : (lane : ℕ) → Given lane ⊎ (Given lane → ⊥))
-      (old new : Reach) (given : Lanes) (gate rank pending : ℕ) (gates : List ℕ)
-      (hands : IsHanded network Given given gate old new)
-      (next : rank_at network pending + 1 ≡ rank) (reads : Reads circuit.signals gate pending)
-      (held : lanes_at old pending ≡ Some given)
-      (so_far : Spread (AllBelowBut network rank Given pending gates) rank old) where
+  -- a gate is handed what stands at a signal that it reads
+  module _ (old new : Reach) (given : Lanes) (gate rank pending : ℕ) (gates : List ℕ)
+      (hands : IsHanded network given gate old new) (next : rank_at network pending + 1 ≡ rank)
+      (reads : Reads circuit.signals gate pending) (held : lanes_at old pending ≡ Some given)
+      (so_far : Spread (AllBelowBut network rank pending gates) rank
+      old) where
     is_one : IsGate circuit.signals gate
     is_one = IsGate-from_Reads circuit.signals gate pending reads
 
@@ -105,10 +104,10 @@ module _ (circuit : Circuit) (tech : Tech) (network : Network)
     abbrev joined : ℕ → Sums
     joined lane = joined_sums (lane_at old lane gate) (through lane)
 
-    at_gate : (lane : ℕ) → lane < 8 → Given lane → lane_at new lane gate ≡ Some (joined lane)
-    at_gate lane low in_lane = subst (λ (own : Sums). lane_at new lane gate
+    at_gate : (lane : ℕ) → lane < 8 → lane_at new lane gate ≡ Some (joined lane)
+    at_gate lane low = subst (λ (own : Sums). lane_at new lane gate
         ≡ Some (joined_sums (lane_at old lane gate) (sums_through (lane_of given lane) own)))
-        (delay_is circuit tech network is gate is_one) (hands.at lane low in_lane)
+        (delay_is circuit tech network is gate is_one) (hands.at lane low)
 
     given_at : (lane : ℕ) → lane_at old lane pending ≡ Some (lane_of given lane)
     given_at lane = ap (option_map (λ (lanes : Lanes). lane_of lanes lane)) held
@@ -129,25 +128,16 @@ module _ (circuit : Circuit) (tech : Tech) (network : Network)
         (lane_of given lane) (delay gate) (limit_more circuit tech network is pending gate reads)
         (given_bounded lane low) (delay_within circuit tech network is gate is_one)
 
-    limited_here : (lane : ℕ) (sums : Sums) → lane < 8 → lane_at new lane gate ≡ Some sums
-        → AreBounded (limit gate) sums
-    limited_here lane sums low here = elim (is_given lane) [
-      | inl in_lane ↦ subst (AreBounded (limit gate))
-          (same_Some (joined lane) sums (sym (at_gate lane low in_lane) ∙ here))
-          (bounded_joined (limit gate) (lane_at old lane gate) (through lane)
-          (λ entry. so_far.limited lane gate entry low) (through_bounded lane low))
-      | inr beside ↦ subst (AreBounded (limit gate))
-          (same_Some (unwrap_or (lane_at old lane gate) no_sums) sums
-          (sym (hands.beside lane beside) ∙ here))
-          (stood_bounded (limit gate) (lane_at old lane gate)
-          (λ entry. so_far.limited lane gate entry low))
-    ]
-
     limited : (lane signal : ℕ) (sums : Sums) → lane < 8 → lane_at new lane signal ≡ Some sums
         → AreBounded (limit signal) sums
     limited lane signal sums low here = elim (cases_eq signal gate) [
-      | inl same ↦ subst (λ n. AreBounded (limit n) sums) (sym same)
-          (limited_here lane sums low (ap (lane_at new lane) (sym same) ∙ here))
+      | inl same ↦
+          let equal : Some (joined lane) ≡ Some sums =
+          sym (at_gate lane low) ∙ (ap (lane_at new lane) (sym same) ∙ here) in
+          subst (λ n. AreBounded (limit n) sums) (sym same)
+          (subst (AreBounded (limit gate)) (same_Some (joined lane) sums equal)
+          (bounded_joined (limit gate) (lane_at old lane gate) (through lane)
+          (λ entry. so_far.limited lane gate entry low) (through_bounded lane low)))
       | inr other ↦
           so_far.limited lane signal sums low (sym (others_same lane signal other) ∙ here)
     ]
@@ -157,10 +147,10 @@ module _ (circuit : Circuit) (tech : Tech) (network : Network)
     found lane = option_map (λ (sums : Sums). sums_through sums (delay gate))
         (sums_at old lane pending)
 
-    joined_at : (lane : ℕ) → lane < 8 → Given lane
+    joined_at : (lane : ℕ) → lane < 8
         → IsJoinedAt gate (found lane) (sums_at old lane) (sums_at new lane)
-    joined_at lane low in_lane = record {
-      here = ap (option_and_then some_sums) (at_gate lane low in_lane)
+    joined_at lane low = record {
+      here = ap (option_and_then some_sums) (at_gate lane low)
           ∙ (some_joined (limit gate) (lane_at old lane gate) (through lane)
           (limit_within circuit tech network is (rank_at network gate))
           (λ entry. so_far.limited lane gate entry low) (through_bounded lane low)
@@ -174,33 +164,23 @@ module _ (circuit : Circuit) (tech : Tech) (network : Network)
       others = λ other differs. ap (option_and_then some_sums) (others_same lane other differs);
     }
 
-    -- in the other lanes all stays
-    same_beside : (lane : ℕ) → (Given lane → ⊥) → (signal : ℕ)
-        → sums_at new lane signal ≡ sums_at old lane signal
-    same_beside lane beside signal = elim (cases_eq signal gate) [
-      | inl same ↦ subst (λ n. sums_at new lane n ≡ sums_at old lane n) (sym same)
-          (ap (option_and_then some_sums) (hands.beside lane beside)
-          ∙ stood_some (lane_at old lane gate))
-      | inr other ↦ ap (option_and_then some_sums) (others_same lane signal other)
-    ]
-
     -- no signal below the rank is the gate, and the gate is the last that is handed anything
-    handed_by : (lane read other : ℕ) → Given lane
-        → AllBelowBut network rank Given pending (gates ++ gate ∷ []) lane read other
+    handed_by : (lane read other : ℕ)
+        → AllBelowBut network rank pending (gates ++ gate ∷ []) read other
         → Reads circuit.signals other read
-        → IsHandedBy circuit.signals delay (AllBelowBut network rank Given pending gates lane) gate
+        → IsHandedBy circuit.signals delay (AllBelowBut network rank pending gates) gate
         (found lane) (sums_at old lane) read other
-    handed_by lane read other in_lane (below, listed) reading = record {
+    handed_by lane read other (below, listed) reading = record {
       apart = λ same. absurd (omega (arith, higher, below, ap (rank_at network) same));
       counts = elim (cases_eq read pending) [
-        | inl same ↦ elim (Contains-push_cases gates gate other (listed in_lane same)) [
-          | inl earlier ↦ inl (below, λ g e. earlier)
+        | inl same ↦ elim (Contains-push_cases gates gate other (listed same)) [
+          | inl earlier ↦ inl (below, λ e. earlier)
           | inr last ↦ inr (
             sym last,
             λ sums here. around sums other last (ap (sums_at old lane) (sym same) ∙ here),
           )
         ]
-        | inr elsewhere ↦ inl (below, λ g e. absurd (elsewhere e))
+        | inr elsewhere ↦ inl (below, λ e. absurd (elsewhere e))
       ];
     }
       where
@@ -214,12 +194,8 @@ module _ (circuit : Circuit) (tech : Tech) (network : Network)
 
     -- the gate is reached
     there_now : IsSome (lanes_at new gate)
-    there_now = elim (is_given 0) [
-      | inl in_lane ↦ some_mapped (λ lanes. lane_of lanes 0) (lanes_at new gate) (joined 0)
-          (at_gate 0 (omega arith) in_lane)
-      | inr beside ↦ some_mapped (λ lanes. lane_of lanes 0) (lanes_at new gate)
-          (unwrap_or (lane_at old 0 gate) no_sums) (hands.beside 0 beside)
-    ]
+    there_now = some_mapped (λ lanes. lane_of lanes 0) (lanes_at new gate) (joined 0)
+        (at_gate 0 (omega arith))
 
     -- what was reached is reached
     still_there : (signal : ℕ) → IsSome (lanes_at old signal) → IsSome (lanes_at new signal)
@@ -265,27 +241,19 @@ module _ (circuit : Circuit) (tech : Tech) (network : Network)
 
     -- so one reader more is handed what it reads
     IsSpread-handed : Spread
-        (AllBelowBut network rank Given pending (gates ++ gate ∷ [])) rank new
+        (AllBelowBut network rank pending (gates ++ gate ∷ [])) rank new
         × (lanes_at new pending ≡ Some given)
     IsSpread-handed = (
       record {
         limited = limited;
-        carried = λ lane low. elim (is_given lane) [
-          | inl in_lane ↦ carried_joined circuit.signals delay (Starts lane) (Begun lane)
-              (Begun lane) (AllBelowBut network rank Given pending gates lane)
-              (AllBelowBut network rank Given pending (gates ++ gate ∷ []) lane) gate (found lane)
-              (sums_at old lane) (sums_at new lane) (joined_at lane low in_lane)
-              (λ one start starts begun. inl begun)
-              (shown_passed circuit.signals delay (Starts lane) pending gate
-              (sums_at old lane pending) reads ((so_far.carried lane low).shown pending))
-              (λ read other. handed_by lane read other in_lane) (so_far.carried lane low)
-          | inr beside ↦ carried_same circuit.signals delay (Starts lane) (Begun lane)
-              (Begun lane) (AllBelowBut network rank Given pending gates lane)
-              (AllBelowBut network rank Given pending (gates ++ gate ∷ []) lane)
-              (sums_at old lane) (sums_at new lane) (λ one start starts begun. begun)
-              (λ read other sums here (below, listed) reading. (below, λ g. absurd (beside g)))
-              (same_beside lane beside) (so_far.carried lane low)
-        ];
+        carried = λ lane low. carried_joined circuit.signals delay (Starts lane) (Begun lane)
+            (Begun lane) (AllBelowBut network rank pending gates)
+            (AllBelowBut network rank pending (gates ++ gate ∷ [])) gate (found lane)
+            (sums_at old lane) (sums_at new lane) (joined_at lane low)
+            (λ one start starts begun. inl begun)
+            (shown_passed circuit.signals delay (Starts lane) pending gate
+            (sums_at old lane pending) reads ((so_far.carried lane low).shown pending))
+            (handed_by lane) (so_far.carried lane low);
         waits = λ signal reached later. elim (cases_eq signal gate) [
           | inl same ↦ subst (λ n. waits_at new (rank_at network n) ≡ true) (sym same)
               (gate_waits (lanes_at old gate) refl)
@@ -314,50 +282,49 @@ module _ (circuit : Circuit) (tech : Tech) (network : Network)
     )
 
   -- all readers, one after the other
-  all_handed : (Given : ℕ → Type 0) → ((lane : ℕ) → Given lane ⊎ (Given lane → ⊥))
-      → (old new : Reach) (given : Lanes) (rank pending : ℕ) (gates more : List ℕ)
+  all_handed : (old new : Reach) (given : Lanes) (rank pending : ℕ) (gates more : List ℕ)
       → rank_at network pending + 1 ≡ rank
       → ((gate : ℕ) → Contains more gate → Reads circuit.signals gate pending)
       → lanes_at old pending ≡ Some given
-      → Spread (AllBelowBut network rank Given pending gates) rank old
-      → AreHanded network Given given more old new
-      → Spread (AllBelowBut network rank Given pending (gates ++ more)) rank new
-  all_handed Given is_given old new given rank pending gates [] next reads held so_far same =
-      subst (λ list. Spread (AllBelowBut network rank Given pending list) rank new)
-      (sym (append-nil gates))
-      (subst (Spread (AllBelowBut network rank Given pending gates) rank) same so_far)
-  all_handed Given is_given old new given rank pending gates (gate ∷ more) next reads held so_far
+      → Spread (AllBelowBut network rank pending gates) rank old
+      → AreHanded network given more old new
+      → Spread (AllBelowBut network rank pending (gates ++ more)) rank
+      new
+  all_handed old new given rank pending gates [] next reads held so_far same =
+      subst (λ list. Spread (AllBelowBut network rank pending list)
+      rank new) (sym (append-nil gates))
+      (subst (λ reach. Spread
+      (AllBelowBut network rank pending gates) rank reach) same so_far)
+  all_handed old new given rank pending gates (gate ∷ more) next reads held so_far
       (between, first, rest) =
       let here = reads gate (0, omega arith, refl) in
-      let step = IsSpread-handed Given is_given old between given gate rank pending gates first
-      next here held so_far in
-      subst (λ list. Spread (AllBelowBut network rank Given pending list) rank new)
-      (append_assoc gates (gate ∷ []) more)
-      (all_handed Given is_given between new given rank pending (gates ++ gate ∷ []) more next
+      let step =
+      IsSpread-handed old between given gate rank pending gates first next here held so_far in
+      subst (λ list. Spread (AllBelowBut network rank pending list)
+      rank new) (append_assoc gates (gate ∷ []) more)
+      (all_handed between new given rank pending (gates ++ gate ∷ []) more next
       (λ other (k, inside, here). reads other (suc k, omega arith, here)) step.1 step.0 rest)
 
   -- a signal that has handed its sums to all its readers is done
-  pub IsSpread-on : (Given : ℕ → Type 0) → ((lane : ℕ) → Given lane ⊎ (Given lane → ⊥))
-      → (old new : Reach) (rank pending : ℕ) (given : Lanes)
+  pub IsSpread-on : (old new : Reach) (rank pending : ℕ) (given : Lanes)
       → rank_at network pending + 1 ≡ rank → pending < length circuit.signals
       → lanes_at old pending ≡ Some given
-      → Spread (AllBelowBut network rank Given pending []) rank old
-      → IsHandedOn network Given pending old new
+      → Spread (AllBelowBut network rank pending []) rank old
+      → IsHandedOn network pending old new
       → Spread (AllBelow network rank) rank new
-  IsSpread-on Given is_given old new rank pending given next inside held so_far handed_on =
+  IsSpread-on old new rank pending given next inside held so_far handed_on =
       let readers = group_of network.readers pending in
-      let all = all_handed Given is_given old new given rank pending [] readers next
+      let all = all_handed old new given rank pending [] readers next
       (λ gate listed. is.readers.each pending gate inside listed) held so_far
       (handed_on given held) in
       record {
         limited = all.limited;
         carried = λ lane low. carried_same circuit.signals delay (Starts lane) (Begun lane)
-            (Begun lane) (AllBelowBut network rank Given pending readers lane)
-            (AllBelow network rank lane)
+            (Begun lane) (AllBelowBut network rank pending readers) (AllBelow network rank)
             (sums_at new lane) (sums_at new lane) (λ signal start starts begun. begun)
             (λ read gate sums here below reads. (
               below,
-              λ g same. subst (λ n. Contains (group_of network.readers n) gate) same
+              λ same. subst (λ n. Contains (group_of network.readers n) gate) same
                   (is.readers.all read gate reads),
             )) (λ signal. refl) (all.carried lane low);
         waits = all.waits;
@@ -369,16 +336,14 @@ module _ (circuit : Circuit) (tech : Tech) (network : Network)
       → IsLowestTaken old.waiting.words.items new.waiting.words.items next
       → ((signal : ℕ) → lanes_at new signal ≡ lanes_at old signal) → rank_at network gate ≡ next
       → Spread (AllBelow network rank) rank old
-      → Spread (AllBelowBut network (next + 1) AnyLane gate []) (next + 1) new
+      → Spread (AllBelowBut network (next + 1) gate []) (next + 1) new
   IsSpread-taken old new rank next gate counted after taken same rank_is so_far = record {
     limited = λ lane signal sums low here.
         so_far.limited lane signal sums low (sym (lane_same lane signal) ∙ here);
     carried = λ lane low. carried_same circuit.signals delay (Starts lane) (Begun lane)
-        (Begun lane) (AllBelow network rank lane)
-        (AllBelowBut network (next + 1) AnyLane gate [] lane)
+        (Begun lane) (AllBelow network rank) (AllBelowBut network (next + 1) gate [])
         (sums_at old lane) (sums_at new lane) (λ signal start starts begun. begun)
-        (λ read other sums here (below, listed) reads.
-        lower lane read other sums below (listed tt) here)
+        (λ read other sums here (below, listed) reads. lower lane read other sums below listed here)
         (λ signal. ap (option_and_then some_sums) (lane_same lane signal))
         (so_far.carried lane low);
     waits = λ signal reached later.

@@ -64,36 +64,32 @@ pub record IsMarked (lane signal : ℕ) (sums : Sums) (old new : Reach) : Type 0
   pub others : (other : ℕ) → other ≢ signal → lanes_at new other ≡ lanes_at old other
   pub waits : (rank : ℕ) → waits_at new rank ≡ waits_at old rank
 
--- in these lanes a gate gets the sums after it, none stand in the others where it isn't reached,
--- and it waits to be taken where it is reached first
-pub record IsHanded (network : Network) (Given : ℕ → Type 0) (given : Lanes) (gate : ℕ)
-    (old new : Reach) : Type 0 where
+-- a gate gets the sums after it in each lane, and waits to be taken where it is reached first
+pub record IsHanded (network : Network) (given : Lanes) (gate : ℕ) (old new : Reach) : Type 0 where
   pub room : IsSameRoom old new
-  pub at : (lane : ℕ) → lane < 8 → Given lane → lane_at new lane gate ≡ Some (joined_sums
+  pub at : (lane : ℕ) → lane < 8 → lane_at new lane gate ≡ Some (joined_sums
       (lane_at old lane gate) (sums_through (lane_of given lane) (delay_at network gate)))
-  pub beside : (lane : ℕ) → (Given lane → ⊥)
-      → lane_at new lane gate ≡ Some (unwrap_or (lane_at old lane gate) no_sums)
   pub others : (other : ℕ) → other ≢ gate → lanes_at new other ≡ lanes_at old other
   pub waits : (rank : ℕ) → waits_at new rank
       ≡ (is_none (lanes_at old gate) && (rank == rank_at network gate) || waits_at old rank)
 
 -- these gates do, one after the other
-abbrev pub AreHanded : Network → (ℕ → Type 0) → Lanes → List ℕ → Reach → Reach → Type 0
-AreHanded network Given given [] old new = old ≡ new
-AreHanded network Given given (gate ∷ gates) old new =
-    (between : Reach) × IsHanded network Given given gate old between
-    × AreHanded network Given given gates between new
+abbrev pub AreHanded : Network → Lanes → List ℕ → Reach → Reach → Type 0
+AreHanded network given [] old new = old ≡ new
+AreHanded network given (gate ∷ gates) old new =
+    (between : Reach) × IsHanded network given gate old between
+    × AreHanded network given gates between new
 
--- the signal's sums in these lanes are handed to each of its readers
-abbrev pub IsHandedOn : Network → (ℕ → Type 0) → ℕ → Reach → Reach → Type 0
-IsHandedOn network Given signal old new = (given : Lanes) → lanes_at old signal ≡ Some given
-    → AreHanded network Given given (group_of network.readers signal) old new
+-- the signal's sums are handed to each of its readers
+abbrev pub IsHandedOn : Network → ℕ → Reach → Reach → Type 0
+IsHandedOn network signal old new = (given : Lanes) → lanes_at old signal ≡ Some given
+    → AreHanded network given (group_of network.readers signal) old new
 
--- the signal gets sums in a lane and hands on what stands there
+-- the signal gets sums in a lane and hands them on
 abbrev pub IsStarted : Network → (lane signal : ℕ) → Sums → Reach → Reach → Type 0
 IsStarted network lane signal sums old new =
     (between : Reach) × IsMarked lane signal sums old between
-    × IsHandedOn network (λ other. other ≡ lane) signal between new
+    × IsHandedOn network signal between new
 
 -- nothing is reached
 pub record IsCleared (reach : Reach) : Type 0 where

@@ -8,10 +8,6 @@ use Rattle.path_delays.specs.SumParts.{AreBounded, no_sums}
 abbrev pub lane_of : Lanes → ℕ → Sums
 lane_of lanes lane = slice_index_or lanes.sums lane no_sums
 
--- every lane
-abbrev pub AnyLane : ℕ → Type 0
-AnyLane lane = Unit {0}
-
 -- in each lane are sums within a limit, or none
 abbrev pub AllBounded : ℕ → Lanes → Type 0
 AllBounded limit lanes = (lane : ℕ) → lane < 8 → AreBounded limit (lane_of lanes lane)

@@ -25,14 +25,13 @@ pub record IsDue (network : Network) (reach : Reach) (rank other : ℕ) : Type 0
   pub reached : IsSome (lanes_at reach gate)
 
 -- every signal below a rank has handed on its sums
-abbrev pub AllBelow : Network → ℕ → (lane : ℕ) → ℕ → ℕ → Type 0
-AllBelow network rank lane read gate = rank_at network read < rank
+abbrev pub AllBelow : Network → ℕ → ℕ → ℕ → Type 0
+AllBelow network rank read gate = rank_at network read < rank
 
--- and one of them in these lanes, so far, to these gates alone
-abbrev pub AllBelowBut : Network → ℕ → (Given : ℕ → Type 0) → ℕ → List ℕ → (lane : ℕ) → ℕ → ℕ
-    → Type 0
-AllBelowBut network rank Given pending gates lane read gate =
-    (rank_at network read < rank) × (Given lane → read ≡ pending → Contains gates gate)
+-- and one of them, so far, to these gates alone
+abbrev pub AllBelowBut : Network → ℕ → ℕ → List ℕ → ℕ → ℕ → Type 0
+AllBelowBut network rank pending gates read gate =
+    (rank_at network read < rank) × (read ≡ pending → Contains gates gate)
 
 -- in a lane its register starts alone
 abbrev pub StartsIn : Circuit → Tech → (registers : List ℕ) → (lane : ℕ) → ℕ → Sums → Type 0
@@ -42,13 +41,13 @@ StartsIn circuit tech registers lane =
 -- sums are carried in each lane, and none are beyond the limit of their rank; what is reached and
 -- isn't below this rank waits
 pub record IsSpread (circuit : Circuit) (tech : Tech) (network : Network) (registers : List ℕ)
-    (Begun : (lane : ℕ) → ℕ → Sums → Type 0) (Handed : (lane : ℕ) → ℕ → ℕ → Type 0) (rank : ℕ)
+    (Begun : (lane : ℕ) → ℕ → Sums → Type 0) (Handed : ℕ → ℕ → Type 0) (rank : ℕ)
     (reach : Reach) : Type 0 where
   pub limited : (lane signal : ℕ) (sums : Sums) → lane < 8 → lane_at reach lane signal ≡ Some sums
       → AreBounded (limit_at circuit.signals network.order.items (rank_at network signal)) sums
   pub carried : (lane : ℕ) → lane < 8
       → AreCarried circuit.signals (gate_sums_at circuit tech)
-      (StartsIn circuit tech registers lane) (Begun lane) (Handed lane) (sums_at reach lane)
+      (StartsIn circuit tech registers lane) (Begun lane) Handed (sums_at reach lane)
   pub waits : (signal : ℕ) → IsSome (lanes_at reach signal) → rank ≤ rank_at network signal
       → waits_at reach (rank_at network signal) ≡ true
   pub due : (other : ℕ) → waits_at reach other ≡ true → IsDue network reach rank other

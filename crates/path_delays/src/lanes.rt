@@ -24,17 +24,6 @@ impl Lanes {
         }
     }
 
-    /// Sums in one lane, and none in any other.
-    pub(crate) fn only(lane: usize, sums: Sums) -> Lanes
-        requires { lane < 8 }
-        ensures at { lane_of result lane ≡ sums }
-        ensures others { (other : ℕ) → other ≢ lane → lane_of result other ≡ no_sums }
-    {
-        let mut lanes = Lanes::none();
-        lanes.sums[lane] = sums;
-        lanes
-    }
-
     /// In one lane the least and the greatest of both.
     pub(crate) fn join(&mut self, lane: usize, sums: Sums)
         requires { lane < 8 }

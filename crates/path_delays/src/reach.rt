@@ -21,7 +21,7 @@ pub(crate) struct Reach {
 impl Reach {
     ghost use Rattle.path_delays.specs.declared.lanes.Lanes.{Lanes};
     ghost use Rattle.path_delays.specs.SumParts.{AreWithin, delay_limit};
-    ghost use Rattle.path_delays.specs.LaneParts.{AllBounded, AnyLane};
+    ghost use Rattle.path_delays.specs.LaneParts.{AllBounded};
     ghost use Rattle.path_delays.specs.Handing.{HasReachRoom, IsCleared, IsHanded, IsHandedOn, IsMarked, IsSameRoom, IsStarted, lanes_at, sums_at};
 
     /// Nothing reached yet, with room for so many signals and gates.
@@ -72,10 +72,7 @@ impl Reach {
         ensures room { HasReachRoom network.now self.new }
     {
         self.mark(lane, signal, sums);
-        let given = self.lanes[signal as usize];
-        for gate in network.readers.group(signal as usize) {
-            self.hand_in(network, lane, *gate, &given);
-        }
+        self.hand_on(network, signal);
     }
 
     /// Hands the sums to a signal to each gate that reads it.
@@ -85,7 +82,7 @@ impl Reach {
         requires reached { IsSome (lanes_at self.old signal) }
         requires small { (given : Lanes)
             → lanes_at self.old signal ≡ Some given → AllBounded delay_limit given }
-        ensures on { IsHandedOn network.now AnyLane signal self.old self.new }
+        ensures on { IsHandedOn network.now signal self.old self.new }
         ensures room { HasReachRoom network.now self.new }
     {
         let given = self.lanes[signal as usize];
@@ -99,7 +96,7 @@ impl Reach {
         requires room { HasReachRoom network.now self.old }
         requires gate { gate < length network.now.ranks.items }
         requires given { AllBounded delay_limit given.now }
-        ensures { IsHanded network.now AnyLane given.now gate self.old self.new }
+        ensures { IsHanded network.now given.now gate self.old self.new }
     {
         let mut sums = *given;
         sums.pass(network.delays[gate as usize]);
@@ -108,24 +105,6 @@ impl Reach {
         } else {
             self.reached.insert(gate);
             self.lanes[gate as usize] = sums;
-            self.waiting.insert(network.ranks[gate as usize]);
-        }
-    }
-
-    // Hands the sums in one lane to a gate.
-    fn hand_in(&mut self, network: &Network, lane: usize, gate: u32, given: &Lanes)
-        requires room { HasReachRoom network.now self.old }
-        requires lane { lane < 8 }
-        requires gate { gate < length network.now.ranks.items }
-        requires given { AllBounded delay_limit given.now }
-        ensures { IsHanded network.now (λ other. other ≡ lane) given.now gate self.old self.new }
-    {
-        let sums = given.sums[lane].through(network.delays[gate as usize]);
-        if self.reached.contains(gate) {
-            self.lanes[gate as usize].join(lane, sums);
-        } else {
-            self.reached.insert(gate);
-            self.lanes[gate as usize] = Lanes::only(lane, sums);
             self.waiting.insert(network.ranks[gate as usize]);
         }
     }

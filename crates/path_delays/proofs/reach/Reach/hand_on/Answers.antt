@@ -3,7 +3,6 @@ use Rattle.std.proofs.Common.{take, get_or, refl, subst}
 use Rattle.std.proofs.lemmas.List.{take_all, take_more}
 use Rattle.gate_order.specs.GroupParts.{group_of}
 use Rattle.path_delays.specs.declared.lanes.Lanes.{Lanes}
-use Rattle.path_delays.specs.LaneParts.{AnyLane}
 use Rattle.path_delays.specs.Handing.{AreHanded}
 use Rattle.path_delays.proofs.Hands.{HasReachRoom-same, AreHanded-push, lanes_read}
 use Rattle.path_delays.proofs.reach.Reach.hand_on.Goals as goal
@@ -18,7 +17,7 @@ loop-gate-preserved c =
       HasReachRoom-same network c.loop-gate.self c.hand_to.new.self c.hand_to.ensures.room
           c.loop-gate.invariant.0,
       rw (take_more readers c.loop-gate.gate-index 0 c.loop-gate-test.true)
-          (AreHanded-push network AnyLane c.index.result.now (take c.loop-gate.gate-index readers)
+          (AreHanded-push network c.index.result.now (take c.loop-gate.gate-index readers)
           (get_or readers c.loop-gate.gate-index 0) c.args.self.now c.loop-gate.self
           c.hand_to.new.self c.loop-gate.invariant.1 c.hand_to.ensures),
     )
@@ -29,7 +28,7 @@ returns-clause-on c given here =
     lanes_read c.args.self.now c.args.signal given c.index.result.now here c.index.ensures in
     let readers = group_of c.args.network.now.readers c.args.signal in
     subst (λ (lanes : Lanes).
-    AreHanded c.args.network.now AnyLane lanes readers c.args.self.now c.loop-gate.self) same
+    AreHanded c.args.network.now lanes readers c.args.self.now c.loop-gate.self) same
     (rw (
       take_all c.loop-gate.gate-index c.group-gate-items.result.now c.loop-gate-test.false,
       c.group-gate-items.ensures,

@@ -1,9 +1,8 @@
 -- The sums are handed to the readers passed so far.
 use Rattle.std.proofs.Common.{take}
-use Rattle.path_delays.specs.LaneParts.{AnyLane}
 use Rattle.path_delays.specs.Handing.{HasReachRoom, AreHanded}
 use Rattle.path_delays.proofs.reach.Reach.hand_on.Given as goal
 
 abbrev pub invariant-loop-gate : goal.invariant-loop-gate
 invariant-loop-gate l = HasReachRoom l.network l.self
-    × AreHanded l.network AnyLane l.given (take l.gate-index l.gate-items) l.initial.self l.self
+    × AreHanded l.network l.given (take l.gate-index l.gate-items) l.initial.self l.self

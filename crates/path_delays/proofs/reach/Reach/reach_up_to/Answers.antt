@@ -1,9 +1,8 @@
 -- The gate of the lowest rank that waits is taken, and hands on its sums.
-use Rattle.std.proofs.Common.{◌≡◌, ◌+◌, ◌∙◌, ℕ, length, inl, refl, sym, arith}
+use Rattle.std.proofs.Common.{◌≡◌, ◌+◌, ◌∙◌, ℕ, length, refl, sym, arith}
 use Rattle.std.proofs.lemmas.Bool.{true≢false}
 use Rattle.std.proofs.lemmas.Option.{slice_get_within}
 use Rattle.path_delays.specs.declared.reach.Reach.{Reach}
-use Rattle.path_delays.specs.LaneParts.{AnyLane}
 use Rattle.path_delays.specs.Handing.{lanes_at, rank_at}
 use Rattle.path_delays.specs.Walking.{LanesBelow}
 use Rattle.path_delays.proofs.Hands.{HasReachRoom-same}
@@ -76,8 +75,7 @@ loop-next-preserved c =
     let given = some_is (lanes_at c.loop-next.self gate) next.reached in
     let one_more : rank_at network gate + 1 ≡ c.in-Some.next + 1 = omega (arith, next.rank) in
     record {
-      spread = IsSpread-on circuit tech network is registers Begun AnyLane
-          (λ lane. inl tt) taken c.hand_on.new.self
+      spread = IsSpread-on circuit tech network is registers Begun taken c.hand_on.new.self
           (c.in-Some.next + 1) gate given.0 one_more next.inside given.1 pending
           c.hand_on.ensures.on;
       room = c.hand_on.ensures.room;

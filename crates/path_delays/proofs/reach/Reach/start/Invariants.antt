@@ -1,9 +1,0 @@
--- The sums in the lane are handed to the readers passed so far.
-use Rattle.std.proofs.Common.{◌≡◌, take}
-use Rattle.path_delays.specs.Handing.{HasReachRoom, AreHanded}
-use Rattle.path_delays.proofs.reach.Reach.start.Given as goal
-
-abbrev pub invariant-loop-gate : goal.invariant-loop-gate
-invariant-loop-gate l = HasReachRoom l.network l.self
-    × AreHanded l.network (λ other. other ≡ l.lane) l.given (take l.gate-index l.gate-items)
-    l.initial.self l.self
