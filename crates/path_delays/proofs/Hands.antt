@@ -1,12 +1,15 @@
 -- Sums handed to one gate after the other.
-use Rattle.std.proofs.Common.{◌≡◌, ℕ, Bool, true, false, cond, get_or, Some, None, List, [], ◌∷◌, ◌++◌, refl, sym, ◌∙◌, subst, arith}
+use Rattle.std.proofs.Common.{◌≡◌, ℕ, Bool, true, false, cond, get_or, Some, None, List, All, [], ◌∷◌, ◌++◌, refl, sym, ◌∙◌, ap, subst, arith}
+use Rattle.std.specs.Prelude.{IsSome}
 use Rattle.std.specs.List.{slice_get}
 use Rattle.std.proofs.lemmas.Option.{get_or_from_slice_get}
 use Rattle.path_delays.specs.declared.lanes.Lanes.{Lanes}
 use Rattle.path_delays.specs.declared.network.Network.{Network}
 use Rattle.path_delays.specs.declared.reach.Reach.{Reach}
+use Rattle.path_delays.specs.SumParts.{AreWithin}
 use Rattle.path_delays.specs.NumberSets.{has_number}
 use Rattle.path_delays.specs.Handing.{lanes_at, HasReachRoom, IsSameRoom, IsHanded, AreHanded}
+use Rattle.path_delays.proofs.LaneLemmas.{some_is}
 
 -- there is room where there is as much as before
 pub HasReachRoom-same : (network : Network) (old new : Reach) → IsSameRoom old new
@@ -15,7 +18,11 @@ HasReachRoom-same network old new same room = record {
   starts = room.starts;
   readers = room.readers;
   delays = room.delays;
-  small_delays = room.small_delays;
+  apart = room.apart;
+  small_delays = subst (λ n. All (AreWithin n) network.delays.items) (sym same.limit)
+      room.small_delays;
+  total = omega (arith, same.limit, room.total);
+  known = omega (arith, same.limit, room.known);
   lanes = same.lanes ∙ room.lanes;
   reached = omega (arith, same.reached, room.reached);
   waiting = λ gate. omega (arith, same.waiting, room.waiting gate);
@@ -41,3 +48,10 @@ lanes_read reach signal given value here read =
     at : (b : Bool) → cond b (slice_get reach.lanes.items signal) None ≡ Some given → value ≡ given
     at true found = read ∙ get_or_from_slice_get reach.lanes.items signal given value found
     at false none = absurd cc
+
+-- so that stands at a signal that is reached
+pub lanes_given : (reach : Reach) (signal : ℕ) (value : Lanes) → IsSome (lanes_at reach signal)
+    → value ≡ get_or reach.lanes.items signal value → lanes_at reach signal ≡ Some value
+lanes_given reach signal value reached read =
+    let given = some_is (lanes_at reach signal) reached in
+    given.1 ∙ ap Some (sym (lanes_read reach signal given.0 value given.1 read))

@@ -1,7 +1,6 @@
 -- The delays that a network keeps, and the limits of what they add up to.
-use Rattle.std.proofs.Common.{◌≡◌, ◌+◌, ◌-◌, ◌<◌, ◌≤◌, ℕ, true, pos, IsTrue, List, take, get_or, Option, Some, refl, sym, ◌∙◌, ap, subst, arith}
+use Rattle.std.proofs.Common.{◌≡◌, ◌+◌, ◌-◌, ◌<◌, ◌≤◌, ℕ, true, pos, IsTrue, List, take, get_or, Some, refl, sym, ◌∙◌, ap, subst, arith}
 use Rattle.std.specs.List.{slice_get, sum_by}
-use Rattle.std.specs.Option.{option_map_or}
 use Rattle.std.proofs.lemmas.List.{get_or-map, take-take}
 use Rattle.std.proofs.lemmas.List.Sums.{sum_by_more, sum_by-take-le}
 use Rattle.std.proofs.lemmas.Option.{slice_get_within, get_or_from_slice_get}
@@ -15,12 +14,12 @@ use Rattle.gate_order.proofs.ReadLemmas.{IsGate-from_Reads}
 use Rattle.path_delays.specs.declared.sums.Sums.{Sums}
 use Rattle.path_delays.specs.declared.network.Network.{Network}
 use Rattle.path_delays.specs.SumParts.{AreWithin, delay_limit}
-use Rattle.path_delays.specs.Networks.{IsNetworkOf, gate_sums, weight_of, weight_at}
-use Rattle.path_delays.specs.Handing.{delay_at, rank_at}
+use Rattle.path_delays.specs.Networks.{IsNetworkOf, gate_sums, weight_of}
+use Rattle.path_delays.specs.Handing.{delay_at, limit_at, most_at, rank_at}
 use Rattle.path_delays.specs.Carrying.{gate_sums_at}
-use Rattle.path_delays.specs.Walking.{limit_at}
 use Rattle.path_delays.proofs.DelayLemmas.{gate_within}
-use Rattle.path_delays.proofs.NetworkLemmas.{weights_within}
+use Rattle.path_delays.proofs.Rooms.{limit_below, limit_rises, total_within}
+use Rattle.path_delays.proofs.SumLemmas.{within_most}
 
 -- a gate's delays are those of its number
 pub gate_sums_are : (circuit : Circuit) (tech : Tech) (gate : ℕ) (signal : Signal)
@@ -54,50 +53,48 @@ module _ (circuit : Circuit) (tech : Tech) (network : Network)
       kept_delay gate found.0 found.1
       ∙ gate_sums_are circuit tech gate found.0 found.1 found.2
 
-  -- and no more than its weight
+  -- and no more than the greater of both
   pub delay_within : (gate : ℕ) → IsGate circuit.signals gate
-      → AreWithin (weight_at circuit.signals gate) (gate_sums_at circuit tech gate)
+      → AreWithin (most_at network gate) (gate_sums_at circuit tech gate)
   delay_within gate is_one =
       let found = signal_of gate is_one in
-      let weight : weight_at circuit.signals gate ≡ weight_of found.0 =
-      ap (λ (o : Option Signal). option_map_or weight_of o 0) found.1 in
-      subst (λ n. AreWithin n (gate_sums_at circuit tech gate)) (sym weight)
-      (subst (AreWithin (weight_of found.0))
-      (gate_sums_are circuit tech gate found.0 found.1 found.2) (gate_within tech found.0))
+      let kept = kept_delay gate found.0 found.1 in
+      subst (AreWithin (most_at network gate)) (delay_is gate is_one)
+      (within_most (weight_of found.0) (delay_at network gate)
+      (subst (AreWithin (weight_of found.0)) (sym kept) (gate_within tech found.0)))
 
-  -- the limit rises by a gate's weight from what it reads to the gate
+  -- the limit rises by a gate's delay from what it reads to the gate
   pub limit_more : (read gate : ℕ) → Reads circuit.signals gate read
-      → limit_at circuit.signals network.order.items (rank_at network read)
-      + weight_at circuit.signals gate
-      ≤ limit_at circuit.signals network.order.items (rank_at network gate)
+      → limit_at network (rank_at network read) + most_at network gate
+      ≤ limit_at network (rank_at network gate)
   limit_more read gate reads =
       let placed = is.ranks.gates gate (IsGate-from_Reads circuit.signals gate read reads) in
       let place = rank_at network gate - 1 in
-      let weight = weight_at circuit.signals in
+      let most = most_at network in
       let order = network.order.items in
       let next : rank_at network gate ≡ place + 1 = omega (arith, placed.counted) in
       let lower : rank_at network read ≤ place = omega (arith, is.ranks.rising gate read reads) in
-      let whole = ap (λ n. sum_by weight (take n order)) next in
+      let whole = ap (λ n. sum_by most (take n order)) next in
       let more =
-      sum_by_more weight order place gate (slice_get_within order place gate placed.here) in
-      let last = ap weight (get_or_from_slice_get order place gate gate placed.here) in
-      let prefix = ap (sum_by weight) (take-take (rank_at network read) place order lower) in
+      sum_by_more most order place gate (slice_get_within order place gate placed.here) in
+      let last = ap most (get_or_from_slice_get order place gate gate placed.here) in
+      let prefix = ap (sum_by most) (take-take (rank_at network read) place order lower) in
       omega (
         arith,
         whole,
         more,
         last,
         prefix,
-        sum_by-take-le weight (take place order) (rank_at network read),
+        sum_by-take-le most (take place order) (rank_at network read),
       )
 
   -- no limit is beyond the limit of all delays
-  pub limit_within : (rank : ℕ) → limit_at circuit.signals network.order.items rank ≤ delay_limit
+  pub limit_within : (rank : ℕ) → limit_at network rank ≤ delay_limit
   limit_within rank = omega (
     arith,
-    sum_by-take-le (weight_at circuit.signals) network.order.items rank,
-    is.once,
-    weights_within circuit,
+    limit_rises network rank,
+    limit_below circuit tech network is,
+    total_within circuit tech network is,
   )
 
   -- two gates of one rank are the same

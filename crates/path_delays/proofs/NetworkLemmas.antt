@@ -260,7 +260,7 @@ sum_by-same f g (x ∷ xs) agree = omega (
 )
 
 -- numbers that aren't equal have no more weight than all
-distinct_sum-le : (weights numbers : List ℕ) → AllPairs (λ first second. first ≢ second) numbers
+pub distinct_sum-le : (weights numbers : List ℕ) → AllPairs (λ first second. first ≢ second) numbers
     → sum_by (λ number. get_or weights number 0) numbers ≤ sum weights
 distinct_sum-le weights [] once = omega arith
 distinct_sum-le weights (number ∷ numbers) once = elim (cases_lt number (length weights)) [
@@ -311,7 +311,7 @@ distinct_length-le limit numbers once below = omega (
     )
 
 -- so the gates of an order have no more weight than the signals
-pub weights_once : (signals : List Signal) (order : List ℕ)
+weights_once : (signals : List Signal) (order : List ℕ)
     → AllPairs (λ first second. first ≢ second) order
     → sum_by (weight_at signals) order ≤ sum_by weight_of signals
 weights_once signals order once =

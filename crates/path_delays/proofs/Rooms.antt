@@ -1,11 +1,14 @@
 -- Room for a walk over a network.
-use Rattle.std.proofs.Common.{◌≡◌, ◌+◌, ◌-◌, ◌*◌, ◌^◌, ◌<◌, ◌≤◌, ℕ, length, get_or, All, inl, inr, sym, ◌∙◌, ap, subst, arith}
+use Rattle.std.proofs.Common.{◌≡◌, ◌≢◌, ◌+◌, ◌-◌, ◌*◌, ◌^◌, ◌<◌, ◌≤◌, ℕ, zero, suc, ℤ, ◌-ℤ◌, ◌≤ℤ◌, List, [], ◌∷◌, length, map, take, get_or, All, AllPairs, inl, inr, refl, sym, ◌∙◌, ap, subst, arith}
+use Rattle.std.specs.Int.{int_max}
+use Rattle.std.specs.List.{slice_index_or, sum_by}
 use Rattle.std.proofs.lemmas.Bool.{cases_lt}
-use Rattle.std.proofs.lemmas.List.{length-map}
-use Rattle.std.proofs.lemmas.List.Sums.{get_or-le-sum_by}
+use Rattle.std.proofs.lemmas.List.{length-map, take_all}
+use Rattle.std.proofs.lemmas.List.Sums.{get_or-le-sum_by, sum_by_more, sum_by-cons, sum_by-le-sum_by, sum_by-take-le, sum-map}
 use Rattle.std.proofs.lemmas.List.Elements.{All-map, Contains-get_or}
 use Rattle.std.proofs.lemmas.Option.{slice_get_within}
 use Rattle.std.proofs.lemmas.Int.{ints}
+use Rattle.cts_model.specs.declared.signal.Signal.{Signal}
 use Rattle.cts_model.specs.declared.circuit.Circuit.{Circuit}
 use Rattle.cts_model.specs.declared.tech.Tech.{Tech}
 use Rattle.gate_order.specs.GroupParts.{group_of}
@@ -13,10 +16,11 @@ use Rattle.path_delays.specs.declared.sums.Sums.{Sums}
 use Rattle.path_delays.specs.declared.network.Network.{Network}
 use Rattle.path_delays.specs.declared.reach.Reach.{Reach}
 use Rattle.path_delays.specs.SumParts.{AreWithin, delay_limit}
-use Rattle.path_delays.specs.Networks.{IsNetworkOf, gate_sums, weight_of}
-use Rattle.path_delays.specs.Handing.{HasReachRoom, rank_at}
+use Rattle.path_delays.specs.Networks.{IsLeftAfter, IsNetworkOf, gate_sums, weight_of}
+use Rattle.path_delays.specs.Handing.{HasReachRoom, limit_at, limit_of, most_at, most_of, no_delay, rank_at}
 use Rattle.path_delays.proofs.DelayLemmas.{gate_within}
-use Rattle.path_delays.proofs.NetworkLemmas.{reader_within, weights_within}
+use Rattle.path_delays.proofs.NetworkLemmas.{distinct_sum-le, reader_within, weights_within}
+use Rattle.path_delays.proofs.SumLemmas.{most_below, most_is, within_most}
 
 -- sums within a limit are within a higher one
 pub within_higher : (limit higher : ℕ) (sums : Sums) → limit ≤ higher → AreWithin limit sums
@@ -26,6 +30,64 @@ within_higher limit higher sums more within = record {
   greatest =
       record { above = within.greatest.above; below = omega (arith, ints, within.greatest.below) };
 }
+
+-- the limit of a rank is no higher than that of the whole order
+pub limit_rises : (network : Network) (rank : ℕ)
+    → limit_at network rank ≤ limit_at network (length network.order.items)
+limit_rises network rank =
+    let order = network.order.items in
+    omega (
+      arith,
+      sum_by-take-le (most_at network) order rank,
+      ap (sum_by (most_at network)) (take_all (length order) order (omega arith)),
+    )
+
+-- the delays of gates that aren't equal add up to no more than all delays
+mosts_once : (delays : List Sums) (order : List ℕ) → AllPairs (λ first second. first ≢ second) order
+    → sum_by (λ number. most_of (slice_index_or delays number no_delay)) order
+    ≤ sum_by most_of delays
+mosts_once delays order once =
+    let mosts = map most_of delays in
+    omega (
+      arith,
+      sum_by-le-sum_by (λ number. most_of (slice_index_or delays number no_delay))
+          (λ number. get_or mosts number 0) order (λ number. omega (arith, most_is delays number)),
+      distinct_sum-le mosts order once,
+      sum-map most_of delays,
+    )
+  where
+    most_is : (delays : List Sums) (number : ℕ)
+        → get_or (map most_of delays) number 0 ≡ most_of (slice_index_or delays number no_delay)
+    most_is [] number = refl
+    most_is (delay ∷ delays) zero = refl
+    most_is (delay ∷ delays) (suc number) = most_is delays number
+
+-- the delays of signals add up to no more than their weights
+mosts_weigh : (tech : Tech) (signals : List Signal)
+    → sum_by most_of (map (gate_sums tech) signals) ≤ sum_by weight_of signals
+mosts_weigh tech [] = omega arith
+mosts_weigh tech (signal ∷ signals) = omega (
+  arith,
+  sum_by-cons most_of (gate_sums tech signal) (map (gate_sums tech) signals),
+  sum_by-cons weight_of signal signals,
+  most_below (weight_of signal) (gate_sums tech signal) (gate_within tech signal),
+  mosts_weigh tech signals,
+)
+
+-- one delay more leaves less
+pub IsLeftAfter-more : (delays : List Sums) (passed : ℕ) (left most : ℤ) (other : Sums)
+    → passed < length delays → AreWithin delay_limit (get_or delays passed other)
+    → most ≡ int_max (get_or delays passed other).least (get_or delays passed other).greatest
+    → most ≤ℤ left → IsLeftAfter (take passed delays) left
+    → IsLeftAfter (take (passed + 1) delays) (left -ℤ most)
+IsLeftAfter-more delays passed left most other inside within read room so_far =
+    let delay = get_or delays passed other in
+    let more = sum_by_more most_of delays passed other inside in
+    let is = most_is delay_limit delay within in
+    record {
+      above = omega (arith, ints, room);
+      sum = omega (arith, ints, more, is, read, so_far.sum);
+    }
 
 module _ (circuit : Circuit) (tech : Tech) (network : Network)
     (is : IsNetworkOf circuit tech network) where
@@ -51,7 +113,7 @@ module _ (circuit : Circuit) (tech : Tech) (network : Network)
       (Contains-get_or (group_of network.readers signal) i d within))
 
   -- no delay is beyond the limit
-  delays_within : All (AreWithin delay_limit) network.delays.items
+  pub delays_within : All (AreWithin delay_limit) network.delays.items
   delays_within = subst (All (AreWithin delay_limit)) (sym is.delays)
       (All-map (AreWithin delay_limit) (gate_sums tech) circuit.signals (λ i d inside.
       within_higher (weight_of (get_or circuit.signals i d)) delay_limit
@@ -59,13 +121,57 @@ module _ (circuit : Circuit) (tech : Tech) (network : Network)
       (omega (arith, get_or-le-sum_by weight_of circuit.signals i d inside, weights_within circuit))
       (gate_within tech (get_or circuit.signals i d))))
 
-  -- room for as many signals and gates is room for the network
+  -- no gate reads itself
+  readers_apart : (signal : ℕ) → signal < length circuit.signals
+      → All (λ gate. gate ≢ signal) (group_of network.readers signal)
+  readers_apart signal inside = λ i d within same.
+      let gate = get_or (group_of network.readers signal) i d in
+      let reads = is.readers.each signal gate inside
+      (Contains-get_or (group_of network.readers signal) i d within) in
+      absurd (omega (
+        arith,
+        is.ranks.rising gate signal reads,
+        ap (rank_at network) same,
+      ))
+
+  -- no path through all gates takes more than all delays
+  pub limit_below : limit_at network (length network.order.items)
+      ≤ 1000000 + sum_by most_of network.delays.items
+  limit_below = omega (
+    arith,
+    ap (sum_by (most_at network))
+        (take_all (length network.order.items) network.order.items (omega arith)),
+    mosts_once network.delays.items network.order.items is.once,
+  )
+
+  -- and all delays are no more than the limit of all circuits
+  pub total_within : 1000000 + sum_by most_of network.delays.items ≤ delay_limit
+  total_within = omega (
+    arith,
+    ap (sum_by most_of) is.delays,
+    mosts_weigh tech circuit.signals,
+    weights_within circuit,
+  )
+
+  -- each delay is within what all add up to
+  delays_below : (limit : ℕ) → sum_by most_of network.delays.items ≤ limit
+      → All (AreWithin limit) network.delays.items
+  delays_below limit total i d inside =
+      let delay = get_or network.delays.items i d in
+      within_higher (most_of delay) limit delay
+      (omega (arith, get_or-le-sum_by most_of network.delays.items i d inside))
+      (within_most delay_limit delay (delays_within i d inside))
+
+  -- room for as many signals and gates is room for the network, where no path is too long
   pub HasReachRoom-made : (reach : Reach) (gates : ℕ) → length network.order.items ≤ gates
       → length reach.lanes.items ≡ length circuit.signals
       → length circuit.signals < 64 * length reach.reached.words.items
       → gates < 64 * length reach.waiting.words.items
-      → 64 * length reach.waiting.words.items < 2 ^ 32 → HasReachRoom network reach
-  HasReachRoom-made reach gates few lanes reached waiting small =
+      → 64 * length reach.waiting.words.items < 2 ^ 32
+      → limit_of reach ≤ delay_limit
+      → 1000000 + sum_by most_of network.delays.items ≤ limit_of reach
+      → HasReachRoom network reach
+  HasReachRoom-made reach gates few lanes reached waiting small known total =
       let covers : length circuit.signals ≡ length network.ranks.items = sym is.ranks.covers in
       record {
         starts = is.readers.long ∙ ap (λ n. n + 1) covers;
@@ -73,7 +179,12 @@ module _ (circuit : Circuit) (tech : Tech) (network : Network)
             subst (λ n. (signal : ℕ) → signal < n
             → All (λ gate. gate < n) (group_of network.readers signal)) covers readers_within;
         delays = ap length is.delays ∙ (length-map circuit.signals (gate_sums tech) ∙ covers);
-        small_delays = delays_within;
+        apart =
+            subst (λ n. (signal : ℕ) → signal < n
+            → All (λ gate. gate ≢ signal) (group_of network.readers signal)) covers readers_apart;
+        small_delays = delays_below (limit_of reach) (omega (arith, total));
+        total = omega (arith, limit_below, total);
+        known = known;
         lanes = lanes ∙ covers;
         reached = omega arith;
         waiting = λ gate. omega (arith, rank_within gate);

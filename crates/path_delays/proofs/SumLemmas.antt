@@ -1,11 +1,13 @@
 -- Sums: the lesser and the greater of two, what they are around, and the limits that they keep.
-use Rattle.std.proofs.Common.{◌≡◌, ◌+◌, ◌≤◌, ℕ, ℤ, ◌≤ℤ◌, Bool, true, false, cond, Option, Some, None, inl, inr, ◌⊎◌, refl, sym, subst, arith}
+use Rattle.std.proofs.Common.{◌≡◌, ◌+◌, ◌≤◌, ℕ, ℤ, pos, ◌≤ℤ◌, Bool, true, false, cond, Option, Some, None, inl, inr, ◌⊎◌, refl, sym, subst, arith}
 use Rattle.std.specs.Int.{int_min, int_max}
 use Rattle.std.specs.Int.Signed.{lt_z}
 use Rattle.std.proofs.lemmas.Int.{ints, clamps}
 use Rattle.cts_model.specs.table.Tables.{IsWithin}
+use Rattle.cts_model.proofs.ScaleLemmas.{size_same}
 use Rattle.path_delays.specs.declared.sums.Sums.{Sums}
 use Rattle.path_delays.specs.SumParts.{AreWithin, IsAround, AreAround, joined_sums, sums_through}
+use Rattle.path_delays.specs.Handing.{most_of}
 
 -- the lesser of two numbers is one of them, and no greater than either
 pub min_cases : (x y : ℤ)
@@ -24,6 +26,30 @@ max_cases x y = (at (lt_z y x), omega (arith, ints, clamps), omega (arith, ints,
     at : (b : Bool) → (cond b x y ≡ x) ⊎ (cond b x y ≡ y)
     at true = inl refl
     at false = inr refl
+
+-- the greater of two sums that are no less than 0 is a number from 0 on
+pub most_is : (limit : ℕ) (sums : Sums) → AreWithin limit sums
+    → pos (most_of sums) ≡ int_max sums.least sums.greatest
+most_is limit sums within = size_same (int_max sums.least sums.greatest)
+    (omega (arith, ints, (max_cases sums.least sums.greatest).1, within.least.above))
+
+-- it is no greater than their limit
+pub most_below : (limit : ℕ) (sums : Sums) → AreWithin limit sums → most_of sums ≤ limit
+most_below limit sums within = elim (max_cases sums.least sums.greatest).0 [
+  | inl first ↦ omega (arith, ints, most_is limit sums within, first, within.least.below)
+  | inr second ↦ omega (arith, ints, most_is limit sums within, second, within.greatest.below)
+]
+
+-- and both are within it
+pub within_most : (limit : ℕ) (sums : Sums) → AreWithin limit sums
+    → AreWithin (most_of sums) sums
+within_most limit sums within =
+    let is = most_is limit sums within in
+    let more = max_cases sums.least sums.greatest in
+    record {
+      least = record { above = within.least.above; below = omega (arith, ints, is, more.1) };
+      greatest = record { above = within.greatest.above; below = omega (arith, ints, is, more.2) };
+    }
 
 -- sums are around themselves
 pub around_itself : (sums : Sums) → IsAround sums sums

@@ -16,9 +16,9 @@ use Rattle.path_delays.specs.declared.reach.Reach.{Reach}
 use Rattle.path_delays.specs.Carrying.{along, AreExtremesIfAny, Comes, gate_sums_at, start_sums}
 use Rattle.path_delays.specs.SumParts.{AreWithin, delay_limit, some_sums, sums_through}
 use Rattle.path_delays.specs.Networks.{IsNetworkOf}
-use Rattle.path_delays.specs.Handing.{rank_at, lane_at, lanes_at, sums_at, waits_at}
+use Rattle.path_delays.specs.Handing.{limit_at, rank_at, lane_at, lanes_at, sums_at, waits_at}
 use Rattle.path_delays.specs.Reaches.{IsChain, IsReach}
-use Rattle.path_delays.specs.Walking.{AllBelow, IsSpreadBelow, LanesBelow, StartsIn, limit_at}
+use Rattle.path_delays.specs.Walking.{AllBelow, IsSpreadBelow, LanesBelow, StartsIn}
 use Rattle.path_delays.proofs.CarryLemmas.{carried_end}
 use Rattle.path_delays.proofs.LaneLemmas.{bounded_higher, bounded_some, lanes_there, some_is_there}
 use Rattle.path_delays.proofs.NetworkDelays.{limit_within}
@@ -141,7 +141,7 @@ module _ (circuit : Circuit) (tech : Tech) where
         ]
 
         limit : ℕ
-        limit = limit_at circuit.signals network.order.items (rank_at network signal)
+        limit = limit_at network (rank_at network signal)
 
         small : (sums : Sums) → sums_at reach lane signal ≡ Some sums → AreWithin delay_limit sums
         small sums there = at (lane_at reach lane signal) refl there

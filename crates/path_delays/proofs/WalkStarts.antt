@@ -17,10 +17,10 @@ use Rattle.path_delays.specs.declared.network.Network.{Network}
 use Rattle.path_delays.specs.declared.reach.Reach.{Reach}
 use Rattle.path_delays.specs.Carrying.{AreCarried, AreLaunchedBy, AreShownBy, Comes, IsJoinedAt, gate_sums_at, start_sums}
 use Rattle.path_delays.specs.LaneParts.{AllBounded, lane_of}
-use Rattle.path_delays.specs.SumParts.{AreAround, AreBounded, AreWithin, delay_limit, either_sums, merged_sums, no_sums, some_sums}
+use Rattle.path_delays.specs.SumParts.{AreAround, AreBounded, AreWithin, either_sums, merged_sums, no_sums, some_sums}
 use Rattle.path_delays.specs.Networks.{IsNetworkOf}
-use Rattle.path_delays.specs.Handing.{rank_at, lane_at, lanes_at, sums_at, IsCleared, IsMarked, IsStarted}
-use Rattle.path_delays.specs.Walking.{limit_at, AllBelow, AllBelowBut, BegunIn, IsSpread, IsSpreadBelow, LanesBelow, StartsIn}
+use Rattle.path_delays.specs.Handing.{limit_at, limit_of, rank_at, lane_at, lanes_at, sums_at, HasReachRoom, IsCleared, IsMarked, IsStarted}
+use Rattle.path_delays.specs.Walking.{AllBelow, AllBelowBut, BegunIn, IsSpread, IsSpreadBelow, LanesBelow, StartsIn}
 use Rattle.path_delays.proofs.CarryLemmas.{IsHandedBy, carried_joined, carried_none, carried_same, listed_next, shown_start}
 use Rattle.path_delays.proofs.SumLemmas.{around_itself}
 use Rattle.path_delays.proofs.LaneLemmas.{bounded_joined, none_missing, some_is, some_mapped, some_merged, some_within}
@@ -66,20 +66,28 @@ marked_within limit old new lane signal sums marked bounded other before entry h
 
 -- so all its lanes are
 pub marked_bounded : (old new : Reach) (lane signal : ℕ) (sums : Sums)
-    → AreWithin delay_limit sums → IsMarked lane signal sums old new
-    → ((given : Lanes) → lanes_at old signal ≡ Some given → AllBounded delay_limit given)
-    → (given : Lanes) → lanes_at new signal ≡ Some given → AllBounded delay_limit given
+    → AreWithin (limit_of old) sums → IsMarked lane signal sums old new
+    → ((given : Lanes) → lanes_at old signal ≡ Some given → AllBounded (limit_of old) given)
+    → (given : Lanes) → lanes_at new signal ≡ Some given → AllBounded (limit_of new) given
 marked_bounded old new lane signal sums within marked before given here other low =
-    marked_within delay_limit old new lane signal sums marked (inl within) other
+    subst (λ n. AreBounded n (lane_of given other)) (sym marked.room.limit)
+    (marked_within (limit_of old) old new lane signal sums marked (inl within) other
     (λ entry there. at (lanes_at old signal) refl entry there) (lane_of given other)
-    (ap (option_map (λ (lanes : Lanes). lane_of lanes other)) here)
+    (ap (option_map (λ (lanes : Lanes). lane_of lanes other)) here))
   where
     at : (known : Option Lanes) → lanes_at old signal ≡ known → (entry : Sums)
         → option_map (λ (lanes : Lanes). lane_of lanes other) (lanes_at old signal) ≡ Some entry
-        → AreBounded delay_limit entry
+        → AreBounded (limit_of old) entry
     at None none entry equal = absurd (let missing = rw none at equal in cc)
-    at (Some lanes) there entry equal = subst (AreBounded delay_limit)
+    at (Some lanes) there entry equal = subst (AreBounded (limit_of old))
         (same_Some (lane_of lanes other) entry (rw there at equal)) (before lanes there other low)
+
+-- what a register starts with is within the limit
+pub start_bounded : (network : Network) (reach : Reach) (tech : Tech) → HasReachRoom network reach
+    → AreWithin (limit_of reach) (start_sums tech)
+start_bounded network reach tech room = within_higher 1000000 (limit_of reach) (start_sums tech)
+    (omega (arith, room.total))
+    (record { least = tech.valid.least_within; greatest = tech.valid.greatest_within })
 
 -- nothing is listed in an empty list
 none_listed : (one : ℕ) → Contains [] one → ⊥
@@ -141,7 +149,7 @@ module _ (circuit : Circuit) (tech : Tech) (network : Network)
     start = start_sums tech
 
     abbrev limit : ℕ → ℕ
-    limit number = limit_at circuit.signals network.order.items (rank_at network number)
+    limit number = limit_at network (rank_at network number)
 
     start_within : AreWithin (limit signal) start
     start_within = within_higher 1000000 (limit signal) start (omega arith)

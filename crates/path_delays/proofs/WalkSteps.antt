@@ -18,16 +18,16 @@ use Rattle.path_delays.specs.declared.network.Network.{Network}
 use Rattle.path_delays.specs.declared.reach.Reach.{Reach}
 use Rattle.path_delays.specs.Carrying.{IsJoinedAt, gate_sums_at}
 use Rattle.path_delays.specs.LaneParts.{AllBounded, lane_of}
-use Rattle.path_delays.specs.SumParts.{AreAround, AreBounded, delay_limit, either_sums, joined_sums, some_sums, sums_through}
+use Rattle.path_delays.specs.SumParts.{AreAround, AreBounded, either_sums, joined_sums, some_sums, sums_through}
 use Rattle.path_delays.specs.NumberSets.{IsLowestTaken}
-use Rattle.path_delays.specs.Networks.{IsNetworkOf, weight_at}
-use Rattle.path_delays.specs.Handing.{rank_at, lane_at, lanes_at, sums_at, waits_at, IsHanded, AreHanded, IsHandedOn}
-use Rattle.path_delays.specs.Walking.{limit_at, AllBelow, AllBelowBut, IsDue, IsSpread, StartsIn}
+use Rattle.path_delays.specs.Networks.{IsNetworkOf}
+use Rattle.path_delays.specs.Handing.{limit_at, limit_of, most_at, rank_at, lane_at, lanes_at, sums_at, waits_at, HasReachRoom, IsHanded, AreHanded, IsHandedOn}
+use Rattle.path_delays.specs.Walking.{AllBelow, AllBelowBut, IsDue, IsSpread, StartsIn}
 use Rattle.path_delays.proofs.CarryLemmas.{IsHandedBy, carried_joined, carried_same, shown_passed}
 use Rattle.path_delays.proofs.SumLemmas.{around_itself}
 use Rattle.path_delays.proofs.LaneLemmas.{bounded_higher, bounded_joined, bounded_through, some_joined, some_mapped, some_through, lanes_there}
 use Rattle.path_delays.proofs.NetworkDelays.{delay_is, delay_within, limit_more, limit_within, same_rank}
-use Rattle.path_delays.proofs.Rooms.{rank_within}
+use Rattle.path_delays.proofs.Rooms.{limit_rises, rank_within}
 
 module _ (circuit : Circuit) (tech : Tech) (network : Network)
     (is : IsNetworkOf circuit tech network) where
@@ -73,15 +73,15 @@ module _ (circuit : Circuit) (tech : Tech) (network : Network)
   delay = gate_sums_at circuit tech
 
   abbrev limit : ℕ → ℕ
-  limit number = limit_at circuit.signals network.order.items (rank_at network number)
+  limit number = limit_at network (rank_at network number)
 
   -- what stands in the lanes is bounded
   pub all_bounded : (reach : Reach) (rank : ℕ) (Handed : ℕ → ℕ → Type 0)
-      → Spread Handed rank reach → (signal : ℕ) (given : Lanes)
-      → lanes_at reach signal ≡ Some given → AllBounded delay_limit given
-  all_bounded reach rank Handed spread signal given here lane low =
-      bounded_higher (limit signal) delay_limit (lane_of given lane)
-      (limit_within circuit tech network is (rank_at network signal))
+      → HasReachRoom network reach → Spread Handed rank reach → (signal : ℕ) (given : Lanes)
+      → lanes_at reach signal ≡ Some given → AllBounded (limit_of reach) given
+  all_bounded reach rank Handed room spread signal given here lane low =
+      bounded_higher (limit signal) (limit_of reach) (lane_of given lane)
+      (omega (arith, limit_rises network (rank_at network signal), room.total))
       (spread.limited lane signal (lane_of given lane) low
       (ap (option_map (λ (lanes : Lanes). lane_of lanes lane)) here))
 
@@ -124,7 +124,7 @@ module _ (circuit : Circuit) (tech : Tech) (network : Network)
 
     through_bounded : (lane : ℕ) → lane < 8 → AreBounded (limit gate) (through lane)
     through_bounded lane low =
-        bounded_through (limit pending) (weight_at circuit.signals gate) (limit gate)
+        bounded_through (limit pending) (most_at network gate) (limit gate)
         (lane_of given lane) (delay gate) (limit_more circuit tech network is pending gate reads)
         (given_bounded lane low) (delay_within circuit tech network is gate is_one)
 
@@ -155,7 +155,7 @@ module _ (circuit : Circuit) (tech : Tech) (network : Network)
           (limit_within circuit tech network is (rank_at network gate))
           (λ entry. so_far.limited lane gate entry low) (through_bounded lane low)
           ∙ ap (either_sums (sums_at old lane gate))
-          (some_through (limit pending) (weight_at circuit.signals gate) (limit gate)
+          (some_through (limit pending) (most_at network gate) (limit gate)
           (lane_of given lane) (delay gate) (limit_more circuit tech network is pending gate reads)
           (limit_within circuit tech network is (rank_at network gate)) (given_bounded lane low)
           (delay_within circuit tech network is gate is_one)

@@ -1,6 +1,8 @@
 -- Sums of delays that a walk holds, and how they are handed from a signal to the gates that read
 -- it.
-use Rattle.std.specs.Prelude.{◌≡◌, ◌≢◌, ◌<◌, ◌+◌, ◌*◌, ◌^◌, ◌==◌, ◌&&◌, ◌||◌, ℕ, Bool, false, pos, List, [], ◌∷◌, length, All, Option, Some, None, is_none, if◌then◌else◌, slice_get, slice_index, slice_index_or}
+use Rattle.std.specs.Prelude.{◌≡◌, ◌≢◌, ◌<◌, ◌≤◌, ◌+◌, ◌*◌, ◌^◌, ◌==◌, ◌&&◌, ◌||◌, ℕ, Bool, false, pos, nat_abs, List, [], ◌∷◌, length, take, All, Option, Some, None, is_none, if◌then◌else◌, slice_get, slice_index, slice_index_or}
+use Rattle.std.specs.Int.{int_max}
+use Rattle.std.specs.List.{sum_by}
 use Rattle.std.specs.Option.{option_and_then, option_map, unwrap_or}
 use Rattle.gate_order.specs.GroupParts.{bounds_of, group_of}
 use Rattle.path_delays.specs.declared.lanes.Lanes.{Lanes}
@@ -31,9 +33,32 @@ waits_at reach rank = has_number reach.waiting.words.items rank
 abbrev pub rank_at : Network → ℕ → ℕ
 rank_at network number = slice_index network.ranks.items number
 
+-- what is no gate has no delay
+abbrev pub no_delay : Sums
+no_delay = record { least = pos 0; greatest = pos 0 }
+
 abbrev pub delay_at : Network → ℕ → Sums
-delay_at network number =
-    slice_index_or network.delays.items number (record { least = pos 0; greatest = pos 0 })
+delay_at network number = slice_index_or network.delays.items number no_delay
+
+-- the greater of two sums that are no less than 0
+abbrev pub most_of : Sums → ℕ
+most_of sums = nat_abs (int_max sums.least sums.greatest)
+
+-- no delay of the gate of a number is more
+abbrev pub most_at : Network → ℕ → ℕ
+most_at network number = most_of (delay_at network number)
+
+-- no sum to a signal of this rank is more
+abbrev pub limit_at : Network → ℕ → ℕ
+limit_at network rank = 1000000 + sum_by (most_at network) (take rank network.order.items)
+
+-- no sum that a walk holds is more
+abbrev pub limit_of : Reach → ℕ
+limit_of reach = delay_limit
+
+-- what lanes of 32 bits hold
+abbrev pub narrow_limit : ℕ
+narrow_limit = 536870911
 
 -- room for the signals of a network, whose delays are small
 pub record HasReachRoom (network : Network) (reach : Reach) : Type 0 where
@@ -41,7 +66,11 @@ pub record HasReachRoom (network : Network) (reach : Reach) : Type 0 where
   pub readers : (signal : ℕ) → signal < length network.ranks.items
       → All (λ gate. gate < length network.ranks.items) (group_of network.readers signal)
   pub delays : length network.delays.items ≡ length network.ranks.items
-  pub small_delays : All (AreWithin delay_limit) network.delays.items
+  pub apart : (signal : ℕ) → signal < length network.ranks.items
+      → All (λ gate. gate ≢ signal) (group_of network.readers signal)
+  pub small_delays : All (AreWithin (limit_of reach)) network.delays.items
+  pub total : limit_at network (length network.order.items) ≤ limit_of reach
+  pub known : limit_of reach ≤ delay_limit
   pub lanes : length reach.lanes.items ≡ length network.ranks.items
   pub reached : length network.ranks.items < 64 * length reach.reached.words.items
   pub waiting : (gate : ℕ) → rank_at network gate < 64 * length reach.waiting.words.items
@@ -52,6 +81,7 @@ pub record IsSameRoom (old new : Reach) : Type 0 where
   pub lanes : length new.lanes.items ≡ length old.lanes.items
   pub reached : length new.reached.words.items ≡ length old.reached.words.items
   pub waiting : length new.waiting.words.items ≡ length old.waiting.words.items
+  pub limit : limit_of new ≡ limit_of old
 
 -- sums are joined at a signal in a lane, where it isn't reached none stand in the others, and all
 -- else stays

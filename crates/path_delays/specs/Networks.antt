@@ -1,6 +1,6 @@
 -- What walks over a circuit go by: the readers of each signal, the order of the gates and their
 -- delays.
-use Rattle.std.specs.Prelude.{◌≡◌, ◌<◌, ◌≤◌, ◌+◌, ◌-◌, ◌*◌, ◌↔◌, ℕ, pos, List, [], length, map, take, All, Contains, Some, if◌then◌else◌, slice_get, slice_index}
+use Rattle.std.specs.Prelude.{◌≡◌, ◌≢◌, ◌<◌, ◌≤◌, ◌+◌, ◌-◌, ◌*◌, ◌+ℤ◌, ◌≤ℤ◌, ◌↔◌, ℕ, ℤ, pos, List, [], length, map, take, All, AllPairs, Contains, Some, if◌then◌else◌, slice_get, slice_index}
 use Rattle.std.specs.List.{sum_by}
 use Rattle.std.specs.Option.{option_map_or}
 use Rattle.cts_model.specs.declared.signal.Signal.{Signal}
@@ -14,7 +14,7 @@ use Rattle.gate_order.specs.declared.groups.Groups.{Groups}
 use Rattle.gate_order.specs.GroupParts.{bounds_of, group_of}
 use Rattle.path_delays.specs.declared.sums.Sums.{Sums}
 use Rattle.path_delays.specs.declared.network.Network.{Network}
-use Rattle.path_delays.specs.Handing.{rank_at}
+use Rattle.path_delays.specs.Handing.{most_of, rank_at}
 
 -- the pairs of a signal that is read and a gate that reads it, of all gates below a number
 pub record AreAllReads (signals : List Signal) (below : ℕ) (pairs : List (ℕ × ℕ)) : Type 0 where
@@ -87,11 +87,15 @@ abbrev pub AreCapturedUpTo : Circuit → Network → (register top : ℕ) → Ty
 AreCapturedUpTo circuit network register top =
     (signal : ℕ) → Captures circuit register signal → rank_at network signal ≤ top
 
+-- so much is left for further delays where all are short
+pub record IsLeftAfter (delays : List Sums) (left : ℤ) : Type 0 where
+  pub above : pos 0 ≤ℤ left
+  pub sum : (pos (sum_by most_of delays) +ℤ left) ≡ pos 535870911
+
 -- the readers, the ranks, the delays and the inputs of a circuit
 pub record IsNetworkOf (circuit : Circuit) (tech : Tech) (network : Network) : Type 0 where
   pub readers : AreReaders circuit.signals network.readers
   pub ranks : AreRanks circuit.signals network.order.items network.ranks.items
-  pub once : sum_by (weight_at circuit.signals) network.order.items
-      ≤ sum_by weight_of circuit.signals
+  pub once : AllPairs (λ first second. first ≢ second) network.order.items
   pub delays : network.delays.items ≡ map (gate_sums tech) circuit.signals
   pub inputs : AreInputs circuit network.inputs.items

@@ -1,7 +1,5 @@
 -- How far a walk has come that hands sums from rank to rank.
-use Rattle.std.specs.Prelude.{◌≡◌, ◌<◌, ◌≤◌, ◌+◌, ◌⊎◌, ℕ, true, List, take, Contains, Some, IsSome, slice_get}
-use Rattle.std.specs.List.{sum_by}
-use Rattle.cts_model.specs.declared.signal.Signal.{Signal}
+use Rattle.std.specs.Prelude.{◌≡◌, ◌<◌, ◌≤◌, ◌⊎◌, ℕ, true, List, Contains, Some, IsSome, slice_get}
 use Rattle.cts_model.specs.declared.circuit.Circuit.{Circuit}
 use Rattle.cts_model.specs.declared.tech.Tech.{Tech}
 use Rattle.path_delays.specs.declared.sums.Sums.{Sums}
@@ -9,13 +7,8 @@ use Rattle.path_delays.specs.declared.network.Network.{Network}
 use Rattle.path_delays.specs.declared.reach.Reach.{Reach}
 use Rattle.path_delays.specs.Carrying.{AreCarried, StartsOf, gate_sums_at, start_sums}
 use Rattle.path_delays.specs.SumParts.{AreBounded}
-use Rattle.path_delays.specs.Networks.{weight_at}
-use Rattle.path_delays.specs.Handing.{lane_at, lanes_at, rank_at, sums_at, waits_at}
+use Rattle.path_delays.specs.Handing.{lane_at, lanes_at, limit_at, rank_at, sums_at, waits_at}
 use Rattle.path_delays.specs.Reaches.{IsReach}
-
--- no sum to a signal of this rank is more
-abbrev pub limit_at : List Signal → List ℕ → ℕ → ℕ
-limit_at signals order rank = 1000000 + sum_by (weight_at signals) (take rank order)
 
 -- the rank of a gate that is reached waits, and is no lower than this
 pub record IsDue (network : Network) (reach : Reach) (rank other : ℕ) : Type 0 where
@@ -44,7 +37,7 @@ pub record IsSpread (circuit : Circuit) (tech : Tech) (network : Network) (regis
     (Begun : (lane : ℕ) → ℕ → Sums → Type 0) (Handed : ℕ → ℕ → Type 0) (rank : ℕ)
     (reach : Reach) : Type 0 where
   pub limited : (lane signal : ℕ) (sums : Sums) → lane < 8 → lane_at reach lane signal ≡ Some sums
-      → AreBounded (limit_at circuit.signals network.order.items (rank_at network signal)) sums
+      → AreBounded (limit_at network (rank_at network signal)) sums
   pub carried : (lane : ℕ) → lane < 8
       → AreCarried circuit.signals (gate_sums_at circuit tech)
       (StartsIn circuit tech registers lane) (Begun lane) Handed (sums_at reach lane)

@@ -1,4 +1,4 @@
-ghost use Rattle.std.specs.Prelude.{◌≡◌, ◌≢◌, ◌<◌, ◌≤◌, ◌++◌, ◌^◌, IfOk, OnOk, All, AllPairs, length};
+ghost use Rattle.std.specs.Prelude.{◌≡◌, ◌≢◌, ◌<◌, ◌≤◌, ◌+◌, ◌++◌, ◌^◌, true, IfOk, OnOk, All, AllPairs, length, sum_by};
 
 use crate::gate_delays::gate_delays;
 use crate::launching::input_signals;
@@ -25,7 +25,8 @@ pub(crate) struct Network {
 
 impl Network {
     ghost use Rattle.gate_order.specs.LevelParts.{IsLevelsOf};
-    ghost use Rattle.path_delays.specs.Handing.{rank_at};
+    ghost use Rattle.path_delays.specs.SumParts.{AreWithin, delay_limit};
+    ghost use Rattle.path_delays.specs.Handing.{most_of, narrow_limit, rank_at};
     ghost use Rattle.path_delays.specs.Networks.{AreAllReads, AreCapturedUpTo, ArePlaces, IsNetworkOf, all_reads_by};
 
     /// The network of a circuit: passes over its inputs and its gates.
@@ -66,6 +67,22 @@ impl Network {
             top = higher(top, self.top_of(captured));
         }
         top
+    }
+
+    /// Whether no path takes more ticks than lanes of 32 bits hold.
+    pub(crate) fn is_short(&self) -> bool
+        requires { All (AreWithin delay_limit) self.now.delays.items }
+        ensures { result ≡ true → 1000000 + sum_by most_of self.now.delays.items ≤ narrow_limit }
+    {
+        let mut left = 535_870_911_i64;
+        for delay in self.delays.as_slice() {
+            let most = delay.least.max(delay.greatest);
+            if most > left {
+                return false;
+            }
+            left -= most;
+        }
+        true
     }
 
     // The highest rank of some signals.

@@ -20,9 +20,9 @@ pub(crate) struct Reach {
 
 impl Reach {
     ghost use Rattle.path_delays.specs.declared.lanes.Lanes.{Lanes};
-    ghost use Rattle.path_delays.specs.SumParts.{AreWithin, delay_limit};
+    ghost use Rattle.path_delays.specs.SumParts.{AreWithin};
     ghost use Rattle.path_delays.specs.LaneParts.{AllBounded};
-    ghost use Rattle.path_delays.specs.Handing.{HasReachRoom, IsCleared, IsHanded, IsHandedOn, IsMarked, IsSameRoom, IsStarted, lanes_at, sums_at};
+    ghost use Rattle.path_delays.specs.Handing.{HasReachRoom, IsCleared, IsHanded, IsHandedOn, IsMarked, IsSameRoom, IsStarted, lanes_at, limit_of, sums_at};
 
     /// Nothing reached yet, with room for so many signals and gates.
     pub(crate) fn new(alloc: Global, signals: u32, gates: u32) -> Result<Reach, NoMemory>
@@ -65,9 +65,9 @@ impl Reach {
         requires room { HasReachRoom network.now self.old }
         requires lane { lane < 8 }
         requires signal { signal < length network.now.ranks.items }
-        requires sums { AreWithin delay_limit sums }
+        requires sums { AreWithin (limit_of self.old) sums }
         requires small { (given : Lanes)
-            → lanes_at self.old signal ≡ Some given → AllBounded delay_limit given }
+            → lanes_at self.old signal ≡ Some given → AllBounded (limit_of self.old) given }
         ensures started { IsStarted network.now lane signal sums self.old self.new }
         ensures room { HasReachRoom network.now self.new }
     {
@@ -81,7 +81,7 @@ impl Reach {
         requires signal { signal < length network.now.ranks.items }
         requires reached { IsSome (lanes_at self.old signal) }
         requires small { (given : Lanes)
-            → lanes_at self.old signal ≡ Some given → AllBounded delay_limit given }
+            → lanes_at self.old signal ≡ Some given → AllBounded (limit_of self.old) given }
         ensures on { IsHandedOn network.now signal self.old self.new }
         ensures room { HasReachRoom network.now self.new }
     {
@@ -95,7 +95,7 @@ impl Reach {
     fn hand_to(&mut self, network: &Network, gate: u32, given: &Lanes)
         requires room { HasReachRoom network.now self.old }
         requires gate { gate < length network.now.ranks.items }
-        requires given { AllBounded delay_limit given.now }
+        requires given { AllBounded (limit_of self.old) given.now }
         ensures { IsHanded network.now given.now gate self.old self.new }
     {
         let mut sums = *given;

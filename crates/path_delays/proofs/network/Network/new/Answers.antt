@@ -1,6 +1,6 @@
 -- The readers, the ranks and the delays are those of the circuit.
 use Rattle.std.proofs.Common.{◌≡◌, arith, ◌∙◌}
-use Rattle.path_delays.proofs.NetworkLemmas.{AreReaders-grouped, AreRanks-placed, weights_once, few_gates}
+use Rattle.path_delays.proofs.NetworkLemmas.{AreReaders-grouped, AreRanks-placed, few_gates}
 use Rattle.std.proofs.lemmas.Grind.{common_steps}
 use Rattle.path_delays.proofs.network.Network.new.Goals as goal
 
@@ -21,7 +21,7 @@ returns-clause-network c =
       ranks = rw order
           (AreRanks-placed circuit.signals c.args.levels.now c.in_ok-ranks.ranks.items c.requires
           (rw (c.len-signals.ensures, c.as_slice-2.ensures.value, order) at c.in_ok-ranks.ensures));
-      once = rw order (weights_once circuit.signals c.args.levels.now c.requires.once);
+      once = rw order c.requires.once;
       delays = c.in_ok-delays.ensures;
       inputs = c.in_ok-inputs.ensures;
     }

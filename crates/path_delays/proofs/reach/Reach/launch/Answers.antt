@@ -1,10 +1,12 @@
 -- One signal more, and all of them.
-use Rattle.std.proofs.Common.{◌≡◌, length, take, get_or, subst, arith}
+use Rattle.std.proofs.Common.{◌≡◌, length, take, get_or, sym, subst, arith}
 use Rattle.std.proofs.lemmas.List.Elements.{Contains-get_or}
 use Rattle.std.proofs.lemmas.Option.{slice_get-get_or}
+use Rattle.path_delays.specs.SumParts.{AreWithin}
+use Rattle.path_delays.specs.Handing.{limit_of}
 use Rattle.path_delays.specs.Walking.{AllBelow, BegunIn, IsSpread}
 use Rattle.path_delays.proofs.LaunchLemmas.{launched_within}
-use Rattle.path_delays.proofs.WalkStarts.{begun_all, begun_next, begun_none}
+use Rattle.path_delays.proofs.WalkStarts.{begun_all, begun_next, begun_none, start_bounded}
 use Rattle.path_delays.proofs.WalkSteps.{all_bounded}
 use Rattle.path_delays.proofs.reach.Reach.launch.Goals as goal
 
@@ -35,10 +37,16 @@ start-requires-clause-signal c =
       c.requires.network.ranks.covers,
     )
 
+pub start-requires-clause-sums : goal.start-requires-clause-sums
+start-requires-clause-sums c =
+    subst (AreWithin (limit_of c.loop-signal.self)) (sym c.start_sums-sums.ensures.sums)
+    (start_bounded c.args.network.now c.loop-signal.self c.args.tech.now
+    c.loop-signal.invariant.room)
+
 pub start-requires-clause-small : goal.start-requires-clause-small
 start-requires-clause-small c =
     all_bounded c.args.circuit.now c.args.tech.now c.args.network.now c.requires.network _ _
-    c.loop-signal.self 1 _ c.loop-signal.invariant.spread _
+    c.loop-signal.self 1 _ c.loop-signal.invariant.room c.loop-signal.invariant.spread _
 
 pub loop-signal-preserved : goal.loop-signal-preserved
 loop-signal-preserved c = record {

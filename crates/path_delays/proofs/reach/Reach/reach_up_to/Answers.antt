@@ -40,7 +40,8 @@ hand_on-requires-clause-reached c =
 pub hand_on-requires-clause-small : goal.hand_on-requires-clause-small
 hand_on-requires-clause-small c =
     all_bounded c.args.circuit.now c.args.tech.now c.args.network.now c.requires.network _ _
-    c.loop-next.self c.loop-next.rank _ c.loop-next.invariant.spread c.index.result.now
+    c.loop-next.self c.loop-next.rank _ c.loop-next.invariant.room c.loop-next.invariant.spread
+    c.index.result.now
 
 pub loop-next-smaller : goal.loop-next-smaller
 loop-next-smaller c =
@@ -109,6 +110,11 @@ returns c =
           (λ other waits. absurd (true≢false (sym waits ∙ c.in_default.ensures.none other))) signal
           below;
       room = HasReachRoom-same c.args.network.now c.loop-next.self taken
-          (record { lanes = refl; reached = refl; waiting = c.in_default.ensures.covers })
+          (record {
+            lanes = refl;
+            reached = refl;
+            waiting = c.in_default.ensures.covers;
+            limit = refl;
+          })
           c.loop-next.invariant.room;
     }

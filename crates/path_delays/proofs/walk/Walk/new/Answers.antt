@@ -1,7 +1,7 @@
 -- There are few gates, and room for them.
 use Rattle.std.proofs.Common.{◌≤◌, length, arith, ap, ◌∙◌}
 use Rattle.path_delays.proofs.NetworkLemmas.{few_gates}
-use Rattle.path_delays.proofs.Rooms.{HasReachRoom-made}
+use Rattle.path_delays.proofs.Rooms.{HasReachRoom-made, total_within}
 use Rattle.path_delays.proofs.walk.Walk.new.Goals as goal
 
 pub overflow_cast-gates : goal.overflow_cast-gates
@@ -26,5 +26,6 @@ returns c =
             arith,
             few_gates c.args.circuit.now c.args.levels.now c.requires,
             ap length c.gates.ensures,
-          )));
+          ))) (omega arith)
+          (total_within c.args.circuit.now c.args.tech.now network c.in_ok-network.ensures.network);
     }

@@ -1,0 +1,7 @@
+-- So much is left after the delays passed so far.
+use Rattle.std.proofs.Common.{take}
+use Rattle.path_delays.specs.Networks.{IsLeftAfter}
+use Rattle.path_delays.proofs.network.Network.is_short.Given as goal
+
+abbrev pub invariant-loop-delay : goal.invariant-loop-delay
+invariant-loop-delay l = IsLeftAfter (take l.delay-index l.delay-items) l.left
