@@ -51,16 +51,17 @@ mosts_once delays order once =
     omega (
       arith,
       sum_by-le-sum_by (λ number. most_of (slice_index_or delays number no_delay))
-          (λ number. get_or mosts number 0) order (λ number. omega (arith, most_is delays number)),
+          (λ number. get_or mosts number 0) order
+          (λ number. omega (arith, most_there delays number)),
       distinct_sum-le mosts order once,
       sum-map most_of delays,
     )
   where
-    most_is : (delays : List Sums) (number : ℕ)
+    most_there : (delays : List Sums) (number : ℕ)
         → get_or (map most_of delays) number 0 ≡ most_of (slice_index_or delays number no_delay)
-    most_is [] number = refl
-    most_is (delay ∷ delays) zero = refl
-    most_is (delay ∷ delays) (suc number) = most_is delays number
+    most_there [] number = refl
+    most_there (delay ∷ delays) zero = refl
+    most_there (delay ∷ delays) (suc number) = most_there delays number
 
 -- the delays of signals add up to no more than their weights
 mosts_weigh : (tech : Tech) (signals : List Signal)
