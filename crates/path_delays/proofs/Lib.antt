@@ -3,6 +3,7 @@ mod DelayLemmas
 mod NetworkLemmas
 mod NetworkDelays
 mod Hands
+mod NarrowLemmas
 mod LaneLemmas
 mod SumLemmas
 mod CarryLemmas

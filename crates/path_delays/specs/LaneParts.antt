@@ -10,4 +10,4 @@ lane_of lanes lane = slice_index_or lanes.sums lane no_sums
 
 -- in each lane are sums within a limit, or none
 abbrev pub AllBounded : ℕ → Lanes → Type 0
-AllBounded limit lanes = (lane : ℕ) → lane < 8 → AreBounded limit (lane_of lanes lane)
+AllBounded limit lanes = (lane : ℕ) → lane < 16 → AreBounded limit (lane_of lanes lane)

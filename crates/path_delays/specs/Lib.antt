@@ -1,6 +1,8 @@
 pub mod NumberSets
 pub mod SumParts
 pub mod LaneParts
+pub mod NarrowParts
+pub mod LaneTables
 pub mod Networks
 pub mod Handing
 pub mod Reaches

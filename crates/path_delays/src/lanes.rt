@@ -3,12 +3,12 @@ ghost use Rattle.std.specs.Prelude.{◌≡◌, ◌<◌, ◌≤◌, ◌+◌, ◌�
 use crate::sums::Sums;
 
 /// From how many registers a walk goes at once.
-pub(crate) const LANES: usize = 8;
+pub(crate) const LANES: usize = 16;
 
 /// The sums to a signal from several registers, in a lane each.
 #[derive(Clone, Copy, Debug)]
 pub(crate) struct Lanes {
-    pub(crate) sums: [Sums; 8],
+    pub(crate) sums: [Sums; 16],
 }
 
 impl Lanes {
@@ -20,13 +20,21 @@ impl Lanes {
         ensures { (lane : ℕ) → lane_of result lane ≡ no_sums }
     {
         Lanes {
-            sums: [Sums::none(); 8],
+            sums: [Sums::none(); 16],
         }
+    }
+
+    /// The sums in a lane.
+    pub(crate) fn in_lane(&self, lane: usize) -> Sums
+        requires { lane < 16 }
+        ensures { result ≡ lane_of self.now lane }
+    {
+        self.sums[lane]
     }
 
     /// In one lane the least and the greatest of both.
     pub(crate) fn join(&mut self, lane: usize, sums: Sums)
-        requires { lane < 8 }
+        requires { lane < 16 }
         ensures at { lane_of self.new lane ≡ merged_sums (lane_of self.old lane) sums }
         ensures others { (other : ℕ) → other ≢ lane
             → lane_of self.new other ≡ lane_of self.old other }
@@ -38,7 +46,7 @@ impl Lanes {
     pub(crate) fn pass(&mut self, delay: Sums)
         requires sums { AllBounded delay_limit self.old }
         requires delay { AreWithin delay_limit delay }
-        ensures { (lane : ℕ) → lane < 8
+        ensures { (lane : ℕ) → lane < 16
             → lane_of self.new lane ≡ sums_through (lane_of self.old lane) delay }
     {
         for lane in 0..LANES {
@@ -48,7 +56,7 @@ impl Lanes {
 
     /// In each lane the least and the greatest of both.
     pub(crate) fn merge(&mut self, other: &Lanes)
-        ensures { (lane : ℕ) → lane < 8 → lane_of self.new lane
+        ensures { (lane : ℕ) → lane < 16 → lane_of self.new lane
             ≡ merged_sums (lane_of self.old lane) (lane_of other.now lane) }
     {
         for lane in 0..LANES {
@@ -62,7 +70,7 @@ pub(crate) fn block_end(first: usize, count: usize) -> usize
     requires { first < count }
     ensures after { first < result }
     ensures within { result ≤ count }
-    ensures few { result ≤ first + 8 }
+    ensures few { result ≤ first + 16 }
 {
     first + (count - first).min(LANES)
 }

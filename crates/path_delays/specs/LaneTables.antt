@@ -1,0 +1,34 @@
+-- The sums to each signal, in lanes of one width.
+use Rattle.std.specs.Prelude.{◌≡◌, ◌≢◌, ◌<◌, ℕ, List, [], length, map, Option, Some, slice_get, slice_index_or}
+use Rattle.std.specs.Option.{option_map}
+use Rattle.path_delays.specs.declared.sums.Sums.{Sums}
+use Rattle.path_delays.specs.declared.lanes.Lanes.{Lanes}
+use Rattle.path_delays.specs.declared.lane_table.LaneTable.{LaneTable}
+use Rattle.path_delays.specs.declared.lane_table.LaneTable.TheVariants.{Narrow, Wide}
+use Rattle.path_delays.specs.SumParts.{delay_limit}
+use Rattle.path_delays.specs.LaneParts.{lane_of}
+use Rattle.path_delays.specs.NarrowParts.{narrow_limit, wide_lanes}
+
+-- the lanes of each signal
+abbrev pub rows_of : LaneTable → List Lanes
+rows_of (Narrow rows) = map wide_lanes rows.items
+rows_of (Wide rows) = rows.items
+
+-- they hold sums up to this many ticks
+abbrev pub limit_of : LaneTable → ℕ
+limit_of (Narrow rows) = narrow_limit
+limit_of (Wide rows) = delay_limit
+
+-- what stands in a lane of a signal
+abbrev pub lane_in : List Lanes → (signal lane : ℕ) → Option Sums
+lane_in rows signal lane = option_map (λ lanes. lane_of lanes lane) (slice_get rows signal)
+
+-- the lanes of a signal that has some
+abbrev pub row_at : List Lanes → ℕ → Lanes
+row_at rows signal = slice_index_or rows signal (record { sums = [] })
+
+-- a signal gets these sums in its lanes, and all else stays
+pub record GetsSums (signal : ℕ) (sums : ℕ → Sums) (old new : List Lanes) : Type 0 where
+  pub covers : length new ≡ length old
+  pub at : (lane : ℕ) → lane < 16 → lane_in new signal lane ≡ Some (sums lane)
+  pub others : (other : ℕ) → other ≢ signal → slice_get new other ≡ slice_get old other

@@ -1,0 +1,140 @@
+ghost use Rattle.std.specs.Prelude.{◌≡◌, ◌<◌, ◌≢◌, ℕ, pos, ◌+ℤ◌, ◌≤ℤ◌};
+ghost use Rattle.std.specs.Int.{int_min, int_max};
+ghost use Rattle.cts_model.specs.table.Tables.{IsWithin};
+
+use crate::lanes::LANES;
+use crate::sums::Sums;
+
+/// The least sum of 32 bits that stands for none, and below it the greatest.
+const FAR: i32 = 1 << 30;
+
+/// What the sums that stand for none are further away in 64 bits.
+const FURTHER: i64 = 1_000_000_000_000 - (1 << 30);
+
+/// A sum of 32 bits, in ticks.
+#[derive(Clone, Copy, Debug)]
+pub(crate) struct Ticks {
+    ticks: i32,
+}
+
+impl Ticks {
+    // The lesser of both.
+    fn lesser(self, other: Ticks) -> Ticks
+        ensures { result.ticks ≡ int_min self.ticks other.ticks }
+    {
+        Ticks {
+            ticks: self.ticks.min(other.ticks),
+        }
+    }
+
+    // The greater of both.
+    fn greater(self, other: Ticks) -> Ticks
+        ensures { result.ticks ≡ int_max self.ticks other.ticks }
+    {
+        Ticks {
+            ticks: self.ticks.max(other.ticks),
+        }
+    }
+
+    // The sum after a delay.
+    fn after(self, delay: Ticks) -> Ticks
+        requires sum { self.ticks ≤ℤ pos 1610612735 }
+        requires delay { IsWithin 0 536870911 delay.ticks }
+        ensures { result.ticks ≡ self.ticks +ℤ delay.ticks }
+    {
+        Ticks {
+            ticks: self.ticks + delay.ticks,
+        }
+    }
+}
+
+// A sum that 32 bits hold.
+fn narrow(ticks: i64) -> Ticks
+    requires { IsWithin 0 536870911 ticks }
+    ensures { result.ticks ≡ ticks }
+{
+    Ticks {
+        ticks: ticks as i32,
+    }
+}
+
+/// The sums to a signal from several registers, in a lane each, where no path takes more ticks than
+/// 32 bits hold: the least sums of all lanes side by side, and the greatest.
+#[derive(Clone, Copy, Debug)]
+pub(crate) struct NarrowLanes {
+    least: [Ticks; 16],
+    greatest: [Ticks; 16],
+}
+
+impl NarrowLanes {
+    ghost use Rattle.path_delays.specs.NarrowParts.{ArePassable, greatest_in, least_in, narrow_limit, sums_in};
+    ghost use Rattle.path_delays.specs.SumParts.{AreWithin, no_sums};
+
+    /// No sums in any lane.
+    pub(crate) fn none() -> NarrowLanes
+        ensures { (lane : ℕ) → lane < 16 → sums_in result lane ≡ no_sums }
+    {
+        NarrowLanes {
+            least: [Ticks { ticks: FAR }; 16],
+            greatest: [Ticks { ticks: -FAR }; 16],
+        }
+    }
+
+    /// The sums in a lane.
+    pub(crate) fn in_lane(&self, lane: usize) -> Sums
+        requires { lane < 16 }
+        ensures { result ≡ sums_in self.now lane }
+    {
+        let least = i64::from(self.least[lane].ticks);
+        let greatest = i64::from(self.greatest[lane].ticks);
+        Sums {
+            least: if least < i64::from(FAR) { least } else { least + FURTHER },
+            greatest: if greatest < 0 { greatest - FURTHER } else { greatest },
+        }
+    }
+
+    /// In one lane the least and the greatest of both.
+    pub(crate) fn join(&mut self, lane: usize, sums: Sums)
+        requires lane { lane < 16 }
+        requires sums { AreWithin narrow_limit sums }
+        ensures least { least_in self.new lane ≡ int_min (least_in self.old lane) sums.least }
+        ensures greatest { greatest_in self.new lane
+            ≡ int_max (greatest_in self.old lane) sums.greatest }
+        ensures others { (other : ℕ) → other ≢ lane
+            → (least_in self.new other ≡ least_in self.old other)
+            × (greatest_in self.new other ≡ greatest_in self.old other) }
+    {
+        self.least[lane] = self.least[lane].lesser(narrow(sums.least));
+        self.greatest[lane] = self.greatest[lane].greater(narrow(sums.greatest));
+    }
+
+    /// Becomes the sums after one more gate.
+    pub(crate) fn pass(&mut self, delay: Sums)
+        requires sums { (lane : ℕ) → lane < 16 → ArePassable self.old lane }
+        requires delay { AreWithin narrow_limit delay }
+        ensures least { (lane : ℕ) → lane < 16
+            → least_in self.new lane ≡ least_in self.old lane +ℤ delay.least }
+        ensures greatest { (lane : ℕ) → lane < 16
+            → greatest_in self.new lane ≡ greatest_in self.old lane +ℤ delay.greatest }
+    {
+        let least = narrow(delay.least);
+        let greatest = narrow(delay.greatest);
+        for lane in 0..LANES {
+            self.least[lane] = self.least[lane].after(least);
+            self.greatest[lane] = self.greatest[lane].after(greatest);
+        }
+    }
+
+    /// In each lane the least and the greatest of both.
+    pub(crate) fn merge(&mut self, other: &NarrowLanes)
+        ensures least { (lane : ℕ) → lane < 16 → least_in self.new lane
+            ≡ int_min (least_in self.old lane) (least_in other.now lane) }
+        ensures greatest { (lane : ℕ) → lane < 16 → greatest_in self.new lane
+            ≡ int_max (greatest_in self.old lane) (greatest_in other.now lane) }
+    {
+        for lane in 0..LANES {
+            self.least[lane] = self.least[lane].lesser(other.least[lane]);
+            self.greatest[lane] = self.greatest[lane].greater(other.greatest[lane]);
+        }
+    }
+}
