@@ -22,7 +22,7 @@ use std::alloc::Global;
 use timing_report::slacks;
 
 /// What a report of a problem comes to. Beside passes over the circuit and the report it takes a
-/// walk for each eight constraints of the cycle, and of the leads; a look through the inputs of
+/// walk for each sixteen constraints of the cycle, and of the leads; a look through the inputs of
 /// each gate on a printed path; and a climb up the tree from each sink that shows a merge's reach.
 ///
 /// # Errors

@@ -34,8 +34,8 @@ impl Judge<'_> {
         Ok(())
     }
 
-    /// What joins the pair of each constraint. One walk for eight of them, from the registers that
-    /// launch along their paths.
+    /// What joins the pair of each constraint. One walk for sixteen of them, from the registers
+    /// that launch along their paths.
     pub(crate) fn delays_of(
         &self,
         alloc: Global,

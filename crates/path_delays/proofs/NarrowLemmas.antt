@@ -1,5 +1,5 @@
 -- Sums of 32 bits stand for sums of 64: what is merged and what passes a gate, and lists of lanes.
-use Rattle.std.proofs.Common.{cond, ◌≡◌, ◌≢◌, ◌<◌, ◌+◌, ◌≤◌, ℕ, ℤ, pos, ◌≤ℤ◌, Bool, true, false, List, [], map, length, get_or, set, Some, inl, inr, refl, sym, ◌∙◌, ap, subst, arith}
+use Rattle.std.proofs.Common.{cond, ◌≡◌, ◌≢◌, ◌<◌, ℕ, ℤ, pos, ◌≤ℤ◌, Bool, true, false, List, map, length, get_or, set, Some, inl, inr, refl, sym, ◌∙◌, ap, subst, arith}
 use Rattle.std.specs.Prelude.{◌==◌, int_lt, if◌then◌else◌, negsuc, ◌+ℤ◌, ◌-ℤ◌, ◌⊎◌}
 use Rattle.std.specs.Int.{int_min, int_max}
 use Rattle.std.specs.List.{slice_get}
@@ -79,6 +79,7 @@ stands_alone sums within = (
         → cond b sums.least (sums.least +ℤ pos 998926258176) ≡ sums.least
     least true below = refl
     least false far = absurd (omega (arith, ints, far, within.least.below))
+
     greatest : (b : Bool) → int_lt sums.greatest (pos 0) ≡ b
         → cond b (sums.greatest -ℤ pos 998926258176) sums.greatest ≡ sums.greatest
     greatest true below = absurd (omega (arith, ints, below, within.greatest.above))
@@ -93,7 +94,8 @@ passable lanes lane bounded = elim bounded [
     greatest = greatest within.greatest.below;
   }
   | inr missing ↦ record {
-    least = least (pos 1000536870911) (omega (arith, ints)) (omega (arith, ints, missing.least_below));
+    least = least (pos 1000536870911) (omega (arith, ints))
+        (omega (arith, ints, missing.least_below));
     greatest = greatest (omega (arith, ints, missing.greatest_below));
   }
 ]
@@ -111,6 +113,7 @@ passable lanes lane bounded = elim bounded [
             → cond b x (x +ℤ pos 998926258176) ≤ℤ most → x ≤ℤ pos 1610612735
         at true near bound = omega (arith, ints, near)
         at false far bound = omega (arith, ints, few, bound)
+
     greatest : wide_greatest y ≤ℤ pos 536870911 → y ≤ℤ pos 1610612735
     greatest below = at (int_lt y (pos 0)) refl below
       where
@@ -202,7 +205,8 @@ narrow_joined old new lane sums within least greatest =
 -- lanes of 64 bits hold the same sums
 pub lane_widened : (lanes : NarrowLanes) (lane : ℕ) → lane < 16
     → lane_of (wide_lanes lanes) lane ≡ sums_in lanes lane
-lane_widened lanes lane low = get_or-map-range_with_len (sums_in lanes) 0 16 lane lane _ low (omega arith)
+lane_widened lanes lane low =
+    get_or-map-range_with_len (sums_in lanes) 0 16 lane lane _ low (omega arith)
 
 -- what is set at one place is read as before at the others
 set_elsewhere : {X : Type 0} (rows : List X) (place other : ℕ) (x : X) → other ≢ place

@@ -1,5 +1,6 @@
 -- Room for a walk over a network.
 use Rattle.std.proofs.Common.{◌≡◌, ◌≢◌, ◌+◌, ◌-◌, ◌*◌, ◌^◌, ◌<◌, ◌≤◌, ℕ, zero, suc, ℤ, ◌-ℤ◌, ◌≤ℤ◌, List, [], ◌∷◌, length, map, take, get_or, All, AllPairs, inl, inr, refl, sym, ◌∙◌, ap, subst, arith}
+use Rattle.std.specs.Prelude.{true, false, Bool, if◌then◌else◌}
 use Rattle.std.specs.Int.{int_max}
 use Rattle.std.specs.List.{slice_index_or, sum_by}
 use Rattle.std.proofs.lemmas.Bool.{cases_lt}
@@ -17,6 +18,8 @@ use Rattle.path_delays.specs.declared.network.Network.{Network}
 use Rattle.path_delays.specs.declared.reach.Reach.{Reach}
 use Rattle.path_delays.specs.SumParts.{AreWithin, delay_limit}
 use Rattle.path_delays.specs.Networks.{IsLeftAfter, IsNetworkOf, gate_sums, weight_of}
+use Rattle.path_delays.specs.NarrowParts.{narrow_limit}
+use Rattle.path_delays.specs.LaneTables.{rows_of}
 use Rattle.path_delays.specs.Handing.{HasReachRoom, limit_at, limit_of, most_at, most_of, no_delay, rank_at}
 use Rattle.path_delays.proofs.DelayLemmas.{gate_within}
 use Rattle.path_delays.proofs.NetworkLemmas.{distinct_sum-le, reader_within, weights_within}
@@ -163,9 +166,17 @@ module _ (circuit : Circuit) (tech : Tech) (network : Network)
       (omega (arith, get_or-le-sum_by most_of network.delays.items i d inside))
       (within_most delay_limit delay (delays_within i d inside))
 
+  -- lanes of either width hold all delays, of 32 bits where all is short
+  pub held_by_width : (short : Bool) (limit : ℕ)
+      → limit ≡ (if short then narrow_limit else delay_limit)
+      → (short ≡ true → 1000000 + sum_by most_of network.delays.items ≤ narrow_limit)
+      → (limit ≤ delay_limit) × (1000000 + sum_by most_of network.delays.items ≤ limit)
+  held_by_width true limit width held = (omega (arith, width), omega (arith, width, held refl))
+  held_by_width false limit width held = (omega (arith, width), omega (arith, width, total_within))
+
   -- room for as many signals and gates is room for the network, where no path is too long
   pub HasReachRoom-made : (reach : Reach) (gates : ℕ) → length network.order.items ≤ gates
-      → length reach.lanes.items ≡ length circuit.signals
+      → length (rows_of reach.lanes) ≡ length circuit.signals
       → length circuit.signals < 64 * length reach.reached.words.items
       → gates < 64 * length reach.waiting.words.items
       → 64 * length reach.waiting.words.items < 2 ^ 32

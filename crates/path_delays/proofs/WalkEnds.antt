@@ -115,7 +115,7 @@ module _ (circuit : Circuit) (tech : Tech) where
 
     -- where no rank waits up to one, the sums in the lane are those up to it
     pub reach_shown : (network : Network) → IsNetworkOf circuit tech network → (reach : Reach)
-        (rank : ℕ) → lane < length registers → lane < 8
+        (rank : ℕ) → lane < length registers → lane < 16
         → IsSpreadBelow circuit tech network registers (length registers) rank reach
         → (top : ℕ) → ((other : ℕ) → waits_at reach other ≡ true → top < other) → (signal : ℕ)
         → rank_at network signal ≤ top

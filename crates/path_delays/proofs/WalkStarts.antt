@@ -44,10 +44,10 @@ stood_some (Some entry) = refl
 
 -- what stands at a signal that is marked is bounded where what stood there was
 marked_within : (limit : ℕ) (old new : Reach) (lane signal : ℕ) (sums : Sums)
-    → IsMarked lane signal sums old new → AreBounded limit sums → (other : ℕ)
+    → IsMarked lane signal sums old new → AreBounded limit sums → (other : ℕ) → other < 16
     → ((entry : Sums) → lane_at old other signal ≡ Some entry → AreBounded limit entry)
     → (entry : Sums) → lane_at new other signal ≡ Some entry → AreBounded limit entry
-marked_within limit old new lane signal sums marked bounded other before entry here =
+marked_within limit old new lane signal sums marked bounded other few before entry here =
     elim (cases_eq other lane) [
       | inl same ↦
           let stood : Sums = unwrap_or (lane_at old lane signal) no_sums in
@@ -60,7 +60,7 @@ marked_within limit old new lane signal sums marked bounded other before entry h
       | inr apart ↦
           let stood : Sums = unwrap_or (lane_at old other signal) no_sums in
           subst (AreBounded limit)
-          (same_Some stood entry (sym (marked.beside other apart) ∙ here))
+          (same_Some stood entry (sym (marked.beside other few apart) ∙ here))
           (stood_bounded limit (lane_at old other signal) before)
     ]
 
@@ -71,7 +71,7 @@ pub marked_bounded : (old new : Reach) (lane signal : ℕ) (sums : Sums)
     → (given : Lanes) → lanes_at new signal ≡ Some given → AllBounded (limit_of new) given
 marked_bounded old new lane signal sums within marked before given here other low =
     subst (λ n. AreBounded n (lane_of given other)) (sym marked.room.limit)
-    (marked_within (limit_of old) old new lane signal sums marked (inl within) other
+    (marked_within (limit_of old) old new lane signal sums marked (inl within) other low
     (λ entry there. at (lanes_at old signal) refl entry there) (lane_of given other)
     (ap (option_map (λ (lanes : Lanes). lane_of lanes other)) here))
   where
@@ -134,7 +134,7 @@ module _ (circuit : Circuit) (tech : Tech) (network : Network)
     due = spread.due;
   }
 
-  module _ (old new : Reach) (lane signal : ℕ) (low : lane < 8)
+  module _ (old new : Reach) (lane signal : ℕ) (low : lane < 16)
       (marked : IsMarked lane signal (start_sums tech) old new)
       (lowest : rank_at network signal ≡ 0) (registers : List ℕ)
       (starts : StartsIn circuit tech registers lane signal (start_sums tech))
@@ -164,12 +164,12 @@ module _ (circuit : Circuit) (tech : Tech) (network : Network)
     counted : (other : ℕ) → 1 ≤ rank_at network other → other ≢ signal
     counted other higher same = absurd (omega (arith, lowest, ap (rank_at network) same))
 
-    limited : (other number : ℕ) (sums : Sums) → other < 8 → lane_at new other number ≡ Some sums
+    limited : (other number : ℕ) (sums : Sums) → other < 16 → lane_at new other number ≡ Some sums
         → AreBounded (limit number) sums
     limited other number sums other_low here = elim (cases_eq number signal) [
       | inl same ↦ subst (λ n. AreBounded (limit n) sums) (sym same)
           (marked_within (limit signal) old new lane signal start marked (inl start_within) other
-          (λ entry. so_far.limited other signal entry other_low) sums
+          other_low (λ entry. so_far.limited other signal entry other_low) sums
           (ap (lane_at new other) (sym same) ∙ here))
       | inr apart ↦ so_far.limited other number sums other_low
           (sym (apart_same other number apart) ∙ here)
@@ -192,11 +192,11 @@ module _ (circuit : Circuit) (tech : Tech) (network : Network)
     }
 
     -- and in the others all stays
-    same_beside : (other : ℕ) → other ≢ lane → (number : ℕ)
+    same_beside : (other : ℕ) → other < 16 → other ≢ lane → (number : ℕ)
         → sums_at new other number ≡ sums_at old other number
-    same_beside other differs number = elim (cases_eq number signal) [
+    same_beside other few differs number = elim (cases_eq number signal) [
       | inl same ↦ subst (λ n. sums_at new other n ≡ sums_at old other n) (sym same)
-          (ap (option_and_then some_sums) (marked.beside other differs)
+          (ap (option_and_then some_sums) (marked.beside other few differs)
           ∙ stood_some (lane_at old other signal))
       | inr apart ↦ ap (option_and_then some_sums) (apart_same other number apart)
     ]
@@ -228,7 +228,8 @@ module _ (circuit : Circuit) (tech : Tech) (network : Network)
               | inl before ↦ before
               | inr here ↦ absurd (differs here.0)
             ])
-            (λ read gate sums here (below, listed) reads. below) (same_beside other differs)
+            (λ read gate sums here (below, listed) reads. below)
+            (same_beside other other_low differs)
             (so_far.carried other other_low)
       ];
       waits = λ number reached later. marked.waits (rank_at network number)
@@ -267,7 +268,7 @@ module _ (circuit : Circuit) (tech : Tech) (network : Network)
         }
 
   -- a signal of the lowest rank that is started in a lane has handed on what stands there
-  pub IsSpread-started : (old new : Reach) (lane signal : ℕ) → lane < 8
+  pub IsSpread-started : (old new : Reach) (lane signal : ℕ) → lane < 16
       → IsStarted network lane signal (start_sums tech) old new → signal < length circuit.signals
       → rank_at network signal ≡ 0 → (registers : List ℕ)
       → StartsIn circuit tech registers lane signal (start_sums tech)
@@ -301,7 +302,7 @@ module _ (circuit : Circuit) (tech : Tech) (network : Network)
         ]) spread
 
     -- one more
-    pub begun_next : (old new : Reach) (place : ℕ) → lane < 8 → place < length launched
+    pub begun_next : (old new : Reach) (place : ℕ) → lane < 16 → place < length launched
         → IsStarted network lane (get_or launched place 0) (start_sums tech) old new
         → IsSpread circuit tech network registers (BegunIn lane (take place launched))
         (AllBelow network 1) 1 old

@@ -104,7 +104,7 @@ module _ (circuit : Circuit) (tech : Tech) (network : Network)
     abbrev joined : ℕ → Sums
     joined lane = joined_sums (lane_at old lane gate) (through lane)
 
-    at_gate : (lane : ℕ) → lane < 8 → lane_at new lane gate ≡ Some (joined lane)
+    at_gate : (lane : ℕ) → lane < 16 → lane_at new lane gate ≡ Some (joined lane)
     at_gate lane low = subst (λ (own : Sums). lane_at new lane gate
         ≡ Some (joined_sums (lane_at old lane gate) (sums_through (lane_of given lane) own)))
         (delay_is circuit tech network is gate is_one) (hands.at lane low)
@@ -119,16 +119,16 @@ module _ (circuit : Circuit) (tech : Tech) (network : Network)
         ap (option_map (λ (lanes : Lanes). lane_of lanes lane)) (hands.others signal differs)
 
     -- the sums are bounded, also after the gate
-    given_bounded : (lane : ℕ) → lane < 8 → AreBounded (limit pending) (lane_of given lane)
+    given_bounded : (lane : ℕ) → lane < 16 → AreBounded (limit pending) (lane_of given lane)
     given_bounded lane low = so_far.limited lane pending (lane_of given lane) low (given_at lane)
 
-    through_bounded : (lane : ℕ) → lane < 8 → AreBounded (limit gate) (through lane)
+    through_bounded : (lane : ℕ) → lane < 16 → AreBounded (limit gate) (through lane)
     through_bounded lane low =
         bounded_through (limit pending) (most_at network gate) (limit gate)
         (lane_of given lane) (delay gate) (limit_more circuit tech network is pending gate reads)
         (given_bounded lane low) (delay_within circuit tech network is gate is_one)
 
-    limited : (lane signal : ℕ) (sums : Sums) → lane < 8 → lane_at new lane signal ≡ Some sums
+    limited : (lane signal : ℕ) (sums : Sums) → lane < 16 → lane_at new lane signal ≡ Some sums
         → AreBounded (limit signal) sums
     limited lane signal sums low here = elim (cases_eq signal gate) [
       | inl same ↦
@@ -147,7 +147,7 @@ module _ (circuit : Circuit) (tech : Tech) (network : Network)
     found lane = option_map (λ (sums : Sums). sums_through sums (delay gate))
         (sums_at old lane pending)
 
-    joined_at : (lane : ℕ) → lane < 8
+    joined_at : (lane : ℕ) → lane < 16
         → IsJoinedAt gate (found lane) (sums_at old lane) (sums_at new lane)
     joined_at lane low = record {
       here = ap (option_and_then some_sums) (at_gate lane low)

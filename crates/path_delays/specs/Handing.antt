@@ -1,6 +1,6 @@
 -- Sums of delays that a walk holds, and how they are handed from a signal to the gates that read
 -- it.
-use Rattle.std.specs.Prelude.{◌≡◌, ◌≢◌, ◌<◌, ◌≤◌, ◌+◌, ◌*◌, ◌^◌, ◌==◌, ◌&&◌, ◌||◌, ℕ, Bool, false, pos, nat_abs, List, [], ◌∷◌, length, take, All, Option, Some, None, is_none, if◌then◌else◌, slice_get, slice_index, slice_index_or}
+use Rattle.std.specs.Prelude.{◌≡◌, ◌≢◌, ◌<◌, ◌≤◌, ◌+◌, ◌*◌, ◌^◌, ◌==◌, ◌&&◌, ◌||◌, ℕ, Bool, true, false, pos, nat_abs, List, [], ◌∷◌, length, take, All, Option, Some, None, is_none, if◌then◌else◌, slice_get, slice_index, slice_index_or}
 use Rattle.std.specs.Int.{int_max}
 use Rattle.std.specs.List.{sum_by}
 use Rattle.std.specs.Option.{option_and_then, option_map, unwrap_or}
@@ -11,12 +11,14 @@ use Rattle.path_delays.specs.declared.network.Network.{Network}
 use Rattle.path_delays.specs.declared.reach.Reach.{Reach}
 use Rattle.path_delays.specs.NumberSets.{has_number}
 use Rattle.path_delays.specs.LaneParts.{lane_of}
+use Rattle.path_delays.specs.LaneTables.{rows_of, table_limit}
 use Rattle.path_delays.specs.SumParts.{AreWithin, delay_limit, joined_sums, merged_sums, no_sums, some_sums, sums_through}
 
 -- the sums in all lanes to a signal, if the walk reached it
 abbrev pub lanes_at : Reach → ℕ → Option Lanes
 lanes_at reach signal =
-    if has_number reach.reached.words.items signal then slice_get reach.lanes.items signal else None
+    if has_number reach.reached.words.items signal then slice_get (rows_of reach.lanes) signal
+    else None
 
 -- what stands in a lane at a signal, if the walk reached it
 abbrev pub lane_at : Reach → (lane : ℕ) → ℕ → Option Sums
@@ -54,11 +56,7 @@ limit_at network rank = 1000000 + sum_by (most_at network) (take rank network.or
 
 -- no sum that a walk holds is more
 abbrev pub limit_of : Reach → ℕ
-limit_of reach = delay_limit
-
--- what lanes of 32 bits hold
-abbrev pub narrow_limit : ℕ
-narrow_limit = 536870911
+limit_of reach = table_limit reach.lanes
 
 -- room for the signals of a network, whose delays are small
 pub record HasReachRoom (network : Network) (reach : Reach) : Type 0 where
@@ -71,17 +69,26 @@ pub record HasReachRoom (network : Network) (reach : Reach) : Type 0 where
   pub small_delays : All (AreWithin (limit_of reach)) network.delays.items
   pub total : limit_at network (length network.order.items) ≤ limit_of reach
   pub known : limit_of reach ≤ delay_limit
-  pub lanes : length reach.lanes.items ≡ length network.ranks.items
+  pub lanes : length (rows_of reach.lanes) ≡ length network.ranks.items
   pub reached : length network.ranks.items < 64 * length reach.reached.words.items
   pub waiting : (gate : ℕ) → rank_at network gate < 64 * length reach.waiting.words.items
   pub small : 64 * length reach.waiting.words.items < 2 ^ 32
 
 -- as much room as before
 pub record IsSameRoom (old new : Reach) : Type 0 where
-  pub lanes : length new.lanes.items ≡ length old.lanes.items
+  pub lanes : length (rows_of new.lanes) ≡ length (rows_of old.lanes)
   pub reached : length new.reached.words.items ≡ length old.reached.words.items
   pub waiting : length new.waiting.words.items ≡ length old.waiting.words.items
   pub limit : limit_of new ≡ limit_of old
+
+-- a signal is reached, where it wasn't no sums stand in any lane, and all else stays
+pub record IsOpened (signal : ℕ) (old new : Reach) : Type 0 where
+  pub room : IsSameRoom old new
+  pub reached : has_number new.reached.words.items signal ≡ true
+  pub at : (lane : ℕ) → lane < 16
+      → lane_at new lane signal ≡ Some (unwrap_or (lane_at old lane signal) no_sums)
+  pub others : (other : ℕ) → other ≢ signal → lanes_at new other ≡ lanes_at old other
+  pub waits : (rank : ℕ) → waits_at new rank ≡ waits_at old rank
 
 -- sums are joined at a signal in a lane, where it isn't reached none stand in the others, and all
 -- else stays
@@ -89,7 +96,7 @@ pub record IsMarked (lane signal : ℕ) (sums : Sums) (old new : Reach) : Type 0
   pub room : IsSameRoom old new
   pub at : lane_at new lane signal
       ≡ Some (merged_sums (unwrap_or (lane_at old lane signal) no_sums) sums)
-  pub beside : (other : ℕ) → other ≢ lane
+  pub beside : (other : ℕ) → other < 16 → other ≢ lane
       → lane_at new other signal ≡ Some (unwrap_or (lane_at old other signal) no_sums)
   pub others : (other : ℕ) → other ≢ signal → lanes_at new other ≡ lanes_at old other
   pub waits : (rank : ℕ) → waits_at new rank ≡ waits_at old rank
@@ -97,7 +104,7 @@ pub record IsMarked (lane signal : ℕ) (sums : Sums) (old new : Reach) : Type 0
 -- a gate gets the sums after it in each lane, and waits to be taken where it is reached first
 pub record IsHanded (network : Network) (given : Lanes) (gate : ℕ) (old new : Reach) : Type 0 where
   pub room : IsSameRoom old new
-  pub at : (lane : ℕ) → lane < 8 → lane_at new lane gate ≡ Some (joined_sums
+  pub at : (lane : ℕ) → lane < 16 → lane_at new lane gate ≡ Some (joined_sums
       (lane_at old lane gate) (sums_through (lane_of given lane) (delay_at network gate)))
   pub others : (other : ℕ) → other ≢ gate → lanes_at new other ≡ lanes_at old other
   pub waits : (rank : ℕ) → waits_at new rank

@@ -15,9 +15,9 @@ rows_of (Narrow rows) = map wide_lanes rows.items
 rows_of (Wide rows) = rows.items
 
 -- they hold sums up to this many ticks
-abbrev pub limit_of : LaneTable → ℕ
-limit_of (Narrow rows) = narrow_limit
-limit_of (Wide rows) = delay_limit
+abbrev pub table_limit : LaneTable → ℕ
+table_limit (Narrow rows) = narrow_limit
+table_limit (Wide rows) = delay_limit
 
 -- what stands in a lane of a signal
 abbrev pub lane_in : List Lanes → (signal lane : ℕ) → Option Sums

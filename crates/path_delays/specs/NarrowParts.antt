@@ -1,5 +1,5 @@
 -- Sums of 32 bits in lanes, and the sums that they stand for.
-use Rattle.std.specs.Prelude.{◌≡◌, ◌<◌, ℕ, ℤ, pos, negsuc, ◌+ℤ◌, ◌-ℤ◌, ◌≤ℤ◌, map, int_lt, if◌then◌else◌, slice_index_or}
+use Rattle.std.specs.Prelude.{ℕ, ℤ, pos, ◌+ℤ◌, ◌-ℤ◌, ◌≤ℤ◌, map, int_lt, if◌then◌else◌, slice_index_or}
 use Rattle.std.specs.List.{range_with_len}
 use Rattle.path_delays.specs.declared.sums.Sums.{Sums}
 use Rattle.path_delays.specs.declared.lanes.Lanes.{Lanes}

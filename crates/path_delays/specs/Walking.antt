@@ -36,9 +36,9 @@ StartsIn circuit tech registers lane =
 pub record IsSpread (circuit : Circuit) (tech : Tech) (network : Network) (registers : List ℕ)
     (Begun : (lane : ℕ) → ℕ → Sums → Type 0) (Handed : ℕ → ℕ → Type 0) (rank : ℕ)
     (reach : Reach) : Type 0 where
-  pub limited : (lane signal : ℕ) (sums : Sums) → lane < 8 → lane_at reach lane signal ≡ Some sums
+  pub limited : (lane signal : ℕ) (sums : Sums) → lane < 16 → lane_at reach lane signal ≡ Some sums
       → AreBounded (limit_at network (rank_at network signal)) sums
-  pub carried : (lane : ℕ) → lane < 8
+  pub carried : (lane : ℕ) → lane < 16
       → AreCarried circuit.signals (gate_sums_at circuit tech)
       (StartsIn circuit tech registers lane) (Begun lane) Handed (sums_at reach lane)
   pub waits : (signal : ℕ) → IsSome (lanes_at reach signal) → rank ≤ rank_at network signal

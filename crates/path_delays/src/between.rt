@@ -9,7 +9,7 @@ use cts_base::{Listed, NoMemory};
 use cts_model::{Circuit, PairDelay, Tech};
 use std::alloc::Global;
 
-/// The delays of these pairs, walked between eight at a time in the same room.
+/// The delays of these pairs, walked between sixteen at a time in the same room.
 pub(crate) fn walked_delays(
     walk: &mut Walk,
     alloc: Global,
@@ -33,7 +33,7 @@ pub(crate) fn walked_delays(
     Ok(Listed::from_vec(delays))
 }
 
-// Appends the delays of up to eight pairs: one walk between them.
+// Appends the delays of up to sixteen pairs: one walk between them.
 fn push_delays(
     delays: &mut Vec<Option<PairDelay>>,
     walk: &mut Walk,
@@ -42,7 +42,7 @@ fn push_delays(
     pairs: &[(u32, u32)],
 ) -> Result<(), NoMemory>
     requires room { IsRoomFor circuit.now tech.now walk.old }
-    requires few { length pairs.now ≤ 8 }
+    requires few { length pairs.now ≤ 16 }
     requires pairs { All (λ pair. (pair.0 < length circuit.now.registers)
         × (pair.1 < length circuit.now.registers)) pairs.now }
     ensures room { IsRoomFor circuit.now tech.now walk.new }

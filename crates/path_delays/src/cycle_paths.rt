@@ -15,7 +15,7 @@ use std::alloc::Global;
 /// How many signals the paths of a cycle have together, at most.
 const MAX_SIGNALS: usize = 4_096;
 
-/// The paths of these constraints, looked for eight at a time in the same room.
+/// The paths of these constraints, looked for sixteen at a time in the same room.
 pub(crate) fn paths_within(
     walk: &mut Walk,
     alloc: Global,
@@ -41,7 +41,7 @@ pub(crate) fn paths_within(
     Ok(paths)
 }
 
-// Puts the paths of up to eight constraints last, as far as there is room for so many signals. It
+// Puts the paths of up to sixteen constraints last, as far as there is room for so many signals. It
 // tells the room that is left.
 fn push_paths(
     paths: &mut Listed<Listed<u32>>,
@@ -53,7 +53,7 @@ fn push_paths(
     room: usize,
 ) -> Result<usize, NoMemory>
     requires room { IsRoomFor circuit.now tech.now walk.old }
-    requires few { length block.now ≤ 8 }
+    requires few { length block.now ≤ 16 }
     requires each { All (IsConstraintOf circuit.now tech.now) block.now }
     ensures paths { IfOk result
         (KeepsPaths circuit.now tech.now block.now room paths.old paths.new) }
@@ -69,10 +69,10 @@ fn push_paths(
     Ok(left)
 }
 
-// Walks along the paths of up to eight constraints, if there is any room.
+// Walks along the paths of up to sixteen constraints, if there is any room.
 fn walk_along(walk: &mut Walk, circuit: &Circuit, tech: &Tech, block: &[Constraint], room: usize)
     requires room { IsRoomFor circuit.now tech.now walk.old }
-    requires few { length block.now ≤ 8 }
+    requires few { length block.now ≤ 16 }
     requires each { All (IsConstraintOf circuit.now tech.now) block.now }
     ensures reach { 0 < room → AreReachedAlong circuit.now tech.now block.now walk.new }
     ensures room { IsRoomFor circuit.now tech.now walk.new }
@@ -98,7 +98,7 @@ fn path_within(
     room: usize,
 ) -> Result<Listed<u32>, NoMemory>
     requires ranks { HasRanksOf circuit.now walk.now }
-    requires lane { lane < 8 }
+    requires lane { lane < 16 }
     requires to { (pair_of constraint.now).1 < length circuit.now.registers }
     ensures path { IfOk result (λ path. (tech : Tech)
         → IsConstraintOf circuit.now tech constraint.now

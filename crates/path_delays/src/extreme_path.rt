@@ -21,7 +21,7 @@ pub(crate) fn path_back(
     greatest: bool,
 ) -> Result<Option<Listed<u32>>, NoMemory>
     requires ranks { HasRanksOf circuit.now walk.now }
-    requires lane { lane < 8 }
+    requires lane { lane < 16 }
     requires to { to < length circuit.now.registers }
     ensures { IfOk result (λ found. (tech : Tech) (from : ℕ)
         → HasReachBetween circuit.now tech from to lane walk.now
@@ -49,7 +49,7 @@ fn furthest_read(
     gate: u32,
     greatest: bool,
 ) -> Option<u32>
-    requires lane { lane < 8 }
+    requires lane { lane < 16 }
     requires gate { gate < length circuit.now.signals }
     ensures { IsFurthestIfAny walk.now lane (Reads circuit.now.signals gate) greatest result }
 {
@@ -63,7 +63,7 @@ fn furthest_read(
 
 // The first of some signals that a walk found furthest in a lane.
 fn furthest(walk: &Walk, lane: usize, signals: &[u32], greatest: bool) -> Option<u32>
-    requires { lane < 8 }
+    requires { lane < 16 }
     ensures { IsFurthestIfAny walk.now lane (Contains signals.now) greatest result }
 {
     let sums = captured_sums(walk, lane, signals)?;

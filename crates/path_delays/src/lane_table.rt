@@ -18,7 +18,7 @@ pub(crate) enum LaneTable {
 }
 
 impl LaneTable {
-    ghost use Rattle.path_delays.specs.LaneTables.{GetsSums, lane_in, limit_of, row_at, rows_of};
+    ghost use Rattle.path_delays.specs.LaneTables.{GetsSums, lane_in, table_limit, row_at, rows_of};
     ghost use Rattle.path_delays.specs.LaneParts.{AllBounded, lane_of};
     ghost use Rattle.path_delays.specs.NarrowParts.{narrow_limit};
     ghost use Rattle.path_delays.specs.SumParts.{AreWithin, delay_limit, merged_sums, no_sums, some_sums, sums_through};
@@ -27,7 +27,7 @@ impl LaneTable {
     pub(crate) fn new(alloc: Global, signals: usize, short: bool) -> Result<LaneTable, NoMemory>
         ensures rows { IfOk result (λ table. length (rows_of table) ≡ signals) }
         ensures limit { IfOk result
-            (λ table. limit_of table ≡ (if short then narrow_limit else delay_limit)) }
+            (λ table. table_limit table ≡ (if short then narrow_limit else delay_limit)) }
     {
         Ok(if short {
             LaneTable::Narrow(vec![in alloc; NarrowLanes::none(); signals]?)
@@ -50,9 +50,8 @@ impl LaneTable {
     /// Leaves no sums in any lane of a signal.
     pub(crate) fn clear(&mut self, signal: usize)
         requires { signal < length (rows_of self.old) }
-        ensures limit { limit_of self.new ≡ limit_of self.old }
-        ensures sums { GetsSums signal (λ lane. no_sums) (rows_of self.old)
-            (rows_of self.new) }
+        ensures limit { table_limit self.new ≡ table_limit self.old }
+        ensures sums { GetsSums signal (λ lane. no_sums) (rows_of self.old) (rows_of self.new) }
     {
         match self {
             LaneTable::Narrow(rows) => rows[signal] = NarrowLanes::none(),
@@ -64,12 +63,12 @@ impl LaneTable {
     pub(crate) fn join(&mut self, signal: usize, lane: usize, sums: Sums)
         requires signal { signal < length (rows_of self.old) }
         requires lane { lane < 16 }
-        requires sums { AreWithin (limit_of self.old) sums }
-        ensures limit { limit_of self.new ≡ limit_of self.old }
+        requires sums { AreWithin (table_limit self.old) sums }
+        ensures limit { table_limit self.new ≡ table_limit self.old }
         ensures sums { GetsSums signal (λ other. if other == lane
             then merged_sums (lane_of (row_at (rows_of self.old) signal) other) sums
-            else lane_of (row_at (rows_of self.old) signal) other) (rows_of self.old)
-            (rows_of self.new) }
+            else lane_of (row_at (rows_of self.old) signal) other)
+            (rows_of self.old) (rows_of self.new) }
     {
         match self {
             LaneTable::Narrow(rows) => rows[signal].join(lane, sums),
@@ -81,12 +80,12 @@ impl LaneTable {
     pub(crate) fn pass(&mut self, from: usize, to: usize, delay: Sums)
         requires from { from < length (rows_of self.old) }
         requires to { to < length (rows_of self.old) }
-        requires sums { AllBounded (limit_of self.old) (row_at (rows_of self.old) from) }
-        requires delay { AreWithin (limit_of self.old) delay }
-        ensures limit { limit_of self.new ≡ limit_of self.old }
-        ensures sums { GetsSums to (λ lane. sums_through (lane_of (row_at (rows_of self.old) from) lane) delay)
-            (rows_of self.old)
-            (rows_of self.new) }
+        requires sums { AllBounded (table_limit self.old) (row_at (rows_of self.old) from) }
+        requires delay { AreWithin (table_limit self.old) delay }
+        ensures limit { table_limit self.new ≡ table_limit self.old }
+        ensures sums { GetsSums to
+            (λ lane. sums_through (lane_of (row_at (rows_of self.old) from) lane) delay)
+            (rows_of self.old) (rows_of self.new) }
     {
         match self {
             LaneTable::Narrow(rows) => {
@@ -106,12 +105,13 @@ impl LaneTable {
     pub(crate) fn merge(&mut self, from: usize, to: usize, delay: Sums)
         requires from { from < length (rows_of self.old) }
         requires to { to < length (rows_of self.old) }
-        requires sums { AllBounded (limit_of self.old) (row_at (rows_of self.old) from) }
-        requires delay { AreWithin (limit_of self.old) delay }
-        ensures limit { limit_of self.new ≡ limit_of self.old }
-        ensures sums { GetsSums to (λ lane. merged_sums (lane_of (row_at (rows_of self.old) to) lane)
-            (sums_through (lane_of (row_at (rows_of self.old) from) lane) delay)) (rows_of self.old)
-            (rows_of self.new) }
+        requires sums { AllBounded (table_limit self.old) (row_at (rows_of self.old) from) }
+        requires delay { AreWithin (table_limit self.old) delay }
+        ensures limit { table_limit self.new ≡ table_limit self.old }
+        ensures sums { GetsSums to (λ lane.
+            merged_sums (lane_of (row_at (rows_of self.old) to) lane)
+            (sums_through (lane_of (row_at (rows_of self.old) from) lane) delay))
+            (rows_of self.old) (rows_of self.new) }
     {
         match self {
             LaneTable::Narrow(rows) => {

@@ -65,7 +65,7 @@ impl Lanes {
     }
 }
 
-/// Where a block of up to eight ends that begins at a place below the number of all.
+/// Where a block of up to sixteen ends that begins at a place below the number of all.
 pub(crate) fn block_end(first: usize, count: usize) -> usize
     requires { first < count }
     ensures after { first < result }

@@ -88,8 +88,16 @@ impl NarrowLanes {
         let least = i64::from(self.least[lane].ticks);
         let greatest = i64::from(self.greatest[lane].ticks);
         Sums {
-            least: if least < i64::from(FAR) { least } else { least + FURTHER },
-            greatest: if greatest < 0 { greatest - FURTHER } else { greatest },
+            least: if least < i64::from(FAR) {
+                least
+            } else {
+                least + FURTHER
+            },
+            greatest: if greatest < 0 {
+                greatest - FURTHER
+            } else {
+                greatest
+            },
         }
     }
 

@@ -26,7 +26,8 @@ pub(crate) struct Network {
 impl Network {
     ghost use Rattle.gate_order.specs.LevelParts.{IsLevelsOf};
     ghost use Rattle.path_delays.specs.SumParts.{AreWithin, delay_limit};
-    ghost use Rattle.path_delays.specs.Handing.{most_of, narrow_limit, rank_at};
+    ghost use Rattle.path_delays.specs.Handing.{most_of, rank_at};
+    ghost use Rattle.path_delays.specs.NarrowParts.{narrow_limit};
     ghost use Rattle.path_delays.specs.Networks.{AreAllReads, AreCapturedUpTo, ArePlaces, IsNetworkOf, all_reads_by};
 
     /// The network of a circuit: passes over its inputs and its gates.

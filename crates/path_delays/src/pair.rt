@@ -48,7 +48,7 @@ pub(crate) fn joined_pair(
     from: u32,
     to: u32,
 ) -> Option<PairDelay>
-    requires { lane < 8 }
+    requires { lane < 16 }
     ensures { (circuit : Circuit) (tech : Tech) → AreCapturedBy circuit to captured.now
         → ReachesEach circuit tech from lane captured.now walk.now
         → IsJoinedBy circuit tech from to result }
@@ -64,7 +64,7 @@ pub(crate) fn joined_pair(
 
 // The least and the greatest of what a walk found at some signals in a lane.
 pub(crate) fn captured_sums(walk: &Walk, lane: usize, signals: &[u32]) -> Option<Sums>
-    requires { lane < 8 }
+    requires { lane < 16 }
     ensures { AreExtremesIfAny (StandsAt (sums_to walk.now lane) (Contains signals.now)) result }
 {
     if let [signal] = signals {

@@ -18,7 +18,7 @@ use std::alloc::Global;
 /// How many joined pairs of registers a circuit may have.
 const MAX_PAIRS: usize = 1_048_576;
 
-/// The delays of all joined pairs, walked to from eight registers at a time in the same room.
+/// The delays of all joined pairs, walked to from sixteen registers at a time in the same room.
 pub(crate) fn walked_pairs(
     walk: &mut Walk,
     alloc: Global,
@@ -42,7 +42,7 @@ pub(crate) fn walked_pairs(
     Ok(Listed::from_vec(pairs))
 }
 
-// Appends the pairs of up to eight registers that launch, from one number up to another.
+// Appends the pairs of up to sixteen registers that launch, from one number up to another.
 fn push_block(
     pairs: &mut Vec<PairDelay>,
     walk: &mut Walk,
@@ -53,7 +53,7 @@ fn push_block(
     end: usize,
 ) -> Result<(), PairFault>
     requires after { first < end }
-    requires short { end ≤ first + 8 }
+    requires short { end ≤ first + 16 }
     requires within { end ≤ length circuit.now.registers }
     requires room { IsRoomFor circuit.now tech.now walk.old }
     requires capturing { IsCapturingOf circuit.now capturing.old }
@@ -74,10 +74,10 @@ fn push_block(
     Ok(())
 }
 
-// Walks from up to eight registers, from one number up to another.
+// Walks from up to sixteen registers, from one number up to another.
 fn walk_block(walk: &mut Walk, circuit: &Circuit, tech: &Tech, first: usize, end: usize)
     requires after { first < end }
-    requires short { end ≤ first + 8 }
+    requires short { end ≤ first + 16 }
     requires within { end ≤ length circuit.now.registers }
     requires room { IsRoomFor circuit.now tech.now walk.old }
     ensures room { IsRoomFor circuit.now tech.now walk.new }
@@ -101,7 +101,7 @@ fn push_pairs_from(
     lane: usize,
     from: u32,
 ) -> Result<(), PairFault>
-    requires lane { lane < 8 }
+    requires lane { lane < 16 }
     requires registers { AreAllReached circuit.now from registers.now }
     requires few { vec_len pairs.old ≤ pair_limit }
     ensures few { OnOk result (vec_len pairs.new ≤ pair_limit) }

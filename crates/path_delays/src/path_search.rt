@@ -64,7 +64,7 @@ impl<'a> Paths<'a> {
     }
 
     /// The delays of all pairs of registers that paths join, by the register that launches and then
-    /// by the one that captures. One walk for eight registers that launch.
+    /// by the one that captures. One walk for sixteen registers that launch.
     ///
     /// # Errors
     ///
@@ -80,8 +80,8 @@ impl<'a> Paths<'a> {
     }
 
     /// The delays of pairs of registers, one pair after the other, over all paths between the two.
-    /// `None` stands exactly where no path joins them. One walk for eight pairs, from the first of
-    /// each up to what the second ones capture.
+    /// `None` stands exactly where no path joins them. One walk for sixteen pairs, from the first
+    /// of each up to what the second ones capture.
     ///
     /// # Errors
     ///
@@ -127,7 +127,7 @@ impl<'a> Paths<'a> {
     /// For each of some constraints a path that gives its weight: of a setup constraint one with
     /// the greatest delay of all, of a hold constraint one with the least. They have 4,096 signals
     /// at most: a path for which there is no room after the earlier ones is empty. One walk for
-    /// eight constraints, and none without room.
+    /// sixteen constraints, and none without room.
     ///
     /// # Errors
     ///

@@ -1,6 +1,6 @@
-ghost use Rattle.std.specs.Prelude.{◌≡◌, ◌<◌, ◌*◌, ◌^◌, Some, IfOk, IsSome, length};
+ghost use Rattle.std.specs.Prelude.{◌≡◌, ◌<◌, ◌*◌, ◌^◌, Some, IfOk, IsSome, if◌then◌else◌, length};
 
-use crate::lanes::Lanes;
+use crate::lane_table::LaneTable;
 use crate::network::Network;
 use crate::number_set::NumberSet;
 use crate::sums::Sums;
@@ -13,20 +13,30 @@ pub(crate) struct Reach {
     /// The signals that are reached.
     pub(crate) reached: NumberSet,
     /// The sums to each of them.
-    pub(crate) lanes: Vec<Lanes>,
+    pub(crate) lanes: LaneTable,
     /// The ranks of the gates that are reached and haven't handed on their sums.
     pub(crate) waiting: NumberSet,
 }
 
 impl Reach {
     ghost use Rattle.path_delays.specs.declared.lanes.Lanes.{Lanes};
-    ghost use Rattle.path_delays.specs.SumParts.{AreWithin};
+    ghost use Rattle.path_delays.specs.SumParts.{AreWithin, delay_limit};
     ghost use Rattle.path_delays.specs.LaneParts.{AllBounded};
-    ghost use Rattle.path_delays.specs.Handing.{HasReachRoom, IsCleared, IsHanded, IsHandedOn, IsMarked, IsSameRoom, IsStarted, lanes_at, limit_of, sums_at};
+    ghost use Rattle.path_delays.specs.LaneTables.{rows_of};
+    ghost use Rattle.path_delays.specs.NarrowParts.{narrow_limit};
+    ghost use Rattle.path_delays.specs.Handing.{HasReachRoom, IsCleared, IsHanded, IsHandedOn, IsMarked, IsOpened, IsSameRoom, IsStarted, lanes_at, limit_of, sums_at};
 
-    /// Nothing reached yet, with room for so many signals and gates.
-    pub(crate) fn new(alloc: Global, signals: u32, gates: u32) -> Result<Reach, NoMemory>
-        ensures lanes { IfOk result (λ reach. length reach.lanes.items ≡ signals) }
+    /// Nothing reached yet, with room for so many signals and gates, all of whose paths may be
+    /// short.
+    pub(crate) fn new(
+        alloc: Global,
+        signals: u32,
+        gates: u32,
+        short: bool,
+    ) -> Result<Reach, NoMemory>
+        ensures lanes { IfOk result (λ reach. length (rows_of reach.lanes) ≡ signals) }
+        ensures limit { IfOk result
+            (λ reach. limit_of reach ≡ (if short then narrow_limit else delay_limit)) }
         ensures reached { IfOk result (λ reach. signals < 64 * length reach.reached.words.items) }
         ensures waiting { IfOk result (λ reach. gates < 64 * length reach.waiting.words.items) }
         ensures small { gates < 2 ^ 31
@@ -35,7 +45,7 @@ impl Reach {
     {
         Ok(Reach {
             reached: NumberSet::new(alloc, signals)?,
-            lanes: vec![in alloc; Lanes::none(); signals as usize]?,
+            lanes: LaneTable::new(alloc, signals as usize, short)?,
             waiting: NumberSet::new(alloc, gates)?,
         })
     }
@@ -51,19 +61,19 @@ impl Reach {
 
     /// The sums to a signal in a lane, if it is reached there.
     pub(crate) fn sums_at(&self, lane: usize, signal: u32) -> Option<Sums>
-        requires { lane < 8 }
+        requires { lane < 16 }
         ensures { result ≡ sums_at self.now lane signal }
     {
         if !self.reached.contains(signal) {
             return None;
         }
-        self.lanes.get(signal as usize)?.sums[lane].some()
+        self.lanes.sums(signal as usize, lane)
     }
 
     /// Reaches a signal in a lane, and hands its sums to its readers.
     pub(crate) fn start(&mut self, network: &Network, lane: usize, signal: u32, sums: Sums)
         requires room { HasReachRoom network.now self.old }
-        requires lane { lane < 8 }
+        requires lane { lane < 16 }
         requires signal { signal < length network.now.ranks.items }
         requires sums { AreWithin (limit_of self.old) sums }
         requires small { (given : Lanes)
@@ -85,41 +95,53 @@ impl Reach {
         ensures on { IsHandedOn network.now signal self.old self.new }
         ensures room { HasReachRoom network.now self.new }
     {
-        let given = self.lanes[signal as usize];
         for gate in network.readers.group(signal as usize) {
-            self.hand_to(network, *gate, &given);
+            self.hand_to(network, signal, *gate);
         }
     }
 
-    // Hands sums to a gate: it keeps the least and the greatest of those that come.
-    fn hand_to(&mut self, network: &Network, gate: u32, given: &Lanes)
+    // Hands the sums to a signal to a gate: it keeps the least and the greatest of those that come.
+    fn hand_to(&mut self, network: &Network, signal: u32, gate: u32)
         requires room { HasReachRoom network.now self.old }
+        requires signal { signal < length network.now.ranks.items }
         requires gate { gate < length network.now.ranks.items }
-        requires given { AllBounded (limit_of self.old) given.now }
-        ensures { IsHanded network.now given.now gate self.old self.new }
+        requires reached { IsSome (lanes_at self.old signal) }
+        requires small { (given : Lanes)
+            → lanes_at self.old signal ≡ Some given → AllBounded (limit_of self.old) given }
+        ensures { (given : Lanes) → lanes_at self.old signal ≡ Some given
+            → IsHanded network.now given gate self.old self.new }
     {
-        let mut sums = *given;
-        sums.pass(network.delays[gate as usize]);
+        let delay = network.delays[gate as usize];
         if self.reached.contains(gate) {
-            self.lanes[gate as usize].merge(&sums);
+            self.lanes.merge(signal as usize, gate as usize, delay);
         } else {
             self.reached.insert(gate);
-            self.lanes[gate as usize] = sums;
+            self.lanes.pass(signal as usize, gate as usize, delay);
             self.waiting.insert(network.ranks[gate as usize]);
         }
     }
 
     // Reaches a signal in a lane.
     fn mark(&mut self, lane: usize, signal: u32, sums: Sums)
-        requires lane { lane < 8 }
-        requires signal { signal < length self.old.lanes.items }
+        requires lane { lane < 16 }
+        requires signal { signal < length (rows_of self.old.lanes) }
         requires reached { signal < 64 * length self.old.reached.words.items }
+        requires sums { AreWithin (limit_of self.old) sums }
         ensures { IsMarked lane signal sums self.old self.new }
+    {
+        self.open(signal);
+        self.lanes.join(signal as usize, lane, sums);
+    }
+
+    // Reaches a signal, with no sums where it wasn't reached.
+    fn open(&mut self, signal: u32)
+        requires signal { signal < length (rows_of self.old.lanes) }
+        requires reached { signal < 64 * length self.old.reached.words.items }
+        ensures { IsOpened signal self.old self.new }
     {
         if !self.reached.contains(signal) {
             self.reached.insert(signal);
-            self.lanes[signal as usize] = Lanes::none();
+            self.lanes.clear(signal as usize);
         }
-        self.lanes[signal as usize].join(lane, sums);
     }
 }

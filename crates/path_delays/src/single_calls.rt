@@ -33,7 +33,7 @@ pub fn pair_delays(
 }
 
 /// The delays of pairs of registers, one pair after the other, over all paths between the two.
-/// `None` stands exactly where no path joins them. One walk for eight pairs, from the first of
+/// `None` stands exactly where no path joins them. One walk for sixteen pairs, from the first of
 /// each up to what the second ones capture, in the same room.
 ///
 /// # Errors

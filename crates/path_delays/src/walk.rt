@@ -36,15 +36,15 @@ impl Walk {
         let network = Network::new(alloc, circuit, levels, tech)?;
         let signals = circuit.signals.len() as u32;
         let gates = levels.gates().len() as u32;
-        let reach = Reach::new(alloc, signals, gates)?;
+        let reach = Reach::new(alloc, signals, gates, network.is_short())?;
         Ok(Walk { network, reach })
     }
 
-    /// Walks from up to eight registers to all that they reach, from the lowest rank to the
+    /// Walks from up to sixteen registers to all that they reach, from the lowest rank to the
     /// highest, each register in a lane. It takes no memory.
     pub(crate) fn walk_from(&mut self, circuit: &Circuit, tech: &Tech, registers: &[u32])
         requires room { IsRoomFor circuit.now tech.now self.old }
-        requires few { length registers.now ≤ 8 }
+        requires few { length registers.now ≤ 16 }
         requires registers { All (λ from. from < length circuit.now.registers) registers.now }
         ensures reach { HaveReach circuit.now tech.now registers.now self.new }
         ensures room { IsRoomFor circuit.now tech.now self.new }
@@ -53,11 +53,11 @@ impl Walk {
             .reach_up_to(&self.network, circuit, tech, registers, u32::MAX);
     }
 
-    /// Walks from the first of each of up to eight pairs of registers, each in a lane, up to the
+    /// Walks from the first of each of up to sixteen pairs of registers, each in a lane, up to the
     /// highest rank of what the second ones capture. It takes no memory.
     pub(crate) fn walk_between(&mut self, circuit: &Circuit, tech: &Tech, pairs: &[(u32, u32)])
         requires room { IsRoomFor circuit.now tech.now self.old }
-        requires few { length pairs.now ≤ 8 }
+        requires few { length pairs.now ≤ 16 }
         requires pairs { All (λ pair. (pair.0 < length circuit.now.registers)
             × (pair.1 < length circuit.now.registers)) pairs.now }
         ensures reach { HaveReachBetween circuit.now tech.now pairs.now self.new }
@@ -85,7 +85,7 @@ impl Walk {
 
     /// The sums to a signal from the register in a lane, `None` where that doesn't reach it.
     pub(crate) fn sums(&self, lane: usize, signal: u32) -> Option<Sums>
-        requires { lane < 8 }
+        requires { lane < 16 }
         ensures { result ≡ sums_to self.now lane signal }
     {
         self.reach.sums_at(lane, signal)
@@ -109,7 +109,7 @@ impl Reach {
     )
         requires network { IsNetworkOf circuit.now tech.now network.now }
         requires room { HasReachRoom network.now self.old }
-        requires few { length registers.now ≤ 8 }
+        requires few { length registers.now ≤ 16 }
         requires registers { All (λ from. from < length circuit.now.registers) registers.now }
         ensures reach { HaveReachedUpTo circuit.now tech.now network.now registers.now top
             self.new }
@@ -132,7 +132,7 @@ impl Reach {
         requires network { IsNetworkOf circuit.now tech.now network.now }
         requires room { HasReachRoom network.now self.old }
         requires clear { IsCleared self.old }
-        requires few { length registers.now ≤ 8 }
+        requires few { length registers.now ≤ 16 }
         requires registers { All (λ from. from < length circuit.now.registers) registers.now }
         ensures spread { IsSpreadBelow circuit.now tech.now network.now registers.now
             (length registers.now) 1 self.new }
@@ -154,7 +154,7 @@ impl Reach {
     )
         requires network { IsNetworkOf circuit.now tech.now network.now }
         requires room { HasReachRoom network.now self.old }
-        requires few { length registers.now ≤ 8 }
+        requires few { length registers.now ≤ 16 }
         requires registers { All (λ from. from < length circuit.now.registers) registers.now }
         requires lane { lane < length registers.now }
         requires spread { IsSpreadBelow circuit.now tech.now network.now registers.now lane 1

@@ -333,9 +333,21 @@ fn finds_the_paths_of_tables(rt: HostRuntime) {
     }
 }
 
-// Signals of a setup and a hold constraint's path for each pair: nothing is left of the first eight
-// in the room of the others.
+// Signals of a setup and a hold constraint's path for each pair.
 const S27_PATH_LENGTHS: [usize; 14] = [3, 3, 2, 2, 6, 6, 5, 5, 6, 6, 5, 5, 3, 3];
+
+fn expect_path_lengths(rt: &impl Abort, alloc: Global, paths: &[Listed<u32>]) {
+    let mut lengths = Vec::new(alloc);
+    for path in paths {
+        made(rt, lengths.push(path.len()));
+    }
+    expect_same(
+        rt,
+        lengths.as_slice(),
+        S27_PATH_LENGTHS.as_slice(),
+        &"lengths",
+    );
+}
 
 #[test]
 fn finds_the_paths_of_constraints(rt: HostRuntime) {
@@ -346,17 +358,11 @@ fn finds_the_paths_of_constraints(rt: HostRuntime) {
     let pairs = made(&rt, pair_delays(alloc, &circuit, &order, &tech));
     let constraints = made(&rt, constraints_of(alloc, &pairs, &tech));
     let mut search = made(&rt, Paths::new(alloc, &circuit, &order, &tech));
-    let paths = made(&rt, search.of_constraints(alloc, constraints.as_slice()));
-    let mut lengths = Vec::new(alloc);
-    for path in paths.as_slice() {
-        made(&rt, lengths.push(path.len()));
-    }
-    expect_same(
-        &rt,
-        lengths.as_slice(),
-        S27_PATH_LENGTHS.as_slice(),
-        &"lengths",
-    );
+    let first = made(&rt, search.of_constraints(alloc, constraints.as_slice()));
+    let second = made(&rt, search.of_constraints(alloc, constraints.as_slice()));
+    expect_path_lengths(&rt, alloc, first.as_slice());
+    // Nothing is left of the first walk in the room of the second.
+    expect_path_lengths(&rt, alloc, second.as_slice());
 }
 
 fn expect_plain_zero(rt: &impl Abort, alloc: Global, text: &str, host: bool, wanted: ZeroSkew) {
@@ -500,4 +506,23 @@ fn adds_up_a_chain_of_60000_inverters(rt: HostRuntime) {
     assert!(rt; 1 < circuit.registers.len());
     let path = made(&rt, path_of(alloc, &circuit, &order, &tech, 0, 1, false));
     expect_same(&rt, path.expect(&rt, "a path").len(), 60_001, &"path.ok_or");
+}
+
+// More ticks than lanes of 32 bits hold: 600 gates of 999,999 to 1,000,000 after a register of 1
+// to 2.
+#[test]
+fn adds_up_more_ticks_than_32_bits_hold(rt: HostRuntime) {
+    let alloc = rt.alloc();
+    let text = chain(&rt, alloc, 600);
+    let gates = "[gate.NOT]\nleast = 999999\ngreatest = 1000000\n";
+    let rows = [(0, 1, 599_999_401, 600_000_002)];
+    expect_pairs(
+        &rt,
+        alloc,
+        text.as_str(),
+        false,
+        (1, 1, 1, 2),
+        gates,
+        rows.as_slice(),
+    );
 }

@@ -7,7 +7,7 @@ use Rattle.path_delays.proofs.cycle_paths.walk_along.Given as goal
 
 abbrev pub invariant-loop-lane : goal.invariant-loop-lane
 invariant-loop-lane l = record {
-  lanes : length l.pairs ≡ 8;
+  lanes : length l.pairs ≡ 16;
   each : (lane : ℕ) (constraint : Constraint) → lane < l.lane
       → slice_get l.block lane ≡ Some constraint → get_or l.pairs lane (0, 0) ≡ pair_of constraint;
   within : (lane : ℕ) → lane < l.lane

@@ -4,7 +4,7 @@ use Rattle.path_delays.proofs.pairs.walk_block.Given as goal
 
 abbrev pub invariant-loop-from : goal.invariant-loop-from
 invariant-loop-from l = record {
-  lanes : length l.registers ≡ 8;
+  lanes : length l.registers ≡ 16;
   each : (from : ℕ) → l.first ≤ from → from < l.from
       → get_or l.registers (from - l.first) 0 ≡ from;
 }

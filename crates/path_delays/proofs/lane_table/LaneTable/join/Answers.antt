@@ -1,9 +1,9 @@
 -- In the lane are the least and the greatest of both, in the others what was there.
-use Rattle.std.proofs.Common.{◌≡◌, ◌∙◌, ℕ, ap, sym, subst}
+use Rattle.std.proofs.Common.{◌≡◌, ◌∙◌, ap, sym, subst}
 use Rattle.path_delays.specs.declared.lanes.Lanes.{Lanes}
 use Rattle.path_delays.specs.declared.sums.Sums.{Sums}
 use Rattle.path_delays.specs.LaneParts.{lane_of}
-use Rattle.path_delays.specs.LaneTables.{limit_of, row_at, rows_of}
+use Rattle.path_delays.specs.LaneTables.{table_limit, row_at, rows_of}
 use Rattle.path_delays.specs.NarrowParts.{sums_in}
 use Rattle.path_delays.specs.SumParts.{AreWithin, merged_sums}
 use Rattle.path_delays.proofs.NarrowLemmas.{join_here, narrow_gets, narrow_joined, narrow_read, narrow_same, row_gets, row_read}
@@ -19,7 +19,7 @@ returns-in-Narrow-clause-sums c =
     join_here c.args.lane other old c.args.sums (sums_in c.join.new.self other)
     (λ same. subst (λ n. sums_in c.join.new.self n ≡ merged_sums (old n) c.args.sums) (sym same)
     (narrow_joined c.index_mut.result.now c.join.new.self c.args.lane c.args.sums
-    (subst (λ limit. AreWithin limit c.args.sums) (ap limit_of c.in-Narrow.is) c.requires.sums)
+    (subst (λ limit. AreWithin limit c.args.sums) (ap table_limit c.in-Narrow.is) c.requires.sums)
     c.join.ensures.least c.join.ensures.greatest
     ∙ ap (λ (sums : Sums). merged_sums sums c.args.sums)
     (sym (read c.args.lane (ap rows_of c.in-Narrow.is) c.requires.signal c.index_mut.ensures.value

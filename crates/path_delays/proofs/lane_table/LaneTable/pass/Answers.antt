@@ -3,7 +3,7 @@ use Rattle.std.proofs.Common.{◌∙◌, ap, sym, subst}
 use Rattle.path_delays.specs.declared.lanes.Lanes.{Lanes}
 use Rattle.path_delays.specs.declared.sums.Sums.{Sums}
 use Rattle.path_delays.specs.LaneParts.{lane_of}
-use Rattle.path_delays.specs.LaneTables.{limit_of, rows_of}
+use Rattle.path_delays.specs.LaneTables.{table_limit, rows_of}
 use Rattle.path_delays.specs.SumParts.{AreWithin, sums_through}
 use Rattle.path_delays.proofs.NarrowLemmas.{narrow_bounded, narrow_gets, narrow_passed, narrow_read, passable, row_gets, row_read}
 use Rattle.path_delays.proofs.lane_table.LaneTable.pass.Goals as goal
@@ -11,7 +11,7 @@ use Rattle.path_delays.proofs.lane_table.LaneTable.pass.Goals as goal
 pub pass-requires-clause-sums : goal.pass-requires-clause-sums
 pass-requires-clause-sums c lane low = passable c.index.result.now lane
     (narrow_bounded _ c.in-Narrow.rows.items (rows_of c.args.self.now) c.args.from
-    c.index.result.now (ap limit_of c.in-Narrow.is) (ap rows_of c.in-Narrow.is) c.requires.from
+    c.index.result.now (ap table_limit c.in-Narrow.is) (ap rows_of c.in-Narrow.is) c.requires.from
     c.index.ensures c.requires.sums lane low)
 
 pub returns-in-Narrow-clause-sums : goal.returns-in-Narrow-clause-sums
@@ -19,9 +19,9 @@ returns-in-Narrow-clause-sums c = narrow_gets c.in-Narrow.rows.items (rows_of c.
     c.args.to c.pass.new.self _ (ap rows_of c.in-Narrow.is) c.requires.to (λ lane low.
     narrow_passed c.index.result.now c.pass.new.self lane c.args.delay
     (narrow_bounded _ c.in-Narrow.rows.items (rows_of c.args.self.now) c.args.from
-    c.index.result.now (ap limit_of c.in-Narrow.is) (ap rows_of c.in-Narrow.is) c.requires.from
+    c.index.result.now (ap table_limit c.in-Narrow.is) (ap rows_of c.in-Narrow.is) c.requires.from
     c.index.ensures c.requires.sums lane low)
-    (subst (λ limit. AreWithin limit c.args.delay) (ap limit_of c.in-Narrow.is) c.requires.delay)
+    (subst (λ limit. AreWithin limit c.args.delay) (ap table_limit c.in-Narrow.is) c.requires.delay)
     (c.pass.ensures.least lane low) (c.pass.ensures.greatest lane low)
     ∙ ap (λ (sums : Sums). sums_through sums c.args.delay)
     (sym (narrow_read c.in-Narrow.rows.items (rows_of c.args.self.now) c.args.from

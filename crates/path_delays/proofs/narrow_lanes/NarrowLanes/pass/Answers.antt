@@ -1,5 +1,5 @@
 -- One lane more has the sums after the gate.
-use Rattle.std.proofs.Common.{rules, arith}
+use Rattle.std.proofs.Common.{rules}
 use Rattle.path_delays.proofs.narrow_lanes.NarrowLanes.pass.Goals as goal
 
 pub loop-lane-preserved : goal.loop-lane-preserved

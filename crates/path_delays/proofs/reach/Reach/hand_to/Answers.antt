@@ -1,21 +1,49 @@
--- What is within the walk's limit is within the limit of all circuits.
-use Rattle.std.proofs.Common.{sym, subst, arith}
-use Rattle.path_delays.specs.SumParts.{AreWithin, delay_limit}
-use Rattle.path_delays.specs.LaneParts.{lane_of}
+-- The gate joins the sums with its own, or holds them alone and waits.
+use Rattle.std.proofs.Common.{◌∙◌, pos, sym, subst, arith}
+use Rattle.std.proofs.lemmas.List.{get_or_default}
+use Rattle.path_delays.specs.SumParts.{AreWithin}
+use Rattle.path_delays.specs.NumberSets.{IsInserted}
 use Rattle.path_delays.specs.Handing.{limit_of}
-use Rattle.path_delays.proofs.LaneLemmas.{bounded_higher}
-use Rattle.path_delays.proofs.Rooms.{within_higher}
+use Rattle.path_delays.proofs.Hands.{IsHanded-merged, IsHanded-passed, row_bounded}
 use Rattle.path_delays.proofs.reach.Reach.hand_to.Goals as goal
 
+pub merge-requires-clause-sums : goal.merge-requires-clause-sums
+merge-requires-clause-sums c = row_bounded c.args.self.now c.args.signal (limit_of c.args.self.now)
+    c.requires.reached c.requires.small
+
+pub merge-requires-clause-delay : goal.merge-requires-clause-delay
+merge-requires-clause-delay c = subst (AreWithin (limit_of c.args.self.now))
+    (sym c.index-delay.ensures) (c.requires.room.small_delays c.args.gate c.index-delay.result.now
+    (omega (arith, c.requires.gate, c.requires.room.delays)))
+
 pub pass-requires-clause-sums : goal.pass-requires-clause-sums
-pass-requires-clause-sums c lane low =
-    bounded_higher (limit_of c.args.self.now) delay_limit (lane_of c.args.given.now lane)
-    c.requires.room.known (c.requires.given lane low)
+pass-requires-clause-sums c = row_bounded c.args.self.now c.args.signal (limit_of c.args.self.now)
+    c.requires.reached c.requires.small
 
 pub pass-requires-clause-delay : goal.pass-requires-clause-delay
-pass-requires-clause-delay c =
-    let delay = c.index.result.now in
-    within_higher (limit_of c.args.self.now) delay_limit delay c.requires.room.known
-    (subst (AreWithin (limit_of c.args.self.now)) (sym c.index.ensures)
-    (c.requires.room.small_delays c.args.gate delay
-    (omega (arith, c.requires.gate, c.requires.room.delays))))
+pass-requires-clause-delay c = subst (AreWithin (limit_of c.args.self.now))
+    (sym c.index-delay.ensures) (c.requires.room.small_delays c.args.gate c.index-delay.result.now
+    (omega (arith, c.requires.gate, c.requires.room.delays)))
+
+pub returns-then-contains : goal.returns-then-contains
+returns-then-contains c given here = IsHanded-merged c.args.network.now c.args.self.now
+    c.args.signal c.args.gate given c.index-delay.result.now here
+    (c.index-delay.ensures ∙ get_or_default c.args.network.now.delays.items c.args.gate
+    c.index-delay.result.now (record { least = pos 0; greatest = pos 0 })
+    (omega (arith, c.requires.gate, c.requires.room.delays)))
+    c.merge.new.self (sym c.if-contains.ensures)
+    (omega (arith, c.requires.gate, c.requires.room.lanes)) c.merge.ensures.limit
+    c.merge.ensures.sums
+
+pub returns-else-contains : goal.returns-else-contains
+returns-else-contains c given here = IsHanded-passed c.args.network.now c.args.self.now
+    c.args.signal c.args.gate given c.index-delay.result.now here
+    (c.index-delay.ensures ∙ get_or_default c.args.network.now.delays.items c.args.gate
+    c.index-delay.result.now (record { least = pos 0; greatest = pos 0 })
+    (omega (arith, c.requires.gate, c.requires.room.delays)))
+    c.insert.new.self c.insert-else-contains.new.self c.pass.new.self (sym c.if-contains.ensures)
+    c.insert.ensures
+    (subst (λ rank. IsInserted rank c.args.self.now.waiting.words.items
+    c.insert-else-contains.new.self.words.items) (c.index.ensures
+    ∙ get_or_default c.args.network.now.ranks.items c.args.gate c.index.result.now 0
+    c.requires.gate) c.insert-else-contains.ensures) c.pass.ensures.limit c.pass.ensures.sums

@@ -1,7 +1,8 @@
 -- There are few gates, and room for them.
 use Rattle.std.proofs.Common.{◌≤◌, length, arith, ap, ◌∙◌}
+use Rattle.path_delays.specs.Handing.{limit_of}
 use Rattle.path_delays.proofs.NetworkLemmas.{few_gates}
-use Rattle.path_delays.proofs.Rooms.{HasReachRoom-made, total_within}
+use Rattle.path_delays.proofs.Rooms.{HasReachRoom-made, delays_within, held_by_width}
 use Rattle.path_delays.proofs.walk.Walk.new.Goals as goal
 
 pub overflow_cast-gates : goal.overflow_cast-gates
@@ -11,11 +12,18 @@ overflow_cast-gates c = omega (
   ap length c.gates.ensures,
 )
 
+pub is_short-requires : goal.is_short-requires
+is_short-requires c = delays_within c.args.circuit.now c.args.tech.now c.in_ok-network.network
+    c.in_ok-network.ensures.network
+
 pub returns : goal.returns
 returns c =
     let network = c.in_ok-network.network in
     let few : length network.order.items ≤ length c.gates.result.now =
     omega (arith, ap length c.in_ok-network.ensures.order, ap length c.gates.ensures) in
+    let held = held_by_width c.args.circuit.now c.args.tech.now network
+    c.in_ok-network.ensures.network c.is_short.result (limit_of c.in_ok-reach.reach)
+    c.in_ok-reach.ensures.limit c.is_short.ensures in
     record {
       network = c.in_ok-network.ensures.network;
       room = HasReachRoom-made c.args.circuit.now c.args.tech.now network
@@ -26,6 +34,5 @@ returns c =
             arith,
             few_gates c.args.circuit.now c.args.levels.now c.requires,
             ap length c.gates.ensures,
-          ))) (omega arith)
-          (total_within c.args.circuit.now c.args.tech.now network c.in_ok-network.ensures.network);
+          ))) held.0 held.1;
     }

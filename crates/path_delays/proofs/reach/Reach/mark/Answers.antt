@@ -1,0 +1,14 @@
+-- What stood there is joined with the sums.
+use Rattle.std.proofs.Common.{sym, subst, arith}
+use Rattle.path_delays.specs.SumParts.{AreWithin}
+use Rattle.path_delays.proofs.Hands.{IsMarked-joined}
+use Rattle.path_delays.proofs.reach.Reach.mark.Goals as goal
+
+pub join-requires-clause-sums : goal.join-requires-clause-sums
+join-requires-clause-sums c =
+    subst (λ limit. AreWithin limit c.args.sums) (sym c.open.ensures.room.limit) c.requires.sums
+
+pub returns : goal.returns
+returns c = IsMarked-joined c.args.self.now c.open.new.self c.args.lane c.args.signal c.args.sums
+    c.join.new.self c.requires.lane (omega (arith, c.requires.signal, c.open.ensures.room.lanes))
+    c.open.ensures c.join.ensures.limit c.join.ensures.sums
